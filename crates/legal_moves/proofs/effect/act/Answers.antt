@@ -1,0 +1,96 @@
+use Rattle.std.proofs.Common.{◌≡◌, true, false, Contains, Some, None, refl, sym, ap, ◌∙◌, subst, arith, get_or, slice_set, slice_index, length, pos, nat_abs, w64, to_z, of_z}
+use Rattle.std.proofs.lemmas.List.{length-map}
+use Rattle.rbg_game.specs.Meaning.{game_of, action_of, vertex_of, variable_of, expression_of}
+use Rattle.legal_moves.specs.Effects.{Effect}
+use Rattle.rbg_game.proofs.MeaningLemmas.{action_of-Shift, action_of-On, action_of-Off, action_of-Assignment}
+use Rattle.legal_moves.proofs.ActionLemmas.{neighbour_is, bound_is, refill-set, contains, OnTrue-along, assigns, not_below, not_above}
+use Rattle.legal_moves.specs.Plain.{IsPlain}
+use Rattle.rbg_game.specs.Expressions.{value_of}
+use Rattle.std.specs.List.{refill}
+use Rattle.std.proofs.lemmas.Int.{to_z-of_z}
+use lib.Signed.{le_z}
+use mir.Val.{SFits}
+use Rattle.legal_moves.proofs.effect.act.Goals as goal
+use Rattle.legal_moves.proofs.effect.act.Goals.{else-n-ge0-via-then-n-ge0+else-n-from, else-n-ge0-via-else-n-ge0}
+
+pub returns-in-Some-clause-valid : goal.returns-in-Some-clause-valid
+returns-in-Some-clause-valid c =
+    let game = c.args.game.now in
+    let S = c.args.state.now in
+    let action = ap action_of c.in-Shift.is ∙ action_of-Shift c.in-Shift.label in
+    let item = subst (λ i. c.index.result.now ≡ get_or game.vertices.items i c.index.result.now) c.from.ensures c.index.ensures in
+    let leads = neighbour_is game S.vertex c.in-Shift.label c.index.result.now (omega (arith, length-map game.vertices.items vertex_of, c.requires.state.vertex_is)) item in
+    subst (λ a. Effect (game_of game) a S (record S { vertex = c.in-Some.to })) (sym action) (c.in-Some.to, leads ∙ sym c.neighbour.ensures ∙ c.in-Some.is, refl)
+
+pub returns-in-None-clause-refused : goal.returns-in-None-clause-refused
+returns-in-None-clause-refused c =
+    let game = c.args.game.now in
+    let S = c.args.state.now in
+    let action = ap action_of c.in-Shift.is ∙ action_of-Shift c.in-Shift.label in
+    let item = subst (λ i. c.index.result.now ≡ get_or game.vertices.items i c.index.result.now) c.from.ensures c.index.ensures in
+    let leads = neighbour_is game S.vertex c.in-Shift.label c.index.result.now (omega (arith, length-map game.vertices.items vertex_of, c.requires.state.vertex_is)) item in
+    λ T h.
+    let some = subst (λ a. Effect (game_of game) a S T) action h in
+    let never : None ≡ Some some.0 = sym c.in-None.is ∙ c.neighbour.ensures ∙ sym leads ∙ some.1 in
+    cc
+
+pub returns-in-On-clause-valid : goal.returns-in-On-clause-valid
+returns-in-On-clause-valid c =
+    let game = c.args.game.now in
+    let S = c.args.state.now in
+    let action = ap action_of c.in-On.is ∙ action_of-On c.in-On.pieces in
+    OnTrue-along c.contains.result (Contains c.deref.result.now (get_or c.deref-in-On.result.now c.from-in-On.result 0)) (Effect (game_of game) (action_of c.args.action.now) S S)
+    (λ h. subst (λ a. Effect (game_of game) a S S) (sym action) (
+      refl,
+      subst (λ xs. Contains xs (slice_index S.pieces.items S.vertex)) c.deref.ensures.value
+          (subst (λ ys. Contains c.deref.result.now (get_or ys S.vertex 0)) c.deref-in-On.ensures.0
+          (subst (λ i. Contains c.deref.result.now (get_or c.deref-in-On.result.now i 0)) c.from-in-On.ensures h)),
+    ))
+    (contains c.deref.result.now (get_or c.deref-in-On.result.now c.from-in-On.result 0) c.contains.result c.contains.ensures.cases)
+
+pub returns-in-Off-clause-valid : goal.returns-in-Off-clause-valid
+returns-in-Off-clause-valid c =
+    let game = c.args.game.now in
+    let S = c.args.state.now in
+    let action = ap action_of c.in-Off.is ∙ action_of-Off c.in-Off.piece in
+    let written = refill-set S.pieces.items c.deref_mut.result.now c.from-in-Off.result c.in-Off.piece c.deref_mut.ensures.value ∙ ap (λ i. slice_set S.pieces.items i c.in-Off.piece) c.from-in-Off.ensures in
+    subst (λ xs. Effect (game_of game) (action_of c.args.action.now) S (record S { pieces = record { items = xs } })) (sym written)
+    (subst (λ a. Effect (game_of game) a S (record S { pieces = record { items = slice_set S.pieces.items S.vertex c.in-Off.piece } })) (sym action) refl)
+
+pub returns-then-n-from-clause-valid : goal.returns-then-n-from-clause-valid
+returns-then-n-from-clause-valid c =
+    let game = c.args.game.now in
+    let S = c.args.state.now in
+    let v = c.in-Assignment.variable in
+    let e = expression_of c.in-Assignment.right in
+    let action = ap action_of c.in-Assignment.is ∙ action_of-Assignment v c.in-Assignment.right in
+    let fits : SFits w64 c.value-n.result = record { sfits = c.value-n.type_inv } in
+    let is = c.value-n.ensures ∙ ap (λ xs. value_of xs e) c.deref-in-Assignment.ensures.0 in
+    let plain = subst (IsPlain S.values.items) action c.requires.plain in
+    let item = subst (λ i. c.index-in-Assignment.result.now ≡ get_or game.variables.items i c.index-in-Assignment.result.now) c.from-in-Assignment.ensures c.index-in-Assignment.ensures in
+    let bound = bound_is game v c.index-in-Assignment.result.now (omega (arith, length-map game.variables.items variable_of, c.requires.state.values_fit, plain.0)) item in
+    let cap_fits : SFits w64 c.from-then-n-ge0.result = record { sfits = c.from-then-n-ge0.type_inv } in
+    let cap : to_z w64 (of_z w64 c.from-then-n-ge0.result) ≡ c.from-then-n-ge0.result = to_z-of_z w64 c.from-then-n-ge0.result cap_fits in
+    let written = refill-set S.values.items c.deref_mut-then-n-from.result.now c.from-then-n-from.result (nat_abs (to_z w64 (of_z w64 c.value-n.result))) c.deref_mut-then-n-from.ensures.value ∙ ap (λ i. slice_set S.values.items i (nat_abs (to_z w64 (of_z w64 c.value-n.result)))) c.from-then-n-from.ensures in
+    subst (λ a. Effect (game_of game) a S (record S { values = record { items = refill (length S.values.items) S.values.items (slice_set c.deref_mut-then-n-from.result.now c.from-then-n-from.result (nat_abs (to_z w64 (of_z w64 c.value-n.result)))) } })) (sym action)
+    (assigns (game_of game) S v e c.value-n.result c.from-then-n-ge0.result _ fits is c.if-n-ge0.true (subst (λ b. le_z (to_z w64 (of_z w64 c.value-n.result)) b ≡ true) cap c.if-n-from.true) (c.from-then-n-ge0.ensures ∙ ap pos (sym bound)) written)
+
+pub returns-else-n-ge0-clause-refused : goal.returns-else-n-ge0-clause-refused
+returns-else-n-ge0-clause-refused c =
+    let game = c.args.game.now in
+    let S = c.args.state.now in
+    let v = c.in-Assignment.variable in
+    let e = expression_of c.in-Assignment.right in
+    let action = ap action_of c.in-Assignment.is ∙ action_of-Assignment v c.in-Assignment.right in
+    let fits : SFits w64 c.value-n.result = record { sfits = c.value-n.type_inv } in
+    let same : to_z w64 (of_z w64 c.value-n.result) ≡ c.value-n.result = to_z-of_z w64 c.value-n.result fits in
+    let is = same ∙ c.value-n.ensures ∙ ap (λ xs. value_of xs e) c.deref-in-Assignment.ensures.0 in
+    let plain = subst (IsPlain S.values.items) action c.requires.plain in
+    let item = subst (λ i. c.index-in-Assignment.result.now ≡ get_or game.variables.items i c.index-in-Assignment.result.now) c.from-in-Assignment.ensures c.index-in-Assignment.ensures in
+    let bound = bound_is game v c.index-in-Assignment.result.now (omega (arith, length-map game.variables.items variable_of, c.requires.state.values_fit, plain.0)) item in
+    λ T h.
+    let effect = subst (λ a. Effect (game_of game) a S T) action h in
+    elim c.else-n-ge0.branch [
+      | else-n-ge0-via-then-n-ge0+else-n-from w ↦ not_above (game_of game) S v e (to_z w64 (of_z w64 c.value-n.result)) T is effect (subst (λ b. le_z (to_z w64 (of_z w64 c.value-n.result)) b ≡ false) (to_z-of_z w64 w.from-then-n-ge0.result (record { sfits = w.from-then-n-ge0.type_inv }) ∙ w.from-then-n-ge0.ensures ∙ ap pos (sym bound)) w.if-n-from.false)
+      | else-n-ge0-via-else-n-ge0 w ↦ not_below (game_of game) S v e (to_z w64 (of_z w64 c.value-n.result)) T is effect w.if-n-ge0.false
+    ]

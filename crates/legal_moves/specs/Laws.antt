@@ -1,0 +1,28 @@
+-- Laws of the search, each the contract of a function.
+use Rattle.std.specs.Prelude.{◌≡◌, ℕ, ◌↔◌, Bool, true, List, ◌∷◌}
+use Rattle.rbg_game.specs.Rules.{Regex, Action, pattern, action_at, is_switch}
+use Rattle.rbg_game.specs.Games.{Game}
+use Rattle.rbg_game.specs.Sound.{IsSoundAction}
+use Rattle.rbg_game.specs.declared.position.SemiState.{SemiState}
+use Rattle.rbg_game.specs.declared.position.Position.{Position}
+use Rattle.legal_moves.specs.Words.{CanFollow}
+use Rattle.legal_moves.specs.Moves.{IsMove}
+use Rattle.legal_moves.specs.Plain.{IsPlain}
+use Rattle.rbg_game.specs.Positions.{IsStateOf}
+use Rattle.legal_moves.specs.Glushkov.{IsWalk}
+use Rattle.legal_moves.specs.Searches.{Searched}
+
+-- what can follow a place in a word is what can be walked from it, an occurrence at a time
+abbrev pub FollowsByWalks : Type 0
+FollowsByWalks =
+    (e : Regex) (place l : ℕ) (w : List ℕ) → CanFollow e place (l ∷ w) ↔ IsWalk e place (l ∷ w)
+
+-- moves are the paths of the search that end at a switch
+abbrev pub MovesAreSearched : Type 0
+MovesAreSearched =
+    (game : Game) (at : Position) (w : List ℕ) (next : Position) → IsMove game at w next ↔ (Searched game game.rules at.place at.state w next.state next.place × (is_switch (action_at game.rules 1 next.place) ≡ true))
+
+-- a sound action that is no pattern can be done at each state of the game
+abbrev pub SoundActionsArePlain : Type 0
+SoundActionsArePlain =
+    (game : Game) (S : SemiState) → IsStateOf game S → (a : Action) → ((positive : Bool) (e : Regex) → a ≡ pattern positive e → ⊥) → IsSoundAction game a → IsPlain S.values.items a

@@ -1,0 +1,11 @@
+pub mod Words
+pub mod Effects
+pub mod Moves
+pub mod Searches
+pub mod Listed
+pub mod Compiled
+pub mod Plain
+pub mod Laws
+pub mod Glushkov
+pub mod Take
+pub mod Look

@@ -1,0 +1,85 @@
+//! What an action does to a semi-state.
+ghost use Rattle.std.specs.Prelude.{◌≡◌, ◌↔◌, ◌<◌, ◌==◌, IsTrue, option_map, find, length, ℕ};
+ghost use Rattle.std.specs.Bool.{OnTrue, OnFalse};
+ghost use Rattle.rbg_game.specs.Meaning.{game_of, action_of};
+ghost use Rattle.rbg_game.specs.declared.position.SemiState.{SemiState};
+ghost use Rattle.legal_moves.specs.Effects.{Compares, Effect};
+ghost use Rattle.rbg_game.specs.Positions.{IsStateOf};
+ghost use Rattle.legal_moves.specs.Plain.{IsPlain};
+
+use rbg_game::game::{Game, Vertex};
+use rbg_game::position::SemiState;
+use rbg_game::rules::{Action, Comparison};
+use rbg_game::value::value;
+
+/// Whether the comparison holds of the two numbers.
+pub fn compares(comparison: Comparison, left: i64, right: i64) -> bool
+    ensures { IsTrue result ↔ Compares comparison left right }
+{
+    match comparison {
+        Comparison::Equal => left == right,
+        Comparison::NotEqual => left != right,
+        Comparison::Less => left < right,
+        Comparison::LessEqual => left <= right,
+        Comparison::Greater => left > right,
+        Comparison::GreaterEqual => left >= right,
+    }
+}
+
+/// Where the label leads from the vertex.
+pub fn neighbour(vertex: &Vertex, label: u8) -> Option<u8>
+    ensures { result ≡ option_map (λ a. a.to) (find (λ a. a.label == label) vertex.now.arrows.items) }
+{
+    vertex
+        .arrows
+        .iter()
+        .find(|arrow| arrow.label == label)
+        .map(|arrow| arrow.to)
+}
+
+/// Does what the action does, and says whether it was valid. Patterns are for the search.
+pub fn act(game: &Game, action: &Action, state: &mut SemiState) -> bool
+    requires state { IsStateOf (game_of game.now) state.old }
+    requires plain { IsPlain state.old.values.items (action_of action.now) }
+    ensures valid { OnTrue result (Effect (game_of game.now) (action_of action.now) state.old state.new) }
+    ensures unchanged { OnFalse result (state.new ≡ state.old) }
+    ensures refused { OnFalse result
+        ((T : SemiState) → ¬ Effect (game_of game.now) (action_of action.now) state.old T) }
+{
+    match action {
+        Action::Shift(label) => match neighbour(&game.vertices[usize::from(state.vertex)], *label) {
+            Some(to) => {
+                state.vertex = to;
+                true
+            }
+            None => false,
+        },
+        Action::On(pieces) => pieces.contains(&state.pieces[usize::from(state.vertex)]),
+        Action::Off(piece) => {
+            state.pieces[usize::from(state.vertex)] = *piece;
+            true
+        }
+        Action::Assignment(variable, right) => {
+            let n = value(right, &state.values);
+            let bound = game.variables[usize::from(*variable)].bound;
+            if 0 <= n && n <= i64::from(bound) {
+                state.values[usize::from(*variable)] = n as u32;
+                true
+            } else {
+                false
+            }
+        }
+        Action::Comparison(left, comparison, right) => {
+            compares(
+                *comparison,
+                value(left, &state.values),
+                value(right, &state.values),
+            )
+        }
+        Action::Switch(role) => {
+            state.mover = *role;
+            true
+        }
+        Action::Pattern(_, _) => unreachable!(),
+    }
+}

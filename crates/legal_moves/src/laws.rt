@@ -1,0 +1,22 @@
+//! Laws of the definitions, for readers: each function's contract is one.
+ghost use Rattle.legal_moves.specs.Laws.{FollowsByWalks, MovesAreSearched, SoundActionsArePlain};
+ghost use Rattle.legal_moves.specs.Moves.{IsSuccessor, start_of};
+ghost use Rattle.rbg_game.specs.Take.{take};
+ghost use Rattle.legal_moves.specs.Take.{after_first_move};
+ghost use Rattle.std.specs.Prelude.{◌≡◌, ◌↔◌};
+ghost use Rattle.rbg_game.specs.declared.position.Position.{Position};
+
+pub fn laws_of_words()
+    ensures follows { FollowsByWalks }
+    ensures moves { MovesAreSearched }
+{}
+
+/// What `act` asks of an action holds of the actions of a sound game.
+pub fn sound_actions()
+    ensures { SoundActionsArePlain }
+{}
+
+/// The start of the small game has one successor.
+pub fn small_game()
+    ensures { (next : Position) → IsSuccessor take (start_of take) next ↔ (next ≡ after_first_move) }
+{}

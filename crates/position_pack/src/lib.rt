@@ -1,0 +1,6 @@
+//! Positions as bytes and as text.
+#![tactic(auto)]
+
+pub mod packed;
+
+pub use packed::Packed;

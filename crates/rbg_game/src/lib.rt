@@ -1,0 +1,8 @@
+//! The vocabulary of games: roles, rules, expressions, boards, positions, and what they mean.
+#![tactic(auto)]
+
+pub mod game;
+pub mod position;
+pub mod roles;
+pub mod rules;
+pub mod value;

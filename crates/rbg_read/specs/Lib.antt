@@ -1,0 +1,4 @@
+pub mod Causes
+pub mod Means
+pub mod Reading
+pub mod TakeText

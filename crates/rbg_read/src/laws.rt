@@ -1,0 +1,25 @@
+//! Laws of the definitions, for readers: each function's contract is one.
+
+ghost use Rattle.std.specs.Prelude.{◌≤◌};
+ghost use Rattle.rbg_game.specs.Rules.{count};
+ghost use Rattle.rbg_text.specs.Token.{Text};
+ghost use Rattle.rbg_game.specs.Games.{Game};
+ghost use Rattle.rbg_read.specs.Reading.{Reads};
+ghost use Rattle.rbg_game.specs.Sound.{IsSoundGame};
+ghost use Rattle.rbg_game.specs.Take.{take};
+ghost use Rattle.rbg_read.specs.TakeText.{take_text};
+
+/// A game that a text reads to is sound.
+pub fn what_is_read_is_sound()
+    ensures { (text : Text) (game : Game) → Reads text game → IsSoundGame game }
+{}
+
+/// The numbers of the actions of a sound game are within the limit.
+pub fn sound_games_are_numbered()
+    ensures { (game : Game) → IsSoundGame game → count game.rules ≤ 4096 }
+{}
+
+/// The text of the small game reads to it.
+pub fn small_game_is_read()
+    ensures { Reads take_text take }
+{}

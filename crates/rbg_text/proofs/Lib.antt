@@ -1,0 +1,11 @@
+pub mod Gaps
+pub mod Tokens
+pub mod Splitting
+pub mod LexerLemmas
+pub mod Turns
+pub mod ExpressionsComplete
+pub mod ExpressionsSound
+pub mod Nesting
+pub mod RulesComplete
+pub mod RulesSound
+pub mod Whole

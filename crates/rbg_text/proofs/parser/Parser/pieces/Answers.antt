@@ -1,0 +1,11 @@
+use Rattle.std.proofs.Common.{rules, arith}
+use Rattle.std.proofs.lemmas.Grind.{common_steps}
+use Rattle.rbg_text.specs.Parse.{pieces}
+use Rattle.rbg_text.proofs.Turns.{one_more}
+use Rattle.rbg_text.proofs.parser.Parser.pieces.Goals as goal
+
+pub loop-turn-preserved : goal.loop-turn-preserved
+unfolding pieces
+loop-turn-preserved c =
+    let e = one_more (λ n. pieces n c.loop-turn.self) _ c.loop-turn._turn c.loop-turn-test.true c.loop-turn.invariant in
+    first_of (search rules, grind (arith, common_steps))

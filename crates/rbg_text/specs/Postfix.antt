@@ -1,0 +1,114 @@
+-- The steps of an expression in postfix order, behind the steps `out`.
+use Rattle.std.specs.Prelude.{ℕ, suc, max, List, [], ◌∷◌, ◌++◌}
+use Rattle.rbg_text.specs.Syntax.{Expr, sum_of, plus, minus, Term, product_of, times, Factor, positive, negative, Atom, literal, parenthesized, Assignment, Sum, branch, either, Concat, single, followed, Element, once, star, Base, shift, on, off, assign, compare, switch, keeper, some_word, no_word, group}
+use Rattle.rbg_text.specs.Token.{Text}
+use Rattle.rbg_text.specs.Parse.{Step}
+
+abbrev mutual
+  pub expr_onto : Expr → List Step → List Step
+  expr_onto (sum_of t) out = term_onto t out
+  expr_onto (plus e t) out = term_onto t (expr_onto e out) ++ Step.add ∷ []
+  expr_onto (minus e t) out = term_onto t (expr_onto e out) ++ Step.subtract ∷ []
+
+  pub term_onto : Term → List Step → List Step
+  term_onto (product_of f) out = factor_onto f out
+  term_onto (times t f) out = factor_onto f (term_onto t out) ++ Step.multiply ∷ []
+
+  pub factor_onto : Factor → List Step → List Step
+  factor_onto (positive a) out = atom_onto a out
+  factor_onto (negative a) out = atom_onto a out ++ Step.negate ∷ []
+
+  pub atom_onto : Atom → List Step → List Step
+  atom_onto (literal n) out = out ++ Step.number n ∷ []
+  atom_onto (Atom.variable v) out = out ++ Step.variable v ∷ []
+  atom_onto (parenthesized e) out = expr_onto e out
+
+-- how deep the parentheses nest
+abbrev mutual
+  pub expr_depth : Expr → ℕ
+  expr_depth (sum_of t) = term_depth t
+  expr_depth (plus e t) = max (expr_depth e) (term_depth t)
+  expr_depth (minus e t) = max (expr_depth e) (term_depth t)
+
+  pub term_depth : Term → ℕ
+  term_depth (product_of f) = factor_depth f
+  term_depth (times t f) = max (term_depth t) (factor_depth f)
+
+  pub factor_depth : Factor → ℕ
+  factor_depth (positive a) = atom_depth a
+  factor_depth (negative a) = atom_depth a
+
+  pub atom_depth : Atom → ℕ
+  atom_depth (literal n) = 0
+  atom_depth (Atom.variable v) = 0
+  atom_depth (parenthesized e) = suc (expr_depth e)
+
+-- ---- rules
+
+-- the pieces of a set
+abbrev pub among_onto : List Text → List Step → List Step
+among_onto [] out = out
+among_onto (w ∷ ws) out = among_onto ws (out ++ Step.among w ∷ [])
+
+abbrev pub assignment_onto : Assignment → List Step → List Step
+assignment_onto a out = expr_onto a.value out ++ Step.assign a.target ∷ []
+
+-- the further assignments of a list
+abbrev pub assignments_onto : List Assignment → List Step → List Step
+assignments_onto [] out = out
+assignments_onto (a ∷ more) out = assignments_onto more (assignment_onto a out ++ Step.join ∷ [])
+
+abbrev mutual
+  pub sum_onto : Sum → List Step → List Step
+  sum_onto (branch c) out = concat_onto c out
+  sum_onto (either s c) out = concat_onto c (sum_onto s out) ++ Step.either ∷ []
+
+  pub concat_onto : Concat → List Step → List Step
+  concat_onto (single e) out = element_onto e out
+  concat_onto (followed c e) out = element_onto e (concat_onto c out) ++ Step.join ∷ []
+
+  pub element_onto : Element → List Step → List Step
+  element_onto (once b) out = base_onto b out
+  element_onto (star b) out = base_onto b out ++ Step.star ∷ []
+
+  pub base_onto : Base → List Step → List Step
+  base_onto (shift w) out = out ++ Step.shift w ∷ []
+  base_onto (on ws) out = among_onto ws (out ++ Step.on ∷ [])
+  base_onto (off w) out = out ++ Step.off w ∷ []
+  base_onto (assign a more) out = assignments_onto more (assignment_onto a out)
+  base_onto (compare l t r) out = expr_onto r (expr_onto l out) ++ Step.compare t ∷ []
+  base_onto (switch w) out = out ++ Step.switch w ∷ []
+  base_onto keeper out = out ++ Step.keeper ∷ []
+  base_onto (some_word s) out = sum_onto s out ++ Step.some_word ∷ []
+  base_onto (no_word s) out = sum_onto s out ++ Step.no_word ∷ []
+  base_onto (group s) out = sum_onto s out
+
+abbrev pub assignments_depth : List Assignment → ℕ
+assignments_depth [] = 0
+assignments_depth (a ∷ more) = max (expr_depth a.value) (assignments_depth more)
+
+-- how deep brackets nest
+abbrev mutual
+  pub sum_depth : Sum → ℕ
+  sum_depth (branch c) = concat_depth c
+  sum_depth (either s c) = max (sum_depth s) (concat_depth c)
+
+  pub concat_depth : Concat → ℕ
+  concat_depth (single e) = element_depth e
+  concat_depth (followed c e) = max (concat_depth c) (element_depth e)
+
+  pub element_depth : Element → ℕ
+  element_depth (once b) = base_depth b
+  element_depth (star b) = base_depth b
+
+  pub base_depth : Base → ℕ
+  base_depth (shift w) = 0
+  base_depth (on ws) = 1
+  base_depth (off w) = 1
+  base_depth (assign a more) = suc (assignments_depth (a ∷ more))
+  base_depth (compare l t r) = suc (max (expr_depth l) (expr_depth r))
+  base_depth (switch w) = 0
+  base_depth keeper = 0
+  base_depth (some_word s) = suc (sum_depth s)
+  base_depth (no_word s) = suc (sum_depth s)
+  base_depth (group s) = suc (sum_depth s)
