@@ -5,7 +5,10 @@ pub mod LexerLemmas
 pub mod Turns
 pub mod ExpressionsComplete
 pub mod ExpressionsSound
-pub mod Nesting
+pub mod NestingLemmas
 pub mod RulesComplete
 pub mod RulesSound
-pub mod Whole
+pub mod SectionsSound
+pub mod SectionsComplete
+pub mod SectionsNesting
+pub mod ReadSections

@@ -141,7 +141,7 @@ names_len (w ∷ ws) rest = omega (arith, further_names_len ws rest)
 
 -- a part takes tokens
 mutual
-  sum_len : (s : Sum) (rest : Tokens) → length rest < length (grammar.sum s rest)
+  pub sum_len : (s : Sum) (rest : Tokens) → length rest < length (grammar.sum s rest)
   sum_len (branch c) rest = concat_len c rest
   sum_len (grammar.either s c) rest = omega (arith, sum_len s (grammar.mark Plus (grammar.concat c rest)), concat_len c rest)
 

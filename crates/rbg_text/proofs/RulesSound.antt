@@ -17,11 +17,11 @@ use Rattle.rbg_text.proofs.ExpressionsSound.{bind_some, seen, expected, first_is
 -- ---- names, sets and comparisons
 
 -- one token was taken
-record Takes (t : Token) (i j : State) : Type 0 where
-  tokens : i.tokens ≡ t ∷ j.tokens
-  steps : j.steps ≡ i.steps
+pub record Takes (t : Token) (i j : State) : Type 0 where
+  pub tokens : i.tokens ≡ t ∷ j.tokens
+  pub steps : j.steps ≡ i.steps
 
-named : (i j : State) (w : Text) → name i ≡ Some (w, j) → Takes (Token.name w) i j
+pub named : (i j : State) (w : Text) → name i ≡ Some (w, j) → Takes (Token.name w) i j
 unfolding name advance
 named i j w e = go (first i.tokens) refl e
   where

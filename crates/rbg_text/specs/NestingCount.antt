@@ -34,4 +34,3 @@ nesting_from n (t ∷ ts) = max n (nesting_from (count_after n t) ts)
 -- how deep the brackets of the tokens nest
 abbrev pub nesting : Tokens → ℕ
 nesting ts = nesting_from 0 ts
-

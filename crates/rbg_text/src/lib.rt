@@ -3,7 +3,9 @@
 
 pub mod fault;
 pub mod lexer;
+pub mod nesting;
 pub mod parser;
 pub mod read;
+mod section_parser;
 pub mod sections;
 pub mod token;

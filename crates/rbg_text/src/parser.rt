@@ -1,15 +1,17 @@
 //! The grammar, over tokens.
 
-ghost use Rattle.std.specs.Prelude.{◌≡◌, ◌≢◌, [], map, option_map, IfOk, IfErr};
+ghost use Rattle.std.specs.Prelude.{◌≡◌, [], map, option_map};
 ghost use Rattle.rbg_text.specs.Parse as spec;
 ghost use Rattle.rbg_text.specs.Parse.{Reads, ReadsAs};
+ghost use Rattle.rbg_text.specs.ParseSections.{is_done};
 ghost use Rattle.rbg_text.specs.View.{token_view, step_view};
 
 use crate::fault::ReadError;
-use rbg_game::rules::Comparison;
 use crate::token::{Sign, Token};
+use rbg_game::rules::Comparison;
 use std::alloc::Global;
 use std::marker::Model;
+use std::mem;
 
 /// A step of the rules in postfix order: an operator stands behind its operands, a set before its
 /// pieces.
@@ -38,7 +40,7 @@ pub enum Step<'a> {
 
 /// The tokens that are left, and the steps so far.
 #[derive(Drop)]
-pub struct Parser<'t, 'a> {
+pub(crate) struct Parser<'t, 'a> {
     tokens: &'t [Token<'a>],
     steps: Vec<Step<'a>>,
 }
@@ -61,7 +63,7 @@ fn same_sign(a: Sign, b: Sign) -> bool
 }
 
 impl<'t, 'a> Parser<'t, 'a> {
-    pub fn new(alloc: Global, tokens: &'t [Token<'a>]) -> Parser<'t, 'a>
+    pub(crate) fn new(alloc: Global, tokens: &'t [Token<'a>]) -> Parser<'t, 'a>
         ensures { result ≡ record { tokens = map token_view tokens.now; steps = [] } }
     {
         Parser {
@@ -70,33 +72,20 @@ impl<'t, 'a> Parser<'t, 'a> {
         }
     }
 
-    /// The steps, where no token is left.
-    pub fn finish(self) -> Result<Vec<Step<'a>>, ReadError>
-        ensures ok { IfOk result (λ steps. (self.entry.tokens ≡ []) × (map step_view steps.items ≡ self.entry.steps)) }
-        ensures err { IfErr result (λ e. (e ≡ ReadError.Syntax) × (self.entry.tokens ≢ [])) }
-    {
-        let Parser { tokens, steps } = self;
-        if tokens.is_empty() {
-            Ok(steps)
-        } else {
-            Err(ReadError::Syntax)
-        }
-    }
-
-    fn peek(&self) -> Option<Token<'a>>
+    pub(crate) fn peek(&self) -> Option<Token<'a>>
         ensures { option_map token_view result ≡ spec.first self.now.tokens }
     {
         self.tokens.first().copied()
     }
 
-    fn turns(&self) -> usize
+    pub(crate) fn turns(&self) -> usize
         ensures { result ≡ spec.turns self.now }
     {
         self.tokens.len()
     }
 
     #[tactic(auto, unfolding(crate::specs::Parse::advance))]
-    fn advance(&mut self)
+    pub(crate) fn advance(&mut self)
         ensures { self.new ≡ spec.advance self.old }
     {
         if let [_, rest @ ..] = self.tokens {
@@ -105,7 +94,7 @@ impl<'t, 'a> Parser<'t, 'a> {
     }
 
     #[tactic(auto, unfolding(crate::specs::Parse::sees))]
-    fn sees(&self, sign: Sign) -> bool
+    pub(crate) fn sees(&self, sign: Sign) -> bool
         ensures { result ≡ spec.sees sign self.now }
     {
         match self.peek() {
@@ -115,7 +104,7 @@ impl<'t, 'a> Parser<'t, 'a> {
     }
 
     #[tactic(auto, unfolding(crate::specs::Parse::after))]
-    fn eat(&mut self, sign: Sign) -> bool
+    pub(crate) fn eat(&mut self, sign: Sign) -> bool
         ensures found { result ≡ spec.sees sign self.old }
         ensures after { self.new ≡ spec.after sign self.old }
     {
@@ -127,7 +116,7 @@ impl<'t, 'a> Parser<'t, 'a> {
     }
 
     #[tactic(auto, unfolding(crate::specs::Parse::expect))]
-    fn expect(&mut self, sign: Sign) -> Result<(), ReadError>
+    pub(crate) fn expect(&mut self, sign: Sign) -> Result<(), ReadError>
         ensures { Reads (spec.expect sign self.old) result self.new }
     {
         if !self.sees(sign) {
@@ -135,6 +124,20 @@ impl<'t, 'a> Parser<'t, 'a> {
         }
         self.advance();
         Ok(())
+    }
+
+    pub(crate) fn is_done(&self) -> bool
+        ensures { result ≡ is_done self.now.tokens }
+    {
+        self.tokens.is_empty()
+    }
+
+    /// The steps so far, which are taken out.
+    pub(crate) fn take_steps(&mut self, alloc: Global) -> Vec<Step<'a>>
+        ensures steps { map step_view result.items ≡ self.old.steps }
+        ensures rest { self.new ≡ record self.old { steps = [] } }
+    {
+        mem::replace(&mut self.steps, Vec::new(alloc))
     }
 
     fn push(&mut self, step: Step<'a>) -> Result<(), ReadError>
@@ -198,7 +201,7 @@ impl<'t, 'a> Parser<'t, 'a> {
     /// An expression that nests no deeper than `depth`.
     #[cycle(expr)]
     #[tactic(auto, unfolding(crate::specs::Parse::expr, crate::specs::Parse::sum, crate::specs::Parse::terms))]
-    pub fn expr(&mut self, depth: usize) -> Result<(), ReadError>
+    fn expr(&mut self, depth: usize) -> Result<(), ReadError>
         ensures { Reads (spec.expr depth self.old) result self.new }
     {
         if depth == 0 {
@@ -220,7 +223,7 @@ impl<'t, 'a> Parser<'t, 'a> {
     }
 
     #[tactic(auto, unfolding(crate::specs::Parse::name))]
-    fn name(&mut self) -> Result<&'a [u8], ReadError>
+    pub(crate) fn name(&mut self) -> Result<&'a [u8], ReadError>
         ensures { ReadsAs (λ w. w.now) (spec.name self.old) result self.new }
     {
         let Some(Token::Name(name)) = self.peek() else {
@@ -412,7 +415,7 @@ impl<'t, 'a> Parser<'t, 'a> {
     /// Rules that nest no deeper than `depth`.
     #[cycle(rules)]
     #[tactic(auto, unfolding(crate::specs::Parse::rules_to, crate::specs::Parse::choice, crate::specs::Parse::branches))]
-    pub fn rules(&mut self, depth: usize) -> Result<(), ReadError>
+    pub(crate) fn rules(&mut self, depth: usize) -> Result<(), ReadError>
         ensures { Reads (spec.rules_to depth self.old) result self.new }
     {
         if depth == 0 {

@@ -1,8 +1,10 @@
 -- How deep an expression nests is at most the nesting of its tokens.
-use Rattle.std.proofs.Common.{◌≡◌, ℕ, suc, ◌+◌, ◌-◌, ◌≤◌, max, List, [], ◌∷◌, refl, ap, arith}
+use Rattle.std.proofs.Common.{◌≡◌, ℕ, suc, ◌+◌, ◌-◌, ◌≤◌, ◌<◌, max, List, [], ◌∷◌, length, map, drop, get_or, drop-cons, add-one, refl, ap, arith}
 use Rattle.rbg_text.specs.Syntax as grammar
 use Rattle.rbg_text.specs.Syntax.{Tokens, Expr, sum_of, plus, minus, Term, product_of, times, Factor, positive, negative, Atom, literal, parenthesized, Assignment, Sum, Concat, Element, Base}
-use Rattle.rbg_text.specs.NestingCount.{nesting_from}
+use Rattle.rbg_text.specs.NestingCount.{nesting_from, count_after}
+use Rattle.rbg_text.specs.View.{token_view}
+use Rattle.rbg_text.specs.declared.token.Token.{Token as CodeToken}
 use Rattle.rbg_text.specs.Postfix.{expr_depth, term_depth, factor_depth, atom_depth, assignments_depth, sum_depth, concat_depth, element_depth, base_depth}
 use Rattle.rbg_text.specs.declared.token.Sign.{Sign}
 use Rattle.rbg_text.specs.declared.token.Sign.TheVariants.{Star, CloseParen, CloseBracket, CloseBrace}
@@ -11,15 +13,15 @@ use Rattle.rbg_game.specs.declared.rules.Comparison.TheVariants as test
 use Rattle.rbg_text.specs.Token.{Text}
 
 -- the count within the tokens `here`, which go on with `rest`, gets at least so deep, and is back where it was before `rest`
-record Nests (n depth : ℕ) (here rest : Tokens) : Type 0 where
-  inside : n + depth ≤ nesting_from n here
-  behind : nesting_from n rest ≤ nesting_from n here
+pub record Nests (n depth : ℕ) (here rest : Tokens) : Type 0 where
+  pub inside : n + depth ≤ nesting_from n here
+  pub behind : nesting_from n rest ≤ nesting_from n here
 
-at_least : (n : ℕ) (ts : Tokens) → n ≤ nesting_from n ts
+pub at_least : (n : ℕ) (ts : Tokens) → n ≤ nesting_from n ts
 at_least n [] = omega arith
 at_least n (t ∷ ts) = omega arith
 
-closed : (n : ℕ) (rest : Tokens) → nesting_from n rest ≤ nesting_from (n + 1) (grammar.mark CloseParen rest)
+pub closed : (n : ℕ) (rest : Tokens) → nesting_from n rest ≤ nesting_from (n + 1) (grammar.mark CloseParen rest)
 closed n rest = let back : n + 1 - 1 ≡ n = omega arith in omega (arith, ap (λ k. nesting_from k rest) back)
 
 -- an operator and a further part
@@ -51,28 +53,28 @@ mutual
 -- ---- rules
 
 -- a part that begins where another ends
-next_to : {n a b : ℕ} {here mid rest : Tokens} → Nests n a here mid → Nests n b mid rest → Nests n (max a b) here rest
+pub next_to : {n a b : ℕ} {here mid rest : Tokens} → Nests n a here mid → Nests n b mid rest → Nests n (max a b) here rest
 next_to p q = record { inside = omega (arith, p.inside, p.behind, q.inside); behind = omega (arith, p.behind, q.behind) }
 
-closed_bracket : (n : ℕ) (rest : Tokens) → nesting_from n rest ≤ nesting_from (n + 1) (grammar.mark CloseBracket rest)
+pub closed_bracket : (n : ℕ) (rest : Tokens) → nesting_from n rest ≤ nesting_from (n + 1) (grammar.mark CloseBracket rest)
 closed_bracket n rest = let back : n + 1 - 1 ≡ n = omega arith in omega (arith, ap (λ k. nesting_from k rest) back)
 
-closed_brace : (n : ℕ) (rest : Tokens) → nesting_from n rest ≤ nesting_from (n + 1) (grammar.mark CloseBrace rest)
+pub closed_brace : (n : ℕ) (rest : Tokens) → nesting_from n rest ≤ nesting_from (n + 1) (grammar.mark CloseBrace rest)
 closed_brace n rest = let back : n + 1 - 1 ≡ n = omega arith in omega (arith, ap (λ k. nesting_from k rest) back)
 
 -- a sign that is no bracket before a part, and after it
-after_sign : {n d : ℕ} {here rest : Tokens} {s : Sign} → nesting_from n (grammar.mark s here) ≡ max n (nesting_from n here) → Nests n d here rest → Nests n d (grammar.mark s here) rest
+pub after_sign : {n d : ℕ} {here rest : Tokens} {s : Sign} → nesting_from n (grammar.mark s here) ≡ max n (nesting_from n here) → Nests n d here rest → Nests n d (grammar.mark s here) rest
 after_sign e p = record { inside = omega (arith, p.inside, e); behind = omega (arith, p.behind, e) }
 
 before_sign : {n d : ℕ} {here rest : Tokens} {s : Sign} → nesting_from n (grammar.mark s rest) ≡ max n (nesting_from n rest) → Nests n d here (grammar.mark s rest) → Nests n d here rest
 before_sign e p = record { inside = p.inside; behind = omega (arith, p.behind, e) }
 
 -- brackets round a part
-bracketed : {n d : ℕ} {here end rest : Tokens} {s : Sign} → nesting_from n (grammar.mark s here) ≡ max n (nesting_from (n + 1) here)
+pub bracketed : {n d : ℕ} {here end rest : Tokens} {s : Sign} → nesting_from n (grammar.mark s here) ≡ max n (nesting_from (n + 1) here)
     → nesting_from n rest ≤ nesting_from (n + 1) end → Nests (n + 1) d here end → Nests n (suc d) (grammar.mark s here) rest
 bracketed e back p = record { inside = omega (arith, p.inside, e); behind = omega (arith, p.behind, back, e) }
 
-names_nest : (ws : List Text) (n : ℕ) (rest : Tokens) → Nests n 0 (grammar.further grammar.word ws rest) rest
+pub names_nest : (ws : List Text) (n : ℕ) (rest : Tokens) → Nests n 0 (grammar.further grammar.word ws rest) rest
 names_nest [] n rest = record { inside = omega (arith, at_least n rest); behind = omega arith }
 names_nest (w ∷ ws) n rest = let m = names_nest ws n rest in record { inside = omega (arith, m.inside); behind = omega (arith, m.behind) }
 
@@ -80,7 +82,7 @@ set_nests : (ws : List Text) (n : ℕ) (rest : Tokens) → Nests n 0 (grammar.co
 set_nests [] n rest = record { inside = omega (arith, at_least n rest); behind = omega arith }
 set_nests (w ∷ ws) n rest = let m = names_nest ws n rest in record { inside = omega (arith, m.inside); behind = omega (arith, m.behind) }
 
-word_nests : (w : Text) (n : ℕ) (rest : Tokens) → Nests n 0 (grammar.word w rest) rest
+pub word_nests : (w : Text) (n : ℕ) (rest : Tokens) → Nests n 0 (grammar.word w rest) rest
 word_nests w n rest = record { inside = omega arith; behind = omega arith }
 
 assignment_nests : (a : Assignment) (n : ℕ) (rest : Tokens) → Nests n (expr_depth a.value) (grammar.assignment a rest) rest
@@ -100,7 +102,7 @@ compared_nest l r test.Greater n rest = joined (expr_nests l n _) refl (expr_nes
 compared_nest l r test.GreaterEqual n rest = joined (expr_nests l n _) refl (expr_nests r n rest)
 
 mutual
-  sum_nests : (s : Sum) (n : ℕ) (rest : Tokens) → Nests n (sum_depth s) (grammar.sum s rest) rest
+  pub sum_nests : (s : Sum) (n : ℕ) (rest : Tokens) → Nests n (sum_depth s) (grammar.sum s rest) rest
   sum_nests (grammar.branch c) n rest = concat_nests c n rest
   sum_nests (grammar.either s c) n rest = joined (sum_nests s n _) refl (concat_nests c n rest)
 
@@ -125,6 +127,15 @@ mutual
   base_nests (grammar.no_word s) n rest = bracketed refl (closed_brace n rest) (after_sign refl (sum_nests s (n + 1) (grammar.mark CloseBrace rest)))
   base_nests (grammar.group s) n rest = bracketed refl (closed n rest) (sum_nests s (n + 1) (grammar.mark CloseParen rest))
 
--- rules nest no deeper than their tokens
-pub depth_within : (s : Sum) (limit : ℕ) → nesting_from 0 (grammar.sum s []) ≤ limit → sum_depth s ≤ limit
-depth_within s limit le = let m = sum_nests s 0 [] in omega (arith, m.inside, le)
+-- ---- the count, a token at a time
+
+beyond : (whole g n m r x : ℕ) → whole ≡ max g (max n x) → n ≤ g → m ≤ x → r ≡ max g m → whole ≡ max r x
+beyond whole g n m r x e le on is = omega arith
+
+pub counted_on : (all : List CodeToken) (d : CodeToken) (i n g m r whole : ℕ) → i < length all → whole ≡ max g (nesting_from n (map token_view (drop i all)))
+    → m ≡ count_after n (token_view (get_or all i d)) → n ≤ g → r ≡ max g m → whole ≡ max r (nesting_from m (map token_view (drop (i + 1) all)))
+counted_on all d i n g m r whole lt e is le greatest =
+    let cut : drop i all ≡ get_or all i d ∷ drop (i + 1) all = rw add-one (drop-cons all i d lt) in
+    let on : whole ≡ max g (max n (nesting_from (count_after n (token_view (get_or all i d))) (map token_view (drop (i + 1) all)))) = rw cut at e in
+    let on2 : whole ≡ max g (max n (nesting_from m (map token_view (drop (i + 1) all)))) = rw is on in
+    beyond whole g n m r _ on2 le (at_least m _) greatest

@@ -1,0 +1,12 @@
+use Rattle.std.proofs.Common.{rules, arith, map}
+use Rattle.std.proofs.lemmas.Grind.{common_steps}
+use Rattle.rbg_text.specs.ParseSections.{items, declaration}
+use Rattle.rbg_text.specs.Said.{declaration_view}
+use Rattle.rbg_text.proofs.Turns.{one_more}
+use Rattle.rbg_text.proofs.parser.Parser.declarations.Goals as goal
+
+pub loop-turn-preserved : goal.loop-turn-preserved
+unfolding items
+loop-turn-preserved c =
+    let e = one_more (λ n. items declaration n (map declaration_view c.loop-turn.all.items) c.loop-turn.self) _ c.loop-turn._turn c.loop-turn-test.true c.loop-turn.invariant in
+    first_of (search rules, grind (arith, common_steps))
