@@ -1,2 +1,3 @@
 pub mod MeaningLemmas
 pub mod ValueLemmas
+pub mod CountLemmas

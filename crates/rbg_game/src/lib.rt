@@ -1,6 +1,7 @@
 //! The vocabulary of games: roles, rules, expressions, boards, positions, and what they mean.
 #![tactic(auto)]
 
+pub mod count;
 pub mod game;
 pub mod position;
 pub mod roles;
