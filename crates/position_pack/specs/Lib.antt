@@ -1,2 +1,4 @@
+pub mod Shape
 pub mod Fields
 pub mod Bytes
+pub mod Laws

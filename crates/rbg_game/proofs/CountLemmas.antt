@@ -3,6 +3,7 @@ use Rattle.std.proofs.Common.{◌≡◌, ℕ, ◌+◌, ◌≤◌, ◌<◌, List,
 use Rattle.std.specs.Prelude.{sum_by}
 use Rattle.std.proofs.lemmas.List.Sums.{sum_by-cons, sum_by_more_le}
 use Rattle.rbg_game.specs.Rules.{Regex, cat, alt, cat_all, alt_all, count}
+use Rattle.rbg_game.specs.Sound.{whole_count}
 use Rattle.rbg_game.specs.Meaning.{regex_of}
 use Rattle.rbg_game.specs.declared.rules.Rules.{Rules}
 
@@ -33,3 +34,11 @@ alts_count (x ∷ xs) = folded_alts (regex_of x) (map regex_of xs) ∙ ap (λ n.
 -- a part, and those before it, are within the whole
 pub within : (xs : List Rules) (i : ℕ) (x : Rules) (whole : ℕ) → i < length xs → x ≡ get_or xs i x → sum_by actions xs ≡ whole → sum_by actions (take i xs) + actions x ≤ whole
 within xs i x whole lt is e = omega (arith, sum_by_more_le actions xs i x lt, ap actions is, e)
+
+-- the numbered actions are among all
+pub count_within : (e : Regex) → count e ≤ whole_count e
+count_within (Regex.one a) = omega arith
+count_within Regex.empty = omega arith
+count_within (cat a b) = omega (arith, count_within a, count_within b)
+count_within (alt a b) = omega (arith, count_within a, count_within b)
+count_within (Regex.star a) = count_within a

@@ -1,0 +1,6 @@
+use Rattle.std.proofs.Common.{◌≡◌, take, map}
+use Rattle.rbg_game.specs.Meaning.{variable_of}
+use Rattle.position_pack.proofs.packed.Packing.new.Given as goal
+
+abbrev pub invariant-loop-variable : goal.invariant-loop-variable
+invariant-loop-variable l = l.bounds.items ≡ map (λ v. v.bound) (take l.variable-index l.variable-items)
