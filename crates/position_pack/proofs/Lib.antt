@@ -1,3 +1,4 @@
 pub mod ShapeLemmas
 pub mod ValueBytes
 pub mod PartLemmas
+pub mod OrderLemmas

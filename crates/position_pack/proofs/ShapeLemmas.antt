@@ -1,8 +1,13 @@
 -- The shape of a game, from the game of the program.
-use Rattle.std.proofs.Common.{◌≡◌, ℕ, List, [], ◌∷◌, map, refl, ap, sym, ◌∙◌}
+use Rattle.std.proofs.Common.{◌≡◌, ◌<◌, ◌≤◌, ℕ, length, get_or, List, [], ◌∷◌, map, refl, ap, sym, ◌∙◌, arith}
 use Rattle.rbg_game.specs.Meaning.{variable_of}
 use Rattle.rbg_game.specs.declared.game.Variable.{Variable}
-use Rattle.position_pack.specs.Shape.{Shape}
+use Rattle.std.specs.Prelude.{All}
+use Rattle.std.proofs.lemmas.List.{get_or-map, length-map}
+use Rattle.rbg_game.specs.Games.{Game, Variable as Bounded}
+use Rattle.rbg_game.specs.Sound.{IsSoundGame}
+use Rattle.rbg_game.proofs.CountLemmas.{count_within}
+use Rattle.position_pack.specs.Shape.{Shape, IsSmall, shape_of}
 
 pub bounds_are : (all : List Variable) → map (λ v. v.bound) all ≡ map (λ v. v.bound) (map variable_of all)
 bounds_are [] = refl
@@ -13,3 +18,16 @@ shape pieces bounds vertices actions = record { pieces = pieces; bounds = bounds
 
 pub same_shape : {a p v w m n : ℕ} {b c : List ℕ} → a ≡ p → b ≡ c → v ≡ w → m ≡ n → shape a b v m ≡ shape p c w n
 same_shape e f g h = rw (e, f, g, h) refl
+
+-- a game within its limits has a small shape
+pub small_shape : (game : Game) → IsSoundGame game → IsSmall (shape_of game)
+small_shape game sound = record {
+  few_actions = omega (arith, count_within game.rules, sound.few_actions);
+  low_bounds = λ k lt. low game.variables sound.bounds_fit k lt;
+}
+  where
+    low : (all : List Bounded) → All (λ v. v.bound ≤ 1000000) all → (k : ℕ) → k < length (map (λ v. v.bound) all) → get_or (map (λ v. v.bound) all) k 0 ≤ 1000000
+    low all fit k lt =
+        let none : Bounded = record { name = []; bound = 0 } in
+        let here : k < length all = omega (arith, lt, length-map all (λ v. v.bound)) in
+        omega (arith, fit k none here, get_or-map (λ v. v.bound) all k none 0 here)

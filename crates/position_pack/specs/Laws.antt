@@ -1,11 +1,12 @@
 -- Laws of packing, each the contract of a function.
-use Rattle.std.specs.Prelude.{◌≡◌, ◌↔◌, ◌≤◌, All, List}
+use Rattle.std.specs.Prelude.{◌≡◌, ◌↔◌}
 use Rattle.std.specs.Cmp.Lexicographic.{slice_cmp}
 use Rattle.std.specs.Ordering.{nat_cmp}
 use Rattle.rbg_game.specs.Games.{Game}
+use Rattle.rbg_game.specs.Sound.{IsSoundGame}
 use Rattle.rbg_game.specs.Positions.{IsPositionOf}
 use Rattle.rbg_game.specs.declared.position.Position.{Position}
-use Rattle.position_pack.specs.Shape.{Shape, shape_of, Fits}
+use Rattle.position_pack.specs.Shape.{Shape, shape_of, IsSmall, Fits}
 use Rattle.position_pack.specs.Fields.{fields_of}
 use Rattle.position_pack.specs.Bytes.{bytes_of}
 
@@ -13,13 +14,17 @@ use Rattle.position_pack.specs.Bytes.{bytes_of}
 abbrev pub PositionsFit : Type 0
 PositionsFit = (game : Game) (at : Position) → IsPositionOf game at ↔ Fits (shape_of game) at
 
+-- a game within its limits has a small shape
+abbrev pub GamesAreSmall : Type 0
+GamesAreSmall = (game : Game) → IsSoundGame game → IsSmall (shape_of game)
+
 -- two positions with the same bytes are the same
 abbrev pub BytesTell : Type 0
 BytesTell =
-    (shape : Shape) (x y : Position) → All (λ b. b ≤ 1000000) shape.bounds → Fits shape x → Fits shape y → bytes_of x ≡ bytes_of y → x ≡ y
+    (shape : Shape) (x y : Position) → IsSmall shape → Fits shape x → Fits shape y → bytes_of x ≡ bytes_of y → x ≡ y
 
 -- the order of the bytes is the dictionary order of the fields
 abbrev pub BytesOrder : Type 0
 BytesOrder =
-    (shape : Shape) (x y : Position) → All (λ b. b ≤ 1000000) shape.bounds → Fits shape x → Fits shape y
+    (shape : Shape) (x y : Position) → IsSmall shape → Fits shape x → Fits shape y
     → slice_cmp nat_cmp (bytes_of x) (bytes_of y) ≡ slice_cmp nat_cmp (fields_of x) (fields_of y)

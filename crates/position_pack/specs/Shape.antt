@@ -20,6 +20,11 @@ shape_of game = record {
   actions = count game.rules;
 }
 
+-- no value is over 1,000,000, and no place over 4,096
+pub record IsSmall (shape : Shape) : Type 0 where
+  pub few_actions : shape.actions ≤ 4096
+  pub low_bounds : EachIndex shape.bounds (λ v. slice_index shape.bounds v ≤ 1000000)
+
 -- a piece for each vertex, a value for each bound, and each field in its range
 pub record Fits (shape : Shape) (at : Position) : Type 0 where
   pub pieces_fit : length at.state.pieces.items ≡ shape.vertices

@@ -1,8 +1,23 @@
 //! Laws of the definitions, for readers: each function's contract is one.
 
-ghost use Rattle.position_pack.specs.Laws.{PositionsFit, BytesTell, BytesOrder};
+ghost use Rattle.position_pack.specs.Laws.{PositionsFit, GamesAreSmall, BytesTell, BytesOrder};
 
 /// A position of a game is one whose fields are in the ranges of the game's shape.
 pub fn positions_fit()
     ensures { PositionsFit }
+{}
+
+/// A game within its limits has a small shape.
+pub fn games_are_small()
+    ensures { GamesAreSmall }
+{}
+
+/// Two positions with the same bytes are the same.
+pub fn bytes_tell()
+    ensures { BytesTell }
+{}
+
+/// The order of the bytes is the dictionary order of the fields.
+pub fn bytes_order()
+    ensures { BytesOrder }
 {}
