@@ -2,3 +2,4 @@ pub mod ShapeLemmas
 pub mod ValueBytes
 pub mod PartLemmas
 pub mod OrderLemmas
+pub mod TextLemmas

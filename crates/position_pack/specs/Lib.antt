@@ -1,4 +1,5 @@
 pub mod Shape
 pub mod Fields
 pub mod Bytes
+pub mod Texts
 pub mod Laws

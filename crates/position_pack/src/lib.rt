@@ -4,5 +4,7 @@
 pub mod laws;
 pub mod packed;
 mod parts;
+mod text;
 
 pub use packed::{Packed, Packing};
+pub use text::show;
