@@ -1,4 +1,9 @@
+pub mod Collected
+pub mod Defaults
 pub mod Examples
+pub mod Labels
+pub mod Limits
+pub mod Lists
 pub mod TakeReading
 pub mod SmallExpressions
 pub mod SoundRules

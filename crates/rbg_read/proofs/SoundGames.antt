@@ -19,7 +19,7 @@ use Rattle.rbg_read.specs.Means.{decimal, first_appearances, Names, names_of, va
 use Rattle.rbg_text.specs.Said.{further_vertex}
 use Rattle.rbg_read.specs.Causes.{max_number, actions_in, expressions_of, all_actions, is_board, has_wrong_sections, has_not_two_players, is_unknown, action_uses_unknown, vertex_uses_unknown, has_unknown_name, has_repeated_name, is_too_large, has_large_number, action_count, passes_a_limit, bounds_of, is_large, has_large_expression, has_switch_inside, has_switch_in_pattern, first_cause}
 use Rattle.rbg_read.specs.Reading.{Reads, reads}
-use Rattle.rbg_read.specs.declared.fault.Cause.{Cause}
+use Rattle.rbg_read.specs.declared.fault.GameFault.{GameFault}
 use Rattle.rbg_read.proofs.SmallExpressions.{index_below, none_parts}
 use Rattle.rbg_read.proofs.SoundRules.{all_from, each_parts, Fine, sound, count_is, count_within}
 
@@ -142,7 +142,7 @@ is_tree_game all game means = go (flat_map rules_of all) refl means.rules
     go (s ∷ t ∷ more) e h = absurd (cc)
 
 -- a cause that is not the first
-passed : (b : Bool) (c : Cause) (o : Option Cause) → (if b then Some c else o) ≡ None → (b ≡ false) × (o ≡ None)
+passed : (b : Bool) (c : GameFault) (o : Option GameFault) → (if b then Some c else o) ≡ None → (b ≡ false) × (o ≡ None)
 passed true c o h = absurd (cc)
 passed false c o h = (refl, h)
 

@@ -7,8 +7,8 @@ use Rattle.rbg_text.specs.Syntax as syntax
 use Rattle.rbg_text.specs.Syntax.{Tokens, Declaration, Section, Base, Expr}
 use Rattle.rbg_read.specs.Means.{decimal, Names, names_of, values_of, index_of, players_of, variables_of, vertices_of, rules_of}
 use Rattle.rbg_text.specs.declared.token.Sign.TheVariants.{OpenParen, CloseParen, OpenBracket, CloseBracket, OpenBrace, CloseBrace}
-use Rattle.rbg_read.specs.declared.fault.Cause.{Cause}
-use Rattle.rbg_read.specs.declared.fault.Cause.TheVariants as cause
+use Rattle.rbg_read.specs.declared.fault.GameFault.{GameFault}
+use Rattle.rbg_read.specs.declared.fault.GameFault.TheVariants as cause
 
 -- ---- limits
 
@@ -256,7 +256,7 @@ has_switch_in_pattern all = list_any has_switch_inside (all_actions all)
 
 -- ---- the first of the causes G2 to G9 that applies
 
-abbrev pub first_cause : List Section → Option Cause
+abbrev pub first_cause : List Section → Option GameFault
 first_cause all =
     if has_wrong_sections all then Some cause.Section
     else (if has_not_two_players all then Some cause.NotTwoPlayers

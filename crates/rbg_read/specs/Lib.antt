@@ -1,4 +1,11 @@
+pub mod Build
 pub mod Causes
+pub mod Flat
 pub mod Means
+pub mod Parts
+pub mod ReadFaults
 pub mod Reading
+pub mod Resolve
+pub mod Sizes
+pub mod Switches
 pub mod TakeText

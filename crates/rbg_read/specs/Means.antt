@@ -31,7 +31,6 @@ abbrev pub variables_of : Section → List Declaration
 variables_of (syntax.variables all) = all
 variables_of _ = []
 
-
 abbrev pub vertices_of : Section → List syntax.Vertex
 vertices_of (syntax.board first more) = first ∷ map further_vertex more
 vertices_of _ = []

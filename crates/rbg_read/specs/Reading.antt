@@ -6,8 +6,8 @@ use Rattle.rbg_game.specs.Games.{Game}
 use Rattle.rbg_read.specs.Means.{Means}
 use Rattle.rbg_read.specs.Causes.{max_bytes, first_cause}
 use Rattle.rbg_text.specs.NestingCount.{max_nesting, nesting}
-use Rattle.rbg_read.specs.declared.fault.Cause.{Cause}
-use Rattle.rbg_read.specs.declared.fault.Cause.TheVariants as cause
+use Rattle.rbg_read.specs.declared.fault.GameFault.{GameFault}
+use Rattle.rbg_read.specs.declared.fault.GameFault.TheVariants as cause
 
 -- the text splits into tokens that are the grammar's for these sections
 pub record Parses (bytes : Text) (ts : Tokens) (all : List Section) : Type 0 where
@@ -20,11 +20,11 @@ pub data Reads : Text → Game → Type 0 where
       → Parses bytes ts all → first_cause all ≡ None → Means all g → Reads bytes g
 
 -- the first cause for which a text is no game
-pub data Fault : Text → Cause → Type 0 where
+pub data Fault : Text → GameFault → Type 0 where
   too_long : {bytes : Text} → max_bytes < length bytes → Fault bytes cause.TooLarge
   stray_byte : {bytes : Text} → length bytes ≤ max_bytes → ((ts : Tokens) → ¬ Splits bytes ts) → Fault bytes cause.Syntax
   nested : {bytes : Text} {ts : Tokens} → length bytes ≤ max_bytes → Splits bytes ts → max_nesting < nesting ts → Fault bytes cause.TooLarge
   grammar : {bytes : Text} {ts : Tokens} → length bytes ≤ max_bytes → Splits bytes ts → nesting ts ≤ max_nesting
       → ((all : List Section) → ¬ (ts ≡ text all)) → Fault bytes cause.Syntax
-  first : {bytes : Text} {ts : Tokens} {all : List Section} {c : Cause} → length bytes ≤ max_bytes → nesting ts ≤ max_nesting
+  first : {bytes : Text} {ts : Tokens} {all : List Section} {c : GameFault} → length bytes ≤ max_bytes → nesting ts ≤ max_nesting
       → Parses bytes ts all → first_cause all ≡ Some c → Fault bytes c

@@ -1,0 +1,24 @@
+use Rattle.std.proofs.Common.{get_or, sym, ap, ◌∙◌}
+use Rattle.rbg_text.specs.View.{step_view}
+use Rattle.rbg_read.specs.Flat.{is_large_number}
+use Rattle.rbg_read.specs.Parts.{known_view}
+use Rattle.rbg_read.specs.Resolve.{stack_of, finished, first_rules, after_step, empty_stack, resolved}
+use Rattle.rbg_read.proofs.Defaults.{no_step}
+use Rattle.rbg_read.proofs.Lists.{fold_turn, fold_end, none_at}
+use Rattle.rbg_read.proofs.resolve.resolve.Goals as goal
+
+pub step-requires-clause-within : goal.step-requires-clause-within
+step-requires-clause-within c = none_at is_large_number step_view c.args.steps.now c.loop-step.step-index no_step c.loop-step-test.true c.requires.within
+
+pub loop-step-preserved : goal.loop-step-preserved
+loop-step-preserved c =
+    let next = after_step (known_view c.args.names.now) in
+    c.in_ok-step.ensures
+    ∙ ap (λ s. next s (step_view (get_or c.args.steps.now c.loop-step.step-index no_step))) c.loop-step.invariant
+    ∙ sym (fold_turn next empty_stack step_view c.args.steps.now c.loop-step.step-index no_step c.loop-step-test.true)
+
+pub returns : goal.returns
+unfolding resolved
+returns c =
+    let end = fold_end (after_step (known_view c.args.names.now)) empty_stack step_view c.args.steps.now c.loop-step.step-index c.loop-step-test.false in
+    c.pop_rules.ensures.value ∙ ap (λ s. first_rules s.rules) (c.in_ok-finish_set.ensures ∙ ap finished (c.loop-step.invariant ∙ end))

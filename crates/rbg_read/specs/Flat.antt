@@ -1,0 +1,85 @@
+-- The causes against a game, over its parts with the rules as steps.
+use Rattle.std.specs.Prelude.{ℕ, ◌+◌, Bool, true, false, not, ◌||◌, if◌then◌else◌, ◌==◌, nat_lt, List, [], ◌∷◌, ◌++◌, length, map, count_by, Option, Some, None}
+use Rattle.std.specs.List.{list_any}
+use Rattle.rbg_text.specs.Token.{Text}
+use Rattle.rbg_text.specs.Syntax.{Declaration, Vertex}
+use Rattle.rbg_text.specs.Parse.{Step}
+use Rattle.rbg_read.specs.Means.{decimal, declared, index_of}
+use Rattle.rbg_read.specs.Causes.{is_unknown, has_repeat, is_too_large}
+use Rattle.rbg_read.specs.Parts.{Parts, Known}
+use Rattle.rbg_read.specs.Sizes.{has_large_size}
+use Rattle.rbg_read.specs.Switches.{has_inner_switch}
+use Rattle.rbg_read.specs.declared.fault.GameFault.{GameFault}
+use Rattle.rbg_read.specs.declared.fault.GameFault.TheVariants as cause
+
+-- ---- names
+
+abbrev pub step_uses_unknown : Known → Step → Bool
+step_uses_unknown known (Step.variable w) = is_unknown known.values w
+step_uses_unknown known (Step.shift w) = is_unknown known.labels w
+step_uses_unknown known (Step.among w) = is_unknown known.pieces w
+step_uses_unknown known (Step.off w) = is_unknown known.pieces w
+step_uses_unknown known (Step.assign w) = is_unknown known.values w
+step_uses_unknown known (Step.switch w) = is_unknown known.players w
+step_uses_unknown known _ = false
+
+abbrev pub vertex_uses_unknown : Known → Vertex → Bool
+vertex_uses_unknown known v = is_unknown known.pieces v.piece || list_any (λ a. is_unknown known.vertices a.to) v.arrows
+
+abbrev pub uses_unknown : Known → Parts → Bool
+uses_unknown known p = list_any (vertex_uses_unknown known) p.vertices || list_any (step_uses_unknown known) p.steps
+
+abbrev pub repeats_label : Vertex → Bool
+repeats_label v = has_repeat (map (λ a. a.label) v.arrows)
+
+abbrev pub repeats_name : Known → Parts → Bool
+repeats_name known p =
+    has_repeat known.values || has_repeat known.pieces || has_repeat known.vertices || list_any repeats_label p.vertices
+
+-- ---- numbers
+
+abbrev pub has_large_bound : Declaration → Bool
+has_large_bound d = is_too_large d.bound
+
+abbrev pub is_large_number : Step → Bool
+is_large_number (Step.number n) = is_too_large n
+is_large_number _ = false
+
+abbrev pub has_large : Parts → Bool
+has_large p = list_any has_large_bound p.players || list_any has_large_bound p.variables || list_any is_large_number p.steps
+
+-- the bounds of the players and the variables
+abbrev pub bounds : Parts → List ℕ
+bounds p = map (λ d. decimal d.bound) (p.players ++ p.variables)
+
+-- ---- limits
+
+abbrev pub is_action : Step → Bool
+is_action (Step.shift w) = true
+is_action Step.on = true
+is_action (Step.off w) = true
+is_action (Step.assign w) = true
+is_action (Step.compare t) = true
+is_action (Step.switch w) = true
+is_action Step.keeper = true
+is_action Step.some_word = true
+is_action Step.no_word = true
+is_action _ = false
+
+abbrev pub is_past_a_limit : Known → Parts → Bool
+is_past_a_limit known p =
+    nat_lt 128 (length known.vertices) || nat_lt 64 (length known.labels) || nat_lt 64 (length known.pieces)
+    || nat_lt 32 (length p.variables) || nat_lt 4096 (count_by is_action p.steps)
+
+-- ---- the first that applies, where each section stands once
+
+abbrev pub flat_cause : Known → Parts → Option GameFault
+flat_cause known p =
+    if not (length p.players == 2) then Some cause.NotTwoPlayers
+    else (if uses_unknown known p then Some cause.UnknownName
+    else (if repeats_name known p then Some cause.RepeatedName
+    else (if has_large p then Some cause.BoundTooLarge
+    else (if is_past_a_limit known p then Some cause.TooLarge
+    else (if has_large_size known.values (bounds p) p.steps then Some cause.ExpressionTooLarge
+    else (if has_inner_switch p.steps then Some cause.SwitchInPattern
+    else None))))))

@@ -1,0 +1,136 @@
+-- The rules that steps in postfix order stand for, by a stack of expressions and one of rules, the newest first.
+use Rattle.std.specs.Prelude.{ℕ, Bool, true, false, if◌then◌else◌, ◌==◌, List, [], ◌∷◌, ◌++◌, drop, fold, reverse, map, Option, Some, None, option_map}
+use Rattle.rbg_text.specs.Token.{Text}
+use Rattle.rbg_text.specs.Parse.{Step}
+use Rattle.rbg_game.specs.Expressions.{Expression}
+use Rattle.rbg_game.specs.Rules.{Regex, Action}
+use Rattle.rbg_game.specs.Meaning.{expression_of, regex_of}
+use Rattle.rbg_game.specs.declared.rules.Comparison.{Comparison}
+use Rattle.rbg_game.specs.declared.roles.Player.TheVariants.{First, Second}
+use Rattle.rbg_game.specs.declared.roles.Role.{Role}
+use Rattle.rbg_game.specs.declared.roles.Role.TheVariants.{Keeper, Player}
+use Rattle.rbg_read.specs.Means.{decimal, index_of}
+use Rattle.rbg_read.specs.Parts.{Known}
+use Rattle.rbg_read.specs.declared.resolve.Stack.{Stack as CodeStack}
+
+pub record Stack : Type 0 where
+  -- the set whose pieces come next
+  pub set : Option (List ℕ)
+  pub expressions : List Expression
+  pub rules : List Regex
+
+abbrev pub empty_stack : Stack
+empty_stack = record { set = None; expressions = []; rules = [] }
+
+-- what the program has for it
+abbrev pub stack_of : CodeStack → Stack
+stack_of s = record {
+  set = option_map (λ v. v.items) s.set;
+  expressions = map expression_of (reverse s.expressions.items);
+  rules = map regex_of (reverse s.rules.items);
+}
+
+-- ---- the newest, where there is one
+
+abbrev pub first_expression : List Expression → Expression
+first_expression [] = Expression.number 0
+first_expression (e ∷ more) = e
+
+abbrev pub first_rules : List Regex → Regex
+first_rules [] = Regex.empty
+first_rules (r ∷ more) = r
+
+-- ---- more and fewer
+
+abbrev pub push_expression : Expression → Stack → Stack
+push_expression e s = record s { expressions = e ∷ s.expressions }
+
+abbrev pub pop_expression : Stack → Stack
+pop_expression s = record s { expressions = drop 1 s.expressions }
+
+abbrev pub push_rules : Regex → Stack → Stack
+push_rules r s = record s { rules = r ∷ s.rules }
+
+abbrev pub pop_rules : Stack → Stack
+pop_rules s = record s { rules = drop 1 s.rules }
+
+abbrev pub push_action : Action → Stack → Stack
+push_action a s = push_rules (Regex.one a) s
+
+abbrev pub finished_set : Option (List ℕ) → Stack → Stack
+finished_set None s = s
+finished_set (Some pieces) s = push_action (Action.on pieces) (record s { set = None })
+
+-- the set, where one was begun, is an action
+abbrev pub finished : Stack → Stack
+finished s = finished_set s.set s
+
+-- ---- one step
+
+abbrev pub binary_expression : (Expression → Expression → Expression) → Stack → Stack
+binary_expression f s =
+    push_expression (f (first_expression (drop 1 s.expressions)) (first_expression s.expressions)) (pop_expression (pop_expression s))
+
+abbrev pub binary_rules : (Regex → Regex → Regex) → Stack → Stack
+binary_rules f s = push_rules (f (first_rules (drop 1 s.rules)) (first_rules s.rules)) (pop_rules (pop_rules s))
+
+abbrev pub negated : Stack → Stack
+negated s = push_expression (Expression.negation (first_expression s.expressions)) (pop_expression s)
+
+abbrev pub difference : Expression → Expression → Expression
+difference a b = Expression.sum a (Expression.negation b)
+
+abbrev pub assigned : ℕ → Stack → Stack
+assigned v s = push_action (Action.assignment v (first_expression s.expressions)) (pop_expression s)
+
+abbrev pub compared : Comparison → Stack → Stack
+compared test s =
+    push_action (Action.comparison (first_expression (drop 1 s.expressions)) test (first_expression s.expressions)) (pop_expression (pop_expression s))
+
+abbrev pub pattern_made : Bool → Stack → Stack
+pattern_made positive s = push_action (Action.pattern positive (first_rules s.rules)) (pop_rules s)
+
+abbrev pub begun_set : Stack → Stack
+begun_set s = record s { set = Some [] }
+
+-- one piece more in the set
+abbrev pub with_piece : ℕ → Stack → Stack
+with_piece place s = record s { set = option_map (λ pieces. pieces ++ place ∷ []) s.set }
+
+abbrev pub starred : Stack → Stack
+starred s = push_rules (Regex.star (first_rules s.rules)) (pop_rules s)
+
+-- the role of the player with this place
+abbrev pub player_role : ℕ → Role
+player_role place = if place == 0 then Player First else Player Second
+
+-- with the set finished
+module _ (known : Known) where
+  abbrev pub performed : Step → Stack → Stack
+  performed (Step.number n) s = push_expression (Expression.number (decimal n)) s
+  performed (Step.variable v) s = push_expression (Expression.variable (index_of known.values v)) s
+  performed Step.negate s = negated s
+  performed Step.add s = binary_expression Expression.sum s
+  performed Step.subtract s = binary_expression difference s
+  performed Step.multiply s = binary_expression Expression.product s
+  performed (Step.shift label) s = push_action (Action.shift (index_of known.labels label)) s
+  performed Step.on s = begun_set s
+  performed (Step.among piece) s = s
+  performed (Step.off piece) s = push_action (Action.off (index_of known.pieces piece)) s
+  performed (Step.assign v) s = assigned (index_of known.values v) s
+  performed (Step.compare test) s = compared test s
+  performed (Step.switch player) s = push_action (Action.switch (player_role (index_of known.players player))) s
+  performed Step.keeper s = push_action (Action.switch Keeper) s
+  performed Step.some_word s = pattern_made true s
+  performed Step.no_word s = pattern_made false s
+  performed Step.join s = binary_rules Regex.cat s
+  performed Step.either s = binary_rules Regex.alt s
+  performed Step.star s = starred s
+
+  abbrev pub after_step : Stack → Step → Stack
+  after_step s (Step.among piece) = with_piece (index_of known.pieces piece) s
+  after_step s step = performed step (finished s)
+
+  -- the rules that steps stand for
+  unfoldable pub resolved : List Step → Regex
+  resolved steps = first_rules (finished (fold after_step empty_stack steps)).rules

@@ -1,0 +1,27 @@
+//! Numbers as digits.
+
+ghost use Rattle.std.specs.Prelude.{◌≡◌, ◌<◌, min, ℕ};
+ghost use Rattle.rbg_read.specs.Means.{decimal};
+ghost use Rattle.rbg_read.specs.Causes.{is_too_large};
+
+/// The greatest number and the greatest bound.
+pub const MAX_NUMBER: u32 = 1_000_000;
+
+/// The number that the digits spell, or one over the limit where it is over it.
+pub fn number(digits: &[u8]) -> u32
+    ensures { result ≡ min (decimal digits.now) 1000001 }
+{
+    let mut number: u32 = 0;
+    for digit in digits {
+        let next = 10 * number + u32::from(digit.saturating_sub(b'0'));
+        number = next.min(MAX_NUMBER + 1);
+    }
+    number
+}
+
+/// Whether the number is over the limit.
+pub fn is_too_large(digits: &[u8]) -> bool
+    ensures { result ≡ is_too_large digits.now }
+{
+    number(digits) > MAX_NUMBER
+}

@@ -1,0 +1,270 @@
+//! Steps in postfix order to rules.
+
+ghost use Rattle.std.specs.Prelude.{◌≡◌, ◌≤◌, ◌≢◌, length, map, false, IfOk};
+ghost use Rattle.std.specs.List.{list_any};
+ghost use Rattle.rbg_text.specs.View.{step_view};
+ghost use Rattle.rbg_game.specs.Meaning.{expression_of, regex_of, action_of};
+ghost use Rattle.rbg_game.specs.Rules.{Regex};
+ghost use Rattle.rbg_game.specs.Expressions.{Expression};
+ghost use Rattle.rbg_read.specs.Resolve as spec;
+ghost use Rattle.rbg_read.specs.Parts.{known_view, AreFew};
+ghost use Rattle.rbg_read.specs.Flat.{is_large_number};
+
+use crate::names::{Names, place};
+use crate::nodes;
+use crate::numbers::number;
+use rbg_game::roles::{Player, Role};
+use rbg_game::rules::{Action, Comparison, Expr, Rules};
+use rbg_text::parser::Step;
+use std::alloc::{AllocError, Global};
+
+/// The parts of the rules that wait for their operators. Steps of a syntax tree leave one part of the rules.
+#[derive(Drop)]
+pub struct Stack {
+    alloc: Global,
+    /// The set whose pieces come next.
+    set: Option<Vec<u8>>,
+    expressions: Vec<Expr>,
+    rules: Vec<Rules>,
+}
+
+impl Stack {
+    fn new(alloc: Global) -> Stack
+        ensures { spec.stack_of result ≡ spec.empty_stack }
+    {
+        Stack {
+            alloc,
+            set: None,
+            expressions: Vec::new(alloc),
+            rules: Vec::new(alloc),
+        }
+    }
+
+    fn push_expression(&mut self, expr: Expr) -> Result<(), AllocError>
+        ensures { IfOk result (λ _. spec.stack_of self.new ≡ spec.push_expression (expression_of expr) (spec.stack_of self.old)) }
+    {
+        self.expressions.push(expr)?;
+        Ok(())
+    }
+
+    /// The newest expression, or 0 where there is none.
+    fn pop_expression(&mut self) -> Expr
+        ensures value { expression_of result ≡ spec.first_expression (spec.stack_of self.old).expressions }
+        ensures after { spec.stack_of self.new ≡ spec.pop_expression (spec.stack_of self.old) }
+    {
+        self.expressions.pop().unwrap_or(Expr::Number(0))
+    }
+
+    fn push_rules(&mut self, rules: Rules) -> Result<(), AllocError>
+        ensures { IfOk result (λ _. spec.stack_of self.new ≡ spec.push_rules (regex_of rules) (spec.stack_of self.old)) }
+    {
+        self.rules.push(rules)?;
+        Ok(())
+    }
+
+    /// The newest part of the rules, or no action where there is none.
+    fn pop_rules(&mut self) -> Rules
+        ensures value { regex_of result ≡ spec.first_rules (spec.stack_of self.old).rules }
+        ensures after { spec.stack_of self.new ≡ spec.pop_rules (spec.stack_of self.old) }
+    {
+        let empty = Rules::Concat(Vec::new(self.alloc));
+        self.rules.pop().unwrap_or(empty)
+    }
+
+    fn push_action(&mut self, action: Action) -> Result<(), AllocError>
+        ensures { IfOk result (λ _. spec.stack_of self.new ≡ spec.push_action (action_of action) (spec.stack_of self.old)) }
+    {
+        self.push_rules(Rules::Action(action))
+    }
+
+    /// The set, where one was begun, is an action.
+    fn finish_set(&mut self) -> Result<(), AllocError>
+        ensures { IfOk result (λ _. spec.stack_of self.new ≡ spec.finished (spec.stack_of self.old)) }
+    {
+        match self.set.take() {
+            Some(pieces) => self.push_action(Action::On(pieces)),
+            None => Ok(()),
+        }
+    }
+
+    fn negate(&mut self) -> Result<(), AllocError>
+        ensures { IfOk result (λ _. spec.stack_of self.new ≡ spec.negated (spec.stack_of self.old)) }
+    {
+        let part = self.pop_expression();
+        let negation = nodes::negation(self.alloc, part)?;
+        self.push_expression(negation)
+    }
+
+    fn add(&mut self) -> Result<(), AllocError>
+        ensures { IfOk result (λ _. spec.stack_of self.new ≡ spec.binary_expression Expression.sum (spec.stack_of self.old)) }
+    {
+        let right = self.pop_expression();
+        let left = self.pop_expression();
+        let sum = nodes::sum(self.alloc, left, right)?;
+        self.push_expression(sum)
+    }
+
+    fn subtract(&mut self) -> Result<(), AllocError>
+        ensures { IfOk result (λ _. spec.stack_of self.new ≡ spec.binary_expression spec.difference (spec.stack_of self.old)) }
+    {
+        let right = self.pop_expression();
+        let left = self.pop_expression();
+        let negation = nodes::negation(self.alloc, right)?;
+        let difference = nodes::sum(self.alloc, left, negation)?;
+        self.push_expression(difference)
+    }
+
+    fn multiply(&mut self) -> Result<(), AllocError>
+        ensures { IfOk result (λ _. spec.stack_of self.new ≡ spec.binary_expression Expression.product (spec.stack_of self.old)) }
+    {
+        let right = self.pop_expression();
+        let left = self.pop_expression();
+        let product = nodes::product(self.alloc, left, right)?;
+        self.push_expression(product)
+    }
+
+    fn assign(&mut self, variable: u8) -> Result<(), AllocError>
+        ensures { IfOk result (λ _. spec.stack_of self.new ≡ spec.assigned variable (spec.stack_of self.old)) }
+    {
+        let value = self.pop_expression();
+        self.push_action(Action::Assignment(variable, value))
+    }
+
+    fn compare(&mut self, test: Comparison) -> Result<(), AllocError>
+        ensures { IfOk result (λ _. spec.stack_of self.new ≡ spec.compared test (spec.stack_of self.old)) }
+    {
+        let right = self.pop_expression();
+        let left = self.pop_expression();
+        self.push_action(Action::Comparison(left, test, right))
+    }
+
+    fn pattern(&mut self, is_positive: bool) -> Result<(), AllocError>
+        ensures { IfOk result (λ _. spec.stack_of self.new ≡ spec.pattern_made is_positive (spec.stack_of self.old)) }
+    {
+        let inner = self.pop_rules();
+        let inner = Box::new(self.alloc, inner)?;
+        self.push_action(Action::Pattern(is_positive, inner))
+    }
+
+    fn join(&mut self) -> Result<(), AllocError>
+        ensures { IfOk result (λ _. spec.stack_of self.new ≡ spec.binary_rules Regex.cat (spec.stack_of self.old)) }
+    {
+        let right = self.pop_rules();
+        let left = self.pop_rules();
+        let concat = nodes::concat(self.alloc, left, right)?;
+        self.push_rules(concat)
+    }
+
+    fn either(&mut self) -> Result<(), AllocError>
+        ensures { IfOk result (λ _. spec.stack_of self.new ≡ spec.binary_rules Regex.alt (spec.stack_of self.old)) }
+    {
+        let right = self.pop_rules();
+        let left = self.pop_rules();
+        let either = nodes::either(self.alloc, left, right)?;
+        self.push_rules(either)
+    }
+
+    fn star(&mut self) -> Result<(), AllocError>
+        ensures { IfOk result (λ _. spec.stack_of self.new ≡ spec.starred (spec.stack_of self.old)) }
+    {
+        let inner = self.pop_rules();
+        let star = nodes::star(self.alloc, inner)?;
+        self.push_rules(star)
+    }
+
+    fn begin_set(&mut self)
+        ensures { spec.stack_of self.new ≡ spec.begun_set (spec.stack_of self.old) }
+    {
+        self.set = Some(Vec::new(self.alloc));
+    }
+
+    fn add_piece(&mut self, piece: u8) -> Result<(), AllocError>
+        ensures { IfOk result (λ _. spec.stack_of self.new ≡ spec.with_piece piece (spec.stack_of self.old)) }
+    {
+        if let Some(pieces) = &mut self.set {
+            pieces.push(piece)?;
+        }
+        Ok(())
+    }
+
+    /// A step that begins or ends an operand.
+    fn perform(&mut self, names: &Names, step: Step<'_>) -> Result<(), AllocError>
+        requires few { AreFew (known_view names.now) }
+        requires within { is_large_number (step_view step) ≡ false }
+        ensures { IfOk result (λ _. spec.stack_of self.new ≡ spec.performed (known_view names.now) (step_view step.entry) (spec.stack_of self.old)) }
+    {
+        match step {
+            Step::Number(digits) => self.push_expression(Expr::Number(number(digits))),
+            Step::Variable(name) => self.push_expression(Expr::Variable(place(
+                names.values.as_slice(),
+                name,
+            ))),
+            Step::Negate => self.negate(),
+            Step::Add => self.add(),
+            Step::Subtract => self.subtract(),
+            Step::Multiply => self.multiply(),
+            Step::Shift(label) => self.push_action(Action::Shift(place(
+                names.labels.as_slice(),
+                label,
+            ))),
+            Step::On => {
+                self.begin_set();
+                Ok(())
+            }
+            Step::Among(_) => Ok(()),
+            Step::Off(piece) => self.push_action(Action::Off(place(
+                names.pieces.as_slice(),
+                piece,
+            ))),
+            Step::Assign(name) => self.assign(place(names.values.as_slice(), name)),
+            Step::Compare(test) => self.compare(test),
+            Step::Switch(player) => self.push_action(Action::Switch(role_at(place(
+                names.players.as_slice(),
+                player,
+            )))),
+            Step::Keeper => self.push_action(Action::Switch(Role::Keeper)),
+            Step::SomeWord => self.pattern(true),
+            Step::NoWord => self.pattern(false),
+            Step::Join => self.join(),
+            Step::Either => self.either(),
+            Step::Star => self.star(),
+        }
+    }
+
+    fn step(&mut self, names: &Names, step: Step<'_>) -> Result<(), AllocError>
+        requires few { AreFew (known_view names.now) }
+        requires within { is_large_number (step_view step) ≡ false }
+        ensures { IfOk result (λ _. spec.stack_of self.new ≡ spec.after_step (known_view names.now) (spec.stack_of self.old) (step_view step.entry)) }
+    {
+        if let Step::Among(piece) = step {
+            return self.add_piece(place(names.pieces.as_slice(), piece));
+        }
+        self.finish_set()?;
+        self.perform(names, step)
+    }
+}
+
+/// The role of the player with this place.
+fn role_at(place: u8) -> Role
+    ensures { result ≡ spec.player_role place }
+{
+    if place == 0 {
+        Role::Player(Player::First)
+    } else {
+        Role::Player(Player::Second)
+    }
+}
+
+/// The rules that the steps of a syntax tree stand for.
+pub fn resolve(alloc: Global, names: &Names, steps: &[Step]) -> Result<Rules, AllocError>
+    requires few { AreFew (known_view names.now) }
+    requires within { list_any is_large_number (map step_view steps.now) ≡ false }
+    ensures { IfOk result (λ r. regex_of r ≡ spec.resolved (known_view names.now) (map step_view steps.now)) }
+{
+    let mut stack = Stack::new(alloc);
+    for step in steps {
+        stack.step(names, *step)?;
+    }
+    stack.finish_set()?;
+    Ok(stack.pop_rules())
+}
