@@ -4,7 +4,13 @@ pub mod Examples
 pub mod Labels
 pub mod Limits
 pub mod Lists
+pub mod StepRules
+pub mod StepSizes
+pub mod StepSwitches
+pub mod StepTests
 pub mod TakeReading
+pub mod TreeParts
+pub mod Outcome
 pub mod SmallExpressions
 pub mod SoundRules
 pub mod SoundGames

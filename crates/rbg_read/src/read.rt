@@ -1,5 +1,9 @@
 //! Reads a game text.
 
+ghost use Rattle.std.specs.Prelude.{◌≢◌, IfOk, IfErr};
+ghost use Rattle.rbg_game.specs.Meaning.{game_of};
+ghost use Rattle.rbg_read.specs.Reading.{Reads, Fault};
+
 use crate::build::build;
 use crate::checks::check;
 use crate::fault::GameFault;
@@ -16,7 +20,10 @@ const MAX_BYTES: usize = 65_536;
 const MAX_NESTING: usize = 64;
 
 /// The game that a text reads to, or the first cause for which it is no game.
-pub fn read_game(alloc: Global, text: &[u8]) -> Result<Game, GameFault> {
+pub fn read_game(alloc: Global, text: &[u8]) -> Result<Game, GameFault>
+    ensures reads { IfOk result (λ game. Reads text.now (game_of game)) }
+    ensures fault { IfErr result (λ fault. fault ≢ GameFault.OutOfMemory → Fault text.now fault) }
+{
     if text.len() > MAX_BYTES {
         return Err(GameFault::TooLarge);
     }
