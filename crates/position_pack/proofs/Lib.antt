@@ -3,3 +3,4 @@ pub mod ValueBytes
 pub mod PartLemmas
 pub mod OrderLemmas
 pub mod TextLemmas
+pub mod TellLemmas

@@ -116,7 +116,7 @@ same_role (Player Second) (Player First) e = absurd (omega (arith, e))
 abbrev position : Role → List ℕ → List ℕ → ℕ → ℕ → Position
 position mover pieces values vertex place = record { state = record { mover = mover; pieces = record { items = pieces }; values = record { items = values }; vertex = vertex }; place = place }
 
-same_position : (x y : Position) → x.state.mover ≡ y.state.mover → x.state.pieces.items ≡ y.state.pieces.items → x.state.values.items ≡ y.state.values.items → x.state.vertex ≡ y.state.vertex → x.place ≡ y.place → x ≡ y
+pub same_position : (x y : Position) → x.state.mover ≡ y.state.mover → x.state.pieces.items ≡ y.state.pieces.items → x.state.values.items ≡ y.state.values.items → x.state.vertex ≡ y.state.vertex → x.place ≡ y.place → x ≡ y
 same_position x y em ep ev ex el =
     let e : position x.state.mover x.state.pieces.items x.state.values.items x.state.vertex x.place ≡ position y.state.mover y.state.pieces.items y.state.values.items y.state.vertex y.place = rw (em, ep, ev, ex, el) refl in
     e

@@ -124,5 +124,5 @@ pub small_others : (shape : Shape) (bytes p v o : List ℕ) → Cut shape bytes 
 small_others shape bytes p v o cut small i =
     let n = 3 * length shape.bounds in
     let e : get_or o i 0 ≡ get_or bytes (shape.vertices + (n + i)) 0 =
-        ap (λ xs. get_or xs i 0) cut.others ∙ get_or-drop n (drop shape.vertices bytes) i 0 ∙ get_or-drop shape.vertices bytes (n + i) 0 in
+    ap (λ xs. get_or xs i 0) cut.others ∙ get_or-drop n (drop shape.vertices bytes) i 0 ∙ get_or-drop shape.vertices bytes (n + i) 0 in
     omega (arith, e, small (shape.vertices + (n + i)))

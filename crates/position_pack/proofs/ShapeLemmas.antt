@@ -1,13 +1,15 @@
 -- The shape of a game, from the game of the program.
-use Rattle.std.proofs.Common.{◌≡◌, ◌<◌, ◌≤◌, ℕ, length, get_or, List, [], ◌∷◌, map, refl, ap, sym, ◌∙◌, arith}
+use Rattle.std.proofs.Common.{◌≡◌, ◌<◌, ◌≤◌, ℕ, zero, suc, length, get_or, List, [], ◌∷◌, map, refl, ap, sym, ◌∙◌, arith}
 use Rattle.rbg_game.specs.Meaning.{variable_of}
 use Rattle.rbg_game.specs.declared.game.Variable.{Variable}
-use Rattle.std.specs.Prelude.{All}
+use Rattle.std.specs.Prelude.{All, slice_get, option_map, unwrap_or}
 use Rattle.std.proofs.lemmas.List.{get_or-map, length-map}
 use Rattle.rbg_game.specs.Games.{Game, Variable as Bounded}
+use Rattle.rbg_game.specs.Positions.{IsPositionOf}
+use Rattle.rbg_game.specs.declared.position.Position.{Position}
 use Rattle.rbg_game.specs.Sound.{IsSoundGame}
 use Rattle.rbg_game.proofs.CountLemmas.{count_within}
-use Rattle.position_pack.specs.Shape.{Shape, IsSmall, shape_of}
+use Rattle.position_pack.specs.Shape.{Shape, IsSmall, shape_of, Fits}
 
 pub bounds_are : (all : List Variable) → map (λ v. v.bound) all ≡ map (λ v. v.bound) (map variable_of all)
 bounds_are [] = refl
@@ -31,3 +33,20 @@ small_shape game sound = record {
         let none : Bounded = record { name = []; bound = 0 } in
         let here : k < length all = omega (arith, lt, length-map all (λ v. v.bound)) in
         omega (arith, fit k none here, get_or-map (λ v. v.bound) all k none 0 here)
+
+-- the bound of a variable, in the list of bounds
+bound_is : (all : List Bounded) (v : ℕ) → unwrap_or (option_map (λ b. b.bound) (slice_get all v)) 0 ≡ get_or (map (λ b. b.bound) all) v 0
+bound_is [] v = refl
+bound_is (b ∷ all) zero = refl
+bound_is (b ∷ all) (suc v) = bound_is all v
+
+-- a position of the game has its fields in the ranges
+pub fits : (game : Game) (at : Position) → IsPositionOf game at → Fits (shape_of game) at
+fits game at is = record {
+  pieces_fit = is.state_is.pieces_fit;
+  pieces_are = is.state_is.pieces_are;
+  values_fit = is.state_is.values_fit ∙ sym (length-map game.variables (λ v. v.bound));
+  values_are = λ k lt. omega (arith, is.state_is.values_are k lt, bound_is game.variables k);
+  vertex_is = is.state_is.vertex_is;
+  place_is = is.place_is;
+}

@@ -4,11 +4,13 @@ use Rattle.std.specs.Cmp.Lexicographic.{slice_cmp}
 use Rattle.std.specs.Ordering.{nat_cmp}
 use Rattle.rbg_game.specs.Games.{Game}
 use Rattle.rbg_game.specs.Sound.{IsSoundGame}
+use Rattle.rbg_game.specs.Names.{HasProperNames}
 use Rattle.rbg_game.specs.Positions.{IsPositionOf}
 use Rattle.rbg_game.specs.declared.position.Position.{Position}
 use Rattle.position_pack.specs.Shape.{Shape, shape_of, IsSmall, Fits}
 use Rattle.position_pack.specs.Fields.{fields_of}
 use Rattle.position_pack.specs.Bytes.{bytes_of}
+use Rattle.position_pack.specs.Texts.{text_of}
 
 -- the positions of a game are those whose fields are in the ranges of its shape
 abbrev pub PositionsFit : Type 0
@@ -28,3 +30,9 @@ abbrev pub BytesOrder : Type 0
 BytesOrder =
     (shape : Shape) (x y : Position) → IsSmall shape → Fits shape x → Fits shape y
     → slice_cmp nat_cmp (bytes_of x) (bytes_of y) ≡ slice_cmp nat_cmp (fields_of x) (fields_of y)
+
+-- two positions of a game with the same text are the same
+abbrev pub TextsTell : Type 0
+TextsTell =
+    (game : Game) (x y : Position) → IsSoundGame game → HasProperNames game → IsPositionOf game x → IsPositionOf game y
+    → text_of game x ≡ text_of game y → x ≡ y

@@ -1,6 +1,6 @@
 //! Laws of the definitions, for readers: each function's contract is one.
 
-ghost use Rattle.position_pack.specs.Laws.{PositionsFit, GamesAreSmall, BytesTell, BytesOrder};
+ghost use Rattle.position_pack.specs.Laws.{PositionsFit, GamesAreSmall, BytesTell, BytesOrder, TextsTell};
 
 /// A position of a game is one whose fields are in the ranges of the game's shape.
 pub fn positions_fit()
@@ -20,4 +20,9 @@ pub fn bytes_tell()
 /// The order of the bytes is the dictionary order of the fields.
 pub fn bytes_order()
     ensures { BytesOrder }
+{}
+
+/// Two positions of a game with the same text are the same.
+pub fn texts_tell()
+    ensures { TextsTell }
 {}

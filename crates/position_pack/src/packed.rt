@@ -7,9 +7,7 @@ ghost use Rattle.rbg_game.specs.declared.position.Position.{Position};
 ghost use Rattle.position_pack.specs.Shape.{shape_of, Fits};
 ghost use Rattle.position_pack.specs.Bytes.{bytes_of, IsPacked};
 
-
-use crate::parts::{
-    all_below, put_bytes, put_values, role_byte, role_of, values_of, vector_of};
+use crate::parts::{all_below, put_bytes, put_values, role_byte, role_of, values_of, vector_of};
 use arrayvec::ArrayVec;
 use rbg_game::count::action_count;
 use rbg_game::game::Game;
@@ -110,5 +108,75 @@ impl Packing {
             },
             place,
         })
+    }
+}
+
+#[cfg(test)]
+mod tests {
+    use super::*;
+    use rbg_game::roles::{Player, Role};
+    use std::test::Fail;
+
+    /// The packing of the game of a heap of three: one piece, one vertex, eleven actions.
+    fn take() -> Packing {
+        let mut bounds = ArrayVec::new();
+        bounds.push(1);
+        bounds.push(1);
+        bounds.push(3);
+        Packing {
+            pieces: 1,
+            bounds,
+            vertices: 1,
+            actions: 11,
+        }
+    }
+
+    #[test]
+    fn a_position_has_its_bytes(rt: HostRuntime) -> Result<(), Fail> {
+        let mut pieces = ArrayVec::new();
+        pieces.push(0);
+        let mut values = ArrayVec::new();
+        values.push(0);
+        values.push(0);
+        values.push(3);
+        let at = Position {
+            state: SemiState {
+                mover: Role::Player(Player::First),
+                pieces,
+                values,
+                vertex: 0,
+            },
+            place: 2,
+        };
+        let bytes = take().pack(&at);
+        let want = [0, 0, 0, 0, 0, 0, 0, 0, 0, 3, 0, 1, 0, 2];
+        assert_eq!(rt; bytes.as_slice(), want.as_slice());
+        assert_eq!(rt; take().length(), 14);
+        Ok(())
+    }
+
+    #[test]
+    fn only_canonical_bytes_are_a_position(rt: HostRuntime) -> Result<(), Fail> {
+        let packing = take();
+        let canonical = [0, 0, 0, 0, 0, 0, 1, 0, 0, 0, 0, 1, 0, 2];
+        let Some(at) = packing.unpack(&canonical) else {
+            panic!(rt; "the bytes are canonical");
+        };
+        assert_eq!(rt; at.place, 2);
+        assert_eq!(rt; at.state.values.as_slice(), [0, 1, 0].as_slice());
+        let cases = [
+            [1, 0, 0, 0, 0, 0, 0, 0, 0, 0, 0, 1, 0, 2],
+            [0, 0, 0, 2, 0, 0, 0, 0, 0, 0, 0, 1, 0, 2],
+            [0, 0, 0, 0, 0, 0, 0, 1, 0, 0, 0, 1, 0, 2],
+            [0, 0, 0, 0, 0, 0, 0, 0, 0, 0, 1, 1, 0, 2],
+            [0, 0, 0, 0, 0, 0, 0, 0, 0, 0, 0, 3, 0, 2],
+            [0, 0, 0, 0, 0, 0, 0, 0, 0, 0, 0, 1, 0, 12],
+        ];
+        for case in &cases {
+            assert!(rt; packing.unpack(case.as_slice()).is_none());
+        }
+        assert!(rt; packing.unpack(&[0, 0, 0]).is_none());
+        assert!(rt; packing.unpack(&[0; 15]).is_none());
+        Ok(())
     }
 }

@@ -5,3 +5,4 @@ pub mod Meaning
 pub mod Sound
 pub mod Positions
 pub mod Take
+pub mod Names
