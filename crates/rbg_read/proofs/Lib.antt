@@ -10,6 +10,7 @@ pub mod StepSwitches
 pub mod StepTests
 pub mod TakeReading
 pub mod TreeParts
+pub mod OneReading
 pub mod Outcome
 pub mod SmallExpressions
 pub mod SoundRules

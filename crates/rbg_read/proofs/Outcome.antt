@@ -33,7 +33,7 @@ kept_on text (Ok x) e h fault = tt
 kept_on text (Err f) e h fault = λ no. subst (Fault text) (sym h.1) (fault (λ is. no (h.1 ∙ is)))
 
 -- the first of the causes, with a section twice or missing
-wrong_first : (all : List Section) → has_wrong_sections all ≡ true → first_cause all ≡ Some cause.Section
+pub wrong_first : (all : List Section) → has_wrong_sections all ≡ true → first_cause all ≡ Some cause.Section
 wrong_first all h = rw h refl
 
 module _ (text : Text) (ts : Tokens) (all : List Section) (saids : List Said) (short : length text ≤ 65536) (flat : nesting ts ≤ 64) (splits : Splits text ts) (spelled : ts ≡ g.text all) (said : saids ≡ map said_of all) where

@@ -1,10 +1,11 @@
 //! Laws of the definitions, for readers: each function's contract is one.
 
-ghost use Rattle.std.specs.Prelude.{◌≤◌};
+ghost use Rattle.std.specs.Prelude.{◌≡◌, ◌≤◌};
 ghost use Rattle.rbg_game.specs.Rules.{count};
 ghost use Rattle.rbg_text.specs.Token.{Text};
 ghost use Rattle.rbg_game.specs.Games.{Game};
-ghost use Rattle.rbg_read.specs.Reading.{Reads};
+ghost use Rattle.rbg_read.specs.Reading.{Reads, Fault};
+ghost use Rattle.rbg_read.specs.declared.fault.GameFault.{GameFault};
 ghost use Rattle.rbg_game.specs.Sound.{IsSoundGame};
 ghost use Rattle.rbg_game.specs.Take.{take};
 ghost use Rattle.rbg_read.specs.TakeText.{take_text};
@@ -22,4 +23,19 @@ pub fn sound_games_are_numbered()
 /// The text of the small game reads to it.
 pub fn small_game_is_read()
     ensures { Reads take_text take }
+{}
+
+/// A text reads to one game at most.
+pub fn a_text_reads_to_one_game()
+    ensures { (text : Text) (game other : Game) → Reads text game → Reads text other → game ≡ other }
+{}
+
+/// A text that reads to a game has no fault.
+pub fn what_is_read_has_no_fault()
+    ensures { (text : Text) (game : Game) (fault : GameFault) → Reads text game → ¬ Fault text fault }
+{}
+
+/// A text has one fault at most.
+pub fn a_text_has_one_fault()
+    ensures { (text : Text) (fault other : GameFault) → Fault text fault → Fault text other → fault ≡ other }
 {}

@@ -7,6 +7,7 @@ use Rattle.rbg_game.specs.Meaning.{game_of}
 use Rattle.rbg_read.specs.Parts.{parts_view, known_view}
 use Rattle.rbg_read.specs.Reading.{too_long, stray_byte, nested, grammar}
 use Rattle.rbg_read.proofs.Outcome.{passed_on, kept_on, lacks, refused, read}
+use Rattle.rbg_read.proofs.OneReading.{no_fault, refused_only}
 use Rattle.rbg_read.proofs.read.read_game.Goals as goal
 
 pub returns-then-text-gt-MAX_BYTES-clause-fault : goal.returns-then-text-gt-MAX_BYTES-clause-fault
@@ -69,3 +70,21 @@ returns-clause-reads c =
     c.if-text-gt-MAX_BYTES.false flat c.in_ok-tokens.ensures.split (sym same ∙ sections.1) sections.2
     (parts_view c.in-Some.parts) (known_view c.in_ok-names.names) (game_of c.in_ok-build.field-0)
     (sym c.in_ok-parts.ensures ∙ ap (option_map parts_view) c.in-Some.is) c.in_ok-names.ensures c.in_ok-check.ensures c.in_ok-build.ensures
+
+pub returns-then-text-gt-MAX_BYTES-clause-only : goal.returns-then-text-gt-MAX_BYTES-clause-only
+returns-then-text-gt-MAX_BYTES-clause-only c = λ game is. absurd (no_fault c.args.text.now game _ is (returns-then-text-gt-MAX_BYTES-clause-fault c (λ e. absurd (cc))))
+
+pub returns-then-nesting-gt-MAX_NESTING-clause-only : goal.returns-then-nesting-gt-MAX_NESTING-clause-only
+returns-then-nesting-gt-MAX_NESTING-clause-only c = λ game is. absurd (no_fault c.args.text.now game _ is (returns-then-nesting-gt-MAX_NESTING-clause-fault c (λ e. absurd (cc))))
+
+pub returns-in_default-clause-only : goal.returns-in_default-clause-only
+returns-in_default-clause-only c = λ game is. absurd (no_fault c.args.text.now game _ is (returns-in_default-clause-fault c (λ e. absurd (cc))))
+
+pub returns-in_err-tokens-clause-only : goal.returns-in_err-tokens-clause-only
+returns-in_err-tokens-clause-only c = λ game is. refused_only c.args.text.now c.from_residual.result (returns-in_err-tokens-clause-fault c) game is
+
+pub returns-in_err-sections-clause-only : goal.returns-in_err-sections-clause-only
+returns-in_err-sections-clause-only c = λ game is. refused_only c.args.text.now c.from_residual-in_err-sections.result (returns-in_err-sections-clause-fault c) game is
+
+pub returns-in_err-check-clause-only : goal.returns-in_err-check-clause-only
+returns-in_err-check-clause-only c = λ game is. refused_only c.args.text.now c.from_residual-in_err-check.result (returns-in_err-check-clause-fault c) game is

@@ -1,0 +1,5 @@
+use Rattle.rbg_read.proofs.OneReading.{one_game}
+use Rattle.rbg_read.proofs.laws.a_text_reads_to_one_game.Goals as goal
+
+pub returns : goal.returns
+returns c = one_game
