@@ -217,8 +217,29 @@ impl<'a> Lexer<'a> {
                 self.rest = rest;
                 Ok(Some(token))
             }
-            None => Err(ReadError::Syntax),
+            None => {
+                self.rest = text;
+                Err(ReadError::Syntax)
+            }
         }
+    }
+
+    /// How many bytes of the text are left: those behind the last token, or from the byte on that
+    /// begins none.
+    pub fn left(&self) -> usize
+        ensures { result ≡ length self.now }
+    {
+        self.rest.len()
+    }
+}
+
+/// With how many bytes a token is written.
+pub fn written_len(token: Token<'_>) -> usize
+    ensures { result ≡ length (grammar.token_text (token_view token.entry)) }
+{
+    match token {
+        Token::Name(word) | Token::Number(word) => word.len(),
+        Token::Sign(sign) => sign_text(sign).len(),
     }
 }
 

@@ -1,6 +1,6 @@
 //! Reads the tokens of a text.
 
-ghost use Rattle.std.specs.Prelude.{◌≡◌, ◌≤◌, List, Err, IfOk, map};
+ghost use Rattle.std.specs.Prelude.{◌≡◌, ◌≤◌, List, Err, IfOk, map, length};
 ghost use Rattle.rbg_text.specs.Syntax as grammar;
 ghost use Rattle.rbg_text.specs.NestingCount.{nesting, max_nesting};
 ghost use Rattle.rbg_text.specs.Said.{said_of, section_view};
@@ -22,6 +22,15 @@ pub fn read_sections<'a>(alloc: Global, tokens: &[Token<'a>]) -> Result<Vec<Sect
 {
     let mut parser = Parser::new(alloc, tokens);
     parser.sections(alloc)
+}
+
+/// How many of the tokens were read before the first that does not fit the grammar.
+pub fn tokens_read(alloc: Global, tokens: &[Token<'_>]) -> usize
+    ensures { result ≤ length tokens.now }
+{
+    let mut parser = Parser::new(alloc, tokens);
+    let _sections = parser.sections(alloc);
+    tokens.len().saturating_sub(parser.turns())
 }
 
 #[cfg(test)]
