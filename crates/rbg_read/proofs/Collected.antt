@@ -1,11 +1,8 @@
 -- The only members of lists that are mapped.
-use Rattle.std.proofs.Common.{◌≡◌, List, [], ◌∷◌, map, Option, Some, None, Vec, Global, refl, sym, ap, ◌∙◌}
+use Rattle.std.proofs.Common.{◌≡◌, List, [], ◌∷◌, map, Some, Vec, Global, refl, sym}
 use Rattle.std.specs.Prelude.{option_map}
 use Rattle.rbg_text.specs.Said.{declaration_view, vertex_view}
 use Rattle.rbg_text.specs.View.{step_view}
-use Rattle.rbg_text.specs.declared.sections.Declaration.{Declaration}
-use Rattle.rbg_text.specs.declared.sections.Vertex.{Vertex}
-use Rattle.rbg_text.specs.declared.parser.Step.{Step}
 use Rattle.rbg_read.specs.Parts.{only, at_most_one, parts_of, parts_view, kinds_view}
 use Rattle.rbg_read.specs.declared.parts.Parts.{Parts}
 use Rattle.rbg_read.specs.declared.parts.Sections.{Sections}

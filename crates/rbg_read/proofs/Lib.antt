@@ -2,7 +2,7 @@ pub mod Collected
 pub mod Defaults
 pub mod Examples
 pub mod Labels
-pub mod Limits
+pub mod NoCause
 pub mod Lists
 pub mod StepRules
 pub mod StepSizes
@@ -15,4 +15,3 @@ pub mod Outcome
 pub mod SmallExpressions
 pub mod SoundRules
 pub mod SoundGames
-pub mod Shapes

@@ -1,9 +1,8 @@
 -- A text reads to one game at most, or has one fault at most, and not both.
-use Rattle.std.proofs.Common.{◌≡◌, ◌≢◌, ℕ, ◌<◌, ◌≤◌, true, false, List, [], map, length, Option, Some, None, Result, Ok, Err, refl, sym, ap, ◌∙◌, subst, arith}
+use Rattle.std.proofs.Common.{◌≡◌, ◌≢◌, ◌≤◌, List, [], map, length, Option, Some, None, Result, Ok, Err, refl, sym, ap, ◌∙◌, subst, arith}
 use Rattle.std.specs.Prelude.{IfErr}
-use Rattle.std.specs.List.{flat_map}
 use Rattle.rbg_text.specs.Token.{Text, Splits}
-use Rattle.rbg_text.specs.Syntax.{Tokens, Section, Sum, text}
+use Rattle.rbg_text.specs.Syntax.{Tokens, Section, text}
 use Rattle.rbg_text.specs.Said.{Said, said_of}
 use Rattle.rbg_text.specs.Parse.{Outcome}
 use Rattle.rbg_text.specs.NestingCount.{nesting}
@@ -12,14 +11,14 @@ use Rattle.rbg_text.proofs.SectionsComplete.{sections_read}
 use Rattle.rbg_text.proofs.SectionsNesting.{all_shallow}
 use Rattle.rbg_game.specs.Games.{Game}
 use Rattle.rbg_read.specs.Causes.{first_cause}
-use Rattle.rbg_read.specs.Means.{names_of, rules_of, sum_rules, Means}
+use Rattle.rbg_read.specs.Means.{Means}
 use Rattle.rbg_read.specs.Parts.{Parts, collected, known_of}
 use Rattle.rbg_read.specs.Flat.{flat_cause}
 use Rattle.rbg_read.specs.Build.{flat_game}
 use Rattle.rbg_read.specs.Reading.{Reads, reads, Fault, too_long, stray_byte, nested, grammar, first}
 use Rattle.rbg_read.specs.declared.fault.GameFault.{GameFault}
 use Rattle.rbg_read.specs.declared.fault.GameFault.TheVariants as cause
-use Rattle.rbg_read.proofs.TreeParts.{tree_parts, IsTree, found, missing, causes_are, means_is}
+use Rattle.rbg_read.proofs.TreeParts.{tree_parts, found, missing, causes_are, means_is}
 use Rattle.rbg_read.proofs.Outcome.{wrong_first}
 
 -- ---- trees with the same tokens

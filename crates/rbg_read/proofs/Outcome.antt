@@ -1,6 +1,6 @@
 -- What a text reads to, or why it does not, from what each step of the reading found.
-use Rattle.std.proofs.Common.{◌≡◌, ◌≢◌, ◌≤◌, true, false, List, map, Option, Some, None, Result, Ok, Err, sym, ap, ◌∙◌, subst, refl}
-use Rattle.std.specs.Prelude.{if◌then◌else◌, length, IfErr}
+use Rattle.std.proofs.Common.{◌≡◌, ◌≢◌, ◌≤◌, true, List, map, Some, None, Result, Ok, Err, sym, ap, ◌∙◌, subst, refl}
+use Rattle.std.specs.Prelude.{length, IfErr}
 use Rattle.std.specs.Result.{IsErr, IsErrAnd}
 use Rattle.rbg_text.specs.Token.{Text, Splits}
 use Rattle.rbg_text.specs.Syntax as g

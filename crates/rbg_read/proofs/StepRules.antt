@@ -6,12 +6,11 @@ use Rattle.rbg_text.specs.Syntax as g
 use Rattle.rbg_text.specs.Syntax.{Expr, Assignment, Sum, Concat, Element, Base}
 use Rattle.rbg_text.specs.Parse.{Step}
 use Rattle.rbg_text.specs.Postfix.{expr_onto, term_onto, factor_onto, atom_onto, among_onto, assignment_onto, assignments_onto, sum_onto, concat_onto, element_onto, base_onto}
-use Rattle.rbg_game.specs.Expressions.{Expression}
 use Rattle.rbg_game.specs.Rules.{Regex, Action}
 use Rattle.rbg_read.specs.Means.{Names, values_of, index_of, expression, product_expression, factor_expression, atom_expression, sum_rules, concat_rules, element_rules, base_rules}
 use Rattle.rbg_read.specs.Means as means
 use Rattle.rbg_read.specs.Parts.{Known}
-use Rattle.rbg_read.specs.Resolve.{Stack, empty_stack, push_expression, push_rules, push_action, finished_set, finished, binary_rules, performed, after_step, first_rules, resolved}
+use Rattle.rbg_read.specs.Resolve.{Stack, empty_stack, push_expression, push_rules, push_action, finished_set, finished, performed, after_step, first_rules, resolved}
 use Rattle.rbg_read.proofs.StepTests.{known_from}
 use Rattle.rbg_read.proofs.StepSizes.{fold_push}
 

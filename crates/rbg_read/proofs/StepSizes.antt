@@ -1,8 +1,7 @@
 -- The stack of sizes over the steps of a tree passes the limit where the tree has a part that does.
-use Rattle.std.proofs.Common.{◌≡◌, ℕ, ◌+◌, ◌*◌, Bool, true, false, not, is_some, ◌||◌, nat_lt, List, [], ◌∷◌, ◌++◌, drop, map, fold, Option, Some, None, option_and_then, inl, inr, refl, sym, ap, ◌∙◌}
-use Rattle.std.specs.Prelude.{if◌then◌else◌, slice_index}
+use Rattle.std.proofs.Common.{◌≡◌, ℕ, ◌+◌, ◌*◌, Bool, true, false, not, is_some, ◌||◌, nat_lt, List, [], ◌∷◌, ◌++◌, map, fold, Option, Some, None, option_and_then, refl, sym, ap, ◌∙◌}
+use Rattle.std.specs.Prelude.{if◌then◌else◌}
 use Rattle.std.specs.List.{list_any, flat_map}
-use Rattle.std.proofs.lemmas.Bool.{cases_Bool}
 use Rattle.std.proofs.lemmas.List.Folds.{list_any-append}
 use Rattle.std.proofs.lemmas.List.Concat.{flat_map-append}
 use Rattle.std.proofs.lemmas.List.{append-nil}
@@ -11,9 +10,8 @@ use Rattle.rbg_text.specs.Syntax as g
 use Rattle.rbg_text.specs.Syntax.{Expr, Assignment, Sum, Concat, Element, Base}
 use Rattle.rbg_text.specs.Parse.{Step}
 use Rattle.rbg_text.specs.Postfix.{expr_onto, term_onto, factor_onto, atom_onto, among_onto, assignment_onto, assignments_onto, sum_onto, concat_onto, element_onto, base_onto}
-use Rattle.rbg_read.specs.Means.{decimal, index_of}
 use Rattle.rbg_read.specs.Causes.{max_size, size, term_size, factor_size, atom_size, is_large, is_large_term, is_large_factor, is_large_atom, actions_in, actions_in_concat, actions_in_element, actions_in_base, expressions_of}
-use Rattle.rbg_read.specs.Sizes.{with_size, next_sizes, has_large_size}
+use Rattle.rbg_read.specs.Sizes.{next_sizes, has_large_size}
 
 pub fold_push : {X Y : Type 0} (f : Y → X → Y) (a : Y) (xs : List X) (x : X) → fold f a (xs ++ x ∷ []) ≡ f (fold f a xs) x
 fold_push f a [] x = refl

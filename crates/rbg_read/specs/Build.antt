@@ -1,5 +1,5 @@
 -- The game of the parts of a text.
-use Rattle.std.specs.Prelude.{List, ◌++◌, map}
+use Rattle.std.specs.Prelude.{◌++◌, map}
 use Rattle.rbg_text.specs.Syntax as syntax
 use Rattle.rbg_game.specs.Games.{Game, Vertex, Arrow}
 use Rattle.rbg_read.specs.Means.{declared, index_of}

@@ -1,12 +1,11 @@
 -- Why a syntax tree is no game, and the limits. The causes have the codes that the program prints.
-use Rattle.std.specs.Prelude.{ℕ, ◌+◌, ◌-◌, ◌*◌, max, Bool, true, false, not, ◌&&◌, ◌||◌, if◌then◌else◌, ◌==◌, nat_lt, nat_le, List, [], ◌∷◌, ◌++◌, length, map, sum_by, count_by, slice_index, Option, Some, None}
+use Rattle.std.specs.Prelude.{ℕ, ◌+◌, ◌*◌, Bool, true, false, not, ◌&&◌, ◌||◌, if◌then◌else◌, ◌==◌, nat_lt, nat_le, List, [], ◌∷◌, ◌++◌, length, map, sum_by, count_by, slice_index, Option, Some, None}
 use Rattle.std.specs.List.{flat_map, list_any}
 use Rattle.std.specs.Str.{bytes_eq}
-use Rattle.rbg_text.specs.Token.{Text, Token}
+use Rattle.rbg_text.specs.Token.{Text}
 use Rattle.rbg_text.specs.Syntax as syntax
 use Rattle.rbg_text.specs.Syntax.{Tokens, Declaration, Section, Base, Expr}
 use Rattle.rbg_read.specs.Means.{decimal, Names, names_of, values_of, index_of, players_of, variables_of, vertices_of, rules_of}
-use Rattle.rbg_text.specs.declared.token.Sign.TheVariants.{OpenParen, CloseParen, OpenBracket, CloseBracket, OpenBrace, CloseBrace}
 use Rattle.rbg_read.specs.declared.fault.GameFault.{GameFault}
 use Rattle.rbg_read.specs.declared.fault.GameFault.TheVariants as cause
 

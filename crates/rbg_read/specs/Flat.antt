@@ -1,10 +1,9 @@
 -- The causes against a game, over its parts with the rules as steps.
-use Rattle.std.specs.Prelude.{ℕ, ◌+◌, Bool, true, false, not, ◌||◌, if◌then◌else◌, ◌==◌, nat_lt, List, [], ◌∷◌, ◌++◌, length, map, count_by, Option, Some, None}
+use Rattle.std.specs.Prelude.{ℕ, Bool, true, false, not, ◌||◌, if◌then◌else◌, ◌==◌, nat_lt, List, ◌++◌, length, map, count_by, Option, Some, None}
 use Rattle.std.specs.List.{list_any}
-use Rattle.rbg_text.specs.Token.{Text}
 use Rattle.rbg_text.specs.Syntax.{Declaration, Vertex}
 use Rattle.rbg_text.specs.Parse.{Step}
-use Rattle.rbg_read.specs.Means.{decimal, declared, index_of}
+use Rattle.rbg_read.specs.Means.{decimal}
 use Rattle.rbg_read.specs.Causes.{is_unknown, has_repeat, is_too_large}
 use Rattle.rbg_read.specs.Parts.{Parts, Known}
 use Rattle.rbg_read.specs.Sizes.{has_large_size}

@@ -1,5 +1,5 @@
 -- The parts of a game text, with the rules as steps in postfix order.
-use Rattle.std.specs.Prelude.{◌≤◌, length, List, [], ◌∷◌, ◌++◌, map, Option, Some, None, option_and_then, if◌then◌else◌, ℕ}
+use Rattle.std.specs.Prelude.{◌≤◌, length, List, [], ◌∷◌, ◌++◌, map, Option, Some, None, option_and_then, if◌then◌else◌}
 use Rattle.std.specs.List.{flat_map, list_any}
 use Rattle.std.specs.Str.{bytes_eq}
 use Rattle.rbg_text.specs.Token.{Text}

@@ -1,6 +1,5 @@
 -- The rules that steps in postfix order stand for, by a stack of expressions and one of rules, the newest first.
 use Rattle.std.specs.Prelude.{ℕ, Bool, true, false, if◌then◌else◌, ◌==◌, List, [], ◌∷◌, ◌++◌, drop, fold, reverse, map, Option, Some, None, option_map}
-use Rattle.rbg_text.specs.Token.{Text}
 use Rattle.rbg_text.specs.Parse.{Step}
 use Rattle.rbg_game.specs.Expressions.{Expression}
 use Rattle.rbg_game.specs.Rules.{Regex, Action}

@@ -10,7 +10,7 @@ ghost use Rattle.rbg_read.specs.Build.{flat_game, placed_vertex, placed_arrow};
 ghost use Rattle.rbg_read.specs.Flat.{flat_cause, has_large_bound};
 ghost use Rattle.rbg_read.specs.Parts.{known_of, known_view, parts_view, AreFew};
 
-use crate::names::{Names, place};
+use crate::names::Names;
 use crate::numbers::number;
 use crate::parts::Parts;
 use crate::resolve::resolve;
@@ -59,8 +59,8 @@ fn arrows_of(alloc: Global, names: &Names, arrows: &[said::Arrow]) -> Result<Vec
 {
     let mut placed = Vec::new(alloc);
     for arrow in arrows {
-        let label = place(names.labels.as_slice(), arrow.label);
-        let to = place(names.vertices.as_slice(), arrow.to);
+        let label = names.label_place(arrow.label);
+        let to = names.vertex_place(arrow.to);
         placed.push(Arrow { label, to })?;
     }
     Ok(placed)
@@ -72,7 +72,7 @@ fn vertex_of(alloc: Global, names: &Names, vertex: &said::Vertex) -> Result<Vert
 {
     Ok(Vertex {
         name: named(alloc, vertex.name)?,
-        piece: place(names.pieces.as_slice(), vertex.piece),
+        piece: names.piece_place(vertex.piece),
         arrows: arrows_of(alloc, names, vertex.arrows.as_slice())?,
     })
 }

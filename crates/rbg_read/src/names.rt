@@ -3,10 +3,10 @@
 ghost use Rattle.std.specs.Prelude.{◌≡◌, ◌≤◌, ◌++◌, map, length, fold, IfOk, position};
 ghost use Rattle.std.specs.List.{list_any};
 ghost use Rattle.std.specs.Str.{bytes_eq};
-ghost use Rattle.rbg_text.specs.Said.{declaration_view, arrow_view, vertex_view};
-ghost use Rattle.rbg_read.specs.Means.{index_of, first_appearances};
+ghost use Rattle.rbg_text.specs.Said.{vertex_view};
+ghost use Rattle.rbg_read.specs.Means.{index_of};
 ghost use Rattle.rbg_read.specs.Causes as causes;
-ghost use Rattle.rbg_read.specs.Parts.{with_label, labels_in, known_of, known_view, parts_view};
+ghost use Rattle.rbg_read.specs.Parts.{with_label, labels_in, known_of, known_view, parts_view, AreFew};
 
 use crate::parts::Parts;
 use rbg_text::sections::{Arrow, Declaration, Vertex};
@@ -37,14 +37,14 @@ fn is_among(names: &[&[u8]], word: &[u8]) -> bool
 }
 
 /// Whether the word is none of the known names.
-pub fn is_unknown(known: &[&[u8]], word: &[u8]) -> bool
+fn is_unknown(known: &[&[u8]], word: &[u8]) -> bool
     ensures { result ≡ causes.is_unknown (map (λ w. w.now) known.now) word.now }
 {
     !is_among(known, word)
 }
 
 /// The place of a name in a list, and 0 where it is not there.
-pub fn place(names: &[&[u8]], word: &[u8]) -> u8
+fn place(names: &[&[u8]], word: &[u8]) -> u8
     requires { length names.now ≤ 256 }
     ensures { result ≡ index_of (map (λ w. w.now) names.now) word.now }
 {
@@ -120,6 +120,7 @@ fn names_of_vertices<'a>(
 }
 
 impl<'a> Names<'a> {
+    /// The names that the parts declare.
     pub fn of(alloc: Global, parts: &Parts<'a>) -> Result<Names<'a>, AllocError>
         ensures { IfOk result (λ names. known_view names ≡ known_of (parts_view parts.now)) }
     {
@@ -134,5 +135,80 @@ impl<'a> Names<'a> {
             vertices: names_of_vertices(alloc, parts.vertices.as_slice())?,
             labels: labels_of(alloc, parts.vertices.as_slice())?,
         })
+    }
+
+    /// Whether the word names no player.
+    pub fn lacks_player(&self, word: &[u8]) -> bool
+        ensures { result ≡ causes.is_unknown (known_view self.now).players word.now }
+    {
+        is_unknown(self.players.as_slice(), word)
+    }
+
+    /// Whether the word names no player or a variable.
+    pub fn lacks_value(&self, word: &[u8]) -> bool
+        ensures { result ≡ causes.is_unknown (known_view self.now).values word.now }
+    {
+        is_unknown(self.values.as_slice(), word)
+    }
+
+    /// Whether the word names no piece.
+    pub fn lacks_piece(&self, word: &[u8]) -> bool
+        ensures { result ≡ causes.is_unknown (known_view self.now).pieces word.now }
+    {
+        is_unknown(self.pieces.as_slice(), word)
+    }
+
+    /// Whether the word names no vertex.
+    pub fn lacks_vertex(&self, word: &[u8]) -> bool
+        ensures { result ≡ causes.is_unknown (known_view self.now).vertices word.now }
+    {
+        is_unknown(self.vertices.as_slice(), word)
+    }
+
+    /// Whether the word names no label.
+    pub fn lacks_label(&self, word: &[u8]) -> bool
+        ensures { result ≡ causes.is_unknown (known_view self.now).labels word.now }
+    {
+        is_unknown(self.labels.as_slice(), word)
+    }
+
+    /// The place of a player.
+    pub fn player_place(&self, word: &[u8]) -> u8
+        requires { AreFew (known_view self.now) }
+        ensures { result ≡ index_of (known_view self.now).players word.now }
+    {
+        place(self.players.as_slice(), word)
+    }
+
+    /// The place of a player or a variable.
+    pub fn value_place(&self, word: &[u8]) -> u8
+        requires { AreFew (known_view self.now) }
+        ensures { result ≡ index_of (known_view self.now).values word.now }
+    {
+        place(self.values.as_slice(), word)
+    }
+
+    /// The place of a piece.
+    pub fn piece_place(&self, word: &[u8]) -> u8
+        requires { AreFew (known_view self.now) }
+        ensures { result ≡ index_of (known_view self.now).pieces word.now }
+    {
+        place(self.pieces.as_slice(), word)
+    }
+
+    /// The place of a vertex.
+    pub fn vertex_place(&self, word: &[u8]) -> u8
+        requires { AreFew (known_view self.now) }
+        ensures { result ≡ index_of (known_view self.now).vertices word.now }
+    {
+        place(self.vertices.as_slice(), word)
+    }
+
+    /// The place of a label.
+    pub fn label_place(&self, word: &[u8]) -> u8
+        requires { AreFew (known_view self.now) }
+        ensures { result ≡ index_of (known_view self.now).labels word.now }
+    {
+        place(self.labels.as_slice(), word)
     }
 }

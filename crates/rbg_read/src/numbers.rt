@@ -1,6 +1,6 @@
 //! Numbers as digits.
 
-ghost use Rattle.std.specs.Prelude.{◌≡◌, ◌<◌, min, ℕ};
+ghost use Rattle.std.specs.Prelude.{◌≡◌, min};
 ghost use Rattle.rbg_read.specs.Means.{decimal};
 ghost use Rattle.rbg_read.specs.Causes.{is_too_large};
 

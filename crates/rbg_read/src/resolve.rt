@@ -1,6 +1,6 @@
 //! Steps in postfix order to rules.
 
-ghost use Rattle.std.specs.Prelude.{◌≡◌, ◌≤◌, ◌≢◌, length, map, false, IfOk};
+ghost use Rattle.std.specs.Prelude.{◌≡◌, map, false, IfOk};
 ghost use Rattle.std.specs.List.{list_any};
 ghost use Rattle.rbg_text.specs.View.{step_view};
 ghost use Rattle.rbg_game.specs.Meaning.{expression_of, regex_of, action_of};
@@ -10,7 +10,7 @@ ghost use Rattle.rbg_read.specs.Resolve as spec;
 ghost use Rattle.rbg_read.specs.Parts.{known_view, AreFew};
 ghost use Rattle.rbg_read.specs.Flat.{is_large_number};
 
-use crate::names::{Names, place};
+use crate::names::Names;
 use crate::nodes;
 use crate::numbers::number;
 use rbg_game::roles::{Player, Role};
@@ -195,31 +195,21 @@ impl Stack {
     {
         match step {
             Step::Number(digits) => self.push_expression(Expr::Number(number(digits))),
-            Step::Variable(name) => self.push_expression(Expr::Variable(place(
-                names.values.as_slice(),
-                name,
-            ))),
+            Step::Variable(name) => self.push_expression(Expr::Variable(names.value_place(name))),
             Step::Negate => self.negate(),
             Step::Add => self.add(),
             Step::Subtract => self.subtract(),
             Step::Multiply => self.multiply(),
-            Step::Shift(label) => self.push_action(Action::Shift(place(
-                names.labels.as_slice(),
-                label,
-            ))),
+            Step::Shift(label) => self.push_action(Action::Shift(names.label_place(label))),
             Step::On => {
                 self.begin_set();
                 Ok(())
             }
             Step::Among(_) => Ok(()),
-            Step::Off(piece) => self.push_action(Action::Off(place(
-                names.pieces.as_slice(),
-                piece,
-            ))),
-            Step::Assign(name) => self.assign(place(names.values.as_slice(), name)),
+            Step::Off(piece) => self.push_action(Action::Off(names.piece_place(piece))),
+            Step::Assign(name) => self.assign(names.value_place(name)),
             Step::Compare(test) => self.compare(test),
-            Step::Switch(player) => self.push_action(Action::Switch(role_at(place(
-                names.players.as_slice(),
+            Step::Switch(player) => self.push_action(Action::Switch(role_at(names.player_place(
                 player,
             )))),
             Step::Keeper => self.push_action(Action::Switch(Role::Keeper)),
@@ -237,7 +227,7 @@ impl Stack {
         ensures { IfOk result (λ _. spec.stack_of self.new ≡ spec.after_step (known_view names.now) (spec.stack_of self.old) (step_view step.entry)) }
     {
         if let Step::Among(piece) = step {
-            return self.add_piece(place(names.pieces.as_slice(), piece));
+            return self.add_piece(names.piece_place(piece));
         }
         self.finish_set()?;
         self.perform(names, step)

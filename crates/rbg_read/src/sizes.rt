@@ -7,7 +7,7 @@ ghost use Rattle.rbg_read.specs.Parts.{known_view, AreFew};
 ghost use Rattle.rbg_read.specs.Flat.{is_large_number};
 ghost use Rattle.rbg_read.specs.Sizes as spec;
 
-use crate::names::{Names, place};
+use crate::names::Names;
 use crate::numbers::number;
 use rbg_text::parser::Step;
 use std::alloc::{AllocError, Global};
@@ -43,10 +43,7 @@ fn size_after(names: &Names, bounds: &[u32], step: Step<'_>, sizes: &mut Vec<u64
 {
     match step {
         Step::Number(digits) => Some(u64::from(number(digits))),
-        Step::Variable(name) => Some(bound_at(
-            bounds,
-            usize::from(place(names.values.as_slice(), name)),
-        )),
+        Step::Variable(name) => Some(bound_at(bounds, usize::from(names.value_place(name)))),
         Step::Add | Step::Subtract => {
             let right = pop(sizes);
             let left = pop(sizes);

@@ -1,8 +1,6 @@
-use Rattle.std.proofs.Common.{◌≡◌, map, ap, sym, ◌∙◌, rules, arith}
-use Rattle.std.proofs.lemmas.Grind.{common_steps}
-use Rattle.rbg_text.specs.Said.{arrow_view, vertex_view}
+use Rattle.std.proofs.Common.{◌≡◌, map, ap, sym, ◌∙◌}
+use Rattle.rbg_text.specs.Said.{arrow_view}
 use Rattle.rbg_game.specs.Meaning.{arrow_of}
-use Rattle.rbg_read.specs.Means.{index_of}
 use Rattle.rbg_read.specs.Parts.{known_view}
 use Rattle.rbg_read.specs.Build.{placed_arrow}
 use Rattle.rbg_read.proofs.Lists.{map_map}
@@ -11,8 +9,7 @@ use Rattle.rbg_read.proofs.build.vertex_of.Goals as goal
 pub returns : goal.returns
 returns c =
     let names = known_view c.args.names.now in
-    let from = c.args.vertex.now in
-    let piece : c.place.result ≡ index_of names.pieces from.piece.now = first_of (cc, search rules, grind (arith, common_steps)) in
-    let arrows : map arrow_of c.in_ok-arrows_of.field-0.items ≡ map (placed_arrow names) (map arrow_view from.arrows.items) =
-    c.in_ok-arrows_of.ensures ∙ ap (map (λ a. placed_arrow names (arrow_view a))) c.as_slice-2.ensures.value ∙ sym (map_map (placed_arrow names) arrow_view from.arrows.items) in
-    λ i. record { name = c.in_ok-named.ensures i; piece = piece i; arrows = arrows i }
+    let said = c.args.vertex.now.arrows.items in
+    let arrows : map arrow_of c.in_ok-arrows_of.field-0.items ≡ map (placed_arrow names) (map arrow_view said) =
+    c.in_ok-arrows_of.ensures ∙ ap (map (λ a. placed_arrow names (arrow_view a))) c.as_slice.ensures.value ∙ sym (map_map (placed_arrow names) arrow_view said) in
+    λ i. record { name = c.in_ok-named.ensures i; piece = c.piece_place.ensures i; arrows = arrows i }

@@ -1,5 +1,4 @@
-use Rattle.std.proofs.Common.{◌≡◌, List, [], ◌++◌, map, ap, sym, ◌∙◌}
-use Rattle.rbg_text.specs.Token.{Text}
+use Rattle.std.proofs.Common.{◌≡◌, ◌++◌, map, ap, sym, ◌∙◌}
 use Rattle.rbg_text.specs.Said.{declaration_view, vertex_view}
 use Rattle.rbg_read.specs.Parts.{labels_in}
 use Rattle.rbg_read.proofs.Lists.{map_map}

@@ -1,11 +1,11 @@
-use Rattle.std.proofs.Common.{◌≡◌, ◌++◌, false, map, sym, ap, ◌∙◌}
+use Rattle.std.proofs.Common.{◌++◌, map, sym, ap, ◌∙◌}
 use Rattle.std.specs.List.{list_any}
 use Rattle.rbg_text.specs.Said.{declaration_view}
 use Rattle.rbg_read.specs.Flat.{has_large_bound}
 use Rattle.rbg_read.specs.Means.{decimal}
-use Rattle.rbg_read.proofs.Limits.{no_large}
+use Rattle.rbg_read.proofs.NoCause.{no_large}
 use Rattle.rbg_read.proofs.Lists.{two_maps}
-use Rattle.rbg_read.proofs.checks.bounds_of.Goals as goal
+use Rattle.rbg_read.proofs.limits.bounds_of.Goals as goal
 
 pub add_bounds-requires : goal.add_bounds-requires
 add_bounds-requires c =

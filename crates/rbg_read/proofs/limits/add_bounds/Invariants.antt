@@ -1,6 +1,6 @@
 use Rattle.std.proofs.Common.{◌≡◌, ◌++◌, take, map}
 use Rattle.rbg_read.specs.Means.{decimal}
-use Rattle.rbg_read.proofs.checks.add_bounds.Given as goal
+use Rattle.rbg_read.proofs.limits.add_bounds.Given as goal
 
 abbrev pub invariant-loop-declaration : goal.invariant-loop-declaration
 invariant-loop-declaration l =

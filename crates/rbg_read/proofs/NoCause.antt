@@ -1,5 +1,5 @@
 -- What holds of parts without a cause against them.
-use Rattle.std.proofs.Common.{◌≡◌, ℕ, ◌+◌, ◌≤◌, Bool, true, false, not, ◌||◌, List, length, map, Option, Some, None, refl, sym, ap, ◌∙◌, subst, arith, eqb}
+use Rattle.std.proofs.Common.{◌≡◌, ◌+◌, ◌≤◌, Bool, true, false, not, length, map, Option, Some, None, refl, sym, ap, ◌∙◌, arith, eqb}
 use Rattle.std.specs.Prelude.{if◌then◌else◌}
 use Rattle.std.specs.List.{list_any}
 use Rattle.std.proofs.lemmas.Bool.{or_parts, eqb-true, ltb-false, not-false}
@@ -7,8 +7,6 @@ use Rattle.std.proofs.lemmas.List.{length-map, length-append}
 use Rattle.rbg_text.specs.Said.{declaration_view}
 use Rattle.rbg_read.specs.Flat.{flat_cause, uses_unknown, repeats_name, has_large, is_past_a_limit, is_large_number, has_large_bound}
 use Rattle.rbg_read.specs.Parts.{Parts, Known, known_of, AreFew, parts_view}
-use Rattle.rbg_read.specs.Sizes.{has_large_size}
-use Rattle.rbg_read.specs.Switches.{has_inner_switch}
 use Rattle.rbg_read.specs.declared.fault.GameFault.{GameFault}
 use Rattle.rbg_read.specs.declared.parts.Parts.{Parts as CodeParts}
 use Rattle.rbg_read.proofs.Lists.{any_map}
