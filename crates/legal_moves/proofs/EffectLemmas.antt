@@ -38,7 +38,7 @@ EffectAt-in_range game (alt a b) n k S T h = go h (EffectAt-in_range game a n k 
 EffectAt-in_range game (star a) n k S T h = EffectAt-in_range game a n k S T h
 
 -- what the action with the number k of a single occurrence says
-action_at-one : (b a : Action) (n k : ℕ) → action_at (one b) n k ≡ Some a → (k ≡ n) × (b ≡ a)
+pub action_at-one : (b a : Action) (n k : ℕ) → action_at (one b) n k ≡ Some a → (k ≡ n) × (b ≡ a)
 action_at-one b a n k = go (k == n) refl
   where
     go : (t : Bool) → k == n ≡ t → cond t (Some b) None ≡ Some a → (k ≡ n) × (b ≡ a)
@@ -46,7 +46,7 @@ action_at-one b a n k = go (k == n) refl
     go false e f = absurd (cc)
 
 -- of two parts, the one or the other has the action
-option_or-cases : (x y : Option Action) (a : Action) → option_or x y ≡ Some a → (x ≡ Some a) ⊎ (y ≡ Some a)
+pub option_or-cases : (x y : Option Action) (a : Action) → option_or x y ≡ Some a → (x ≡ Some a) ⊎ (y ≡ Some a)
 option_or-cases None y a f = inr f
 option_or-cases (Some b) y a f = inl f
 
@@ -89,12 +89,12 @@ EffectAt-by_action game (star b) n k a S T f h = EffectAt-by_action game b n k a
 abbrev pub Acts : Game → Regex → ℕ → ℕ → SemiState → SemiState → Type 0
 Acts game e n k S T = (a : Action) × (action_at e n k ≡ Some a) × Effect game a S T
 
-or_left_some : (x y : Option Action) (a : Action) → x ≡ Some a → option_or x y ≡ Some a
+pub or_left_some : (x y : Option Action) (a : Action) → x ≡ Some a → option_or x y ≡ Some a
 or_left_some None y a e = absurd (cc)
 or_left_some (Some b) y a e = e
 
 -- a number of the second part is none of the first's
-or_right_some : (b : Regex) (n k : ℕ) (y : Option Action) (a : Action) → n + count b ≤ k → y ≡ Some a → option_or (action_at b n k) y ≡ Some a
+pub or_right_some : (b : Regex) (n k : ℕ) (y : Option Action) (a : Action) → n + count b ≤ k → y ≡ Some a → option_or (action_at b n k) y ≡ Some a
 or_right_some b n k y a above e = go (action_at b n k) refl
   where
     go : (x : Option Action) → action_at b n k ≡ x → option_or x y ≡ Some a

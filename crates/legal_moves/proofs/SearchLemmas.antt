@@ -36,14 +36,14 @@ HasNoSwitch-push e [] k h plain = (plain, tt)
 HasNoSwitch-push e (x ∷ t) k h plain = (h.0, HasNoSwitch-push e t k h.1 plain)
 
 -- an occurrence that stands next somewhere is one of the expression's
-next_in_range : (e : Regex) (p l : ℕ) → IsNextAt e p l → InRange e 1 l
+pub next_in_range : (e : Regex) (p l : ℕ) → IsNextAt e p l → InRange e 1 l
 next_in_range e p l (inl h) = let w = first_word e 1 l h.1 in in_range e 1 _ w.1 [] l w.0 refl
 next_in_range e p l (inr h) =
     let w = next_word e 1 p l h in
     in_range e 1 _ w.2 (w.0 ++ p ∷ []) l w.1 (sym (append_assoc w.0 (p ∷ []) (l ∷ w.1)))
 
 -- the place 0 is no switch
-no_switch_at_0 : (e : Regex) → is_switch (action_at e 1 0) ≡ false
+pub no_switch_at_0 : (e : Regex) → is_switch (action_at e 1 0) ≡ false
 no_switch_at_0 e = go (action_at e 1 0) refl
   where
     go : (x : Option _) → action_at e 1 0 ≡ x → is_switch x ≡ false

@@ -3,6 +3,12 @@ pub mod Effects
 pub mod Moves
 pub mod Searches
 pub mod Listed
+pub mod Marks
+pub mod Relations
+pub mod Tables
+pub mod Configurations
+pub mod Going
+pub mod Shown
 pub mod Compiled
 pub mod Plain
 pub mod Laws

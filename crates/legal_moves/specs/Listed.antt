@@ -1,4 +1,4 @@
--- Lists of all that passes, and what is found of a move.
+-- Lists of all that passes, and what is shown of a move.
 use Rattle.std.specs.Prelude.{◌≡◌, ℕ, List, All, AllPairs, Contains, map}
 use Rattle.std.specs.Cmp.Lexicographic.{slice_cmp}
 use Rattle.std.specs.Ordering.{nat_cmp}
@@ -18,17 +18,26 @@ pub record ListsExactly (Passes : List ℕ → Type 0) (listed : List (List ℕ)
 abbrev pub IsSuccessorBytes : Game → Position → List ℕ → Type 0
 IsSuccessorBytes game at x = (next : Position) × (x ≡ bytes_of next) × IsSuccessor game at next
 
--- what is found of a move: the bytes of the successor, and the modifiers of a word
-pub record Found : Type 0 where
+-- what is shown of a move: the bytes of the successor, and the modifiers of a word
+pub record ShownMove : Type 0 where
   pub next : List ℕ
   pub shown : List (ℕ × ℕ)
 
--- the modifiers are those of a shortest word to the successor
-abbrev pub IsShownMove : Game → Position → Found → Type 0
-IsShownMove game at found =
-    (next : Position) × (w : List ℕ) × (found.next ≡ bytes_of next) × IsMove game at w next × IsShortest game at w next × ShowsFrom game w at.state next.state found.shown
+-- w is a word to the successor, and its modifiers are shown
+pub record IsShown (game : Game) (at : Position) (move : ShownMove) (next : Position) (w : List ℕ) : Type 0 where
+  pub bytes_are : move.next ≡ bytes_of next
+  pub leads : IsMove game at w next
+  pub shows : ShowsFrom game w at.state next.state move.shown
 
--- all moves of a position: each successor once, ascending, each with a shortest word
-pub record AreMoves (game : Game) (at : Position) (found : List Found) : Type 0 where
-  pub successors : ListsExactly (IsSuccessorBytes game at) (map (λ f. f.next) found)
-  pub words : All (IsShownMove game at) found
+abbrev pub IsShownMove : Game → Position → ShownMove → Type 0
+IsShownMove game at move = (next : Position) × (w : List ℕ) × IsShown game at move next w
+
+-- the word that is shown is a shortest one
+abbrev pub IsShortestMove : Game → Position → ShownMove → Type 0
+IsShortestMove game at move =
+    (next : Position) × (w : List ℕ) × IsShown game at move next w × IsShortest game at w next
+
+-- all moves of a position: each successor once, ascending, each with a word
+pub record AreMoves (game : Game) (at : Position) (moves : List ShownMove) : Type 0 where
+  pub successors : ListsExactly (IsSuccessorBytes game at) (map (λ m. m.next) moves)
+  pub words : All (IsShownMove game at) moves

@@ -1,42 +1,108 @@
 //! A game made ready for the search for moves.
-ghost use Rattle.std.specs.Prelude.{◌≡◌, IfOk, IsOk};
+ghost use Rattle.std.specs.Prelude.{◌≡◌, IfOk, IsOk, Err, All};
 ghost use Rattle.rbg_game.specs.Meaning.{game_of};
+ghost use Rattle.rbg_game.specs.Sound.{IsSoundGame};
 ghost use Rattle.rbg_game.specs.Positions.{IsPositionOf};
+ghost use Rattle.legal_moves.specs.Moves.{start_of};
 ghost use Rattle.legal_moves.specs.Searches.{IsWide};
-ghost use Rattle.legal_moves.specs.Listed.{AreMoves};
+ghost use Rattle.legal_moves.specs.Listed.{AreMoves, IsShortestMove};
 
-use crate::moves::Moves;
-use rbg_game::game::Game;
-use rbg_game::position::Position;
+use crate::compile::add_table;
+use crate::copies::copied_state;
 use crate::fault::MoveFault;
+use crate::moves::Moves;
+use crate::search::Searcher;
+use crate::table::Table;
+use arrayvec::ArrayVec;
+use position_pack::Packing;
+use rbg_game::game::Game;
+use rbg_game::position::{Position, SemiState};
+use rbg_game::roles::Role;
 use std::alloc::{AllocError, Global};
 
 #[derive(Drop)]
 pub struct Compiled {
     game: Game,
+    packing: Packing,
+    /// Of the rules last, of each pattern before the table that it stands in.
+    tables: Vec<Table>,
 }
 
 impl Compiled {
-    ghost use Rattle.std.specs.Prelude.{◌≡◌, IfOk, IsOk};
+    ghost use Rattle.std.specs.Prelude.{◌≡◌, IfOk, IsOk, Err, All};
     ghost use Rattle.rbg_game.specs.Meaning.{game_of};
+    ghost use Rattle.rbg_game.specs.Sound.{IsSoundGame};
     ghost use Rattle.rbg_game.specs.Positions.{IsPositionOf};
+    ghost use Rattle.legal_moves.specs.Moves.{start_of};
     ghost use Rattle.legal_moves.specs.Searches.{IsWide};
-    ghost use Rattle.legal_moves.specs.Listed.{AreMoves};
-    ghost use Rattle.legal_moves.specs.Compiled.{compiled_game};
+    ghost use Rattle.legal_moves.specs.Listed.{AreMoves, IsShortestMove};
+    ghost use Rattle.legal_moves.specs.Compiled.{compiled_game, IsCompiled};
 
     pub fn new(alloc: Global, game: Game) -> Result<Compiled, AllocError>
-        ensures { IfOk result (λ c. compiled_game c ≡ game_of game) }
+        requires { IsSoundGame (game_of game) }
+        ensures game { IfOk result (λ c. compiled_game c ≡ game_of game) }
+        ensures compiled { IfOk result IsCompiled }
     {
-        Ok(Compiled { game })
+        let mut tables = Vec::new(alloc);
+        add_table(alloc, &mut tables, &game.rules)?;
+        let packing = Packing::new(&game);
+        Ok(Compiled {
+            game,
+            packing,
+            tables,
+        })
+    }
+
+    pub fn game(&self) -> &Game
+        ensures { game_of result.now ≡ compiled_game self.now }
+    {
+        &self.game
+    }
+
+    /// The keeper to move, all values 0, the pieces of the board, the first vertex, place 0.
+    pub fn start(&self) -> Position
+        requires { IsCompiled self.now }
+        ensures start { result ≡ start_of (compiled_game self.now) }
+        ensures position { IsPositionOf (compiled_game self.now) result }
+    {
+        let mut pieces = ArrayVec::new();
+        for vertex in &self.game.vertices {
+            pieces.push(vertex.piece);
+        }
+        let mut values = ArrayVec::new();
+        for _variable in &self.game.variables {
+            values.push(0);
+        }
+        Position {
+            state: SemiState {
+                mover: Role::Keeper,
+                pieces,
+                values,
+                vertex: 0,
+            },
+            place: 0,
+        }
     }
 
     /// The moves of a position. Only for want of memory may the other error come.
     pub fn moves(&self, alloc: Global, at: &Position) -> Result<Moves, MoveFault>
-        requires { IsPositionOf (compiled_game self.now) at.now }
-        ensures exact { IfOk result (λ found. AreMoves (compiled_game self.now) at.now found) }
+        requires compiled { IsCompiled self.now }
+        requires at { IsPositionOf (compiled_game self.now) at.now }
+        ensures exact { IfOk result (λ moves. AreMoves (compiled_game self.now) at.now moves) }
+        ensures shortest { IfOk result (λ moves. All (IsShortestMove (compiled_game self.now) at.now) moves) }
         ensures wide { result ≡ Err MoveFault.TooWide → IsWide (compiled_game self.now) at.now }
         ensures narrow { IsOk result → ¬ IsWide (compiled_game self.now) at.now }
     {
-        Err(MoveFault::OutOfMemory)
+        let searcher = Searcher {
+            game: &self.game,
+            packing: &self.packing,
+            tables: &self.tables,
+            alloc,
+        };
+        let rules = self.tables.len() - 1;
+        let state = copied_state(&at.state)?;
+        let found = searcher.search(rules, at.place, state)?;
+        let moves = Moves::of(alloc, found)?;
+        Ok(moves)
     }
 }

@@ -1,9 +1,23 @@
-//! The moves of a position.
+//! The moves of a position: exactly its successors, each with a shortest word.
 #![tactic(auto)]
 
+mod actions;
+mod compile;
 pub mod compiled;
+mod configuration;
+mod copies;
 pub mod effect;
 pub mod fault;
+mod found;
 pub mod laws;
+mod marks;
 pub mod moves;
+mod relation;
+mod search;
 pub mod source;
+mod successor;
+mod table;
+
+pub use compiled::Compiled;
+pub use fault::MoveFault;
+pub use moves::{Modifier, Moves};

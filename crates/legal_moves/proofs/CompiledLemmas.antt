@@ -1,0 +1,97 @@
+-- A compiled game: its tables, and the start.
+use Rattle.std.proofs.Common.{◌≡◌, ℕ, zero, suc, ◌-◌, ◌<◌, ◌≤◌, List, [], ◌∷◌, length, map, take, slice_get, slice_index, unwrap_or, refl, sym, ap, ◌∙◌, subst, arith, length-append}
+use Rattle.std.proofs.lemmas.List.{length-map, take_all}
+use Rattle.std.proofs.lemmas.List.Elements.{All-map, All-weaker}
+use Rattle.arrayvec.specs.ArrayVec.{ArrayVec}
+use Rattle.rbg_game.specs.declared.game.Game.{Game as ProgramGame}
+use Rattle.rbg_game.specs.declared.roles.Role.TheVariants.{Keeper}
+use Rattle.rbg_game.specs.declared.position.Position.{Position}
+use Rattle.rbg_game.specs.Meaning.{game_of, vertex_of, variable_of}
+use Rattle.rbg_game.specs.Rules.{empty}
+use Rattle.rbg_game.specs.Games.{Game}
+use Rattle.rbg_game.specs.Sound.{IsSoundGame, IsSoundRegex, IsSoundVertex, whole_count}
+use Rattle.rbg_game.specs.Positions.{IsPositionOf}
+use Rattle.legal_moves.specs.Moves.{start_of}
+use Rattle.legal_moves.specs.Tables.{inner_of, AreTables}
+use Rattle.legal_moves.specs.Configurations.{expressions_of, expression_at, IsReady, IsSearch}
+use Rattle.legal_moves.specs.Searches.{IsWideFrom}
+use Rattle.rbg_game.specs.declared.position.SemiState.{SemiState}
+use Rattle.legal_moves.specs.declared.configuration.Configuration.{Configuration}
+use Rattle.legal_moves.specs.declared.table.Table.{Table}
+use Rattle.legal_moves.proofs.TableLemmas.{slice_get-end}
+
+pub AreTables-none : (tables : List Table) → tables ≡ [] → AreTables [] tables
+AreTables-none tables none = record {
+  as_many = ap length none;
+  each = λ i table e at_table at_e. absurd (cc);
+}
+
+module _ (game : Game) (tables : List Table) (are : AreTables (expressions_of game) tables) where
+  pub some_table : 1 ≤ length tables
+  some_table = omega (arith, are.as_many, length-append (inner_of game.rules) (game.rules ∷ []))
+
+  -- the rules come last
+  pub rules_last : expression_at game (length tables - 1) ≡ game.rules
+  rules_last =
+      let last : length tables - 1 ≡ length (inner_of game.rules) = omega (arith, are.as_many, length-append (inner_of game.rules) (game.rules ∷ [])) in
+      ap (λ o. unwrap_or o empty) (ap (slice_get (expressions_of game)) last ∙ slice_get-end (inner_of game.rules) game.rules)
+
+  pub rules_ready : IsSoundGame game → IsReady game tables (length tables - 1)
+  rules_ready sound = record {
+    sound = sound;
+    tables_are = are;
+    within = omega (arith, some_table);
+    expression_is = subst (IsSoundRegex game) (sym rules_last) sound.rules_are;
+    small = subst (λ e. whole_count e ≤ 4096) (sym rules_last) sound.few_actions;
+  }
+
+-- ---- the start
+
+pub map_twice : {A B C : Type 0} (f : A → B) (g : B → C) (xs : List A) → map (λ x. g (f x)) xs ≡ map g (map f xs)
+map_twice f g [] = refl
+map_twice f g (x ∷ xs) = ap (λ ys. g (f x) ∷ ys) (map_twice f g xs)
+
+all_zero : {A : Type 0} (xs : List A) (i : ℕ) → slice_index (map (λ x. 0) xs) i ≡ 0
+all_zero [] i = refl
+all_zero (x ∷ xs) zero = refl
+all_zero (x ∷ xs) (suc i) = all_zero xs i
+
+pub start_position : (game : Game) → IsSoundGame game → IsPositionOf game (start_of game)
+start_position game sound = record {
+  state_is = record {
+    pieces_fit = length-map game.vertices (λ v. v.piece);
+    pieces_are = All-map (λ x. x < length game.pieces) (λ v. v.piece) game.vertices (All-weaker (IsSoundVertex game) (λ v. v.piece < length game.pieces) (λ v h. h.0) game.vertices sound.vertices_are);
+    values_fit = length-map game.variables (λ v. 0);
+    values_are = λ v inside. omega (arith, all_zero game.variables v);
+    vertex_is = omega (arith, sound.has_vertex);
+  };
+  place_is = omega arith;
+}
+
+pub start_is : (game : ProgramGame) (pieces values : ArrayVec ℕ) → pieces.items ≡ map (λ v. v.piece) game.vertices.items → values.items ≡ map (λ v. 0) game.variables.items → let at : Position = record { state = record { mover = Keeper; pieces = pieces; values = values; vertex = 0 }; place = 0 } in at ≡ start_of (game_of game)
+start_is game pieces values of_pieces of_values =
+    let e = of_pieces ∙ map_twice vertex_of (λ v. v.piece) game.vertices.items in
+    let f = of_values ∙ map_twice variable_of (λ v. 0) game.variables.items in
+    λ i. record {
+      state = record {
+        mover = Keeper;
+        pieces = record { items = e i };
+        values = record { items = f i };
+        vertex = 0;
+      };
+      place = 0;
+    }
+
+pub taken_all : {A B : Type 0} (f : A → B) (xs ys : List A) (n : ℕ) → ys ≡ xs → length ys ≤ n → map f (take n ys) ≡ map f xs
+taken_all f xs ys n same past = ap (map f) (take_all n ys past ∙ same)
+
+-- the search of the last table is that of the rules
+pub rules_search : (game : Game) (tables : List Table) (n place : ℕ) (S T : SemiState) (cs : List Configuration) → AreTables (expressions_of game) tables → n ≡ length tables → S ≡ T → IsSearch game (expression_at game (n - 1)) place S cs → IsSearch game game.rules place T cs
+rules_search game tables n place S T cs are many same h =
+    subst (λ V. IsSearch game game.rules place V cs) same
+    (subst (λ e. IsSearch game e place S cs) (ap (λ m. expression_at game (m - 1)) many ∙ rules_last game tables are) h)
+
+pub rules_wide : (game : Game) (tables : List Table) (n place : ℕ) (S T : SemiState) → AreTables (expressions_of game) tables → n ≡ length tables → S ≡ T → IsWideFrom game (expression_at game (n - 1)) place S → IsWideFrom game game.rules place T
+rules_wide game tables n place S T are many same h =
+    subst (λ V. IsWideFrom game game.rules place V) same
+    (subst (λ e. IsWideFrom game e place S) (ap (λ m. expression_at game (m - 1)) many ∙ rules_last game tables are) h)

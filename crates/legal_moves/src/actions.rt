@@ -1,0 +1,36 @@
+//! Kinds of actions.
+ghost use Rattle.std.specs.Prelude.{◌≡◌, Some};
+ghost use Rattle.rbg_game.specs.Rules.{is_switch, is_modifier};
+ghost use Rattle.rbg_game.specs.Meaning.{action_of};
+
+use rbg_game::rules::Action;
+
+/// A switch ends a move.
+pub fn ends_move(action: &Action) -> bool
+    ensures { result ≡ is_switch (Some (action_of action.now)) }
+{
+    match action {
+        Action::Switch(_) => true,
+        Action::Shift(_) => false,
+        Action::On(_) => false,
+        Action::Off(_) => false,
+        Action::Assignment(_, _) => false,
+        Action::Comparison(_, _, _) => false,
+        Action::Pattern(_, _) => false,
+    }
+}
+
+/// Whether a shown move names the action.
+pub fn is_shown(action: &Action) -> bool
+    ensures { result ≡ is_modifier (Some (action_of action.now)) }
+{
+    match action {
+        Action::Off(_) => true,
+        Action::Assignment(_, _) => true,
+        Action::Switch(_) => true,
+        Action::Shift(_) => false,
+        Action::On(_) => false,
+        Action::Comparison(_, _, _) => false,
+        Action::Pattern(_, _) => false,
+    }
+}

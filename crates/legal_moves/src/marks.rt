@@ -1,0 +1,16 @@
+//! Rows of marks.
+ghost use Rattle.std.specs.Prelude.{◌≡◌, ℕ, ◌⊎◌, ◌↔◌, OnOk};
+ghost use Rattle.legal_moves.specs.Marks.{IsMarked};
+
+use std::alloc::AllocError;
+
+/// Marks one place of a row, which grows to have it.
+pub fn mark(row: &mut Vec<bool>, at: usize) -> Result<(), AllocError>
+    ensures { OnOk result ((j : ℕ) → IsMarked row.new.items j ↔ (IsMarked row.old.items j ⊎ (j ≡ at))) }
+{
+    while row.len() <= at {
+        row.push(false)?;
+    }
+    row[at] = true;
+    Ok(())
+}

@@ -1,0 +1,153 @@
+//! Expressions made ready for a search: the steps by their numbers, and which can follow which.
+ghost use Rattle.std.specs.Prelude.{◌≡◌, ◌-◌, ◌≤◌, length, ◌&&◌, ◌||◌, [], ◌∷◌, ◌++◌, if◌then◌else◌, IfOk, Some, slice_get, false};
+
+use crate::actions::{ends_move, is_shown};
+use crate::relation::Relation;
+use rbg_game::rules::Action;
+use std::alloc::{AllocError, Global};
+
+/// What a search does at an occurrence of an action.
+#[derive(Drop)]
+pub enum Step {
+    /// An action other than a pattern.
+    Act(Action),
+    /// A pattern: the answer that lets it pass, and the table of its expression.
+    Ask(bool, usize),
+}
+
+impl Step {
+    ghost use Rattle.std.specs.Prelude.{◌≡◌};
+    ghost use Rattle.legal_moves.specs.Tables.{switches, modifies};
+
+    pub fn is_switch(&self) -> bool
+        ensures { result ≡ switches self.now }
+    {
+        match self {
+            Step::Act(action) => ends_move(action),
+            Step::Ask(_, _) => false,
+        }
+    }
+
+    /// Whether a shown move names it.
+    pub fn is_modifier(&self) -> bool
+        ensures { result ≡ modifies self.now }
+    {
+        match self {
+            Step::Act(action) => is_shown(action),
+            Step::Ask(_, _) => false,
+        }
+    }
+}
+
+/// How the words of an expression begin and end.
+#[derive(Drop)]
+pub struct Ends {
+    pub nullable: bool,
+    pub first: Vec<usize>,
+    pub last: Vec<usize>,
+}
+
+impl Ends {
+    /// Those of no word, or of the empty one alone.
+    pub fn none(alloc: Global, nullable: bool) -> Ends
+        ensures nullable { result.nullable ≡ nullable }
+        ensures first { result.first.items ≡ [] }
+        ensures last { result.last.items ≡ [] }
+    {
+        Ends {
+            nullable,
+            first: Vec::new(alloc),
+            last: Vec::new(alloc),
+        }
+    }
+
+    /// Those of the word with this one number.
+    pub fn one(alloc: Global, number: usize) -> Result<Ends, AllocError>
+        ensures nullable { IfOk result (λ ends. ends.nullable ≡ false) }
+        ensures first { IfOk result (λ ends. ends.first.items ≡ number ∷ []) }
+        ensures last { IfOk result (λ ends. ends.last.items ≡ number ∷ []) }
+    {
+        let mut ends = Ends::none(alloc, false);
+        ends.first.push(number)?;
+        ends.last.push(number)?;
+        Ok(ends)
+    }
+
+    /// Those of words with words of the next behind.
+    pub fn then(self, next: Ends) -> Result<Ends, AllocError>
+        ensures nullable { IfOk result (λ ends. ends.nullable ≡ self.nullable && next.nullable) }
+        ensures first { IfOk result (λ ends. ends.first.items ≡ (if self.nullable then self.first.items ++ next.first.items else self.first.items)) }
+        ensures last { IfOk result (λ ends. ends.last.items ≡ (if next.nullable then self.last.items ++ next.last.items else next.last.items)) }
+    {
+        let Ends {
+            nullable,
+            mut first,
+            mut last,
+        } = self;
+        let Ends {
+            nullable: next_nullable,
+            first: next_first,
+            last: next_last,
+        } = next;
+        if nullable {
+            first.extend_from_slice(&next_first)?;
+        }
+        if next_nullable {
+            last.extend_from_slice(&next_last)?;
+        } else {
+            last = next_last;
+        }
+        Ok(Ends {
+            nullable: nullable && next_nullable,
+            first,
+            last,
+        })
+    }
+
+    /// Those of words of either.
+    pub fn or(self, next: &Ends) -> Result<Ends, AllocError>
+        ensures nullable { IfOk result (λ ends. ends.nullable ≡ self.nullable || next.now.nullable) }
+        ensures first { IfOk result (λ ends. ends.first.items ≡ self.first.items ++ next.now.first.items) }
+        ensures last { IfOk result (λ ends. ends.last.items ≡ self.last.items ++ next.now.last.items) }
+    {
+        let Ends {
+            nullable,
+            mut first,
+            mut last,
+        } = self;
+        first.extend_from_slice(&next.first)?;
+        last.extend_from_slice(&next.last)?;
+        Ok(Ends {
+            nullable: nullable || next.nullable,
+            first,
+            last,
+        })
+    }
+}
+
+/// The occurrences of an expression, with numbers from 1.
+#[derive(Drop)]
+pub struct Table {
+    pub steps: Vec<Step>,
+    /// Which number can stand right after which; after 0, which can stand first.
+    pub follows: Relation,
+    pub ends: Ends,
+}
+
+impl Table {
+    /// The step with this number.
+    pub fn step(&self, number: u16) -> &Step
+        requires from { 1 ≤ number }
+        requires upto { number ≤ length self.now.steps.items }
+        ensures { slice_get self.now.steps.items (number - 1) ≡ Some result.now }
+    {
+        &self.steps[usize::from(number) - 1]
+    }
+}
+
+/// The part of a table that is made from left to right.
+#[derive(Drop)]
+pub struct Draft {
+    pub steps: Vec<Step>,
+    pub follows: Relation,
+}
