@@ -6,9 +6,11 @@ use Rattle.rbg_read.specs.Means.{declared, index_of}
 use Rattle.rbg_read.specs.Parts.{Parts, Known}
 use Rattle.rbg_read.specs.Resolve.{resolved}
 
+-- an arrow with its names by their places
 abbrev pub placed_arrow : Known → syntax.Arrow → Arrow
 placed_arrow known a = record { label = index_of known.labels a.label; to = index_of known.vertices a.to }
 
+-- a vertex with its names by their places
 abbrev pub placed_vertex : Known → syntax.Vertex → Vertex
 placed_vertex known v = record { name = v.name; piece = index_of known.pieces v.piece; arrows = map (placed_arrow known) v.arrows }
 

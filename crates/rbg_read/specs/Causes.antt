@@ -11,12 +11,15 @@ use Rattle.rbg_read.specs.declared.fault.GameFault.TheVariants as cause
 
 -- ---- limits
 
+-- the most bytes of a text
 abbrev pub max_bytes : ℕ
 max_bytes = 65536
 
+-- the greatest bound and the greatest number
 abbrev pub max_number : ℕ
 max_number = 1000000
 
+-- the greatest size of an expression, 2^62
 abbrev pub max_size : ℕ
 max_size = 4611686018427387904
 
@@ -81,35 +84,43 @@ abbrev mutual
   actions_in_base (syntax.no_word s) = syntax.no_word s ∷ actions_in s
   actions_in_base b = b ∷ []
 
+-- the expressions of an action
 abbrev pub expressions_of : Base → List Expr
 expressions_of (syntax.assign first more) = map (λ a. a.value) (first ∷ more)
 expressions_of (syntax.compare left test right) = left ∷ right ∷ []
 expressions_of _ = []
 
+-- every action of a text
 abbrev pub all_actions : List Section → List Base
 all_actions all = flat_map actions_in (flat_map rules_of all)
 
+-- every expression of a text
 abbrev pub all_expressions : List Section → List Expr
 all_expressions all = flat_map expressions_of (all_actions all)
 
 -- ---- G2: each section is there once, and the variables at most once
 
+-- the section names the players
 abbrev pub is_players : Section → Bool
 is_players (syntax.players first more) = true
 is_players _ = false
 
+-- the section names the pieces
 abbrev pub is_pieces : Section → Bool
 is_pieces (syntax.pieces first more) = true
 is_pieces _ = false
 
+-- the section names the variables
 abbrev pub is_variables : Section → Bool
 is_variables (syntax.variables declarations) = true
 is_variables _ = false
 
+-- the section has the board
 abbrev pub is_board : Section → Bool
 is_board (syntax.board first more) = true
 is_board _ = false
 
+-- the section has the rules
 abbrev pub is_rules : Section → Bool
 is_rules (syntax.rules s) = true
 is_rules _ = false
@@ -122,14 +133,17 @@ has_wrong_sections all =
 
 -- ---- G3: there are two players
 
+-- there are more or fewer players than two
 abbrev pub has_not_two_players : List Section → Bool
 has_not_two_players all = not (length (flat_map players_of all) == 2)
 
 -- ---- G4: each name that is used is declared
 
+-- the name is not among the known ones
 abbrev pub is_unknown : List Text → Text → Bool
 is_unknown known w = not (list_any (bytes_eq w) known)
 
+-- the expression names what is neither a player nor a variable
 abbrev pub uses_unknown_value : Names → Expr → Bool
 uses_unknown_value names e = list_any (is_unknown (values_of names)) (names_in e)
 
@@ -144,9 +158,11 @@ action_uses_unknown names (syntax.compare left test right) = uses_unknown_value 
 action_uses_unknown names (syntax.switch player) = is_unknown names.players player
 action_uses_unknown names _ = false
 
+-- the vertex names a piece or a vertex that is not declared
 abbrev pub vertex_uses_unknown : Names → syntax.Vertex → Bool
 vertex_uses_unknown names v = is_unknown names.pieces v.piece || list_any (λ a. is_unknown names.vertices a.to) v.arrows
 
+-- a vertex or an action names what is not declared
 abbrev pub has_unknown_name : List Section → Bool
 has_unknown_name all =
     let names = names_of all in
@@ -154,10 +170,12 @@ has_unknown_name all =
 
 -- ---- G5: no name is declared twice
 
+-- a name stands twice in the list
 abbrev pub has_repeat : List Text → Bool
 has_repeat [] = false
 has_repeat (x ∷ xs) = list_any (bytes_eq x) xs || has_repeat xs
 
+-- a name is declared twice for things of one kind, or stands at two arrows of a vertex
 abbrev pub has_repeated_name : List Section → Bool
 has_repeated_name all =
     let names = names_of all in
@@ -166,9 +184,11 @@ has_repeated_name all =
 
 -- ---- G6: no bound and no number is over the limit
 
+-- the digits spell a number over the limit
 abbrev pub is_too_large : Text → Bool
 is_too_large digits = nat_lt max_number (decimal digits)
 
+-- a bound or a number is over the limit
 abbrev pub has_large_number : List Section → Bool
 has_large_number all =
     list_any (λ d. is_too_large d.bound) (flat_map players_of all) || list_any (λ d. is_too_large d.bound) (flat_map variables_of all)
@@ -181,6 +201,7 @@ abbrev pub action_count : Base → ℕ
 action_count (syntax.assign first more) = length (first ∷ more)
 action_count _ = 1
 
+-- there is more of something than a game may have
 abbrev pub passes_a_limit : List Section → Bool
 passes_a_limit all =
     let names = names_of all in
@@ -234,11 +255,13 @@ module _ (names : List Text) (bounds : List ℕ) where
     is_large_atom (syntax.variable v) = nat_lt max_size (slice_index bounds (index_of names v))
     is_large_atom (syntax.parenthesized e) = is_large e
 
+-- an expression can become too large
 abbrev pub has_large_expression : List Section → Bool
 has_large_expression all = list_any (is_large (values_of (names_of all)) (bounds_of all)) (all_expressions all)
 
 -- ---- G9: no pattern has a switch in it
 
+-- the action gives the turn to a player or to the keeper
 abbrev pub is_switch : Base → Bool
 is_switch (syntax.switch player) = true
 is_switch syntax.keeper = true
@@ -250,11 +273,13 @@ has_switch_inside (syntax.some_word s) = list_any is_switch (actions_in s)
 has_switch_inside (syntax.no_word s) = list_any is_switch (actions_in s)
 has_switch_inside _ = false
 
+-- a pattern has a switch in it
 abbrev pub has_switch_in_pattern : List Section → Bool
 has_switch_in_pattern all = list_any has_switch_inside (all_actions all)
 
 -- ---- the first of the causes G2 to G9 that applies
 
+-- the first that applies, in the order of the codes
 abbrev pub first_cause : List Section → Option GameFault
 first_cause all =
     if has_wrong_sections all then Some cause.Section

@@ -13,6 +13,7 @@ use Rattle.rbg_read.specs.declared.fault.GameFault.TheVariants as cause
 
 -- ---- names
 
+-- the step names what is not declared
 abbrev pub step_uses_unknown : Known → Step → Bool
 step_uses_unknown known (Step.variable w) = is_unknown known.values w
 step_uses_unknown known (Step.shift w) = is_unknown known.labels w
@@ -22,28 +23,35 @@ step_uses_unknown known (Step.assign w) = is_unknown known.values w
 step_uses_unknown known (Step.switch w) = is_unknown known.players w
 step_uses_unknown known _ = false
 
+-- the vertex names a piece or a vertex that is not declared
 abbrev pub vertex_uses_unknown : Known → Vertex → Bool
 vertex_uses_unknown known v = is_unknown known.pieces v.piece || list_any (λ a. is_unknown known.vertices a.to) v.arrows
 
+-- a vertex or a step names what is not declared
 abbrev pub uses_unknown : Known → Parts → Bool
 uses_unknown known p = list_any (vertex_uses_unknown known) p.vertices || list_any (step_uses_unknown known) p.steps
 
+-- two arrows of the vertex have one label
 abbrev pub repeats_label : Vertex → Bool
 repeats_label v = has_repeat (map (λ a. a.label) v.arrows)
 
+-- a name is declared twice for things of one kind, or stands at two arrows of a vertex
 abbrev pub repeats_name : Known → Parts → Bool
 repeats_name known p =
     has_repeat known.values || has_repeat known.pieces || has_repeat known.vertices || list_any repeats_label p.vertices
 
 -- ---- numbers
 
+-- the bound is over the limit
 abbrev pub has_large_bound : Declaration → Bool
 has_large_bound d = is_too_large d.bound
 
+-- the step is a number over the limit
 abbrev pub is_large_number : Step → Bool
 is_large_number (Step.number n) = is_too_large n
 is_large_number _ = false
 
+-- a bound or a number is over the limit
 abbrev pub has_large : Parts → Bool
 has_large p = list_any has_large_bound p.players || list_any has_large_bound p.variables || list_any is_large_number p.steps
 
@@ -53,6 +61,7 @@ bounds p = map (λ d. decimal d.bound) (p.players ++ p.variables)
 
 -- ---- limits
 
+-- the step stands for an action
 abbrev pub is_action : Step → Bool
 is_action (Step.shift w) = true
 is_action Step.on = true
@@ -65,6 +74,7 @@ is_action Step.some_word = true
 is_action Step.no_word = true
 is_action _ = false
 
+-- there is more of something than a game may have
 abbrev pub is_past_a_limit : Known → Parts → Bool
 is_past_a_limit known p =
     nat_lt 128 (length known.vertices) || nat_lt 64 (length known.labels) || nat_lt 64 (length known.pieces)
@@ -72,6 +82,7 @@ is_past_a_limit known p =
 
 -- ---- the first that applies, where each section stands once
 
+-- the first that applies, in the order of the codes
 abbrev pub flat_cause : Known → Parts → Option GameFault
 flat_cause known p =
     if not (length p.players == 2) then Some cause.NotTwoPlayers

@@ -1,5 +1,6 @@
 pub mod Build
 pub mod Causes
+pub mod Codes
 pub mod Flat
 pub mod Means
 pub mod Parts

@@ -19,22 +19,27 @@ use Rattle.rbg_game.specs.declared.roles.Role.TheVariants.{Keeper, Player}
 abbrev pub decimal : Text → ℕ
 decimal digits = fold (λ n d. 10 * n + (d - 48)) 0 digits
 
+-- the players that a section declares
 abbrev pub players_of : Section → List Declaration
 players_of (syntax.players first more) = first ∷ more
 players_of _ = []
 
+-- the pieces that a section declares
 abbrev pub pieces_of : Section → List Text
 pieces_of (syntax.pieces first more) = first ∷ more
 pieces_of _ = []
 
+-- the variables that a section declares
 abbrev pub variables_of : Section → List Declaration
 variables_of (syntax.variables all) = all
 variables_of _ = []
 
+-- the vertices that a section declares
 abbrev pub vertices_of : Section → List syntax.Vertex
 vertices_of (syntax.board first more) = first ∷ map further_vertex more
 vertices_of _ = []
 
+-- the rules of a section
 abbrev pub rules_of : Section → List syntax.Sum
 rules_of (syntax.rules s) = s ∷ []
 rules_of _ = []
@@ -52,6 +57,7 @@ pub record Names : Type 0 where
   pub vertices : List Text
   pub labels : List Text
 
+-- the names that the sections declare
 abbrev pub names_of : List Section → Names
 names_of all = record {
   players = map (λ d. d.name) (flat_map players_of all);
@@ -92,9 +98,11 @@ abbrev mutual
 
 -- ---- rules: a sum and a concatenation group to the left, and one branch or one element alone is itself
 
+-- the role of the player with this name
 abbrev pub role_of : Names → Text → Role
 role_of names player = if index_of names.players player == 0 then Player First else Player Second
 
+-- an assignment by itself
 abbrev pub assignment : Names → syntax.Assignment → Regex
 assignment names a = Regex.one (Action.assignment (index_of (values_of names) a.target) (expression names a.value))
 
@@ -126,12 +134,15 @@ abbrev mutual
 
 -- ---- the whole
 
+-- a variable with its bound
 abbrev pub declared : Declaration → Variable
 declared d = record { name = d.name; bound = decimal d.bound }
 
+-- an arrow with its names by their places
 abbrev pub arrow : Names → syntax.Arrow → Arrow
 arrow names a = record { label = index_of names.labels a.label; to = index_of names.vertices a.to }
 
+-- a vertex with its names by their places
 abbrev pub vertex : Names → syntax.Vertex → Vertex
 vertex names v = record { name = v.name; piece = index_of names.pieces v.piece; arrows = map (arrow names) v.arrows }
 

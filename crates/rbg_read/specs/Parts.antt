@@ -12,6 +12,7 @@ use Rattle.rbg_read.specs.declared.parts.Parts.{Parts as CodeParts}
 use Rattle.rbg_read.specs.declared.parts.Sections.{Sections as CodeSections}
 use Rattle.rbg_read.specs.declared.names.Names.{Names as CodeNames}
 
+-- what the sections say, each kind of section once
 pub record Parts : Type 0 where
   pub players : List Declaration
   pub pieces : List Text
@@ -21,22 +22,27 @@ pub record Parts : Type 0 where
 
 -- ---- the sections of each kind
 
+-- what a section of players says
 abbrev pub players_said : Said → List (List Declaration)
 players_said (players all) = all ∷ []
 players_said _ = []
 
+-- what a section of pieces says
 abbrev pub pieces_said : Said → List (List Text)
 pieces_said (pieces all) = all ∷ []
 pieces_said _ = []
 
+-- what a section of variables says
 abbrev pub variables_said : Said → List (List Declaration)
 variables_said (variables all) = all ∷ []
 variables_said _ = []
 
+-- what a section of the board says
 abbrev pub board_said : Said → List (List Vertex)
 board_said (board all) = all ∷ []
 board_said _ = []
 
+-- what a section of rules says
 abbrev pub rules_said : Said → List (List Step)
 rules_said (rules all) = all ∷ []
 rules_said _ = []
@@ -59,6 +65,7 @@ pub record Kinds : Type 0 where
   pub boards : List (List Vertex)
   pub rules : List (List Step)
 
+-- the sections by their kinds
 abbrev pub kinds_of : List Said → Kinds
 kinds_of all = record {
   players = flat_map players_said all;
@@ -92,6 +99,7 @@ parts_of kinds =
     (only kinds.pieces))
     (only kinds.players)
 
+-- the parts of a text
 abbrev pub collected : List Said → Option Parts
 collected all = parts_of (kinds_of all)
 
@@ -109,9 +117,11 @@ pub record Known : Type 0 where
 abbrev pub with_label : List Text → Text → List Text
 with_label labels w = if list_any (bytes_eq w) labels then labels else labels ++ w ∷ []
 
+-- the labels of a board, each once, in the order in which they appear first
 abbrev pub labels_in : List Vertex → List Text
 labels_in all = first_appearances (flat_map (λ v. map (λ a. a.label) v.arrows) all)
 
+-- the names that the parts declare
 abbrev pub known_of : Parts → Known
 known_of p = record {
   players = map (λ d. d.name) p.players;
@@ -131,6 +141,7 @@ pub record AreFew (known : Known) : Type 0 where
 
 -- ---- what the program has for them
 
+-- the sections without where their words lie in memory
 abbrev pub kinds_view : CodeSections → Kinds
 kinds_view all = record {
   players = map (λ v. map declaration_view v.items) all.players.items;
@@ -140,6 +151,7 @@ kinds_view all = record {
   rules = map (λ v. map step_view v.items) all.rules.items;
 }
 
+-- the parts without where their words lie in memory
 abbrev pub parts_view : CodeParts → Parts
 parts_view p = record {
   players = map declaration_view p.players.items;
@@ -149,6 +161,7 @@ parts_view p = record {
   steps = map step_view p.steps.items;
 }
 
+-- the names without where they lie in memory
 abbrev pub known_view : CodeNames → Known
 known_view names = record {
   players = map (λ w. w.now) names.players.items;

@@ -12,12 +12,14 @@ use Rattle.rbg_read.specs.Means.{decimal, index_of}
 use Rattle.rbg_read.specs.Parts.{Known}
 use Rattle.rbg_read.specs.declared.resolve.Stack.{Stack as CodeStack}
 
+-- what waits for the steps to come
 pub record Stack : Type 0 where
   -- the set whose pieces come next
   pub set : Option (List ℕ)
   pub expressions : List Expression
   pub rules : List Regex
 
+-- nothing waits
 abbrev pub empty_stack : Stack
 empty_stack = record { set = None; expressions = []; rules = [] }
 
@@ -31,31 +33,39 @@ stack_of s = record {
 
 -- ---- the newest, where there is one
 
+-- the newest expression, and 0 where there is none
 abbrev pub first_expression : List Expression → Expression
 first_expression [] = Expression.number 0
 first_expression (e ∷ more) = e
 
+-- the newest part of the rules, and no action where there is none
 abbrev pub first_rules : List Regex → Regex
 first_rules [] = Regex.empty
 first_rules (r ∷ more) = r
 
 -- ---- more and fewer
 
+-- with an expression more
 abbrev pub push_expression : Expression → Stack → Stack
 push_expression e s = record s { expressions = e ∷ s.expressions }
 
+-- without the newest expression
 abbrev pub pop_expression : Stack → Stack
 pop_expression s = record s { expressions = drop 1 s.expressions }
 
+-- with a part of the rules more
 abbrev pub push_rules : Regex → Stack → Stack
 push_rules r s = record s { rules = r ∷ s.rules }
 
+-- without the newest part of the rules
 abbrev pub pop_rules : Stack → Stack
 pop_rules s = record s { rules = drop 1 s.rules }
 
+-- with an action more
 abbrev pub push_action : Action → Stack → Stack
 push_action a s = push_rules (Regex.one a) s
 
+-- with the set, if there is one, as an action
 abbrev pub finished_set : Option (List ℕ) → Stack → Stack
 finished_set None s = s
 finished_set (Some pieces) s = push_action (Action.on pieces) (record s { set = None })
@@ -66,29 +76,37 @@ finished s = finished_set s.set s
 
 -- ---- one step
 
+-- with one expression made of the two newest
 abbrev pub binary_expression : (Expression → Expression → Expression) → Stack → Stack
 binary_expression f s =
     push_expression (f (first_expression (drop 1 s.expressions)) (first_expression s.expressions)) (pop_expression (pop_expression s))
 
+-- with one part made of the two newest
 abbrev pub binary_rules : (Regex → Regex → Regex) → Stack → Stack
 binary_rules f s = push_rules (f (first_rules (drop 1 s.rules)) (first_rules s.rules)) (pop_rules (pop_rules s))
 
+-- with the newest expression negated
 abbrev pub negated : Stack → Stack
 negated s = push_expression (Expression.negation (first_expression s.expressions)) (pop_expression s)
 
+-- a difference is a sum with a negation
 abbrev pub difference : Expression → Expression → Expression
 difference a b = Expression.sum a (Expression.negation b)
 
+-- with the newest expression assigned to a variable
 abbrev pub assigned : ℕ → Stack → Stack
 assigned v s = push_action (Action.assignment v (first_expression s.expressions)) (pop_expression s)
 
+-- with the two newest expressions compared
 abbrev pub compared : Comparison → Stack → Stack
 compared test s =
     push_action (Action.comparison (first_expression (drop 1 s.expressions)) test (first_expression s.expressions)) (pop_expression (pop_expression s))
 
+-- with the newest part in a pattern
 abbrev pub pattern_made : Bool → Stack → Stack
 pattern_made positive s = push_action (Action.pattern positive (first_rules s.rules)) (pop_rules s)
 
+-- with a set that has no piece yet
 abbrev pub begun_set : Stack → Stack
 begun_set s = record s { set = Some [] }
 
@@ -96,6 +114,7 @@ begun_set s = record s { set = Some [] }
 abbrev pub with_piece : ℕ → Stack → Stack
 with_piece place s = record s { set = option_map (λ pieces. pieces ++ place ∷ []) s.set }
 
+-- with a star on the newest part
 abbrev pub starred : Stack → Stack
 starred s = push_rules (Regex.star (first_rules s.rules)) (pop_rules s)
 
@@ -103,8 +122,8 @@ starred s = push_rules (Regex.star (first_rules s.rules)) (pop_rules s)
 abbrev pub player_role : ℕ → Role
 player_role place = if place == 0 then Player First else Player Second
 
--- with the set finished
 module _ (known : Known) where
+  -- after a step that adds no piece to a set
   abbrev pub performed : Step → Stack → Stack
   performed (Step.number n) s = push_expression (Expression.number (decimal n)) s
   performed (Step.variable v) s = push_expression (Expression.variable (index_of known.values v)) s
@@ -126,6 +145,7 @@ module _ (known : Known) where
   performed Step.either s = binary_rules Regex.alt s
   performed Step.star s = starred s
 
+  -- after a step
   abbrev pub after_step : Stack → Step → Stack
   after_step s (Step.among piece) = with_piece (index_of known.pieces piece) s
   after_step s step = performed step (finished s)

@@ -29,6 +29,7 @@ abbrev pub sizes_made : Option ℕ → List ℕ → Option (List ℕ)
 sizes_made (Some n) rest = with_size n rest
 sizes_made None rest = Some rest
 
+-- after one step more, unless a size was over the limit
 abbrev pub next_sizes : List Text → List ℕ → Option (List ℕ) → Step → Option (List ℕ)
 next_sizes values bounds sizes step = option_and_then (sizes_after values bounds step) sizes
 

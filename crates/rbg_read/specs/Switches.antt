@@ -34,6 +34,7 @@ flags_made (made.Part b) rest = Some (b ∷ rest)
 flags_made made.Same rest = Some rest
 flags_made made.BadPattern rest = None
 
+-- after one step more, unless a pattern with a switch was found
 abbrev pub next_flags : Option (List Bool) → Step → Option (List Bool)
 next_flags flags step = option_and_then (flags_after step) flags
 

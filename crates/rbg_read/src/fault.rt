@@ -34,8 +34,13 @@ pub enum GameFault {
 }
 
 impl GameFault {
+    ghost use Rattle.std.specs.Prelude.{◌≡◌};
+    ghost use Rattle.rbg_read.specs.Codes.{fault_code};
+
     /// The code that the program prints.
-    pub fn code(self) -> &'static str {
+    pub fn code(self) -> &'static str
+        ensures { result.now ≡ fault_code self }
+    {
         match self {
             GameFault::Syntax => "G1",
             GameFault::Section => "G2",

@@ -2,6 +2,7 @@
 
 ghost use Rattle.std.specs.Prelude.{◌≡◌, ◌≢◌, IfOk, IfErr};
 ghost use Rattle.rbg_game.specs.Games.{Game as TextbookGame};
+ghost use Rattle.rbg_game.specs.Sound.{IsSoundGame};
 ghost use Rattle.rbg_game.specs.Meaning.{game_of};
 ghost use Rattle.rbg_read.specs.Reading.{Reads, Fault};
 
@@ -23,6 +24,7 @@ const MAX_NESTING: usize = 64;
 /// The game that a text reads to, or the first cause for which it is no game.
 pub fn read_game(alloc: Global, text: &[u8]) -> Result<Game, GameFault>
     ensures reads { IfOk result (λ game. Reads text.now (game_of game)) }
+    ensures sound { IfOk result (λ game. IsSoundGame (game_of game)) }
     ensures fault { IfErr result (λ fault. fault ≢ GameFault.OutOfMemory → Fault text.now fault) }
     // A text that reads to a game is refused for want of memory alone.
     ensures only { (game : TextbookGame) → Reads text.now game → IfErr result (λ fault. fault ≡ GameFault.OutOfMemory) }

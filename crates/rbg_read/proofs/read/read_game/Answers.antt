@@ -7,6 +7,7 @@ use Rattle.rbg_game.specs.Meaning.{game_of}
 use Rattle.rbg_read.specs.Parts.{parts_view, known_view}
 use Rattle.rbg_read.specs.Reading.{too_long, stray_byte, nested, grammar}
 use Rattle.rbg_read.proofs.Outcome.{passed_on, kept_on, lacks, refused, read}
+use Rattle.rbg_read.proofs.SoundGames.{read_sound}
 use Rattle.rbg_read.proofs.OneReading.{no_fault, refused_only}
 use Rattle.rbg_read.proofs.read.read_game.Goals as goal
 
@@ -88,3 +89,6 @@ returns-in_err-sections-clause-only c = λ game is. refused_only c.args.text.now
 
 pub returns-in_err-check-clause-only : goal.returns-in_err-check-clause-only
 returns-in_err-check-clause-only c = λ game is. refused_only c.args.text.now c.from_residual-in_err-check.result (returns-in_err-check-clause-fault c) game is
+
+pub returns-clause-sound : goal.returns-clause-sound
+returns-clause-sound c = read_sound c.args.text.now (game_of c.in_ok-build.field-0) (returns-clause-reads c)
