@@ -15,3 +15,4 @@ pub mod Laws
 pub mod Glushkov
 pub mod Take
 pub mod Look
+pub mod Counting

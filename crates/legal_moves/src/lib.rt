@@ -17,6 +17,8 @@ mod search;
 pub mod source;
 mod successor;
 mod table;
+#[cfg(test)]
+mod tests;
 
 pub use compiled::Compiled;
 pub use fault::MoveFault;
