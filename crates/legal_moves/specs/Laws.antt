@@ -2,13 +2,13 @@
 use Rattle.std.specs.Prelude.{◌≡◌, ℕ, ◌↔◌, Bool, true, List, ◌∷◌}
 use Rattle.rbg_game.specs.Rules.{Regex, Action, pattern, action_at, is_switch}
 use Rattle.rbg_game.specs.Games.{Game}
-use Rattle.rbg_game.specs.Sound.{IsSoundAction}
+use Rattle.rbg_game.specs.Sound.{IsSoundAction, IsSoundGame}
 use Rattle.rbg_game.specs.declared.position.SemiState.{SemiState}
 use Rattle.rbg_game.specs.declared.position.Position.{Position}
 use Rattle.legal_moves.specs.Words.{CanFollow}
-use Rattle.legal_moves.specs.Moves.{IsMove}
+use Rattle.legal_moves.specs.Moves.{IsMove, IsSuccessor}
 use Rattle.legal_moves.specs.Plain.{IsPlain}
-use Rattle.rbg_game.specs.Positions.{IsStateOf}
+use Rattle.rbg_game.specs.Positions.{IsStateOf, IsPositionOf}
 use Rattle.legal_moves.specs.Glushkov.{IsWalk}
 use Rattle.legal_moves.specs.Searches.{Searched}
 
@@ -26,3 +26,8 @@ MovesAreSearched =
 abbrev pub SoundActionsArePlain : Type 0
 SoundActionsArePlain =
     (game : Game) (S : SemiState) → IsStateOf game S → (a : Action) → ((positive : Bool) (e : Regex) → a ≡ pattern positive e → ⊥) → IsSoundAction game a → IsPlain S.values.items a
+
+-- what a position of the game leads to is a position of the game
+abbrev pub SuccessorsArePositions : Type 0
+SuccessorsArePositions =
+    (game : Game) (at next : Position) → IsSoundGame game → IsPositionOf game at → IsSuccessor game at next → IsPositionOf game next

@@ -1,5 +1,5 @@
 //! Laws of the definitions, for readers: each function's contract is one.
-ghost use Rattle.legal_moves.specs.Laws.{FollowsByWalks, MovesAreSearched, SoundActionsArePlain};
+ghost use Rattle.legal_moves.specs.Laws.{FollowsByWalks, MovesAreSearched, SoundActionsArePlain, SuccessorsArePositions};
 ghost use Rattle.legal_moves.specs.Moves.{IsSuccessor, start_of};
 ghost use Rattle.rbg_game.specs.Take.{take};
 ghost use Rattle.legal_moves.specs.Take.{after_first_move};
@@ -14,6 +14,11 @@ pub fn laws_of_words()
 /// What `act` asks of an action holds of the actions of a sound game.
 pub fn sound_actions()
     ensures { SoundActionsArePlain }
+{}
+
+/// A position of a game leads to positions of the game alone.
+pub fn successors_are_positions()
+    ensures { SuccessorsArePositions }
 {}
 
 /// The start of the small game has one successor.

@@ -39,7 +39,7 @@ after-returns-clause-some t c =
     let T = c.index-self-index.result in
     let at_T = read_at tables index T c.requires.ready.within c.index-self-index.is in
     let at_step = subst (λ x. slice_get x.steps.items (c.args.number - 1) ≡ Some c.step-step.result.now) (sym c.index-self-index.is) c.step-step.ensures in
-    let valid = OnTrue-at c.in_ok-passes.field-0 _ c.if-not-branch.false c.in_ok-passes.ensures.valid in (
+    let valid = OnTrue-at c.in_ok-passes.field-0 (EffectAt game (expression_at game index) 1 c.args.number c.in_ok-state.state c.passes.new.state) c.if-not-branch.false c.in_ok-passes.ensures.valid in (
       record {
         place_is = refl;
         step = subst (λ S. EffectAt game (expression_at game index) 1 c.args.number S c.passes.new.state) c.in_ok-state.ensures valid;
