@@ -1,20 +1,21 @@
-//! Game texts read to games.
+//! Reads game texts: the tokens are grouped into sections, the sections are checked, and the game is
+//! built. `read::read_game` answers the game, or the first cause for which the text is none.
 #![tactic(auto)]
 
-pub mod build;
-pub mod checks;
+mod build;
+mod checks;
 pub mod fault;
 pub mod laws;
-pub mod limits;
-pub mod names;
-pub mod nodes;
-pub mod numbers;
-pub mod parts;
+mod limits;
+mod names;
+mod nodes;
+mod numbers;
+mod parts;
 pub mod read;
-pub mod repeats;
-pub mod resolve;
-pub mod sizes;
-pub mod switches;
-pub mod uses;
+mod repeats;
+mod resolve;
+mod sizes;
+mod switches;
+mod uses;
 
 pub use rbg_game::{game, position, roles, rules, value};
