@@ -50,3 +50,16 @@ fits game at is = record {
   vertex_is = is.state_is.vertex_is;
   place_is = is.place_is;
 }
+
+-- and with its fields in the ranges a position is one of the game
+pub is_position : (game : Game) (at : Position) → Fits (shape_of game) at → IsPositionOf game at
+is_position game at fit = record {
+  state_is = record {
+    pieces_fit = fit.pieces_fit;
+    pieces_are = fit.pieces_are;
+    values_fit = fit.values_fit ∙ length-map game.variables (λ v. v.bound);
+    values_are = λ k lt. omega (arith, fit.values_are k lt, bound_is game.variables k);
+    vertex_is = fit.vertex_is;
+  };
+  place_is = fit.place_is;
+}

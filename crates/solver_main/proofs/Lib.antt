@@ -1,0 +1,5 @@
+pub mod Appending
+pub mod LineLemmas
+pub mod WritingLemmas
+pub mod StayLemmas
+pub mod AnswerLemmas
