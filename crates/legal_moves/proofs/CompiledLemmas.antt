@@ -18,7 +18,7 @@ use Rattle.legal_moves.specs.Searches.{IsWideFrom}
 use Rattle.rbg_game.specs.declared.position.SemiState.{SemiState}
 use Rattle.legal_moves.specs.declared.configuration.Configuration.{Configuration}
 use Rattle.legal_moves.specs.declared.table.Table.{Table}
-use Rattle.legal_moves.proofs.TableLemmas.{slice_get-end}
+use Rattle.legal_moves.proofs.GetLemmas.{slice_get-end}
 
 pub AreTables-none : (tables : List Table) → tables ≡ [] → AreTables [] tables
 AreTables-none tables none = record {

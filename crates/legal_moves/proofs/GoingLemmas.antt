@@ -12,7 +12,7 @@ use Rattle.legal_moves.specs.Configurations.{LeadsTo, IsLinked, AreFound, IsMet,
 use Rattle.legal_moves.specs.Going.{IsGoing}
 use Rattle.legal_moves.specs.declared.configuration.Configuration.{Configuration}
 use Rattle.legal_moves.specs.declared.found.Found.{Found}
-use Rattle.legal_moves.proofs.TableLemmas.{slice_get-append, slice_get-push, slice_get-end, slice_get-within}
+use Rattle.legal_moves.proofs.GetLemmas.{slice_get-append, slice_get-push, slice_get-end, slice_get-within}
 use Rattle.legal_moves.proofs.FoundLemmas.{count_whole, AreFound-push, IsExpanded-push, places_few}
 use Rattle.legal_moves.proofs.SearchLemmas.{next_in_range}
 use Rattle.legal_moves.proofs.PackLemmas.{bytes_tell}

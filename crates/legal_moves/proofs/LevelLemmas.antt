@@ -8,7 +8,7 @@ use Rattle.legal_moves.specs.Glushkov.{IsNextAt}
 use Rattle.legal_moves.specs.Searches.{place_at, Searched, begun, gone}
 use Rattle.legal_moves.specs.Configurations.{opening, AreFound, IsExpanded}
 use Rattle.legal_moves.specs.declared.configuration.Configuration.{Configuration}
-use Rattle.legal_moves.proofs.TableLemmas.{slice_get-within}
+use Rattle.legal_moves.proofs.GetLemmas.{slice_get-within}
 use Rattle.legal_moves.proofs.FoundLemmas.{same_at}
 
 -- the configuration at an index has so many actions before it

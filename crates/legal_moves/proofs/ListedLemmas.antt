@@ -23,7 +23,7 @@ use Rattle.legal_moves.specs.Shown.{ends_in, shown_to, shown_of, moves_of}
 use Rattle.legal_moves.specs.Listed.{IsSuccessorBytes, ShownMove, IsShown, IsShownMove, IsShortestMove, AreMoves}
 use Rattle.legal_moves.specs.Configurations.{packed_cmp, IsSearch, IsSeen}
 use Rattle.legal_moves.specs.declared.configuration.Configuration.{Configuration}
-use Rattle.legal_moves.proofs.TableLemmas.{slice_get-within}
+use Rattle.legal_moves.proofs.GetLemmas.{slice_get-within}
 use Rattle.legal_moves.proofs.SeenLemmas.{tied}
 use Rattle.legal_moves.proofs.SearchLemmas.{Searched-by_move}
 use Rattle.legal_moves.proofs.ExpandLemmas.{ends_at}

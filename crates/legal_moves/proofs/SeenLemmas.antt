@@ -12,7 +12,7 @@ use Rattle.arrayvec.specs.ArrayVec.{ArrayVec}
 use Rattle.position_pack.specs.Bytes.{bytes_of}
 use Rattle.legal_moves.specs.Configurations.{packed_cmp, IsSeen, IsNew, IsGrown}
 use Rattle.legal_moves.specs.declared.configuration.Configuration.{Configuration}
-use Rattle.legal_moves.proofs.TableLemmas.{slice_get-append, slice_get-push, slice_get-end}
+use Rattle.legal_moves.proofs.GetLemmas.{slice_get-append, slice_get-push, slice_get-end}
 
 key : Configuration → ArrayVec ℕ
 key c = record { items = bytes_of c.at }

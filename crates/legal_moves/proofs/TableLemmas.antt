@@ -1,8 +1,7 @@
 -- How the tables and the draft of one grow with each part of an expression.
-use Rattle.std.proofs.Common.{◌≡◌, ℕ, zero, suc, ◌+◌, ◌<◌, ◌≤◌, ◌⊎◌, inl, inr, ◌↔◌, Bool, true, false, ◌&&◌, ◌||◌, cond, List, [], ◌∷◌, ◌++◌, length, get_or, ◌==◌, take, map, fold, Some, slice_get, Contains, refl, sym, ap, ◌∙◌, subst, arith, append_assoc, append-nil, length-append}
+use Rattle.std.proofs.Common.{◌≡◌, ℕ, zero, suc, ◌+◌, ◌⊎◌, inl, inr, ◌↔◌, Bool, cond, List, [], ◌∷◌, ◌++◌, length, take, Some, slice_get, Contains, refl, sym, ap, ◌∙◌, subst, arith, append_assoc, append-nil, length-append}
 use Rattle.std.specs.List.{AllZip}
-use Rattle.std.proofs.lemmas.List.{take_more, take_all, length-map, get_or-map}
-use Rattle.rbg_game.specs.Rules.{Regex, one, empty, cat, alt, star, count, Action, pattern, cat_all, alt_all}
+use Rattle.rbg_game.specs.Rules.{Regex, one, empty, cat, alt, star, count, Action, pattern}
 use Rattle.legal_moves.specs.Glushkov.{is_nullable, IsFirst, IsLast, IsNext, IsNextAt}
 use Rattle.legal_moves.specs.Relations.{IsRelated}
 use Rattle.legal_moves.specs.Tables.{actions_of, inner_of, inner_in, first_of, last_of, IsStep, IsTable, AreTables, IsAdded}
@@ -13,54 +12,7 @@ use Rattle.legal_moves.specs.declared.table.Ends.{Ends}
 use Rattle.legal_moves.specs.declared.table.Table.{Table}
 use Rattle.legal_moves.specs.declared.table.Draft.{Draft}
 use Rattle.legal_moves.proofs.EndsLemmas.{contains_first, contains_last}
-
--- ---- lists
-
-pub slice_get-append : {A : Type 0} (xs ys : List A) (i : ℕ) (x : A) → slice_get xs i ≡ Some x → slice_get (xs ++ ys) i ≡ Some x
-slice_get-append [] ys i x h = absurd (cc)
-slice_get-append (y ∷ xs) ys zero x h = h
-slice_get-append (y ∷ xs) ys (suc i) x h = slice_get-append xs ys i x h
-
-pub slice_get-end : {A : Type 0} (xs : List A) (x : A) → slice_get (xs ++ x ∷ []) (length xs) ≡ Some x
-slice_get-end [] x = refl
-slice_get-end (y ∷ xs) x = slice_get-end xs x
-
--- an element of a list with one more is of the list, or the new one
-pub slice_get-push : {A : Type 0} (xs : List A) (y : A) (i : ℕ) (x : A) → slice_get (xs ++ y ∷ []) i ≡ Some x → (slice_get xs i ≡ Some x) ⊎ (i ≡ length xs) × (x ≡ y)
-slice_get-push [] y zero x h = inr (refl, cc)
-slice_get-push [] y (suc i) x h = absurd (cc)
-slice_get-push (z ∷ xs) y zero x h = inl h
-slice_get-push (z ∷ xs) y (suc i) x h = go (slice_get-push xs y i x h)
-  where
-    go : (slice_get xs i ≡ Some x) ⊎ (i ≡ length xs) × (x ≡ y) → (slice_get xs i ≡ Some x) ⊎ (suc i ≡ suc (length xs)) × (x ≡ y)
-    go (inl g) = inl g
-    go (inr g) = inr (ap suc g.0, g.1)
-
-pub slice_get-within : {A : Type 0} (xs : List A) (i : ℕ) (x : A) → slice_get xs i ≡ Some x → i < length xs
-slice_get-within [] i x h = absurd (cc)
-slice_get-within (y ∷ xs) zero x h = omega arith
-slice_get-within (y ∷ xs) (suc i) x h = omega (arith, slice_get-within xs i x h)
-
-take-push : {A : Type 0} (xs : List A) (y : A) (i : ℕ) → i ≤ length xs → take i (xs ++ y ∷ []) ≡ take i xs
-take-push xs y zero h = refl
-take-push [] y (suc i) h = absurd (omega (arith, h))
-take-push (x ∷ xs) y (suc i) h = ap (λ zs. x ∷ zs) (take-push xs y i (omega (arith, h)))
-
-take-all : {A : Type 0} (xs : List A) (y : A) → take (length xs) (xs ++ y ∷ []) ≡ xs
-take-all [] y = refl
-take-all (x ∷ xs) y = ap (λ zs. x ∷ zs) (take-all xs y)
-
-all_zip-append : {A B : Type 0} (R : A → B → Type 0) (xs xs' : List A) (ys ys' : List B) → AllZip R xs ys → AllZip R xs' ys' → AllZip R (xs ++ xs') (ys ++ ys')
-all_zip-append R [] xs' [] ys' h k = k
-all_zip-append R [] xs' (y ∷ ys) ys' h k = absurd h
-all_zip-append R (x ∷ xs) xs' [] ys' h k = absurd h
-all_zip-append R (x ∷ xs) xs' (y ∷ ys) ys' h k = (h.0, all_zip-append R xs xs' ys ys' h.1 k)
-
-all_zip-weaker : {A B : Type 0} (R S : A → B → Type 0) → ((x : A) (y : B) → R x y → S x y) → (xs : List A) (ys : List B) → AllZip R xs ys → AllZip S xs ys
-all_zip-weaker R S f [] [] h = h
-all_zip-weaker R S f [] (y ∷ ys) h = absurd h
-all_zip-weaker R S f (x ∷ xs) [] h = absurd h
-all_zip-weaker R S f (x ∷ xs) (y ∷ ys) h = (f x y h.0, all_zip-weaker R S f xs ys h.1)
+use Rattle.legal_moves.proofs.GetLemmas.{slice_get-append, slice_get-end, slice_get-push, slice_get-within, take-push, take-all, all_zip-append, all_zip-weaker}
 
 -- ---- steps
 
@@ -266,108 +218,6 @@ IsAdded-one a T0 T1 D0 D step E made pushed same f l = record {
     back i j (inl h) = subst (λ r. IsRelated r i j) (sym same) h
     back i j (inr h) = absurd h
 
--- ---- expressions that differ in how they are put together
-
--- they have the same tables, but for the empty word
-pub record AreAlike (x y : Regex) : Type 0 where
-  pub inner_is : inner_of x ≡ inner_of y
-  pub actions_are : actions_of x ≡ actions_of y
-  pub count_is : count x ≡ count y
-  pub first_is : (n : ℕ) → first_of x n ≡ first_of y n
-  pub last_is : (n : ℕ) → last_of x n ≡ last_of y n
-  pub next_is : (n i j : ℕ) → IsNext x n i j ↔ IsNext y n i j
-
-pub IsAdded-along : (x y : Regex) (T0 T1 : List Table) (D0 D1 : Draft) (E : Ends) → AreAlike x y → IsAdded x T0 T1 D0 D1 E → IsAdded y T0 T1 D0 D1 E
-IsAdded-along x y T0 T1 D0 D1 E s h = record {
-  tables_are = λ es t. subst (λ zs. AreTables (es ++ zs) T1) s.inner_is (h.tables_are es t);
-  steps_are = λ es actions t k. subst (λ zs. AllZip (IsStep (es ++ zs)) D1.steps.items (actions ++ actions_of y)) s.inner_is (subst (λ zs. AllZip (IsStep (es ++ inner_of x)) D1.steps.items (actions ++ zs)) s.actions_are (h.steps_are es actions t k));
-  count_is = omega (arith, h.count_is, s.count_is);
-  follows_is = λ i j. ((λ k. there i j ((h.follows_is i j).0 k)), (λ k. (h.follows_is i j).1 (back i j k)));
-  ends_are = record {
-    first_is = h.ends_are.first_is ∙ s.first_is (suc (length D0.steps.items));
-    last_is = h.ends_are.last_is ∙ s.last_is (suc (length D0.steps.items));
-  };
-}
-  where
-    there : (i j : ℕ) → IsRelated D0.follows i j ⊎ IsNext x (suc (length D0.steps.items)) i j → IsRelated D0.follows i j ⊎ IsNext y (suc (length D0.steps.items)) i j
-    there i j (inl k) = inl k
-    there i j (inr k) = inr ((s.next_is (suc (length D0.steps.items)) i j).0 k)
-
-    back : (i j : ℕ) → IsRelated D0.follows i j ⊎ IsNext y (suc (length D0.steps.items)) i j → IsRelated D0.follows i j ⊎ IsNext x (suc (length D0.steps.items)) i j
-    back i j (inl k) = inl k
-    back i j (inr k) = inr ((s.next_is (suc (length D0.steps.items)) i j).1 k)
-
-AreAlike-itself : (x : Regex) → AreAlike x x
-AreAlike-itself x = record {
-  inner_is = refl;
-  actions_are = refl;
-  count_is = refl;
-  first_is = λ n. refl;
-  last_is = λ n. refl;
-  next_is = λ n i j. ((λ h. h), (λ h. h));
-}
-
-same_either : (t : Bool) (xs : List ℕ) → cond t ([] ++ xs) xs ≡ xs
-same_either true xs = refl
-same_either false xs = refl
-
-plus_none : (n : ℕ) → n + 0 ≡ n
-plus_none n = omega arith
-
-AreAlike-cat_empty : (y : Regex) → AreAlike (cat empty y) y
-AreAlike-cat_empty y = record {
-  inner_is = refl;
-  actions_are = refl;
-  count_is = omega arith;
-  first_is = λ n. ap (first_of y) (plus_none n);
-  last_is = λ n. same_either (is_nullable y) (last_of y (n + 0)) ∙ ap (last_of y) (plus_none n);
-  next_is = λ n i j. ((λ h. there n i j h), (λ h. inr (inl (subst (λ m. IsNext y m i j) (sym (plus_none n)) h))));
-}
-  where
-    there : (n i j : ℕ) → IsNext (cat empty y) n i j → IsNext y n i j
-    there n i j (inl h) = absurd h
-    there n i j (inr (inl h)) = subst (λ m. IsNext y m i j) (plus_none n) h
-    there n i j (inr (inr h)) = absurd h.0
-
-AreAlike-alt_empty : (y : Regex) → AreAlike (alt empty y) y
-AreAlike-alt_empty y = record {
-  inner_is = refl;
-  actions_are = refl;
-  count_is = omega arith;
-  first_is = λ n. ap (first_of y) (plus_none n);
-  last_is = λ n. ap (last_of y) (plus_none n);
-  next_is = λ n i j. ((λ h. there n i j h), (λ h. inr (subst (λ m. IsNext y m i j) (sym (plus_none n)) h)));
-}
-  where
-    there : (n i j : ℕ) → IsNext (alt empty y) n i j → IsNext y n i j
-    there n i j (inl h) = absurd h
-    there n i j (inr h) = subst (λ m. IsNext y m i j) (plus_none n) h
-
-fold-push : (f : Regex → Regex → Regex) (a : Regex) (xs : List Regex) (y : Regex) → fold f a (xs ++ y ∷ []) ≡ f (fold f a xs) y
-fold-push f a [] y = refl
-fold-push f a (x ∷ xs) y = fold-push f (f a x) xs y
-
-pub cat_all-push : (xs : List Regex) (y : Regex) → AreAlike (cat (cat_all xs) y) (cat_all (xs ++ y ∷ []))
-cat_all-push [] y = AreAlike-cat_empty y
-cat_all-push (a ∷ xs) y = subst (λ z. AreAlike (cat (fold cat a xs) y) z) (sym (fold-push cat a xs y)) (AreAlike-itself _)
-
-pub alt_all-push : (xs : List Regex) (y : Regex) → AreAlike (alt (alt_all xs) y) (alt_all (xs ++ y ∷ []))
-alt_all-push [] y = AreAlike-alt_empty y
-alt_all-push (a ∷ xs) y = subst (λ z. AreAlike (alt (fold alt a xs) y) z) (sym (fold-push alt a xs y)) (AreAlike-itself _)
-
-pub nullable_cat-push : (xs : List Regex) (y : Regex) → is_nullable (cat_all (xs ++ y ∷ [])) ≡ is_nullable (cat_all xs) && is_nullable y
-nullable_cat-push [] y = refl
-nullable_cat-push (a ∷ xs) y = ap is_nullable (fold-push cat a xs y)
-
--- whether the empty word is in one of the branches, or there are none
-abbrev pub some_nullable : List Regex → Bool
-some_nullable [] = false
-some_nullable (a ∷ xs) = is_nullable (fold alt a xs)
-
-pub some_nullable-push : (xs : List Regex) (y : Regex) → some_nullable (xs ++ y ∷ []) ≡ some_nullable xs || is_nullable y
-some_nullable-push [] y = refl
-some_nullable-push (a ∷ xs) y = ap is_nullable (fold-push alt a xs y)
-
 -- ---- a whole table
 
 pub IsTable-made : (es : List Regex) (e : Regex) (T T' : List Table) (D0 D : Draft) (E : Ends) (table : Table) → AreTables es T → IsAdded e T T' D0 D E → E.nullable ≡ is_nullable e → D0.steps.items ≡ [] → ((i j : ℕ) → ¬ IsRelated D0.follows i j) → table.steps ≡ D.steps → table.ends ≡ E → ((i j : ℕ) → IsRelated table.follows i j ↔ (IsRelated D.follows i j ⊎ Contains (0 ∷ []) i × Contains E.first.items j)) → IsTable (es ++ inner_of e) table e
@@ -403,35 +253,10 @@ IsTable-made es e T T' D0 D E table t h null none bare steps ends related = reco
     back i j (inl k) = inr ((0, omega arith, sym k.0), (begins j).1 k.1)
     back i j (inr k) = inl ((h.follows_is i j).1 (inr (subst (λ m. IsNext e m i j) (sym from_1) k)))
 
--- ---- the loops over parts and branches
-
-pub take_map-more : {X Y : Type 0} (f : X → Y) (xs : List X) (i : ℕ) (x : X) → i < length xs → x ≡ get_or xs i x → take (i + 1) (map f xs) ≡ take i (map f xs) ++ f x ∷ []
-take_map-more f xs i x h e =
-    take_more (map f xs) i (f x) (omega (arith, length-map xs f))
-    ∙ ap (λ y. take i (map f xs) ++ y ∷ []) (get_or-map f xs i x (f x) h ∙ ap f (sym e))
-
-pub take_map-all : {X Y : Type 0} (f : X → Y) (xs : List X) (i : ℕ) → length xs ≤ i → take i (map f xs) ≡ map f xs
-take_map-all f xs i h = take_all i (map f xs) (omega (arith, length-map xs f))
-
--- at the end of the branches the empty word is as the code has it
-pub nullable_alt_all : (xs : List Regex) → (length xs == 0) || some_nullable xs ≡ is_nullable (alt_all xs)
-nullable_alt_all [] = refl
-nullable_alt_all (a ∷ xs) =
-    let some : (length (a ∷ xs) == 0) ≡ false = grind arith in
-    ap (λ t. t || is_nullable (fold alt a xs)) some
-
-pub or_none : (t : Bool) → t ≡ t || false
-or_none true = refl
-or_none false = refl
-
 pub related_along : (r r' : Relation) (xs ys us vs : List ℕ) → us ≡ xs → vs ≡ ys → ((i j : ℕ) → IsRelated r' i j ↔ (IsRelated r i j ⊎ Contains us i × Contains vs j)) → (i j : ℕ) → IsRelated r' i j ↔ (IsRelated r i j ⊎ Contains xs i × Contains ys j)
 related_along r r' xs ys us vs e f h i j =
     subst (λ zs. IsRelated r' i j ↔ (IsRelated r i j ⊎ Contains zs i × Contains ys j)) e
     (subst (λ zs. IsRelated r' i j ↔ (IsRelated r i j ⊎ Contains us i × Contains zs j)) f (h i j))
-
-pub or_assoc : (a b c : Bool) → (a || b) || c ≡ a || (b || c)
-or_assoc true b c = refl
-or_assoc false b c = refl
 
 -- the step of a pattern whose table was added last
 pub asked : (es : List Regex) (e : Regex) (positive : Bool) (index : ℕ) (tables : List Table) (a : Action) → a ≡ pattern positive e → index ≡ length (es ++ inner_of e) → AreTables ((es ++ inner_of e) ++ e ∷ []) tables → AreTables (es ++ inner_in a) tables × IsStep (es ++ inner_in a) (Ask positive index) a

@@ -20,6 +20,7 @@ use rbg_game::position::{Position, SemiState};
 use rbg_game::roles::Role;
 use std::alloc::{AllocError, Global};
 
+/// A game with a table for each expression that is searched.
 #[derive(Drop)]
 pub struct Compiled {
     game: Game,
@@ -38,6 +39,7 @@ impl Compiled {
     ghost use Rattle.legal_moves.specs.Listed.{AreMoves, IsShortestMove};
     ghost use Rattle.legal_moves.specs.Compiled.{compiled_game, IsCompiled};
 
+    /// Makes the tables of the rules and of the patterns in them.
     pub fn new(alloc: Global, game: Game) -> Result<Compiled, AllocError>
         requires { IsSoundGame (game_of game) }
         ensures game { IfOk result (λ c. compiled_game c ≡ game_of game) }
@@ -53,6 +55,7 @@ impl Compiled {
         })
     }
 
+    /// The game that was compiled.
     pub fn game(&self) -> &Game
         ensures { game_of result.now ≡ compiled_game self.now }
     {

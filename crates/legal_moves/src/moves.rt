@@ -56,6 +56,7 @@ impl Moves {
         })
     }
 
+    /// How many successors there are.
     pub fn len(&self) -> usize
         ensures { result ≡ length self.now }
     {

@@ -3,7 +3,7 @@ use Rattle.rbg_game.specs.Rules.{cat_all, alt_all}
 use Rattle.rbg_game.specs.Meaning.{regex_of}
 use Rattle.legal_moves.specs.Glushkov.{is_nullable}
 use Rattle.legal_moves.specs.Tables.{IsAdded}
-use Rattle.legal_moves.proofs.TableLemmas.{some_nullable}
+use Rattle.legal_moves.proofs.AlikeLemmas.{some_nullable}
 use Rattle.legal_moves.proofs.compile.+tables.Given as goal
 
 abbrev pub invariant-add_parts-loop-part : goal.invariant-add_parts-loop-part

@@ -14,7 +14,7 @@ use Rattle.std.specs.List.{list_any}
 use Rattle.legal_moves.specs.Searches.{place_at, IsLegal}
 use Rattle.legal_moves.proofs.WidthLemmas.{narrow_by_search}
 use Rattle.legal_moves.proofs.HoldsLemmas.{legal_by_nullable, legal_by_any}
-use Rattle.legal_moves.proofs.TableLemmas.{slice_get-within}
+use Rattle.legal_moves.proofs.GetLemmas.{slice_get-within}
 use Rattle.legal_moves.proofs.FoundLemmas.{same_at, IsExpanded-end, IsExpanded-all}
 use Rattle.legal_moves.proofs.ExpandLemmas.{ends_at, place_first, place_last, marked_next, unmarked_not, past_not, number_from, number_upto, number_small, going_next, more_skipped, more_invalid, asked, turned, full}
 use Rattle.legal_moves.proofs.ReadyLemmas.{read_at, count_steps, switches_is, modifies_is, act_plain, act_valid, act_refused, act_narrow, ask_before, ask_lacks, ask_ready, ask_narrow, ask_wide, ask_valid, ask_refused, OnTrue-at, beq_true, beq_same}
