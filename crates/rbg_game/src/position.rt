@@ -1,6 +1,6 @@
 //! Semi-states and positions.
-use arrayvec::ArrayVec;
 use crate::roles::Role;
+use arrayvec::ArrayVec;
 
 /// What the actions change. Pieces stand in the order of the vertices, values in that of the variables.
 #[derive(Drop)]

@@ -1,7 +1,12 @@
 //! Worked examples of the moves of a start.
 
 use crate::moves::moves_to;
+use crate::words::{Words, words_of};
+use legal_moves::compiled::Compiled;
+use legal_moves::moves::Modifier;
+use rbg_read::read::read_game;
 use std::alloc::Global;
+use std::io::{self, ErrorKind, Write};
 use std::test::Fail;
 
 /// The status and the text that `moves` answers.
@@ -219,5 +224,153 @@ fn nesting_and_length_have_limits(rt: HostRuntime) -> Result<(), Fail> {
         let (_, written) = answer(alloc, text.as_str())?;
         assert_eq!(rt; written.as_str(), want);
     }
+    Ok(())
+}
+
+#[test]
+fn a_search_may_be_just_not_too_wide(rt: HostRuntime) -> Result<(), Fail> {
+    let alloc = rt.alloc();
+    let text = small(alloc, "n(32767)", "([$n=n+1])* ->white")?;
+    let compiled = Compiled::new(alloc, read_game(alloc, text.as_bytes())?)?;
+    let moves = compiled.moves(alloc, &compiled.start())?;
+    assert_eq!(rt; moves.len(), 32_768);
+    let first = moves.word(alloc, 0)?;
+    assert_eq!(rt; first.len(), 1);
+    assert_eq!(rt;
+        first[0],
+        Modifier {
+            number: 2,
+            vertex: 0
+        }
+    );
+    let last = moves.word(alloc, 32_767)?;
+    assert_eq!(rt; last.len(), 32_768);
+    assert_eq!(rt;
+        last[0],
+        Modifier {
+            number: 1,
+            vertex: 0
+        }
+    );
+    assert_eq!(rt;
+        last[32_767],
+        Modifier {
+            number: 2,
+            vertex: 0
+        }
+    );
+    Ok(())
+}
+
+/// The rules with `count` copies of a part, joined by another.
+fn repeated(alloc: Global, count: usize, part: &str, between: &str) -> Result<String, Fail> {
+    let mut rules = String::new(alloc);
+    for index in 0..count {
+        if index > 0 {
+            rules.push_str(between)?;
+        }
+        rules.push_str(part)?;
+    }
+    Ok(rules)
+}
+
+#[test]
+fn the_longest_texts_are_read_and_searched(rt: HostRuntime) -> Result<(), Fail> {
+    let alloc = rt.alloc();
+    let sum = repeated(alloc, 4_095, "[e]", "+")?;
+    let rules = format!(in alloc; "({sum}) ->white")?;
+    let (status, written) = answer(alloc, small(alloc, "", rules.as_str())?.as_str())?;
+    assert_eq!(rt; status, 0);
+    assert_eq!(rt; written.as_str(), "1@v 4096@v => white 4096 v e 0,0\n");
+    let concatenation = repeated(alloc, 4_095, "{e}", " ")?;
+    let rules = format!(in alloc; "{concatenation} ->white")?;
+    let (status, written) = answer(alloc, small(alloc, "", rules.as_str())?.as_str())?;
+    assert_eq!(rt; status, 0);
+    assert_eq!(rt; written.as_str(), "4096@v => white 4096 v e 0,0\n");
+    let list = repeated(alloc, 4_095, "n=1", ",")?;
+    let rules = format!(in alloc; "[$ {list}] ->white")?;
+    let (status, written) = answer(alloc, small(alloc, "n(1)", rules.as_str())?.as_str())?;
+    assert_eq!(rt; status, 0);
+    assert!(rt;
+        written
+            .as_str()
+            .ends_with(" 4095@v 4096@v => white 4096 v e 0,0,1\n")
+    );
+    Ok(())
+}
+
+#[test]
+fn a_long_comment_is_passed_over(rt: HostRuntime) -> Result<(), Fail> {
+    let alloc = rt.alloc();
+    let comment = repeated(alloc, 65_000, "x", "")?;
+    let rules = format!(in alloc; "// {comment}\n ->white")?;
+    let (status, written) = answer(alloc, small(alloc, "", rules.as_str())?.as_str())?;
+    assert_eq!(rt; status, 0);
+    assert_eq!(rt; written.as_str(), "1@v => white 1 v e 0,0\n");
+    Ok(())
+}
+
+/// A writer that takes so many bytes, and then fails.
+#[derive(Drop)]
+struct Narrow {
+    room: usize,
+}
+
+impl Write for Narrow {
+    fn write(&mut self, buf: &[u8]) -> io::Result<usize> {
+        if buf.len() > self.room {
+            return Err(ErrorKind::Other.into());
+        }
+        self.room -= buf.len();
+        Ok(buf.len())
+    }
+
+    fn flush(&mut self) -> io::Result<()> {
+        Ok(())
+    }
+}
+
+#[test]
+fn an_output_that_fails_is_status_four(rt: HostRuntime) -> Result<(), Fail> {
+    let alloc = rt.alloc();
+    let game = small(alloc, "", "->white")?;
+    for room in [0, 10] {
+        assert_eq!(rt; moves_to(alloc, game.as_bytes(), &mut Narrow { room }), 4);
+        assert_eq!(rt; moves_to(alloc, b"", &mut Narrow { room }), 4);
+    }
+    assert_eq!(rt;
+        moves_to(alloc, game.as_bytes(), &mut Narrow { room: 100 }),
+        0
+    );
+    Ok(())
+}
+
+#[test]
+fn words_are_a_command_or_a_refusal(rt: HostRuntime) -> Result<(), Fail> {
+    let alloc = rt.alloc();
+    let cases: [(&[&str], u8); 6] = [
+        (&["rbgsolve"], 2),
+        (&["rbgsolve", "moves"], 2),
+        (&["rbgsolve", "moves", "a", "b"], 2),
+        (&["rbgsolve", "solve", "a"], 2),
+        (&["rbgsolve", "--help"], 0),
+        (&["rbgsolve", "moves", "--help"], 0),
+    ];
+    for (words, want) in cases {
+        let mut owned = Vec::new(alloc);
+        for word in words {
+            owned.push(String::from_str(alloc, word)?)?;
+        }
+        match words_of(alloc, &owned) {
+            Ok(_) => panic!(rt; "no command"),
+            Err(refusal) => assert_eq!(rt; refusal.status, want),
+        }
+    }
+    let mut owned = Vec::new(alloc);
+    for word in ["rbgsolve", "moves", "a.rbg"] {
+        owned.push(String::from_str(alloc, word)?)?;
+    }
+    let game = String::from_str(alloc, "a.rbg")?;
+    assert_eq!(rt; words_of(alloc, &owned), Ok(Words::Moves { game }));
     Ok(())
 }
