@@ -15,3 +15,4 @@ pub mod Outcome
 pub mod SmallExpressions
 pub mod SoundRules
 pub mod SoundGames
+pub mod ProperNames

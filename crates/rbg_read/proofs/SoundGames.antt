@@ -142,7 +142,7 @@ is_tree_game all game means = go (flat_map rules_of all) refl means.rules
     go (s ∷ t ∷ more) e h = absurd (cc)
 
 -- a cause that is not the first
-passed : (b : Bool) (c : GameFault) (o : Option GameFault) → (if b then Some c else o) ≡ None → (b ≡ false) × (o ≡ None)
+pub passed : (b : Bool) (c : GameFault) (o : Option GameFault) → (if b then Some c else o) ≡ None → (b ≡ false) × (o ≡ None)
 passed true c o h = absurd (cc)
 passed false c o h = (refl, h)
 

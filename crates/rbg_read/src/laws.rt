@@ -7,6 +7,7 @@ ghost use Rattle.rbg_game.specs.Games.{Game};
 ghost use Rattle.rbg_read.specs.Reading.{Reads, Fault};
 ghost use Rattle.rbg_read.specs.declared.fault.GameFault.{GameFault};
 ghost use Rattle.rbg_game.specs.Sound.{IsSoundGame};
+ghost use Rattle.rbg_game.specs.Names.{HasProperNames};
 ghost use Rattle.rbg_game.specs.Take.{take};
 ghost use Rattle.rbg_read.specs.TakeText.{take_text};
 
@@ -38,4 +39,9 @@ pub fn what_is_read_has_no_fault()
 /// A text has one fault at most.
 pub fn a_text_has_one_fault()
     ensures { (text : Text) (fault other : GameFault) → Fault text fault → Fault text other → fault ≡ other }
+{}
+
+/// The names of a game that a text reads to are plain, and those of one kind differ.
+pub fn what_is_read_has_proper_names()
+    ensures { (text : Text) (game : Game) → Reads text game → HasProperNames game }
 {}
