@@ -69,7 +69,10 @@ fn status_of_refused(rt: &HostRuntime, refused: Refused) -> u8 {
 
 fn moves_of_file(rt: &HostRuntime, alloc: Global, game: &str) -> u8 {
     let mut text = Vec::new(alloc);
-    if read_start(rt, game, &mut text).is_err() {
+    if let Err(error) = read_start(rt, game, &mut text) {
+        if error.kind() == io::ErrorKind::OutOfMemory {
+            return status_of_refused(rt, Refused::OutOfMemory);
+        }
         tell(rt, format_args!("{game}: the file cannot be read"));
         return status_of_refused(rt, Refused::Disk);
     }
