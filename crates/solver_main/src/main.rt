@@ -6,6 +6,8 @@ mod explain;
 mod explain_tests;
 mod lines;
 mod mentions;
+#[cfg(test)]
+mod move_tests;
 mod moves;
 mod refused;
 #[cfg(test)]

@@ -10,7 +10,7 @@ use std::io::{self, ErrorKind, Write};
 use std::test::Fail;
 
 /// The status and the text that `moves` answers.
-fn answer(alloc: Global, text: &str) -> Result<(u8, String), Fail> {
+pub(crate) fn answer(alloc: Global, text: &str) -> Result<(u8, String), Fail> {
     let mut out = Vec::new(alloc);
     let status = moves_to(alloc, text.as_bytes(), &mut out);
     let written = String::from_utf8(out).map_err(|_| "no text")?;
@@ -26,7 +26,7 @@ fn small(alloc: Global, variables: &str, rules: &str) -> Result<String, Fail> {
 }
 
 /// A game with the pieces e and x on this board.
-fn on_board(alloc: Global, board: &str, rules: &str) -> Result<String, Fail> {
+pub(crate) fn on_board(alloc: Global, board: &str, rules: &str) -> Result<String, Fail> {
     let text = format!(in alloc;
         "#players = white(1), black(1) #pieces = e, x #board = {board} #rules = {rules}"
     )?;
