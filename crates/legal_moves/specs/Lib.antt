@@ -16,3 +16,4 @@ pub mod Glushkov
 pub mod Take
 pub mod Look
 pub mod Counting
+pub mod Sources
