@@ -17,3 +17,4 @@ pub mod Take
 pub mod Look
 pub mod Counting
 pub mod Sources
+pub mod Machine
