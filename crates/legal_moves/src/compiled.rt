@@ -1,5 +1,5 @@
 //! A game made ready for the search for moves.
-ghost use Rattle.std.specs.Prelude.{◌≡◌, IfOk, IsOk, Err, All};
+ghost use Rattle.std.specs.Prelude.{◌≡◌, ◌≤◌, length, IfOk, IsOk, Err, All};
 ghost use Rattle.rbg_game.specs.Meaning.{game_of};
 ghost use Rattle.rbg_game.specs.Sound.{IsSoundGame};
 ghost use Rattle.rbg_game.specs.Positions.{IsPositionOf};
@@ -32,7 +32,7 @@ pub struct Compiled {
 }
 
 impl Compiled {
-    ghost use Rattle.std.specs.Prelude.{◌≡◌, IfOk, IsOk, Err, All};
+    ghost use Rattle.std.specs.Prelude.{◌≡◌, ◌≤◌, length, IfOk, IsOk, Err, All};
     ghost use Rattle.rbg_game.specs.Meaning.{game_of};
     ghost use Rattle.rbg_game.specs.Sound.{IsSoundGame};
     ghost use Rattle.rbg_game.specs.Positions.{IsPositionOf};
@@ -95,6 +95,7 @@ impl Compiled {
         requires at { IsPositionOf (compiled_game self.now) at.now }
         ensures exact { IfOk result (λ moves. AreMoves (compiled_game self.now) at.now moves) }
         ensures shortest { IfOk result (λ moves. All (IsShortestMove (compiled_game self.now) at.now) moves) }
+        ensures few { IfOk result (λ moves. length moves ≤ 65536) }
         ensures wide { result ≡ Err MoveFault.TooWide → IsWide (compiled_game self.now) at.now }
         ensures narrow { IsOk result → ¬ IsWide (compiled_game self.now) at.now }
     {

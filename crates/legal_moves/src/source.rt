@@ -1,5 +1,5 @@
 //! Where moves come from.
-ghost use Rattle.std.specs.Prelude.{◌≡◌, ℕ, List, Option, Err, map, IfOk, IsOk};
+ghost use Rattle.std.specs.Prelude.{◌≡◌, ◌≤◌, ℕ, List, Option, Err, map, vec_len, IfOk, IsOk};
 ghost use Rattle.rbg_game.specs.declared.roles.Player.{Player};
 ghost use Rattle.rbg_game.specs.declared.roles.Role.{Role};
 ghost use Rattle.legal_moves.specs.Listed.{ListsExactly};
@@ -56,6 +56,7 @@ pub trait MoveSource {
     fn successors(&self, alloc: Global, at: &Packed) -> Result<Vec<Packed>, MoveFault>
         requires { is_sound self.now }
         ensures exact { IfOk result (λ found. ListsExactly (is_successor self.now at.now.items) (map (λ p. p.items) found.items)) }
+        ensures few { IfOk result (λ found. vec_len found ≤ 65536) }
         ensures wide { result ≡ Err MoveFault.TooWide → is_wide self.now at.now.items }
         ensures narrow { IsOk result → ¬ is_wide self.now at.now.items };
 
