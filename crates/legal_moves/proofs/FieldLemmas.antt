@@ -1,9 +1,8 @@
 -- What the bytes of a position say of its mover and its scores.
-use Rattle.std.proofs.Common.{◌≡◌, ℕ, zero, suc, ◌+◌, ◌*◌, ◌-◌, ◌/◌, ◌%◌, ◌<◌, ◌≤◌, Bool, true, false, cond, List, [], ◌∷◌, ◌++◌, length, drop, get_or, get_or-drop, refl, sym, ap, ◌∙◌, subst, append_assoc, arith, Option, None, Some}
+use Rattle.std.proofs.Common.{◌≡◌, ℕ, suc, ◌+◌, ◌*◌, ◌/◌, ◌%◌, ◌<◌, ◌≤◌, Bool, true, false, cond, List, [], ◌∷◌, ◌++◌, length, refl, ap, ◌∙◌, append_assoc, arith, None, Some}
 use Rattle.std.specs.Prelude.{nat_lt, slice_index, map, ◌↔◌}
-use Rattle.std.proofs.lemmas.List.{length-map, get_or-append_right}
 use Rattle.std.proofs.lemmas.Bool.{ltb-true, ltb-false}
-use Rattle.rbg_game.specs.Games.{Game, bound_of}
+use Rattle.rbg_game.specs.Games.{Game}
 use Rattle.rbg_game.specs.Sound.{IsSoundGame}
 use Rattle.rbg_game.specs.Positions.{IsPositionOf}
 use Rattle.rbg_game.specs.declared.roles.Player.{Player}
@@ -11,15 +10,12 @@ use Rattle.rbg_game.specs.declared.roles.Player.TheVariants.{First, Second}
 use Rattle.rbg_game.specs.declared.roles.Role.{Role}
 use Rattle.rbg_game.specs.declared.roles.Role.TheVariants as role
 use Rattle.rbg_game.specs.declared.position.Position.{Position}
-use Rattle.position_pack.specs.Shape.{shape_of}
 use Rattle.position_pack.specs.Fields.{role_code}
-use Rattle.position_pack.specs.Bytes.{bytes_of}
 use Rattle.position_pack.proofs.ShapeLemmas.{fits, small_shape}
 use Rattle.position_pack.proofs.PartLemmas.{length-spelled, last_bytes}
 use Rattle.position_pack.proofs.ValueBytes.{spelled, spelled-cons}
 use Rattle.legal_moves.specs.Moves.{IsAhead, score}
 use Rattle.legal_moves.specs.Sources.{IsAt, role_by, role_in, value_in, leader, leader_in}
-use Rattle.legal_moves.proofs.SoundLemmas.{bound_at}
 
 -- a role comes back from its byte
 role_back : (r : Role) → role_by (role_code r) ≡ r

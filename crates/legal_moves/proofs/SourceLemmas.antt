@@ -1,22 +1,16 @@
 -- The positions and the moves of a game, by their bytes.
-use Rattle.std.proofs.Common.{◌≡◌, ℕ, List, [], map, length, All, AllPairs, Contains, refl, sym, ap, ◌∙◌, subst, arith}
-use Rattle.std.specs.Cmp.Lexicographic.{slice_cmp}
-use Rattle.std.specs.Ordering.{nat_cmp}
-use Rattle.std.specs.declared.cmp.Ordering.TheVariants.{Less}
+use Rattle.std.proofs.Common.{◌≡◌, ℕ, List, [], sym, ◌∙◌, subst, arith}
 use Rattle.std.proofs.lemmas.List.Elements.{All-weaker}
 use Rattle.rbg_game.specs.Games.{Game}
 use Rattle.rbg_game.specs.Sound.{IsSoundGame}
-use Rattle.rbg_game.specs.Positions.{IsPositionOf}
 use Rattle.rbg_game.specs.declared.position.Position.{Position}
 use Rattle.position_pack.specs.Shape.{Shape, shape_of}
-use Rattle.position_pack.specs.Bytes.{bytes_of, IsPacked}
+use Rattle.position_pack.specs.Bytes.{IsPacked}
 use Rattle.position_pack.proofs.ShapeLemmas.{small_shape, fits, is_position}
 use Rattle.position_pack.proofs.OrderLemmas.{tell}
-use Rattle.legal_moves.specs.Moves.{start_of}
 use Rattle.legal_moves.specs.Searches.{IsWide}
 use Rattle.legal_moves.specs.Listed.{ListsExactly, IsSuccessorBytes}
-use Rattle.legal_moves.specs.Sources.{IsAt, IsPositionBytes, IsMoveBetween, IsWideAt}
-use Rattle.legal_moves.proofs.CompiledLemmas.{start_position}
+use Rattle.legal_moves.specs.Sources.{IsAt, IsMoveBetween, IsWideAt}
 use Rattle.legal_moves.proofs.ReachLemmas.{position_of}
 
 -- what passes one of two tests that agree passes the other

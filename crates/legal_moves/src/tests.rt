@@ -274,9 +274,8 @@ fn a_compiled_game_is_a_source_of_moves(rt: HostRuntime) -> Result<(), Fail> {
     assert_eq!(rt; mover_of(&compiled, &found[0]), Role::Player(Player::First));
     assert_eq!(rt; leader_at(&compiled, &found[0]), None);
     let mut won = Packed::new();
-    for byte in [0, 0, 0, 0, 0, 0, 0, 1, 0, 2, 0, 2] {
-        won.push(byte);
-    }
+    let bytes = [0u8, 0, 0, 0, 0, 0, 0, 1, 0, 2, 0, 2];
+    assert!(rt; won.try_extend_from_slice(bytes.as_slice()).is_ok());
     assert_eq!(rt; mover_of(&compiled, &won), Role::Player(Player::Second));
     assert_eq!(rt; leader_at(&compiled, &won), Some(Player::Second));
     Ok(())

@@ -1,4 +1,4 @@
-use Rattle.std.proofs.Common.{◌≡◌, map, ℕ, length, ap, sym, subst, arith}
+use Rattle.std.proofs.Common.{map, ℕ, length, ap, sym, subst, arith}
 use Rattle.std.proofs.lemmas.List.{length-map}
 use Rattle.arrayvec.specs.ArrayVec.{ArrayVec}
 use Rattle.rbg_game.specs.Meaning.{game_of}
