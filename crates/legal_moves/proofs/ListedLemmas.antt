@@ -1,13 +1,16 @@
 -- The ends that a search for moves has found are exactly the successors.
-use Rattle.std.proofs.Common.{◌≡◌, ℕ, zero, suc, ◌<◌, Bool, true, false, cond, List, [], ◌∷◌, length, map, get_or, Some, slice_get, All, AllPairs, Contains, refl, sym, ap, ◌∙◌, subst, arith}
+use Rattle.std.proofs.Common.{◌≡◌, ◌≢◌, ℕ, zero, suc, ◌<◌, ◌≤◌, Bool, true, false, cond, List, [], ◌∷◌, length, map, get_or, Some, slice_get, All, AllPairs, Contains, refl, sym, ap, ◌∙◌, subst, arith}
 use Rattle.std.specs.BTreeMap.{BTreeMap, is_at}
 use Rattle.std.specs.Map.{keys_of}
 use Rattle.std.specs.List.{AllByRecursion}
 use Rattle.std.specs.List.Sorted.{IsStrictlySortedBy}
-use Rattle.std.specs.Cmp.{IsTotalOrder, on_total}
+use Rattle.std.specs.Cmp.{IsTotalOrder, on_total, Equal-is}
+use Rattle.std.proofs.lemmas.Slice.Eq.{bytes_eq-Decides}
+use Rattle.std.proofs.lemmas.Map.Text.{is_eq-slice_cmp}
+use Rattle.std.specs.declared.cmp.Ordering.{Ordering}
 use Rattle.std.specs.Cmp.Lexicographic.{slice_cmp}
 use Rattle.std.specs.Ordering.{nat_cmp}
-use Rattle.std.specs.declared.cmp.Ordering.TheVariants.{Less}
+use Rattle.std.specs.declared.cmp.Ordering.TheVariants.{Less, Equal}
 use Rattle.std.proofs.lemmas.Cmp.{nat_list_cmp_total}
 use Rattle.std.proofs.lemmas.List.{length-map, get_or-map}
 use Rattle.std.proofs.lemmas.Map.Keys.{Less-from_sorted}
@@ -23,6 +26,7 @@ use Rattle.legal_moves.specs.Shown.{ends_in, shown_to, shown_of, moves_of}
 use Rattle.legal_moves.specs.Listed.{IsSuccessorBytes, ShownMove, IsShown, IsShownMove, IsShortestMove, AreMoves}
 use Rattle.legal_moves.specs.Configurations.{packed_cmp, IsSearch, IsSeen}
 use Rattle.legal_moves.specs.declared.configuration.Configuration.{Configuration}
+use Rattle.legal_moves.proofs.Distinct.{distinct-le}
 use Rattle.legal_moves.proofs.GetLemmas.{slice_get-within}
 use Rattle.legal_moves.proofs.SeenLemmas.{tied}
 use Rattle.legal_moves.proofs.SearchLemmas.{Searched-by_move}
@@ -178,3 +182,28 @@ module _ (game : Game) (at : Position) (cs : List Configuration) (seen : BTreeMa
 
   pub entries_within : All (λ p. p.1 < length cs) seen.entries
   entries_within = all_by_get (λ p. p.1 < length cs) seen.entries (λ i p is. let known = index.only p.0 p.1 (btree_map_get_place packed_total seen i p.0 p.1 index.ordered is) in slice_get-within cs p.1 known.0 known.1)
+
+  -- ---- different moves have different configurations, so there are not more of them
+
+  have_configurations : All (Contains (map (λ (c : Configuration). bytes_of c.at) cs)) (map (λ m. m.next) (moves_of cs seen.entries))
+  have_configurations k d inside =
+      let none : ShownMove = record { next = []; shown = [] } in
+      let short : k < length (moves_of cs seen.entries) = omega (arith, inside, length-map (moves_of cs seen.entries) (λ m. m.next)) in
+      let m = get_or (moves_of cs seen.entries) k none in
+      let h = end_of k m (slice_get-get_or (moves_of cs seen.entries) k none short) in
+      let same = get_or-map (λ (x : ShownMove). x.next) (moves_of cs seen.entries) k none d short ∙ h.next_is in
+      contains_by_get (map (λ (c : Configuration). bytes_of c.at) cs) h.place (get_or (map (λ (x : ShownMove). x.next) (moves_of cs seen.entries)) k d) (map_at (λ (c : Configuration). bytes_of c.at) cs h.place h.configuration h.is_at ∙ ap Some (sym same))
+
+  are_different : AllPairs ◌≢◌ (map (λ m. m.next) (moves_of cs seen.entries))
+  are_different i j d before inside same =
+      let x = get_or (map (λ (m : ShownMove). m.next) (moves_of cs seen.entries)) i d in
+      let y = get_or (map (λ (m : ShownMove). m.next) (moves_of cs seen.entries)) j d in
+      not_both (slice_cmp nat_cmp x y) (ascending_of cs seen.entries index.ordered i j d before inside) ((Equal-is (slice_cmp nat_cmp x y)).0 (is_eq-slice_cmp x y ∙ (bytes_eq-Decides x y).1 same))
+    where
+      not_both : (o : Ordering) → o ≡ Less → o ≡ Equal → ⊥
+      not_both o less equal = cc
+
+  pub few_moves : length (moves_of cs seen.entries) ≤ 65536
+  few_moves =
+      let all = distinct-le (map (λ (c : Configuration). bytes_of c.at) cs) (map (λ (m : ShownMove). m.next) (moves_of cs seen.entries)) are_different have_configurations in
+      omega (arith, all, length-map (moves_of cs seen.entries) (λ (m : ShownMove). m.next), length-map cs (λ (c : Configuration). bytes_of c.at), search.found.few)

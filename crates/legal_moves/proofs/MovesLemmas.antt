@@ -80,3 +80,11 @@ whole_word f cs ss k s moves word turned view at is shown =
     ap (λ xs. option_map (λ m. m.shown) (slice_get xs k)) view
     ∙ ap (option_map (λ m. m.shown)) (slice_get-map (shown_of cs) ss k s at)
     ∙ ap Some (sym shown ∙ sym (map-reverse f word) ∙ ap (map f) (sym (turned_back word turned is)))
+
+-- the bytes of what is shown of successors are their own
+pub packed_items : (cs : List Configuration) (ss : List Successor) (ps : List (ArrayVec ℕ)) (ms : List ShownMove) → map (shown_of cs) ss ≡ ms → ps ≡ map (λ s. s.packed) ss → map (λ p. p.items) ps ≡ map (λ m. m.next) ms
+packed_items cs ss ps ms shown kept = ap (map (λ p. p.items)) kept ∙ along ss ∙ ap (map (λ m. m.next)) shown
+  where
+    along : (ss : List Successor) → map (λ p. p.items) (map (λ s. s.packed) ss) ≡ map (λ m. m.next) (map (shown_of cs) ss)
+    along [] = refl
+    along (s ∷ ss) = ap (λ xs. s.packed.items ∷ xs) (along ss)

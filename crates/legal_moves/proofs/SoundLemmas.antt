@@ -1,9 +1,13 @@
 -- At a state of a game, an action of its rules that is no pattern is plain.
-use Rattle.std.proofs.Common.{◌≡◌, ℕ, zero, suc, ◌≤◌, Bool, List, [], ◌∷◌, length, map, inl, inr, refl, sym, subst, arith}
+use Rattle.std.proofs.Common.{◌≡◌, ℕ, zero, suc, ◌≤◌, Bool, List, [], ◌∷◌, length, map, inl, inr, refl, sym, ap, ◌∙◌, subst, arith, ℤ, neg_ℤ, w64}
 use Rattle.std.specs.Prelude.{slice_index, slice_get, unwrap_or, option_map}
 use Rattle.std.proofs.lemmas.Bool.{cases_lt}
+use Rattle.std.specs.Int.{int_wrap}
+use Rattle.std.proofs.lemmas.Int.{int_wrap_fits}
 use Rattle.std.proofs.Math.Nat.{mul-le-mul}
-use Rattle.rbg_game.specs.Expressions.{Expression, number, variable, negation, sum, product, size_of, IsSmall, NamesBelow}
+use Rattle.rbg_game.proofs.ValueLemmas.{value_fits}
+use Rattle.legal_moves.specs.Machine.{wrapping_value_of}
+use Rattle.rbg_game.specs.Expressions.{Expression, number, variable, negation, sum, product, value_of, size_of, IsSmall, NamesBelow}
 use Rattle.rbg_game.specs.Rules.{Regex, Action, shift, on, off, assignment, comparison, switch, pattern}
 use Rattle.rbg_game.specs.Games.{Game, Variable}
 use Rattle.rbg_game.specs.Sound.{bounds, IsSoundExpression, IsSoundAction}
@@ -47,7 +51,7 @@ module _ (game : Game) (S : SemiState) (state : IsStateOf game S) where
     | inr past ↦ omega (arith, index_past S.values.items v past)
   ]
 
-  sound_here : (e : Expression) → IsSoundExpression game e → NamesBelow (length S.values.items) e × IsSmall S.values.items e
+  pub sound_here : (e : Expression) → IsSoundExpression game e → NamesBelow (length S.values.items) e × IsSmall S.values.items e
   sound_here e h = (
     subst (λ n. NamesBelow n e) (sym state.values_fit) h.0,
     small_below S.values.items (bounds game) values_below e h.1,
@@ -61,3 +65,21 @@ module _ (game : Game) (S : SemiState) (state : IsStateOf game S) where
   plain (comparison a op b) other h = (sound_here a h.0, sound_here b h.1)
   plain (switch r) other h = tt
   plain (pattern positive e) other h = absurd (other positive e refl)
+
+-- ---- no step of a small expression wraps around
+
+fits_machine : (values : List ℕ) (e : Expression) (z : ℤ) → IsSmall values e → z ≡ value_of values e → int_wrap w64 z ≡ value_of values e
+fits_machine values e z small same = ap (int_wrap w64) same ∙ int_wrap_fits w64 (value_of values e) (value_fits values e small)
+
+pub machine_value : (values : List ℕ) (e : Expression) → IsSmall values e → wrapping_value_of values e ≡ value_of values e
+machine_value values (number n) h = fits_machine values (number n) _ h refl
+machine_value values (variable v) h = fits_machine values (variable v) _ h refl
+machine_value values (negation a) h = fits_machine values (negation a) _ h (ap neg_ℤ (machine_value values a h))
+machine_value values (sum a b) h =
+    let first : wrapping_value_of values a ≡ value_of values a = machine_value values a h.1 in
+    let second : wrapping_value_of values b ≡ value_of values b = machine_value values b h.2 in
+    fits_machine values (sum a b) _ h (rw (first, second) refl)
+machine_value values (product a b) h =
+    let first : wrapping_value_of values a ≡ value_of values a = machine_value values a h.1 in
+    let second : wrapping_value_of values b ≡ value_of values b = machine_value values b h.2 in
+    fits_machine values (product a b) _ h (rw (first, second) refl)

@@ -1,12 +1,16 @@
 -- Laws of the search, each the contract of a function.
-use Rattle.std.specs.Prelude.{◌≡◌, ℕ, ◌↔◌, Bool, true, List, ◌∷◌}
+use Rattle.std.specs.Prelude.{◌≡◌, ℕ, ◌↔◌, Bool, true, List, ◌∷◌, length, Some}
 use Rattle.rbg_game.specs.Rules.{Regex, Action, pattern, action_at, is_switch}
 use Rattle.rbg_game.specs.Games.{Game}
-use Rattle.rbg_game.specs.Sound.{IsSoundAction, IsSoundGame}
+use Rattle.rbg_game.specs.Expressions.{Expression, IsSmall, NamesBelow, value_of}
+use Rattle.rbg_game.specs.Sound.{IsSoundAction, IsSoundExpression, IsSoundGame}
+use Rattle.rbg_game.specs.declared.roles.Player.{Player}
 use Rattle.rbg_game.specs.declared.position.SemiState.{SemiState}
 use Rattle.rbg_game.specs.declared.position.Position.{Position}
 use Rattle.legal_moves.specs.Words.{CanFollow}
-use Rattle.legal_moves.specs.Moves.{IsMove, IsSuccessor}
+use Rattle.legal_moves.specs.Moves.{IsMove, IsSuccessor, IsAhead}
+use Rattle.legal_moves.specs.Sources.{IsAt, role_in, leader_in}
+use Rattle.legal_moves.specs.Machine.{wrapping_value_of}
 use Rattle.legal_moves.specs.Plain.{IsPlain}
 use Rattle.rbg_game.specs.Positions.{IsStateOf, IsPositionOf}
 use Rattle.legal_moves.specs.Glushkov.{IsWalk}
@@ -31,3 +35,24 @@ SoundActionsArePlain =
 abbrev pub SuccessorsArePositions : Type 0
 SuccessorsArePositions =
     (game : Game) (at next : Position) → IsSoundGame game → IsPositionOf game at → IsSuccessor game at next → IsPositionOf game next
+
+-- the bytes of a position of a game say who has the turn, and who is ahead
+abbrev pub BytesSayMoverAndLeader : Type 0
+BytesSayMoverAndLeader =
+    (game : Game) (x : List ℕ) (at : Position) → IsSoundGame game → IsAt game x at
+    → (role_in game x ≡ at.state.mover) × ((w : Player) → (leader_in game x ≡ Some w) ↔ IsAhead w at)
+
+-- bytes are those of one position of a game at most
+abbrev pub BytesAreOfOnePosition : Type 0
+BytesAreOfOnePosition =
+    (game : Game) (x : List ℕ) (at other : Position) → IsSoundGame game → IsAt game x at → IsAt game x other → other ≡ at
+
+-- what is small for the bounds of a game is small for the values of each of its states, and names values that are there
+abbrev pub SoundExpressionsAreSmall : Type 0
+SoundExpressionsAreSmall =
+    (game : Game) (S : SemiState) (e : Expression) → IsStateOf game S → IsSoundExpression game e → NamesBelow (length S.values.items) e × IsSmall S.values.items e
+
+-- and has in 64-bit numbers the value that it has in whole numbers without bound
+abbrev pub ValuesFitTheMachine : Type 0
+ValuesFitTheMachine =
+    (game : Game) (S : SemiState) (e : Expression) → IsStateOf game S → IsSoundExpression game e → wrapping_value_of S.values.items e ≡ value_of S.values.items e

@@ -16,3 +16,5 @@ pub mod Glushkov
 pub mod Take
 pub mod Look
 pub mod Counting
+pub mod Sources
+pub mod Machine

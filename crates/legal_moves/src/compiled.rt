@@ -1,5 +1,5 @@
 //! A game made ready for the search for moves.
-ghost use Rattle.std.specs.Prelude.{◌≡◌, IfOk, IsOk, Err, All};
+ghost use Rattle.std.specs.Prelude.{◌≡◌, ◌≤◌, length, IfOk, IsOk, Err, All};
 ghost use Rattle.rbg_game.specs.Meaning.{game_of};
 ghost use Rattle.rbg_game.specs.Sound.{IsSoundGame};
 ghost use Rattle.rbg_game.specs.Positions.{IsPositionOf};
@@ -10,14 +10,16 @@ ghost use Rattle.legal_moves.specs.Listed.{AreMoves, IsShortestMove};
 use crate::compile::add_table;
 use crate::copies::copied_state;
 use crate::fault::MoveFault;
+use crate::fields::{byte_at, leader_of, role_with, value_at};
 use crate::moves::Moves;
 use crate::search::Searcher;
+use crate::source::MoveSource;
 use crate::table::Table;
 use arrayvec::ArrayVec;
-use position_pack::Packing;
+use position_pack::{Packed, Packing};
 use rbg_game::game::Game;
 use rbg_game::position::{Position, SemiState};
-use rbg_game::roles::Role;
+use rbg_game::roles::{Player, Role};
 use std::alloc::{AllocError, Global};
 
 /// A game with a table for each expression that is searched.
@@ -30,7 +32,7 @@ pub struct Compiled {
 }
 
 impl Compiled {
-    ghost use Rattle.std.specs.Prelude.{◌≡◌, IfOk, IsOk, Err, All};
+    ghost use Rattle.std.specs.Prelude.{◌≡◌, ◌≤◌, length, IfOk, IsOk, Err, All};
     ghost use Rattle.rbg_game.specs.Meaning.{game_of};
     ghost use Rattle.rbg_game.specs.Sound.{IsSoundGame};
     ghost use Rattle.rbg_game.specs.Positions.{IsPositionOf};
@@ -93,6 +95,7 @@ impl Compiled {
         requires at { IsPositionOf (compiled_game self.now) at.now }
         ensures exact { IfOk result (λ moves. AreMoves (compiled_game self.now) at.now moves) }
         ensures shortest { IfOk result (λ moves. All (IsShortestMove (compiled_game self.now) at.now) moves) }
+        ensures few { IfOk result (λ moves. length moves ≤ 65536) }
         ensures wide { result ≡ Err MoveFault.TooWide → IsWide (compiled_game self.now) at.now }
         ensures narrow { IsOk result → ¬ IsWide (compiled_game self.now) at.now }
     {
@@ -107,5 +110,54 @@ impl Compiled {
         let found = searcher.search(rules, at.place, state)?;
         let moves = Moves::of(alloc, found)?;
         Ok(moves)
+    }
+}
+
+impl MoveSource for Compiled {
+    ghost use Rattle.std.specs.Prelude.{refl};
+    ghost use Rattle.position_pack.specs.Bytes.{bytes_of};
+    ghost use Rattle.legal_moves.specs.Moves.{start_of};
+    ghost use Rattle.legal_moves.specs.Compiled.{compiled_game, IsCompiled};
+    ghost use Rattle.legal_moves.specs.Sources.{IsPositionBytes, IsMoveBetween, IsWideAt, role_in, leader_in};
+
+    ghost is_sound = { IsCompiled };
+
+    ghost is_position = { λ c. IsPositionBytes (compiled_game c) };
+
+    ghost start_bytes = { λ c. bytes_of (start_of (compiled_game c)) };
+
+    ghost role_at = { λ c. role_in (compiled_game c) };
+
+    ghost leader_at = { λ c. leader_in (compiled_game c) };
+
+    ghost is_successor = { λ c. IsMoveBetween (compiled_game c) };
+
+    ghost is_wide = { λ c. IsWideAt (compiled_game c) };
+
+    ghost start_is_position = { λ c is. (start_of (compiled_game c), record { position_is = is.start_is; bytes_are = refl }) };
+
+    ghost moves_are_between_positions = { λ c x y is (at, next, from, to, leads). ((at, from), (next, to)) };
+
+    fn start(&self) -> Packed {
+        let start = self.start();
+        self.packing.pack(&start)
+    }
+
+    fn mover(&self, at: &Packed) -> Role {
+        role_with(byte_at(at, self.packing.length() - 3))
+    }
+
+    fn ahead(&self, at: &Packed) -> Option<Player> {
+        let scores = self.game.vertices.len();
+        leader_of(value_at(at, scores), value_at(at, scores + 3))
+    }
+
+    fn successors(&self, alloc: Global, at: &Packed) -> Result<Vec<Packed>, MoveFault> {
+        let Some(position) = self.packing.unpack(at) else {
+            return Ok(Vec::new(alloc));
+        };
+        let moves = self.moves(alloc, &position)?;
+        let successors = moves.into_successors(alloc)?;
+        Ok(successors)
     }
 }

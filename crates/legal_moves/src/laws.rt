@@ -1,5 +1,5 @@
 //! Laws of the definitions, for readers: each function's contract is one.
-ghost use Rattle.legal_moves.specs.Laws.{FollowsByWalks, MovesAreSearched, SoundActionsArePlain, SuccessorsArePositions};
+ghost use Rattle.legal_moves.specs.Laws.{BytesAreOfOnePosition, BytesSayMoverAndLeader, FollowsByWalks, MovesAreSearched, SoundActionsArePlain, SoundExpressionsAreSmall, SuccessorsArePositions, ValuesFitTheMachine};
 ghost use Rattle.legal_moves.specs.Moves.{IsSuccessor, start_of};
 ghost use Rattle.rbg_game.specs.Take.{take};
 ghost use Rattle.legal_moves.specs.Take.{after_first_move};
@@ -16,9 +16,22 @@ pub fn sound_actions()
     ensures { SoundActionsArePlain }
 {}
 
+/// An expression of a sound game has at each state the value that it has without bounds: none of its
+/// steps leaves the signed 64-bit numbers.
+pub fn sound_expressions()
+    ensures small { SoundExpressionsAreSmall }
+    ensures fit { ValuesFitTheMachine }
+{}
+
 /// A position of a game leads to positions of the game alone.
 pub fn successors_are_positions()
     ensures { SuccessorsArePositions }
+{}
+
+/// What a source of moves says of bytes is what the game says of their position.
+pub fn bytes_say()
+    ensures mover_and_leader { BytesSayMoverAndLeader }
+    ensures one_position { BytesAreOfOnePosition }
 {}
 
 /// The start of the small game has one successor.

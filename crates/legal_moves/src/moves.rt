@@ -91,6 +91,16 @@ impl Moves {
         word.as_mut_slice().reverse();
         Ok(word)
     }
+
+    /// The bytes of the successors alone.
+    pub fn into_successors(self, alloc: Global) -> Result<Vec<Packed>, AllocError>
+        ensures { IfOk result (λ found. map (λ p. p.items) found.items ≡ map (λ m. m.next) self) }
+    {
+        self.successors
+            .into_iter()
+            .map(|successor| successor.packed)
+            .collect(alloc)
+    }
 }
 
 /// The ends among the configurations, in the order of their bytes.

@@ -8,6 +8,8 @@ ghost use Rattle.legal_moves.specs.Counting.{counting, one_more};
 use crate::compiled::Compiled;
 use crate::fault::MoveFault;
 use crate::moves::Modifier;
+use crate::source::MoveSource;
+use position_pack::Packed;
 use rbg_game::game::{Arrow, Game, Name, Variable, Vertex};
 use rbg_game::roles::{Player, Role};
 use rbg_game::rules::{Action, Expr, Rules};
@@ -236,5 +238,54 @@ fn too_wide(rt: HostRuntime) -> Result<(), Fail> {
     let compiled = Compiled::new(alloc, counting_game(alloc, 32768)?)?;
     let answer = compiled.moves(alloc, &compiled.start());
     assert!(rt; matches!(answer, Err(MoveFault::TooWide)));
+    Ok(())
+}
+
+/// What the start leads to, by the bound alone.
+fn replies<S: MoveSource>(alloc: Global, source: &S) -> Result<Vec<Packed>, MoveFault>
+    requires { S.is_sound source.now }
+{
+    let start = source.start();
+    source.successors(alloc, &start)
+}
+
+fn mover_of<S: MoveSource>(source: &S, at: &Packed) -> Role
+    requires { S.is_sound source.now }
+{
+    source.mover(at)
+}
+
+fn leader_at<S: MoveSource>(source: &S, at: &Packed) -> Option<Player>
+    requires { S.is_sound source.now }
+{
+    source.ahead(at)
+}
+
+#[test]
+fn a_compiled_game_is_a_source_of_moves(rt: HostRuntime) -> Result<(), Fail> {
+    let alloc = rt.alloc();
+    let compiled = Compiled::new(alloc, game(alloc, true)?)?;
+    let found = replies(alloc, &compiled)?;
+    assert_eq!(rt; found.len(), 1);
+    assert_eq!(rt;
+        found[0].as_slice(),
+        [0u8, 0, 0, 0, 0, 0, 0, 0, 0, 1, 0, 2].as_slice()
+    );
+    assert_eq!(rt; mover_of(&compiled, &found[0]), Role::Player(Player::First));
+    assert_eq!(rt; leader_at(&compiled, &found[0]), None);
+    let mut won = Packed::new();
+    let bytes = [0u8, 0, 0, 0, 0, 0, 0, 1, 0, 2, 0, 2];
+    assert!(rt; won.try_extend_from_slice(bytes.as_slice()).is_ok());
+    assert_eq!(rt; mover_of(&compiled, &won), Role::Player(Player::Second));
+    assert_eq!(rt; leader_at(&compiled, &won), Some(Player::Second));
+    Ok(())
+}
+
+#[test]
+fn bytes_that_are_no_position_have_no_successor(rt: HostRuntime) -> Result<(), Fail> {
+    let alloc = rt.alloc();
+    let compiled = Compiled::new(alloc, game(alloc, true)?)?;
+    let found = compiled.successors(alloc, &Packed::new())?;
+    assert!(rt; found.is_empty());
     Ok(())
 }

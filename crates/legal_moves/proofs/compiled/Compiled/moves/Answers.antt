@@ -1,4 +1,4 @@
-use Rattle.std.proofs.Common.{◌≡◌, ◌-◌, sym, subst, length, All, arith}
+use Rattle.std.proofs.Common.{◌≡◌, ◌≤◌, ◌-◌, sym, subst, length, All, arith}
 use Rattle.rbg_game.specs.Meaning.{game_of}
 use Rattle.legal_moves.specs.Configurations.{IsReady}
 use Rattle.rbg_game.specs.Positions.{IsStateOf}
@@ -6,7 +6,7 @@ use Rattle.legal_moves.specs.Listed.{AreMoves, IsShortestMove}
 use Rattle.legal_moves.proofs.CompiledLemmas.{rules_search, rules_ready}
 use Rattle.legal_moves.proofs.ShownLemmas.{before_by_found}
 use Rattle.legal_moves.proofs.WidthLemmas.{narrow_by_search}
-use Rattle.legal_moves.proofs.ListedLemmas.{are_moves, shortest_moves, entries_within}
+use Rattle.legal_moves.proofs.ListedLemmas.{are_moves, shortest_moves, few_moves, entries_within}
 use Rattle.legal_moves.proofs.compiled.Compiled.moves.Goals as goal
 
 pub of-requires-clause-before : goal.of-requires-clause-before
@@ -36,6 +36,14 @@ returns-clause-shortest c =
     let many : c.len-rules.result ≡ length c.args.self.now.tables.items = omega arith in
     let search = rules_search game c.args.self.now.tables.items c.len-rules.result c.args.at.now.place c.in_ok-state.state c.args.at.now.state cs c.requires.compiled.tables_are many c.in_ok-state.ensures c.in_ok-found.ensures.found in
     subst (All (IsShortestMove game c.args.at.now)) (sym c.in_ok-moves.ensures) (shortest_moves game c.args.at.now cs c.in_ok-found.found.seen search c.in_ok-found.ensures.seen)
+
+pub returns-clause-few : goal.returns-clause-few
+returns-clause-few c =
+    let game = game_of c.args.self.now.game in
+    let cs = c.in_ok-found.found.configurations.items in
+    let many : c.len-rules.result ≡ length c.args.self.now.tables.items = omega arith in
+    let search = rules_search game c.args.self.now.tables.items c.len-rules.result c.args.at.now.place c.in_ok-state.state c.args.at.now.state cs c.requires.compiled.tables_are many c.in_ok-state.ensures c.in_ok-found.ensures.found in
+    subst (λ ms. length ms ≤ 65536) (sym c.in_ok-moves.ensures) (few_moves game c.args.at.now cs c.in_ok-found.found.seen search c.in_ok-found.ensures.seen)
 
 pub returns-clause-narrow : goal.returns-clause-narrow
 returns-clause-narrow c =

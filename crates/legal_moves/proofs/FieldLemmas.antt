@@ -1,0 +1,123 @@
+-- What the bytes of a position say of its mover and its scores.
+use Rattle.std.proofs.Common.{◌≡◌, ℕ, suc, ◌+◌, ◌*◌, ◌/◌, ◌%◌, ◌<◌, ◌≤◌, Bool, true, false, cond, List, [], ◌∷◌, ◌++◌, length, refl, ap, ◌∙◌, append_assoc, arith, None, Some}
+use Rattle.std.specs.Prelude.{nat_lt, slice_index, map, ◌↔◌}
+use Rattle.std.proofs.lemmas.Bool.{ltb-true, ltb-false}
+use Rattle.rbg_game.specs.Games.{Game}
+use Rattle.rbg_game.specs.Sound.{IsSoundGame}
+use Rattle.rbg_game.specs.Positions.{IsPositionOf}
+use Rattle.rbg_game.specs.declared.roles.Player.{Player}
+use Rattle.rbg_game.specs.declared.roles.Player.TheVariants.{First, Second}
+use Rattle.rbg_game.specs.declared.roles.Role.{Role}
+use Rattle.rbg_game.specs.declared.roles.Role.TheVariants as role
+use Rattle.rbg_game.specs.declared.position.Position.{Position}
+use Rattle.position_pack.specs.Fields.{role_code}
+use Rattle.position_pack.proofs.ShapeLemmas.{fits, small_shape}
+use Rattle.position_pack.proofs.PartLemmas.{length-spelled, last_bytes}
+use Rattle.position_pack.proofs.ValueBytes.{spelled, spelled-cons}
+use Rattle.legal_moves.specs.Moves.{IsAhead, score}
+use Rattle.legal_moves.specs.Sources.{IsAt, role_by, role_in, value_in, leader, leader_in}
+
+-- a role comes back from its byte
+role_back : (r : Role) → role_by (role_code r) ≡ r
+role_back role.Keeper = refl
+role_back (role.Player First) = refl
+role_back (role.Player Second) = refl
+
+-- a value comes back from its three bytes
+value_back : (v : ℕ) → v ≤ 1000000 → v / 65536 % 256 * 65536 + v / 256 % 256 * 256 + v % 256 ≡ v
+value_back v small = omega (arith, small)
+
+-- an index into what is behind a part
+behind : (a b : List ℕ) (n i : ℕ) → length a ≡ n → slice_index (a ++ b) (n + i) ≡ slice_index b i
+behind [] b n i e = ap (slice_index b) (omega (arith, e))
+behind (x ∷ a) b n i e =
+    let next : n + i ≡ suc (length a + i) = omega (arith, e) in
+    ap (slice_index (x ∷ (a ++ b))) next ∙ behind a b (length a) i refl
+
+-- the first two values
+first_value : (v : ℕ) (vs rest : List ℕ) → v ≤ 1000000 → value_in (spelled (v ∷ vs) ++ rest) 0 ≡ v
+first_value v vs rest small = ap (λ bs. value_in (bs ++ rest) 0) (spelled-cons v vs) ∙ value_back v small
+
+second_value : (u v : ℕ) (vs rest : List ℕ) → v ≤ 1000000 → value_in (spelled (u ∷ v ∷ vs) ++ rest) 3 ≡ v
+second_value u v vs rest small =
+    ap (λ bs. value_in (bs ++ rest) 3) (spelled-cons u (v ∷ vs)) ∙ first_value v vs rest small
+
+value_behind : (a b : List ℕ) (n i : ℕ) → length a ≡ n → value_in (a ++ b) (n + i) ≡ value_in b i
+value_behind a b n i e =
+    let one : slice_index (a ++ b) (n + i + 1) ≡ slice_index b (i + 1) = ap (slice_index (a ++ b)) (let h : n + i + 1 ≡ n + (i + 1) = omega arith in h) ∙ behind a b n (i + 1) e in
+    let two : slice_index (a ++ b) (n + i + 2) ≡ slice_index b (i + 2) = ap (slice_index (a ++ b)) (let h : n + i + 2 ≡ n + (i + 2) = omega arith in h) ∙ behind a b n (i + 2) e in
+    omega (arith, one, two, behind a b n i e)
+
+-- the leader by two scores
+leads_first : (a b : ℕ) → (leader a b ≡ Some First) ↔ (b < a)
+leads_first a b = go (nat_lt b a) refl (nat_lt a b) refl
+  where
+    go : (s : Bool) → nat_lt b a ≡ s → (t : Bool) → nat_lt a b ≡ t → (cond s (Some First) (cond t (Some Second) None) ≡ Some First) ↔ (b < a)
+    go true e t f = (λ h. ltb-true b a e, λ h. refl)
+    go false e true f = (λ h. absurd (cc), λ h. absurd (omega (arith, h, ltb-false b a e)))
+    go false e false f = (λ h. absurd (cc), λ h. absurd (omega (arith, h, ltb-false b a e)))
+
+leads_second : (a b : ℕ) → (leader a b ≡ Some Second) ↔ (a < b)
+leads_second a b = go (nat_lt b a) refl (nat_lt a b) refl
+  where
+    go : (s : Bool) → nat_lt b a ≡ s → (t : Bool) → nat_lt a b ≡ t → (cond s (Some First) (cond t (Some Second) None) ≡ Some Second) ↔ (a < b)
+    go true e t f = (λ h. absurd (cc), λ h. absurd (omega (arith, h, ltb-true b a e)))
+    go false e true f = (λ h. ltb-true a b f, λ h. refl)
+    go false e false f = (λ h. absurd (cc), λ h. absurd (omega (arith, h, ltb-false a b f)))
+
+low_value : (game : Game) → IsSoundGame game → (at : Position) → IsPositionOf game at → (v : ℕ) → v < length at.state.values.items → slice_index at.state.values.items v ≤ 1000000
+low_value game sound at is v inside =
+    let fit = fits game at is in
+    let within : v < length (map (λ b. b.bound) game.variables) = omega (arith, inside, fit.values_fit) in
+    omega (arith, fit.values_are v inside, (small_shape game sound).low_bounds v within)
+
+first_of_values : (vs rest : List ℕ) → 0 < length vs → slice_index vs 0 ≤ 1000000 → value_in (spelled vs ++ rest) 0 ≡ slice_index vs 0
+first_of_values [] rest some small = absurd (omega (arith, some))
+first_of_values (v ∷ vs) rest some small = first_value v vs rest small
+
+second_of_values : (vs rest : List ℕ) → 2 ≤ length vs → slice_index vs 1 ≤ 1000000 → value_in (spelled vs ++ rest) 3 ≡ slice_index vs 1
+second_of_values [] rest some small = absurd (omega (arith, some))
+second_of_values (u ∷ []) rest some small = absurd (omega (arith, some))
+second_of_values (u ∷ v ∷ vs) rest some small = second_value u v vs rest small
+
+leads : (a b : ℕ) (at : Position) (w : Player) → a ≡ score First at.state → b ≡ score Second at.state → (leader a b ≡ Some w) ↔ IsAhead w at
+leads a b at First e f = let h = leads_first a b in (λ l. omega (arith, h.0 l, e, f), λ l. h.1 (omega (arith, l, e, f)))
+leads a b at Second e f = let h = leads_second a b in (λ l. omega (arith, h.0 l, e, f), λ l. h.1 (omega (arith, l, e, f)))
+
+module _ (game : Game) (sound : IsSoundGame game) (x : List ℕ) (at : Position) (here : IsAt game x at) where
+  whole : x ≡ at.state.pieces.items ++ (spelled at.state.values.items ++ last_bytes at)
+  whole = here.bytes_are ∙ append_assoc at.state.pieces.items (spelled at.state.values.items) (last_bytes at)
+
+  pub role_is : role_in game x ≡ at.state.mover
+  role_is =
+      let a = at.state.pieces.items in
+      let b = spelled at.state.values.items in
+      let many : length b ≡ 3 * length game.variables = length-spelled at.state.values.items ∙ ap (λ n. 3 * n) here.position_is.state_is.values_fit in
+      let place : length game.vertices + 3 * length game.variables + 1 ≡ length game.vertices + (3 * length game.variables + 1) = omega arith in
+      let byte : slice_index x (length game.vertices + 3 * length game.variables + 1) ≡ role_code at.state.mover =
+      ap (slice_index x) place ∙ ap (λ bs. slice_index bs (length game.vertices + (3 * length game.variables + 1))) whole
+      ∙ behind a (b ++ last_bytes at) (length game.vertices) (3 * length game.variables + 1) here.position_is.state_is.pieces_fit
+      ∙ behind b (last_bytes at) (3 * length game.variables) 1 many in
+      ap role_by byte ∙ role_back at.state.mover
+
+  value_is : (i : ℕ) → value_in x (length game.vertices + i) ≡ value_in (spelled at.state.values.items ++ last_bytes at) i
+  value_is i =
+      ap (λ bs. value_in bs (length game.vertices + i)) whole
+      ∙ value_behind at.state.pieces.items (spelled at.state.values.items ++ last_bytes at) (length game.vertices) i here.position_is.state_is.pieces_fit
+
+  low : (v : ℕ) → v < length at.state.values.items → slice_index at.state.values.items v ≤ 1000000
+  low v inside = low_value game sound at here.position_is v inside
+
+  two : 2 ≤ length at.state.values.items
+  two = omega (arith, here.position_is.state_is.values_fit, sound.has_players)
+
+  first_is : value_in x (length game.vertices) ≡ score First at.state
+  first_is =
+      ap (value_in x) (let h : length game.vertices ≡ length game.vertices + 0 = omega arith in h)
+      ∙ value_is 0 ∙ first_of_values at.state.values.items (last_bytes at) (omega (arith, two)) (low 0 (omega (arith, two)))
+
+  second_is : value_in x (length game.vertices + 3) ≡ score Second at.state
+  second_is = value_is 3 ∙ second_of_values at.state.values.items (last_bytes at) two (low 1 (omega (arith, two)))
+
+  pub leader_is : (w : Player) → (leader_in game x ≡ Some w) ↔ IsAhead w at
+  leader_is w = leads (value_in x (length game.vertices)) (value_in x (length game.vertices + 3)) at w first_is second_is

@@ -1,0 +1,51 @@
+-- The positions and the moves of a game, by their bytes.
+use Rattle.std.specs.Prelude.{◌≡◌, ℕ, zero, suc, ◌+◌, ◌*◌, nat_lt, List, length, Option, None, Some, slice_index, if◌then◌else◌}
+use Rattle.rbg_game.specs.Games.{Game}
+use Rattle.rbg_game.specs.Positions.{IsPositionOf}
+use Rattle.rbg_game.specs.declared.roles.Player.{Player}
+use Rattle.rbg_game.specs.declared.roles.Player.TheVariants.{First, Second}
+use Rattle.rbg_game.specs.declared.roles.Role.{Role}
+use Rattle.rbg_game.specs.declared.roles.Role.TheVariants as role
+use Rattle.rbg_game.specs.declared.position.Position.{Position}
+use Rattle.position_pack.specs.Bytes.{bytes_of}
+use Rattle.legal_moves.specs.Moves.{IsSuccessor}
+use Rattle.legal_moves.specs.Searches.{IsWide}
+
+-- the bytes are those of a position of the game
+pub record IsAt (game : Game) (x : List ℕ) (at : Position) : Type 0 where
+  pub position_is : IsPositionOf game at
+  pub bytes_are : x ≡ bytes_of at
+
+abbrev pub IsPositionBytes : Game → List ℕ → Type 0
+IsPositionBytes game x = (at : Position) × IsAt game x at
+
+-- a move leads from the position of the first bytes to that of the others
+abbrev pub IsMoveBetween : Game → List ℕ → List ℕ → Type 0
+IsMoveBetween game x y = (at next : Position) × IsAt game x at × IsAt game y next × IsSuccessor game at next
+
+-- the search for the moves of the position reaches too many
+abbrev pub IsWideAt : Game → List ℕ → Type 0
+IsWideAt game x = (at : Position) × IsAt game x at × IsWide game at
+
+-- the role of a byte
+abbrev pub role_by : ℕ → Role
+role_by zero = role.Keeper
+role_by (suc zero) = role.Player First
+role_by (suc (suc zero)) = role.Player Second
+role_by (suc (suc (suc n))) = role.Keeper
+
+-- the byte of the role is after the pieces, the values and the vertex
+abbrev pub role_in : Game → List ℕ → Role
+role_in game x = role_by (slice_index x (length game.vertices + 3 * length game.variables + 1))
+
+-- the number in three bytes, the highest first
+abbrev pub value_in : List ℕ → ℕ → ℕ
+value_in x i = slice_index x i * 65536 + slice_index x (i + 1) * 256 + slice_index x (i + 2)
+
+-- who has more
+abbrev pub leader : ℕ → ℕ → Option Player
+leader first second = if nat_lt second first then Some First else if nat_lt first second then Some Second else None
+
+-- the scores are behind the pieces
+abbrev pub leader_in : Game → List ℕ → Option Player
+leader_in game x = leader (value_in x (length game.vertices)) (value_in x (length game.vertices + 3))

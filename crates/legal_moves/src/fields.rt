@@ -1,0 +1,47 @@
+//! What the bytes of a position say without unpacking it.
+ghost use Rattle.std.specs.Prelude.{◌≡◌, ◌≤◌, slice_index};
+ghost use Rattle.legal_moves.specs.Sources.{leader, role_by, value_in};
+
+use rbg_game::roles::{Player, Role};
+
+/// The byte at the index, 0 past the end.
+pub fn byte_at(bytes: &[u8], index: usize) -> u8
+    ensures { result ≡ slice_index bytes.now index }
+{
+    bytes.get(index).copied().unwrap_or(0)
+}
+
+/// The number in three bytes, the highest first.
+pub fn value_at(bytes: &[u8], index: usize) -> u32
+    requires { index ≤ 1000 }
+    ensures { result ≡ value_in bytes.now index }
+{
+    let high = u32::from(byte_at(bytes, index));
+    let middle = u32::from(byte_at(bytes, index + 1));
+    let low = u32::from(byte_at(bytes, index + 2));
+    high * 65_536 + middle * 256 + low
+}
+
+/// The role with this byte.
+pub fn role_with(byte: u8) -> Role
+    ensures { result ≡ role_by byte }
+{
+    match byte {
+        1 => Role::Player(Player::First),
+        2 => Role::Player(Player::Second),
+        _ => Role::Keeper,
+    }
+}
+
+/// The player who has more.
+pub fn leader_of(first: u32, second: u32) -> Option<Player>
+    ensures { result ≡ leader first second }
+{
+    if second < first {
+        Some(Player::First)
+    } else if first < second {
+        Some(Player::Second)
+    } else {
+        None
+    }
+}
