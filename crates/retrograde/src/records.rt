@@ -1,4 +1,7 @@
 //! What a table keeps of each position.
+ghost use Rattle.std.specs.Prelude.{◌≡◌};
+ghost use Rattle.retrograde.specs.Stored.{is_expanded, is_processed};
+
 use rbg_game::roles::Player;
 
 /// How far a position has come.
@@ -8,6 +11,28 @@ pub enum State {
     Expanded,
     Settled,
     Processed,
+}
+
+impl State {
+    /// The position is expanded.
+    pub fn is_expanded(self) -> bool
+        ensures { result ≡ is_expanded self }
+    {
+        match self {
+            State::Known => false,
+            State::Expanded | State::Settled | State::Processed => true,
+        }
+    }
+
+    /// The position is processed.
+    pub fn is_processed(self) -> bool
+        ensures { result ≡ is_processed self }
+    {
+        match self {
+            State::Processed => true,
+            State::Known | State::Expanded | State::Settled => false,
+        }
+    }
 }
 
 /// What a table keeps of a position. Who wins it, once that is settled, and in how many moves; how many
