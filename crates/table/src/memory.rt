@@ -1,12 +1,10 @@
 //! A table in memory.
 ghost use Rattle.std.specs.Prelude.{◌≡◌, ◌↔◌, ◌+◌, ◌-◌, ◌^◌, ◌<◌, ◌≤◌, ℕ, true, if◌then◌else◌, IfOk, IfSome, IfNone, length, count_by};
 ghost use Rattle.std.specs.BTreeSet.{contains};
-ghost use Rattle.retrograde.specs.Stored.{loaded};
 ghost use Rattle.retrograde.specs.Changes.{fresh_record};
 ghost use Rattle.retrograde.specs.Edges.{IsAfter};
-ghost use Rattle.table.specs.Memory.{edge_cmp, bytes_of_each};
-ghost use Rattle.retrograde.specs.Stored.{is_expanded, is_processed};
-ghost use Rattle.table.specs.Memory.{AreNumbered, ComeFromBelow};
+ghost use Rattle.retrograde.specs.Stored.{is_expanded, is_processed, loaded};
+ghost use Rattle.table.specs.Memory.{AreNumbered, ComeFromBelow, bytes_of_each, edge_cmp};
 
 use crate::fault::TableFault;
 use crate::table::Table;
@@ -56,7 +54,7 @@ fn fresh() -> Record
     }
 }
 
-/// The number that every later number is not below: the one given, or the one after it.
+/// The least number after the one given, if one was; none where no `u32` is after it.
 fn first_after(after: Option<u32>) -> Option<u32>
     ensures some { IfSome result (λ first. (q : ℕ) → IsAfter after q ↔ (first ≤ q)) }
     ensures none { IfNone result ((q : ℕ) → IsAfter after q → 2 ^ 32 ≤ q) }
