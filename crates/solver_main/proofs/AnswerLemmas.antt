@@ -17,13 +17,13 @@ use Rattle.solver_main.specs.declared.moves.Stop.{Stop}
 use Rattle.solver_main.specs.declared.moves.Stop.TheVariants as stop
 use Rattle.solver_main.specs.declared.refused.Refused.{Refused}
 use Rattle.solver_main.specs.declared.refused.Refused.TheVariants.{OutOfMemory}
-use Rattle.solver_main.proofs.StayLemmas.{stays}
+use Rattle.legal_moves.proofs.ReachLemmas.{position_of}
 
 -- each successor that is listed is a position of the game
 pub positions_of : (game : Game) (at : Position) (moves : List ShownMove) → IsSoundGame game → IsPositionOf game at → All (IsShownMove game at) moves → All (HasPosition game) moves
 positions_of game at moves sound is words k d lt =
     let shown = words k d lt in
-    (shown.0, stays game at shown.0 shown.1 sound is shown.2.leads, shown.2.bytes_are)
+    (shown.0, position_of game at shown.0 sound is (shown.1, shown.2.leads), shown.2.bytes_are)
 
 no_moves : (game : Game) (at : Position) (moves : List ShownMove) → AreMoves game at moves → moves ≡ [] → IsEnded game at
 no_moves game at moves are none next successor =

@@ -1,0 +1,15 @@
+pub mod Graph
+pub mod Values
+pub mod View
+pub mod Right
+pub mod Local
+pub mod Stored
+pub mod Sound
+pub mod Successors
+pub mod Edges
+pub mod Changes
+pub mod Steps
+pub mod Expansion
+pub mod Processing
+pub mod Units
+pub mod Play

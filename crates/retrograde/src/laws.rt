@@ -1,0 +1,151 @@
+//! What holds of every game and every table: each is a law, which proofs cite by a call.
+ghost use Rattle.std.specs.Prelude.{◌≡◌, ◌↔◌, ◌+◌, ◌≤◌, ℕ, suc, List, length, None};
+ghost use Rattle.retrograde.specs.Graph.{Graph, IsReachable};
+ghost use Rattle.rbg_game.specs.declared.roles.Player.{Player};
+ghost use Rattle.rbg_game.specs.declared.roles.Role.{Role};
+ghost use Rattle.retrograde.specs.declared.records.Record.{Record};
+ghost use Rattle.retrograde.specs.Processing.{with_processed, IsNextSettled};
+ghost use Rattle.retrograde.specs.Expansion.{AreNoted, with_expanded};
+ghost use Rattle.retrograde.specs.Values.{WinsWithin, Drawn, WonIn};
+ghost use Rattle.retrograde.specs.View.{View, IsKnown, HasNumber, IsFinished, HasValue};
+ghost use Rattle.retrograde.specs.Right.{IsRight, IsCoherent, KnowsMoves, KeeperIsForced, ProcessesInOrder};
+ghost use Rattle.retrograde.specs.Local.{HasLocalValues};
+ghost use Rattle.retrograde.specs.Stored.{Stored, view_of, loaded, expanded_count};
+ghost use Rattle.retrograde.specs.Sound.{IsLocallySound};
+ghost use Rattle.retrograde.specs.Play.{IsPlay};
+ghost use Rattle.retrograde.specs.Units.{UnitsOfWork};
+ghost use Rattle.retrograde.specs.Successors.{packed_cmp, IsSuccessorList};
+ghost use Rattle.retrograde.specs.Steps.{IsLocallyRight, ExpandsNext, ProcessesNext};
+
+use crate::graph::GameGraph;
+
+/// No position is won by both players.
+pub fn one_winner<M: GameGraph>()
+    ensures { (game : M) (v w : Player) (m n : ℕ) (x : List ℕ)
+        → WinsWithin (M.graph game) v m x → WinsWithin (M.graph game) w n x → v ≡ w }
+{}
+
+/// A finished table knows exactly the positions that play can come to.
+pub fn finished_knows_reach<M: GameGraph>()
+    ensures { (game : M) (view : View (List ℕ)) (x : List ℕ)
+        → IsRight (M.graph game) view → IsFinished view
+        → IsKnown view x ↔ IsReachable (M.graph game) x }
+{}
+
+/// In a finished table exactly the drawn positions are unsettled.
+pub fn finished_leaves_draws<M: GameGraph>()
+    ensures { (game : M) (view : View (List ℕ)) (i : ℕ) (x : List ℕ)
+        → IsRight (M.graph game) view → IsFinished view → HasNumber view i x
+        → (view.value i ≡ None) ↔ Drawn (M.graph game) x }
+{}
+
+/// What a right table says of a position is so.
+pub fn values_are_won<M: GameGraph>()
+    ensures { (game : M) (view : View (List ℕ)) (x : List ℕ) (w : Player) (n : ℕ)
+        → IsRight (M.graph game) view → HasValue view x w n → WonIn (M.graph game) w n x }
+{}
+
+/// What is expanded and processed decides every value.
+pub fn values_are_decided<M: GameGraph>()
+    ensures { (game : M) (a b : View (List ℕ)) (i : ℕ)
+        → IsRight (M.graph game) a → IsRight (M.graph game) b
+        → a.known ≡ b.known → a.expanded ≡ b.expanded → ((j : ℕ) → a.processed j ≡ b.processed j)
+        → a.value i ≡ b.value i }
+{}
+
+/// Where each value follows from the processed positions that the moves lead to, and positions are processed by rising
+/// distance, the table is right.
+pub fn local_values_are_right<M: GameGraph>()
+    ensures { (game : M) (view : View (List ℕ))
+        → IsLocallyRight (M.graph game) view → IsRight (M.graph game) view }
+{}
+
+/// A table that agrees with itself at each number is right.
+pub fn sound_is_right<M: GameGraph>()
+    ensures { (game : M) (stored : Stored (List ℕ)) → IsLocallySound (M.graph game) (M.is_wide game) stored → IsRight (M.graph game) (view_of stored) }
+{}
+
+/// To expand the next position keeps a table locally right.
+pub fn expanding_keeps<M: GameGraph>()
+    ensures { (game : M) (old new : View (List ℕ)) (x : List ℕ)
+        → IsLocallyRight (M.graph game) old → ExpandsNext (M.graph game) old x new → IsLocallyRight (M.graph game) new }
+{}
+
+/// To process a nearest settled position keeps a table locally right.
+pub fn processing_keeps<M: GameGraph>()
+    ensures { (game : M) (old new : View (List ℕ)) (s : ℕ) (w : Player) (d : ℕ)
+        → IsLocallyRight (M.graph game) old → ProcessesNext (M.graph game) old s w d new → IsLocallyRight (M.graph game) new }
+{}
+
+/// Units of work add up.
+pub fn units_add_up<M: GameGraph>()
+    ensures none { (game : M) (a : View (List ℕ)) (limit : ℕ)
+        → IsRight (M.graph game) a → length a.known ≤ limit
+        → UnitsOfWork packed_cmp (M.graph game) (M.is_wide game) limit a 0 a }
+    ensures more { (game : M) (a b c : View (List ℕ)) (limit m n : ℕ)
+        → UnitsOfWork packed_cmp (M.graph game) (M.is_wide game) limit a m b
+        → UnitsOfWork packed_cmp (M.graph game) (M.is_wide game) limit b n c
+        → UnitsOfWork packed_cmp (M.graph game) (M.is_wide game) limit a (m + n) c }
+{}
+
+/// What is settled stays settled so, whatever work comes after.
+pub fn settled_stays<M: GameGraph>()
+    ensures { (game : M) (a b : View (List ℕ)) (limit u : ℕ) (x : List ℕ) (w : Player) (n : ℕ)
+        → UnitsOfWork packed_cmp (M.graph game) (M.is_wide game) limit a u b
+        → HasValue a x w n → HasValue b x w n }
+{}
+
+/// In a right table a win in more than none has a move to a win in one fewer.
+pub fn play_goes_on<M: GameGraph>()
+    ensures { (game : M) (view : View (List ℕ)) (x : List ℕ) (w : Player) (n : ℕ)
+        → IsRight (M.graph game) view → HasValue view x w (suc n)
+        → ((y : List ℕ) → (M.graph game).Successor x y → HasValue view y w n → ⊥) → ⊥ }
+{}
+
+/// A play has one more position than moves.
+pub fn play_has_its_length<M: GameGraph>()
+    ensures { (game : M) (w : Player) (n : ℕ) (xs : List (List ℕ)) → IsPlay (M.graph game) w n xs → length xs ≡ n + 1 }
+{}
+
+/// The table of a game that was just loaded agrees with itself.
+pub fn loaded_is_sound<M: GameGraph>()
+    ensures { (game : M) → IsLocallySound (M.graph game) (M.is_wide game) (loaded (M.graph game).start) }
+{}
+
+/// To expand the next position keeps what is stored so: x, which has these successors, no more than one where the keeper
+/// has the turn.
+pub fn expanding_keeps_sound<M: GameGraph>()
+    ensures { (game : M) (stored next : Stored (List ℕ)) (x : List ℕ) (ys : List (List ℕ))
+        → IsLocallySound (M.graph game) (M.is_wide game) stored → HasNumber (view_of stored) (expanded_count stored) x
+        → IsSuccessorList packed_cmp (M.graph game) x ys
+        → ((M.graph game).mover x ≡ Role.Keeper → length ys ≤ 1)
+        → AreNoted (expanded_count stored) ys stored next → (M.is_wide game x → ⊥)
+        → IsLocallySound (M.graph game) (M.is_wide game) (with_expanded (expanded_count stored) (length ys) ((M.graph game).ahead x) next) }
+{}
+
+/// To process the next settled number of what is all expanded keeps what is stored so.
+pub fn processing_keeps_sound<M: GameGraph>()
+    ensures { (game : M) (stored : Stored (List ℕ)) (s : ℕ) (r : Record) (w : Player)
+        → IsLocallySound (M.graph game) (M.is_wide game) stored → expanded_count stored ≡ length stored.positions
+        → IsNextSettled stored s r w → IsLocallySound (M.graph game) (M.is_wide game) (with_processed (M.graph game) s r w stored) }
+{}
+
+/// To expand the next position is one unit of work, where the limit of positions is kept.
+pub fn expanding_is_one_unit<M: GameGraph>()
+    ensures { (game : M) (limit : ℕ) (stored next : Stored (List ℕ)) (x : List ℕ) (ys : List (List ℕ))
+        → IsLocallySound (M.graph game) (M.is_wide game) stored → HasNumber (view_of stored) (expanded_count stored) x
+        → IsSuccessorList packed_cmp (M.graph game) x ys
+        → ((M.graph game).mover x ≡ Role.Keeper → length ys ≤ 1)
+        → AreNoted (expanded_count stored) ys stored next → (M.is_wide game x → ⊥) → length next.positions ≤ limit
+        → UnitsOfWork packed_cmp (M.graph game) (M.is_wide game) limit (view_of stored) 1
+        (view_of (with_expanded (expanded_count stored) (length ys) ((M.graph game).ahead x) next)) }
+{}
+
+/// To process the next settled number is one unit of work.
+pub fn processing_is_one_unit<M: GameGraph>()
+    ensures { (game : M) (limit : ℕ) (stored : Stored (List ℕ)) (s : ℕ) (r : Record) (w : Player)
+        → IsLocallySound (M.graph game) (M.is_wide game) stored → expanded_count stored ≡ length stored.positions
+        → length stored.positions ≤ limit → IsNextSettled stored s r w
+        → UnitsOfWork packed_cmp (M.graph game) (M.is_wide game) limit (view_of stored) 1
+        (view_of (with_processed (M.graph game) s r w stored)) }
+{}

@@ -1,0 +1,82 @@
+-- The map from positions to their numbers.
+use Rattle.std.proofs.Common.{◌≡◌, ◌∙◌, sym, ap, subst, ℕ, ◌⊎◌, inl, inr, Bool, true, false, cond, refl, List, [], ◌∷◌, ◌++◌, length, Option, Some, None, IfSome, IfNone, slice_get}
+use Rattle.std.specs.Option.{option_map}
+use Rattle.std.specs.BTreeMap.{BTreeMap, get, is_at, Updates}
+use Rattle.std.specs.Ordering.{is_eq, nat_cmp}
+use Rattle.std.specs.Cmp.Lexicographic.{slice_cmp}
+use Rattle.std.specs.declared.cmp.Ordering.{Ordering}
+use Rattle.std.specs.declared.cmp.Ordering.TheVariants.{Less, Equal, Greater}
+use Rattle.std.proofs.lemmas.Map.Lookups.{exact_bytes}
+use Rattle.std.proofs.lemmas.Option.{slice_get-map, same_Some}
+use Rattle.arrayvec.specs.ArrayVec.{ArrayVec}
+use Rattle.retrograde.proofs.Adding.{push_before, push_at, push_cases}
+use Rattle.table.specs.Memory.{bytes_of_each, position_cmp, AreNumbered}
+
+-- positions with the same bytes are the same
+same_position : (x y : ArrayVec ℕ) → x.items ≡ y.items → x ≡ y
+same_position x y e = λ i. record { items = e i }
+
+tied : (x y : ArrayVec ℕ) → is_at (position_cmp x) y ≡ true → x ≡ y
+tied x y h = same_position x y (exact_bytes x.items y.items (go (slice_cmp nat_cmp x.items y.items) h))
+  where
+    go : (o : Ordering) → is_eq o ≡ true → o ≡ Equal
+    go Less h = absurd (cc)
+    go Equal h = refl
+    go Greater h = absurd (cc)
+
+-- the position with a number, by its bytes
+at_bytes : (xs : List (ArrayVec ℕ)) (i : ℕ) (x : ArrayVec ℕ) → slice_get (bytes_of_each xs) i ≡ Some x.items → slice_get xs i ≡ Some x
+at_bytes xs i x at = go (slice_get xs i) (sym (slice_get-map (λ (p : ArrayVec ℕ). p.items) xs i) ∙ at)
+  where
+    go : (o : Option (ArrayVec ℕ)) → option_map (λ (p : ArrayVec ℕ). p.items) o ≡ Some x.items → o ≡ Some x
+    go None e = absurd (cc)
+    go (Some y) e = ap (λ z. Some z) (same_position y x (same_Some y.items x.items e))
+
+bytes_at : (xs : List (ArrayVec ℕ)) (i : ℕ) (x : ArrayVec ℕ) → slice_get xs i ≡ Some x → slice_get (bytes_of_each xs) i ≡ Some x.items
+bytes_at xs i x at = slice_get-map (λ (p : ArrayVec ℕ). p.items) xs i ∙ ap (λ o. option_map (λ (p : ArrayVec ℕ). p.items) o) at
+
+module _ (xs : List (ArrayVec ℕ)) (numbers : BTreeMap (ArrayVec ℕ) ℕ) (are : AreNumbered xs numbers) where
+  pub number_found : (x : ArrayVec ℕ) (o : Option ℕ) → o ≡ get position_cmp numbers x → IfSome o (λ i. slice_get (bytes_of_each xs) i ≡ Some x.items)
+  number_found x None is = tt
+  number_found x (Some i) is = bytes_at xs i x (are.only x i (sym is))
+
+  pub number_missing : (x : ArrayVec ℕ) (o : Option ℕ) → o ≡ get position_cmp numbers x → IfNone o ((i : ℕ) → slice_get (bytes_of_each xs) i ≡ Some x.items → ⊥)
+  number_missing x None is = λ i at. let here : get position_cmp numbers x ≡ Some i = are.all i x (at_bytes xs i x at) in absurd (cc)
+  number_missing x (Some i) is = tt
+
+  -- one more position has the next number
+  module _ (numbers' : BTreeMap (ArrayVec ℕ) ℕ) (x key : ArrayVec ℕ) (bytes : List ℕ) (x_is : x.items ≡ bytes) (key_is : key.items ≡ bytes)
+      (new : (i : ℕ) → slice_get (bytes_of_each xs) i ≡ Some bytes → ⊥) (n : ℕ) (n_is : n ≡ length xs)
+      (updates : Updates position_cmp numbers numbers' key (Some n)) where
+    key_x : key ≡ x
+    key_x = same_position key x (key_is ∙ sym x_is)
+
+    at_key : get position_cmp numbers' key ≡ Some n
+    at_key = updates.1
+
+    at_other : (y : ArrayVec ℕ) (t : Bool) → is_at (position_cmp key) y ≡ t → get position_cmp numbers' y ≡ cond t (Some n) (get position_cmp numbers y)
+    at_other y t is = updates.0 y ∙ ap (λ b. cond b (Some n) (get position_cmp numbers y)) is
+
+    pub numbered_more : AreNumbered (xs ++ x ∷ []) numbers'
+    numbered_more = record {
+      all = λ i y at. every i y (push_cases xs x i y at);
+      only = λ y i at. known y i at (is_at (position_cmp key) y) refl;
+    }
+      where
+        old : (i : ℕ) (y : ArrayVec ℕ) → slice_get xs i ≡ Some y → (t : Bool) → is_at (position_cmp key) y ≡ t → get position_cmp numbers' y ≡ Some i
+        old i y at true is =
+            let same : y.items ≡ bytes = ap (λ z. z.items) (sym (tied key y is)) ∙ key_is in
+            absurd (new i (bytes_at xs i y at ∙ ap (λ b. Some b) same))
+        old i y at false is = at_other y false is ∙ are.all i y at
+
+        every : (i : ℕ) (y : ArrayVec ℕ) → (slice_get xs i ≡ Some y) ⊎ ((i ≡ length xs) × (x ≡ y)) → get position_cmp numbers' y ≡ Some i
+        every i y (inl at) = old i y at (is_at (position_cmp key) y) refl
+        every i y (inr (index, same)) =
+            subst (λ z. get position_cmp numbers' z ≡ Some i) (key_x ∙ same) (at_key ∙ ap (λ k. Some k) (n_is ∙ sym index))
+
+        known : (y : ArrayVec ℕ) (i : ℕ) → get position_cmp numbers' y ≡ Some i → (t : Bool) → is_at (position_cmp key) y ≡ t → slice_get (xs ++ x ∷ []) i ≡ Some y
+        known y i at true is =
+            let index : n ≡ i = same_Some n i (sym (at_other y true is) ∙ at) in
+            subst (λ k. slice_get (xs ++ x ∷ []) k ≡ Some y) (sym n_is ∙ index)
+            (subst (λ z. slice_get (xs ++ x ∷ []) (length xs) ≡ Some z) (sym key_x ∙ tied key y is) (push_at xs x))
+        known y i at false is = push_before xs x i y (are.only y i (sym (at_other y false is) ∙ at))

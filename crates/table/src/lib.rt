@@ -1,0 +1,12 @@
+//! The table of one game: what is stored of it, and a table in memory.
+#![tactic(auto)]
+
+mod fault;
+mod memory;
+mod table;
+#[cfg(test)]
+mod tests;
+
+pub use fault::TableFault;
+pub use memory::MemTable;
+pub use table::Table;

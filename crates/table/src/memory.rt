@@ -1,0 +1,183 @@
+//! A table in memory.
+ghost use Rattle.std.specs.Prelude.{◌≡◌, ◌↔◌, ◌+◌, ◌-◌, ◌^◌, ◌<◌, ◌≤◌, ℕ, true, if◌then◌else◌, IfOk, IfSome, IfNone, length, count_by};
+ghost use Rattle.std.specs.BTreeSet.{contains};
+ghost use Rattle.retrograde.specs.Changes.{fresh_record};
+ghost use Rattle.retrograde.specs.Edges.{IsAfter};
+ghost use Rattle.retrograde.specs.Stored.{is_expanded, is_processed, loaded};
+ghost use Rattle.table.specs.Memory.{AreNumbered, ComeFromBelow, bytes_of_each, edge_cmp};
+
+use crate::fault::TableFault;
+use crate::table::Table;
+use position_pack::Packed;
+use retrograde::{Counts, Record, State};
+use std::alloc::{AllocError, Global};
+use std::collections::{BTreeMap, BTreeSet};
+
+/// A table in memory.
+#[derive(Drop)]
+pub struct MemTable {
+    positions: Vec<Packed>,
+    /// The number of each position.
+    numbers: BTreeMap<Packed, u32>,
+    records: Vec<Record>,
+    /// Each edge as the number that is led to and the number that leads there.
+    edges: BTreeSet<(u32, u32)>,
+    order: Vec<u32>,
+    expanded: u32,
+    processed: u32,
+    ghost numbered: { AreNumbered positions.items numbers },
+    ghost recorded: { length records.items ≡ length positions.items },
+    ghost few: { length positions.items ≤ 2 ^ 24 },
+    ghost known: { ComeFromBelow (length positions.items) edges },
+    ghost settled: { length order.items ≤ length positions.items },
+    ghost expanded_is: { expanded ≡ count_by (λ r. is_expanded r.state) records.items },
+    ghost processed_is: { processed ≡ count_by (λ r. is_processed r.state) records.items },
+}
+
+/// The same position.
+fn copied(packed: &Packed) -> Result<Packed, AllocError>
+    ensures { IfOk result (λ p. p.items ≡ packed.now.items) }
+{
+    packed.clone()
+}
+
+/// The record of a position that is known and no more.
+fn fresh() -> Record
+    ensures { result ≡ fresh_record }
+{
+    Record {
+        state: State::Known,
+        winner: None,
+        distance: 0,
+        left: 0,
+        successors: 0,
+    }
+}
+
+/// The least number after the one given, if one was; none where no `u32` is after it.
+fn first_after(after: Option<u32>) -> Option<u32>
+    ensures some { IfSome result (λ first. (q : ℕ) → IsAfter after q ↔ (first ≤ q)) }
+    ensures none { IfNone result ((q : ℕ) → IsAfter after q → 2 ^ 32 ≤ q) }
+{
+    match after {
+        None => Some(0),
+        Some(number) => number.checked_add(1),
+    }
+}
+
+/// How many there are, once one that was counted or not is counted or not.
+fn recounted(count: u32, was: bool, is: bool) -> u32
+    requires some { was ≡ true → 0 < count }
+    requires few { count < 2 ^ 32 - 1 }
+    ensures { result + (if was then 1 else 0) ≡ count + (if is then 1 else 0) }
+{
+    match (was, is) {
+        (true, false) => count - 1,
+        (false, true) => count + 1,
+        _ => count,
+    }
+}
+
+impl MemTable {
+    /// The table of a game that was just loaded: its start, and no more.
+    pub fn new(alloc: Global, start: &Packed) -> Result<MemTable, TableFault>
+        ensures { IfOk result (λ t. ⟦<MemTable as Table>⟧.stored t ≡ loaded start.now.items) }
+    {
+        let mut table = MemTable {
+            positions: Vec::new(alloc),
+            numbers: BTreeMap::new(alloc),
+            records: Vec::new(alloc),
+            edges: BTreeSet::new(alloc),
+            order: Vec::new(alloc),
+            expanded: 0,
+            processed: 0,
+        };
+        table.add(start)?;
+        Ok(table)
+    }
+
+    /// The least number, from the one given on, that leads to this one.
+    fn least_edge(&self, successor: u32, first: u32) -> Option<u32>
+        ensures some { IfSome result (λ p. (contains edge_cmp self.now.edges (successor, p) ≡ true) × (first ≤ p)
+            × ((q : ℕ) → contains edge_cmp self.now.edges (successor, q) ≡ true → first ≤ q → p ≤ q)) }
+        ensures none { IfNone result ((q : ℕ) → contains edge_cmp self.now.edges (successor, q) ≡ true → first ≤ q → ⊥) }
+    {
+        let edge = self.edges.range((successor, first)..).next()?;
+        if edge.0 != successor {
+            return None;
+        }
+        Some(edge.1)
+    }
+}
+
+impl Table for MemTable {
+    ghost stored = { λ t. record {
+      positions = bytes_of_each t.positions.items;
+      records = t.records.items;
+      has_edge = λ i p. contains edge_cmp t.edges (i, p);
+      order = t.order.items;
+    } };
+
+    fn counts(&self) -> Counts {
+        Counts {
+            known: self.positions.len() as u32,
+            expanded: self.expanded,
+            settled: self.order.len() as u32,
+            processed: self.processed,
+        }
+    }
+
+    fn number_of(&mut self, packed: &Packed) -> Result<Option<u32>, TableFault> {
+        Ok(self.numbers.get(packed).copied())
+    }
+
+    fn packed(&mut self, number: u32) -> Result<Packed, TableFault> {
+        Ok(copied(&self.positions[number as usize])?)
+    }
+
+    fn record(&mut self, number: u32) -> Result<Record, TableFault> {
+        Ok(self.records[number as usize])
+    }
+
+    fn add(&mut self, packed: &Packed) -> Result<u32, TableFault> {
+        let number = self.positions.len() as u32;
+        let position = copied(packed)?;
+        let key = copied(packed)?;
+        self.positions.reserve(1)?;
+        self.records.reserve(1)?;
+        self.numbers.insert(key, number)?;
+        self.positions.push(position)?;
+        self.records.push(fresh())?;
+        Ok(number)
+    }
+
+    fn set_record(&mut self, number: u32, kept: Record) -> Result<(), TableFault> {
+        let was = self.records[number as usize].state;
+        let state = kept.state;
+        self.records[number as usize] = kept;
+        self.expanded = recounted(self.expanded, was.is_expanded(), state.is_expanded());
+        self.processed = recounted(self.processed, was.is_processed(), state.is_processed());
+        Ok(())
+    }
+
+    fn add_edge(&mut self, successor: u32, predecessor: u32) -> Result<(), TableFault> {
+        self.edges.insert((successor, predecessor))?;
+        Ok(())
+    }
+
+    fn next_edge(&mut self, successor: u32, after: Option<u32>) -> Result<Option<u32>, TableFault> {
+        match first_after(after) {
+            None => Ok(None),
+            Some(first) => Ok(self.least_edge(successor, first)),
+        }
+    }
+
+    fn push_settled(&mut self, number: u32) -> Result<(), TableFault> {
+        self.order.push(number)?;
+        Ok(())
+    }
+
+    fn settled_at(&mut self, place: u32) -> Result<u32, TableFault> {
+        Ok(self.order[place as usize])
+    }
+}
