@@ -1,6 +1,10 @@
 //! Moves of starts that show one rule each.
 
 use crate::tests::{answer, on_board};
+use legal_moves::compiled::Compiled;
+use legal_moves::source::MoveSource;
+use rbg_game::roles::{Player, Role};
+use rbg_read::read::read_game;
 use std::test::Fail;
 
 const TWO: &str = "a[e]{right: b} b[e]{}";
@@ -121,5 +125,25 @@ fn the_keeper_may_have_one_outcome_by_two_ways(rt: HostRuntime) -> Result<(), Fa
         assert_eq!(rt; status, 0);
         assert_eq!(rt; written.as_str(), want, "at {rules}");
     }
+    Ok(())
+}
+
+#[test]
+fn a_position_may_be_its_own_successor(rt: HostRuntime) -> Result<(), Fail> {
+    let alloc = rt.alloc();
+    let text = on_board(alloc, TWO, "->white (->white)*")?;
+    let compiled = Compiled::new(alloc, read_game(alloc, text.as_bytes())?)?;
+    let start = MoveSource::start(&compiled);
+    let first = compiled.successors(alloc, &start)?;
+    assert_eq!(rt; first.len(), 1);
+    let second = compiled.successors(alloc, &first[0])?;
+    assert_eq!(rt; second.len(), 1);
+    // another place in the rules, and all else the same
+    assert!(rt; second[0] != first[0]);
+    let third = compiled.successors(alloc, &second[0])?;
+    assert_eq!(rt; third.len(), 1);
+    assert!(rt; third[0] == second[0]);
+    assert!(rt; compiled.mover(&second[0]) == Role::Player(Player::First));
+    assert!(rt; compiled.ahead(&second[0]).is_none());
     Ok(())
 }
