@@ -19,25 +19,25 @@ pub record AreAlike (x y : Regex) : Type 0 where
   pub last_is : (n : ℕ) → last_of x n ≡ last_of y n
   pub next_is : (n i j : ℕ) → IsNext x n i j ↔ IsNext y n i j
 
-pub IsAdded-along : (x y : Regex) (T0 T1 : List Table) (D0 D1 : Draft) (E : Ends) → AreAlike x y → IsAdded x T0 T1 D0 D1 E → IsAdded y T0 T1 D0 D1 E
-IsAdded-along x y T0 T1 D0 D1 E s h = record {
-  tables_are = λ es t. subst (λ zs. AreTables (es ++ zs) T1) s.inner_is (h.tables_are es t);
-  steps_are = λ es actions t k. subst (λ zs. AllZip (IsStep (es ++ zs)) D1.steps.items (actions ++ actions_of y)) s.inner_is (subst (λ zs. AllZip (IsStep (es ++ inner_of x)) D1.steps.items (actions ++ zs)) s.actions_are (h.steps_are es actions t k));
+pub IsAdded-along : (x y : Regex) (tables0 tables1 : List Table) (draft0 draft1 : Draft) (E : Ends) → AreAlike x y → IsAdded x tables0 tables1 draft0 draft1 E → IsAdded y tables0 tables1 draft0 draft1 E
+IsAdded-along x y tables0 tables1 draft0 draft1 E s h = record {
+  tables_are = λ es t. subst (λ zs. AreTables (es ++ zs) tables1) s.inner_is (h.tables_are es t);
+  steps_are = λ es actions t k. subst (λ zs. AllZip (IsStep (es ++ zs)) draft1.steps.items (actions ++ actions_of y)) s.inner_is (subst (λ zs. AllZip (IsStep (es ++ inner_of x)) draft1.steps.items (actions ++ zs)) s.actions_are (h.steps_are es actions t k));
   count_is = omega (arith, h.count_is, s.count_is);
   follows_is = λ i j. ((λ k. there i j ((h.follows_is i j).0 k)), (λ k. (h.follows_is i j).1 (back i j k)));
   ends_are = record {
-    first_is = h.ends_are.first_is ∙ s.first_is (suc (length D0.steps.items));
-    last_is = h.ends_are.last_is ∙ s.last_is (suc (length D0.steps.items));
+    first_is = h.ends_are.first_is ∙ s.first_is (suc (length draft0.steps.items));
+    last_is = h.ends_are.last_is ∙ s.last_is (suc (length draft0.steps.items));
   };
 }
   where
-    there : (i j : ℕ) → IsRelated D0.follows i j ⊎ IsNext x (suc (length D0.steps.items)) i j → IsRelated D0.follows i j ⊎ IsNext y (suc (length D0.steps.items)) i j
+    there : (i j : ℕ) → IsRelated draft0.follows i j ⊎ IsNext x (suc (length draft0.steps.items)) i j → IsRelated draft0.follows i j ⊎ IsNext y (suc (length draft0.steps.items)) i j
     there i j (inl k) = inl k
-    there i j (inr k) = inr ((s.next_is (suc (length D0.steps.items)) i j).0 k)
+    there i j (inr k) = inr ((s.next_is (suc (length draft0.steps.items)) i j).0 k)
 
-    back : (i j : ℕ) → IsRelated D0.follows i j ⊎ IsNext y (suc (length D0.steps.items)) i j → IsRelated D0.follows i j ⊎ IsNext x (suc (length D0.steps.items)) i j
+    back : (i j : ℕ) → IsRelated draft0.follows i j ⊎ IsNext y (suc (length draft0.steps.items)) i j → IsRelated draft0.follows i j ⊎ IsNext x (suc (length draft0.steps.items)) i j
     back i j (inl k) = inl k
-    back i j (inr k) = inr ((s.next_is (suc (length D0.steps.items)) i j).1 k)
+    back i j (inr k) = inr ((s.next_is (suc (length draft0.steps.items)) i j).1 k)
 
 AreAlike-itself : (x : Regex) → AreAlike x x
 AreAlike-itself x = record {

@@ -81,11 +81,11 @@ module _ (game : Game) (e : Regex) (place : ℕ) (S : SemiState) where
       }
 
   -- from a configuration on along a walk
-  go_on : (r u : List ℕ) (T0 : SemiState) (k0 k : ℕ) (T : SemiState) → Searched game e place S u T0 k0 → is_switch (action_at e 1 k0) ≡ false → IsWalk e (place_at place k0) (r ++ k ∷ []) → HasNoSwitch e r → Leads game e (r ++ k ∷ []) T0 T → Searched game e place S (u ++ (r ++ k ∷ [])) T k
-  go_on [] u T0 k0 k T h plain walk free leads =
-      subst (λ V. Searched game e place S (u ++ k ∷ []) V k) (sym leads.2) (gone u T0 k0 leads.0 k h plain walk.0 leads.1)
-  go_on (x ∷ r) u T0 k0 k T h plain walk free leads =
-      let first = gone u T0 k0 leads.0 x h plain walk.0 leads.1 in
+  go_on : (r u : List ℕ) (state0 : SemiState) (k0 k : ℕ) (T : SemiState) → Searched game e place S u state0 k0 → is_switch (action_at e 1 k0) ≡ false → IsWalk e (place_at place k0) (r ++ k ∷ []) → HasNoSwitch e r → Leads game e (r ++ k ∷ []) state0 T → Searched game e place S (u ++ (r ++ k ∷ [])) T k
+  go_on [] u state0 k0 k T h plain walk free leads =
+      subst (λ V. Searched game e place S (u ++ k ∷ []) V k) (sym leads.2) (gone u state0 k0 leads.0 k h plain walk.0 leads.1)
+  go_on (x ∷ r) u state0 k0 k T h plain walk free leads =
+      let first = gone u state0 k0 leads.0 x h plain walk.0 leads.1 in
       let onward : IsWalk e (place_at place x) (r ++ k ∷ []) = subst (λ p. IsWalk e p (r ++ k ∷ [])) (sym (place_at-next (place_at place k0) x walk.0)) walk.1 in
       subst (λ w. Searched game e place S w T k) (append_assoc u (x ∷ []) (r ++ k ∷ []))
       (go_on r (u ++ x ∷ []) leads.0 x k T first free.0 onward free.1 leads.2)

@@ -50,57 +50,57 @@ AreTables-push es e tables table h new = record {
 count_along : (a b c d : ℕ) → a ≡ b + c → suc a ≡ suc b + c
 count_along a b c d h = omega (arith, h)
 
-module _ (x y : Regex) (T0 T1 T2 : List Table) (D0 D1 D2 : Draft) (E1 E2 : Ends) (first : IsAdded x T0 T1 D0 D1 E1) (second : IsAdded y T1 T2 D1 D2 E2) where
+module _ (x y : Regex) (tables0 tables1 tables2 : List Table) (draft0 draft1 draft2 : Draft) (ends1 ends2 : Ends) (first : IsAdded x tables0 tables1 draft0 draft1 ends1) (second : IsAdded y tables1 tables2 draft1 draft2 ends2) where
   n : ℕ
-  n = suc (length D0.steps.items)
+  n = suc (length draft0.steps.items)
 
-  next_n : suc (length D1.steps.items) ≡ n + count x
+  next_n : suc (length draft1.steps.items) ≡ n + count x
   unfolding n
   next_n = omega (arith, first.count_is)
 
-  both_tables : (es : List Regex) → AreTables es T0 → AreTables (es ++ (inner_of x ++ inner_of y)) T2
-  both_tables es h = subst (λ zs. AreTables zs T2) (append_assoc es (inner_of x) (inner_of y)) (second.tables_are (es ++ inner_of x) (first.tables_are es h))
+  both_tables : (es : List Regex) → AreTables es tables0 → AreTables (es ++ (inner_of x ++ inner_of y)) tables2
+  both_tables es h = subst (λ zs. AreTables zs tables2) (append_assoc es (inner_of x) (inner_of y)) (second.tables_are (es ++ inner_of x) (first.tables_are es h))
 
-  both_steps : (es : List Regex) (actions : List Action) → AreTables es T0 → AllZip (IsStep es) D0.steps.items actions → AllZip (IsStep (es ++ (inner_of x ++ inner_of y))) D2.steps.items (actions ++ (actions_of x ++ actions_of y))
+  both_steps : (es : List Regex) (actions : List Action) → AreTables es tables0 → AllZip (IsStep es) draft0.steps.items actions → AllZip (IsStep (es ++ (inner_of x ++ inner_of y))) draft2.steps.items (actions ++ (actions_of x ++ actions_of y))
   both_steps es actions t h =
-      subst (λ zs. AllZip (IsStep zs) D2.steps.items (actions ++ (actions_of x ++ actions_of y))) (append_assoc es (inner_of x) (inner_of y))
-      (subst (λ zs. AllZip (IsStep ((es ++ inner_of x) ++ inner_of y)) D2.steps.items zs) (append_assoc actions (actions_of x) (actions_of y))
+      subst (λ zs. AllZip (IsStep zs) draft2.steps.items (actions ++ (actions_of x ++ actions_of y))) (append_assoc es (inner_of x) (inner_of y))
+      (subst (λ zs. AllZip (IsStep ((es ++ inner_of x) ++ inner_of y)) draft2.steps.items zs) (append_assoc actions (actions_of x) (actions_of y))
       (second.steps_are (es ++ inner_of x) (actions ++ actions_of x) (first.tables_are es t) (first.steps_are es actions t h)))
 
-  both_count : length D2.steps.items ≡ length D0.steps.items + (count x + count y)
+  both_count : length draft2.steps.items ≡ length draft0.steps.items + (count x + count y)
   both_count = omega (arith, first.count_is, second.count_is)
 
-  second_first : E2.first.items ≡ first_of y (n + count x)
+  second_first : ends2.first.items ≡ first_of y (n + count x)
   unfolding n
   second_first = second.ends_are.first_is ∙ ap (first_of y) next_n
 
-  second_last : E2.last.items ≡ last_of y (n + count x)
+  second_last : ends2.last.items ≡ last_of y (n + count x)
   unfolding n
   second_last = second.ends_are.last_is ∙ ap (last_of y) next_n
 
   -- what is related after both
-  both_related : (i j : ℕ) → IsRelated D2.follows i j ↔ (IsRelated D0.follows i j ⊎ (IsNext x n i j ⊎ IsNext y (n + count x) i j))
+  both_related : (i j : ℕ) → IsRelated draft2.follows i j ↔ (IsRelated draft0.follows i j ⊎ (IsNext x n i j ⊎ IsNext y (n + count x) i j))
   unfolding n
   both_related i j = (
     (λ h. there ((second.follows_is i j).0 h)),
     (λ h. (second.follows_is i j).1 (back h)),
   )
     where
-      there : IsRelated D1.follows i j ⊎ IsNext y (suc (length D1.steps.items)) i j → IsRelated D0.follows i j ⊎ (IsNext x n i j ⊎ IsNext y (n + count x) i j)
+      there : IsRelated draft1.follows i j ⊎ IsNext y (suc (length draft1.steps.items)) i j → IsRelated draft0.follows i j ⊎ (IsNext x n i j ⊎ IsNext y (n + count x) i j)
       there (inl h) = again ((first.follows_is i j).0 h)
         where
-          again : IsRelated D0.follows i j ⊎ IsNext x (suc (length D0.steps.items)) i j → IsRelated D0.follows i j ⊎ (IsNext x n i j ⊎ IsNext y (n + count x) i j)
+          again : IsRelated draft0.follows i j ⊎ IsNext x (suc (length draft0.steps.items)) i j → IsRelated draft0.follows i j ⊎ (IsNext x n i j ⊎ IsNext y (n + count x) i j)
           again (inl g) = inl g
           again (inr g) = inr (inl g)
       there (inr h) = inr (inr (subst (λ m. IsNext y m i j) next_n h))
 
-      back : IsRelated D0.follows i j ⊎ (IsNext x n i j ⊎ IsNext y (n + count x) i j) → IsRelated D1.follows i j ⊎ IsNext y (suc (length D1.steps.items)) i j
+      back : IsRelated draft0.follows i j ⊎ (IsNext x n i j ⊎ IsNext y (n + count x) i j) → IsRelated draft1.follows i j ⊎ IsNext y (suc (length draft1.steps.items)) i j
       back (inl h) = inl ((first.follows_is i j).1 (inl h))
       back (inr (inl h)) = inl ((first.follows_is i j).1 (inr h))
       back (inr (inr h)) = inr (subst (λ m. IsNext y m i j) (sym next_n) h)
 
   -- one of the two
-  pub IsAdded-alt : (E : Ends) → E.first.items ≡ E1.first.items ++ E2.first.items → E.last.items ≡ E1.last.items ++ E2.last.items → IsAdded (alt x y) T0 T2 D0 D2 E
+  pub IsAdded-alt : (E : Ends) → E.first.items ≡ ends1.first.items ++ ends2.first.items → E.last.items ≡ ends1.last.items ++ ends2.last.items → IsAdded (alt x y) tables0 tables2 draft0 draft2 E
   unfolding n
   IsAdded-alt E f l = record {
     tables_are = both_tables;
@@ -108,13 +108,13 @@ module _ (x y : Regex) (T0 T1 T2 : List Table) (D0 D1 D2 : Draft) (E1 E2 : Ends)
     count_is = both_count;
     follows_is = both_related;
     ends_are = record {
-      first_is = f ∙ ap (λ xs. xs ++ E2.first.items) first.ends_are.first_is ∙ ap (λ ys. first_of x n ++ ys) second_first;
-      last_is = l ∙ ap (λ xs. xs ++ E2.last.items) first.ends_are.last_is ∙ ap (λ ys. last_of x n ++ ys) second_last;
+      first_is = f ∙ ap (λ xs. xs ++ ends2.first.items) first.ends_are.first_is ∙ ap (λ ys. first_of x n ++ ys) second_first;
+      last_is = l ∙ ap (λ xs. xs ++ ends2.last.items) first.ends_are.last_is ∙ ap (λ ys. last_of x n ++ ys) second_last;
     };
   }
 
   -- one after another, where the ends of the first were related to the beginnings of the second
-  pub IsAdded-cat : (D : Draft) (E : Ends) → E1.nullable ≡ is_nullable x → E2.nullable ≡ is_nullable y → D.steps ≡ D2.steps → ((i j : ℕ) → IsRelated D.follows i j ↔ (IsRelated D2.follows i j ⊎ Contains E1.last.items i × Contains E2.first.items j)) → E.first.items ≡ cond E1.nullable (E1.first.items ++ E2.first.items) E1.first.items → E.last.items ≡ cond E2.nullable (E1.last.items ++ E2.last.items) E2.last.items → IsAdded (cat x y) T0 T2 D0 D E
+  pub IsAdded-cat : (D : Draft) (E : Ends) → ends1.nullable ≡ is_nullable x → ends2.nullable ≡ is_nullable y → D.steps ≡ draft2.steps → ((i j : ℕ) → IsRelated D.follows i j ↔ (IsRelated draft2.follows i j ⊎ Contains ends1.last.items i × Contains ends2.first.items j)) → E.first.items ≡ cond ends1.nullable (ends1.first.items ++ ends2.first.items) ends1.first.items → E.last.items ≡ cond ends2.nullable (ends1.last.items ++ ends2.last.items) ends2.last.items → IsAdded (cat x y) tables0 tables2 draft0 D E
   unfolding n
   IsAdded-cat D E null1 null2 same related f l = record {
     tables_are = both_tables;
@@ -122,35 +122,35 @@ module _ (x y : Regex) (T0 T1 T2 : List Table) (D0 D1 D2 : Draft) (E1 E2 : Ends)
     count_is = ap (λ ss. length ss.items) same ∙ both_count;
     follows_is = λ i j. ((λ h. there i j ((related i j).0 h)), (λ h. (related i j).1 (back i j h)));
     ends_are = record {
-      first_is = f ∙ ap (λ xs. cond E1.nullable (xs ++ E2.first.items) xs) first.ends_are.first_is ∙ ap (λ ys. cond E1.nullable (first_of x n ++ ys) (first_of x n)) second_first ∙ ap (λ t. cond t (first_of x n ++ first_of y (n + count x)) (first_of x n)) null1;
-      last_is = l ∙ ap (λ xs. cond E2.nullable (xs ++ E2.last.items) E2.last.items) first.ends_are.last_is ∙ ap (λ ys. cond E2.nullable (last_of x n ++ ys) ys) second_last ∙ ap (λ t. cond t (last_of x n ++ last_of y (n + count x)) (last_of y (n + count x))) null2;
+      first_is = f ∙ ap (λ xs. cond ends1.nullable (xs ++ ends2.first.items) xs) first.ends_are.first_is ∙ ap (λ ys. cond ends1.nullable (first_of x n ++ ys) (first_of x n)) second_first ∙ ap (λ t. cond t (first_of x n ++ first_of y (n + count x)) (first_of x n)) null1;
+      last_is = l ∙ ap (λ xs. cond ends2.nullable (xs ++ ends2.last.items) ends2.last.items) first.ends_are.last_is ∙ ap (λ ys. cond ends2.nullable (last_of x n ++ ys) ys) second_last ∙ ap (λ t. cond t (last_of x n ++ last_of y (n + count x)) (last_of y (n + count x))) null2;
     };
   }
     where
-      ends : (i : ℕ) → Contains E1.last.items i ↔ IsLast x n i
+      ends : (i : ℕ) → Contains ends1.last.items i ↔ IsLast x n i
       ends i = subst (λ xs. Contains xs i ↔ IsLast x n i) (sym first.ends_are.last_is) (contains_last x n i)
 
-      begins : (j : ℕ) → Contains E2.first.items j ↔ IsFirst y (n + count x) j
+      begins : (j : ℕ) → Contains ends2.first.items j ↔ IsFirst y (n + count x) j
       begins j = subst (λ xs. Contains xs j ↔ IsFirst y (n + count x) j) (sym second_first) (contains_first y (n + count x) j)
 
-      there : (i j : ℕ) → IsRelated D2.follows i j ⊎ Contains E1.last.items i × Contains E2.first.items j → IsRelated D0.follows i j ⊎ IsNext (cat x y) n i j
+      there : (i j : ℕ) → IsRelated draft2.follows i j ⊎ Contains ends1.last.items i × Contains ends2.first.items j → IsRelated draft0.follows i j ⊎ IsNext (cat x y) n i j
       there i j (inl h) = again ((both_related i j).0 h)
         where
-          again : IsRelated D0.follows i j ⊎ (IsNext x n i j ⊎ IsNext y (n + count x) i j) → IsRelated D0.follows i j ⊎ IsNext (cat x y) n i j
+          again : IsRelated draft0.follows i j ⊎ (IsNext x n i j ⊎ IsNext y (n + count x) i j) → IsRelated draft0.follows i j ⊎ IsNext (cat x y) n i j
           again (inl g) = inl g
           again (inr (inl g)) = inr (inl g)
           again (inr (inr g)) = inr (inr (inl g))
       there i j (inr h) = inr (inr (inr ((ends i).0 h.0, (begins j).0 h.1)))
 
-      back : (i j : ℕ) → IsRelated D0.follows i j ⊎ IsNext (cat x y) n i j → IsRelated D2.follows i j ⊎ Contains E1.last.items i × Contains E2.first.items j
+      back : (i j : ℕ) → IsRelated draft0.follows i j ⊎ IsNext (cat x y) n i j → IsRelated draft2.follows i j ⊎ Contains ends1.last.items i × Contains ends2.first.items j
       back i j (inl h) = inl ((both_related i j).1 (inl h))
       back i j (inr (inl h)) = inl ((both_related i j).1 (inr (inl h)))
       back i j (inr (inr (inl h))) = inl ((both_related i j).1 (inr (inr h)))
       back i j (inr (inr (inr h))) = inr ((ends i).1 h.0, (begins j).1 h.1)
 
 -- again and again, where the ends were related to the beginnings
-pub IsAdded-star : (x : Regex) (T0 T1 : List Table) (D0 D1 D : Draft) (E1 E : Ends) → IsAdded x T0 T1 D0 D1 E1 → D.steps ≡ D1.steps → ((i j : ℕ) → IsRelated D.follows i j ↔ (IsRelated D1.follows i j ⊎ Contains E1.last.items i × Contains E1.first.items j)) → E.first ≡ E1.first → E.last ≡ E1.last → IsAdded (star x) T0 T1 D0 D E
-IsAdded-star x T0 T1 D0 D1 D E1 E h same related f l = record {
+pub IsAdded-star : (x : Regex) (tables0 tables1 : List Table) (draft0 draft1 D : Draft) (ends1 E : Ends) → IsAdded x tables0 tables1 draft0 draft1 ends1 → D.steps ≡ draft1.steps → ((i j : ℕ) → IsRelated D.follows i j ↔ (IsRelated draft1.follows i j ⊎ Contains ends1.last.items i × Contains ends1.first.items j)) → E.first ≡ ends1.first → E.last ≡ ends1.last → IsAdded (star x) tables0 tables1 draft0 D E
+IsAdded-star x tables0 tables1 draft0 draft1 D ends1 E h same related f l = record {
   tables_are = h.tables_are;
   steps_are = λ es actions t k. subst (λ ss. AllZip (IsStep (es ++ inner_of x)) ss.items (actions ++ actions_of x)) (sym same) (h.steps_are es actions t k);
   count_is = ap (λ ss. length ss.items) same ∙ h.count_is;
@@ -162,23 +162,23 @@ IsAdded-star x T0 T1 D0 D1 D E1 E h same related f l = record {
 }
   where
     n : ℕ
-    n = suc (length D0.steps.items)
+    n = suc (length draft0.steps.items)
 
-    ends : (i : ℕ) → Contains E1.last.items i ↔ IsLast x (suc (length D0.steps.items)) i
-    ends i = subst (λ xs. Contains xs i ↔ IsLast x (suc (length D0.steps.items)) i) (sym h.ends_are.last_is) (contains_last x (suc (length D0.steps.items)) i)
+    ends : (i : ℕ) → Contains ends1.last.items i ↔ IsLast x (suc (length draft0.steps.items)) i
+    ends i = subst (λ xs. Contains xs i ↔ IsLast x (suc (length draft0.steps.items)) i) (sym h.ends_are.last_is) (contains_last x (suc (length draft0.steps.items)) i)
 
-    begins : (j : ℕ) → Contains E1.first.items j ↔ IsFirst x (suc (length D0.steps.items)) j
-    begins j = subst (λ xs. Contains xs j ↔ IsFirst x (suc (length D0.steps.items)) j) (sym h.ends_are.first_is) (contains_first x (suc (length D0.steps.items)) j)
+    begins : (j : ℕ) → Contains ends1.first.items j ↔ IsFirst x (suc (length draft0.steps.items)) j
+    begins j = subst (λ xs. Contains xs j ↔ IsFirst x (suc (length draft0.steps.items)) j) (sym h.ends_are.first_is) (contains_first x (suc (length draft0.steps.items)) j)
 
-    there : (i j : ℕ) → IsRelated D1.follows i j ⊎ Contains E1.last.items i × Contains E1.first.items j → IsRelated D0.follows i j ⊎ IsNext (star x) (suc (length D0.steps.items)) i j
+    there : (i j : ℕ) → IsRelated draft1.follows i j ⊎ Contains ends1.last.items i × Contains ends1.first.items j → IsRelated draft0.follows i j ⊎ IsNext (star x) (suc (length draft0.steps.items)) i j
     there i j (inl k) = again ((h.follows_is i j).0 k)
       where
-        again : IsRelated D0.follows i j ⊎ IsNext x (suc (length D0.steps.items)) i j → IsRelated D0.follows i j ⊎ IsNext (star x) (suc (length D0.steps.items)) i j
+        again : IsRelated draft0.follows i j ⊎ IsNext x (suc (length draft0.steps.items)) i j → IsRelated draft0.follows i j ⊎ IsNext (star x) (suc (length draft0.steps.items)) i j
         again (inl g) = inl g
         again (inr g) = inr (inl g)
     there i j (inr k) = inr (inr ((ends i).0 k.0, (begins j).0 k.1))
 
-    back : (i j : ℕ) → IsRelated D0.follows i j ⊎ IsNext (star x) (suc (length D0.steps.items)) i j → IsRelated D1.follows i j ⊎ Contains E1.last.items i × Contains E1.first.items j
+    back : (i j : ℕ) → IsRelated draft0.follows i j ⊎ IsNext (star x) (suc (length draft0.steps.items)) i j → IsRelated draft1.follows i j ⊎ Contains ends1.last.items i × Contains ends1.first.items j
     back i j (inl k) = inl ((h.follows_is i j).1 (inl k))
     back i j (inr (inl k)) = inl ((h.follows_is i j).1 (inr k))
     back i j (inr (inr k)) = inr ((ends i).1 k.0, (begins j).1 k.1)
@@ -198,30 +198,30 @@ IsAdded-empty T D E f l = record {
     back i j (inr h) = absurd h
 
 -- one occurrence
-pub IsAdded-one : (a : Action) (T0 T1 : List Table) (D0 D : Draft) (step : Step) (E : Ends) → ((es : List Regex) → AreTables es T0 → AreTables (es ++ inner_in a) T1 × IsStep (es ++ inner_in a) step a) → D.steps.items ≡ D0.steps.items ++ step ∷ [] → D.follows ≡ D0.follows → E.first.items ≡ length D.steps.items ∷ [] → E.last.items ≡ length D.steps.items ∷ [] → IsAdded (one a) T0 T1 D0 D E
-IsAdded-one a T0 T1 D0 D step E made pushed same f l = record {
+pub IsAdded-one : (a : Action) (tables0 tables1 : List Table) (draft0 D : Draft) (step : Step) (E : Ends) → ((es : List Regex) → AreTables es tables0 → AreTables (es ++ inner_in a) tables1 × IsStep (es ++ inner_in a) step a) → D.steps.items ≡ draft0.steps.items ++ step ∷ [] → D.follows ≡ draft0.follows → E.first.items ≡ length D.steps.items ∷ [] → E.last.items ≡ length D.steps.items ∷ [] → IsAdded (one a) tables0 tables1 draft0 D E
+IsAdded-one a tables0 tables1 draft0 D step E made pushed same f l = record {
   tables_are = λ es h. (made es h).0;
   steps_are = λ es actions t h. subst (λ ss. AllZip (IsStep (es ++ inner_in a)) ss (actions ++ a ∷ [])) (sym pushed)
-      (all_zip-append (IsStep (es ++ inner_in a)) D0.steps.items (step ∷ []) actions (a ∷ []) (steps_more es (inner_in a) D0.steps.items actions h) ((made es t).1, tt));
+      (all_zip-append (IsStep (es ++ inner_in a)) draft0.steps.items (step ∷ []) actions (a ∷ []) (steps_more es (inner_in a) draft0.steps.items actions h) ((made es t).1, tt));
   count_is = counted;
   follows_is = λ i j. ((λ h. inl (subst (λ r. IsRelated r i j) same h)), (λ h. back i j h));
   ends_are = record { first_is = f ∙ ap (λ k. k ∷ []) number; last_is = l ∙ ap (λ k. k ∷ []) number };
 }
   where
-    counted : length D.steps.items ≡ length D0.steps.items + 1
-    counted = ap length pushed ∙ length-append D0.steps.items (step ∷ [])
+    counted : length D.steps.items ≡ length draft0.steps.items + 1
+    counted = ap length pushed ∙ length-append draft0.steps.items (step ∷ [])
 
-    number : length D.steps.items ≡ suc (length D0.steps.items)
+    number : length D.steps.items ≡ suc (length draft0.steps.items)
     number = omega (arith, counted)
 
-    back : (i j : ℕ) → IsRelated D0.follows i j ⊎ ⊥ → IsRelated D.follows i j
+    back : (i j : ℕ) → IsRelated draft0.follows i j ⊎ ⊥ → IsRelated D.follows i j
     back i j (inl h) = subst (λ r. IsRelated r i j) (sym same) h
     back i j (inr h) = absurd h
 
 -- ---- a whole table
 
-pub IsTable-made : (es : List Regex) (e : Regex) (T T' : List Table) (D0 D : Draft) (E : Ends) (table : Table) → AreTables es T → IsAdded e T T' D0 D E → E.nullable ≡ is_nullable e → D0.steps.items ≡ [] → ((i j : ℕ) → ¬ IsRelated D0.follows i j) → table.steps ≡ D.steps → table.ends ≡ E → ((i j : ℕ) → IsRelated table.follows i j ↔ (IsRelated D.follows i j ⊎ Contains (0 ∷ []) i × Contains E.first.items j)) → IsTable (es ++ inner_of e) table e
-IsTable-made es e T T' D0 D E table t h null none bare steps ends related = record {
+pub IsTable-made : (es : List Regex) (e : Regex) (T T' : List Table) (draft0 D : Draft) (E : Ends) (table : Table) → AreTables es T → IsAdded e T T' draft0 D E → E.nullable ≡ is_nullable e → draft0.steps.items ≡ [] → ((i j : ℕ) → ¬ IsRelated draft0.follows i j) → table.steps ≡ D.steps → table.ends ≡ E → ((i j : ℕ) → IsRelated table.follows i j ↔ (IsRelated D.follows i j ⊎ Contains (0 ∷ []) i × Contains E.first.items j)) → IsTable (es ++ inner_of e) table e
+IsTable-made es e T T' draft0 D E table t h null none bare steps ends related = record {
   steps_are = subst (λ ss. AllZip (IsStep (es ++ inner_of e)) ss.items (actions_of e)) (sym steps) (h.steps_are es [] t (subst (λ ss. AllZip (IsStep es) ss []) (sym none) tt));
   follows_is = λ i j. ((λ k. there i j ((related i j).0 k)), (λ k. (related i j).1 (back i j k)));
   ends_are = record {
@@ -231,7 +231,7 @@ IsTable-made es e T T' D0 D E table t h null none bare steps ends related = reco
   nullable_is = ap (λ x. x.nullable) ends ∙ null;
 }
   where
-    from_1 : suc (length D0.steps.items) ≡ 1
+    from_1 : suc (length draft0.steps.items) ≡ 1
     from_1 = ap (λ xs. suc (length xs)) none
 
     begins : (j : ℕ) → Contains E.first.items j ↔ IsFirst e 1 j
@@ -244,7 +244,7 @@ IsTable-made es e T T' D0 D E table t h null none bare steps ends related = reco
     there : (i j : ℕ) → IsRelated D.follows i j ⊎ Contains (0 ∷ []) i × Contains E.first.items j → IsNextAt e i j
     there i j (inl k) = again ((h.follows_is i j).0 k)
       where
-        again : IsRelated D0.follows i j ⊎ IsNext e (suc (length D0.steps.items)) i j → IsNextAt e i j
+        again : IsRelated draft0.follows i j ⊎ IsNext e (suc (length draft0.steps.items)) i j → IsNextAt e i j
         again (inl g) = absurd (bare i j g)
         again (inr g) = inr (subst (λ m. IsNext e m i j) from_1 g)
     there i j (inr k) = inl (is_0 i k.0, (begins j).0 k.1)
