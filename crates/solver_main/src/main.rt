@@ -4,6 +4,8 @@
 mod explain;
 #[cfg(test)]
 mod explain_tests;
+#[cfg(test)]
+mod game_tests;
 mod lines;
 mod mentions;
 #[cfg(test)]
