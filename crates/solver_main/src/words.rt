@@ -1,4 +1,6 @@
 //! The command line.
+ghost use Rattle.std.specs.Prelude.{IfErr};
+ghost use Rattle.solver_main.specs.Statuses.{IsStatusOfWords};
 
 use clap::{Arg, ArgAction, Command, Error};
 use std::alloc::{AllocError, Global};
@@ -33,8 +35,13 @@ const MOVES_LONG_ABOUT: &str =
     "Prints the legal moves of a game's start, one a line: MOVE => POSITION.\n\nMOVE lists what the move does, each as the number of the action and, behind @, the vertex where it is done. POSITION is who has the turn, the place in the rules, the current vertex, the pieces by vertices, and the two scores and the variables. A start without a legal move is answered by `ended`.";
 
 /// The command that the words ask for; the first word is the program's name.
-pub fn words_of(alloc: Global, words: &[String]) -> Result<Words, Refusal> {
-    parsed(alloc, words).map_err(|error| refusal_of(alloc, error))
+pub fn words_of(alloc: Global, words: &[String]) -> Result<Words, Refusal>
+    ensures { IfErr result (λ refusal. IsStatusOfWords refusal.status) }
+{
+    match parsed(alloc, words) {
+        Ok(words) => Ok(words),
+        Err(error) => Err(refusal_of(alloc, error)),
+    }
 }
 
 fn parsed<'a>(alloc: Global, words: &'a [String]) -> Result<Words, Error> {
@@ -67,7 +74,9 @@ fn command<'a>(alloc: Global) -> Result<Command<'a>, AllocError> {
         .subcommand(moves)
 }
 
-fn refusal_of(alloc: Global, error: Error) -> Refusal {
+fn refusal_of(alloc: Global, error: Error) -> Refusal
+    ensures { IsStatusOfWords result.status }
+{
     let status = match error.kind() {
         clap::error::ErrorKind::OutOfMemory => 5,
         _ if error.use_stderr() => 2,
