@@ -8,7 +8,8 @@ use Rattle.rbg_game.specs.declared.roles.Role.{Role}
 use Rattle.rbg_game.specs.declared.roles.Role.TheVariants as role
 use Rattle.rbg_game.specs.declared.position.Position.{Position}
 use Rattle.position_pack.specs.Bytes.{bytes_of}
-use Rattle.legal_moves.specs.Moves.{IsSuccessor}
+use Rattle.retrograde.specs.Graph.{Graph}
+use Rattle.legal_moves.specs.Moves.{IsSuccessor, start_of}
 use Rattle.legal_moves.specs.Searches.{IsWide}
 
 -- the bytes are those of a position of the game
@@ -49,3 +50,12 @@ leader first second = if nat_lt second first then Some First else if nat_lt firs
 -- the scores are behind the pieces
 abbrev pub leader_in : Game → List ℕ → Option Player
 leader_in game x = leader (value_in x (length game.vertices)) (value_in x (length game.vertices + 3))
+
+-- the game as a graph of the bytes of its positions
+abbrev pub graph_of : Game → Graph (List ℕ)
+graph_of game = record {
+  start = bytes_of (start_of game);
+  mover = role_in game;
+  ahead = leader_in game;
+  Successor = IsMoveBetween game;
+}

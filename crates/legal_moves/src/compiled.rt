@@ -20,6 +20,7 @@ use position_pack::{Packed, Packing};
 use rbg_game::game::Game;
 use rbg_game::position::{Position, SemiState};
 use rbg_game::roles::{Player, Role};
+use retrograde::GameGraph;
 use std::alloc::{AllocError, Global};
 
 /// A game with a table for each expression that is searched.
@@ -113,26 +114,24 @@ impl Compiled {
     }
 }
 
+impl GameGraph for Compiled {
+    ghost use Rattle.legal_moves.specs.Compiled.{compiled_game};
+    ghost use Rattle.legal_moves.specs.Sources.{IsWideAt, graph_of};
+
+    ghost graph = { λ c. graph_of (compiled_game c) };
+
+    ghost is_wide = { λ c. IsWideAt (compiled_game c) };
+}
+
 impl MoveSource for Compiled {
     ghost use Rattle.std.specs.Prelude.{refl};
-    ghost use Rattle.position_pack.specs.Bytes.{bytes_of};
     ghost use Rattle.legal_moves.specs.Moves.{start_of};
     ghost use Rattle.legal_moves.specs.Compiled.{compiled_game, IsCompiled};
-    ghost use Rattle.legal_moves.specs.Sources.{IsPositionBytes, IsMoveBetween, IsWideAt, role_in, leader_in};
+    ghost use Rattle.legal_moves.specs.Sources.{IsPositionBytes};
 
     ghost is_sound = { IsCompiled };
 
     ghost is_position = { λ c. IsPositionBytes (compiled_game c) };
-
-    ghost start_bytes = { λ c. bytes_of (start_of (compiled_game c)) };
-
-    ghost role_at = { λ c. role_in (compiled_game c) };
-
-    ghost leader_at = { λ c. leader_in (compiled_game c) };
-
-    ghost is_successor = { λ c. IsMoveBetween (compiled_game c) };
-
-    ghost is_wide = { λ c. IsWideAt (compiled_game c) };
 
     ghost start_is_position = { λ c is. (start_of (compiled_game c), record { position_is = is.start_is; bytes_are = refl }) };
 

@@ -1,5 +1,5 @@
 -- The map from positions to their numbers.
-use Rattle.std.proofs.Common.{◌≡◌, ◌∙◌, sym, ap, subst, ℕ, ◌⊎◌, inl, inr, Bool, true, false, cond, refl, List, [], ◌∷◌, ◌++◌, length, Option, Some, None, IfSome, IfNone, slice_get}
+use Rattle.std.proofs.Common.{◌≡◌, ◌<◌, ◌∙◌, sym, ap, subst, ℕ, ◌⊎◌, inl, inr, Bool, true, false, cond, refl, List, [], ◌∷◌, ◌++◌, length, Option, Some, None, IfSome, IfNone, slice_get}
 use Rattle.std.specs.Option.{option_map}
 use Rattle.std.specs.BTreeMap.{BTreeMap, get, is_at, Updates}
 use Rattle.std.specs.Ordering.{is_eq, nat_cmp}
@@ -7,7 +7,7 @@ use Rattle.std.specs.Cmp.Lexicographic.{slice_cmp}
 use Rattle.std.specs.declared.cmp.Ordering.{Ordering}
 use Rattle.std.specs.declared.cmp.Ordering.TheVariants.{Less, Equal, Greater}
 use Rattle.std.proofs.lemmas.Map.Lookups.{exact_bytes}
-use Rattle.std.proofs.lemmas.Option.{slice_get-map, same_Some}
+use Rattle.std.proofs.lemmas.Option.{slice_get-map, same_Some, slice_get_within}
 use Rattle.arrayvec.specs.ArrayVec.{ArrayVec}
 use Rattle.retrograde.proofs.Adding.{push_before, push_at, push_cases}
 use Rattle.table.specs.Memory.{bytes_of_each, position_cmp, AreNumbered}
@@ -39,6 +39,10 @@ module _ (xs : List (ArrayVec ℕ)) (numbers : BTreeMap (ArrayVec ℕ) ℕ) (are
   pub number_found : (x : ArrayVec ℕ) (o : Option ℕ) → o ≡ get position_cmp numbers x → IfSome o (λ i. slice_get (bytes_of_each xs) i ≡ Some x.items)
   number_found x None is = tt
   number_found x (Some i) is = bytes_at xs i x (are.only x i (sym is))
+
+  pub number_within : (x : ArrayVec ℕ) (o : Option ℕ) → o ≡ get position_cmp numbers x → IfSome o (λ i. i < length (bytes_of_each xs))
+  number_within x None is = tt
+  number_within x (Some i) is = slice_get_within (bytes_of_each xs) i x.items (bytes_at xs i x (are.only x i (sym is)))
 
   pub number_missing : (x : ArrayVec ℕ) (o : Option ℕ) → o ≡ get position_cmp numbers x → IfNone o ((i : ℕ) → slice_get (bytes_of_each xs) i ≡ Some x.items → ⊥)
   number_missing x None is = λ i at. let here : get position_cmp numbers x ≡ Some i = are.all i x (at_bytes xs i x at) in absurd (cc)

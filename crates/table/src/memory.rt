@@ -1,7 +1,7 @@
 //! A table in memory.
-ghost use Rattle.std.specs.Prelude.{◌≡◌, ◌↔◌, ◌+◌, ◌-◌, ◌^◌, ◌<◌, ◌≤◌, ℕ, true, if◌then◌else◌, IfOk, IfSome, IfNone, length, count_by};
+ghost use Rattle.std.specs.Prelude.{◌≡◌, refl, ◌↔◌, ◌+◌, ◌-◌, ◌^◌, ◌<◌, ◌≤◌, ℕ, true, if◌then◌else◌, IfOk, IfSome, IfNone, length, count_by};
 ghost use Rattle.std.specs.BTreeSet.{contains};
-ghost use Rattle.retrograde.specs.Changes.{fresh_record};
+ghost use Rattle.retrograde.specs.Changes.{fresh_record, counts_of};
 ghost use Rattle.retrograde.specs.Edges.{IsAfter};
 ghost use Rattle.retrograde.specs.Stored.{is_expanded, is_processed, loaded};
 ghost use Rattle.table.specs.Memory.{AreNumbered, ComeFromBelow, bytes_of_each, edge_cmp};
@@ -117,6 +117,17 @@ impl Table for MemTable {
       has_edge = λ i p. contains edge_cmp t.edges (i, p);
       order = t.order.items;
     } };
+
+    ghost is_honest = { λ t. Unit {0} };
+
+    ghost counted = { λ t. counts_of (record {
+      positions = bytes_of_each t.positions.items;
+      records = t.records.items;
+      has_edge = λ i p. contains edge_cmp t.edges (i, p);
+      order = t.order.items;
+    }) };
+
+    ghost counts_are = { λ t honest. refl };
 
     fn counts(&self) -> Counts {
         Counts {

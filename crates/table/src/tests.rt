@@ -22,7 +22,8 @@ fn position(byte: u8) -> Packed
 
 /// The table of two positions, made by the trait's own call.
 fn with_another<T: Table>(table: &mut T) -> Result<u32, TableFault>
-    requires { T.stored table.old ≡ loaded (7 ∷ []) }
+    requires honest { T.is_honest table.old }
+    requires one { T.stored table.old ≡ loaded (7 ∷ []) }
     ensures { OnOk result (T.stored table.new ≡ with_position (loaded (7 ∷ [])) (4 ∷ [])) }
 {
     table.add(&position(4))
@@ -47,7 +48,8 @@ fn numbers<T: Table>(table: &mut T) -> Result<([Option<u32>; 3], u32), TableFaul
 
 /// The predecessors of number 0 in turn, and the first one of number 1, where both lead to 0.
 fn predecessors<T: Table>(table: &mut T) -> Result<[Option<u32>; 4], TableFault>
-    requires { T.stored table.old ≡ with_position (loaded (7 ∷ [])) (4 ∷ []) }
+    requires honest { T.is_honest table.old }
+    requires two { T.stored table.old ≡ with_position (loaded (7 ∷ [])) (4 ∷ []) }
 {
     table.add_edge(0, 1)?;
     table.add_edge(0, 0)?;
@@ -64,7 +66,8 @@ fn processed<T: Table>(
     table: &mut T,
     kept: Record,
 ) -> Result<(Counts, Counts, Record, u32), TableFault>
-    requires { T.stored table.old ≡ with_position (loaded (7 ∷ [])) (4 ∷ []) }
+    requires honest { T.is_honest table.old }
+    requires two { T.stored table.old ≡ with_position (loaded (7 ∷ [])) (4 ∷ []) }
 {
     let before = table.counts();
     table.set_record(1, kept)?;

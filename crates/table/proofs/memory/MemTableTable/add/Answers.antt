@@ -10,7 +10,7 @@ pub invariant_of-self-2-clause-numbered : goal.invariant_of-self-2-clause-number
 invariant_of-self-2-clause-numbered c =
     rw (c.in_ok-push.ensures.items, c.in_ok-reserve.ensures.items)
     (numbered_more c.args.self.now.positions.items c.args.self.now.numbers c.args.self.now.numbered c.insert.new.self c.in_ok-position.position c.in_ok-key.key
-    c.args.packed.now.items c.in_ok-position.ensures c.in_ok-key.ensures c.requires.unknown c.len-number.result (omega arith) c.in_ok-insert.ensures.updates)
+    c.args.packed.now.items c.in_ok-position.ensures c.in_ok-key.ensures (c.requires.unknown tt) c.len-number.result (omega arith) c.in_ok-insert.ensures.updates)
 
 pub invariant_of-self-2-clause-known : goal.invariant_of-self-2-clause-known
 invariant_of-self-2-clause-known c =

@@ -11,15 +11,12 @@ invariant_of-self-clause-known c =
     c.insert.ensures.updates c.insert.ensures.err c.args.self.now.known
     (omega (arith, length-map c.args.self.now.positions.items (λ p. p.items)))
 
-pub returns : goal.returns
-returns c = record {
-  added =
-      let edges = edges_added c.args.self.now.edges c.insert.new.self c.args.successor c.args.predecessor c.in_ok-insert.ensures.updates in
-      let same : ◌≡◌ {A = Stored (List ℕ)} _ _ = ap (λ (e : ℕ → ℕ → Bool). let s : Stored (List ℕ) = record {
-        positions = bytes_of_each c.args.self.now.positions.items;
-        records = c.args.self.now.records.items;
-        has_edge = e;
-        order = c.args.self.now.order.items;
-      } in s) edges in
-      same;
-}
+pub returns-clause-added : goal.returns-clause-added
+returns-clause-added c = λ honest.
+    let edges = edges_added c.args.self.now.edges c.insert.new.self c.args.successor c.args.predecessor c.in_ok-insert.ensures.updates in
+    let same : ◌≡◌ {A = Stored (List ℕ)} _ _ = ap (λ (e : ℕ → ℕ → Bool). let s : Stored (List ℕ) = record {
+      positions = bytes_of_each c.args.self.now.positions.items;
+      records = c.args.self.now.records.items;
+      has_edge = e;
+      order = c.args.self.now.order.items;
+    } in s) edges in (tt, same)
