@@ -125,7 +125,7 @@ module _ {P : Type 0} (cmp : P → P → Ordering) (laws : IsTotalOrder cmp) (gr
   abbrev written : Record
   written = closing.written
 
-  adds : Adds e ys stored next
+  pub adds : Adds e ys stored next
   adds = adds_all e ys stored next noted
 
   e_known : e < length stored.positions
@@ -141,7 +141,7 @@ module _ {P : Type 0} (cmp : P → P → Ordering) (laws : IsTotalOrder cmp) (gr
   longer = let p : length stored.positions ≤ length next.positions = adds.longer in let q : length new.positions ≡ length next.positions = lengths in omega arith
 
   -- numbers
-  to_new : (i : ℕ) (y : P) → slice_get next.positions i ≡ Some y → slice_get new.positions i ≡ Some y
+  pub to_new : (i : ℕ) (y : P) → slice_get next.positions i ≡ Some y → slice_get new.positions i ≡ Some y
   to_new i y at = ap (λ (xs : List P). slice_get xs i) closing.positions ∙ at
 
   to_next : (i : ℕ) (y : P) → slice_get new.positions i ≡ Some y → slice_get next.positions i ≡ Some y
@@ -156,17 +156,17 @@ module _ {P : Type 0} (cmp : P → P → Ordering) (laws : IsTotalOrder cmp) (gr
   is_x : (y : P) → slice_get new.positions e ≡ Some y → y ≡ x
   is_x y at = same_Some y x (sym at ∙ still e x number)
 
-  apart : (i j : ℕ) (y : P) → slice_get new.positions i ≡ Some y → slice_get new.positions j ≡ Some y → i ≡ j
+  pub apart : (i j : ℕ) (y : P) → slice_get new.positions i ≡ Some y → slice_get new.positions j ≡ Some y → i ≡ j
   apart i j y here there = apart_all e ys stored next noted sound.table.distinct i j y (to_next i y here) (to_next j y there)
 
   -- edges
-  edge_is : (i p : ℕ) → new.has_edge i p ≡ next.has_edge i p
+  pub edge_is : (i p : ℕ) → new.has_edge i p ≡ next.has_edge i p
   edge_is i p = ap (λ (h : ℕ → ℕ → Bool). h i p) closing.has_edge
 
-  edge_kept : (i p : ℕ) → stored.has_edge i p ≡ true → new.has_edge i p ≡ true
+  pub edge_kept : (i p : ℕ) → stored.has_edge i p ≡ true → new.has_edge i p ≡ true
   edge_kept i p is = edge_is i p ∙ adds.edges i p is
 
-  edge_cases : (i p : ℕ) → new.has_edge i p ≡ true
+  pub edge_cases : (i p : ℕ) → new.has_edge i p ≡ true
       → (stored.has_edge i p ≡ true) ⊎ ((p ≡ e) × ((y : P) × Contains ys y × (slice_get new.positions i ≡ Some y)))
   edge_cases i p is =
       ⊎_elim (λ before. inl before) (λ (from, (y, here, at)). inr (from, (y, here, to_new i y at)))
@@ -250,7 +250,7 @@ module _ {P : Type 0} (cmp : P → P → Ordering) (laws : IsTotalOrder cmp) (gr
       ap (λ (rs : List Record). slice_get rs e) closing.records
       ∙ get_set_same next.records e written (slice_get_within next.records e was had_next)
 
-  elsewhere : (i : ℕ) → (i ≡ e → ⊥) → slice_get new.records i ≡ slice_get next.records i
+  pub elsewhere : (i : ℕ) → (i ≡ e → ⊥) → slice_get new.records i ≡ slice_get next.records i
   elsewhere i other =
       ap (λ (rs : List Record). slice_get rs i) closing.records
       ∙ get_set_other next.records e i written (λ same. other (sym same))

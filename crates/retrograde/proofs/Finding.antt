@@ -35,21 +35,21 @@ all_of : {P : Type 0} (Q : P → Type 0) (zs : List P) → ((z : P) → Contains
 all_of Q [] each = tt
 all_of Q (z ∷ zs) each = (each z (is_first z zs), all_of Q zs (λ u is. each u (is_later z u zs is)))
 
-sorted_of : {P : Type 0} (cmp : P → P → Ordering) (z : P) (zs : List P) → ((u : P) → Contains zs u → cmp z u ≡ Less) → IsStrictlySortedBy cmp zs → IsStrictlySortedBy cmp (z ∷ zs)
+pub sorted_of : {P : Type 0} (cmp : P → P → Ordering) (z : P) (zs : List P) → ((u : P) → Contains zs u → cmp z u ≡ Less) → IsStrictlySortedBy cmp zs → IsStrictlySortedBy cmp (z ∷ zs)
 unfolding IsStrictlySortedBy
 sorted_of cmp z zs each sorted = (all_of (λ u. cmp z u ≡ Less) zs each, sorted)
 
-sorted_none : {P : Type 0} (cmp : P → P → Ordering) → IsStrictlySortedBy cmp []
+pub sorted_none : {P : Type 0} (cmp : P → P → Ordering) → IsStrictlySortedBy cmp []
 unfolding IsStrictlySortedBy
 sorted_none cmp = tt
 
 module _ {P : Type 0} (cmp : P → P → Ordering) (laws : IsTotalOrder cmp) where
   -- these are the ones of ys that a does not have
-  record IsFresh (ys known found : List P) : Type 0 where
+  pub record IsFresh (ys known found : List P) : Type 0 where
     pub each : (z : P) → Contains found z ↔ (Contains ys z × (Contains known z → ⊥))
     pub ascending : IsStrictlySortedBy cmp found
 
-  finds : (e : ℕ) (ys : List P) (a b : Stored P) → IsStrictlySortedBy cmp ys → AreNoted e ys a b
+  pub finds : (e : ℕ) (ys : List P) (a b : Stored P) → IsStrictlySortedBy cmp ys → AreNoted e ys a b
       → (found : List P) × IsFresh ys a.positions found × (b.positions ≡ a.positions ++ found)
   finds e [] a b sorted same = (
     [],
@@ -122,7 +122,7 @@ module _ {P : Type 0} (cmp : P → P → Ordering) (laws : IsTotalOrder cmp) whe
     abbrev e : ℕ
     e = expanded_count stored
 
-    new_found : (found : List P) × IsNewFrom cmp graph stored.positions x found × (next.positions ≡ stored.positions ++ found)
+    pub new_found : (found : List P) × IsNewFrom cmp graph stored.positions x found × (next.positions ≡ stored.positions ++ found)
     new_found =
         let (found, it, more) = finds e ys stored next list.ascending noted in (
           found,

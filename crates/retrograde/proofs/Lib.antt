@@ -17,3 +17,4 @@ pub mod Falling
 pub mod Diminishing
 pub mod Working
 pub mod Finding
+pub mod Expands

@@ -12,4 +12,5 @@ pub mod Steps
 pub mod Expansion
 pub mod Processing
 pub mod Units
+pub mod Expands
 pub mod Play

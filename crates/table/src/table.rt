@@ -1,5 +1,5 @@
 //! What is kept of a game: positions by number, records, edges, and the settled order.
-ghost use Rattle.std.specs.Prelude.{◌≡◌, ◌+◌, ◌^◌, ◌<◌, ℕ, List, IfOk, OnOk, IfSome, IfNone, slice_get, Some};
+ghost use Rattle.std.specs.Prelude.{◌≡◌, ◌↔◌, ◌+◌, ◌^◌, ◌<◌, ℕ, List, IfOk, OnOk, IfSome, IfNone, slice_get, Some};
 ghost use Rattle.retrograde.specs.declared.records.Counts.{Counts};
 ghost use Rattle.retrograde.specs.Stored.{Stored, HasRecord};
 ghost use Rattle.retrograde.specs.Changes.{counts_of, with_position, with_record, with_edge, with_settled};
@@ -34,21 +34,24 @@ pub trait Table {
         ensures found { is_honest self.old → IfOk result (λ r. IfSome r (λ i. slice_get (stored self.old).positions i ≡ Some packed.now.items)) }
         ensures unknown { is_honest self.old → IfOk result (λ r. IfNone r ((i : ℕ) → slice_get (stored self.old).positions i ≡ Some packed.now.items → ⊥)) }
         ensures within { IfOk result (λ r. IfSome r (λ i. i < (counted self.old).known)) }
-        ensures same { is_honest self.old → OnOk result (is_honest self.new × (stored self.new ≡ stored self.old)) }
+        ensures same { is_honest self.old → OnOk result (stored self.new ≡ stored self.old) }
+        ensures honest { OnOk result (is_honest self.old ↔ is_honest self.new) }
         ensures counts { OnOk result (counted self.new ≡ counted self.old) };
 
     /// The position with a number.
     fn packed(&mut self, number: u32) -> Result<Packed, TableFault>
         requires { number < (counted self.old).known }
         ensures position { is_honest self.old → IfOk result (λ p. slice_get (stored self.old).positions number ≡ Some p.items) }
-        ensures same { is_honest self.old → OnOk result (is_honest self.new × (stored self.new ≡ stored self.old)) }
+        ensures same { is_honest self.old → OnOk result (stored self.new ≡ stored self.old) }
+        ensures honest { OnOk result (is_honest self.old ↔ is_honest self.new) }
         ensures counts { OnOk result (counted self.new ≡ counted self.old) };
 
     /// The record of a number.
     fn record(&mut self, number: u32) -> Result<Record, TableFault>
         requires { number < (counted self.old).known }
         ensures record { is_honest self.old → IfOk result (λ r. HasRecord (stored self.old) number r) }
-        ensures same { is_honest self.old → OnOk result (is_honest self.new × (stored self.new ≡ stored self.old)) }
+        ensures same { is_honest self.old → OnOk result (stored self.new ≡ stored self.old) }
+        ensures honest { OnOk result (is_honest self.old ↔ is_honest self.new) }
         ensures counts { OnOk result (counted self.new ≡ counted self.old) };
 
     /// Adds a position that was not known, and answers its number.
@@ -56,20 +59,23 @@ pub trait Table {
         requires unknown { is_honest self.old → (i : ℕ) → slice_get (stored self.old).positions i ≡ Some packed.now.items → ⊥ }
         requires room { (counted self.old).known < 2 ^ 24 }
         ensures number { IfOk result (λ i. i ≡ (counted self.old).known) }
-        ensures added { is_honest self.old → OnOk result (is_honest self.new × (stored self.new ≡ with_position (stored self.old) packed.now.items)) }
+        ensures added { is_honest self.old → OnOk result (stored self.new ≡ with_position (stored self.old) packed.now.items) }
+        ensures honest { OnOk result (is_honest self.old ↔ is_honest self.new) }
         ensures known { OnOk result ((counted self.new).known ≡ (counted self.old).known + 1) };
 
     /// Writes the record of a number.
     fn set_record(&mut self, number: u32, kept: Record) -> Result<(), TableFault>
         requires { number < (counted self.old).known }
-        ensures set { is_honest self.old → OnOk result (is_honest self.new × (stored self.new ≡ with_record (stored self.old) number kept)) }
+        ensures set { is_honest self.old → OnOk result (stored self.new ≡ with_record (stored self.old) number kept) }
+        ensures honest { OnOk result (is_honest self.old ↔ is_honest self.new) }
         ensures known { OnOk result ((counted self.new).known ≡ (counted self.old).known) };
 
     /// Adds an edge, which may be there already.
     fn add_edge(&mut self, successor: u32, predecessor: u32) -> Result<(), TableFault>
         requires successor { successor < (counted self.old).known }
         requires predecessor { predecessor < (counted self.old).known }
-        ensures added { is_honest self.old → OnOk result (is_honest self.new × (stored self.new ≡ with_edge (stored self.old) successor predecessor)) }
+        ensures added { is_honest self.old → OnOk result (stored self.new ≡ with_edge (stored self.old) successor predecessor) }
+        ensures honest { OnOk result (is_honest self.old ↔ is_honest self.new) }
         ensures counts { OnOk result (counted self.new ≡ counted self.old) };
 
     /// The least predecessor, or the least one after the number given.
@@ -78,20 +84,23 @@ pub trait Table {
         ensures none { is_honest self.old → IfOk result (λ r. IfNone r (HasNoMoreEdges (stored self.old) successor after)) }
         ensures within { IfOk result (λ r. IfSome r (λ p. p < (counted self.old).known)) }
         ensures later { IfOk result (λ r. IfSome r (IsAfter after)) }
-        ensures same { is_honest self.old → OnOk result (is_honest self.new × (stored self.new ≡ stored self.old)) }
+        ensures same { is_honest self.old → OnOk result (stored self.new ≡ stored self.old) }
+        ensures honest { OnOk result (is_honest self.old ↔ is_honest self.new) }
         ensures counts { OnOk result (counted self.new ≡ counted self.old) };
 
     /// Puts a number behind the settled order.
     fn push_settled(&mut self, number: u32) -> Result<(), TableFault>
         requires { (counted self.old).settled < (counted self.old).known }
-        ensures pushed { is_honest self.old → OnOk result (is_honest self.new × (stored self.new ≡ with_settled (stored self.old) number)) }
+        ensures pushed { is_honest self.old → OnOk result (stored self.new ≡ with_settled (stored self.old) number) }
+        ensures honest { OnOk result (is_honest self.old ↔ is_honest self.new) }
         ensures known { OnOk result ((counted self.new).known ≡ (counted self.old).known) };
 
     /// The number at a place of the settled order.
     fn settled_at(&mut self, place: u32) -> Result<u32, TableFault>
         requires { place < (counted self.old).settled }
         ensures number { is_honest self.old → IfOk result (λ i. slice_get (stored self.old).order place ≡ Some i) }
-        ensures same { is_honest self.old → OnOk result (is_honest self.new × (stored self.new ≡ stored self.old)) }
+        ensures same { is_honest self.old → OnOk result (stored self.new ≡ stored self.old) }
+        ensures honest { OnOk result (is_honest self.old ↔ is_honest self.new) }
         ensures counts { OnOk result (counted self.new ≡ counted self.old) };
 
     /// An honest table counts what is stored.

@@ -19,4 +19,4 @@ returns-clause-added c = λ honest.
       records = c.args.self.now.records.items;
       has_edge = e;
       order = c.args.self.now.order.items;
-    } in s) edges in (tt, same)
+    } in s) edges in same

@@ -1,0 +1,3 @@
+pub mod NumberLemmas
+pub mod NotedLemmas
+pub mod ExpandLemmas

@@ -1,0 +1,134 @@
+use Rattle.std.proofs.Common.{◌≡◌, ◌∙◌, rules, ◌≤◌, ◌<◌, ◌^◌, sym, ap, subst, ℕ, List, Some, length, refl, arith, slice_get}
+use Rattle.std.proofs.lemmas.Cmp.{nat_list_cmp_total}
+use Rattle.std.proofs.lemmas.List.{length-map}
+use Rattle.std.proofs.lemmas.Option.{same_Some}
+use Rattle.arrayvec.specs.ArrayVec.{ArrayVec}
+use Rattle.rbg_game.specs.declared.roles.Role.{Role}
+use Rattle.table.specs.Memory.{bytes_of_each}
+use Rattle.retrograde.specs.declared.records.Counts.{Counts}
+use Rattle.retrograde.specs.Stored.{Stored, expanded_count}
+use Rattle.retrograde.specs.Sound.{IsLocallySound}
+use Rattle.retrograde.specs.Successors.{packed_cmp, IsSuccessorList}
+use Rattle.retrograde.specs.Expansion.{AreNoted}
+use Rattle.retrograde.specs.Expands.{IsChoice, IsTooMany}
+use Rattle.retrograde.proofs.Expands.{choice, no_choice}
+use Rattle.frontier.specs.Numbering.{AreNumbersOf}
+use Rattle.frontier.proofs.NumberLemmas.{too_many}
+use Rattle.frontier.proofs.ExpandLemmas.{IsDone, successor_list, done, room}
+use Rattle.frontier.proofs.expand.expand_one.Goals.{then-len-gt1+in_default, else-len-gt1}
+use Rattle.frontier.proofs.expand.expand_one.Given
+use Rattle.frontier.proofs.expand.expand_one.Goals as goal
+
+pub returns-in-Keeper-clause-cause : goal.returns-in-Keeper-clause-cause
+returns-in-Keeper-clause-cause g c = λ honest x at.
+    let number : c.counts-before.result.expanded ≡ expanded_count (g.T.Table.stored c.args.table.now) = ap (λ (k : Counts). k.expanded) (c.counts-before.ensures ∙ g.met.T.Table.counts_are _ honest) in
+    let at' = subst (λ (k : ℕ). slice_get (g.T.Table.stored c.args.table.now).positions k ≡ Some x) (sym number) at in
+    let same : c.in_ok-packed.packed.items ≡ x = same_Some c.in_ok-packed.packed.items x (sym (c.in_ok-packed.ensures.position honest) ∙ at') in
+    let ys = bytes_of_each c.in_ok-found.found.items in
+    let few = length-map c.in_ok-found.found.items (λ (p : ArrayVec ℕ). p.items) in
+    let list : IsSuccessorList packed_cmp (g.M.GameGraph.graph c.args.source.now) c.in_ok-packed.packed.items ys = successor_list _ _ ys c.in_ok-found.ensures.exact in
+    let more : 1 < length ys = omega (arith, few, c.len.ensures, c.in_ok-found.found.ok.0, c.if-len-gt1.true) in
+    let it = choice packed_cmp nat_list_cmp_total (g.M.GameGraph.graph c.args.source.now) c.in_ok-packed.packed.items ys list more (sym c.mover.ensures ∙ c.in-Keeper.is) in (
+      number,
+      subst (λ (u : List ℕ). g.M.GameGraph.is_wide c.args.source.now u → ⊥) same (c.in_ok-found.ensures.narrow refl),
+      subst (λ (u : List ℕ). IsChoice (g.M.GameGraph.graph c.args.source.now) u) same it,
+    )
+
+pub returns-then-numbers-gt-MAX_POSITIONS-clause-cause :
+    goal.returns-then-numbers-gt-MAX_POSITIONS-clause-cause
+returns-then-numbers-gt-MAX_POSITIONS-clause-cause g c = λ honest x at.
+    let number : c.counts-before.result.expanded ≡ expanded_count (g.T.Table.stored c.args.table.now) = ap (λ (k : Counts). k.expanded) (c.counts-before.ensures ∙ g.met.T.Table.counts_are _ honest) in
+    let at' = subst (λ (k : ℕ). slice_get (g.T.Table.stored c.args.table.now).positions k ≡ Some x) (sym number) at in
+    let same : c.in_ok-packed.packed.items ≡ x = same_Some c.in_ok-packed.packed.items x (sym (c.in_ok-packed.ensures.position honest) ∙ at') in
+    let graph = g.M.GameGraph.graph c.args.source.now in
+    let ys = bytes_of_each c.in_ok-found.found.items in
+    let few = length-map c.in_ok-found.found.items (λ (p : ArrayVec ℕ). p.items) in
+    let list : IsSuccessorList packed_cmp graph c.in_ok-packed.packed.items ys = successor_list _ _ ys c.in_ok-found.ensures.exact in
+    let forced : graph.mover c.in_ok-packed.packed.items ≡ Role.Keeper → length ys ≤ 1 =
+    elim c.if-len-gt1.branch [
+      | then-len-gt1+in_default w ↦ λ keeper. absurd (w.in_default.not-Keeper (w.mover.ensures ∙ keeper))
+      | else-len-gt1 w ↦ λ keeper. omega (arith, few, c.len.ensures, c.in_ok-found.found.ok.0, w.if-len-gt1.false)
+    ] in
+    let one = c.in_ok-packed.ensures.same honest in
+    let are = c.in_ok-numbers.ensures.numbers (c.in_ok-packed.ensures.honest.0 honest) in
+    let here = subst (λ (t : Stored (List ℕ)). AreNumbersOf t.positions (length t.positions) ys c.in_ok-numbers.numbers.each.items c.in_ok-numbers.numbers.next) one (rw c.deref.ensures.value at are) in
+    let many : IsTooMany packed_cmp graph (2 ^ 24) (g.T.Table.stored c.args.table.now).positions c.in_ok-packed.packed.items =
+    too_many packed_cmp nat_list_cmp_total (g.T.Table.stored c.args.table.now).positions c.counts-before.result.expanded graph c.in_ok-packed.packed.items ys
+    c.in_ok-numbers.numbers.each.items c.in_ok-numbers.numbers.next (2 ^ 24) (g.T.Table.stored c.args.table.now) refl list here c.if-numbers-gt-MAX_POSITIONS.true in (
+      subst (λ (u : List ℕ). g.M.GameGraph.is_wide c.args.source.now u → ⊥) same (c.in_ok-found.ensures.narrow refl),
+      subst (λ (u : List ℕ). IsChoice graph u → ⊥) same (no_choice packed_cmp graph c.in_ok-packed.packed.items ys list forced),
+      subst (λ (u : List ℕ). IsTooMany packed_cmp graph (2 ^ 24) (g.T.Table.stored c.args.table.now).positions u) same many,
+    )
+
+pub note_all-requires-clause-ascending : goal.note_all-requires-clause-ascending
+note_all-requires-clause-ascending g c =
+    rw c.deref-3.ensures.value
+    ((successor_list (g.M.GameGraph.graph c.args.source.now) c.in_ok-packed.packed.items (bytes_of_each c.in_ok-found.found.items) c.in_ok-found.ensures.exact).ascending)
+
+pub returns-in_err-finish-clause-consistent : goal.returns-in_err-finish-clause-consistent
+returns-in_err-finish-clause-consistent g c = λ honest sound is.
+    let h1 = c.in_ok-packed.ensures.honest.0 honest in
+    let h2 = c.in_ok-numbers.ensures.honest.0 h1 in
+    let h3 = c.in_ok-note_all.ensures.honest.0 h2 in
+    let ys = bytes_of_each c.in_ok-found.found.items in
+    let same = c.in_ok-numbers.ensures.same h1 ∙ c.in_ok-packed.ensures.same honest in
+    let noted = subst (λ (t : Stored (List ℕ)). AreNoted c.counts-before.result.expanded ys t (g.T.Table.stored c.note_all.new.table)) same (rw c.deref-3.ensures.value at c.in_ok-note_all.ensures.noted h2) in
+    let counts = g.met.T.Table.counts_are c.args.table.now honest in
+    let waiting : expanded_count (g.T.Table.stored c.args.table.now) < length (g.T.Table.stored c.args.table.now).positions =
+    omega (arith, ap (λ (k : Counts). k.expanded) counts, ap (λ (k : Counts). k.known) counts, c.requires.waiting) in
+    let fits : length (g.T.Table.stored c.note_all.new.table).order < length (g.T.Table.stored c.note_all.new.table).positions
+    = room (g.M.GameGraph.graph c.args.source.now) (g.M.GameGraph.is_wide c.args.source.now) (g.T.Table.stored c.args.table.now) sound ys (g.T.Table.stored c.note_all.new.table) c.counts-before.result.expanded noted waiting in
+    let full : length (g.T.Table.stored c.note_all.new.table).positions ≤ length (g.T.Table.stored c.note_all.new.table).order = c.in_err-finish.ensures.full h3 (search rules) in
+    omega arith
+
+-- what the unit has done
+is_done : (g : Given.Over) (c : goal.After-drop-found-2 g) → g.T.Table.is_honest c.args.table.now
+    → IsLocallySound (g.M.GameGraph.graph c.args.source.now) (g.M.GameGraph.is_wide c.args.source.now) (g.T.Table.stored c.args.table.now)
+    → IsDone (g.M.GameGraph.graph c.args.source.now) (g.M.GameGraph.is_wide c.args.source.now) (g.T.Table.stored c.args.table.now) (g.T.Table.stored c.finish.new.table)
+is_done g c honest sound =
+    let h1 = c.in_ok-packed.ensures.honest.0 honest in
+    let h2 = c.in_ok-numbers.ensures.honest.0 h1 in
+    let h3 = c.in_ok-note_all.ensures.honest.0 h2 in
+    let h4 = c.in_ok-finish.ensures.honest.0 h3 in
+    let graph = g.M.GameGraph.graph c.args.source.now in
+    let ys = bytes_of_each c.in_ok-found.found.items in
+    let few = length-map c.in_ok-found.found.items (λ (p : ArrayVec ℕ). p.items) in
+    let list : IsSuccessorList packed_cmp graph c.in_ok-packed.packed.items ys = successor_list _ _ ys c.in_ok-found.ensures.exact in
+    let forced : graph.mover c.in_ok-packed.packed.items ≡ Role.Keeper → length ys ≤ 1 =
+    elim c.if-len-gt1.branch [
+      | then-len-gt1+in_default w ↦ λ keeper. absurd (w.in_default.not-Keeper (w.mover.ensures ∙ keeper))
+      | else-len-gt1 w ↦ λ keeper. omega (arith, few, c.len.ensures, c.in_ok-found.found.ok.0, w.if-len-gt1.false)
+    ] in
+    let same = c.in_ok-numbers.ensures.same h1 ∙ c.in_ok-packed.ensures.same honest in
+    let noted = subst (λ (t : Stored (List ℕ)). AreNoted c.counts-before.result.expanded ys t (g.T.Table.stored c.note_all.new.table)) same (rw c.deref-3.ensures.value at c.in_ok-note_all.ensures.noted h2) in
+    let count = ap (λ (k : Counts). k.known) (g.met.T.Table.counts_are c.finish.new.table h4) in
+    let before = ap (λ (k : Counts). k.known) c.in_ok-packed.ensures.counts in
+    let between = ap (λ (k : Counts). k.known) c.in_ok-numbers.ensures.counts in
+    let few' = c.in_ok-note_all.ensures.room (omega (arith, before, between, c.requires.limit)) in
+    let room : length (g.T.Table.stored c.finish.new.table).positions ≤ 2 ^ 24 = omega (arith, count, few', c.in_ok-finish.ensures.known) in
+    done graph (g.M.GameGraph.is_wide c.args.source.now) (g.T.Table.stored c.args.table.now) (g.T.Table.stored c.finish.new.table) sound
+    c.in_ok-packed.packed.items ys (g.T.Table.stored c.note_all.new.table) c.counts-before.result.expanded _ c.ahead.result
+    (ap (λ (k : Counts). k.expanded) (c.counts-before.ensures ∙ g.met.T.Table.counts_are _ honest)) (c.in_ok-packed.ensures.position honest) list forced
+    (c.in_ok-found.ensures.narrow refl) noted (omega (arith, few, c.len-2.ensures, c.in_ok-found.found.ok.0)) c.ahead.ensures (c.in_ok-finish.ensures.expanded h3) room
+
+pub returns-clause-expands : goal.returns-clause-expands
+returns-clause-expands g c = λ honest sound. (is_done g c honest sound).expands
+
+pub returns-clause-sound : goal.returns-clause-sound
+returns-clause-sound g c = λ honest sound. (is_done g c honest sound).sound
+
+pub returns-clause-step : goal.returns-clause-step
+returns-clause-step g c = λ honest sound. (is_done g c honest sound).step
+
+pub returns-clause-right : goal.returns-clause-right
+returns-clause-right g c = λ honest sound. (is_done g c honest sound).right
+
+pub returns-clause-last : goal.returns-clause-last
+returns-clause-last g c = λ honest sound. (is_done g c honest sound).last
+
+pub returns-clause-reached : goal.returns-clause-reached
+returns-clause-reached g c = λ honest sound. (is_done g c honest sound).reached
+
+pub returns-clause-drawn : goal.returns-clause-drawn
+returns-clause-drawn g c = λ honest sound. (is_done g c honest sound).drawn
+

@@ -1,0 +1,18 @@
+use Rattle.std.proofs.Common.{◌↔◌, ◌≤◌, ◌^◌, take, drop}
+use Rattle.std.proofs.lemmas.Cmp.{nat_list_cmp_total}
+use Rattle.table.specs.Memory.{bytes_of_each}
+use Rattle.retrograde.specs.Expansion.{AreNoted}
+use Rattle.retrograde.specs.Successors.{packed_cmp}
+use Rattle.frontier.proofs.NumberLemmas.{IsReady}
+use Rattle.frontier.proofs.note.note_all.Given as goal
+
+abbrev pub invariant-loop-i : goal.invariant-loop-i
+invariant-loop-i g l = record {
+  known : (g.T.Table.counted l.fn.table).known ≤ (g.T.Table.counted l.table).known;
+  room : (g.T.Table.counted l.fn.table).known ≤ 2 ^ 24 → (g.T.Table.counted l.table).known ≤ 2 ^ 24;
+  honest : g.T.Table.is_honest l.fn.table ↔ g.T.Table.is_honest l.table;
+  ready : g.T.Table.is_honest l.fn.table
+      → AreNoted l.predecessor (take l.i (bytes_of_each l.successors)) (g.T.Table.stored l.fn.table) (g.T.Table.stored l.table)
+      × IsReady packed_cmp nat_list_cmp_total (g.T.Table.stored l.fn.table).positions l.predecessor
+      (drop l.i (bytes_of_each l.successors)) (drop l.i l.numbers) (g.T.Table.stored l.table);
+}

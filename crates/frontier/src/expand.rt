@@ -1,0 +1,84 @@
+//! One position is expanded.
+ghost use Rattle.std.specs.Prelude.{◌≡◌, ◌↔◌, ◌+◌, ◌^◌, ◌<◌, ◌≤◌, ℕ, List, [], IfOk, OnOk, IfErr, Err, None, length};
+ghost use Rattle.retrograde.specs.Graph.{IsReachable};
+ghost use Rattle.retrograde.specs.Values.{Drawn};
+ghost use Rattle.retrograde.specs.View.{IsKnown, HasNumber, IsFinished};
+ghost use Rattle.retrograde.specs.Right.{IsRight};
+ghost use Rattle.retrograde.specs.Stored.{view_of, expanded_count};
+ghost use Rattle.retrograde.specs.Sound.{IsLocallySound};
+ghost use Rattle.retrograde.specs.Successors.{packed_cmp};
+ghost use Rattle.retrograde.specs.Units.{UnitsOfWork};
+ghost use Rattle.retrograde.specs.Expands.{Expands};
+ghost use Rattle.frontier.specs.Causes.{HasCause, IsRefusal};
+ghost use Rattle.frontier.specs.declared.fault.StepFault.TheVariants.{Inconsistent};
+
+use crate::fault::StepFault;
+use crate::finish::finish;
+use crate::note::note_all;
+use crate::numbers::{MAX_POSITIONS, numbers_of};
+use legal_moves::MoveSource;
+use rbg_game::roles::Role;
+use std::alloc::Global;
+use table::Table;
+
+/// Expands the known position with the least number that is not expanded, and answers how many
+/// positions became known by it.
+///
+/// It is asked only where fewer positions are expanded than known, of a table within the limit of
+/// 16,777,216 positions. A fault of the search comes before `KeeperChooses`, which has the number of the
+/// position, and that before `TooManyPositions`; none of these has changed the table. After another
+/// error the caller gives the table up: want of memory may come at any point, and `Inconsistent`
+/// only where the table did not agree with itself.
+pub fn expand_one<M: MoveSource, T: Table>(
+    alloc: Global,
+    source: &M,
+    table: &mut T,
+) -> Result<u32, StepFault>
+    requires source { M.is_sound source.now }
+    requires waiting { (T.counted table.old).expanded < (T.counted table.old).known }
+    requires limit { (T.counted table.old).known ≤ 2 ^ 24 }
+    ensures honest { OnOk result (T.is_honest table.old ↔ T.is_honest table.new) }
+    ensures expands { T.is_honest table.old → IsLocallySound (M.graph source.now) (M.is_wide source.now) (T.stored table.old)
+        → OnOk result ((x : List ℕ) × (ys : List (List ℕ))
+            × Expands packed_cmp (M.graph source.now) (T.stored table.old) (T.stored table.new) x ys) }
+    ensures more { T.is_honest table.old → IfOk result (λ more.
+        length (T.stored table.new).positions ≡ length (T.stored table.old).positions + more) }
+    ensures sound { T.is_honest table.old → IsLocallySound (M.graph source.now) (M.is_wide source.now) (T.stored table.old)
+        → OnOk result (IsLocallySound (M.graph source.now) (M.is_wide source.now) (T.stored table.new)) }
+    ensures step { T.is_honest table.old → IsLocallySound (M.graph source.now) (M.is_wide source.now) (T.stored table.old)
+        → OnOk result (UnitsOfWork packed_cmp (M.graph source.now) (M.is_wide source.now) (2 ^ 24) (view_of (T.stored table.old)) 1 (view_of (T.stored table.new))) }
+    ensures right { T.is_honest table.old → IsLocallySound (M.graph source.now) (M.is_wide source.now) (T.stored table.old)
+        → OnOk result (IsRight (M.graph source.now) (view_of (T.stored table.new))) }
+    ensures last { T.is_honest table.old → IsLocallySound (M.graph source.now) (M.is_wide source.now) (T.stored table.old)
+        → OnOk result (expanded_count (T.stored table.new) ≡ length (T.stored table.new).positions → (T.stored table.new).order ≡ []
+            → IsFinished (view_of (T.stored table.new))) }
+    ensures reached { T.is_honest table.old → IsLocallySound (M.graph source.now) (M.is_wide source.now) (T.stored table.old)
+        → OnOk result (IsFinished (view_of (T.stored table.new))
+            → (x : List ℕ) → IsKnown (view_of (T.stored table.new)) x ↔ IsReachable (M.graph source.now) x) }
+    ensures drawn { T.is_honest table.old → IsLocallySound (M.graph source.now) (M.is_wide source.now) (T.stored table.old)
+        → OnOk result (IsFinished (view_of (T.stored table.new))
+            → (i : ℕ) (x : List ℕ) → HasNumber (view_of (T.stored table.new)) i x
+            → ((view_of (T.stored table.new)).value i ≡ None) ↔ Drawn (M.graph source.now) x) }
+    ensures cause { T.is_honest table.old → IfErr result (HasCause (M.graph source.now) (M.is_wide source.now) (T.stored table.old)) }
+    ensures unchanged { T.is_honest table.old → IfErr result (λ fault. IsRefusal fault
+        → T.is_honest table.new × (T.stored table.new ≡ T.stored table.old)) }
+    ensures consistent { T.is_honest table.old → IsLocallySound (M.graph source.now) (M.is_wide source.now) (T.stored table.old)
+        → result ≡ Err Inconsistent → ⊥ }
+{
+    let before = table.counts();
+    let number = before.expanded;
+    let packed = table.packed(number)?;
+    let found = source.successors(alloc, &packed)?;
+    if found.len() > 1 {
+        if let Role::Keeper = source.mover(&packed) {
+            return Err(StepFault::KeeperChooses(number));
+        }
+    }
+    let numbers = numbers_of(alloc, table, &found)?;
+    if numbers.next > MAX_POSITIONS {
+        return Err(StepFault::TooManyPositions);
+    }
+    note_all(table, number, &numbers.each, &found)?;
+    finish(table, number, found.len() as u32, source.ahead(&packed))?;
+    Ok(table.counts().known - before.known)
+}
