@@ -826,7 +826,7 @@ module _ {P : Type 0} (graph : Graph P) (IsWide : P → Type 0) (stored : Stored
   leaves_all : AreLowered graph w d size base (with_processed graph s r w stored)
   leaves_all = below_keeps graph w d s size base
 
-  falls_all : Falls graph s w d base size (with_processed graph s r w stored) × Orders graph s w d base size (with_processed graph s r w stored).order
+  pub falls_all : Falls graph s w d base size (with_processed graph s r w stored) × Orders graph s w d base size (with_processed graph s r w stored).order
   falls_all = falls graph s w d base sound.table.once fresh size
 
   counts_all : IsCounted (with_processed graph s r w stored)

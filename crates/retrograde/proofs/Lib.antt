@@ -18,3 +18,4 @@ pub mod Diminishing
 pub mod Working
 pub mod Finding
 pub mod Expands
+pub mod Settles

@@ -13,4 +13,5 @@ pub mod Expansion
 pub mod Processing
 pub mod Units
 pub mod Expands
+pub mod Settles
 pub mod Play
