@@ -1,5 +1,7 @@
 //! One position is expanded.
-ghost use Rattle.std.specs.Prelude.{◌≡◌, ◌↔◌, ◌+◌, ◌^◌, ◌<◌, ◌≤◌, ℕ, List, [], IfOk, OnOk, IfErr, Err, None, length};
+ghost use Rattle.std.specs.Prelude.{◌≡◌, ◌↔◌, ◌⊎◌, ◌+◌, ◌^◌, ◌<◌, ◌≤◌, ℕ, List, [], true, false, map, vec_len, IsOk, IfOk, OnOk, IfErr, Err, None, length};
+ghost use Rattle.rbg_game.specs.declared.roles.Role.{Role};
+ghost use Rattle.legal_moves.specs.Listed.{ListsExactly};
 ghost use Rattle.retrograde.specs.Graph.{IsReachable};
 ghost use Rattle.retrograde.specs.Values.{Drawn};
 ghost use Rattle.retrograde.specs.View.{IsKnown, HasNumber, IsFinished};
@@ -10,16 +12,44 @@ ghost use Rattle.retrograde.specs.Successors.{packed_cmp};
 ghost use Rattle.retrograde.specs.Units.{UnitsOfWork};
 ghost use Rattle.retrograde.specs.Expands.{Expands};
 ghost use Rattle.frontier.specs.Causes.{HasCause, IsRefusal};
-ghost use Rattle.frontier.specs.declared.fault.StepFault.TheVariants.{Inconsistent};
+ghost use Rattle.frontier.specs.declared.fault.StepFault.TheVariants.{TooWide, Inconsistent, OutOfMemory};
 
 use crate::fault::StepFault;
 use crate::finish::finish;
 use crate::note::note_all;
 use crate::numbers::{MAX_POSITIONS, numbers_of};
 use legal_moves::MoveSource;
+use position_pack::Packed;
 use rbg_game::roles::Role;
 use std::alloc::Global;
 use table::Table;
+
+/// Where a move leads, in the order of the bytes.
+fn successors_of<M: MoveSource>(
+    alloc: Global,
+    source: &M,
+    at: &Packed,
+) -> Result<Vec<Packed>, StepFault>
+    requires { M.is_sound source.now }
+    ensures exact { IfOk result (λ found. ListsExactly ((M.graph source.now).Successor at.now.items) (map (λ p. p.items) found.items)) }
+    ensures few { IfOk result (λ found. vec_len found ≤ 65536) }
+    ensures narrow { IsOk result → ¬ M.is_wide source.now at.now.items }
+    ensures wide { result ≡ Err TooWide → M.is_wide source.now at.now.items }
+    ensures others { IfErr result (λ fault. (fault ≡ TooWide) ⊎ (fault ≡ OutOfMemory)) }
+{
+    Ok(source.successors(alloc, at)?)
+}
+
+/// The keeper has the turn and more than one position to move to.
+fn keeper_chooses(mover: Role, successors: usize) -> bool
+    ensures chooses { result ≡ true → (mover ≡ Role.Keeper) × (1 < successors) }
+    ensures forced { result ≡ false → mover ≡ Role.Keeper → successors ≤ 1 }
+{
+    match mover {
+        Role::Keeper => successors > 1,
+        Role::Player(_) => false,
+    }
+}
 
 /// Expands the known position with the least number that is not expanded, and answers how many
 /// positions became known by it.
@@ -38,6 +68,7 @@ pub fn expand_one<M: MoveSource, T: Table>(
     requires waiting { (T.counted table.old).expanded < (T.counted table.old).known }
     requires limit { (T.counted table.old).known ≤ 2 ^ 24 }
     ensures honest { OnOk result (T.is_honest table.old ↔ T.is_honest table.new) }
+    ensures room { OnOk result ((T.counted table.new).known ≤ 2 ^ 24) }
     ensures expands { T.is_honest table.old → IsLocallySound (M.graph source.now) (M.is_wide source.now) (T.stored table.old)
         → OnOk result ((x : List ℕ) × (ys : List (List ℕ))
             × Expands packed_cmp (M.graph source.now) (T.stored table.old) (T.stored table.new) x ys) }
@@ -68,11 +99,9 @@ pub fn expand_one<M: MoveSource, T: Table>(
     let before = table.counts();
     let number = before.expanded;
     let packed = table.packed(number)?;
-    let found = source.successors(alloc, &packed)?;
-    if found.len() > 1 {
-        if let Role::Keeper = source.mover(&packed) {
-            return Err(StepFault::KeeperChooses(number));
-        }
+    let found = successors_of(alloc, source, &packed)?;
+    if keeper_chooses(source.mover(&packed), found.len()) {
+        return Err(StepFault::KeeperChooses(number));
     }
     let numbers = numbers_of(alloc, table, &found)?;
     if numbers.next > MAX_POSITIONS {

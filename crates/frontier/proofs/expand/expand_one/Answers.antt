@@ -15,20 +15,19 @@ use Rattle.retrograde.proofs.Expands.{choice, no_choice}
 use Rattle.frontier.specs.Numbering.{AreNumbersOf}
 use Rattle.frontier.proofs.NumberLemmas.{too_many}
 use Rattle.frontier.proofs.ExpandLemmas.{IsDone, successor_list, done, room}
-use Rattle.frontier.proofs.expand.expand_one.Goals.{then-len-gt1+in_default, else-len-gt1}
 use Rattle.frontier.proofs.expand.expand_one.Given
 use Rattle.frontier.proofs.expand.expand_one.Goals as goal
 
-pub returns-in-Keeper-clause-cause : goal.returns-in-Keeper-clause-cause
-returns-in-Keeper-clause-cause g c = λ honest x at.
+pub returns-then-keeper_chooses-clause-cause : goal.returns-then-keeper_chooses-clause-cause
+returns-then-keeper_chooses-clause-cause g c = λ honest x at.
     let number : c.counts-before.result.expanded ≡ expanded_count (g.T.Table.stored c.args.table.now) = ap (λ (k : Counts). k.expanded) (c.counts-before.ensures ∙ g.met.T.Table.counts_are _ honest) in
     let at' = subst (λ (k : ℕ). slice_get (g.T.Table.stored c.args.table.now).positions k ≡ Some x) (sym number) at in
     let same : c.in_ok-packed.packed.items ≡ x = same_Some c.in_ok-packed.packed.items x (sym (c.in_ok-packed.ensures.position honest) ∙ at') in
     let ys = bytes_of_each c.in_ok-found.found.items in
     let few = length-map c.in_ok-found.found.items (λ (p : ArrayVec ℕ). p.items) in
     let list : IsSuccessorList packed_cmp (g.M.GameGraph.graph c.args.source.now) c.in_ok-packed.packed.items ys = successor_list _ _ ys c.in_ok-found.ensures.exact in
-    let more : 1 < length ys = omega (arith, few, c.len.ensures, c.in_ok-found.found.ok.0, c.if-len-gt1.true) in
-    let it = choice packed_cmp nat_list_cmp_total (g.M.GameGraph.graph c.args.source.now) c.in_ok-packed.packed.items ys list more (sym c.mover.ensures ∙ c.in-Keeper.is) in (
+    let more : 1 < length ys = omega (arith, few, c.len.ensures, c.in_ok-found.found.ok.0, (c.keeper_chooses.ensures.chooses c.if-keeper_chooses.true).1) in
+    let it = choice packed_cmp nat_list_cmp_total (g.M.GameGraph.graph c.args.source.now) c.in_ok-packed.packed.items ys list more (sym c.mover.ensures ∙ (c.keeper_chooses.ensures.chooses c.if-keeper_chooses.true).0) in (
       number,
       subst (λ (u : List ℕ). g.M.GameGraph.is_wide c.args.source.now u → ⊥) same (c.in_ok-found.ensures.narrow refl),
       subst (λ (u : List ℕ). IsChoice (g.M.GameGraph.graph c.args.source.now) u) same it,
@@ -45,10 +44,7 @@ returns-then-numbers-gt-MAX_POSITIONS-clause-cause g c = λ honest x at.
     let few = length-map c.in_ok-found.found.items (λ (p : ArrayVec ℕ). p.items) in
     let list : IsSuccessorList packed_cmp graph c.in_ok-packed.packed.items ys = successor_list _ _ ys c.in_ok-found.ensures.exact in
     let forced : graph.mover c.in_ok-packed.packed.items ≡ Role.Keeper → length ys ≤ 1 =
-    elim c.if-len-gt1.branch [
-      | then-len-gt1+in_default w ↦ λ keeper. absurd (w.in_default.not-Keeper (w.mover.ensures ∙ keeper))
-      | else-len-gt1 w ↦ λ keeper. omega (arith, few, c.len.ensures, c.in_ok-found.found.ok.0, w.if-len-gt1.false)
-    ] in
+    λ keeper. omega (arith, few, c.len.ensures, c.in_ok-found.found.ok.0, c.keeper_chooses.ensures.forced c.if-keeper_chooses.false (c.mover.ensures ∙ keeper)) in
     let one = c.in_ok-packed.ensures.same honest in
     let are = c.in_ok-numbers.ensures.numbers (c.in_ok-packed.ensures.honest.0 honest) in
     let here = subst (λ (t : Stored (List ℕ)). AreNumbersOf t.positions (length t.positions) ys c.in_ok-numbers.numbers.each.items c.in_ok-numbers.numbers.next) one (rw c.deref.ensures.value at are) in
@@ -95,10 +91,7 @@ is_done g c honest sound =
     let few = length-map c.in_ok-found.found.items (λ (p : ArrayVec ℕ). p.items) in
     let list : IsSuccessorList packed_cmp graph c.in_ok-packed.packed.items ys = successor_list _ _ ys c.in_ok-found.ensures.exact in
     let forced : graph.mover c.in_ok-packed.packed.items ≡ Role.Keeper → length ys ≤ 1 =
-    elim c.if-len-gt1.branch [
-      | then-len-gt1+in_default w ↦ λ keeper. absurd (w.in_default.not-Keeper (w.mover.ensures ∙ keeper))
-      | else-len-gt1 w ↦ λ keeper. omega (arith, few, c.len.ensures, c.in_ok-found.found.ok.0, w.if-len-gt1.false)
-    ] in
+    λ keeper. omega (arith, few, c.len.ensures, c.in_ok-found.found.ok.0, c.keeper_chooses.ensures.forced c.if-keeper_chooses.false (c.mover.ensures ∙ keeper)) in
     let same = c.in_ok-numbers.ensures.same h1 ∙ c.in_ok-packed.ensures.same honest in
     let noted = subst (λ (t : Stored (List ℕ)). AreNoted c.counts-before.result.expanded ys t (g.T.Table.stored c.note_all.new.table)) same (rw c.deref-3.ensures.value at c.in_ok-note_all.ensures.noted h2) in
     let count = ap (λ (k : Counts). k.known) (g.met.T.Table.counts_are c.finish.new.table h4) in

@@ -1,0 +1,17 @@
+use Rattle.std.proofs.Common.{◌≡◌, ◌↔◌, ◌-◌, ◌≤◌}
+use Rattle.retrograde.specs.Processing.{lowered_below}
+use Rattle.settle.proofs.Bounds.{bound_of}
+use Rattle.settle.proofs.lower.lower_all.Given as goal
+
+abbrev pub invariant-loop-predecessor : goal.invariant-loop-predecessor
+invariant-loop-predecessor g l = record {
+  within : bound_of l.after ≤ (g.T.Table.counted l.fn.table).known;
+  known : (g.T.Table.counted l.table).known ≡ (g.T.Table.counted l.fn.table).known;
+  honest : g.T.Table.is_honest l.fn.table ↔ g.T.Table.is_honest l.table;
+  source : l.source ≡ l.fn.source;
+  done : g.T.Table.is_honest l.fn.table → g.T.Table.stored l.table
+      ≡ lowered_below (g.M.GameGraph.graph l.fn.source) l.number l.winner l.distance (bound_of l.after) (g.T.Table.stored l.fn.table);
+}
+
+abbrev pub decreases-loop-predecessor : goal.decreases-loop-predecessor
+decreases-loop-predecessor g l = (g.T.Table.counted l.fn.table).known - bound_of l.after

@@ -1,0 +1,102 @@
+//! The predecessors of a processed position learn of it.
+ghost use Rattle.std.specs.Prelude.{◌≡◌, ◌↔◌, ◌+◌, ◌^◌, ◌<◌, ◌≤◌, ◌⊎◌, ℕ, true, OnOk, IfErr, Err, length};
+ghost use Rattle.retrograde.specs.declared.records.Record.{Record};
+ghost use Rattle.retrograde.specs.Stored.{HasRecord};
+ghost use Rattle.retrograde.specs.Changes.{with_record, with_settled};
+ghost use Rattle.retrograde.specs.Processing.{lower_at, lowered_below};
+ghost use Rattle.frontier.specs.Causes.{IsRefusal};
+ghost use Rattle.frontier.specs.declared.fault.StepFault.TheVariants.{Inconsistent};
+ghost use Rattle.settle.specs.Stuck.{IsStuck, IsStuckAt};
+
+use crate::turn::{has_the_turn, waits};
+use frontier::StepFault;
+use legal_moves::MoveSource;
+use rbg_game::roles::Player;
+use retrograde::{Record, State};
+use table::Table;
+
+/// Puts a number last into the settled order, and writes its record.
+fn settle<T: Table>(table: &mut T, number: u32, kept: Record) -> Result<(), StepFault>
+    requires { number < (T.counted table.old).known }
+    ensures settled { T.is_honest table.old → OnOk result (T.stored table.new ≡ with_record (with_settled (T.stored table.old) number) number kept) }
+    ensures full { T.is_honest table.old → result ≡ Err Inconsistent → length (T.stored table.old).positions ≤ length (T.stored table.old).order }
+    ensures honest { OnOk result (T.is_honest table.old ↔ T.is_honest table.new) }
+    ensures known { OnOk result ((T.counted table.new).known ≡ (T.counted table.old).known) }
+    ensures goes_on { IfErr result (λ fault. ¬ IsRefusal fault) }
+{
+    let counts = table.counts();
+    if counts.settled >= counts.known {
+        return Err(StepFault::Inconsistent);
+    }
+    table.push_settled(number)?;
+    table.set_record(number, kept)?;
+    Ok(())
+}
+
+/// Counts down what is left of a predecessor, and settles it if it is due.
+fn lower<M: MoveSource, T: Table>(
+    source: &M,
+    table: &mut T,
+    winner: Player,
+    distance: u32,
+    predecessor: u32,
+) -> Result<(), StepFault>
+    requires source { M.is_sound source.now }
+    requires known { predecessor < (T.counted table.old).known }
+    ensures lowered { T.is_honest table.old → OnOk result (T.stored table.new ≡ lower_at (M.graph source.now) winner distance predecessor (T.stored table.old)) }
+    ensures stuck { T.is_honest table.old → result ≡ Err Inconsistent
+        → (r : Record) × HasRecord (T.stored table.old) predecessor r × IsStuck (T.stored table.old) distance r }
+    ensures honest { OnOk result (T.is_honest table.old ↔ T.is_honest table.new) }
+    ensures known { OnOk result ((T.counted table.new).known ≡ (T.counted table.old).known) }
+    ensures goes_on { IfErr result (λ fault. ¬ IsRefusal fault) }
+{
+    let packed = table.packed(predecessor)?;
+    let mover = source.mover(&packed);
+    let kept = table.record(predecessor)?;
+    if kept.left == 0 {
+        return Err(StepFault::Inconsistent);
+    }
+    let left = kept.left - 1;
+    if waits(kept.state) && (has_the_turn(winner, mover) || kept.left == 1) {
+        if distance == u32::MAX {
+            return Err(StepFault::Inconsistent);
+        }
+        let settled = Record {
+            state: State::Settled,
+            winner: Some(winner),
+            distance: distance + 1,
+            left,
+            successors: kept.successors,
+        };
+        settle(table, predecessor, settled)
+    } else {
+        table.set_record(predecessor, Record { left, ..kept })?;
+        Ok(())
+    }
+}
+
+/// Sees to each predecessor of a position, by ascending number: the winner wins the position in this
+/// distance.
+pub fn lower_all<M: MoveSource, T: Table>(
+    source: &M,
+    table: &mut T,
+    number: u32,
+    winner: Player,
+    distance: u32,
+) -> Result<(), StepFault>
+    requires source { M.is_sound source.now }
+    ensures lowered { T.is_honest table.old → OnOk result (T.stored table.new
+        ≡ lowered_below (M.graph source.now) number winner distance (length (T.stored table.old).positions) (T.stored table.old)) }
+    ensures stuck { T.is_honest table.old → result ≡ Err Inconsistent
+        → (p : ℕ) × IsStuckAt (M.graph source.now) number winner distance (T.stored table.old) p }
+    ensures honest { OnOk result (T.is_honest table.old ↔ T.is_honest table.new) }
+    ensures known { OnOk result ((T.counted table.new).known ≡ (T.counted table.old).known) }
+    ensures goes_on { IfErr result (λ fault. ¬ IsRefusal fault) }
+{
+    let mut after: Option<u32> = None;
+    while let Some(predecessor) = table.next_edge(number, after)? {
+        lower(source, table, winner, distance, predecessor)?;
+        after = Some(predecessor);
+    }
+    Ok(())
+}

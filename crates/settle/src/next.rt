@@ -1,0 +1,51 @@
+//! The settled position that waits first.
+ghost use Rattle.std.specs.Prelude.{◌≡◌, ◌↔◌, ◌<◌, IfOk, OnOk, IfErr, Err};
+ghost use Rattle.retrograde.specs.Stored.{IsTable};
+ghost use Rattle.retrograde.specs.Processing.{IsNextSettled, with_processed_alone};
+ghost use Rattle.frontier.specs.Causes.{IsRefusal};
+ghost use Rattle.frontier.specs.declared.fault.StepFault.TheVariants.{Inconsistent};
+
+use frontier::StepFault;
+use rbg_game::roles::Player;
+use retrograde::{Record, State};
+use table::Table;
+
+/// A settled position: its number, the record that it had, and who wins it.
+#[derive(Clone, Copy, Debug, Drop)]
+pub struct Settled {
+    pub number: u32,
+    pub kept: Record,
+    pub winner: Player,
+}
+
+/// Writes of the first number of the settled order that is not processed that it is, and of no other.
+pub fn process_next<T: Table>(table: &mut T) -> Result<Settled, StepFault>
+    requires { (T.counted table.old).processed < (T.counted table.old).settled }
+    ensures next { T.is_honest table.old → IfOk result (λ next. IsNextSettled (T.stored table.old) next.number next.kept next.winner) }
+    ensures marked { T.is_honest table.old → IfOk result (λ next.
+        T.stored table.new ≡ with_processed_alone next.number next.kept (T.stored table.old)) }
+    ensures known { OnOk result ((T.counted table.new).known ≡ (T.counted table.old).known) }
+    ensures honest { OnOk result (T.is_honest table.old ↔ T.is_honest table.new) }
+    ensures consistent { T.is_honest table.old → IsTable (T.stored table.old) → result ≡ Err Inconsistent → ⊥ }
+    ensures goes_on { IfErr result (λ fault. ¬ IsRefusal fault) }
+{
+    let counts = table.counts();
+    let number = table.settled_at(counts.processed)?;
+    if number >= counts.known {
+        return Err(StepFault::Inconsistent);
+    }
+    let kept = table.record(number)?;
+    let Some(winner) = kept.winner else {
+        return Err(StepFault::Inconsistent);
+    };
+    let processed = Record {
+        state: State::Processed,
+        ..kept
+    };
+    table.set_record(number, processed)?;
+    Ok(Settled {
+        number,
+        kept,
+        winner,
+    })
+}

@@ -1,0 +1,66 @@
+//! One settled position is processed.
+ghost use Rattle.std.specs.Prelude.{◌≡◌, ◌↔◌, ◌+◌, ◌^◌, ◌<◌, ◌≤◌, ℕ, List, IfOk, OnOk, IfErr, Err, None, length};
+ghost use Rattle.rbg_game.specs.declared.roles.Player.{Player};
+ghost use Rattle.retrograde.specs.declared.records.Record.{Record};
+ghost use Rattle.retrograde.specs.Graph.{IsReachable};
+ghost use Rattle.retrograde.specs.Values.{Drawn};
+ghost use Rattle.retrograde.specs.View.{IsKnown, HasNumber, IsFinished};
+ghost use Rattle.retrograde.specs.Right.{IsRight};
+ghost use Rattle.retrograde.specs.Stored.{view_of};
+ghost use Rattle.retrograde.specs.Sound.{IsLocallySound};
+ghost use Rattle.retrograde.specs.Successors.{packed_cmp};
+ghost use Rattle.retrograde.specs.Units.{UnitsOfWork};
+ghost use Rattle.retrograde.specs.Settles.{Settles};
+ghost use Rattle.frontier.specs.Causes.{IsRefusal};
+ghost use Rattle.frontier.specs.declared.fault.StepFault.TheVariants.{Inconsistent};
+
+use crate::lower::lower_all;
+use crate::next::process_next;
+use frontier::StepFault;
+use legal_moves::MoveSource;
+use table::Table;
+
+/// Processes the first number of the settled order that is not processed, of which all its predecessors
+/// learn, and answers how many positions were settled by it.
+///
+/// It is asked only where all known positions are expanded and some settled one is not processed, of a
+/// table within the limit of 16,777,216 positions. After an error the caller gives the table up: want
+/// of memory may come at any point, and `Inconsistent` only where the table did not agree with
+/// itself. No other fault comes.
+pub fn settle_one<M: MoveSource, T: Table>(source: &M, table: &mut T) -> Result<u32, StepFault>
+    requires source { M.is_sound source.now }
+    requires expanded { (T.counted table.old).expanded ≡ (T.counted table.old).known }
+    requires waiting { (T.counted table.old).processed < (T.counted table.old).settled }
+    requires limit { (T.counted table.old).known ≤ 2 ^ 24 }
+    ensures honest { OnOk result (T.is_honest table.old ↔ T.is_honest table.new) }
+    ensures settles { T.is_honest table.old → IsLocallySound (M.graph source.now) (M.is_wide source.now) (T.stored table.old)
+        → OnOk result ((s : ℕ) × (r : Record) × (w : Player) × Settles (M.graph source.now) (T.stored table.old) (T.stored table.new) s r w) }
+    ensures known { OnOk result ((T.counted table.new).known ≡ (T.counted table.old).known) }
+    ensures newly { T.is_honest table.old → IfOk result (λ newly.
+        length (T.stored table.new).order ≡ length (T.stored table.old).order + newly) }
+    ensures sound { T.is_honest table.old → IsLocallySound (M.graph source.now) (M.is_wide source.now) (T.stored table.old)
+        → OnOk result (IsLocallySound (M.graph source.now) (M.is_wide source.now) (T.stored table.new)) }
+    ensures step { T.is_honest table.old → IsLocallySound (M.graph source.now) (M.is_wide source.now) (T.stored table.old)
+        → OnOk result (UnitsOfWork packed_cmp (M.graph source.now) (M.is_wide source.now) (2 ^ 24) (view_of (T.stored table.old)) 1 (view_of (T.stored table.new))) }
+    ensures right { T.is_honest table.old → IsLocallySound (M.graph source.now) (M.is_wide source.now) (T.stored table.old)
+        → OnOk result (IsRight (M.graph source.now) (view_of (T.stored table.new))) }
+    ensures reached { T.is_honest table.old → IsLocallySound (M.graph source.now) (M.is_wide source.now) (T.stored table.old)
+        → OnOk result (IsFinished (view_of (T.stored table.new))
+            → (x : List ℕ) → IsKnown (view_of (T.stored table.new)) x ↔ IsReachable (M.graph source.now) x) }
+    ensures drawn { T.is_honest table.old → IsLocallySound (M.graph source.now) (M.is_wide source.now) (T.stored table.old)
+        → OnOk result (IsFinished (view_of (T.stored table.new))
+            → (i : ℕ) (x : List ℕ) → HasNumber (view_of (T.stored table.new)) i x
+            → ((view_of (T.stored table.new)).value i ≡ None) ↔ Drawn (M.graph source.now) x) }
+    ensures consistent { T.is_honest table.old → IsLocallySound (M.graph source.now) (M.is_wide source.now) (T.stored table.old)
+        → result ≡ Err Inconsistent → ⊥ }
+    ensures goes_on { IfErr result (λ fault. ¬ IsRefusal fault) }
+{
+    let before = table.counts();
+    let next = process_next(table)?;
+    lower_all(source, table, next.number, next.winner, next.kept.distance)?;
+    let settled = table.counts().settled;
+    if settled < before.settled {
+        return Err(StepFault::Inconsistent);
+    }
+    Ok(settled - before.settled)
+}
