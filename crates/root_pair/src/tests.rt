@@ -1,0 +1,1 @@
+//! What `create`, `open` and `publish` do on each kind of disk.
