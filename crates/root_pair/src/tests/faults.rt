@@ -78,7 +78,10 @@ fn a_create_that_failed_left_no_table_or_the_root(rt: HostRuntime) -> Result<(),
         for done in [false, true] {
             let mut flaky = FlakyDisk::new(MemDisk::new(rt.alloc(), 128)?, call, done);
             assert_eq!(rt; create_on(&mut flaky), create_answer(call));
-            assert_eq!(rt; root_of(&mut flaky.into_inner()), found_after_create(call, done));
+            assert_eq!(rt;
+                root_of(&mut flaky.into_inner()),
+                found_after_create(call, done)
+            );
         }
     }
     Ok(())

@@ -29,7 +29,10 @@ fn a_file_of_odd_length_becomes_a_table_and_keeps_it(rt: HostRuntime) -> Result<
     assert_eq!(rt; before.get(2048), Some(&1));
     let mut again = disk_of(&rt, "odd.table")?;
     assert_eq!(rt; root_of(&mut again), Ok([8; 512]));
-    assert_eq!(rt; create(&mut again, &[9; 512]), Err(RootFault::AlreadyATable));
+    assert_eq!(rt;
+        create(&mut again, &[9; 512]),
+        Err(RootFault::AlreadyATable)
+    );
     assert!(rt; fs::read(&rt, "odd.table")? == before);
     fs::remove_file(&rt, "odd.table")?;
     Ok(())
@@ -51,7 +54,10 @@ fn a_file_that_is_read_only_is_opened_and_not_written(rt: HostRuntime) -> Result
     fs::write(&rt, "fixed.table", [0; 65_536].as_slice())?;
     let mut disk = FileDisk::new(File::open(&rt, "fixed.table")?)?;
     assert_eq!(rt; create(&mut disk, &[7; 512]), Err(RootFault::Write));
-    assert_eq!(rt; create(&mut disk_of(&rt, "fixed.table")?, &[7; 512]), Ok(()));
+    assert_eq!(rt;
+        create(&mut disk_of(&rt, "fixed.table")?, &[7; 512]),
+        Ok(())
+    );
     assert_eq!(rt; root_of(&mut disk), Ok([7; 512]));
     assert!(rt; disk.sectors() == 128);
     assert_eq!(rt; publish(&mut disk, &[8; 512]), Err(RootFault::Write));

@@ -40,7 +40,9 @@ fn published(calls: u64, pick: u64) -> u8 {
 }
 
 #[test]
-fn a_stop_at_each_call_of_publish_leaves_the_old_root_or_the_new(rt: HostRuntime) -> Result<(), Fail> {
+fn a_stop_at_each_call_of_publish_leaves_the_old_root_or_the_new(
+    rt: HostRuntime,
+) -> Result<(), Fail> {
     for calls in 0..6u64 {
         let mut fuse = FuseDisk::new(table(rt.alloc())?, calls);
         assert_eq!(rt; publish(&mut fuse, &[9; 512]).is_ok(), calls == 5);

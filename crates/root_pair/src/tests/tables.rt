@@ -50,7 +50,10 @@ fn a_disk_without_a_header_or_of_three_sectors_is_no_table(rt: HostRuntime) -> R
     let mut three = MemDisk::new(rt.alloc(), 3)?;
     three.write(0, &header)?;
     assert_eq!(rt; root_of(&mut three), Err(RootFault::NotATable));
-    assert_eq!(rt; create(&mut three, &[7; 512]), Err(RootFault::AlreadyATable));
+    assert_eq!(rt;
+        create(&mut three, &[7; 512]),
+        Err(RootFault::AlreadyATable)
+    );
     Ok(())
 }
 
