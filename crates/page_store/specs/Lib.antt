@@ -1,0 +1,5 @@
+pub mod Causes
+pub mod Marks
+pub mod Page
+pub mod Store
+pub mod Works

@@ -1,0 +1,13 @@
+//! Pages of 4,096 bytes on a table's disk: read, written and handed out, and a root that needs some of them.
+#![tactic(auto)]
+
+mod fault;
+mod marks;
+mod page;
+mod pages;
+mod store;
+
+pub use fault::PageFault;
+pub use marks::Mark;
+pub use pages::Pages;
+pub use store::{PageStore, Refused};
