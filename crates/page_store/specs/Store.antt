@@ -91,6 +91,13 @@ pub record IsUnchanged (old new : Store) : Type 0 where
   pub closed : new.closed ≡ old.closed
   pub shown : IsTrue old.disk.honest → new.disk.now ≡ old.disk.now
 
+-- a commit of this root, whatever it answers: a stop leaves what was saved before, or this root and all pages as they read
+pub record Commits (root : List ℕ) (old new : Store) : Type 0 where
+  pub goes_on : GoesOn old.disk new.disk
+  pub same_size : size new.disk ≡ size old.disk
+  pub failures : old.failures ≤ new.failures
+  pub leaves : IsTrue old.disk.honest → IsSafe old → LeavesOnly old.disk new.disk (λ picture. Saved old picture ⊎ SavedAs root old picture)
+
 -- a commit answers Ok: this root, all pages as they read, and the marks of a new beginning
 pub record IsCommitted (root : List ℕ) (old new : Store) : Type 0 where
   pub is : new.root ≡ root

@@ -1,10 +1,9 @@
 //! What a store of pages promises.
-ghost use Rattle.std.specs.Prelude.{◌≡◌, ◌≢◌, ◌⊎◌, ◌↔◌, ◌≤◌, ◌<◌, ℕ, length, true, OnOk, OnErr, IfOk, IfErr, IsErrOf, IsTrue};
-ghost use Rattle.sector_disk.specs.Disk.{GoesOn, LeavesOnly};
+ghost use Rattle.std.specs.Prelude.{◌≡◌, ◌≢◌, ◌↔◌, ◌≤◌, ◌<◌, ℕ, length, true, OnOk, OnErr, IfOk, IfErr, IsErrOf, IsTrue};
 ghost use Rattle.page_store.specs.declared.marks.Mark.TheVariants.{Committed, Waiting, Fresh, Free};
 ghost use Rattle.page_store.specs.Causes.{MarkCause, ReadCause, NewCause, WriteCause, CommitCause};
 ghost use Rattle.page_store.specs.Marks.{mark as mark_of, AreSealed, AreDiscarded, IsMarked, let_go, free_count};
-ghost use Rattle.page_store.specs.Store.{Store, reads, Saved, SavedAs, StopLeaves, IsSafe, IsSound, Works, IsUnchanged, IsRemarked, IsCommitted};
+ghost use Rattle.page_store.specs.Store.{Store, reads, SavedAs, StopLeaves, IsSound, Works, IsUnchanged, IsRemarked, Commits, IsCommitted};
 
 use crate::PageFault;
 use root_pair::Root;
@@ -84,17 +83,14 @@ pub trait Pages {
     /// Puts this root in the place of the present one, by one write of the gate sector. A stop within it leaves the
     /// present root and its pages or the new root and all pages as they read, and after `Ok` the new.
     fn commit(&mut self, root: &[u8; 512]) -> Result<(), PageFault>
-        ensures moments { IsTrue (store self.old).disk.honest → IsSafe (store self.old)
-            → LeavesOnly (store self.old).disk (store self.new).disk (λ picture. Saved (store self.old) picture ⊎ SavedAs root.now (store self.old) picture) }
+        ensures commits { Commits root.now (store self.old) (store self.new) }
         ensures after { IsTrue (store self.old).disk.honest → OnOk result (StopLeaves (store self.new) (SavedAs root.now (store self.old))) }
         ensures ok { OnOk result (IsCommitted root.now (store self.old) (store self.new)) }
         ensures kept_root { OnErr result ((store self.new).root ≡ (store self.old).root) }
         ensures kept_marks { OnErr result ((store self.new).marks ≡ (store self.old).marks) }
         ensures untouched { IfErr result (λ fault. fault ≢ PageFault.Disk → store self.new ≡ store self.old) }
         ensures cause { IfErr result (CommitCause (store self.old) (store self.new)) }
-        ensures closed { (store self.old).closed ≡ true → IsErrOf result PageFault.Closed }
-        ensures time { GoesOn (store self.old).disk (store self.new).disk }
-        ensures failures { (store self.old).failures ≤ (store self.new).failures };
+        ensures closed { (store self.old).closed ≡ true → IsErrOf result PageFault.Closed };
 
     /// Goes back to the last commit. It takes no memory and always answers, of a closed store too.
     fn discard(&mut self)
