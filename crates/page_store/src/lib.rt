@@ -6,7 +6,11 @@ pub mod laws;
 mod marks;
 mod page;
 mod pages;
+#[cfg(test)]
+mod stop_tests;
 mod store;
+#[cfg(test)]
+mod tests;
 
 pub use fault::PageFault;
 pub use marks::Mark;

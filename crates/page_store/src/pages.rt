@@ -20,6 +20,8 @@ pub trait Pages {
     fn mark(&mut self, page: u32) -> Result<(), PageFault>
         ensures ok { OnOk result (IsMarked page Committed (store self.old).marks (store self.new).marks) }
         ensures waited { OnOk result (mark_of (store self.old).marks page ≡ Waiting) }
+        ensures is_page { OnOk result (1 ≤ page) }
+        ensures within { OnOk result (page < length (store self.old).marks) }
         ensures refused { OnErr result (store self.new ≡ store self.old) }
         ensures cause { IfErr result (MarkCause (store self.old) page) }
         ensures closed { (store self.old).closed ≡ true → IsErrOf result PageFault.Closed }
