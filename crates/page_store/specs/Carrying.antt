@@ -124,7 +124,7 @@ discarded Released mid (inr is) waits same = cc
 pub discard_goes_back : (old mid new : Store) → IsCalm old → Works old mid → AreDiscarded mid.marks new.marks → IsRemarked mid new → IsBack old new
 discard_goes_back old mid new calm works marks others =
     let each : (p : ℕ) → mark new.marks p ≡ mark old.marks p =
-        λ (p : ℕ). marks.each p ∙ discarded (mark old.marks p) (mark mid.marks p) (calm.each p) (works.waiting p) (works.needed p) in
+    λ (p : ℕ). marks.each p ∙ discarded (mark old.marks p) (mark mid.marks p) (calm.each p) (works.waiting p) (works.needed p) in
     record {
       root = others.root ∙ works.root;
       marks = ext_get_or Committed new.marks old.marks (marks.same_length ∙ works.same_pages) (λ p within. each p);

@@ -7,6 +7,8 @@ mod marks;
 mod page;
 mod pages;
 #[cfg(test)]
+mod soak_tests;
+#[cfg(test)]
 mod stop_tests;
 mod store;
 #[cfg(test)]

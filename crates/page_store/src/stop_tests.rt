@@ -73,28 +73,35 @@ fn seen(alloc: Global, disk: MemDisk) -> Result<(u8, Option<u8>), Fail> {
 
 #[test]
 fn a_stop_at_each_call_leaves_the_old_page_or_the_new(rt: HostRuntime) -> Result<(), Fail> {
-    let mut old_seen = 0;
-    let mut new_seen = 0;
+    let mut old_seen = false;
+    let mut new_seen_after_a_refusal = false;
     for passes in 0..=WRITING + COMMIT {
         for pick in 0..64 {
             let fuse = FuseDisk::new(disk_of_ones(rt.alloc())?, OPENING + passes);
             let mut pages = opened(rt.alloc(), fuse)?;
             let told = put_twos(&mut pages);
-            assert_eq!(rt; told.is_ok(), passes == WRITING + COMMIT, "{passes} calls pass");
+            assert_eq!(rt;
+                told.is_ok(),
+                passes == WRITING + COMMIT,
+                "{passes} calls pass"
+            );
             let disk = pages.into_disk().into_inner();
             let left = seen(rt.alloc(), disk.after_stop(rt.alloc(), pick * 0x5555)?)?;
             if left == (1, Some(1)) {
                 assert!(rt; told.is_err(), "what was acknowledged is there");
-                old_seen += 1;
+                old_seen = true;
             } else {
                 assert_eq!(rt; left, (2, Some(2)), "{passes} calls pass, pick {pick}");
-                new_seen += 1;
+                new_seen_after_a_refusal |= told.is_err();
             }
-            assert!(rt; passes >= WRITING + 4 || left.0 == 1, "the gate was not written");
+            assert!(rt;
+                passes >= WRITING + 4 || left.0 == 1,
+                "the gate was not written"
+            );
         }
     }
-    assert!(rt; old_seen > 0);
-    assert!(rt; new_seen > 64);
+    assert!(rt; old_seen);
+    assert!(rt; new_seen_after_a_refusal);
     Ok(())
 }
 
@@ -110,13 +117,20 @@ fn a_write_or_sync_that_fails_closes_the_store(rt: HostRuntime) -> Result<(), Fa
             if call != gate_read {
                 let told = answers(&mut pages);
                 assert_eq!(rt; told, [Some(PageFault::Closed); 4], "call {call}");
-                assert_eq!(rt; pages.free_pages(), 13, "one page is taken and one released");
+                assert_eq!(rt;
+                    pages.free_pages(),
+                    13,
+                    "one page is taken and one released"
+                );
             }
             pages.discard();
             assert_eq!(rt; pages.free_pages(), 14);
             let left = seen(rt.alloc(), pages.into_disk().into_inner())?;
             assert!(rt; left == (1, Some(1)) || left == (2, Some(2)));
-            assert!(rt; call > gate_read + 2 || left.0 == 1, "the gate was not written");
+            assert!(rt;
+                call > gate_read + 2 || left.0 == 1,
+                "the gate was not written"
+            );
         }
     }
     Ok(())
@@ -130,14 +144,20 @@ fn a_read_that_fails_leaves_the_store_as_it_was(rt: HostRuntime) -> Result<(), F
     assert_eq!(rt; put_twos(&mut pages), Err(PageFault::Disk));
     assert_eq!(rt; pages.free_pages(), 13);
     assert_eq!(rt; pages.commit(&root_naming(2, 2)), Ok(()));
-    assert_eq!(rt; seen(rt.alloc(), pages.into_disk().into_inner())?, (2, Some(2)));
+    assert_eq!(rt;
+        seen(rt.alloc(), pages.into_disk().into_inner())?,
+        (2, Some(2))
+    );
     for call in OPENING..OPENING + WRITING {
         let flaky = FlakyDisk::new(disk_of_ones(rt.alloc())?, call, true);
         let mut pages = opened(rt.alloc(), flaky)?;
         mark_named(&mut pages)?;
         assert_eq!(rt; byte_of(&mut pages, 1), Err(PageFault::Disk), "call {call}");
         assert_eq!(rt; byte_of(&mut pages, 1), Ok(Some(1)));
-        assert_eq!(rt; answers(&mut pages), [Some(PageFault::Damaged), None, None, None]);
+        assert_eq!(rt;
+            answers(&mut pages),
+            [Some(PageFault::Damaged), None, None, None]
+        );
     }
     Ok(())
 }

@@ -17,8 +17,10 @@ invariant_of-self g c =
     let here : c.args.page < length c.args.self.now.marks.items = omega (arith, c.if-page-len.false, c.len.ensures) in
     let found : c.index.result.now ≡ Waiting = search rules in
     let was : mark c.args.self.now.marks.items c.args.page ≡ Waiting = sym (c.index.ensures ∙ get_or_default _ _ _ Committed here) ∙ found in
-    record { sound = marked_sound _ _ _ _ (record { disk = refl; failures = refl; root = refl; closed = refl }) c.put_mark.ensures (sym (ap needs was)) (λ is. was) c.args.self.now.sound
-    (not_zero _ _ c.args.self.now.sound.system (waiting_apart _ was)) }
+    record {
+      sound = marked_sound _ _ _ _ (record { disk = refl; failures = refl; root = refl; closed = refl }) c.put_mark.ensures (sym (ap needs was)) (λ is. was) c.args.self.now.sound
+          (not_zero _ _ c.args.self.now.sound.system (waiting_apart _ was));
+    }
 
 pub returns-clause-works : goal.returns-clause-works
 returns-clause-works g c =

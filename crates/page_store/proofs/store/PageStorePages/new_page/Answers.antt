@@ -20,5 +20,7 @@ returns-clause-works g c =
 pub invariant_of-self : goal.invariant_of-self
 invariant_of-self g c =
     let was : mark c.args.self.now.marks.items c.in-Some.page ≡ Free = ap (λ (ms : List Mark). mark ms c.in-Some.page) (sym c.deref.ensures.value) ∙ c.in-Some.ensures.free in
-    record { sound = marked_sound _ _ _ _ (record { disk = refl; failures = refl; root = refl; closed = refl }) c.put_mark.ensures (sym (ap needs was)) (fresh_waits _) c.args.self.now.sound
-    (not_zero _ _ c.args.self.now.sound.system (free_apart _ was)) }
+    record {
+      sound = marked_sound _ _ _ _ (record { disk = refl; failures = refl; root = refl; closed = refl }) c.put_mark.ensures (sym (ap needs was)) (fresh_waits _) c.args.self.now.sound
+          (not_zero _ _ c.args.self.now.sound.system (free_apart _ was));
+    }
