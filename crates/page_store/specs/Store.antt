@@ -102,7 +102,7 @@ pub record Commits (root : List ℕ) (old new : Store) : Type 0 where
 pub record IsCommitted (root : List ℕ) (old new : Store) : Type 0 where
   pub is : new.root ≡ root
   pub marks : AreCommitted old.marks new.marks
-  pub closed : new.closed ≡ old.closed
+  pub closed : new.closed ≡ false
   pub reads : IsTrue old.disk.honest → (p : ℕ) → 1 ≤ p → reads new p ≡ reads old p
 
 -- a store as `open` gives it: each page but the system page waits to be marked

@@ -2,6 +2,8 @@
 #![tactic(auto)]
 
 mod fault;
+#[cfg(test)]
+mod layer_tests;
 pub mod laws;
 mod marks;
 mod page;

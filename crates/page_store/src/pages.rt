@@ -1,5 +1,5 @@
 //! What a store of pages promises.
-ghost use Rattle.std.specs.Prelude.{◌≡◌, ◌≢◌, ◌↔◌, ◌≤◌, ◌<◌, ℕ, length, true, OnOk, OnErr, IfOk, IfErr, IsErrOf, IsTrue};
+ghost use Rattle.std.specs.Prelude.{◌≡◌, ◌≢◌, ◌↔◌, ◌≤◌, ◌<◌, ℕ, length, true, false, OnOk, OnErr, IfOk, IfErr, IsErrOf, IsTrue};
 ghost use Rattle.page_store.specs.declared.marks.Mark.TheVariants.{Committed, Waiting, Fresh, Free};
 ghost use Rattle.page_store.specs.Causes.{MarkCause, ReadCause, NewCause, WriteCause, CommitCause};
 ghost use Rattle.page_store.specs.Marks.{mark as mark_of, AreSealed, AreDiscarded, IsMarked, let_go, free_count};
@@ -22,6 +22,7 @@ pub trait Pages {
         ensures waited { OnOk result (mark_of (store self.old).marks page ≡ Waiting) }
         ensures is_page { OnOk result (1 ≤ page) }
         ensures within { OnOk result (page < length (store self.old).marks) }
+        ensures open { OnOk result ((store self.new).closed ≡ false) }
         ensures refused { OnErr result (store self.new ≡ store self.old) }
         ensures cause { IfErr result (MarkCause (store self.old) page) }
         ensures closed { (store self.old).closed ≡ true → IsErrOf result PageFault.Closed }
@@ -39,6 +40,7 @@ pub trait Pages {
         ensures bytes { IsTrue (store self.old).disk.honest → OnOk result (into.new ≡ reads (store self.old) page) }
         ensures is_page { OnOk result (1 ≤ page) }
         ensures within { OnOk result (page < length (store self.old).marks) }
+        ensures open { OnOk result ((store self.new).closed ≡ false) }
         ensures unchanged { IsUnchanged (store self.old) (store self.new) }
         ensures untouched { IfErr result (λ fault. fault ≢ PageFault.Disk → store self.new ≡ store self.old) }
         ensures cause { IfErr result (ReadCause (store self.old) page (store self.new)) }
@@ -51,6 +53,7 @@ pub trait Pages {
         ensures free { IfOk result (λ page. mark_of (store self.old).marks page ≡ Free) }
         ensures is_page { IfOk result (λ page. 1 ≤ page) }
         ensures within { IfOk result (λ page. page < length (store self.old).marks) }
+        ensures open { OnOk result ((store self.new).closed ≡ false) }
         ensures refused { OnErr result (store self.new ≡ store self.old) }
         ensures cause { IfErr result (NewCause (store self.old)) }
         ensures closed { (store self.old).closed ≡ true → IsErrOf result PageFault.Closed }
@@ -67,7 +70,7 @@ pub trait Pages {
         ensures written { IsTrue (store self.old).disk.honest → OnOk result (reads (store self.new) page ≡ from.now) }
         ensures others { IsTrue (store self.old).disk.honest → (p : ℕ) → p ≢ page → reads (store self.new) p ≡ reads (store self.old) p }
         ensures marks { (store self.new).marks ≡ (store self.old).marks }
-        ensures open { OnOk result ((store self.new).closed ≡ (store self.old).closed) }
+        ensures open { OnOk result ((store self.new).closed ≡ false) }
         ensures untouched { IfErr result (λ fault. fault ≢ PageFault.Disk → store self.new ≡ store self.old) }
         ensures cause { IfErr result (WriteCause (store self.old) (store self.new)) }
         ensures closed { (store self.old).closed ≡ true → IsErrOf result PageFault.Closed }

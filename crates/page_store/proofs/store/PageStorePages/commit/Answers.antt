@@ -30,7 +30,7 @@ pub returns-in-Ok-clause-ok : goal.returns-in-Ok-clause-ok
 returns-in-Ok-clause-ok g c = record {
   is = refl;
   marks = c.turn.ensures;
-  closed = refl;
+  closed = c.if-self.false;
   reads = λ honest. published_reads _ _ _ (c.in-Ok.ensures.ok honest (c.args.self.now.sound.safe honest c.if-self.false).rest);
 }
 
