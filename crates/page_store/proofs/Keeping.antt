@@ -1,7 +1,7 @@
 -- A store stays sound through the calls of its disk.
-use Rattle.std.proofs.Common.{◌≡◌, ◌≢◌, ◌⊎◌, inl, inr, ℕ, ◌+◌, ◌*◌, ◌/◌, ◌%◌, min, ◌<◌, ◌≤◌, Bool, true, false, List, length, take, slice_index, IsTrue, refl, sym, ◌∙◌, ap, subst, arith}
+use Rattle.std.proofs.Common.{◌≡◌, ◌≢◌, ◌⊎◌, inl, inr, ℕ, ◌*◌, ◌%◌, ◌<◌, ◌≤◌, Bool, false, List, length, slice_index, IsTrue, refl, sym, ◌∙◌, ap, subst, arith}
 use Rattle.std.proofs.lemmas.Bool.{cases_lt, cases_eq}
-use Rattle.sector_disk.specs.Disk.{Picture, sector, Shown, Agrees, MayLeave, AllSynced, Disk, size, GoesOn, LeavesOnly, Grew, Keeps, KeepsThroughout}
+use Rattle.sector_disk.specs.Disk.{Picture, sector, Shown, Agrees, MayLeave, Disk, size, GoesOn, LeavesOnly, Grew, KeepsThroughout}
 use Rattle.sector_disk.specs.Moments.{leaves_more, leaves_now, goes_on_refl}
 use Rattle.root_pair.specs.Root.{picked, HoldsRoot, root_of, IsAtRest, OldOrNew, IsPublished, PublishCause}
 use Rattle.root_pair.specs.declared.fault.RootFault.{RootFault}
@@ -9,9 +9,9 @@ use Rattle.root_pair.specs.declared.fault.RootFault.TheVariants.{Read, Write, No
 use Rattle.root_pair.specs.Rest.{same_root, rest_leaves, root_kept, rest_kept, synced_rests}
 use Rattle.page_store.specs.declared.marks.Mark.{Mark}
 use Rattle.page_store.specs.declared.marks.Mark.TheVariants.{Committed, Waiting, Fresh, Released, Free}
-use Rattle.page_store.specs.Marks.{mark, needs, IsNeeded, turned, let_go, Turned, AreSealed, AreCommitted, AreDiscarded, IsMarked}
+use Rattle.page_store.specs.Marks.{mark, needs, IsNeeded, turned, let_go, AreDiscarded, IsMarked}
 use Rattle.page_store.specs.Page.{page, page_same, IsWithin, IsOutside}
-use Rattle.page_store.specs.Store.{Store, reads, HasPages, Saved, SavedAs, IsSafe, IsSound, Works, IsUnchanged, IsRemarked, IsCommitted}
+use Rattle.page_store.specs.Store.{Store, Saved, SavedAs, IsSafe, IsSound, Works, IsUnchanged, IsRemarked}
 use Rattle.page_store.specs.Works.{safe_saves, safe_remarked}
 
 -- the disk as it reads is the same: safe as before
@@ -130,10 +130,6 @@ module _ (old new : Store) (at : ℕ) (sound : IsSound old) (fresh : mark old.ma
     leaves = λ honest safe. leaves_more (saved safe) (kept honest).leaves;
   }
 
-  pub sound_write : GoesOn old.disk new.disk → size new.disk ≡ size old.disk → old.failures ≤ new.failures → (new.closed ≡ false → old.closed ≡ false) → IsSound new
-  sound_write goes_on size_ failures closed =
-      sound_works old new sound (works_write goes_on size_ failures closed) (ap (λ (ms : List Mark). mark ms 0) marks ∙ sound.system)
-
 -- marks change, and of each page it stays whether the committed root may need it
 fewer_needed : (old new : List Mark) → ((p : ℕ) → needs (mark new p) ≡ needs (mark old p)) → (p : ℕ) → IsNeeded new p → IsNeeded old p
 fewer_needed old new same p needed = (needed.0, subst (λ (b : Bool). IsTrue b) (same p) needed.1)
@@ -198,29 +194,6 @@ module _ (old new : Store) (others : IsRemarked old new) (marks : AreDiscarded o
   pub discarded_sound : IsSound old → IsSound new
   discarded_sound sound = sound_works old new sound discarded_works (marks.each 0 ∙ ap (turned Free Committed Waiting) sound.system)
 
--- `seal`: fewer pages are needed
-module _ (old new : Store) (others : IsRemarked old new) (marks : AreSealed old.marks new.marks) where
-  seal_needs : (m : Mark) → IsTrue (needs (turned Fresh Released Free m)) → IsTrue (needs m)
-  seal_needs Committed is = is
-  seal_needs Waiting is = absurd (let e : IsTrue false = is in cc)
-  seal_needs Fresh is = is
-  seal_needs Released is = is
-  seal_needs Free is = is
-
-  pub sealed_sound : IsSound old → IsSound new
-  sealed_sound sound =
-      let same : size new.disk ≡ size old.disk = ap (λ (d : Disk). size d) others.disk in
-      record {
-        least = omega (arith, sound.least, same);
-        fits = omega (arith, sound.fits, same, marks.same_length);
-        few = omega (arith, sound.few, marks.same_length);
-        system = marks.each 0 ∙ ap (turned Fresh Released Free) sound.system;
-        safe = λ honest open_.
-            safe_remarked old new others marks.same_length
-            (λ p needed. (needed.0, seal_needs (mark old.marks p) (subst (λ (m : Mark). IsTrue (needs m)) (marks.each p) needed.1)))
-            (sound.safe (subst (λ (d : Disk). IsTrue d.honest) others.disk honest) (sym others.closed ∙ open_));
-      }
-
 pub let_go_needs : (m : Mark) → needs (let_go m) ≡ needs m
 let_go_needs Committed = refl
 let_go_needs Waiting = refl
@@ -264,82 +237,12 @@ published_leaves old new root fits published picture left = record {
       page_same picture new.contents p (λ k within. left.same k (published.synced.synced k)) ∙ published_reads old.disk.now new root published p behind;
 }
 
--- the store after it is safe, whatever its marks
-published_safe : (new : Store) (old : Shown) → 8 * length new.marks ≤ size new.disk → IsPublished new.root old new.disk.now → IsSafe new
-published_safe new old fits published = record {
-  rest = synced_rests published.holds published.synced;
-  room = omega (arith, fits, published.synced.lasting);
-  root = published.holds.is;
-  synced = λ p needed k within. published.synced.synced k;
-}
-
 pub published_grew : (before now : ℕ) (fault : RootFault) → PublishCause before now fault → Grew before now
 published_grew before now Read grew = grew
 published_grew before now Write grew = grew
 published_grew before now NotATable never = absurd never
 published_grew before now AlreadyATable never = absurd never
 published_grew before now TooSmall never = absurd never
-
--- after `commit`
-pub committed_sound : (old new : Store) → IsSound old → AreCommitted old.marks new.marks → GoesOn old.disk new.disk → size new.disk ≡ size old.disk → new.closed ≡ old.closed
-    → (IsTrue old.disk.honest → IsAtRest old.disk.now → IsPublished new.root old.disk.now new.disk.now) → IsSound new
-committed_sound old new sound marks goes_on same closed published =
-    let fits : 8 * length new.marks ≤ size new.disk = omega (arith, sound.fits, same, marks.same_length) in
-    record {
-      least = omega (arith, sound.least, same);
-      fits = fits;
-      few = omega (arith, sound.few, marks.same_length);
-      system = marks.each 0 ∙ ap (turned Committed Free Waiting) sound.system;
-      safe = λ honest open_.
-          let was = was_honest goes_on honest in
-          published_safe new old.disk.now fits (published was (sound.safe was (sym closed ∙ open_)).rest);
-    }
-
--- a commit that answers a fault closed the store, or its marks and its disk are as they were
-pub closed_sound : (old new : Store) → IsSound old → new.marks ≡ old.marks → size new.disk ≡ size old.disk → new.closed ≡ true → IsSound new
-closed_sound old new sound marks same closed =
-    let long : length new.marks ≡ length old.marks = ap (λ (ms : List Mark). length ms) marks in
-    record {
-      least = omega (arith, sound.least, same);
-      fits = omega (arith, sound.fits, same, long);
-      few = omega (arith, sound.few, long);
-      system = ap (λ (ms : List Mark). mark ms 0) marks ∙ sound.system;
-      safe = λ honest open_. absurd (let e : true ≡ false = sym closed ∙ open_ in cc);
-    }
-
-pub unchanged_sound : (old new : Store) → IsSound old → GoesOn old.disk new.disk → size new.disk ≡ size old.disk → IsUnchanged old new → IsSound new
-unchanged_sound old new sound goes_on same unchanged =
-    let long : length new.marks ≡ length old.marks = ap (λ (ms : List Mark). length ms) unchanged.marks in
-    record {
-      least = omega (arith, sound.least, same);
-      fits = omega (arith, sound.fits, same, long);
-      few = omega (arith, sound.few, long);
-      system = ap (λ (ms : List Mark). mark ms 0) unchanged.marks ∙ sound.system;
-      safe = λ honest open_.
-          let was = was_honest goes_on honest in
-          safe_unchanged old new unchanged (sym (unchanged.shown was)) (sound.safe was (sym unchanged.closed ∙ open_));
-    }
-
--- after `open`
-pub opened_sound : (store : Store) (start : Disk) (capacity sectors : ℕ) → 4 ≤ size start → size store.disk ≡ size start → length store.marks ≡ capacity → capacity ≡ min (sectors / 8) 1048576
-    → sectors ≡ size store.disk → mark store.marks 0 ≡ Committed → GoesOn start store.disk → (IsTrue start.honest → HoldsRoot store.root store.disk.now.contents)
-    → (IsTrue start.honest → AllSynced store.disk.now) → IsSound store
-opened_sound store start capacity sectors room same long is all system goes_on holds synced =
-    let fits : 8 * length store.marks ≤ size store.disk = omega (arith, long, is, all) in
-    record {
-      least = omega (arith, room, same);
-      fits = fits;
-      few = omega (arith, long, is);
-      system = system;
-      safe = λ honest open_.
-          let was = was_honest goes_on honest in
-          record {
-            rest = synced_rests (holds was) (synced was);
-            room = omega (arith, fits, (synced was).lasting);
-            root = (holds was).is;
-            synced = λ p needed k within. (synced was).synced k;
-          };
-    }
 
 pub waiting_apart : (m : Mark) → m ≡ Waiting → m ≢ Committed
 waiting_apart m is was = cc

@@ -1,16 +1,16 @@
 -- How calls, a commit and a stop carry what pages spell.
-use Rattle.std.specs.Prelude.{◌≡◌, ◌⊎◌, ℕ, ◌*◌, ◌<◌, ◌≤◌, Bool, true, false, List, length, IsTrue}
-use Rattle.std.proofs.Common.{refl, sym, ◌∙◌, ap, subst, arith, inl, inr}
+use Rattle.std.specs.Prelude.{◌≡◌, ◌⊎◌, ℕ, ◌≤◌, Bool, List, length, IsTrue}
+use Rattle.std.proofs.Common.{refl, sym, ◌∙◌, ap, subst, inl, inr}
 use Rattle.std.proofs.lemmas.Bool.{cases_lt}
 use Rattle.std.proofs.lemmas.List.{ext_get_or, get_or_past}
-use Rattle.sector_disk.specs.Disk.{Picture, Disk, GoesOn, LeavesOnly, MayLeave}
+use Rattle.sector_disk.specs.Disk.{Picture, Disk}
 use Rattle.sector_disk.specs.Moments.{leaves_more, still_honest}
 use Rattle.page_store.specs.declared.marks.Mark.{Mark}
 use Rattle.page_store.specs.declared.marks.Mark.TheVariants.{Committed, Waiting, Fresh, Released, Free}
-use Rattle.page_store.specs.Marks.{mark, needs, keeps, turned, IsNeeded, IsKept, Turned, AreSealed, AreCommitted, AreDiscarded}
+use Rattle.page_store.specs.Marks.{mark, needs, keeps, turned, IsNeeded, AreSealed, AreDiscarded}
 use Rattle.page_store.specs.Page.{page}
 use Rattle.page_store.specs.Store.{Store, reads, Saved, SavedAs, StopLeaves, IsSafe, Works, Commits, IsRemarked, IsUnchanged, IsCommitted, IsOpened}
-use Rattle.page_store.specs.Works.{safe_saves, works_then, still_needed, commit_after}
+use Rattle.page_store.specs.Works.{safe_saves, still_needed, commit_after}
 use Rattle.page_store.specs.Spelling.{SpelledBy, Stands, IsPrepared, Spells, IsCarried, IsCalm, IsBack}
 
 -- other bytes that agree on the named pages

@@ -1,5 +1,5 @@
 -- Why a call answers a fault.
-use Rattle.std.specs.Prelude.{◌≡◌, ◌⊎◌, ℕ, ◌≤◌, Bool, true, length, IsTrue}
+use Rattle.std.specs.Prelude.{◌≡◌, ◌⊎◌, ℕ, ◌≤◌, true, length, IsTrue}
 use Rattle.sector_disk.specs.Disk.{Disk, Grew}
 use Rattle.root_pair.specs.Root.{IsTable}
 use Rattle.page_store.specs.declared.fault.PageFault.{PageFault}

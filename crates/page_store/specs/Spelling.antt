@@ -1,7 +1,7 @@
 -- What pages spell for a layer above. `Spelt bytes` says that pages with these bytes, read from some root on, spell it;
 -- `named` are the pages that are reached from that root.
 use Rattle.std.specs.Prelude.{◌≡◌, ◌⊎◌, ℕ, ◌*◌, ◌≤◌, List, length, IsTrue}
-use Rattle.sector_disk.specs.Disk.{Picture, Disk, LeavesOnly, MayLeave}
+use Rattle.sector_disk.specs.Disk.{Picture, LeavesOnly}
 use Rattle.root_pair.specs.Root.{HoldsRoot}
 use Rattle.page_store.specs.declared.marks.Mark.TheVariants.{Committed, Free}
 use Rattle.page_store.specs.Marks.{mark, IsNeeded, IsKept}

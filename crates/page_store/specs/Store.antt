@@ -1,12 +1,10 @@
 -- What is stated of a store of pages, and what a stop within a call leaves.
-use Rattle.std.specs.Prelude.{◌≡◌, ◌⊎◌, ℕ, ◌+◌, ◌*◌, ◌/◌, ◌<◌, ◌≤◌, min, Bool, true, false, List, length, IsTrue}
-use Rattle.sector_disk.specs.Disk.{Picture, Shown, Disk, size, GoesOn, LeavesOnly, MayLeave, SyncedMore, Grew}
-use Rattle.root_pair.specs.Root.{HoldsRoot, root_of, IsAtRest, IsTable}
-use Rattle.page_store.specs.declared.fault.PageFault.{PageFault}
-use Rattle.page_store.specs.declared.fault.PageFault.TheVariants.{Disk as DiskFailed, NotATable, Damaged, TableFull, OutOfMemory, Closed}
+use Rattle.std.specs.Prelude.{◌≡◌, ◌⊎◌, ℕ, ◌*◌, ◌/◌, ◌<◌, ◌≤◌, min, Bool, false, List, length, IsTrue}
+use Rattle.sector_disk.specs.Disk.{Picture, Disk, size, GoesOn, LeavesOnly, MayLeave, SyncedMore}
+use Rattle.root_pair.specs.Root.{HoldsRoot, root_of, IsAtRest}
 use Rattle.page_store.specs.declared.marks.Mark.{Mark}
-use Rattle.page_store.specs.declared.marks.Mark.TheVariants.{Committed, Waiting, Fresh, Released, Free}
-use Rattle.page_store.specs.Marks.{mark, needs, IsNeeded, AreCommitted, free_count}
+use Rattle.page_store.specs.declared.marks.Mark.TheVariants.{Committed, Waiting}
+use Rattle.page_store.specs.Marks.{mark, needs, IsNeeded, AreCommitted}
 use Rattle.page_store.specs.Page.{page, IsWithin}
 
 -- a store of pages

@@ -1,15 +1,13 @@
 -- How the layers above tell a store from call to call.
-use Rattle.std.specs.Prelude.{◌≡◌, ◌≢◌, ◌⊎◌, ℕ, ◌+◌, ◌*◌, ◌<◌, ◌≤◌, Bool, true, false, List, length, take, slice_index, IsTrue}
+use Rattle.std.specs.Prelude.{◌≡◌, ◌⊎◌, ℕ, Bool, List, length, IsTrue}
 use Rattle.std.proofs.Common.{refl, sym, ◌∙◌, ap, subst, arith, inl, inr}
-use Rattle.sector_disk.specs.Disk.{Picture, MayLeave, Disk, size, GoesOn, LeavesOnly}
+use Rattle.sector_disk.specs.Disk.{Picture, Disk, GoesOn, LeavesOnly}
 use Rattle.sector_disk.specs.Moments.{goes_on_refl, goes_on_trans, leaves_now, leaves_then, leaves_more, still_honest}
 use Rattle.root_pair.specs.Root.{HoldsRoot, root_of, IsAtRest}
 use Rattle.root_pair.specs.Rest.{rest_leaves}
-use Rattle.page_store.specs.declared.marks.Mark.{Mark}
-use Rattle.page_store.specs.declared.marks.Mark.TheVariants.{Committed, Waiting}
-use Rattle.page_store.specs.Marks.{mark, needs, IsNeeded}
-use Rattle.page_store.specs.Page.{page, page_same, IsWithin}
-use Rattle.page_store.specs.Store.{Store, reads, HasPages, Saved, SavedAs, StopLeaves, IsSafe, IsSound, Works, IsRemarked}
+use Rattle.page_store.specs.Marks.{IsNeeded}
+use Rattle.page_store.specs.Page.{page_same}
+use Rattle.page_store.specs.Store.{Store, Saved, SavedAs, StopLeaves, IsSafe, Works, IsRemarked}
 
 -- a stop leaves the committed root and its pages
 pub safe_saves : (store : Store) → IsSafe store → StopLeaves store (Saved store)

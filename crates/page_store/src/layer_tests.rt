@@ -25,8 +25,8 @@ fn put_alone<P: Pages>(
     requires needed { IsNeeded (P.store pages.old).marks old }
     ensures stop { IsTrue (P.store pages.old).disk.honest
         → LeavesOnly (P.store pages.old).disk (P.store pages.new).disk (λ picture.
-            Spells (P.store pages.old).root (length (P.store pages.old).marks) (λ bytes. bytes old ≡ reads (P.store pages.old) old) picture
-            ⊎ Spells root.now (length (P.store pages.old).marks) (λ bytes. bytes page ≡ from.now) picture) }
+        Spells (P.store pages.old).root (length (P.store pages.old).marks) (λ bytes. bytes old ≡ reads (P.store pages.old) old) picture
+        ⊎ Spells root.now (length (P.store pages.old).marks) (λ bytes. bytes page ≡ from.now) picture) }
     ensures after { IsTrue (P.store pages.old).disk.honest
         → OnOk result (StopLeaves (P.store pages.new) (Spells root.now (length (P.store pages.old).marks) (λ bytes. bytes page ≡ from.now))) }
 {

@@ -2,9 +2,9 @@
 #![tactic(auto)]
 
 mod fault;
+pub mod laws;
 #[cfg(test)]
 mod layer_tests;
-pub mod laws;
 mod marks;
 mod page;
 mod pages;

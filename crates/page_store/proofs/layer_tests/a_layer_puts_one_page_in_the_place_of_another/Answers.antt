@@ -6,10 +6,9 @@ use Rattle.page_store.proofs.layer_tests.a_layer_puts_one_page_in_the_place_of_a
 
 pub put_alone-requires-clause-needed : goal.put_alone-requires-clause-needed
 put_alone-requires-clause-needed g c =
-    let first = c.in_ok-first.first in
-    (
+    let first = c.in_ok-first.first in (
       c.in_ok-first.ensures.is_page,
       c.new_page-2.ensures.works.needed first
-      ∙ ap needs
-      (c.in_ok-commit.ensures.ok.marks.each first ∙ ap (turned Committed Free Waiting) (ap (λ (ms : List Mark). mark ms first) c.write_page.ensures.marks ∙ c.in_ok-first.ensures.ok.is))
+          ∙ ap needs
+          (c.in_ok-commit.ensures.ok.marks.each first ∙ ap (turned Committed Free Waiting) (ap (λ (ms : List Mark). mark ms first) c.write_page.ensures.marks ∙ c.in_ok-first.ensures.ok.is)),
     )

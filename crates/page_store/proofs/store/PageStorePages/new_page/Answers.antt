@@ -3,7 +3,7 @@ use Rattle.page_store.specs.declared.marks.Mark.{Mark}
 use Rattle.page_store.specs.declared.marks.Mark.TheVariants.{Free}
 use Rattle.page_store.specs.Marks.{mark, needs}
 use Rattle.page_store.specs.Works.{works_refl}
-use Rattle.page_store.proofs.Keeping.{marked_works, marked_sound, not_zero, free_apart, fresh_waits}
+use Rattle.page_store.proofs.Keeping.{marked_works, fresh_waits}
 use Rattle.page_store.proofs.store.PageStorePages.new_page.Goals as goal
 
 pub returns-then-self-clause-works : goal.returns-then-self-clause-works
@@ -16,11 +16,3 @@ pub returns-clause-works : goal.returns-clause-works
 returns-clause-works g c =
     let was : mark c.args.self.now.marks.items c.in-Some.page ≡ Free = ap (λ (ms : List Mark). mark ms c.in-Some.page) (sym c.deref.ensures.value) ∙ c.in-Some.ensures.free in
     marked_works _ _ _ _ (record { disk = refl; failures = refl; root = refl; closed = refl }) c.put_mark.ensures (sym (ap needs was)) (fresh_waits _)
-
-pub invariant_of-self : goal.invariant_of-self
-invariant_of-self g c =
-    let was : mark c.args.self.now.marks.items c.in-Some.page ≡ Free = ap (λ (ms : List Mark). mark ms c.in-Some.page) (sym c.deref.ensures.value) ∙ c.in-Some.ensures.free in
-    record {
-      sound = marked_sound _ _ _ _ (record { disk = refl; failures = refl; root = refl; closed = refl }) c.put_mark.ensures (sym (ap needs was)) (fresh_waits _) c.args.self.now.sound
-          (not_zero _ _ c.args.self.now.sound.system (free_apart _ was));
-    }

@@ -1,6 +1,6 @@
 use Rattle.std.proofs.Common.{refl}
 use Rattle.page_store.specs.Works.{works_refl}
-use Rattle.page_store.proofs.Keeping.{works_read, unchanged_sound}
+use Rattle.page_store.proofs.Keeping.{works_read}
 use Rattle.page_store.proofs.store.PageStorePages.read_page.Goals as goal
 
 pub returns-then-self-clause-works : goal.returns-then-self-clause-works
@@ -16,7 +16,3 @@ returns-in_err-get_page-clause-works g c =
 pub returns-clause-works : goal.returns-clause-works
 returns-clause-works g c =
     works_read _ _ c.get_page.ensures.time c.get_page.ensures.same_size c.get_page.ensures.cause.later (record { root = refl; marks = refl; closed = refl; shown = c.get_page.ensures.unchanged }) c.get_page.ensures.moments
-
-pub invariant_of-self : goal.invariant_of-self
-invariant_of-self g c =
-    record { sound = unchanged_sound _ _ c.args.self.now.sound c.get_page.ensures.time c.get_page.ensures.same_size (record { root = refl; marks = refl; closed = refl; shown = c.get_page.ensures.unchanged }) }

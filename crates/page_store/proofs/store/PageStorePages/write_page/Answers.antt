@@ -1,6 +1,6 @@
 use Rattle.std.proofs.Common.{refl}
 use Rattle.page_store.specs.Works.{works_refl}
-use Rattle.page_store.proofs.Keeping.{reads_else, works_write, sound_write}
+use Rattle.page_store.proofs.Keeping.{reads_else, works_write}
 use Rattle.page_store.proofs.store.PageStorePages.write_page.Goals as goal
 
 pub returns-then-self-clause-works : goal.returns-then-self-clause-works
