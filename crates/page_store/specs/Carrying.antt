@@ -70,9 +70,9 @@ committed_stands root old new honest done prepared = record {
 }
 
 -- work, and then a commit
-pub commit_carries : {wasNamed : ℕ → Type 0} {Was : (ℕ → List ℕ) → Type 0} {named : ℕ → Type 0} {Is : (ℕ → List ℕ) → Type 0} (root : List ℕ) (old mid new : Store) → IsTrue old.disk.honest → IsSafe old
-    → Stands wasNamed Was old → Works old mid → IsPrepared named Is mid → Commits root mid new → IsCarried root wasNamed Was named Is old mid new
-commit_carries {wasNamed} {Was} {named} {Is} root old mid new honest safe stands works prepared commits = record {
+pub commit_carries : {was_named : ℕ → Type 0} {Was : (ℕ → List ℕ) → Type 0} {named : ℕ → Type 0} {Is : (ℕ → List ℕ) → Type 0} (root : List ℕ) (old mid new : Store) → IsTrue old.disk.honest → IsSafe old
+    → Stands was_named Was old → Works old mid → IsPrepared named Is mid → Commits root mid new → IsCarried root was_named Was named Is old mid new
+commit_carries {was_named} {Was} {named} {Is} root old mid new honest safe stands works prepared commits = record {
   stop = leaves_more each (commit_after new.disk root works commits.goes_on commits.leaves honest safe);
   done = λ done. committed_stands root mid new (still_honest works.goes_on honest) done prepared;
   left = λ same. unchanged_stands mid new (still_honest works.goes_on honest) same (works_stands old mid honest works stands);

@@ -1,10 +1,10 @@
-use Rattle.std.proofs.Common.{◌≡◌, ◌⊎◌, ◌∙◌, ◌≤◌, ℕ, List, length, IsTrue, refl, sym, ap, subst, inl, inr}
+use Rattle.std.proofs.Common.{◌≡◌, ◌∙◌, ◌≤◌, ℕ, List, IsTrue, refl, sym, ap, subst, inl}
 use Rattle.sector_disk.specs.Moments.{leaves_more, still_honest}
 use Rattle.page_store.specs.declared.marks.Mark.{Mark}
 use Rattle.page_store.specs.declared.marks.Mark.TheVariants.{Fresh}
 use Rattle.page_store.specs.Marks.{mark, keeps, IsNeeded, IsKept}
 use Rattle.page_store.specs.Store.{Store, reads}
-use Rattle.page_store.specs.Spelling.{SpelledBy, Stands, IsPrepared, Spells}
+use Rattle.page_store.specs.Spelling.{Stands, IsPrepared, Spells}
 use Rattle.page_store.specs.Carrying.{saved_spells, saved_as_spells, commit_carries}
 use Rattle.page_store.proofs.layer_tests.put_alone.Goals as goal
 

@@ -1,4 +1,4 @@
-use Rattle.std.proofs.Common.{refl, inl, inr, arith}
+use Rattle.std.proofs.Common.{rules, refl, inl, inr, arith}
 use Rattle.sector_disk.specs.Moments.{goes_on_refl, leaves_now, leaves_more}
 use Rattle.page_store.specs.Store.{store_of}
 use Rattle.page_store.specs.Works.{safe_saves}
@@ -28,8 +28,8 @@ returns-in-Ok-clause-after g c = λ honest.
 
 pub returns-in-Ok-clause-ok : goal.returns-in-Ok-clause-ok
 returns-in-Ok-clause-ok g c = record {
-  is = refl;
-  marks = c.turn.ensures;
+  is = search rules;
+  marks = search rules;
   closed = c.if-self.false;
   reads = λ honest. published_reads _ _ _ (c.in-Ok.ensures.ok honest (c.args.self.now.sound.safe honest c.if-self.false).rest);
 }
