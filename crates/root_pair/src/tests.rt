@@ -1,0 +1,6 @@
+//! What `create`, `open` and `publish` do on each kind of disk.
+
+mod faults;
+mod files;
+mod stops;
+mod tables;

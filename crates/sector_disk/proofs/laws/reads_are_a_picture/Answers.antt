@@ -1,0 +1,5 @@
+use Rattle.sector_disk.specs.Moments.{reads_left}
+use Rattle.sector_disk.proofs.laws.reads_are_a_picture.Goals as goal
+
+pub returns : goal.returns
+returns g c = λ disk. reads_left (g.D.SectorDisk.disk disk)

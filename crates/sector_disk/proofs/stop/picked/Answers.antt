@@ -1,0 +1,19 @@
+use Rattle.std.proofs.Common.{◌≡◌, ◌∷◌, [], ℕ, length, get_or, true, false, arith, refl, ap, length-append, ◌∙◌}
+use Rattle.std.specs.Prelude.{slice_index_or}
+use Rattle.std.proofs.lemmas.List.{get_or_default}
+use Rattle.sector_disk.specs.Disk.{Picture, sector}
+use Rattle.sector_disk.specs.Stops.{torn}
+use Rattle.sector_disk.proofs.Stopping.{each_more, left_here, number_next}
+use Rattle.sector_disk.proofs.stop.picked.Goals as goal
+
+pub loop-place-preserved : goal.loop-place-preserved
+loop-place-preserved c =
+    let so_far = c.loop-place.invariant in
+    let items = c.in_ok-push.ensures.items in
+    let is : get_or c.args.synced.now c.loop-place.place false ≡ slice_index_or c.args.synced.now c.loop-place.place true = get_or_default c.args.synced.now c.loop-place.place false true (omega (arith, c.loop-place-test.true, c.requires.synced)) in
+    record {
+      size = ap (λ (p : Picture). length p) items ∙ length-append c.loop-place.left.items (c.kept_or.result ∷ []) ∙ omega (arith, so_far.size);
+      number = number_next _ _ _ _ _ so_far.number is c.number_after-number.ensures;
+      each = λ k lt. ap (λ (p : Picture). sector p k) items ∙ each_more _ c.loop-place.left.items c.kept_or.result c.loop-place.place so_far.size so_far.each
+          (left_here _ _ _ _ _ _ _ _ _ _ _ _ is refl refl so_far.number c.filling-fill.ensures (c.torn_by-by_digit.ensures ∙ ap (λ (d : ℕ). torn d c.filling-fill.result (sector c.args.before.now c.loop-place.place) (sector c.args.written.now c.loop-place.place)) c.digit_of.ensures) c.kept_or.ensures) k lt;
+    }

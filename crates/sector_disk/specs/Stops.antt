@@ -1,0 +1,39 @@
+-- Which of the pictures that a stop may leave a number picks.
+use Rattle.std.specs.Prelude.{◌≡◌, ℕ, zero, suc, ◌+◌, ◌/◌, ◌%◌, ◌^◌, ◌<◌, ◌≤◌, Bool, if◌then◌else◌, ◌==◌, List, ◌++◌, length, take, drop, replicate}
+use Rattle.sector_disk.specs.Disk.{Picture, sector, Disk, size, AllSynced}
+
+-- all was synced at this moment, and at no later one
+pub record IsLastSync (disk : Disk) (moment : ℕ) : Type 0 where
+  pub past : moment ≤ disk.clock
+  pub all : AllSynced (disk.was moment)
+  pub later : (k : ℕ) → moment < k → k ≤ disk.clock → ¬ AllSynced (disk.was k)
+
+-- how many of the first so many sectors are not synced
+abbrev pub unsynced_below : (ℕ → Bool) → ℕ → ℕ
+unsynced_below synced zero = 0
+unsynced_below synced (suc k) = unsynced_below synced k + (if synced k then 0 else 1)
+
+-- a digit to the base 4, the lowest has the number 0, and again from the start after 32 of them
+unfoldable pub digit : ℕ → ℕ → ℕ
+digit pick number = pick / 4 ^ (number % 32) % 4
+
+-- what a stop makes of a sector by a digit: as at the last sync, as written, its first half written, or filled
+unfoldable pub torn : ℕ → ℕ → List ℕ → List ℕ → List ℕ
+torn digit fill before written =
+    if digit == 0 then before
+    else if digit == 1 then written
+    else if digit == 2 then take 256 written ++ drop 256 before
+    else replicate 512 fill
+
+-- a sector after the stop that a number picks: the sectors that are not synced take its digits, by their place
+abbrev pub left_at : ℕ → (ℕ → Bool) → Picture → Picture → ℕ → List ℕ
+left_at pick synced before written k =
+    if synced k then sector written k
+    else torn (digit pick (unsynced_below synced k)) ((k + pick / 4) % 256) (sector before k) (sector written k)
+
+-- the picture after the stop that a number picks
+pub record IsPickedBy (pick : ℕ) (disk : Disk) (left : Picture) : Type 0 where
+  pub sync : ℕ
+  pub last_sync : IsLastSync disk sync
+  pub as_long : length left ≡ size disk
+  pub each : (k : ℕ) → k < size disk → sector left k ≡ left_at pick disk.now.synced (disk.was sync).contents disk.now.contents k
