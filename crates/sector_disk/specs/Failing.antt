@@ -2,8 +2,10 @@
 use Rattle.std.specs.Prelude.{◌≡◌, ℕ, zero, suc, ◌+◌, ◌<◌, Bool, Option, None, Some, Result, IsErr, IsTrue, IsFalse}
 use Rattle.sector_disk.specs.Disk.{HasCause}
 
--- a call at a fuse: with nothing left it fails and leaves the disk within, else one pass is used up and an error is that disk's own
-pub record Burns {D T E : Type 0} (failures : D → ℕ) (passes_before passes_after : ℕ) (before after : D) (result : Result T E) : Type 0 where
+-- a call at a fuse: with no pass left it fails and leaves the disk within; else a pass is used up, and there is
+-- no error but one of the disk within
+pub record Burns {D T E : Type 0} (failures : D → ℕ) (passes_before passes_after : ℕ) (before after : D)
+    (result : Result T E) : Type 0 where
   pub blown : passes_before ≡ 0 → IsErr result × (after ≡ before) × (passes_after ≡ 0)
   pub passed : 0 < passes_before → HasCause (failures before) (failures after) result × (passes_after + 1 ≡ passes_before)
 
@@ -13,8 +15,10 @@ next_ahead None = None
 next_ahead (Some zero) = None
 next_ahead (Some (suc calls)) = Some calls
 
--- a call at a disk of which one call fails: that call fails, not carried out unless that was wanted; any other has an error of the disk's own alone
-pub record Turns {D T E : Type 0} (failures : D → ℕ) (ahead_before ahead_after : Option ℕ) (done : Bool) (before after : D) (result : Result T E) : Type 0 where
+-- a call at a disk of which one call fails: that one fails, and is not carried out unless that was wanted;
+-- any other has no error but one of the disk within
+pub record Turns {D T E : Type 0} (failures : D → ℕ) (ahead_before ahead_after : Option ℕ) (done : Bool)
+    (before after : D) (result : Result T E) : Type 0 where
   pub ahead : ahead_after ≡ next_ahead ahead_before
   pub struck : ahead_before ≡ Some 0 → IsErr result × (IsFalse done → after ≡ before)
   pub passed : (ahead_before ≡ Some 0 → ⊥) → HasCause (failures before) (failures after) result

@@ -36,4 +36,5 @@ pub record IsPickedBy (pick : ℕ) (disk : Disk) (left : Picture) : Type 0 where
   pub sync : ℕ
   pub last_sync : IsLastSync disk sync
   pub as_long : length left ≡ size disk
-  pub each : (k : ℕ) → k < size disk → sector left k ≡ left_at pick disk.now.synced (disk.was sync).contents disk.now.contents k
+  pub each : (k : ℕ) → k < size disk
+      → sector left k ≡ left_at pick disk.now.synced (disk.was sync).contents disk.now.contents k
