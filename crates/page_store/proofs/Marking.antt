@@ -1,0 +1,75 @@
+-- Marks are changed.
+use Rattle.std.proofs.Common.{◌≡◌, ◌≢◌, inl, inr, ℕ, suc, ◌+◌, ◌<◌, ◌≤◌, List, [], ◌∷◌, ◌++◌, length, refl, sym, ◌∙◌, ap, subst, arith}
+use Rattle.std.proofs.lemmas.List.{get_or-set_same, get_or-set_other, length-set, get_or_past}
+use Rattle.std.proofs.lemmas.Bool.{cases_lt, cases_eq}
+use Rattle.std.specs.Prelude.{slice_set, IfNone}
+use Rattle.std.proofs.Common.{Option, None, Some}
+use Rattle.page_store.specs.declared.marks.Mark.{Mark}
+use Rattle.page_store.specs.declared.marks.Mark.TheVariants.{Committed, Waiting, Fresh, Released, Free}
+use Rattle.page_store.specs.Marks.{mark, turned, Turned, IsMarked, free_one, free_count}
+
+-- one page more has its new mark
+module _ (f r w now : Mark) (start old : List Mark) (at : ℕ) (here : at < length old) (is : now ≡ turned f r w (mark start at))
+    (done : (p : ℕ) → p < at → mark old p ≡ turned f r w (mark start p)) (ahead : (p : ℕ) → at ≤ p → mark old p ≡ mark start p) where
+  pub turn_done : (p : ℕ) → p < at + 1 → mark (slice_set old at now) p ≡ turned f r w (mark start p)
+  turn_done p low = elim (cases_eq p at) [
+    | inl same ↦ subst (λ (q : ℕ). mark (slice_set old at now) q ≡ turned f r w (mark start q)) (sym same) (get_or-set_same old at now Committed here ∙ is)
+    | inr other ↦ get_or-set_other old at p now Committed other ∙ done p (omega (arith, low, other))
+  ]
+
+  pub turn_ahead : (p : ℕ) → at + 1 ≤ p → mark (slice_set old at now) p ≡ mark start p
+  turn_ahead p high = get_or-set_other old at p now Committed (omega (arith, high)) ∙ ahead p (omega (arith, high))
+
+-- a mark is put
+pub marked : (old : List Mark) (at : ℕ) (now : Mark) → at < length old → IsMarked at now old (slice_set old at now)
+marked old at now here = record {
+  same_length = length-set old at now;
+  is = get_or-set_same old at now Committed here;
+  others = λ p other. get_or-set_other old at p now Committed other;
+}
+
+-- one mark more is counted
+pub free_count-more : (marks : List Mark) (m : Mark) → free_count (marks ++ m ∷ []) ≡ free_count marks + free_one m
+free_count-more [] m = omega arith
+free_count-more (x ∷ marks) m = omega (arith, free_count-more marks m)
+
+-- where no page is free none is counted
+pub none_free : (marks : List Mark) → ((p : ℕ) → p < length marks → mark marks p ≢ Free) → free_count marks ≡ 0
+none_free [] none = refl
+none_free (Committed ∷ marks) none = omega (arith, none_free marks (λ p low. none (suc p) (omega (arith, low))))
+none_free (Waiting ∷ marks) none = omega (arith, none_free marks (λ p low. none (suc p) (omega (arith, low))))
+none_free (Fresh ∷ marks) none = omega (arith, none_free marks (λ p low. none (suc p) (omega (arith, low))))
+none_free (Released ∷ marks) none = omega (arith, none_free marks (λ p low. none (suc p) (omega (arith, low))))
+none_free (Free ∷ marks) none = absurd (none 0 (omega arith) refl)
+
+-- a page that counts for none is not free
+pub not_free : (m : Mark) → free_one m ≢ 1 → m ≢ Free
+not_free m other is = other (ap free_one is)
+
+-- and where no page is free, from the first to the last
+pub none_found : (marks : List Mark) (from at : ℕ) → ((p : ℕ) → from ≤ p → p < at → mark marks p ≢ Free) → mark marks at ≢ Free → (p : ℕ) → from ≤ p → p < at + 1 → mark marks p ≢ Free
+none_found marks from at before here p low high = elim (cases_eq p at) [
+  | inl same ↦ subst (λ (q : ℕ). mark marks q ≢ Free) (sym same) here
+  | inr other ↦ before p low (omega (arith, high, other))
+]
+
+pub one_at_most : (m : Mark) → free_one m ≤ 1
+one_at_most Committed = omega arith
+one_at_most Waiting = omega arith
+one_at_most Fresh = omega arith
+one_at_most Released = omega arith
+one_at_most Free = omega arith
+
+pub none_gives : {P Q : Type 0} (r : Option ℕ) → (P → Q) → IfNone r P → IfNone r Q
+none_gives None f given = f given
+none_gives (Some x) f given = given
+
+-- all pages have their new marks
+pub all_turned : (f r w : Mark) (start new : List Mark) (at : ℕ) → length new ≡ length start → length start ≤ at → ((p : ℕ) → p < at → mark new p ≡ turned f r w (mark start p)) → Turned f r w start new
+all_turned f r w start new at long end done = record { same_length = long; each = each }
+  where
+    each : (p : ℕ) → mark new p ≡ turned f r w (mark start p)
+    each p = elim (cases_lt p at) [
+      | inl low ↦ done p low
+      | inr high ↦ get_or_past new p Committed (omega (arith, long, end, high)) ∙ sym (ap (turned f r w) (get_or_past start p Committed (omega (arith, end, high))))
+    ]

@@ -1,0 +1,5 @@
+use Rattle.page_store.specs.Carrying.{commit_carries}
+use Rattle.page_store.proofs.laws.commit_carries.Goals as goal
+
+pub returns : goal.returns
+returns g c = commit_carries

@@ -1,0 +1,5 @@
+use Rattle.page_store.specs.Carrying.{committed_calm}
+use Rattle.page_store.proofs.laws.committed_calm.Goals as goal
+
+pub returns : goal.returns
+returns c = committed_calm

@@ -1,0 +1,5 @@
+use Rattle.page_store.specs.Carrying.{stop_leaves}
+use Rattle.page_store.proofs.laws.stop_leaves.Goals as goal
+
+pub returns : goal.returns
+returns g c = stop_leaves

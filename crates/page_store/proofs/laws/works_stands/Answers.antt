@@ -1,0 +1,5 @@
+use Rattle.page_store.specs.Carrying.{works_stands}
+use Rattle.page_store.proofs.laws.works_stands.Goals as goal
+
+pub returns : goal.returns
+returns g c = works_stands

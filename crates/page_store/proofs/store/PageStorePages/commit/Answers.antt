@@ -1,0 +1,54 @@
+use Rattle.std.proofs.Common.{rules, refl, inl, inr, arith}
+use Rattle.sector_disk.specs.Moments.{goes_on_refl, leaves_now, leaves_more}
+use Rattle.page_store.specs.Store.{store_of}
+use Rattle.page_store.specs.Works.{safe_saves}
+use Rattle.page_store.proofs.Keeping.{old_or_new, published_reads, published_leaves, published_grew}
+use Rattle.page_store.proofs.store.PageStorePages.commit.Goals as goal
+
+pub returns-then-self-clause-commits : goal.returns-then-self-clause-commits
+returns-then-self-clause-commits g c = record {
+  goes_on = goes_on_refl _;
+  same_size = refl;
+  failures = omega arith;
+  leaves = λ honest safe. leaves_now _ (λ picture left. inl (safe_saves _ safe picture left));
+}
+
+pub returns-in-Ok-clause-commits : goal.returns-in-Ok-clause-commits
+returns-in-Ok-clause-commits g c = record {
+  goes_on = c.publish.ensures.time;
+  same_size = c.publish.ensures.same_size;
+  failures = c.publish.ensures.failures;
+  leaves = λ honest safe. leaves_more (old_or_new _ _ safe) (c.publish.ensures.moments honest safe.rest);
+}
+
+pub returns-in-Ok-clause-after : goal.returns-in-Ok-clause-after
+returns-in-Ok-clause-after g c = λ honest.
+    published_leaves (store_of (g.D.SectorDisk.disk c.args.self.now.disk) (g.D.SectorDisk.failures c.args.self.now.disk) c.args.self.now.root.bytes c.args.self.now.marks.items c.args.self.now.closed)
+    _ _ (omega (arith, c.args.self.now.sound.fits, c.publish.ensures.same_size)) (c.in-Ok.ensures.ok honest (c.args.self.now.sound.safe honest c.if-self.false).rest)
+
+pub returns-in-Ok-clause-ok : goal.returns-in-Ok-clause-ok
+returns-in-Ok-clause-ok g c = record {
+  is = search rules;
+  marks = search rules;
+  closed = c.if-self.false;
+  reads = λ honest. published_reads _ _ _ (c.in-Ok.ensures.ok honest (c.args.self.now.sound.safe honest c.if-self.false).rest);
+}
+
+pub returns-in-Err-Read-clause-commits : goal.returns-in-Err-Read-clause-commits
+returns-in-Err-Read-clause-commits g c = record {
+  goes_on = c.publish.ensures.time;
+  same_size = c.publish.ensures.same_size;
+  failures = c.publish.ensures.failures;
+  leaves = λ honest safe. leaves_more (old_or_new _ _ safe) (c.publish.ensures.moments honest safe.rest);
+}
+
+pub returns-in-Err-clause-commits : goal.returns-in-Err-clause-commits
+returns-in-Err-clause-commits g c = record {
+  goes_on = c.publish.ensures.time;
+  same_size = c.publish.ensures.same_size;
+  failures = c.publish.ensures.failures;
+  leaves = λ honest safe. leaves_more (old_or_new _ _ safe) (c.publish.ensures.moments honest safe.rest);
+}
+
+pub returns-in-Err-clause-cause : goal.returns-in-Err-clause-cause
+returns-in-Err-clause-cause g c = (published_grew _ _ _ c.in-Err.ensures.fault, inr refl)

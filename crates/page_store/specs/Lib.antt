@@ -1,0 +1,7 @@
+pub mod Carrying
+pub mod Causes
+pub mod Marks
+pub mod Page
+pub mod Spelling
+pub mod Store
+pub mod Works

@@ -1,0 +1,124 @@
+-- What is stated of a store of pages, and what a stop within a call leaves.
+use Rattle.std.specs.Prelude.{◌≡◌, ◌⊎◌, ℕ, ◌*◌, ◌/◌, ◌<◌, ◌≤◌, min, Bool, false, List, length, IsTrue}
+use Rattle.sector_disk.specs.Disk.{Picture, Disk, size, GoesOn, LeavesOnly, MayLeave, SyncedMore}
+use Rattle.root_pair.specs.Root.{HoldsRoot, root_of, IsAtRest}
+use Rattle.page_store.specs.declared.marks.Mark.{Mark}
+use Rattle.page_store.specs.declared.marks.Mark.TheVariants.{Committed, Waiting}
+use Rattle.page_store.specs.Marks.{mark, needs, IsNeeded, AreCommitted}
+use Rattle.page_store.specs.Page.{page, IsWithin}
+
+-- a store of pages
+pub record Store : Type 0 where
+  -- what is stated of its disk
+  pub disk : Disk
+  -- how often the disk has failed
+  pub failures : ℕ
+  -- the committed root
+  pub root : List ℕ
+  -- what each page is used for; there are as many pages as marks
+  pub marks : List Mark
+  -- a write or a sync has failed
+  pub closed : Bool
+
+-- the store of these parts
+abbrev pub store_of : Disk → ℕ → List ℕ → List Mark → Bool → Store
+store_of d f r m c = record { disk = d; failures = f; root = r; marks = m; closed = c }
+
+-- what each page reads as now
+abbrev pub reads : Store → ℕ → List ℕ
+reads store p = page store.disk.now.contents p
+
+-- the picture has this root, room for so many pages, and these pages with these bytes
+pub record HasPages (root : List ℕ) (capacity : ℕ) (needed : ℕ → Type 0) (bytes : ℕ → List ℕ) (picture : Picture) : Type 0 where
+  pub holds : HoldsRoot root picture
+  pub room : 8 * capacity ≤ length picture
+  pub pages : (p : ℕ) → needed p → page picture p ≡ bytes p
+
+-- the picture has the committed root and the pages that it may need
+abbrev pub Saved : Store → Picture → Type 0
+Saved store = HasPages store.root (length store.marks) (IsNeeded store.marks) (reads store)
+
+-- the picture has this root in its place, and all pages as they read
+abbrev pub SavedAs : List ℕ → Store → Picture → Type 0
+SavedAs root store = HasPages root (length store.marks) (λ p. 1 ≤ p) (reads store)
+
+-- a stop now leaves such a picture
+abbrev pub StopLeaves : Store → (Picture → Type 0) → Type 0
+StopLeaves store Such = (picture : Picture) → MayLeave store.disk.now picture → Such picture
+
+-- a stop leaves the committed root and the pages that it may need
+pub record IsSafe (store : Store) : Type 0 where
+  pub rest : IsAtRest store.disk.now
+  pub room : 8 * length store.marks ≤ store.disk.now.lasting
+  pub root : root_of store.disk.now.contents ≡ store.root
+  pub synced : (p : ℕ) → IsNeeded store.marks p → (k : ℕ) → IsWithin p k → IsTrue (store.disk.now.synced k)
+
+-- what is true of each store, closed or not
+pub record IsSound (store : Store) : Type 0 where
+  pub least : 4 ≤ size store.disk
+  pub fits : 8 * length store.marks ≤ size store.disk
+  pub few : length store.marks ≤ 1048576
+  pub system : mark store.marks 0 ≡ Committed
+  pub safe : IsTrue store.disk.honest → store.closed ≡ false → IsSafe store
+
+-- a call that commits nothing: the committed root and the pages that it may need stay, for reads and for stops
+pub record Works (old new : Store) : Type 0 where
+  pub goes_on : GoesOn old.disk new.disk
+  pub same_size : size new.disk ≡ size old.disk
+  pub failures : old.failures ≤ new.failures
+  pub root : new.root ≡ old.root
+  pub same_pages : length new.marks ≡ length old.marks
+  pub closed : new.closed ≡ false → old.closed ≡ false
+  pub waiting : (p : ℕ) → mark new.marks p ≡ Waiting → mark old.marks p ≡ Waiting
+  pub needed : (p : ℕ) → needs (mark new.marks p) ≡ needs (mark old.marks p)
+  pub reads : IsTrue old.disk.honest → (p : ℕ) → IsNeeded old.marks p → reads new p ≡ reads old p
+  pub safe : IsTrue old.disk.honest → IsSafe old → IsSafe new
+  pub leaves : IsTrue old.disk.honest → IsSafe old → LeavesOnly old.disk new.disk (Saved old)
+
+-- a call without the disk: only marks change
+pub record IsRemarked (old new : Store) : Type 0 where
+  pub disk : new.disk ≡ old.disk
+  pub failures : new.failures ≡ old.failures
+  pub root : new.root ≡ old.root
+  pub closed : new.closed ≡ old.closed
+
+-- all but the disk is as it was, and on an honest disk reads and stops give the same
+pub record IsUnchanged (old new : Store) : Type 0 where
+  pub root : new.root ≡ old.root
+  pub marks : new.marks ≡ old.marks
+  pub closed : new.closed ≡ old.closed
+  pub shown : IsTrue old.disk.honest → new.disk.now ≡ old.disk.now
+
+-- a commit of this root, whatever it answers: a stop leaves what was saved before, or this root and all pages as they read
+pub record Commits (root : List ℕ) (old new : Store) : Type 0 where
+  pub goes_on : GoesOn old.disk new.disk
+  pub same_size : size new.disk ≡ size old.disk
+  pub failures : old.failures ≤ new.failures
+  pub leaves : IsTrue old.disk.honest → IsSafe old → LeavesOnly old.disk new.disk (λ picture. Saved old picture ⊎ SavedAs root old picture)
+
+-- a commit answers Ok: this root, all pages as they read, and the marks of a new beginning
+pub record IsCommitted (root : List ℕ) (old new : Store) : Type 0 where
+  pub is : new.root ≡ root
+  pub marks : AreCommitted old.marks new.marks
+  pub closed : new.closed ≡ false
+  pub reads : IsTrue old.disk.honest → (p : ℕ) → 1 ≤ p → reads new p ≡ reads old p
+
+-- a store as `open` gives it: each page but the system page waits to be marked
+pub record IsOpened (disk : Disk) (count : ℕ) (store : Store) : Type 0 where
+  pub goes_on : GoesOn disk store.disk
+  pub failures : count ≤ store.failures
+  pub same_size : size store.disk ≡ size disk
+  pub closed : store.closed ≡ false
+  pub capacity : length store.marks ≡ min (size disk / 8) 1048576
+  pub marks : (p : ℕ) → 1 ≤ p → p < length store.marks → mark store.marks p ≡ Waiting
+  pub root : IsTrue disk.honest → HoldsRoot store.root disk.now.contents
+  pub same : IsTrue disk.honest → SyncedMore disk.now store.disk.now
+  pub leaves : IsTrue disk.honest → LeavesOnly disk store.disk (MayLeave disk.now)
+
+-- a disk as a refused `open` gives it back
+pub record IsRefused (disk : Disk) (count : ℕ) (back : Disk) (now : ℕ) : Type 0 where
+  pub goes_on : GoesOn disk back
+  pub failures : count ≤ now
+  pub same_size : size back ≡ size disk
+  pub same : IsTrue disk.honest → SyncedMore disk.now back.now
+  pub leaves : IsTrue disk.honest → LeavesOnly disk back (MayLeave disk.now)

@@ -1,0 +1,87 @@
+-- How the layers above tell a store from call to call.
+use Rattle.std.specs.Prelude.{◌≡◌, ◌⊎◌, ℕ, Bool, List, length, IsTrue}
+use Rattle.std.proofs.Common.{refl, sym, ◌∙◌, ap, subst, arith, inl, inr}
+use Rattle.sector_disk.specs.Disk.{Picture, Disk, GoesOn, LeavesOnly}
+use Rattle.sector_disk.specs.Moments.{goes_on_refl, goes_on_trans, leaves_now, leaves_then, leaves_more, still_honest}
+use Rattle.root_pair.specs.Root.{HoldsRoot, root_of, IsAtRest}
+use Rattle.root_pair.specs.Rest.{rest_leaves}
+use Rattle.page_store.specs.Marks.{IsNeeded}
+use Rattle.page_store.specs.Page.{page_same}
+use Rattle.page_store.specs.Store.{Store, Saved, SavedAs, StopLeaves, IsSafe, Works, IsRemarked}
+
+-- a stop leaves the committed root and its pages
+pub safe_saves : (store : Store) → IsSafe store → StopLeaves store (Saved store)
+safe_saves store safe picture left = record {
+  holds = subst (λ (r : List ℕ). HoldsRoot r picture) safe.root (rest_leaves store.disk.now safe.rest picture left);
+  room = omega (arith, safe.room, left.no_shorter);
+  pages = λ p needed. page_same picture store.disk.now.contents p (λ k within. left.same k (safe.synced p needed k within));
+}
+
+-- nothing has happened
+pub works_refl : (store : Store) → Works store store
+works_refl store = record {
+  goes_on = goes_on_refl store.disk;
+  same_size = refl;
+  failures = omega arith;
+  root = refl;
+  same_pages = refl;
+  closed = λ open_. open_;
+  waiting = λ p is. is;
+  needed = λ p. refl;
+  reads = λ honest p needed. refl;
+  safe = λ honest safe. safe;
+  leaves = λ honest safe. leaves_now store.disk (safe_saves store safe);
+}
+
+-- what the earlier store needs, the later needs
+pub still_needed : {old new : Store} → Works old new → (p : ℕ) → IsNeeded old.marks p → IsNeeded new.marks p
+still_needed works p needed = (needed.0, subst (λ (b : Bool). IsTrue b) (sym (works.needed p)) needed.1)
+
+-- what is saved of the later store is saved of the earlier
+pub saved_before : {old new : Store} → Works old new → IsTrue old.disk.honest → (picture : Picture) → Saved new picture → Saved old picture
+saved_before works honest picture saved = record {
+  holds = subst (λ (r : List ℕ). HoldsRoot r picture) works.root saved.holds;
+  room = omega (arith, saved.room, works.same_pages);
+  pages = λ p needed. saved.pages p (still_needed works p needed) ∙ works.reads honest p needed;
+}
+
+-- one part after another
+pub works_then : {old mid new : Store} → Works old mid → Works mid new → Works old new
+works_then first second = record {
+  goes_on = goes_on_trans first.goes_on second.goes_on;
+  same_size = second.same_size ∙ first.same_size;
+  failures = omega (arith, first.failures, second.failures);
+  root = second.root ∙ first.root;
+  same_pages = second.same_pages ∙ first.same_pages;
+  closed = λ open_. first.closed (second.closed open_);
+  waiting = λ p is. first.waiting p (second.waiting p is);
+  needed = λ p. second.needed p ∙ first.needed p;
+  reads = λ honest p needed. second.reads (still_honest first.goes_on honest) p (still_needed first p needed) ∙ first.reads honest p needed;
+  safe = λ honest safe. second.safe (still_honest first.goes_on honest) (first.safe honest safe);
+  leaves = λ honest safe.
+      leaves_then second.goes_on (first.leaves honest safe) (leaves_more (saved_before first honest) (second.leaves (still_honest first.goes_on honest) (first.safe honest safe)));
+}
+
+-- only marks change, and no page becomes needed that was not
+pub safe_remarked : (old new : Store) → IsRemarked old new → length new.marks ≡ length old.marks → ((p : ℕ) → IsNeeded new.marks p → IsNeeded old.marks p) → IsSafe old → IsSafe new
+safe_remarked old new others long fewer safe =
+    let lasts : new.disk.now.lasting ≡ old.disk.now.lasting = ap (λ (d : Disk). d.now.lasting) others.disk in
+    record {
+      rest = subst (λ (d : Disk). IsAtRest d.now) (sym others.disk) safe.rest;
+      room = omega (arith, safe.room, long, lasts);
+      root = ap (λ (d : Disk). root_of d.now.contents) others.disk ∙ safe.root ∙ sym others.root;
+      synced = λ p needed k within. subst (λ (d : Disk). IsTrue (d.now.synced k)) (sym others.disk) (safe.synced p (fewer p needed) k within);
+    }
+
+-- work, and then a commit: a stop leaves what was saved at first, or the new root and all pages as they read at the commit
+pub commit_after : {old mid : Store} (new : Disk) (root : List ℕ) → Works old mid → GoesOn mid.disk new
+    → (IsTrue mid.disk.honest → IsSafe mid → LeavesOnly mid.disk new (λ picture. Saved mid picture ⊎ SavedAs root mid picture))
+    → IsTrue old.disk.honest → IsSafe old → LeavesOnly old.disk new (λ picture. Saved old picture ⊎ SavedAs root mid picture)
+commit_after {old} {mid} new root works goes_on commit honest safe =
+    leaves_then goes_on
+    (leaves_more (λ picture saved. inl saved) (works.leaves honest safe))
+    (leaves_more each (commit (still_honest works.goes_on honest) (works.safe honest safe)))
+  where
+    each : (picture : Picture) → Saved mid picture ⊎ SavedAs root mid picture → Saved old picture ⊎ SavedAs root mid picture
+    each picture (inl saved) = inl (saved_before works honest picture saved)
+    each picture (inr saved) = inr saved

@@ -1,0 +1,22 @@
+//! Pages of 4,096 bytes on a table's disk: read, written and handed out, and a root that needs some of them.
+#![tactic(auto)]
+
+mod fault;
+pub mod laws;
+#[cfg(test)]
+mod layer_tests;
+mod marks;
+mod page;
+mod pages;
+#[cfg(test)]
+mod soak_tests;
+#[cfg(test)]
+mod stop_tests;
+mod store;
+#[cfg(test)]
+mod tests;
+
+pub use fault::PageFault;
+pub use marks::Mark;
+pub use pages::Pages;
+pub use store::{PageStore, Refused};

@@ -1,0 +1,50 @@
+//! One page, sector by sector.
+ghost use Rattle.std.specs.Prelude.{◌≡◌, ◌+◌, ◌*◌, ◌≤◌, OnOk, IsTrue};
+ghost use Rattle.sector_disk.specs.Disk.{size, GoesOn, LeavesOnly, MayLeave, KeepsThroughout, HasCause};
+ghost use Rattle.page_store.specs.Page.{page, IsOutside};
+
+use sector_disk::{DiskFault, SectorDisk};
+
+/// Reads the page of this number.
+pub fn get_page<D: SectorDisk>(
+    disk: &mut D,
+    number: u32,
+    into: &mut [u8; 4096],
+) -> Result<(), DiskFault>
+    requires { 8 * number + 8 ≤ size (D.disk disk.old) }
+    ensures bytes { IsTrue (D.disk disk.old).honest → OnOk result (into.new ≡ page (D.disk disk.old).now.contents number) }
+    ensures unchanged { IsTrue (D.disk disk.old).honest → (D.disk disk.new).now ≡ (D.disk disk.old).now }
+    ensures moments { IsTrue (D.disk disk.old).honest
+        → LeavesOnly (D.disk disk.old) (D.disk disk.new) (MayLeave (D.disk disk.old).now) }
+    ensures time { GoesOn (D.disk disk.old) (D.disk disk.new) }
+    ensures same_size { size (D.disk disk.new) ≡ size (D.disk disk.old) }
+    ensures cause { HasCause (D.failures disk.old) (D.failures disk.new) result }
+{
+    for part in 0..8usize {
+        let mut sector = [0; 512];
+        disk.read(8 * u64::from(number) + part as u64, &mut sector)?;
+        into[512 * part..512 * part + 512].copy_from_slice(&sector);
+    }
+    Ok(())
+}
+
+/// Writes the page of this number. A stop within it leaves anything there, and elsewhere what was synced.
+pub fn put_page<D: SectorDisk>(
+    disk: &mut D,
+    number: u32,
+    from: &[u8; 4096],
+) -> Result<(), DiskFault>
+    requires { 8 * number + 8 ≤ size (D.disk disk.old) }
+    ensures written { IsTrue (D.disk disk.old).honest → OnOk result (page (D.disk disk.new).now.contents number ≡ from.now) }
+    ensures kept { IsTrue (D.disk disk.old).honest → KeepsThroughout (IsOutside number) (D.disk disk.old) (D.disk disk.new) }
+    ensures time { GoesOn (D.disk disk.old) (D.disk disk.new) }
+    ensures same_size { size (D.disk disk.new) ≡ size (D.disk disk.old) }
+    ensures cause { HasCause (D.failures disk.old) (D.failures disk.new) result }
+{
+    for part in 0..8usize {
+        let mut sector = [0; 512];
+        sector.copy_from_slice(&from[512 * part..512 * part + 512]);
+        disk.write(8 * u64::from(number) + part as u64, &sector)?;
+    }
+    Ok(())
+}

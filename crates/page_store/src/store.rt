@@ -1,0 +1,194 @@
+//! A store of pages on a disk, with a mark for each page in memory.
+ghost use Rattle.std.specs.Prelude.{◌≡◌, ◌≤◌, ◌<◌, ◌*◌, ℕ, length, IfOk, IfErr};
+ghost use Rattle.page_store.specs.declared.marks.Mark.TheVariants.{Committed, Waiting};
+ghost use Rattle.page_store.specs.Causes.{OpenCause};
+ghost use Rattle.page_store.specs.Marks.{mark as mark_of};
+ghost use Rattle.page_store.specs.Store.{store_of, IsSound, IsOpened, IsRefused};
+
+use crate::marks::{count_free, find_any, let_go, put_mark, turn};
+use crate::page::{get_page, put_page};
+use crate::{Mark, PageFault, Pages};
+use root_pair::{Root, RootFault, publish};
+use sector_disk::SectorDisk;
+use std::alloc::{AllocError, Global};
+
+/// The most pages that a store has, the system page counted.
+const MOST_PAGES: u64 = 1_048_576;
+
+/// A store of pages on a disk.
+#[derive(Drop)]
+pub struct PageStore<D: SectorDisk> {
+    disk: D,
+    root: Root,
+    marks: Vec<Mark>,
+    /// Where the search for a free page begins.
+    next: u32,
+    /// A write or a sync has failed.
+    closed: bool,
+    ghost sound: { IsSound (store_of (D.disk disk) (D.failures disk) root.bytes marks.items closed) },
+}
+
+/// A disk that comes back with a refusal.
+#[derive(Drop)]
+pub struct Refused<D> {
+    pub disk: D,
+    pub fault: PageFault,
+}
+
+impl<D: SectorDisk> PageStore<D> {
+    /// Finds the root on the disk, which it syncs first. No page is marked. `Disk`, `NotATable`, or `OutOfMemory`, with
+    /// the disk. The room that later calls take is reserved here.
+    pub fn open(alloc: Global, disk: D) -> Result<Self, Refused<D>>
+        ensures ok { IfOk result (λ store. IsOpened (D.disk disk) (D.failures disk) (⟦<PageStore<D> as Pages>⟧.store store)) }
+        ensures refused { IfErr result (λ back. IsRefused (D.disk disk) (D.failures disk) (D.disk back.disk) (D.failures back.disk)) }
+        ensures cause { IfErr result (λ back. OpenCause (D.disk disk) (D.failures disk) (D.failures back.disk) back.fault) }
+    {
+        let mut disk = disk;
+        let root = match root_pair::open(&mut disk) {
+            Ok(root) => root,
+            Err(RootFault::NotATable) => {
+                return Err(Refused {
+                    disk,
+                    fault: PageFault::NotATable,
+                });
+            }
+            Err(_) => {
+                return Err(Refused {
+                    disk,
+                    fault: PageFault::Disk,
+                });
+            }
+        };
+        let capacity = (disk.sectors() / 8).min(MOST_PAGES);
+        match unmarked(alloc, capacity) {
+            Ok(marks) => Ok(PageStore {
+                disk,
+                root,
+                marks,
+                next: 0,
+                closed: false,
+            }),
+            Err(_) => Err(Refused {
+                disk,
+                fault: PageFault::OutOfMemory,
+            }),
+        }
+    }
+
+    /// The disk, as it is.
+    pub fn into_disk(self) -> D
+        ensures disk { D.disk result ≡ (⟦<PageStore<D> as Pages>⟧.store self).disk }
+        ensures failures { D.failures result ≡ (⟦<PageStore<D> as Pages>⟧.store self).failures }
+    {
+        let PageStore { disk, .. } = self;
+        disk
+    }
+}
+
+/// The system page, and pages that wait to be marked.
+fn unmarked(alloc: Global, capacity: u64) -> Result<Vec<Mark>, AllocError>
+    requires { capacity ≤ 1048576 }
+    ensures length { IfOk result (λ marks. length marks.items ≡ capacity) }
+    ensures system { IfOk result (λ marks. mark_of marks.items 0 ≡ Committed) }
+    ensures others { IfOk result (λ marks. (p : ℕ) → 1 ≤ p → p < length marks.items → mark_of marks.items p ≡ Waiting) }
+{
+    let mut marks = vec![in alloc; Mark::Waiting; capacity as usize]?;
+    if !marks.is_empty() {
+        marks[0] = Mark::Committed;
+    }
+    Ok(marks)
+}
+
+impl<D: SectorDisk> Pages for PageStore<D> {
+    ghost store = { λ s. store_of (D.disk s.disk) (D.failures s.disk) s.root.bytes s.marks.items s.closed };
+
+    ghost sound = { λ s. s.sound };
+
+    fn mark(&mut self, page: u32) -> Result<(), PageFault> {
+        if self.closed {
+            return Err(PageFault::Closed);
+        }
+        if page as usize >= self.marks.len() || self.marks[page as usize] != Mark::Waiting {
+            return Err(PageFault::Damaged);
+        }
+        put_mark(&mut self.marks, page, Mark::Committed);
+        Ok(())
+    }
+
+    fn seal(&mut self) {
+        turn(&mut self.marks, Mark::Fresh, Mark::Released, Mark::Free);
+    }
+
+    fn read_page(&mut self, page: u32, into: &mut [u8; 4096]) -> Result<(), PageFault> {
+        if self.closed {
+            return Err(PageFault::Closed);
+        }
+        if page == 0 || page as usize >= self.marks.len() {
+            return Err(PageFault::Damaged);
+        }
+        get_page(&mut self.disk, page, into)?;
+        Ok(())
+    }
+
+    fn new_page(&mut self) -> Result<u32, PageFault> {
+        if self.closed {
+            return Err(PageFault::Closed);
+        }
+        let page = match find_any(&self.marks, self.next) {
+            Some(page) => page,
+            None => return Err(PageFault::TableFull),
+        };
+        put_mark(&mut self.marks, page, Mark::Fresh);
+        self.next = page;
+        Ok(page)
+    }
+
+    fn is_fresh(&self, page: u32) -> bool {
+        (page as usize) < self.marks.len() && self.marks[page as usize] == Mark::Fresh
+    }
+
+    fn write_page(&mut self, page: u32, from: &[u8; 4096]) -> Result<(), PageFault> {
+        if self.closed {
+            return Err(PageFault::Closed);
+        }
+        let written = put_page(&mut self.disk, page, from);
+        self.closed = written.is_err();
+        written?;
+        Ok(())
+    }
+
+    fn release(&mut self, page: u32) {
+        let now = let_go(self.marks[page as usize]);
+        put_mark(&mut self.marks, page, now);
+    }
+
+    fn commit(&mut self, root: &[u8; 512]) -> Result<(), PageFault> {
+        if self.closed {
+            return Err(PageFault::Closed);
+        }
+        match publish(&mut self.disk, root) {
+            Ok(()) => {
+                self.root = Root { bytes: *root };
+                turn(&mut self.marks, Mark::Committed, Mark::Free, Mark::Waiting);
+                Ok(())
+            }
+            Err(RootFault::Read) => Err(PageFault::Disk),
+            Err(_) => {
+                self.closed = true;
+                Err(PageFault::Disk)
+            }
+        }
+    }
+
+    fn discard(&mut self) {
+        turn(&mut self.marks, Mark::Free, Mark::Committed, Mark::Waiting);
+    }
+
+    fn free_pages(&self) -> u32 {
+        count_free(&self.marks)
+    }
+
+    fn root(&self) -> Root {
+        self.root
+    }
+}
