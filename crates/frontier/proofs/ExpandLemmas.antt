@@ -1,5 +1,5 @@
 -- What is so once a position is expanded.
-use Rattle.std.proofs.Common.{◌≡◌, ◌∙◌, ◌↔◌, sym, ap, subst, ℕ, suc, ◌^◌, ◌≤◌, ◌<◌, None, false, List, [], ◌∷◌, length, arith, slice_get, Option}
+use Rattle.std.proofs.Common.{◌≡◌, ◌∙◌, ◌↔◌, sym, ap, subst, ℕ, suc, ◌^◌, ◌≤◌, ◌<◌, ⊎_elim, IsSome, None, false, List, [], ◌∷◌, length, arith, slice_get, Option}
 use Rattle.std.specs.Prelude.{AllPairs}
 use Rattle.std.specs.declared.cmp.Ordering.{Ordering}
 use Rattle.std.specs.declared.cmp.Ordering.TheVariants.{Less}
@@ -23,7 +23,7 @@ use Rattle.legal_moves.specs.Listed.{ListsExactly}
 use Rattle.retrograde.proofs.Enlarging.{expanded_sound}
 use Rattle.retrograde.proofs.Expands.{expands}
 use Rattle.retrograde.proofs.Finding.{sorted_of, sorted_none, expanded_works}
-use Rattle.retrograde.proofs.Finished.{draws, reach_is_known, element}
+use Rattle.retrograde.proofs.Finished.{draws, reach_is_known, element, none_or_some, is_some_at}
 use Rattle.retrograde.proofs.Noting.{Grew, are_noted_grew, unsettled}
 use Rattle.retrograde.proofs.Settling.{count_less}
 use Rattle.retrograde.proofs.Sound.{sound_right}
@@ -49,21 +49,33 @@ module _ (graph : Graph (List ℕ)) (IsWide : List ℕ → Type 0) (old new : St
     pub sound : IsLocallySound graph IsWide new
     pub step : UnitsOfWork packed_cmp graph IsWide (2 ^ 24) (view_of old) 1 (view_of new)
     pub right : IsRight graph (view_of new)
-    pub last : expanded_count new ≡ length new.positions → new.order ≡ [] → IsFinished (view_of new)
+    pub last : expanded_count new ≡ length new.positions → new.order ≡ [] → IsFinished (view_of new) × ((x : List ℕ) → IsReachable graph x → Drawn graph x)
     pub reached : IsFinished (view_of new) → (x : List ℕ) → IsKnown (view_of new) x ↔ IsReachable graph x
     pub drawn : IsFinished (view_of new) → (i : ℕ) (x : List ℕ) → HasNumber (view_of new) i x → ((view_of new).value i ≡ None) ↔ Drawn graph x
 
-  -- where nothing is settled, and all is expanded, there is no more to do
-  ends : IsLocallySound graph IsWide new → expanded_count new ≡ length new.positions → new.order ≡ [] → IsFinished (view_of new)
-  ends sound all none = record {
-    all_expanded = all;
-    all_processed = λ i some.
-        let (k, at) = sound.table.listed i some in
-        absurd (cc_none k i (ap (λ (ks : List ℕ). slice_get ks k) (sym none) ∙ at));
-  }
+  -- where nothing is in the order, nothing is settled
+  none_settled : IsLocallySound graph IsWide new → new.order ≡ [] → (i : ℕ) → IsSome ((view_of new).value i) → ⊥
+  none_settled sound none i some =
+      let (k, at) = sound.table.listed i some in
+      nothing k i (ap (λ (ks : List ℕ). slice_get ks k) (sym none) ∙ at)
     where
-      cc_none : (k i : ℕ) → slice_get [] k ≡ Option.Some i → ⊥
-      cc_none k i at = cc
+      nothing : (k i : ℕ) → slice_get [] k ≡ Option.Some i → ⊥
+      nothing k i at = cc
+
+  -- and where all is expanded too, there is no more to do, and nobody wins
+  ends : IsLocallySound graph IsWide new → expanded_count new ≡ length new.positions → new.order ≡ []
+      → IsFinished (view_of new) × ((x : List ℕ) → IsReachable graph x → Drawn graph x)
+  ends sound all none = (finished, λ x reach.
+      let (i, number) = reach_is_known graph (view_of new) right finished x reach in
+      let unsettled' : (view_of new).value i ≡ None =
+      ⊎_elim (λ is. is) (λ (value, is). absurd (none_settled sound none i (is_some_at ((view_of new).value i) value is))) (none_or_some ((view_of new).value i)) in
+      (draws graph (view_of new) right finished i x number).0 unsettled')
+    where
+      finished : IsFinished (view_of new)
+      finished = record { all_expanded = all; all_processed = λ i some. absurd (none_settled sound none i some) }
+
+      right : IsRight graph (view_of new)
+      right = sound_right graph IsWide new sound
 
   pub done : IsLocallySound graph IsWide old → (x : List ℕ) (ys : List (List ℕ)) (next : Stored (List ℕ)) (e n : ℕ) (ahead : Option Player)
       → e ≡ expanded_count old → slice_get old.positions e ≡ Option.Some x → IsSuccessorList packed_cmp graph x ys → (graph.mover x ≡ Role.Keeper → length ys ≤ 1)

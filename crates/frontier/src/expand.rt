@@ -82,7 +82,7 @@ pub fn expand_one<M: MoveSource, T: Table>(
         → OnOk result (IsRight (M.graph source.now) (view_of (T.stored table.new))) }
     ensures last { T.is_honest table.old → IsLocallySound (M.graph source.now) (M.is_wide source.now) (T.stored table.old)
         → OnOk result (expanded_count (T.stored table.new) ≡ length (T.stored table.new).positions → (T.stored table.new).order ≡ []
-            → IsFinished (view_of (T.stored table.new))) }
+            → IsFinished (view_of (T.stored table.new)) × ((x : List ℕ) → IsReachable (M.graph source.now) x → Drawn (M.graph source.now) x)) }
     ensures reached { T.is_honest table.old → IsLocallySound (M.graph source.now) (M.is_wide source.now) (T.stored table.old)
         → OnOk result (IsFinished (view_of (T.stored table.new))
             → (x : List ℕ) → IsKnown (view_of (T.stored table.new)) x ↔ IsReachable (M.graph source.now) x) }
