@@ -65,11 +65,14 @@ module _ (graph : Graph (List ℕ)) (IsWide : List ℕ → Type 0) (old new : St
   -- and where all is expanded too, there is no more to do, and nobody wins
   ends : IsLocallySound graph IsWide new → expanded_count new ≡ length new.positions → new.order ≡ []
       → IsFinished (view_of new) × ((x : List ℕ) → IsReachable graph x → Drawn graph x)
-  ends sound all none = (finished, λ x reach.
-      let (i, number) = reach_is_known graph (view_of new) right finished x reach in
-      let unsettled' : (view_of new).value i ≡ None =
-      ⊎_elim (λ is. is) (λ (value, is). absurd (none_settled sound none i (is_some_at ((view_of new).value i) value is))) (none_or_some ((view_of new).value i)) in
-      (draws graph (view_of new) right finished i x number).0 unsettled')
+  ends sound all none = (
+    finished,
+    λ x reach.
+        let (i, number) = reach_is_known graph (view_of new) right finished x reach in
+        let unsettled' : (view_of new).value i ≡ None =
+        ⊎_elim (λ is. is) (λ (value, is). absurd (none_settled sound none i (is_some_at ((view_of new).value i) value is))) (none_or_some ((view_of new).value i)) in
+        (draws graph (view_of new) right finished i x number).0 unsettled',
+  )
     where
       finished : IsFinished (view_of new)
       finished = record { all_expanded = all; all_processed = λ i some. absurd (none_settled sound none i some) }

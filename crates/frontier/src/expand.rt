@@ -71,7 +71,7 @@ pub fn expand_one<M: MoveSource, T: Table>(
     ensures room { OnOk result ((T.counted table.new).known ≤ 2 ^ 24) }
     ensures expands { T.is_honest table.old → IsLocallySound (M.graph source.now) (M.is_wide source.now) (T.stored table.old)
         → OnOk result ((x : List ℕ) × (ys : List (List ℕ))
-            × Expands packed_cmp (M.graph source.now) (T.stored table.old) (T.stored table.new) x ys) }
+        × Expands packed_cmp (M.graph source.now) (T.stored table.old) (T.stored table.new) x ys) }
     ensures more { T.is_honest table.old → IfOk result (λ more.
         length (T.stored table.new).positions ≡ length (T.stored table.old).positions + more) }
     ensures sound { T.is_honest table.old → IsLocallySound (M.graph source.now) (M.is_wide source.now) (T.stored table.old)
@@ -82,14 +82,14 @@ pub fn expand_one<M: MoveSource, T: Table>(
         → OnOk result (IsRight (M.graph source.now) (view_of (T.stored table.new))) }
     ensures last { T.is_honest table.old → IsLocallySound (M.graph source.now) (M.is_wide source.now) (T.stored table.old)
         → OnOk result (expanded_count (T.stored table.new) ≡ length (T.stored table.new).positions → (T.stored table.new).order ≡ []
-            → IsFinished (view_of (T.stored table.new)) × ((x : List ℕ) → IsReachable (M.graph source.now) x → Drawn (M.graph source.now) x)) }
+        → IsFinished (view_of (T.stored table.new)) × ((x : List ℕ) → IsReachable (M.graph source.now) x → Drawn (M.graph source.now) x)) }
     ensures reached { T.is_honest table.old → IsLocallySound (M.graph source.now) (M.is_wide source.now) (T.stored table.old)
         → OnOk result (IsFinished (view_of (T.stored table.new))
-            → (x : List ℕ) → IsKnown (view_of (T.stored table.new)) x ↔ IsReachable (M.graph source.now) x) }
+        → (x : List ℕ) → IsKnown (view_of (T.stored table.new)) x ↔ IsReachable (M.graph source.now) x) }
     ensures drawn { T.is_honest table.old → IsLocallySound (M.graph source.now) (M.is_wide source.now) (T.stored table.old)
         → OnOk result (IsFinished (view_of (T.stored table.new))
-            → (i : ℕ) (x : List ℕ) → HasNumber (view_of (T.stored table.new)) i x
-            → ((view_of (T.stored table.new)).value i ≡ None) ↔ Drawn (M.graph source.now) x) }
+        → (i : ℕ) (x : List ℕ) → HasNumber (view_of (T.stored table.new)) i x
+        → ((view_of (T.stored table.new)).value i ≡ None) ↔ Drawn (M.graph source.now) x) }
     ensures cause { T.is_honest table.old → IfErr result (HasCause (M.graph source.now) (M.is_wide source.now) (T.stored table.old)) }
     ensures unchanged { T.is_honest table.old → IfErr result (λ fault. IsRefusal fault
         → T.is_honest table.new × (T.stored table.new ≡ T.stored table.old)) }

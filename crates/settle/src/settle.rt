@@ -46,11 +46,11 @@ pub fn settle_one<M: MoveSource, T: Table>(source: &M, table: &mut T) -> Result<
         → OnOk result (IsRight (M.graph source.now) (view_of (T.stored table.new))) }
     ensures reached { T.is_honest table.old → IsLocallySound (M.graph source.now) (M.is_wide source.now) (T.stored table.old)
         → OnOk result (IsFinished (view_of (T.stored table.new))
-            → (x : List ℕ) → IsKnown (view_of (T.stored table.new)) x ↔ IsReachable (M.graph source.now) x) }
+        → (x : List ℕ) → IsKnown (view_of (T.stored table.new)) x ↔ IsReachable (M.graph source.now) x) }
     ensures drawn { T.is_honest table.old → IsLocallySound (M.graph source.now) (M.is_wide source.now) (T.stored table.old)
         → OnOk result (IsFinished (view_of (T.stored table.new))
-            → (i : ℕ) (x : List ℕ) → HasNumber (view_of (T.stored table.new)) i x
-            → ((view_of (T.stored table.new)).value i ≡ None) ↔ Drawn (M.graph source.now) x) }
+        → (i : ℕ) (x : List ℕ) → HasNumber (view_of (T.stored table.new)) i x
+        → ((view_of (T.stored table.new)).value i ≡ None) ↔ Drawn (M.graph source.now) x) }
     ensures consistent { T.is_honest table.old → IsLocallySound (M.graph source.now) (M.is_wide source.now) (T.stored table.old)
         → result ≡ Err Inconsistent → ⊥ }
     ensures goes_on { IfErr result (λ fault. ¬ IsRefusal fault) }

@@ -67,5 +67,7 @@ fn solve(rt: &HostRuntime, alloc: Global, game: Game, limit: u32) -> io::Result<
         settled,
         processed,
     } = table.counts();
-    println!(rt; "units {units} known {known} expanded {expanded} settled {settled} processed {processed}")
+    println!(rt;
+        "units {units} known {known} expanded {expanded} settled {settled} processed {processed}"
+    )
 }

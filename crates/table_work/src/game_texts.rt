@@ -1,7 +1,8 @@
 //! Game texts for the tests: those of `games/`, and small rules on one vertex.
 
 /// The game of takes from a heap of three.
-pub const TAKE: &str = "#players = white(1), black(1)  #pieces = e  #variables = heap(3)  #board = v[e]{}  #rules = [$heap=3] (->white ([$heap=heap-1]+[$heap=heap-2]) [$white=1][$black=0] ->black ([$heap=heap-1]+[$heap=heap-2]) [$black=1][$white=0])*";
+pub const TAKE: &str =
+    "#players = white(1), black(1)  #pieces = e  #variables = heap(3)  #board = v[e]{}  #rules = [$heap=3] (->white ([$heap=heap-1]+[$heap=heap-2]) [$white=1][$black=0] ->black ([$heap=heap-1]+[$heap=heap-2]) [$black=1][$white=0])*";
 
 /// The game that forks: a win that is found late by number is near by distance.
 pub const FORK: &str = "#players = white(1), black(1)
@@ -102,25 +103,61 @@ pub const SMALL: [(&str, &str); 24] = [
     // cycles, and a position that is its own successor
     ("", "->white (->black ->white)*"),
     ("", "->white (->white)*"),
-    ("n(1)", "->white ([$n=n] ->white + [$white=1] ->white {} ->white)*"),
+    (
+        "n(1)",
+        "->white ([$n=n] ->white + [$white=1] ->white {} ->white)*",
+    ),
     // one who has a choice, and one who has none
     ("", "->white ([$white=1] ->black + [$black=1] ->black)"),
-    ("", "->white ->black ([$white=1] ->white + [$black=1] ->white)"),
+    (
+        "",
+        "->white ->black ([$white=1] ->white + [$black=1] ->white)",
+    ),
     ("", "->white [$black=1] ->black"),
     // the keeper in the middle and at the end
     ("", "->white [$white=1] ->> {} ->black"),
     ("", "->white ->> [$white=1] ->black"),
     ("", "->white ->> ->> [$black=1] ->white"),
-    ("n(3)", "->white (({$ n<3}[$n=n+1] + {$ n==3}[$white=1]) ->> {$ white==0} ->white)*"),
+    (
+        "n(3)",
+        "->white (({$ n<3}[$n=n+1] + {$ n==3}[$white=1]) ->> {$ white==0} ->white)*",
+    ),
     // heaps, by the rule that the last to take wins and that he loses
-    ("n(5)", "[$n=5] ->white ([$n=n-1][$white=1][$black=0] ->black [$n=n-1][$black=1][$white=0] ->white)*"),
-    ("n(9)", "[$n=9] ->white (([$n=n-1]+[$n=n-2]+[$n=n-3])[$white=1][$black=0] ->black ([$n=n-1]+[$n=n-2]+[$n=n-3])[$black=1][$white=0] ->white)*"),
-    ("n(6)", "[$n=6] ->white (([$n=n-1]+[$n=n-2])[$black=1][$white=0] ->black ([$n=n-1]+[$n=n-2])[$white=1][$black=0] ->white)*"),
-    ("n(2), m(2)", "->white (([$n=n+1]+[$m=m+1]) ->black ([$n=n+1]+[$m=m+1]) ->white)*"),
-    ("n(2), m(2)", "->white (([$n=n+1]+[$m=m+1])[$white=1][$black=0] ->black ([$n=n+1]+[$m=m+1])[$black=1][$white=0] ->white)*"),
+    (
+        "n(5)",
+        "[$n=5] ->white ([$n=n-1][$white=1][$black=0] ->black [$n=n-1][$black=1][$white=0] ->white)*",
+    ),
+    (
+        "n(9)",
+        "[$n=9] ->white (([$n=n-1]+[$n=n-2]+[$n=n-3])[$white=1][$black=0] ->black ([$n=n-1]+[$n=n-2]+[$n=n-3])[$black=1][$white=0] ->white)*",
+    ),
+    (
+        "n(6)",
+        "[$n=6] ->white (([$n=n-1]+[$n=n-2])[$black=1][$white=0] ->black ([$n=n-1]+[$n=n-2])[$white=1][$black=0] ->white)*",
+    ),
+    (
+        "n(2), m(2)",
+        "->white (([$n=n+1]+[$m=m+1]) ->black ([$n=n+1]+[$m=m+1]) ->white)*",
+    ),
+    (
+        "n(2), m(2)",
+        "->white (([$n=n+1]+[$m=m+1])[$white=1][$black=0] ->black ([$n=n+1]+[$m=m+1])[$black=1][$white=0] ->white)*",
+    ),
     // races, and a tug in which the other side can hold a draw
-    ("n(3)", "->white (({$ n<3}[$n=n+1] + {$ n==3}[$white=1]) ->black {$ white==0} ->white)*"),
-    ("n(3)", "->white (({$ n<3}[$n=n+1] + {$ n>0}[$n=n-1] + {$ n==3}[$white=1]) ->black {$ white==0} ->white)*"),
-    ("n(6)", "[$n=3] ->white (({$ n<5}[$n=n+2] + {$ n>=5}[$white=1]) ->black {$ white==0} {$ n>0}[$n=n-1] ->white)*"),
-    ("n(4)", "[$n=2] ->white (({$ n<4}[$n=n+1] + {$ n==4}[$white=1]) ->black {$ white==0} ({$ n>0}[$n=n-1] + {$ n<2}[$n=n]) ->white)*"),
+    (
+        "n(3)",
+        "->white (({$ n<3}[$n=n+1] + {$ n==3}[$white=1]) ->black {$ white==0} ->white)*",
+    ),
+    (
+        "n(3)",
+        "->white (({$ n<3}[$n=n+1] + {$ n>0}[$n=n-1] + {$ n==3}[$white=1]) ->black {$ white==0} ->white)*",
+    ),
+    (
+        "n(6)",
+        "[$n=3] ->white (({$ n<5}[$n=n+2] + {$ n>=5}[$white=1]) ->black {$ white==0} {$ n>0}[$n=n-1] ->white)*",
+    ),
+    (
+        "n(4)",
+        "[$n=2] ->white (({$ n<4}[$n=n+1] + {$ n==4}[$white=1]) ->black {$ white==0} ({$ n>0}[$n=n-1] + {$ n<2}[$n=n]) ->white)*",
+    ),
 ];

@@ -1,12 +1,12 @@
 //! Who wins within so many moves, by the definition's recursion alone: plain, slow, and made of none of
 //! what it is to be compared with but the moves.
+ghost use Rattle.legal_moves.specs.Compiled.{IsCompiled};
+
 use legal_moves::{Compiled, MoveSource};
 use position_pack::Packed;
 use rbg_game::roles::{Player, Role};
 use std::alloc::Global;
 use std::test::Fail;
-
-ghost use Rattle.legal_moves.specs.Compiled.{IsCompiled};
 
 /// A position: its bytes, who has the turn, who is ahead, and where its moves lead.
 #[derive(Drop)]
@@ -126,7 +126,11 @@ fn noted(
     let mut noted = Vec::new(alloc);
     for place in 0..level.len() {
         let known = distances.get(place).copied().unwrap_or(None);
-        let now = if is_won(level, place) { Some(distance) } else { None };
+        let now = if is_won(level, place) {
+            Some(distance)
+        } else {
+            None
+        };
         noted.push(known.or(now))?;
     }
     Ok(noted)

@@ -124,4 +124,3 @@ returns-clause-reached g c = λ honest sound. (is_done g c honest sound).reached
 
 pub returns-clause-drawn : goal.returns-clause-drawn
 returns-clause-drawn g c = λ honest sound. (is_done g c honest sound).drawn
-
