@@ -28,9 +28,8 @@ safe_unchanged old new same shown safe =
     }
 
 -- a read
-pub works_read : (old new : Store) → GoesOn old.disk new.disk → size new.disk ≡ size old.disk → old.failures ≤ new.failures → IsUnchanged old new
-    → (IsTrue old.disk.honest → LeavesOnly old.disk new.disk (MayLeave old.disk.now)) → Works old new
-works_read old new goes_on size_ failures same leaves = record {
+pub works_read : (old new : Store) → GoesOn old.disk new.disk → size new.disk ≡ size old.disk → old.failures ≤ new.failures → IsUnchanged old new → Works old new
+works_read old new goes_on size_ failures same = record {
   goes_on = goes_on;
   same_size = size_;
   failures = failures;
@@ -41,7 +40,7 @@ works_read old new goes_on size_ failures same leaves = record {
   needed = λ p. ap (λ (ms : List Mark). needs (mark ms p)) same.marks;
   reads = λ honest p needed. ap (λ (s : Shown). page s.contents p) (same.shown honest);
   safe = λ honest safe. safe_unchanged old new same (sym (same.shown honest)) safe;
-  leaves = λ honest safe. leaves_more (safe_saves old safe) (leaves honest);
+  leaves = λ honest safe. leaves_more (safe_saves old safe) (same.leaves honest);
 }
 
 pub was_honest : {old new : Disk} → GoesOn old new → IsTrue new.honest → IsTrue old.honest

@@ -4,13 +4,13 @@ use Rattle.std.proofs.Common.{refl, sym, ◌∙◌, ap, subst, inl, inr}
 use Rattle.std.proofs.lemmas.Bool.{cases_lt}
 use Rattle.std.proofs.lemmas.List.{ext_get_or, get_or_past}
 use Rattle.sector_disk.specs.Disk.{Picture, Disk}
-use Rattle.sector_disk.specs.Moments.{leaves_more, still_honest}
+use Rattle.sector_disk.specs.Moments.{leaves_more, leaves_then, still_honest}
 use Rattle.page_store.specs.declared.marks.Mark.{Mark}
 use Rattle.page_store.specs.declared.marks.Mark.TheVariants.{Committed, Waiting, Fresh, Released, Free}
 use Rattle.page_store.specs.Marks.{mark, needs, keeps, turned, IsNeeded, AreSealed, AreDiscarded}
 use Rattle.page_store.specs.Page.{page}
 use Rattle.page_store.specs.Store.{Store, reads, Saved, SavedAs, StopLeaves, IsSafe, Works, Commits, IsRemarked, IsUnchanged, IsCommitted, IsOpened}
-use Rattle.page_store.specs.Works.{safe_saves, still_needed, commit_after}
+use Rattle.page_store.specs.Works.{safe_saves, saved_before, still_needed, commit_after}
 use Rattle.page_store.specs.Spelling.{SpelledBy, Stands, IsPrepared, Spells, IsCarried, IsCalm, IsBack}
 
 -- other bytes that agree on the named pages
@@ -76,6 +76,10 @@ commit_carries {was_named} {Was} {named} {Is} root old mid new honest safe stand
   stop = leaves_more each (commit_after new.disk root works commits.goes_on commits.leaves honest safe);
   done = λ done. committed_stands root mid new (still_honest works.goes_on honest) done prepared;
   left = λ same. unchanged_stands mid new (still_honest works.goes_on honest) same (works_stands old mid honest works stands);
+  left_stop = λ same.
+      leaves_more (saved_spells old stands)
+      (leaves_then commits.goes_on (works.leaves honest safe)
+      (leaves_more (λ picture can. saved_before works honest picture (safe_saves mid (works.safe honest safe) picture can)) (same.leaves (still_honest works.goes_on honest))));
 }
   where
     each : (picture : Picture) → Saved old picture ⊎ SavedAs root mid picture → Spells old.root (length old.marks) Was picture ⊎ Spells root (length old.marks) Is picture

@@ -34,6 +34,7 @@ pub record IsCarried (root : List ℕ) (was_named : ℕ → Type 0) (Was : (ℕ 
   pub stop : LeavesOnly old.disk new.disk (λ picture. Spells old.root (length old.marks) Was picture ⊎ Spells root (length old.marks) Is picture)
   pub done : IsCommitted root mid new → Stands named Is new
   pub left : IsUnchanged mid new → Stands was_named Was new
+  pub left_stop : IsUnchanged mid new → LeavesOnly old.disk new.disk (Spells old.root (length old.marks) Was)
 
 -- nothing is handed out or released, and no page waits: as after a commit
 pub record IsCalm (store : Store) : Type 0 where

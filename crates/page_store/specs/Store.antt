@@ -82,12 +82,13 @@ pub record IsRemarked (old new : Store) : Type 0 where
   pub root : new.root ≡ old.root
   pub closed : new.closed ≡ old.closed
 
--- all but the disk is as it was, and on an honest disk reads and stops give the same
+-- all but the disk is as it was; on an honest disk reads give the same, and a stop meanwhile leaves what it could leave before
 pub record IsUnchanged (old new : Store) : Type 0 where
   pub root : new.root ≡ old.root
   pub marks : new.marks ≡ old.marks
   pub closed : new.closed ≡ old.closed
   pub shown : IsTrue old.disk.honest → new.disk.now ≡ old.disk.now
+  pub leaves : IsTrue old.disk.honest → LeavesOnly old.disk new.disk (MayLeave old.disk.now)
 
 -- a commit of this root, whatever it answers: a stop leaves what was saved before, or this root and all pages as they read
 pub record Commits (root : List ℕ) (old new : Store) : Type 0 where

@@ -11,8 +11,8 @@ returns-then-page-eq0-clause-works g c = works_refl _
 
 pub returns-in_err-get_page-clause-works : goal.returns-in_err-get_page-clause-works
 returns-in_err-get_page-clause-works g c =
-    works_read _ _ c.get_page.ensures.time c.get_page.ensures.same_size c.get_page.ensures.cause.later (record { root = refl; marks = refl; closed = refl; shown = c.get_page.ensures.unchanged }) c.get_page.ensures.moments
+    works_read _ _ c.get_page.ensures.time c.get_page.ensures.same_size c.get_page.ensures.cause.later (record { root = refl; marks = refl; closed = refl; shown = c.get_page.ensures.unchanged; leaves = c.get_page.ensures.moments })
 
 pub returns-clause-works : goal.returns-clause-works
 returns-clause-works g c =
-    works_read _ _ c.get_page.ensures.time c.get_page.ensures.same_size c.get_page.ensures.cause.later (record { root = refl; marks = refl; closed = refl; shown = c.get_page.ensures.unchanged }) c.get_page.ensures.moments
+    works_read _ _ c.get_page.ensures.time c.get_page.ensures.same_size c.get_page.ensures.cause.later (record { root = refl; marks = refl; closed = refl; shown = c.get_page.ensures.unchanged; leaves = c.get_page.ensures.moments })
