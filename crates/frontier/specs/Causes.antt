@@ -33,7 +33,7 @@ IsCause graph IsWide stored e x Inconsistent = Unit {0}
 IsCause graph IsWide stored e x OutOfMemory = Unit {0}
 IsCause graph IsWide stored e x (Table fault) = Unit {0}
 
--- why the next position is not expanded
+-- a refusal comes of the next position to be expanded, and has its cause
 abbrev pub HasCause : Graph (List ℕ) → (List ℕ → Type 0) → Stored (List ℕ) → StepFault → Type 0
 HasCause graph IsWide stored fault =
-    (x : List ℕ) → slice_get stored.positions (expanded_count stored) ≡ Some x → IsCause graph IsWide stored (expanded_count stored) x fault
+    IsRefusal fault → (x : List ℕ) × (slice_get stored.positions (expanded_count stored) ≡ Some x) × IsCause graph IsWide stored (expanded_count stored) x fault

@@ -1,7 +1,6 @@
 use Rattle.std.proofs.Common.{◌≡◌, ◌∙◌, rules, ◌≤◌, ◌<◌, ◌^◌, sym, ap, subst, ℕ, List, Some, length, refl, arith, slice_get}
 use Rattle.std.proofs.lemmas.Cmp.{nat_list_cmp_total}
 use Rattle.std.proofs.lemmas.List.{length-map}
-use Rattle.std.proofs.lemmas.Option.{same_Some}
 use Rattle.arrayvec.specs.ArrayVec.{ArrayVec}
 use Rattle.rbg_game.specs.declared.roles.Role.{Role}
 use Rattle.table.specs.Memory.{bytes_of_each}
@@ -10,7 +9,7 @@ use Rattle.retrograde.specs.Stored.{Stored, expanded_count}
 use Rattle.retrograde.specs.Sound.{IsLocallySound}
 use Rattle.retrograde.specs.Successors.{packed_cmp, IsSuccessorList}
 use Rattle.retrograde.specs.Expansion.{AreNoted}
-use Rattle.retrograde.specs.Expands.{IsChoice, IsTooMany}
+use Rattle.retrograde.specs.Expands.{IsTooMany}
 use Rattle.retrograde.proofs.Expands.{choice, no_choice}
 use Rattle.frontier.specs.Numbering.{AreNumbersOf}
 use Rattle.frontier.proofs.NumberLemmas.{too_many}
@@ -19,26 +18,21 @@ use Rattle.frontier.proofs.expand.expand_one.Given
 use Rattle.frontier.proofs.expand.expand_one.Goals as goal
 
 pub returns-then-keeper_chooses-clause-cause : goal.returns-then-keeper_chooses-clause-cause
-returns-then-keeper_chooses-clause-cause g c = λ honest x at.
+returns-then-keeper_chooses-clause-cause g c = λ honest refused.
     let number : c.counts-before.result.expanded ≡ expanded_count (g.T.Table.stored c.args.table.now) = ap (λ (k : Counts). k.expanded) (c.counts-before.ensures ∙ g.met.T.Table.counts_are _ honest) in
-    let at' = subst (λ (k : ℕ). slice_get (g.T.Table.stored c.args.table.now).positions k ≡ Some x) (sym number) at in
-    let same : c.in_ok-packed.packed.items ≡ x = same_Some c.in_ok-packed.packed.items x (sym (c.in_ok-packed.ensures.position honest) ∙ at') in
+    let at = subst (λ (k : ℕ). slice_get (g.T.Table.stored c.args.table.now).positions k ≡ Some c.in_ok-packed.packed.items) number (c.in_ok-packed.ensures.position honest) in
     let ys = bytes_of_each c.in_ok-found.found.items in
     let few = length-map c.in_ok-found.found.items (λ (p : ArrayVec ℕ). p.items) in
     let list : IsSuccessorList packed_cmp (g.M.GameGraph.graph c.args.source.now) c.in_ok-packed.packed.items ys = successor_list _ _ ys c.in_ok-found.ensures.exact in
     let more : 1 < length ys = omega (arith, few, c.len.ensures, c.in_ok-found.found.ok.0, (c.keeper_chooses.ensures.chooses c.if-keeper_chooses.true).1) in
-    let it = choice packed_cmp nat_list_cmp_total (g.M.GameGraph.graph c.args.source.now) c.in_ok-packed.packed.items ys list more (sym c.mover.ensures ∙ (c.keeper_chooses.ensures.chooses c.if-keeper_chooses.true).0) in (
-      number,
-      subst (λ (u : List ℕ). g.M.GameGraph.is_wide c.args.source.now u → ⊥) same (c.in_ok-found.ensures.narrow refl),
-      subst (λ (u : List ℕ). IsChoice (g.M.GameGraph.graph c.args.source.now) u) same it,
-    )
+    let it = choice packed_cmp nat_list_cmp_total (g.M.GameGraph.graph c.args.source.now) c.in_ok-packed.packed.items ys list more (sym c.mover.ensures ∙ (c.keeper_chooses.ensures.chooses c.if-keeper_chooses.true).0) in
+    (c.in_ok-packed.packed.items, at, (number, c.in_ok-found.ensures.narrow refl, it))
 
 pub returns-then-numbers-gt-MAX_POSITIONS-clause-cause :
     goal.returns-then-numbers-gt-MAX_POSITIONS-clause-cause
-returns-then-numbers-gt-MAX_POSITIONS-clause-cause g c = λ honest x at.
+returns-then-numbers-gt-MAX_POSITIONS-clause-cause g c = λ honest refused.
     let number : c.counts-before.result.expanded ≡ expanded_count (g.T.Table.stored c.args.table.now) = ap (λ (k : Counts). k.expanded) (c.counts-before.ensures ∙ g.met.T.Table.counts_are _ honest) in
-    let at' = subst (λ (k : ℕ). slice_get (g.T.Table.stored c.args.table.now).positions k ≡ Some x) (sym number) at in
-    let same : c.in_ok-packed.packed.items ≡ x = same_Some c.in_ok-packed.packed.items x (sym (c.in_ok-packed.ensures.position honest) ∙ at') in
+    let at = subst (λ (k : ℕ). slice_get (g.T.Table.stored c.args.table.now).positions k ≡ Some c.in_ok-packed.packed.items) number (c.in_ok-packed.ensures.position honest) in
     let graph = g.M.GameGraph.graph c.args.source.now in
     let ys = bytes_of_each c.in_ok-found.found.items in
     let few = length-map c.in_ok-found.found.items (λ (p : ArrayVec ℕ). p.items) in
@@ -50,11 +44,8 @@ returns-then-numbers-gt-MAX_POSITIONS-clause-cause g c = λ honest x at.
     let here = subst (λ (t : Stored (List ℕ)). AreNumbersOf t.positions (length t.positions) ys c.in_ok-numbers.numbers.each.items c.in_ok-numbers.numbers.next) one (rw c.deref.ensures.value at are) in
     let many : IsTooMany packed_cmp graph (2 ^ 24) (g.T.Table.stored c.args.table.now).positions c.in_ok-packed.packed.items =
     too_many packed_cmp nat_list_cmp_total (g.T.Table.stored c.args.table.now).positions c.counts-before.result.expanded graph c.in_ok-packed.packed.items ys
-    c.in_ok-numbers.numbers.each.items c.in_ok-numbers.numbers.next (2 ^ 24) (g.T.Table.stored c.args.table.now) refl list here c.if-numbers-gt-MAX_POSITIONS.true in (
-      subst (λ (u : List ℕ). g.M.GameGraph.is_wide c.args.source.now u → ⊥) same (c.in_ok-found.ensures.narrow refl),
-      subst (λ (u : List ℕ). IsChoice graph u → ⊥) same (no_choice packed_cmp graph c.in_ok-packed.packed.items ys list forced),
-      subst (λ (u : List ℕ). IsTooMany packed_cmp graph (2 ^ 24) (g.T.Table.stored c.args.table.now).positions u) same many,
-    )
+    c.in_ok-numbers.numbers.each.items c.in_ok-numbers.numbers.next (2 ^ 24) (g.T.Table.stored c.args.table.now) refl list here c.if-numbers-gt-MAX_POSITIONS.true in
+    (c.in_ok-packed.packed.items, at, (c.in_ok-found.ensures.narrow refl, no_choice packed_cmp graph c.in_ok-packed.packed.items ys list forced, many))
 
 pub note_all-requires-clause-ascending : goal.note_all-requires-clause-ascending
 note_all-requires-clause-ascending g c =
