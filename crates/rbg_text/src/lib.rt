@@ -1,6 +1,7 @@
 //! Game texts: their tokens, their grammar, and what their sections say.
 #![tactic(auto)]
 
+mod expression_parser;
 pub mod fault;
 pub mod lexer;
 pub mod nesting;

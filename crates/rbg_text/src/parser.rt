@@ -140,85 +140,10 @@ impl<'t, 'a> Parser<'t, 'a> {
         mem::replace(&mut self.steps, Vec::new(alloc))
     }
 
-    fn push(&mut self, step: Step<'a>) -> Result<(), ReadError>
+    pub(crate) fn push(&mut self, step: Step<'a>) -> Result<(), ReadError>
         ensures { Reads (spec.push (step_view step.entry) self.old) result self.new }
     {
         self.steps.push(step)?;
-        Ok(())
-    }
-
-    #[cycle(expr)]
-    #[tactic(auto, unfolding(crate::specs::Parse::atom))]
-    fn atom(&mut self, depth: usize) -> Result<(), ReadError>
-        ensures { Reads (spec.atom (spec.expr depth) self.old) result self.new }
-    {
-        match self.peek() {
-            Some(Token::Number(digits)) => {
-                self.advance();
-                self.push(Step::Number(digits))
-            }
-            Some(Token::Name(name)) => {
-                self.advance();
-                self.push(Step::Variable(name))
-            }
-            _ => {
-                self.expect(Sign::OpenParen)?;
-                self.expr(depth)?;
-                self.expect(Sign::CloseParen)
-            }
-        }
-    }
-
-    #[cycle(expr)]
-    #[tactic(auto, unfolding(crate::specs::Parse::factor))]
-    fn factor(&mut self, depth: usize) -> Result<(), ReadError>
-        ensures { Reads (spec.factor (spec.expr depth) self.old) result self.new }
-    {
-        let is_negative = self.eat(Sign::Minus);
-        self.atom(depth)?;
-        if is_negative {
-            self.push(Step::Negate)?;
-        }
-        Ok(())
-    }
-
-    #[cycle(expr)]
-    #[tactic(auto, unfolding(crate::specs::Parse::term, crate::specs::Parse::factors))]
-    fn term(&mut self, depth: usize) -> Result<(), ReadError>
-        ensures { Reads (spec.term (spec.expr depth) self.old) result self.new }
-    {
-        self.factor(depth)?;
-        for _turn in 0..self.turns() {
-            if !self.eat(Sign::Star) {
-                return Ok(());
-            }
-            self.factor(depth)?;
-            self.push(Step::Multiply)?;
-        }
-        Ok(())
-    }
-
-    /// An expression that nests no deeper than `depth`.
-    #[cycle(expr)]
-    #[tactic(auto, unfolding(crate::specs::Parse::expr, crate::specs::Parse::sum, crate::specs::Parse::terms))]
-    fn expr(&mut self, depth: usize) -> Result<(), ReadError>
-        ensures { Reads (spec.expr depth self.old) result self.new }
-    {
-        if depth == 0 {
-            return Err(ReadError::Syntax);
-        }
-        self.term(depth - 1)?;
-        for _turn in 0..self.turns() {
-            let step = if self.eat(Sign::Plus) {
-                Step::Add
-            } else if self.eat(Sign::Minus) {
-                Step::Subtract
-            } else {
-                return Ok(());
-            };
-            self.term(depth - 1)?;
-            self.push(step)?;
-        }
         Ok(())
     }
 
