@@ -81,7 +81,8 @@ fn recounted(count: u32, was: bool, is: bool) -> u32
 impl MemTable {
     /// The table of a game that was just loaded: its start, and no more.
     pub fn new(alloc: Global, start: &Packed) -> Result<MemTable, TableFault>
-        ensures { IfOk result (λ t. ⟦<MemTable as Table>⟧.stored t ≡ loaded start.now.items) }
+        ensures loaded { IfOk result (λ t. ⟦<MemTable as Table>⟧.stored t ≡ loaded start.now.items) }
+        ensures honest { IfOk result (λ t. ⟦<MemTable as Table>⟧.is_honest t) }
     {
         let mut table = MemTable {
             positions: Vec::new(alloc),
