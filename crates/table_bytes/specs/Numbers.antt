@@ -1,0 +1,17 @@
+-- The numbers that go with the bytes of a table.
+use Rattle.std.specs.Prelude.{ℕ, ◌≡◌, ◌+◌, ◌*◌, ◌≤◌, ◌^◌}
+use Rattle.table_bytes.specs.declared.sizes.Sizes.{Sizes}
+
+-- how many bytes such a table takes
+abbrev pub bytes_in : Sizes → ℕ
+bytes_in sizes = sizes.text + sizes.counts.known * (sizes.packed + 16) + 8 * sizes.edges + 4 * sizes.counts.settled
+
+-- the numbers are in order and within the limits
+pub record AreWithinLimits (sizes : Sizes) : Type 0 where
+  pub text : sizes.text ≤ 65536
+  pub packed : sizes.packed ≤ 240
+  pub started : 1 ≤ sizes.counts.known
+  pub known : sizes.counts.known ≤ 2 ^ 24
+  pub expanded : sizes.counts.expanded ≤ sizes.counts.known
+  pub settled : sizes.counts.settled ≤ sizes.counts.expanded
+  pub processed : sizes.counts.processed ≤ sizes.counts.settled
