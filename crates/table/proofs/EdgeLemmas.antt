@@ -11,7 +11,7 @@ use Rattle.std.specs.BTreeMap.Range.{IsLeBy}
 use Rattle.std.specs.BTreeSet.{BTreeSet, contains, IsUnchanged, Updates, IsKeyInRange, IsKeyRangeOf}
 use Rattle.std.specs.Prelude.{Result, Ok, Err, OnOk, OnErr}
 use Rattle.std.specs.List.{list_any}
-use Rattle.table.specs.Memory.{edge_cmp, ComeFromBelow}
+use Rattle.table.specs.Memory.{edge_cmp, AreBetweenKnown}
 
 -- a first that is not after the second
 le_cases : (o p : Ordering) (a b c d : ℕ) → MatchOrdering o (a < c) (a ≡ c) (c < a) → MatchOrdering p (b < d) (b ≡ d) (d < b)
@@ -90,30 +90,37 @@ module _ (edges edges' : BTreeSet (ℕ × ℕ)) (i p : ℕ) (updates : Updates e
   pub edges_added : ◌≡◌ {A = ℕ → ℕ → Bool} (λ j q. contains edge_cmp edges' (j, q)) (λ j q. contains edge_cmp edges (j, q) || (j == i && q == p))
   edges_added = λ k j q. edge_added j q k
 
-  pub known_added : (n : ℕ) → ComeFromBelow n edges → p < n → ComeFromBelow n edges'
-  known_added n known within j q is = go (j == i && q == p) (contains edge_cmp edges (j, q)) refl refl
+  pub known_added : (n : ℕ) → AreBetweenKnown n edges → i < n → p < n → AreBetweenKnown n edges'
+  known_added n known led within j q is = go (j == i && q == p) (contains edge_cmp edges (j, q)) refl refl
     where
       same : (b c : Bool) → (b && c) ≡ true → c ≡ true
       same true c e = e
       same false c e = absurd (cc)
 
-      go : (b c : Bool) → (j == i && q == p) ≡ b → contains edge_cmp edges (j, q) ≡ c → q < n
+      first : (b c : Bool) → (b && c) ≡ true → b ≡ true
+      first true c e = refl
+      first false c e = absurd (cc)
+
+      go : (b c : Bool) → (j == i && q == p) ≡ b → contains edge_cmp edges (j, q) ≡ c → (j < n) × (q < n)
       go b true e f = known j q f
-      go true false e f = let here : q ≡ p = eqb-true q p (same (j == i) (q == p) e) in omega arith
+      go true false e f =
+          let here : q ≡ p = eqb-true q p (same (j == i) (q == p) e) in
+          let there : j ≡ i = eqb-true j i (first (j == i) (q == p) e) in
+          (omega (arith, there, led), omega (arith, here, within))
       go false false e f =
           let none : (contains edge_cmp edges (j, q) || (j == i && q == p)) ≡ false = rw (e, f) refl in
           let there : (contains edge_cmp edges (j, q) || (j == i && q == p)) ≡ true = sym (edge_added j q) ∙ is in
           absurd (cc)
 
 -- a set that was not changed
-known_kept : (n : ℕ) (edges edges' : BTreeSet (ℕ × ℕ)) → edges'.keys ≡ edges.keys → ComeFromBelow n edges → ComeFromBelow n edges'
+known_kept : (n : ℕ) (edges edges' : BTreeSet (ℕ × ℕ)) → edges'.keys ≡ edges.keys → AreBetweenKnown n edges → AreBetweenKnown n edges'
 known_kept n edges edges' same known i p is = known i p (ap (λ (ks : List (ℕ × ℕ)). list_any (is_at (edge_cmp (i, p))) ks) (sym same) ∙ is)
 
 pub known_after : {E : Type 0} (n : ℕ) (edges edges' : BTreeSet (ℕ × ℕ)) (i p : ℕ) (result : Result Bool E) → OnOk result (Updates edge_cmp edges edges' (i, p) true)
-    → OnErr result (IsUnchanged edges edges') → ComeFromBelow n edges → p < n → ComeFromBelow n edges'
-known_after n edges edges' i p (Ok added) updates same known within = known_added edges edges' i p updates n known within
-known_after n edges edges' i p (Err e) updates same known within = known_kept n edges edges' same known
+    → OnErr result (IsUnchanged edges edges') → AreBetweenKnown n edges → i < n → p < n → AreBetweenKnown n edges'
+known_after n edges edges' i p (Ok added) updates same known led within = known_added edges edges' i p updates n known led within
+known_after n edges edges' i p (Err e) updates same known led within = known_kept n edges edges' same known
 
 -- a bound may be greater
-pub known_in_more : (n m : ℕ) (edges : BTreeSet (ℕ × ℕ)) → n ≤ m → ComeFromBelow n edges → ComeFromBelow m edges
-known_in_more n m edges le known i p is = let less : p < n = known i p is in omega arith
+pub known_in_more : (n m : ℕ) (edges : BTreeSet (ℕ × ℕ)) → n ≤ m → AreBetweenKnown n edges → AreBetweenKnown m edges
+known_in_more n m edges le known i p is = let both = known i p is in (omega (arith, le, both.0), omega (arith, le, both.1))

@@ -1,3 +1,5 @@
 pub mod EdgeLemmas
 pub mod NumberLemmas
 pub mod CountLemmas
+pub mod Listing
+pub mod Whole

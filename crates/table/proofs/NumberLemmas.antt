@@ -25,7 +25,7 @@ tied x y h = same_position x y (exact_bytes x.items y.items (go (slice_cmp nat_c
     go Greater h = absurd (cc)
 
 -- the position with a number, by its bytes
-at_bytes : (xs : List (ArrayVec ℕ)) (i : ℕ) (x : ArrayVec ℕ) → slice_get (bytes_of_each xs) i ≡ Some x.items → slice_get xs i ≡ Some x
+pub at_bytes : (xs : List (ArrayVec ℕ)) (i : ℕ) (x : ArrayVec ℕ) → slice_get (bytes_of_each xs) i ≡ Some x.items → slice_get xs i ≡ Some x
 at_bytes xs i x at = go (slice_get xs i) (sym (slice_get-map (λ (p : ArrayVec ℕ). p.items) xs i) ∙ at)
   where
     go : (o : Option (ArrayVec ℕ)) → option_map (λ (p : ArrayVec ℕ). p.items) o ≡ Some x.items → o ≡ Some x

@@ -24,6 +24,6 @@ pub record AreNumbered (positions : List (ArrayVec ℕ)) (numbers : BTreeMap (Ar
   pub all : (i : ℕ) (x : ArrayVec ℕ) → slice_get positions i ≡ Some x → get position_cmp numbers x ≡ Some i
   pub only : (x : ArrayVec ℕ) (i : ℕ) → get position_cmp numbers x ≡ Some i → slice_get positions i ≡ Some x
 
--- each edge is from a number below n
-abbrev pub ComeFromBelow : ℕ → BTreeSet (ℕ × ℕ) → Type 0
-ComeFromBelow n edges = (i p : ℕ) → contains edge_cmp edges (i, p) ≡ true → p < n
+-- each edge is between numbers below n
+abbrev pub AreBetweenKnown : ℕ → BTreeSet (ℕ × ℕ) → Type 0
+AreBetweenKnown n edges = (i p : ℕ) → contains edge_cmp edges (i, p) ≡ true → (i < n) × (p < n)

@@ -2,6 +2,7 @@
 #![tactic(auto)]
 
 mod fault;
+mod fitting;
 mod memory;
 mod table;
 #[cfg(test)]

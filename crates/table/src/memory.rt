@@ -4,9 +4,11 @@ ghost use Rattle.std.specs.BTreeSet.{contains};
 ghost use Rattle.retrograde.specs.Changes.{fresh_record, counts_of};
 ghost use Rattle.retrograde.specs.Edges.{IsAfter};
 ghost use Rattle.retrograde.specs.Stored.{is_expanded, is_processed, loaded};
-ghost use Rattle.table.specs.Memory.{AreNumbered, ComeFromBelow, bytes_of_each, edge_cmp};
+ghost use Rattle.table.specs.Fitting.{Fits};
+ghost use Rattle.table.specs.Memory.{AreNumbered, AreBetweenKnown, bytes_of_each, edge_cmp};
 
 use crate::fault::TableFault;
+use crate::fitting::{are_long, parts_fit};
 use crate::table::Table;
 use position_pack::Packed;
 use retrograde::{Counts, Record, State};
@@ -28,7 +30,7 @@ pub struct MemTable {
     ghost numbered: { AreNumbered positions.items numbers },
     ghost recorded: { length records.items ≡ length positions.items },
     ghost few: { length positions.items ≤ 2 ^ 24 },
-    ghost known: { ComeFromBelow (length positions.items) edges },
+    ghost known: { AreBetweenKnown (length positions.items) edges },
     ghost settled: { length order.items ≤ length positions.items },
     ghost expanded_is: { expanded ≡ count_by (λ r. is_expanded r.state) records.items },
     ghost processed_is: { processed ≡ count_by (λ r. is_processed r.state) records.items },
@@ -95,6 +97,21 @@ impl MemTable {
         };
         table.add(start)?;
         Ok(table)
+    }
+
+    /// Whether its parts fit together, and each position has so many bytes.
+    pub fn fits(&self, alloc: Global, packed: u32) -> Result<bool, AllocError>
+        ensures { IfOk result (λ fits. (fits ≡ true) ↔ Fits packed (⟦<MemTable as Table>⟧.stored self.now)) }
+    {
+        let long = are_long(&self.positions, packed);
+        let fit = parts_fit(
+            alloc,
+            &self.records,
+            &self.order,
+            self.expanded,
+            self.processed,
+        )?;
+        Ok(fit & long)
     }
 
     /// The least number, from the one given on, that leads to this one.

@@ -10,6 +10,7 @@ invariant_of-self-clause-known c =
     known_after (length c.args.self.now.positions.items) c.args.self.now.edges c.insert.new.self c.args.successor c.args.predecessor c.insert.result
     c.insert.ensures.updates c.insert.ensures.err c.args.self.now.known
     (omega (arith, length-map c.args.self.now.positions.items (λ p. p.items)))
+    (omega (arith, length-map c.args.self.now.positions.items (λ p. p.items)))
 
 pub returns-clause-added : goal.returns-clause-added
 returns-clause-added c = λ honest.
