@@ -107,6 +107,14 @@ pub trait Pages {
     fn free_pages(&self) -> u32
         ensures { result ≡ free_count (store self.now).marks };
 
+    /// How many pages there are, the system page counted.
+    fn capacity(&self) -> u32
+        ensures { result ≡ length (store self.now).marks };
+
+    /// Whether a write or a sync has failed. A closed store refuses each call that uses the disk.
+    fn is_closed(&self) -> bool
+        ensures { result ≡ (store self.now).closed };
+
     /// The committed root.
     fn root(&self) -> Root
         ensures { result.bytes ≡ (store self.now).root };

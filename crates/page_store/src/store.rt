@@ -188,6 +188,14 @@ impl<D: SectorDisk> Pages for PageStore<D> {
         count_free(&self.marks)
     }
 
+    fn capacity(&self) -> u32 {
+        self.marks.len() as u32
+    }
+
+    fn is_closed(&self) -> bool {
+        self.closed
+    }
+
     fn root(&self) -> Root {
         self.root
     }

@@ -10,12 +10,14 @@ use Rattle.legal_moves.specs.Searches.{IsWide}
 use Rattle.legal_moves.specs.Listed.{ShownMove, AreMoves, IsShortestMove}
 use Rattle.solver_main.specs.Lines.{AreLines}
 use Rattle.solver_main.specs.declared.refused.Refused.{Refused}
-use Rattle.solver_main.specs.declared.refused.Refused.TheVariants.{Disk, OutOfMemory, Game as GameRefused, TooWide}
+use Rattle.solver_main.specs.declared.refused.Refused.TheVariants.{Disk, OutOfMemory, AlreadyATable, TooSmall, Game as GameRefused, TooWide}
 
 -- the codes of refusals
 abbrev pub code_of : Refused → List ℕ
 code_of Disk = codes "E1"
 code_of OutOfMemory = codes "E8"
+code_of AlreadyATable = codes "E3"
+code_of TooSmall = codes "E6"
 code_of (GameRefused fault) = fault_code fault
 code_of TooWide = codes "S4"
 
@@ -23,6 +25,8 @@ code_of TooWide = codes "S4"
 abbrev pub status_of : Refused → ℕ
 status_of Disk = 4
 status_of OutOfMemory = 5
+status_of AlreadyATable = 1
+status_of TooSmall = 1
 status_of (GameRefused faults.OutOfMemory) = 5
 status_of (GameRefused _) = 1
 status_of TooWide = 1
@@ -40,6 +44,8 @@ pub record IsListing (text : Text) (game : Game) (moves : List ShownMove) : Type
 -- why a text is refused, and the lines that were written before
 abbrev pub IsRefused : Text → Refused → List ℕ → Type 0
 IsRefused text Disk lines = ⊥
+IsRefused text AlreadyATable lines = ⊥
+IsRefused text TooSmall lines = ⊥
 IsRefused text OutOfMemory lines =
     (lines ≡ []) ⊎ ((game : Game) × (moves : List ShownMove) × (k : ℕ) × IsListing text game moves × AreLines game (take k moves) lines)
 IsRefused text (GameRefused faults.OutOfMemory) lines = lines ≡ []

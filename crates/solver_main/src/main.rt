@@ -1,23 +1,31 @@
 //! `rbgsolve`: solves small two-player board games.
 #![tactic(auto)]
 
+mod commands;
 mod explain;
 #[cfg(test)]
 mod explain_tests;
 #[cfg(test)]
 mod game_tests;
+mod files;
+mod input;
 mod lines;
 mod mentions;
 #[cfg(test)]
 mod move_tests;
 mod moves;
 mod refused;
+mod session;
+#[cfg(test)]
+mod session_tests;
 #[cfg(test)]
 mod tests;
 mod words;
 
 use explain::{Explanation, LineColumn, explain, line_column};
+use files::{create_file, load_file, session_of_file};
 use moves::moves_to;
+use rbg_read::fault::GameFault;
 use rbg_read::read::read_game;
 use refused::Refused;
 use std::alloc::Global;
@@ -43,6 +51,9 @@ fn run(rt: &HostRuntime) -> u8 {
     };
     match words_of(alloc, &words) {
         Ok(Words::Moves { game }) => moves_of_file(rt, alloc, &game),
+        Ok(Words::Create { file, pages }) => create_file(rt, alloc, &file, pages),
+        Ok(Words::Load { file, game }) => load_file(rt, alloc, &file, &game),
+        Ok(Words::Session { file }) => session_of_file(rt, alloc, &file),
         Err(refusal) => {
             let shown = if refusal.status == 0 {
                 rt.print(&refusal.text)
@@ -100,6 +111,11 @@ fn tell_why(rt: &HostRuntime, alloc: Global, game: &str, text: &[u8]) {
             ),
         );
     };
+    tell_fault(rt, alloc, game, text, fault);
+}
+
+/// Says on standard error why the text is no game.
+fn tell_fault(rt: &HostRuntime, alloc: Global, game: &str, text: &[u8], fault: GameFault) {
     if let Ok(Explanation { at, message }) = explain(alloc, text, fault) {
         let LineColumn { line, column } = line_column(text, at);
         tell(rt, format_args!("{game}:{line}:{column}: {message}"));

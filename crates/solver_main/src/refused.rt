@@ -11,6 +11,10 @@ pub enum Refused {
     /// A file could not be opened or read.
     Disk,
     OutOfMemory,
+    /// A file that should become a table is one.
+    AlreadyATable,
+    /// A table should have fewer than 16 pages.
+    TooSmall,
     /// The text is no game.
     Game(GameFault),
     /// A search reaches too many configurations.
@@ -25,6 +29,8 @@ impl Refused {
         match self {
             Refused::Disk => "E1",
             Refused::OutOfMemory => "E8",
+            Refused::AlreadyATable => "E3",
+            Refused::TooSmall => "E6",
             Refused::Game(fault) => fault.code(),
             Refused::TooWide => "S4",
         }
@@ -37,7 +43,10 @@ impl Refused {
         match self {
             Refused::Disk => 4,
             Refused::OutOfMemory | Refused::Game(GameFault::OutOfMemory) => 5,
-            Refused::Game(_) | Refused::TooWide => 1,
+            Refused::AlreadyATable
+            | Refused::TooSmall
+            | Refused::Game(_)
+            | Refused::TooWide => 1,
         }
     }
 }

@@ -2,7 +2,7 @@
 ghost use Rattle.std.specs.Prelude.{IfErr};
 ghost use Rattle.solver_main.specs.Statuses.{IsStatusOfWords};
 
-use clap::{Arg, ArgAction, Command, Error};
+use clap::{Arg, ArgAction, ArgMatches, Command, Error, value_parser};
 use std::alloc::{AllocError, Global};
 
 /// What the words of a command line ask for.
@@ -10,6 +10,12 @@ use std::alloc::{AllocError, Global};
 pub enum Words {
     /// The moves of the start of the game in this file.
     Moves { game: String },
+    /// A new table of so many pages in this file.
+    Create { file: String, pages: u32 },
+    /// Loads the game of a text into the table of a file.
+    Load { file: String, game: String },
+    /// A session over the table of this file.
+    Session { file: String },
 }
 
 /// Why there is nothing to do: help was asked for, or the words are no command.
@@ -27,7 +33,22 @@ const LONG_ABOUT: &str =
     "Solves small two-player board games exactly.\n\nA game is a text in a profile of the low-level language of Regular Boardgames.";
 
 const AFTER_HELP: &str =
-    "Example:\n  rbgsolve moves games/take.rbg\n    prints  1@v 2@v => white 2 v e 0,0,3\n\nA text that is no game is answered by `refused` and a code, with the reason on standard error.";
+    "Examples:\n  rbgsolve moves games/take.rbg\n    prints  1@v 2@v => white 2 v e 0,0,3\n  rbgsolve create take.table --pages 16\n  rbgsolve load take.table games/take.rbg\n  echo work 256 | rbgsolve session take.table\n    prints  units 14 known 7 expanded 7 settled 7 processed 7 finished\n\nA command that cannot be done is answered by `refused` and a code; README.md lists the codes.";
+
+const CREATE_ABOUT: &str = "Makes an empty table in a file";
+
+const CREATE_LONG_ABOUT: &str =
+    "Makes an empty table in a file, and prints `created`.\n\nFILE gets the length of N pages; what was in it is lost, unless it is a table: that is answered by `refused E3`, and the file stays as it is.";
+
+const LOAD_ABOUT: &str = "Loads a game into an empty table";
+
+const LOAD_LONG_ABOUT: &str =
+    "Loads the game of a text into an empty table, and prints `loaded`.\n\nThe table then knows the start of the game. `session` solves it.";
+
+const SESSION_ABOUT: &str = "Works on a table by commands, one a line, on standard input";
+
+const SESSION_LONG_ABOUT: &str =
+    "Works on a table by commands, one a line, on standard input, with a line in reply to each on standard output. When a reply is there, what it says is on the disk.\n\n  work U   does U units of work, 1 to 256, or fewer where the table is finished then\n  status   says how far the table is\n  quit     ends the session, as the end of the input does\n\nA unit of work looks at one position: finds where its moves lead, or, once that is done for all, tells its predecessors who wins it. A table is finished when nothing is left to do.";
 
 const MOVES_ABOUT: &str = "Prints the legal moves of a game's start";
 
@@ -47,31 +68,95 @@ pub fn words_of(alloc: Global, words: &[String]) -> Result<Words, Refusal>
 fn parsed<'a>(alloc: Global, words: &'a [String]) -> Result<Words, Error> {
     let command: Command<'a> = command(alloc)?;
     let matches = command.try_get_matches_from(words)?;
-    let game = match matches.subcommand() {
-        Some((_, inner)) => inner.get_str("GAME").unwrap_or(""),
-        None => "",
+    let (name, inner) = match matches.subcommand() {
+        Some((name, inner)) => (name, inner),
+        None => ("", &matches),
     };
-    Ok(Words::Moves {
-        game: String::from_str(alloc, game)?,
-    })
+    match name {
+        "create" => Ok(Words::Create {
+            file: given(alloc, inner, "FILE")?,
+            pages: inner.get_one("pages").unwrap_or(0),
+        }),
+        "load" => Ok(Words::Load {
+            file: given(alloc, inner, "FILE")?,
+            game: given(alloc, inner, "GAME")?,
+        }),
+        "session" => Ok(Words::Session {
+            file: given(alloc, inner, "FILE")?,
+        }),
+        _ => Ok(Words::Moves {
+            game: given(alloc, inner, "GAME")?,
+        }),
+    }
+}
+
+/// The word that was given for this argument.
+fn given(alloc: Global, matches: &ArgMatches<'_>, id: &str) -> Result<String, AllocError> {
+    String::from_str(alloc, matches.get_str(id).unwrap_or(""))
 }
 
 fn command<'a>(alloc: Global) -> Result<Command<'a>, AllocError> {
-    let game = Arg::new(alloc, "GAME")
-        .help("The file with the game text")
-        .required(true)
-        .action(ArgAction::Set);
-    let moves = Command::new(alloc, "moves")
-        .about(MOVES_ABOUT)
-        .long_about(MOVES_LONG_ABOUT)
-        .arg(game)?;
     Command::new(alloc, "rbgsolve")
         .about(ABOUT)
         .long_about(LONG_ABOUT)
         .after_help(AFTER_HELP)
         .subcommand_required(true)
         .arg_required_else_help(true)
-        .subcommand(moves)
+        .subcommand(create_command(alloc)?)?
+        .subcommand(load_command(alloc)?)?
+        .subcommand(session_command(alloc)?)?
+        .subcommand(moves_command(alloc)?)
+}
+
+fn file_word<'a>(alloc: Global) -> Arg<'a> {
+    Arg::new(alloc, "FILE")
+        .help("The file with the table")
+        .required(true)
+        .action(ArgAction::Set)
+}
+
+fn game_word<'a>(alloc: Global) -> Arg<'a> {
+    Arg::new(alloc, "GAME")
+        .help("The file with the game text")
+        .required(true)
+        .action(ArgAction::Set)
+}
+
+fn create_command<'a>(alloc: Global) -> Result<Command<'a>, AllocError> {
+    let pages = Arg::new(alloc, "pages")
+        .long("pages")
+        .value_name("N")
+        .help("How many pages of 4,096 bytes the table has: 16 to 1,048,576")
+        .required(true)
+        .value_parser(value_parser!(u32).range(1..=1_048_576))
+        .action(ArgAction::Set);
+    Command::new(alloc, "create")
+        .about(CREATE_ABOUT)
+        .long_about(CREATE_LONG_ABOUT)
+        .arg(file_word(alloc))?
+        .arg(pages)
+}
+
+fn load_command<'a>(alloc: Global) -> Result<Command<'a>, AllocError> {
+    Command::new(alloc, "load")
+        .about(LOAD_ABOUT)
+        .long_about(LOAD_LONG_ABOUT)
+        .arg(file_word(alloc))?
+        .arg(game_word(alloc))
+}
+
+fn session_command<'a>(alloc: Global) -> Result<Command<'a>, AllocError> {
+    Command::new(alloc, "session")
+        .about(SESSION_ABOUT)
+        .long_about(SESSION_LONG_ABOUT)
+        .arg(file_word(alloc))
+}
+
+fn moves_command<'a>(alloc: Global) -> Result<Command<'a>, AllocError> {
+    Command::new(alloc, "moves")
+        .about(MOVES_ABOUT)
+        .long_about(MOVES_LONG_ABOUT)
+        .arg(game_word(alloc))
 }
 
 fn refusal_of(alloc: Global, error: Error) -> Refusal

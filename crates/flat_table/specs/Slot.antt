@@ -1,0 +1,36 @@
+-- What the 512 bytes of a root slot say. All numbers have their highest byte first.
+use Rattle.std.specs.Prelude.{◌≡◌, ℕ, ◌≤◌, ◌<◌, List, drop, slice_index}
+use Rattle.byteorder.specs.Endian.{big_number}
+use Rattle.table_bytes.specs.declared.sizes.Sizes.{Sizes}
+
+-- the number in the four bytes from there on
+abbrev pub word_at : List ℕ → ℕ → ℕ
+word_at root at = big_number 4 (drop at root)
+
+-- the layout of the file
+abbrev pub layout_in : List ℕ → ℕ
+layout_in root = word_at root 0
+
+-- how positions are packed, 0 where no game is loaded
+abbrev pub packing_in : List ℕ → ℕ
+packing_in root = word_at root 4
+
+-- the first page of the chain
+abbrev pub first_in : List ℕ → ℕ
+first_in root = word_at root 16
+
+-- how much of each there is in the table
+abbrev pub sizes_in : List ℕ → Sizes
+sizes_in root = record {
+  text = word_at root 20;
+  packed = word_at root 24;
+  counts = record { known = word_at root 28; expanded = word_at root 32; settled = word_at root 36; processed = word_at root 40 };
+  edges = big_number 8 (drop 60 root);
+}
+
+-- no game: the packing is 0, and so is each field of the layout
+pub record IsEmptySlot (root : List ℕ) : Type 0 where
+  pub layout : layout_in root ≡ 1
+  pub packing : packing_in root ≡ 0
+  pub fields : (k : ℕ) → 16 ≤ k → k < 44 → slice_index root k ≡ 0
+  pub edges : (k : ℕ) → 60 ≤ k → k < 68 → slice_index root k ≡ 0

@@ -1,0 +1,160 @@
+//! A table in a file.
+
+use crate::game::{Game, are_canonical, read_all, save};
+use crate::slot::empty_slot;
+use crate::{FileFault, Refused};
+use page_store::{PageStore, Pages};
+use position_pack::{Packed, Packing};
+use retrograde::Counts;
+use root_pair::create;
+use sector_disk::SectorDisk;
+use std::alloc::Global;
+use table::{MemTable, Table};
+use table_bytes::{read_table, write_table};
+
+/// A game's table in a file, with its last commit in memory. A command takes a copy of the table, works on that, and
+/// commits it; to give the command up it drops the copy.
+#[derive(Drop)]
+pub struct FlatTable<D: SectorDisk> {
+    alloc: Global,
+    store: PageStore<D>,
+    commits: u64,
+    /// The table, where a game is loaded.
+    game: Option<Game>,
+}
+
+impl<D: SectorDisk> FlatTable<D> {
+    /// Makes the empty table on this disk, and opens it. `Disk` (E1), `AlreadyATable` (E3) and then `TooSmall` (E6),
+    /// or `OutOfMemory` (E8).
+    pub fn create(alloc: Global, disk: D) -> Result<Self, Refused<D>> {
+        let mut disk = disk;
+        match create(&mut disk, &empty_slot()) {
+            Ok(()) => FlatTable::open(alloc, disk),
+            Err(fault) => Err(Refused {
+                disk,
+                fault: fault.into(),
+            }),
+        }
+    }
+
+    /// Reads the whole table that this disk holds, after a sync. `Disk` (E1), `NotATable` (E2), `Damaged` (E4) or
+    /// `OutOfMemory` (E8).
+    pub fn open(alloc: Global, disk: D) -> Result<Self, Refused<D>> {
+        let mut store = match PageStore::open(alloc, disk) {
+            Ok(store) => store,
+            Err(refused) => {
+                return Err(Refused {
+                    disk: refused.disk,
+                    fault: refused.fault.into(),
+                });
+            }
+        };
+        match read_all(alloc, &mut store) {
+            Ok(opened) => Ok(FlatTable {
+                alloc,
+                store,
+                commits: opened.commits,
+                game: opened.game,
+            }),
+            Err(fault) => Err(Refused {
+                disk: store.into_disk(),
+                fault,
+            }),
+        }
+    }
+
+    /// The text of the game, where one is loaded.
+    pub fn text(&self) -> Option<&[u8]> {
+        match &self.game {
+            Some(game) => Some(&game.text),
+            None => None,
+        }
+    }
+
+    /// How much is known of the game, as of the last commit.
+    pub fn counts(&self) -> Option<Counts> {
+        match &self.game {
+            Some(game) => Some(game.table.counts()),
+            None => None,
+        }
+    }
+
+    /// Whether a write or a sync has failed; the file has then to be opened again.
+    pub fn is_closed(&self) -> bool {
+        self.store.is_closed()
+    }
+
+    /// Whether each position of the table is one of this packing.
+    pub fn are_canonical(&mut self, packing: &Packing) -> Result<bool, FileFault> {
+        match &mut self.game {
+            Some(game) => are_canonical(packing, &mut game.table),
+            None => Ok(true),
+        }
+    }
+
+    /// A copy of the table as of the last commit, to work on; none where no game is loaded.
+    pub fn copy(&mut self) -> Result<Option<MemTable>, FileFault> {
+        match &mut self.game {
+            Some(game) => {
+                let written = write_table(self.alloc, &game.text, game.packed, &mut game.table)?;
+                let table = read_table(self.alloc, &written.sizes, &written.bytes)?;
+                Ok(Some(table))
+            }
+            None => Ok(None),
+        }
+    }
+
+    /// Commits the table of a game that is loaded now: its start, and no more.
+    pub fn load(&mut self, text: &[u8], start: &Packed) -> Result<(), FileFault> {
+        let table = MemTable::new(self.alloc, start)?;
+        let text = text.to_vec(self.alloc)?;
+        self.put(text, start.len() as u32, table)
+    }
+
+    /// Commits a table that was worked on, in the place of the last commit's. After a refusal nothing is changed,
+    /// but that after `Disk` in a write or a sync the file is closed, and holds the one table or the other.
+    pub fn commit(&mut self, table: MemTable) -> Result<(), FileFault> {
+        let Some(game) = &self.game else {
+            return Err(FileFault::Inconsistent);
+        };
+        let packed = game.packed;
+        let text = game.text.to_vec(self.alloc)?;
+        self.put(text, packed, table)
+    }
+
+    /// Stores a text and a table: a new chain on free pages, and then the root that names it.
+    fn put(&mut self, text: Vec<u8>, packed: u32, table: MemTable) -> Result<(), FileFault> {
+        let mut table = table;
+        if !table.fits(self.alloc, packed)? {
+            return Err(FileFault::Inconsistent);
+        }
+        let written = write_table(self.alloc, &text, packed, &mut table)?;
+        let commits = self.commits.wrapping_add(1);
+        let old: &[u32] = match &self.game {
+            Some(game) => &game.pages,
+            None => &[],
+        };
+        match save(self.alloc, &mut self.store, commits, old, &written) {
+            Ok(pages) => {
+                self.commits = commits;
+                self.game = Some(Game {
+                    text,
+                    packed,
+                    pages,
+                    table,
+                });
+                Ok(())
+            }
+            Err(fault) => {
+                self.store.discard();
+                Err(fault)
+            }
+        }
+    }
+
+    /// The disk, as it is.
+    pub fn into_disk(self) -> D {
+        let FlatTable { store, .. } = self;
+        store.into_disk()
+    }
+}

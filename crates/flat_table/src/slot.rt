@@ -1,0 +1,133 @@
+//! The root slot of layout 1: what its 512 bytes say.
+
+use byteorder::{BigEndian, ByteOrder};
+use retrograde::Counts;
+use table_bytes::Sizes;
+
+/// The number of this layout.
+const LAYOUT: u32 = 1;
+
+/// The number of the packing that a table with a game has.
+const PACKING: u32 = 1;
+
+/// The most bytes that a game text has.
+const MOST_TEXT: u32 = 65_536;
+
+/// The most bytes that a packed position has.
+const MOST_PACKED: u32 = 240;
+
+/// The most positions that a table knows.
+const MOST_KNOWN: u32 = 16_777_216;
+
+/// More edges than this no file has room for.
+const MOST_EDGES: u64 = 4_294_967_296;
+
+/// What a slot says of a table with a game.
+#[derive(Clone, Copy, PartialEq, Eq, Debug, Drop)]
+pub struct GameSlot {
+    /// The first page of the chain.
+    pub first: u32,
+    pub sizes: Sizes,
+}
+
+/// What a slot says.
+#[derive(Clone, Copy, PartialEq, Eq, Debug, Drop)]
+pub struct Slot {
+    /// Commits since the file was made; 0 follows the greatest number.
+    pub commits: u64,
+    /// The table, where a game is loaded.
+    pub game: Option<GameSlot>,
+}
+
+fn word_at(root: &[u8; 512], at: usize) -> u32
+    requires { at ≤ 508 }
+{
+    BigEndian::read_u32(&root[at..])
+}
+
+fn put_word(root: &mut [u8; 512], at: usize, number: u32)
+    requires { at ≤ 508 }
+{
+    BigEndian::write_u32(&mut root[at..], number);
+}
+
+/// How much of each the slot says that there is.
+fn sizes_in(root: &[u8; 512]) -> Sizes {
+    Sizes {
+        text: word_at(root, 20),
+        packed: word_at(root, 24),
+        counts: Counts {
+            known: word_at(root, 28),
+            expanded: word_at(root, 32),
+            settled: word_at(root, 36),
+            processed: word_at(root, 40),
+        },
+        edges: BigEndian::read_u64(&root[60..]),
+    }
+}
+
+/// Whether the numbers are in order and within their limits.
+fn are_within_limits(sizes: &Sizes) -> bool {
+    let counts = sizes.counts;
+    sizes.text <= MOST_TEXT
+        && sizes.packed <= MOST_PACKED
+        && (1..=MOST_KNOWN).contains(&counts.known)
+        && counts.expanded <= counts.known
+        && counts.settled <= counts.expanded
+        && counts.processed <= counts.settled
+}
+
+/// Whether all fields of the layout are zero.
+fn is_blank(root: &[u8; 512]) -> bool {
+    root[16..44].iter().all(|byte| *byte == 0) && root[60..68].iter().all(|byte| *byte == 0)
+}
+
+/// What the slot says; none where that is no table of this layout.
+pub fn read_slot(root: &[u8; 512]) -> Option<Slot> {
+    if word_at(root, 0) != LAYOUT {
+        return None;
+    }
+    let commits = BigEndian::read_u64(&root[8..]);
+    match word_at(root, 4) {
+        0 if is_blank(root) => Some(Slot {
+            commits,
+            game: None,
+        }),
+        PACKING => {
+            let sizes = sizes_in(root);
+            if !are_within_limits(&sizes) || sizes.edges > MOST_EDGES {
+                return None;
+            }
+            let first = word_at(root, 16);
+            Some(Slot {
+                commits,
+                game: Some(GameSlot { first, sizes }),
+            })
+        }
+        _ => None,
+    }
+}
+
+/// The slot of a table in which no game is loaded, after no commit.
+pub fn empty_slot() -> [u8; 512] {
+    let mut root = [0; 512];
+    put_word(&mut root, 0, LAYOUT);
+    root
+}
+
+/// The slot of a table with a game.
+pub fn game_slot(commits: u64, game: &GameSlot) -> [u8; 512] {
+    let GameSlot { first, sizes } = *game;
+    let mut root = empty_slot();
+    put_word(&mut root, 4, PACKING);
+    BigEndian::write_u64(&mut root[8..], commits);
+    put_word(&mut root, 16, first);
+    put_word(&mut root, 20, sizes.text);
+    put_word(&mut root, 24, sizes.packed);
+    put_word(&mut root, 28, sizes.counts.known);
+    put_word(&mut root, 32, sizes.counts.expanded);
+    put_word(&mut root, 36, sizes.counts.settled);
+    put_word(&mut root, 40, sizes.counts.processed);
+    BigEndian::write_u64(&mut root[60..], sizes.edges);
+    root
+}

@@ -1,0 +1,153 @@
+//! Why a command is refused.
+
+use flat_table::FileFault;
+use frontier::StepFault;
+use rbg_read::fault::GameFault;
+use std::alloc::AllocError;
+use thiserror::Error;
+
+/// Why a command is refused. After any refusal the table is as it was, but that after `Disk` in a write or a sync the
+/// solver is closed, and the file has the table before the command or the one after it.
+#[derive(Clone, Copy, PartialEq, Eq, Debug, Drop, Error)]
+pub enum SolverFault {
+    /// E1
+    #[error("the disk failed")]
+    Disk,
+    /// E2: there are fewer than four sectors, or they do not begin as each table does.
+    #[error("no table is there")]
+    NotATable,
+    /// E3
+    #[error("a table is there already")]
+    AlreadyATable,
+    /// E4
+    #[error("the table is damaged")]
+    Damaged,
+    /// E6
+    #[error("there is room for fewer than 16 pages")]
+    TooSmall,
+    /// E7
+    #[error("no page is free")]
+    TableFull,
+    /// E8
+    #[error("out of memory")]
+    OutOfMemory,
+    /// E9: a write or a sync has failed before; the table has to be opened again.
+    #[error("closed since a write failed")]
+    Closed,
+    /// G1 to G10
+    #[error("{0}")]
+    Game(GameFault),
+    /// S1
+    #[error("no game is loaded")]
+    NoGame,
+    /// S2
+    #[error("a game is loaded already")]
+    GameAlready,
+    /// S3: at the number that the position has as the refused command had built the table.
+    #[error("the keeper can choose at position {0}")]
+    KeeperChooses(u32),
+    /// S4
+    #[error("a search for moves has more than 65,536 configurations")]
+    TooWide,
+    /// S5
+    #[error("more than 16,777,216 positions")]
+    TooManyPositions,
+    /// S6: the table is not of this program's making.
+    #[error("the table is inconsistent")]
+    Inconsistent,
+}
+
+/// A disk that comes back with a refusal.
+#[derive(Drop)]
+pub struct Refused<D> {
+    pub disk: D,
+    pub fault: SolverFault,
+}
+
+impl SolverFault {
+    ghost use Rattle.std.specs.Prelude.{◌≡◌};
+    ghost use Rattle.recover.specs.Faults.{code_of};
+
+    /// The code that is printed.
+    pub fn code(self) -> &'static str
+        ensures { result.now ≡ code_of self }
+    {
+        match self {
+            SolverFault::Disk => "E1",
+            SolverFault::NotATable => "E2",
+            SolverFault::AlreadyATable => "E3",
+            SolverFault::Damaged => "E4",
+            SolverFault::TooSmall => "E6",
+            SolverFault::TableFull => "E7",
+            SolverFault::OutOfMemory => "E8",
+            SolverFault::Closed => "E9",
+            SolverFault::Game(fault) => fault.code(),
+            SolverFault::NoGame => "S1",
+            SolverFault::GameAlready => "S2",
+            SolverFault::KeeperChooses(_) => "S3",
+            SolverFault::TooWide => "S4",
+            SolverFault::TooManyPositions => "S5",
+            SolverFault::Inconsistent => "S6",
+        }
+    }
+}
+
+impl From<FileFault> for SolverFault {
+    ghost use Rattle.std.specs.Prelude.{◌≡◌};
+    ghost use Rattle.recover.specs.Faults.{file_fault};
+
+    ghost from_gives = { λ fault r. r ≡ file_fault fault };
+
+    fn from(fault: FileFault) -> Self {
+        match fault {
+            FileFault::Disk => SolverFault::Disk,
+            FileFault::NotATable => SolverFault::NotATable,
+            FileFault::AlreadyATable => SolverFault::AlreadyATable,
+            FileFault::Damaged => SolverFault::Damaged,
+            FileFault::TooSmall => SolverFault::TooSmall,
+            FileFault::TableFull => SolverFault::TableFull,
+            FileFault::OutOfMemory => SolverFault::OutOfMemory,
+            FileFault::Closed => SolverFault::Closed,
+            FileFault::Inconsistent => SolverFault::Inconsistent,
+        }
+    }
+}
+
+impl From<StepFault> for SolverFault {
+    ghost use Rattle.std.specs.Prelude.{◌≡◌};
+    ghost use Rattle.recover.specs.Faults.{step_fault};
+
+    ghost from_gives = { λ fault r. r ≡ step_fault fault };
+
+    fn from(fault: StepFault) -> Self {
+        match fault {
+            StepFault::TooWide => SolverFault::TooWide,
+            StepFault::KeeperChooses(number) => SolverFault::KeeperChooses(number),
+            StepFault::TooManyPositions => SolverFault::TooManyPositions,
+            StepFault::Inconsistent => SolverFault::Inconsistent,
+            StepFault::OutOfMemory | StepFault::Table(_) => SolverFault::OutOfMemory,
+        }
+    }
+}
+
+impl From<GameFault> for SolverFault {
+    ghost use Rattle.std.specs.Prelude.{◌≡◌};
+    ghost use Rattle.recover.specs.declared.fault.SolverFault.TheVariants.{Game};
+
+    ghost from_gives = { λ fault r. r ≡ Game fault };
+
+    fn from(fault: GameFault) -> Self {
+        SolverFault::Game(fault)
+    }
+}
+
+impl From<AllocError> for SolverFault {
+    ghost use Rattle.std.specs.Prelude.{◌≡◌};
+    ghost use Rattle.recover.specs.declared.fault.SolverFault.TheVariants.{OutOfMemory};
+
+    ghost from_gives = { λ _ r. r ≡ OutOfMemory };
+
+    fn from(_: AllocError) -> Self {
+        SolverFault::OutOfMemory
+    }
+}

@@ -1,0 +1,16 @@
+//! The solver: a game's table in a file, and the commands on it.
+#![tactic(auto)]
+
+mod fault;
+mod replies;
+mod solver;
+#[cfg(test)]
+mod games;
+#[cfg(test)]
+mod stop_tests;
+#[cfg(test)]
+mod tests;
+
+pub use fault::{Refused, SolverFault};
+pub use replies::{Units, Worked};
+pub use solver::Solver;

@@ -1,0 +1,86 @@
+//! The commands on a table's file that are one command each.
+
+use recover::{Solver, SolverFault};
+use rbg_read::fault::GameFault;
+use sector_disk::SectorDisk;
+use std::alloc::Global;
+use std::io::{self, Write};
+
+/// What is done to a file.
+#[derive(Debug, PartialEq, Eq, Drop)]
+pub enum FileCommand {
+    /// Makes the empty table.
+    Create,
+    /// Loads the game of this text.
+    Load(Vec<u8>),
+}
+
+/// Does the command on the table of this disk, and writes one line: `created` or `loaded`, or `refused` and a code.
+/// Gives the exit status, which is 4 where the output failed, and the disk.
+pub fn command_on<D: SectorDisk, W: Write>(
+    alloc: Global,
+    disk: D,
+    command: FileCommand,
+    out: &mut W,
+) -> (u8, D) {
+    match command {
+        FileCommand::Create => match Solver::create(alloc, disk) {
+            Ok(solver) => (said(out, b"created\n"), solver.close()),
+            Err(refused) => (said_refused(alloc, out, refused.fault), refused.disk),
+        },
+        FileCommand::Load(text) => match Solver::open(alloc, disk) {
+            Ok(mut solver) => {
+                let status = match solver.load(&text) {
+                    Ok(()) => said(out, b"loaded\n"),
+                    Err(fault) => said_refused(alloc, out, fault),
+                };
+                (status, solver.close())
+            }
+            Err(refused) => (said_refused(alloc, out, refused.fault), refused.disk),
+        },
+    }
+}
+
+/// The exit status of a refusal: 3 for a damaged table, 4 where the device failed, 5 for want of memory, else 1.
+pub fn status_of(fault: SolverFault) -> u8 {
+    match fault {
+        SolverFault::Damaged => 3,
+        SolverFault::Disk => 4,
+        SolverFault::OutOfMemory | SolverFault::Game(GameFault::OutOfMemory) => 5,
+        _ => 1,
+    }
+}
+
+/// Writes a line, and gives 0, or 4 where the output fails.
+fn said<W: Write>(out: &mut W, line: &[u8]) -> u8 {
+    match put_line(out, line) {
+        Ok(()) => 0,
+        Err(_) => 4,
+    }
+}
+
+/// Writes the line of a refusal, and gives its status, or 4 where the output fails.
+pub fn said_refused<W: Write>(alloc: Global, out: &mut W, fault: SolverFault) -> u8 {
+    match put_refused(alloc, out, fault) {
+        Ok(()) => status_of(fault),
+        Err(_) => 4,
+    }
+}
+
+/// Writes a line at once.
+pub fn put_line<W: Write>(out: &mut W, line: &[u8]) -> io::Result<()> {
+    out.write_all(line)?;
+    out.flush()
+}
+
+/// Writes `refused` and the code at once; behind S3 the number of the position.
+pub fn put_refused<W: Write>(alloc: Global, out: &mut W, fault: SolverFault) -> io::Result<()> {
+    out.write_all(b"refused ")?;
+    out.write_all(fault.code().as_bytes())?;
+    if let SolverFault::KeeperChooses(number) = fault {
+        let number = number.to_string(alloc)?;
+        out.write_all(b" ")?;
+        out.write_all(number.as_bytes())?;
+    }
+    put_line(out, b"\n")
+}
