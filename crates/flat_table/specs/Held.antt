@@ -20,6 +20,8 @@ pub record KeepsGame (root : List ℕ) (capacity : ℕ) (kept : Kept) (bytes : �
   pub layout : layout_in root ≡ 1
   pub packing : packing_in root ≡ 1
   pub limits : AreWithinLimits (sizes_in root)
+  -- no file has room for more
+  pub edges : (sizes_in root).edges ≤ 2 ^ 32
   pub pages : List ℕ
   pub content : List ℕ
   pub chain : IsChain capacity (first_in root) pages content bytes

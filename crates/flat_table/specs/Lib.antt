@@ -1,3 +1,5 @@
 pub mod Faults
 pub mod Slot
 pub mod Held
+pub mod File
+pub mod Saving

@@ -1,7 +1,9 @@
 -- What the 512 bytes of a root slot say. All numbers have their highest byte first.
-use Rattle.std.specs.Prelude.{◌≡◌, ℕ, ◌≤◌, ◌<◌, List, drop, slice_index}
+use Rattle.std.specs.Prelude.{◌≡◌, ℕ, ◌≤◌, ◌<◌, ◌^◌, List, drop, slice_index, Option, None, Some}
 use Rattle.byteorder.specs.Endian.{big_number}
 use Rattle.table_bytes.specs.declared.sizes.Sizes.{Sizes}
+use Rattle.table_bytes.specs.Numbers.{AreWithinLimits}
+use Rattle.flat_table.specs.declared.slot.GameSlot.{GameSlot}
 
 -- the number in the four bytes from there on
 abbrev pub word_at : List ℕ → ℕ → ℕ
@@ -34,3 +36,22 @@ pub record IsEmptySlot (root : List ℕ) : Type 0 where
   pub packing : packing_in root ≡ 0
   pub fields : (k : ℕ) → 16 ≤ k → k < 44 → slice_index root k ≡ 0
   pub edges : (k : ℕ) → 60 ≤ k → k < 68 → slice_index root k ≡ 0
+
+-- the slot says this of a table with a game
+pub record SaysGame (root : List ℕ) (game : GameSlot) : Type 0 where
+  pub layout : layout_in root ≡ 1
+  pub packing : packing_in root ≡ 1
+  pub first : game.first ≡ first_in root
+  pub sizes : game.sizes ≡ sizes_in root
+  pub limits : AreWithinLimits (sizes_in root)
+  pub edges : (sizes_in root).edges ≤ 2 ^ 32
+
+-- the slot says this of a table
+abbrev pub Says : List ℕ → Option GameSlot → Type 0
+Says root None = IsEmptySlot root
+Says root (Some game) = SaysGame root game
+
+-- the slot is neither that of an empty table nor that of a table with a game
+pub record IsNoSlot (root : List ℕ) : Type 0 where
+  pub not_empty : ¬ IsEmptySlot root
+  pub no_game : layout_in root ≡ 1 → packing_in root ≡ 1 → AreWithinLimits (sizes_in root) → (sizes_in root).edges ≤ 2 ^ 32 → ⊥

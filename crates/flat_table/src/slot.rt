@@ -1,4 +1,7 @@
 //! The root slot of layout 1: what its 512 bytes say.
+ghost use Rattle.std.specs.Prelude.{◌≡◌, ◌↔◌, ◌⊎◌, ◌+◌, ◌≤◌, ◌<◌, ◌^◌, ℕ, true, length, slice_index, IfSome, IfNone};
+ghost use Rattle.table_bytes.specs.Numbers.{AreWithinLimits};
+ghost use Rattle.flat_table.specs.Slot.{word_at as word_in, layout_in, packing_in, first_in, sizes_in as sizes_of, IsEmptySlot, Says, IsNoSlot};
 
 use byteorder::{BigEndian, ByteOrder};
 use retrograde::Counts;
@@ -39,20 +42,27 @@ pub struct Slot {
     pub game: Option<GameSlot>,
 }
 
+/// The number in the four bytes from there on.
 fn word_at(root: &[u8; 512], at: usize) -> u32
     requires { at ≤ 508 }
+    ensures { result ≡ word_in root.now at }
 {
     BigEndian::read_u32(&root[at..])
 }
 
+/// Puts a number into the four bytes from there on.
 fn put_word(root: &mut [u8; 512], at: usize, number: u32)
     requires { at ≤ 508 }
+    ensures is { word_in root.new at ≡ number }
+    ensures others { (k : ℕ) → (k < at) ⊎ (at + 4 ≤ k) → slice_index root.new k ≡ slice_index root.old k }
 {
     BigEndian::write_u32(&mut root[at..], number);
 }
 
 /// How much of each the slot says that there is.
-fn sizes_in(root: &[u8; 512]) -> Sizes {
+fn sizes_in(root: &[u8; 512]) -> Sizes
+    ensures { result ≡ sizes_of root.now }
+{
     Sizes {
         text: word_at(root, 20),
         packed: word_at(root, 24),
@@ -67,7 +77,9 @@ fn sizes_in(root: &[u8; 512]) -> Sizes {
 }
 
 /// Whether the numbers are in order and within their limits.
-fn are_within_limits(sizes: &Sizes) -> bool {
+fn are_within_limits(sizes: &Sizes) -> bool
+    ensures { (result ≡ true) ↔ AreWithinLimits sizes.now }
+{
     let counts = sizes.counts;
     sizes.text <= MOST_TEXT
         && sizes.packed <= MOST_PACKED
@@ -78,12 +90,17 @@ fn are_within_limits(sizes: &Sizes) -> bool {
 }
 
 /// Whether all fields of the layout are zero.
-fn is_blank(root: &[u8; 512]) -> bool {
+fn is_blank(root: &[u8; 512]) -> bool
+    ensures { (result ≡ true) ↔ (((k : ℕ) → 16 ≤ k → k < 44 → slice_index root.now k ≡ 0) × ((k : ℕ) → 60 ≤ k → k < 68 → slice_index root.now k ≡ 0)) }
+{
     root[16..44].iter().all(|byte| *byte == 0) && root[60..68].iter().all(|byte| *byte == 0)
 }
 
 /// What the slot says; none where that is no table of this layout.
-pub fn read_slot(root: &[u8; 512]) -> Option<Slot> {
+pub fn read_slot(root: &[u8; 512]) -> Option<Slot>
+    ensures says { IfSome result (λ slot. Says root.now slot.game) }
+    ensures none { IfNone result (IsNoSlot root.now) }
+{
     if word_at(root, 0) != LAYOUT {
         return None;
     }
@@ -109,14 +126,22 @@ pub fn read_slot(root: &[u8; 512]) -> Option<Slot> {
 }
 
 /// The slot of a table in which no game is loaded, after no commit.
-pub fn empty_slot() -> [u8; 512] {
+pub fn empty_slot() -> [u8; 512]
+    ensures empty { IsEmptySlot result }
+    ensures zero { (k : ℕ) → 4 ≤ k → slice_index result k ≡ 0 }
+{
     let mut root = [0; 512];
     put_word(&mut root, 0, LAYOUT);
     root
 }
 
 /// The slot of a table with a game.
-pub fn game_slot(commits: u64, game: &GameSlot) -> [u8; 512] {
+pub fn game_slot(commits: u64, game: &GameSlot) -> [u8; 512]
+    ensures layout { layout_in result ≡ 1 }
+    ensures packing { packing_in result ≡ 1 }
+    ensures first { first_in result ≡ game.now.first }
+    ensures sizes { sizes_of result ≡ game.now.sizes }
+{
     let GameSlot { first, sizes } = *game;
     let mut root = empty_slot();
     put_word(&mut root, 4, PACKING);

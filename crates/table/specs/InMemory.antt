@@ -1,0 +1,15 @@
+-- What a table in memory stores.
+use Rattle.std.specs.Prelude.{ℕ, List}
+use Rattle.std.specs.BTreeSet.{contains}
+use Rattle.retrograde.specs.Stored.{Stored}
+use Rattle.table.specs.Memory.{bytes_of_each, edge_cmp}
+use Rattle.table.specs.declared.memory.MemTable.{MemTable}
+
+-- what a table in memory stores
+abbrev pub stored_in : MemTable → Stored (List ℕ)
+stored_in t = record {
+  positions = bytes_of_each t.positions.items;
+  records = t.records.items;
+  has_edge = λ i p. contains edge_cmp t.edges (i, p);
+  order = t.order.items;
+}
