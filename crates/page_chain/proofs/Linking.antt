@@ -80,3 +80,12 @@ pub got_before : (ps rest : List ℕ) (k q : ℕ) → k < length ps → slice_in
 got_before [] rest k q low is = absurd (omega (arith, low))
 got_before (p ∷ ps) rest zero q low is = ap Some is
 got_before (p ∷ ps) rest (suc k) q low is = got_before ps rest k q (omega (arith, low)) is
+
+pub none_contained : (p : ℕ) → Contains [] p → ⊥
+none_contained p (k, low, is) = omega (arith, low)
+
+pub contains_before : (ps : List ℕ) (q p : ℕ) → Contains ps p → Contains (ps ++ q ∷ []) p
+contains_before ps q p (k, low, is) = contains_got (ps ++ q ∷ []) k p (got_before ps (q ∷ []) k p low is)
+
+pub contains_last : (ps : List ℕ) (q : ℕ) → Contains (ps ++ q ∷ []) q
+contains_last ps q = contains_got (ps ++ q ∷ []) (length ps) q (got_seam ps [] q)

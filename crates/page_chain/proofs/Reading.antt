@@ -17,7 +17,7 @@ use Rattle.page_store.specs.Works.{works_refl, works_then}
 use Rattle.page_chain.specs.Chain.{next_in, LeadsThrough, payloads, IsChain}
 use Rattle.page_chain.specs.Causes.{AllWait, ReadCause, LinkCause}
 use Rattle.page_chain.specs.Links.{IsOnce, OnlyMarks, IsLinked}
-use Rattle.page_chain.proofs.Linking.{LeadsTo, leads_more, leads_end, payloads_more, once_more, none_once, same_way, got_seam, got_before, contains_got}
+use Rattle.page_chain.proofs.Linking.{LeadsTo, leads_more, leads_end, payloads_more, once_more, none_once, none_contained, contains_before, contains_last, same_way, got_seam, got_before, contains_got}
 
 pub only_marks_refl : (store : Store) → OnlyMarks store store
 only_marks_refl store = record { works = works_refl store; shown = λ honest. refl; closed = refl; others = λ p. inl refl }
@@ -62,9 +62,6 @@ pub record IsRead (old now : Store) (first count next : ℕ) (pages content : Li
   pub waited : (p : ℕ) → Contains pages p → mark old.marks p ≡ Waiting
   pub kept : (p : ℕ) → (mark now.marks p ≡ mark old.marks p) ⊎ Contains pages p
 
-pub none_contained : (p : ℕ) → Contains [] p → ⊥
-none_contained p (k, low, is) = omega (arith, low)
-
 nothing_read : (store : Store) (first : ℕ) → IsRead store store first 0 first [] []
 nothing_read store first = record {
   only = only_marks_refl store;
@@ -85,12 +82,6 @@ none_read store first pages content no_page no_byte =
 
 waits_apart : (m : Mark) → m ≡ Committed → m ≡ Waiting → ⊥
 waits_apart m one other = cc
-
-contains_before : (ps : List ℕ) (q p : ℕ) → Contains ps p → Contains (ps ++ q ∷ []) p
-contains_before ps q p (k, low, is) = contains_got (ps ++ q ∷ []) k p (got_before ps (q ∷ []) k p low is)
-
-contains_last : (ps : List ℕ) (q : ℕ) → Contains (ps ++ q ∷ []) q
-contains_last ps q = contains_got (ps ++ q ∷ []) (length ps) q (got_seam ps [] q)
 
 -- one page more
 module _ (old mid new : Store) (first count here next : ℕ) (pages more content longer : List ℕ) (read : IsRead old mid first count here pages content)

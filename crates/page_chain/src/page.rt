@@ -35,6 +35,7 @@ pub fn payload_of(bytes: &[u8; 4096]) -> &[u8]
 /// The bytes of a page that names the next one and holds this part, filled up with zeros.
 pub fn page_with(next: u32, part: &[u8]) -> [u8; 4096]
     requires { length part.now ≤ 4092 }
+    ensures whole { length result ≡ 4096 }
     ensures next { next_in result ≡ next }
     ensures holds { take (length part.now) (drop 4 result) ≡ part.now }
 {
