@@ -33,3 +33,30 @@ WriteCause long old new Damaged = ⊥
 WriteCause long old new TableFull = 4092 * free_count old.marks < long
 WriteCause long old new OutOfMemory = Unit {0}
 WriteCause long old new Closed = old.closed ≡ true
+
+-- a page is not joined to a chain: the disk failed; it does not wait; the store is closed; or memory is short
+abbrev pub LinkCause : ℕ → Store → Store → PageFault → Type 0
+LinkCause page old new Disk = Grew old.failures new.failures
+LinkCause page old new NotATable = ⊥
+LinkCause page old new Damaged = mark old.marks page ≡ Waiting → ⊥
+LinkCause page old new TableFull = ⊥
+LinkCause page old new OutOfMemory = Unit {0}
+LinkCause page old new Closed = old.closed ≡ true
+
+-- pages that are free are not handed out: the store is closed, or memory is short
+abbrev pub TakeCause : Store → PageFault → Type 0
+TakeCause old Disk = ⊥
+TakeCause old NotATable = ⊥
+TakeCause old Damaged = ⊥
+TakeCause old TableFull = ⊥
+TakeCause old OutOfMemory = Unit {0}
+TakeCause old Closed = old.closed ≡ true
+
+-- pages that were handed out are not written: the disk failed, and the store is closed; or it was closed
+abbrev pub PutCause : Store → Store → PageFault → Type 0
+PutCause old new Disk = Grew old.failures new.failures × (new.closed ≡ true)
+PutCause old new NotATable = ⊥
+PutCause old new Damaged = ⊥
+PutCause old new TableFull = ⊥
+PutCause old new OutOfMemory = ⊥
+PutCause old new Closed = old.closed ≡ true

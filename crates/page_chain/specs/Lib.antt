@@ -1,2 +1,4 @@
-pub mod Chain
 pub mod Causes
+pub mod Chain
+pub mod Links
+pub mod Resting

@@ -1,5 +1,5 @@
 //! What holds of every chain: each function's contract is a law.
-ghost use Rattle.std.specs.Prelude.{◌≡◌, ℕ, List, length, Contains};
+ghost use Rattle.std.specs.Prelude.{◌≡◌, ◌≤◌, ℕ, List, length, Contains};
 ghost use Rattle.page_store.specs.Spelling.{SpelledBy};
 ghost use Rattle.page_chain.specs.Chain.{IsChain};
 

@@ -1,7 +1,13 @@
 //! A list of bytes as a chain of pages: each page begins with the number of the next one, and the last with 0.
 #![tactic(auto)]
 
-mod chain;
 pub mod laws;
+mod page;
+mod read;
+#[cfg(test)]
+mod tests;
+mod write;
 
-pub use chain::{Chain, PAYLOAD, pages_for, read_chain, write_chain};
+pub use page::{PAYLOAD, pages_for};
+pub use read::{Chain, read_chain};
+pub use write::write_chain;

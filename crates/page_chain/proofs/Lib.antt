@@ -1,0 +1,5 @@
+mod Linking
+mod Passing
+mod Putting
+mod Reading
+mod Taking

@@ -1,0 +1,52 @@
+use Rattle.std.proofs.Common.{◌≡◌, ◌∙◌, List, length, take, ap, rules, arith}
+use Rattle.std.proofs.lemmas.List.{length-take-le}
+use Rattle.page_chain.proofs.Passing.{passed_on}
+use Rattle.page_chain.proofs.Reading.{none_read, read_more, only_marks_then, read_chain, chain_ends, link_cause}
+use Rattle.page_chain.proofs.read.read_chain.Goals as goal
+
+pub loop-init : goal.loop-init
+loop-init g c = none_read _ _ _ _ c.new-pages.ensures.items c.new-content.ensures.items
+
+pub loop-preserved : goal.loop-preserved
+loop-preserved g c = read_more _ _ _ _ _ _ _ _ _ _ _ c.loop.invariant c.in_ok-next.ensures.linked c.read_link.ensures.marks
+
+pub returns-in_err-next : goal.returns-in_err-next
+returns-in_err-next g c =
+    let only = only_marks_then c.loop.invariant.only c.read_link.ensures.marks in
+    record { chain = search rules; long = search rules; marked = search rules; waited = search rules; kept = search rules; others = only.others; shown = only.shown; closed = only.closed; works = only.works; cause = passed_on _ c.from_residual.result _ c.from_residual.ensures
+      (link_cause (g.P.Pages.store c.read_link.new.store) c.args.size _ c.loop.invariant (omega (arith, c.loop-test.true, c.pages_for-end.ensures.no_more)) c.in_err-next.ensures.cause); }
+
+pub returns-then-next-ne0 : goal.returns-then-next-ne0
+returns-then-next-ne0 g c =
+    let read = c.loop.invariant in
+    record {
+      chain = search rules;
+      long = search rules;
+      marked = search rules;
+      waited = search rules;
+      kept = search rules;
+      others = read.only.others;
+      shown = read.only.shown;
+      closed = read.only.closed;
+      works = read.only.works;
+      cause = λ honest wait ps content same chain.
+          c.if-next-ne0.true (chain_ends _ read (omega (arith, c.pages_for-end.ensures.enough, c.loop-test.false)) (omega (arith, c.pages_for-end.ensures.no_more, c.loop.auto.counter-end)) honest ps content same chain);
+    }
+
+pub returns : goal.returns
+returns g c =
+    let read = c.loop.invariant in
+    let cut = c.truncate.ensures.items in
+    record {
+      chain = λ honest.
+          read_chain _ _ read c.if-next-ne0.false (omega (arith, c.pages_for-end.ensures.enough, c.loop-test.false)) (omega (arith, c.pages_for-end.ensures.no_more, c.loop.auto.counter-end)) cut honest;
+      long = ap (λ (xs : List _). length xs) cut ∙ length-take-le _ _ (omega (arith, read.long, c.pages_for-end.ensures.enough, c.loop-test.false));
+      marked = read.marked;
+      waited = read.waited;
+      kept = read.kept;
+      others = read.only.others;
+      shown = read.only.shown;
+      closed = read.only.closed;
+      works = read.only.works;
+      cause = search rules;
+    }

@@ -1,0 +1,18 @@
+use Rattle.std.proofs.Common.{◌∙◌, List, ap, subst, sym}
+use Rattle.page_store.specs.declared.marks.Mark.{Mark}
+use Rattle.page_store.specs.declared.marks.Mark.TheVariants.{Committed}
+use Rattle.page_store.specs.Marks.{IsMarked}
+use Rattle.page_store.specs.Works.{works_then}
+use Rattle.sector_disk.specs.Disk.{Disk}
+use Rattle.sector_disk.specs.Moments.{still_honest}
+use Rattle.page_chain.proofs.Reading.{one_marked}
+use Rattle.page_chain.proofs.read.read_link.Goals as goal
+
+pub returns-clause-marks : goal.returns-clause-marks
+returns-clause-marks g c =
+    let marking = c.mark.ensures in
+    let reading = c.read_page.ensures in
+    one_marked c.args.page _ _ (works_then marking.works reading.works)
+    (λ honest. reading.unchanged.shown (still_honest marking.works.goes_on honest) ∙ ap (λ (d : Disk). d.now) marking.others.disk)
+    (reading.unchanged.closed ∙ marking.others.closed)
+    (subst (λ (ms : List Mark). IsMarked c.args.page Committed (g.P.Pages.store c.args.store.now).marks ms) (sym reading.unchanged.marks) c.in_ok-mark.ensures.ok)

@@ -1,0 +1,47 @@
+-- What one step of reading or writing a chain does.
+use Rattle.std.specs.Prelude.{◌≡◌, ◌⊎◌, ℕ, ◌+◌, ◌<◌, ◌≤◌, List, [], ◌∷◌, ◌++◌, length, drop, slice_get, Contains, Some, false, IsTrue}
+use Rattle.sector_disk.specs.Disk.{Disk}
+use Rattle.page_store.specs.declared.marks.Mark.TheVariants.{Committed, Waiting, Fresh, Free}
+use Rattle.page_store.specs.Marks.{mark, IsMarked}
+use Rattle.page_store.specs.Store.{Store, reads, Works}
+use Rattle.page_chain.specs.Chain.{next_in}
+
+-- no page is named twice
+abbrev pub IsOnce : List ℕ → Type 0
+IsOnce pages = (i j p : ℕ) → slice_get pages i ≡ Some p → slice_get pages j ≡ Some p → i ≡ j
+
+-- some pages are marked, and else the store is as it was
+pub record OnlyMarks (old new : Store) : Type 0 where
+  pub works : Works old new
+  pub shown : IsTrue old.disk.honest → new.disk.now ≡ old.disk.now
+  pub closed : new.closed ≡ old.closed
+  pub others : (p : ℕ) → (mark new.marks p ≡ mark old.marks p) ⊎ (mark new.marks p ≡ Committed)
+
+-- a page that waited is marked, and what it holds is joined to what was read
+pub record IsLinked (page next : ℕ) (old new : Store) (pages more content longer : List ℕ) : Type 0 where
+  pub waited : mark old.marks page ≡ Waiting
+  pub is_page : 1 ≤ page
+  pub within : page < length old.marks
+  pub marks : IsMarked page Committed old.marks new.marks
+  pub pages_are : more ≡ pages ++ page ∷ []
+  pub long : length longer ≡ length content + 4092
+  pub holds : IsTrue old.disk.honest → longer ≡ content ++ drop 4 (reads old page)
+  pub leads : IsTrue old.disk.honest → next ≡ next_in (reads old page)
+
+-- some free pages are handed out, and else the store is as it was
+pub record HandsOut (old new : Store) : Type 0 where
+  pub works : Works old new
+  pub disk : new.disk ≡ old.disk
+  pub failures : new.failures ≡ old.failures
+  pub closed : new.closed ≡ old.closed
+  pub others : (p : ℕ) → (mark new.marks p ≡ mark old.marks p) ⊎ ((mark old.marks p ≡ Free) × (mark new.marks p ≡ Fresh))
+
+-- so many free pages are handed out, and these are they
+pub record AreTaken (old new : Store) (count : ℕ) (pages : List ℕ) : Type 0 where
+  pub many : length pages ≡ count
+  pub within : (p : ℕ) → Contains pages p → (1 ≤ p) × (p < length old.marks)
+  pub once : IsOnce pages
+  pub were : (p : ℕ) → Contains pages p → mark old.marks p ≡ Free
+  pub are : (p : ℕ) → Contains pages p → mark new.marks p ≡ Fresh
+  pub kept : (p : ℕ) → (mark new.marks p ≡ mark old.marks p) ⊎ Contains pages p
+  pub gone : 1 ≤ count → new.closed ≡ false

@@ -1,0 +1,1 @@
+//! Chains are written and read.

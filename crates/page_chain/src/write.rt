@@ -1,0 +1,85 @@
+//! A chain is written: its pages are taken first, and then each is written with the number of the next one.
+ghost use Rattle.std.specs.Prelude.{◌≡◌, ◌⊎◌, ◌+◌, ◌*◌, ◌<◌, ◌≤◌, ℕ, false, length, take, drop, slice_index, Contains, OnOk, IfOk, IfErr, IsTrue};
+ghost use Rattle.page_store.specs.declared.marks.Mark.TheVariants.{Fresh, Free};
+ghost use Rattle.page_store.specs.Marks.{mark as mark_of, free_count};
+ghost use Rattle.page_store.specs.Store.{reads, Works};
+ghost use Rattle.page_chain.specs.Chain.{IsChain, LeadsThrough, payloads, first_of};
+ghost use Rattle.page_chain.specs.Causes.{WriteCause, TakeCause, PutCause};
+ghost use Rattle.page_chain.specs.Links.{HandsOut, AreTaken, IsOnce};
+
+use crate::page::{page_with, pages_for, part_of};
+use crate::read::add_page;
+use page_store::{PageFault, Pages};
+use std::alloc::Global;
+
+/// Writes a chain with this content on free pages, and answers its pages in turn. `TableFull` where too few are free:
+/// then nothing is handed out. After another error some pages may be: the store goes back by `discard`.
+pub fn write_chain<P: Pages>(
+    alloc: Global,
+    store: &mut P,
+    content: &[u8],
+) -> Result<Vec<u32>, PageFault>
+    ensures chain { IsTrue (P.store store.old).disk.honest → IfOk result (λ pages.
+        IsChain (length (P.store store.old).marks) (first_of pages.items) pages.items content.now (reads (P.store store.new))) }
+    ensures fresh { IfOk result (λ pages. (p : ℕ) → Contains pages.items p → mark_of (P.store store.new).marks p ≡ Fresh) }
+    ensures freed { IfOk result (λ pages. (p : ℕ) → Contains pages.items p → mark_of (P.store store.old).marks p ≡ Free) }
+    ensures kept { IfOk result (λ pages. (p : ℕ) → (mark_of (P.store store.new).marks p ≡ mark_of (P.store store.old).marks p)
+        ⊎ Contains pages.items p) }
+    ensures others { (p : ℕ) → (mark_of (P.store store.new).marks p ≡ mark_of (P.store store.old).marks p)
+        ⊎ ((mark_of (P.store store.old).marks p ≡ Free) × (mark_of (P.store store.new).marks p ≡ Fresh)) }
+    ensures open { OnOk result (1 ≤ length content.now → (P.store store.new).closed ≡ false) }
+    ensures works { Works (P.store store.old) (P.store store.new) }
+    ensures refused { IfErr result (λ fault. fault ≡ PageFault.TableFull → P.store store.new ≡ P.store store.old) }
+    ensures cause { IfErr result (WriteCause (length content.now) (P.store store.old) (P.store store.new)) }
+{
+    let count = pages_for(content.len());
+    if (store.free_pages() as usize) < count {
+        return Err(PageFault::TableFull);
+    }
+    let pages = take_pages(alloc, store, count)?;
+    write_pages(store, &pages, content)?;
+    Ok(pages)
+}
+
+/// So many pages are handed out.
+fn take_pages<P: Pages>(alloc: Global, store: &mut P, count: usize) -> Result<Vec<u32>, PageFault>
+    requires { count ≤ free_count (P.store store.old).marks }
+    ensures taken { IfOk result (λ pages. AreTaken (P.store store.old) (P.store store.new) count pages.items) }
+    ensures out { HandsOut (P.store store.old) (P.store store.new) }
+    ensures cause { IfErr result (TakeCause (P.store store.old)) }
+{
+    let mut pages = Vec::new(alloc);
+    for _ in 0..count {
+        let page = store.new_page()?;
+        add_page(&mut pages, page)?;
+    }
+    Ok(pages)
+}
+
+/// Writes the content on these pages, each with the number of the next one.
+fn write_pages<P: Pages>(store: &mut P, pages: &[u32], content: &[u8]) -> Result<(), PageFault>
+    requires fresh { (p : ℕ) → Contains pages.now p → mark_of (P.store store.old).marks p ≡ Fresh }
+    requires once { IsOnce pages.now }
+    requires no_more { 4092 * length pages.now < length content.now + 4092 }
+    ensures leads { IsTrue (P.store store.old).disk.honest → OnOk result (LeadsThrough (reads (P.store store.new)) (first_of pages.now) pages.now) }
+    ensures holds { IsTrue (P.store store.old).disk.honest → OnOk result
+        (take (length content.now) (payloads (reads (P.store store.new)) pages.now) ≡ take (4092 * length pages.now) content.now) }
+    ensures open { OnOk result (1 ≤ length pages.now → (P.store store.new).closed ≡ false) }
+    ensures marks { (P.store store.new).marks ≡ (P.store store.old).marks }
+    ensures works { Works (P.store store.old) (P.store store.new) }
+    ensures cause { IfErr result (PutCause (P.store store.old) (P.store store.new)) }
+{
+    for place in 0..pages.len() {
+        let bytes = page_with(next_after(pages, place), part_of(content, place));
+        store.write_page(pages[place], &bytes)?;
+    }
+    Ok(())
+}
+
+/// The page behind this one, 0 behind the last.
+fn next_after(pages: &[u32], place: usize) -> u32
+    requires { place < length pages.now }
+    ensures { result ≡ slice_index pages.now (place + 1) }
+{
+    pages.get(place + 1).copied().unwrap_or(0)
+}
