@@ -8,7 +8,7 @@ use Rattle.retrograde.specs.Stored.{Stored, IsTable}
 use Rattle.retrograde.specs.Changes.{counts_of}
 use Rattle.table_bytes.specs.Numbers.{AreWithinLimits, bytes_in}
 use Rattle.table_bytes.specs.Spelled.{Spells}
-use Rattle.flat_table.specs.Slot.{layout_in, packing_in, first_in, sizes_in, IsEmptySlot}
+use Rattle.root_slot.specs.Slot.{layout_in, packing_in, first_in, sizes_in, IsEmptySlot}
 
 -- what is kept of a game: its text, and its table
 pub record Kept : Type 0 where

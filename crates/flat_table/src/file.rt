@@ -1,7 +1,7 @@
 //! A table in a file.
 
 use crate::game::{Game, are_canonical, read_all, save};
-use crate::slot::empty_slot;
+use root_slot::empty_slot;
 use crate::{FileFault, Refused};
 use page_store::{PageStore, Pages};
 use position_pack::{Packed, Packing};

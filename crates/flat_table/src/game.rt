@@ -1,6 +1,6 @@
 //! A game's table between its pages and memory.
 
-use crate::slot::{GameSlot, Slot, game_slot, read_slot};
+use root_slot::{GameSlot, Slot, game_slot, read_slot};
 use crate::FileFault;
 use page_chain::{read_chain, write_chain};
 use page_store::Pages;

@@ -4,7 +4,6 @@
 mod fault;
 mod file;
 mod game;
-mod slot;
 #[cfg(test)]
 mod tests;
 

@@ -3,11 +3,15 @@ use Rattle.std.specs.Prelude.{◌≡◌, ℕ, ◌≤◌, ◌<◌, ◌^◌, List,
 use Rattle.byteorder.specs.Endian.{big_number}
 use Rattle.table_bytes.specs.declared.sizes.Sizes.{Sizes}
 use Rattle.table_bytes.specs.Numbers.{AreWithinLimits}
-use Rattle.flat_table.specs.declared.slot.GameSlot.{GameSlot}
+use Rattle.root_slot.specs.declared.slot.GameSlot.{GameSlot}
 
 -- the number in the four bytes from there on
 abbrev pub word_at : List ℕ → ℕ → ℕ
 word_at root at = big_number 4 (drop at root)
+
+-- the number in the eight bytes from there on
+abbrev pub long_at : List ℕ → ℕ → ℕ
+long_at root at = big_number 8 (drop at root)
 
 -- the layout of the file
 abbrev pub layout_in : List ℕ → ℕ
@@ -27,15 +31,19 @@ sizes_in root = record {
   text = word_at root 20;
   packed = word_at root 24;
   counts = record { known = word_at root 28; expanded = word_at root 32; settled = word_at root 36; processed = word_at root 40 };
-  edges = big_number 8 (drop 60 root);
+  edges = long_at root 60;
 }
+
+-- the bytes from one place on up to another are zero
+abbrev pub AreZero : ℕ → ℕ → List ℕ → Type 0
+AreZero from to root = (k : ℕ) → from ≤ k → k < to → slice_index root k ≡ 0
 
 -- no game: the packing is 0, and so is each field of the layout
 pub record IsEmptySlot (root : List ℕ) : Type 0 where
   pub layout : layout_in root ≡ 1
   pub packing : packing_in root ≡ 0
-  pub fields : (k : ℕ) → 16 ≤ k → k < 44 → slice_index root k ≡ 0
-  pub edges : (k : ℕ) → 60 ≤ k → k < 68 → slice_index root k ≡ 0
+  pub fields : AreZero 16 44 root
+  pub edges : AreZero 60 68 root
 
 -- the slot says this of a table with a game
 pub record SaysGame (root : List ℕ) (game : GameSlot) : Type 0 where

@@ -1,7 +1,7 @@
 //! The root slot of layout 1: what its 512 bytes say.
-ghost use Rattle.std.specs.Prelude.{◌≡◌, ◌↔◌, ◌⊎◌, ◌+◌, ◌≤◌, ◌<◌, ◌^◌, ℕ, true, length, slice_index, IfSome, IfNone};
+ghost use Rattle.std.specs.Prelude.{◌≡◌, ◌↔◌, ◌+◌, ◌≤◌, ◌<◌, ℕ, true, slice_index, IfSome, IfNone};
 ghost use Rattle.table_bytes.specs.Numbers.{AreWithinLimits};
-ghost use Rattle.flat_table.specs.Slot.{word_at as word_in, layout_in, packing_in, first_in, sizes_in as sizes_of, IsEmptySlot, Says, IsNoSlot};
+ghost use Rattle.root_slot.specs.Slot.{word_at as word_in, long_at as long_in, layout_in, packing_in, first_in, sizes_in as sizes_of, IsEmptySlot, AreZero, Says, IsNoSlot};
 
 use byteorder::{BigEndian, ByteOrder};
 use retrograde::Counts;
@@ -54,9 +54,27 @@ fn word_at(root: &[u8; 512], at: usize) -> u32
 fn put_word(root: &mut [u8; 512], at: usize, number: u32)
     requires { at ≤ 508 }
     ensures is { word_in root.new at ≡ number }
-    ensures others { (k : ℕ) → (k < at) ⊎ (at + 4 ≤ k) → slice_index root.new k ≡ slice_index root.old k }
+    ensures before { (k : ℕ) → k + 4 ≤ at → word_in root.new k ≡ word_in root.old k }
+    ensures behind { (k : ℕ) → at + 4 ≤ k → slice_index root.new k ≡ slice_index root.old k }
 {
-    BigEndian::write_u32(&mut root[at..], number);
+    BigEndian::write_u32(&mut root[at..at + 4], number);
+}
+
+/// Puts a number into the eight bytes from there on.
+fn put_long(root: &mut [u8; 512], at: usize, number: u64)
+    requires { at ≤ 504 }
+    ensures is { long_in root.new at ≡ number }
+    ensures before { (k : ℕ) → k + 4 ≤ at → word_in root.new k ≡ word_in root.old k }
+{
+    BigEndian::write_u64(&mut root[at..at + 8], number);
+}
+
+/// The number in the eight bytes from there on.
+fn long_at(root: &[u8; 512], at: usize) -> u64
+    requires { at ≤ 504 }
+    ensures { result ≡ long_in root.now at }
+{
+    BigEndian::read_u64(&root[at..])
 }
 
 /// How much of each the slot says that there is.
@@ -72,7 +90,7 @@ fn sizes_in(root: &[u8; 512]) -> Sizes
             settled: word_at(root, 36),
             processed: word_at(root, 40),
         },
-        edges: BigEndian::read_u64(&root[60..]),
+        edges: long_at(root, 60),
     }
 }
 
@@ -91,9 +109,18 @@ fn are_within_limits(sizes: &Sizes) -> bool
 
 /// Whether all fields of the layout are zero.
 fn is_blank(root: &[u8; 512]) -> bool
-    ensures { (result ≡ true) ↔ (((k : ℕ) → 16 ≤ k → k < 44 → slice_index root.now k ≡ 0) × ((k : ℕ) → 60 ≤ k → k < 68 → slice_index root.now k ≡ 0)) }
+    ensures { (result ≡ true) ↔ (AreZero 16 44 root.now × AreZero 60 68 root.now) }
 {
-    root[16..44].iter().all(|byte| *byte == 0) && root[60..68].iter().all(|byte| *byte == 0)
+    are_zero(root, 16, 44) & are_zero(root, 60, 68)
+}
+
+/// Whether the bytes from one place on up to another are zero.
+fn are_zero(root: &[u8; 512], from: usize, to: usize) -> bool
+    requires from { from ≤ to }
+    requires to { to ≤ 512 }
+    ensures { (result ≡ true) ↔ AreZero from to root.now }
+{
+    (from..to).all(|at| root[at] == 0)
 }
 
 /// What the slot says; none where that is no table of this layout.
@@ -104,7 +131,7 @@ pub fn read_slot(root: &[u8; 512]) -> Option<Slot>
     if word_at(root, 0) != LAYOUT {
         return None;
     }
-    let commits = BigEndian::read_u64(&root[8..]);
+    let commits = long_at(root, 8);
     match word_at(root, 4) {
         0 if is_blank(root) => Some(Slot {
             commits,
@@ -145,7 +172,7 @@ pub fn game_slot(commits: u64, game: &GameSlot) -> [u8; 512]
     let GameSlot { first, sizes } = *game;
     let mut root = empty_slot();
     put_word(&mut root, 4, PACKING);
-    BigEndian::write_u64(&mut root[8..], commits);
+    put_long(&mut root, 8, commits);
     put_word(&mut root, 16, first);
     put_word(&mut root, 20, sizes.text);
     put_word(&mut root, 24, sizes.packed);
@@ -153,6 +180,6 @@ pub fn game_slot(commits: u64, game: &GameSlot) -> [u8; 512]
     put_word(&mut root, 32, sizes.counts.expanded);
     put_word(&mut root, 36, sizes.counts.settled);
     put_word(&mut root, 40, sizes.counts.processed);
-    BigEndian::write_u64(&mut root[60..], sizes.edges);
+    put_long(&mut root, 60, sizes.edges);
     root
 }
