@@ -22,11 +22,11 @@ use Rattle.page_chain.proofs.Linking.{LeadsTo, leads_more, leads_end, leads_to_s
 filled : (rest ys : List ℕ) → length ys ≡ 4092 → take (length (take 4092 rest)) ys ≡ take 4092 rest → take (length rest) ys ≡ take 4092 rest
 filled rest ys long is = elim (cases_lt 4092 (length rest)) [
   | inl more ↦
-    let part : length (take 4092 rest) ≡ 4092 = length-take-le 4092 rest (omega (arith, more)) in
-    take_all (length rest) ys (omega (arith, long, more)) ∙ sym (take_all (length (take 4092 rest)) ys (omega (arith, long, part))) ∙ is
+      let part : length (take 4092 rest) ≡ 4092 = length-take-le 4092 rest (omega (arith, more)) in
+      take_all (length rest) ys (omega (arith, long, more)) ∙ sym (take_all (length (take 4092 rest)) ys (omega (arith, long, part))) ∙ is
   | inr few ↦
-    let whole : take 4092 rest ≡ rest = take_all 4092 rest (omega (arith, few)) in
-    ap (λ (xs : List ℕ). take (length xs) ys) (sym whole) ∙ is
+      let whole : take 4092 rest ≡ rest = take_all 4092 rest (omega (arith, few)) in
+      ap (λ (xs : List ℕ). take (length xs) ys) (sym whole) ∙ is
 ]
 
 -- the content up to a place, and a page more
@@ -79,7 +79,6 @@ module _ (old mid new : Store) (pages content bytes part : List ℕ) (place : �
     (written : IsTrue mid.disk.honest → reads new (slice_index pages place) ≡ bytes)
     (others : IsTrue mid.disk.honest → (p : ℕ) → (p ≡ slice_index pages place → ⊥) → reads new p ≡ reads mid p)
     (marks : new.marks ≡ mid.marks) (gone : new.closed ≡ false) (works : Works mid new) where
-
   is_here : IsTrue old.disk.honest → reads new (slice_index pages place) ≡ bytes
   is_here honest = written (still_honest put.works.goes_on honest)
 

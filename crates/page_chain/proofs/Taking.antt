@@ -62,7 +62,6 @@ none_taken store pages no_page = subst (λ (ps : List ℕ). IsTaken store store 
 -- one page more
 module _ (old mid new : Store) (count here : ℕ) (pages : List ℕ) (taken : IsTaken old mid count pages) (marks : IsMarked here Fresh mid.marks new.marks) (free : mark mid.marks here ≡ Free)
     (is_page : 1 ≤ here) (within : here < length mid.marks) (gone : new.closed ≡ false) (others : IsRemarked mid new) (works : Works mid new) where
-
   was_free : mark old.marks here ≡ Free
   was_free = elim (taken.out.others here) [
     | inl same ↦ sym same ∙ free
