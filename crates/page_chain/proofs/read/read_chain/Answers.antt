@@ -1,4 +1,4 @@
-use Rattle.std.proofs.Common.{◌≡◌, ◌∙◌, List, length, take, ap, rules, arith}
+use Rattle.std.proofs.Common.{◌∙◌, List, length, ap, rules, arith}
 use Rattle.std.proofs.lemmas.List.{length-take-le}
 use Rattle.page_chain.proofs.Passing.{passed_on}
 use Rattle.page_chain.proofs.Reading.{none_read, read_more, only_marks_then, read_chain, chain_ends, link_cause}
