@@ -1,11 +1,10 @@
 -- The pages of a chain are written, one by one.
-use Rattle.std.proofs.Common.{◌≡◌, inl, inr, ℕ, ◌+◌, ◌*◌, ◌-◌, ◌<◌, ◌≤◌, List, [], ◌∷◌, ◌++◌, Some, false, length, take, drop, Contains, OnOk, IsTrue, refl, sym, ◌∙◌, ap, subst, arith}
+use Rattle.std.proofs.Common.{◌≡◌, inl, inr, ℕ, ◌+◌, ◌*◌, ◌-◌, ◌<◌, ◌≤◌, List, [], ◌∷◌, ◌++◌, Some, false, length, take, drop, Contains, IsTrue, refl, sym, ◌∙◌, ap, subst, arith}
 use Rattle.std.proofs.Math.Seq.{take-append-add, take-length}
 use Rattle.std.proofs.lemmas.Bool.{cases_lt}
-use Rattle.std.proofs.lemmas.List.{length-append, length-take-le, length-drop, length-take, take_all, take-append-drop, take_more, get_or_past}
+use Rattle.std.proofs.lemmas.List.{length-append, length-take-le, length-drop, take_all, take-append-drop, take_more, get_or_past}
 use Rattle.std.proofs.lemmas.Option.{slice_get-get_or}
 use Rattle.std.specs.Prelude.{slice_get, slice_index}
-use Rattle.sector_disk.specs.Disk.{Grew}
 use Rattle.sector_disk.specs.Moments.{still_honest}
 use Rattle.page_store.specs.declared.fault.PageFault.{PageFault}
 use Rattle.page_store.specs.declared.fault.PageFault.TheVariants.{Disk, NotATable, Damaged, TableFull, OutOfMemory, Closed}
@@ -22,11 +21,11 @@ use Rattle.page_chain.proofs.Linking.{LeadsTo, leads_more, leads_end, leads_to_s
 filled : (rest ys : List ℕ) → length ys ≡ 4092 → take (length (take 4092 rest)) ys ≡ take 4092 rest → take (length rest) ys ≡ take 4092 rest
 filled rest ys long is = elim (cases_lt 4092 (length rest)) [
   | inl more ↦
-    let part : length (take 4092 rest) ≡ 4092 = length-take-le 4092 rest (omega (arith, more)) in
-    take_all (length rest) ys (omega (arith, long, more)) ∙ sym (take_all (length (take 4092 rest)) ys (omega (arith, long, part))) ∙ is
+      let part : length (take 4092 rest) ≡ 4092 = length-take-le 4092 rest (omega (arith, more)) in
+      take_all (length rest) ys (omega (arith, long, more)) ∙ sym (take_all (length (take 4092 rest)) ys (omega (arith, long, part))) ∙ is
   | inr few ↦
-    let whole : take 4092 rest ≡ rest = take_all 4092 rest (omega (arith, few)) in
-    ap (λ (xs : List ℕ). take (length xs) ys) (sym whole) ∙ is
+      let whole : take 4092 rest ≡ rest = take_all 4092 rest (omega (arith, few)) in
+      ap (λ (xs : List ℕ). take (length xs) ys) (sym whole) ∙ is
 ]
 
 -- the content up to a place, and a page more
@@ -79,7 +78,6 @@ module _ (old mid new : Store) (pages content bytes part : List ℕ) (place : �
     (written : IsTrue mid.disk.honest → reads new (slice_index pages place) ≡ bytes)
     (others : IsTrue mid.disk.honest → (p : ℕ) → (p ≡ slice_index pages place → ⊥) → reads new p ≡ reads mid p)
     (marks : new.marks ≡ mid.marks) (gone : new.closed ≡ false) (works : Works mid new) where
-
   is_here : IsTrue old.disk.honest → reads new (slice_index pages place) ≡ bytes
   is_here honest = written (still_honest put.works.goes_on honest)
 

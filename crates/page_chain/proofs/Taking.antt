@@ -1,10 +1,10 @@
 -- Pages are taken, one by one.
-use Rattle.std.proofs.Common.{◌≡◌, inl, inr, ◌⊎◌, ℕ, zero, suc, ◌+◌, ◌*◌, ◌<◌, ◌≤◌, List, [], ◌∷◌, ◌++◌, Bool, true, false, length, Contains, refl, sym, ◌∙◌, ap, subst, arith}
+use Rattle.std.proofs.Common.{◌≡◌, inl, inr, ◌⊎◌, ℕ, zero, suc, ◌+◌, ◌<◌, ◌≤◌, List, [], ◌∷◌, ◌++◌, false, length, Contains, refl, sym, ◌∙◌, ap, subst, arith}
 use Rattle.std.proofs.lemmas.List.{length-append}
 use Rattle.std.proofs.lemmas.List.Elements.{Contains-push_cases}
 use Rattle.std.proofs.lemmas.Bool.{cases_eq}
 use Rattle.page_store.specs.declared.marks.Mark.{Mark}
-use Rattle.page_store.specs.declared.marks.Mark.TheVariants.{Committed, Waiting, Fresh, Released, Free}
+use Rattle.page_store.specs.declared.marks.Mark.TheVariants.{Fresh, Free}
 use Rattle.page_store.specs.declared.fault.PageFault.{PageFault}
 use Rattle.page_store.specs.declared.fault.PageFault.TheVariants.{Disk, NotATable, Damaged, TableFull, OutOfMemory, Closed}
 use Rattle.page_store.specs.Causes.{NewCause}
@@ -12,7 +12,7 @@ use Rattle.page_store.specs.Marks.{mark, free_one, free_count, IsMarked}
 use Rattle.page_store.specs.Store.{Store, Works, IsRemarked}
 use Rattle.page_store.specs.Works.{works_refl, works_then}
 use Rattle.page_chain.specs.Causes.{TakeCause}
-use Rattle.page_chain.specs.Links.{IsOnce, HandsOut, AreTaken}
+use Rattle.page_chain.specs.Links.{HandsOut, AreTaken}
 use Rattle.page_chain.proofs.Linking.{once_more, none_once, none_contained, contains_before, contains_last}
 
 -- marks that agree are as many free ones
@@ -62,7 +62,6 @@ none_taken store pages no_page = subst (λ (ps : List ℕ). IsTaken store store 
 -- one page more
 module _ (old mid new : Store) (count here : ℕ) (pages : List ℕ) (taken : IsTaken old mid count pages) (marks : IsMarked here Fresh mid.marks new.marks) (free : mark mid.marks here ≡ Free)
     (is_page : 1 ≤ here) (within : here < length mid.marks) (gone : new.closed ≡ false) (others : IsRemarked mid new) (works : Works mid new) where
-
   was_free : mark old.marks here ≡ Free
   was_free = elim (taken.out.others here) [
     | inl same ↦ sym same ∙ free

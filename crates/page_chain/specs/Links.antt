@@ -1,6 +1,5 @@
 -- What one step of reading or writing a chain does.
 use Rattle.std.specs.Prelude.{◌≡◌, ◌⊎◌, ℕ, ◌+◌, ◌<◌, ◌≤◌, List, [], ◌∷◌, ◌++◌, length, drop, slice_get, Contains, Some, false, IsTrue}
-use Rattle.sector_disk.specs.Disk.{Disk}
 use Rattle.page_store.specs.declared.marks.Mark.TheVariants.{Committed, Waiting, Fresh, Free}
 use Rattle.page_store.specs.Marks.{mark, IsMarked}
 use Rattle.page_store.specs.Store.{Store, reads, Works}

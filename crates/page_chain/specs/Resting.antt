@@ -1,7 +1,11 @@
 -- What holds of every chain.
-use Rattle.std.specs.Prelude.{◌≡◌, ℕ, suc, ◌+◌, ◌*◌, ◌<◌, ◌≤◌, List, [], ◌∷◌, ◌++◌, length, take, drop, Contains}
+use Rattle.std.specs.Prelude.{◌≡◌, ℕ, suc, ◌≤◌, List, [], ◌∷◌, ◌++◌, length, take, drop, Contains, IsTrue}
 use Rattle.std.proofs.Common.{refl, sym, ◌∙◌, ap, subst, arith}
-use Rattle.page_store.specs.Spelling.{SpelledBy}
+use Rattle.page_store.specs.declared.marks.Mark.{Mark}
+use Rattle.page_store.specs.declared.marks.Mark.TheVariants.{Committed, Fresh}
+use Rattle.page_store.specs.Marks.{mark, needs, keeps}
+use Rattle.page_store.specs.Spelling.{SpelledBy, Stands, IsPrepared}
+use Rattle.page_store.specs.Store.{Store, reads}
 use Rattle.page_chain.specs.Chain.{next_in, LeadsThrough, payloads, IsChain}
 
 -- the first of some pages is one of them, and so are the others
@@ -65,4 +69,20 @@ a_chain_fits_more capacity more first pages content bytes greater chain = record
   enough = chain.enough;
   no_more = chain.no_more;
   is = chain.is;
+}
+
+-- a chain on pages that were handed out is prepared for the next commit
+pub a_chain_is_prepared : (capacity first : ℕ) (pages content : List ℕ) (store : Store) → IsChain capacity first pages content (reads store)
+    → ((p : ℕ) → Contains pages p → mark store.marks p ≡ Fresh) → IsPrepared (λ p. Contains pages p) (IsChain capacity first pages content) store
+a_chain_is_prepared capacity first pages content store chain fresh = record {
+  spelled = a_chain_rests_on_its_pages capacity first pages content (reads store) chain;
+  kept = λ p here. ((chain.within p here).0, subst (λ (m : Mark). IsTrue (keeps m)) (sym (fresh p here)) refl);
+}
+
+-- a chain on pages that are marked stands
+pub a_chain_stands : (capacity first : ℕ) (pages content : List ℕ) (store : Store) → IsChain capacity first pages content (reads store)
+    → ((p : ℕ) → Contains pages p → mark store.marks p ≡ Committed) → Stands (λ p. Contains pages p) (IsChain capacity first pages content) store
+a_chain_stands capacity first pages content store chain marked = record {
+  spelled = a_chain_rests_on_its_pages capacity first pages content (reads store) chain;
+  needed = λ p here. ((chain.within p here).0, subst (λ (m : Mark). IsTrue (needs m)) (sym (marked p here)) refl);
 }

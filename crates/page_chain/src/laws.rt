@@ -1,6 +1,9 @@
-//! What holds of every chain: each function's contract is a law.
+//! What holds of every chain: each is a law, which proofs cite by a call, or by the lemma of the same name in specs/.
 ghost use Rattle.std.specs.Prelude.{◌≡◌, ◌≤◌, ℕ, List, length, Contains};
-ghost use Rattle.page_store.specs.Spelling.{SpelledBy};
+ghost use Rattle.page_store.specs.declared.marks.Mark.TheVariants.{Committed, Fresh};
+ghost use Rattle.page_store.specs.Marks.{mark};
+ghost use Rattle.page_store.specs.Spelling.{SpelledBy, Stands, IsPrepared};
+ghost use Rattle.page_store.specs.Store.{Store, reads};
 ghost use Rattle.page_chain.specs.Chain.{IsChain};
 
 /// A chain rests on its own pages alone.
@@ -20,4 +23,18 @@ pub fn a_chain_has_one_content()
 pub fn a_chain_fits_more()
     ensures { (capacity more first : ℕ) (pages content : List ℕ) (bytes : ℕ → List ℕ) → capacity ≤ more
         → IsChain capacity first pages content bytes → IsChain more first pages content bytes }
+{}
+
+/// A chain on pages that were handed out is prepared for the next commit.
+pub fn a_chain_is_prepared()
+    ensures { (capacity first : ℕ) (pages content : List ℕ) (store : Store) → IsChain capacity first pages content (reads store)
+        → ((p : ℕ) → Contains pages p → mark store.marks p ≡ Fresh)
+        → IsPrepared (λ p. Contains pages p) (IsChain capacity first pages content) store }
+{}
+
+/// A chain on pages that are marked is one that the committed root may need.
+pub fn a_chain_stands()
+    ensures { (capacity first : ℕ) (pages content : List ℕ) (store : Store) → IsChain capacity first pages content (reads store)
+        → ((p : ℕ) → Contains pages p → mark store.marks p ≡ Committed)
+        → Stands (λ p. Contains pages p) (IsChain capacity first pages content) store }
 {}

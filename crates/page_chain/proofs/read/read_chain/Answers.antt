@@ -1,4 +1,4 @@
-use Rattle.std.proofs.Common.{◌≡◌, ◌∙◌, List, length, take, ap, rules, arith}
+use Rattle.std.proofs.Common.{◌∙◌, List, length, ap, rules, arith}
 use Rattle.std.proofs.lemmas.List.{length-take-le}
 use Rattle.page_chain.proofs.Passing.{passed_on}
 use Rattle.page_chain.proofs.Reading.{none_read, read_more, only_marks_then, read_chain, chain_ends, link_cause}
@@ -13,8 +13,19 @@ loop-preserved g c = read_more _ _ _ _ _ _ _ _ _ _ _ c.loop.invariant c.in_ok-ne
 pub returns-in_err-next : goal.returns-in_err-next
 returns-in_err-next g c =
     let only = only_marks_then c.loop.invariant.only c.read_link.ensures.marks in
-    record { chain = search rules; long = search rules; marked = search rules; waited = search rules; kept = search rules; others = only.others; shown = only.shown; closed = only.closed; works = only.works; cause = passed_on _ c.from_residual.result _ c.from_residual.ensures
-      (link_cause (g.P.Pages.store c.read_link.new.store) c.args.size _ c.loop.invariant (omega (arith, c.loop-test.true, c.pages_for-end.ensures.no_more)) c.in_err-next.ensures.cause); }
+    record {
+      chain = search rules;
+      long = search rules;
+      marked = search rules;
+      waited = search rules;
+      kept = search rules;
+      others = only.others;
+      shown = only.shown;
+      closed = only.closed;
+      works = only.works;
+      cause = passed_on _ c.from_residual.result _ c.from_residual.ensures
+          (link_cause (g.P.Pages.store c.read_link.new.store) c.args.size _ c.loop.invariant (omega (arith, c.loop-test.true, c.pages_for-end.ensures.no_more)) c.in_err-next.ensures.cause);
+    }
 
 pub returns-then-next-ne0 : goal.returns-then-next-ne0
 returns-then-next-ne0 g c =
