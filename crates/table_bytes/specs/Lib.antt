@@ -4,3 +4,5 @@ pub mod Numbers
 pub mod Items
 pub mod Laws
 pub mod Parts
+pub mod Reading
+pub mod Writing

@@ -4,8 +4,13 @@
 pub mod laws;
 mod fault;
 mod read;
+mod read_cells;
+mod read_edges;
+mod record;
 mod sizes;
 mod write;
+mod write_cells;
+mod write_edges;
 
 pub use fault::BytesFault;
 pub use read::read_table;

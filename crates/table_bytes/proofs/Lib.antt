@@ -1,0 +1,6 @@
+mod CellLemmas
+mod EdgeLemmas
+mod OrderLemmas
+mod Splits
+mod TableLemmas
+mod WritingLemmas

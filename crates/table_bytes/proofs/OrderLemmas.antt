@@ -1,0 +1,28 @@
+-- What reading a settled number adds.
+use Rattle.std.proofs.Common.{◌≡◌, ◌∙◌, sym, ap, subst, refl, ℕ, ◌+◌, List, [], ◌∷◌, ◌++◌, length, arith, length-append}
+use Rattle.retrograde.specs.Stored.{Stored}
+use Rattle.retrograde.specs.Changes.{with_settled}
+use Rattle.table_bytes.specs.Bytes.{IsNumber}
+use Rattle.table_bytes.specs.Spelled.{AreSpelled}
+use Rattle.table_bytes.specs.Items.{spelled_more}
+use Rattle.table_bytes.specs.Reading.{ChangesOrder}
+
+-- the settled numbers that were read so far
+pub record OrderSoFar (bytes : List ℕ) (count : ℕ) (first stored : Stored (List ℕ)) : Type 0 where
+  pub spelled : AreSpelled IsNumber bytes stored.order
+  pub counted : length stored.order ≡ count
+  pub others : ChangesOrder first stored
+
+pub one_more_number : (bytes one : List ℕ) (count n : ℕ) (first old new : Stored (List ℕ)) → OrderSoFar bytes count first old → IsNumber one n → new ≡ with_settled old n
+    → OrderSoFar (bytes ++ one) (count + 1) first new
+one_more_number bytes one count n first old new so_far of added =
+    let order : new.order ≡ old.order ++ n ∷ [] = ap (λ (s : Stored (List ℕ)). s.order) added in
+    record {
+      spelled = subst (λ (ns : List ℕ). AreSpelled IsNumber (bytes ++ one) ns) (sym order) (spelled_more IsNumber bytes old.order one n so_far.spelled of);
+      counted = omega (arith, ap length order, length-append old.order (n ∷ []), so_far.counted);
+      others = record {
+        positions = ap (λ (s : Stored (List ℕ)). s.positions) added ∙ so_far.others.positions;
+        records = ap (λ (s : Stored (List ℕ)). s.records) added ∙ so_far.others.records;
+        edges = ap (λ (s : Stored (List ℕ)). s.has_edge) added ∙ so_far.others.edges;
+      };
+    }
