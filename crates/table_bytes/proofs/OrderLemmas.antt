@@ -5,16 +5,11 @@ use Rattle.retrograde.specs.Changes.{with_settled}
 use Rattle.table_bytes.specs.Bytes.{IsNumber}
 use Rattle.table_bytes.specs.Spelled.{AreSpelled}
 use Rattle.table_bytes.specs.Items.{spelled_more}
-use Rattle.table_bytes.specs.Reading.{ChangesOrder}
+use Rattle.table_bytes.specs.Reading.{AddsOrder}
 
--- the settled numbers that were read so far
-pub record OrderSoFar (bytes : List ℕ) (count : ℕ) (first stored : Stored (List ℕ)) : Type 0 where
-  pub spelled : AreSpelled IsNumber bytes stored.order
-  pub counted : length stored.order ≡ count
-  pub others : ChangesOrder first stored
-
-pub one_more_number : (bytes one : List ℕ) (count n : ℕ) (first old new : Stored (List ℕ)) → OrderSoFar bytes count first old → IsNumber one n → new ≡ with_settled old n
-    → OrderSoFar (bytes ++ one) (count + 1) first new
+-- one more settled number
+pub one_more_number : (bytes one : List ℕ) (count n : ℕ) (first old new : Stored (List ℕ)) → AddsOrder bytes count first old → IsNumber one n → new ≡ with_settled old n
+    → AddsOrder (bytes ++ one) (count + 1) first new
 one_more_number bytes one count n first old new so_far of added =
     let order : new.order ≡ old.order ++ n ∷ [] = ap (λ (s : Stored (List ℕ)). s.order) added in
     record {

@@ -7,7 +7,7 @@ use Rattle.table_bytes.specs.Spelled.{AreSpelled, Spells}
 use Rattle.table_bytes.specs.Items.{same_fronts}
 use Rattle.table_bytes.specs.Laws.{PartLengths, part_lengths, long_pairs}
 use Rattle.table_bytes.specs.Parts.{fixed_cells}
-use Rattle.table_bytes.specs.Reading.{AreCells, AreEdges, KeepsRest, ChangesEdges, ChangesOrder}
+use Rattle.table_bytes.specs.Reading.{AreCells, AreEdges, KeepsRest, ChangesEdges, AddsOrder}
 use Rattle.table_bytes.specs.declared.sizes.Sizes.{Sizes}
 use Rattle.table_bytes.proofs.Splits.{both_parts}
 
@@ -72,10 +72,10 @@ module _ (sizes : Sizes) (bytes front cells edges order text : List ℕ) (stored
 -- what was read is spelled
 pub spells : (sizes : Sizes) (bytes front cells edges order : List ℕ) (celled edged new : Stored (List ℕ)) → IsSplit sizes bytes front cells edges order
     → AreCells sizes.packed cells celled → length celled.positions ≡ sizes.counts.known → ChangesEdges celled edged → AreEdges edges sizes.edges edged
-    → ChangesOrder edged new → AreSpelled IsNumber order new.order → length new.order ≡ sizes.counts.settled → Spells sizes bytes front new
-spells sizes bytes front cells edges order celled edged new split are_cells known kept are_edges last order_is settled =
-    let positions : celled.positions ≡ new.positions = sym (last.positions ∙ kept.positions) in
-    let records : celled.records ≡ new.records = sym (last.records ∙ kept.records) in
+    → AddsOrder order sizes.counts.settled edged new → Spells sizes bytes front new
+spells sizes bytes front cells edges order celled edged new split are_cells known kept are_edges last =
+    let positions : celled.positions ≡ new.positions = sym (last.others.positions ∙ kept.positions) in
+    let records : celled.records ≡ new.records = sym (last.others.records ∙ kept.records) in
     let pairs : zip celled.positions celled.records ≡ zip new.positions new.records =
     ap (λ (ps : List (List ℕ)). zip ps celled.records) positions ∙ ap (λ (rs : List Record). zip new.positions rs) records in
     record {
@@ -91,12 +91,12 @@ spells sizes bytes front cells edges order celled edged new split are_cells know
       edge_count = are_edges.counted;
       ascending = are_edges.ascending;
       exactly = λ i p. (
-        λ there. ap (λ (e : ℕ → ℕ → _). e i p) last.edges ∙ (are_edges.exactly i p).0 there,
-        λ there. (are_edges.exactly i p).1 (ap (λ (e : ℕ → ℕ → _). e i p) (sym last.edges) ∙ there),
+        λ there. ap (λ (e : ℕ → ℕ → _). e i p) last.others.edges ∙ (are_edges.exactly i p).0 there,
+        λ there. (are_edges.exactly i p).1 (ap (λ (e : ℕ → ℕ → _). e i p) (sym last.others.edges) ∙ there),
       );
       edges_are = are_edges.spelled;
-      settled = settled;
-      order_is = order_is;
+      settled = last.counted;
+      order_is = last.spelled;
     }
 
 -- the first item of some

@@ -5,11 +5,11 @@ use Rattle.std.specs.declared.cmp.Ordering.TheVariants.{Less}
 use Rattle.std.proofs.lemmas.Bool.{cases_lt}
 use Rattle.std.proofs.lemmas.List.{append-nil}
 use Rattle.retrograde.specs.declared.records.Record.{Record}
-use Rattle.retrograde.specs.Stored.{Stored}
+use Rattle.retrograde.specs.Stored.{Stored, HasRecord}
 use Rattle.retrograde.specs.Edges.{IsAfter, IsNextEdge, HasNoMoreEdges}
 use Rattle.retrograde.proofs.Adding.{none_in_empty}
 use Rattle.table.specs.Memory.{edge_cmp}
-use Rattle.table_bytes.specs.Bytes.{IsCell, IsEdge}
+use Rattle.table_bytes.specs.Bytes.{IsRecord, IsCell, IsEdge}
 use Rattle.table_bytes.specs.Spelled.{AreSpelled}
 use Rattle.table_bytes.specs.Items.{spelled_more}
 use Rattle.table_bytes.specs.Writing.{Writes, WritesOne, WritesCell, WritesEdges, IsBefore}
@@ -59,6 +59,27 @@ writes_cell packed n stored front old new long so_far one =
     let written : WritesOne (IsCell packed) one.cell old new = subst (λ (k : ℕ). WritesOne (IsCell k) one.cell old new) here one.written in
     writes_next (IsCell packed) (zip stored.positions stored.records) n one.cell front old new so_far
     (pair_at stored.positions stored.records n one.cell.0 one.cell.1 one.position one.recorded) written
+
+-- a position, and behind it its record
+pub cell_written : (stored after : Stored (List ℕ)) (n : ℕ) (x : List ℕ) (r : Record) (old mid new : List ℕ) → slice_get stored.positions n ≡ Some x → after ≡ stored → HasRecord after n r
+    → mid ≡ old ++ x → WritesOne IsRecord r mid new → WritesCell stored n old new
+cell_written stored after n x r old mid new position same recorded mid_is one = record {
+  cell = (x, r);
+  position = position;
+  recorded = subst (λ (s : Stored (List ℕ)). HasRecord s n r) same recorded;
+  written = record {
+    behind = x ++ one.behind;
+    is = one.is ∙ ap (λ (b : List ℕ). b ++ one.behind) mid_is ∙ append_assoc old x one.behind;
+    spelled = record { long = refl; behind = one.behind; is = refl; is_record = one.spelled };
+  };
+}
+
+-- as many as there are
+pub take_all : {A : Type 0} (xs : List A) (n : ℕ) → length xs ≤ n → take n xs ≡ xs
+take_all [] zero long = refl
+take_all [] (suc n) long = refl
+take_all (x ∷ xs) zero long = absurd (omega arith)
+take_all {A} (x ∷ xs) (suc n) long = ap (λ (ys : List A). x ∷ ys) (take_all xs n (omega (arith, long)))
 
 -- the least number that the next edge can have behind this one
 abbrev pub bound_of : Option ℕ → ℕ

@@ -60,3 +60,9 @@ pub record ChangesOrder (old new : Stored (List ℕ)) : Type 0 where
   pub positions : new.positions ≡ old.positions
   pub records : new.records ≡ old.records
   pub edges : new.has_edge ≡ old.has_edge
+
+-- these bytes spell the settled order, of so many numbers, and nothing else is another
+pub record AddsOrder (bytes : List ℕ) (count : ℕ) (old new : Stored (List ℕ)) : Type 0 where
+  pub spelled : AreSpelled IsNumber bytes new.order
+  pub counted : length new.order ≡ count
+  pub others : ChangesOrder old new

@@ -3,9 +3,9 @@ ghost use Rattle.std.specs.Prelude.{◌≡◌, ◌+◌, ◌*◌, ◌≤◌, ◌<
 ghost use Rattle.std.specs.List.Sorted.{IsStrictlySortedBy};
 ghost use Rattle.retrograde.specs.Changes.{with_edge};
 ghost use Rattle.table.specs.Memory.{edge_cmp};
-ghost use Rattle.table_bytes.specs.Bytes.{IsEdge, IsNumber};
+ghost use Rattle.table_bytes.specs.Bytes.{IsEdge};
 ghost use Rattle.table_bytes.specs.Spelled.{AreSpelled};
-ghost use Rattle.table_bytes.specs.Reading.{IsPast, AreEdges, ChangesEdges, ChangesOrder, HasNoRest};
+ghost use Rattle.table_bytes.specs.Reading.{IsPast, AreEdges, ChangesEdges, AddsOrder, HasNoRest};
 ghost use Rattle.table_bytes.specs.declared.fault.BytesFault.TheVariants.{Damaged};
 
 use crate::BytesFault;
@@ -83,9 +83,7 @@ pub fn read_order<T: Table>(table: &mut T, settled: u32, bytes: &[u8]) -> Result
     requires long { length bytes.now ≡ 4 * settled }
     requires few { settled ≤ length (T.stored table.old).positions }
     requires none { length (T.stored table.old).order ≡ 0 }
-    ensures order { OnOk result (AreSpelled IsNumber bytes.now (T.stored table.new).order) }
-    ensures settled { OnOk result (length (T.stored table.new).order ≡ settled) }
-    ensures others { OnOk result (ChangesOrder (T.stored table.old) (T.stored table.new)) }
+    ensures order { OnOk result (AddsOrder bytes.now settled (T.stored table.old) (T.stored table.new)) }
     ensures whole { result ≡ Err Damaged → ⊥ }
 {
     let mut rest = bytes;

@@ -1,5 +1,5 @@
 use Rattle.std.proofs.Common.{◌≡◌, ◌-◌, ◌*◌, ◌+◌, ℕ, List, ◌++◌, length}
-use Rattle.table_bytes.proofs.OrderLemmas.{OrderSoFar}
+use Rattle.table_bytes.specs.Reading.{AddsOrder}
 use Rattle.table_bytes.proofs.read_edges.read_order.Given as goal
 
 abbrev pub invariant-loop-place : goal.invariant-loop-place
@@ -8,5 +8,5 @@ invariant-loop-place g l = record {
   long : length l.rest ≡ 4 * (l.settled - l._place);
   done : List ℕ;
   split : l.bytes ≡ done ++ l.rest;
-  so_far : OrderSoFar done l._place (g.T.Table.stored l.fn.table) (g.T.Table.stored l.table);
+  so_far : AddsOrder done l._place (g.T.Table.stored l.fn.table) (g.T.Table.stored l.table);
 }
