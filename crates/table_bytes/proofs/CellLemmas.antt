@@ -6,7 +6,6 @@ use Rattle.std.proofs.lemmas.Option.{slice_get_within}
 use Rattle.retrograde.specs.declared.records.Record.{Record}
 use Rattle.retrograde.specs.Stored.{Stored, IsTable, loaded}
 use Rattle.retrograde.specs.Changes.{with_position, with_record, fresh_record}
-use Rattle.retrograde.proofs.Adding.{push_at}
 use Rattle.table_bytes.specs.Bytes.{IsCell, IsRecord}
 use Rattle.table_bytes.specs.Spelled.{AreSpelled}
 use Rattle.table_bytes.specs.Items.{spelled_more, spelled_next}

@@ -5,7 +5,6 @@ use Rattle.std.proofs.lemmas.List.Sums.{sum_by-cons, count_by-le-length}
 use Rattle.retrograde.specs.declared.records.State.{State}
 use Rattle.retrograde.specs.declared.records.State.TheVariants.{Known, Expanded, Settled, Processed}
 use Rattle.retrograde.specs.declared.records.Record.{Record}
-use Rattle.retrograde.specs.declared.records.Counts.{Counts}
 use Rattle.retrograde.specs.Stored.{Stored, IsTable, is_expanded, is_settled, is_processed, expanded_count, settled_count, processed_count}
 use Rattle.table_bytes.specs.Numbers.{AreWithinLimits}
 use Rattle.table_bytes.specs.declared.sizes.Sizes.{Sizes}

@@ -1,13 +1,13 @@
 -- The parts of the bytes of a table.
-use Rattle.std.proofs.Common.{◌≡◌, ◌∙◌, sym, ap, subst, refl, ℕ, ◌+◌, ◌*◌, ◌≤◌, ◌<◌, ◌↔◌, true, List, [], ◌∷◌, ◌++◌, length, take, drop, zip, Contains, arith, append_assoc, length-append}
+use Rattle.std.proofs.Common.{◌≡◌, ◌∙◌, sym, ap, subst, ℕ, ◌+◌, ◌*◌, ◌≤◌, ◌<◌, List, [], ◌∷◌, ◌++◌, length, take, drop, zip, Contains, arith, append_assoc, length-append}
 use Rattle.retrograde.specs.declared.records.Record.{Record}
 use Rattle.retrograde.specs.Stored.{Stored, IsTable}
-use Rattle.table_bytes.specs.Bytes.{IsCell, IsEdge, IsNumber}
+use Rattle.table_bytes.specs.Bytes.{IsCell, IsEdge}
 use Rattle.table_bytes.specs.Spelled.{AreSpelled, Spells}
 use Rattle.table_bytes.specs.Items.{same_fronts}
 use Rattle.table_bytes.specs.Laws.{PartLengths, part_lengths, long_pairs}
 use Rattle.table_bytes.specs.Parts.{fixed_cells}
-use Rattle.table_bytes.specs.Reading.{AreCells, AreEdges, KeepsRest, ChangesEdges, AddsOrder}
+use Rattle.table_bytes.specs.Reading.{AreCells, AreEdges, ChangesEdges, AddsOrder}
 use Rattle.table_bytes.specs.declared.sizes.Sizes.{Sizes}
 use Rattle.table_bytes.proofs.Splits.{both_parts}
 

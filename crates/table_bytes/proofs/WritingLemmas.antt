@@ -1,5 +1,5 @@
 -- What writing a part of a table puts behind bytes.
-use Rattle.std.proofs.Common.{◌≡◌, ◌∙◌, sym, ap, subst, refl, ℕ, zero, suc, ◌+◌, ◌≤◌, ◌<◌, ◌⊎◌, inl, inr, ⊎_elim, true, Option, None, Some, List, [], ◌∷◌, ◌++◌, length, take, slice_get, zip, Contains, arith, append_assoc, length-append}
+use Rattle.std.proofs.Common.{◌≡◌, ◌∙◌, sym, ap, subst, refl, ℕ, zero, suc, ◌+◌, ◌≤◌, ◌<◌, inl, inr, ⊎_elim, true, Option, None, Some, List, [], ◌∷◌, ◌++◌, length, take, slice_get, zip, Contains, arith, append_assoc, length-append}
 use Rattle.std.specs.List.Sorted.{IsStrictlySortedBy}
 use Rattle.std.specs.declared.cmp.Ordering.TheVariants.{Less}
 use Rattle.std.proofs.lemmas.Bool.{cases_lt}
@@ -10,7 +10,6 @@ use Rattle.retrograde.specs.Edges.{IsAfter, IsNextEdge, HasNoMoreEdges}
 use Rattle.retrograde.proofs.Adding.{none_in_empty}
 use Rattle.table.specs.Memory.{edge_cmp}
 use Rattle.table_bytes.specs.Bytes.{IsRecord, IsCell, IsEdge}
-use Rattle.table_bytes.specs.Spelled.{AreSpelled}
 use Rattle.table_bytes.specs.Items.{spelled_more}
 use Rattle.table_bytes.specs.Writing.{Writes, WritesOne, WritesCell, WritesEdges, IsBefore}
 use Rattle.table_bytes.proofs.EdgeLemmas.{ComesFirst, is_less, sorted_push, all_contained, in_front, front_or_last, at_seam}

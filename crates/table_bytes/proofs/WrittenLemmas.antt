@@ -1,5 +1,5 @@
 -- What was written is spelled.
-use Rattle.std.proofs.Common.{◌≡◌, ◌∙◌, sym, ap, subst, refl, inl, ℕ, ◌+◌, ◌-◌, ◌*◌, ◌/◌, ◌≤◌, List, ◌++◌, length, zip, arith, length-append}
+use Rattle.std.proofs.Common.{◌≡◌, ◌∙◌, ap, subst, inl, ℕ, ◌+◌, ◌-◌, ◌*◌, ◌/◌, List, ◌++◌, length, zip, arith, length-append}
 use Rattle.retrograde.specs.Stored.{Stored, IsTable}
 use Rattle.table_bytes.specs.Bytes.{IsCell, IsEdge, IsNumber}
 use Rattle.table_bytes.specs.Spelled.{Spells}
@@ -34,3 +34,8 @@ spells_written sizes text start celled edged all stored table start_is text_long
       settled = settled;
       order_is = order.spelled;
     }
+
+-- edges are written of the table as it was
+pub edges_of : (a b : Stored (List ℕ)) (m n : ℕ) (old new : List ℕ) → a ≡ b → m ≡ n → WritesEdges a m 0 old new → WritesEdges b n 0 old new
+edges_of a b m n old new same count edges =
+    subst (λ (k : ℕ). WritesEdges b k 0 old new) count (subst (λ (s : Stored (List ℕ)). WritesEdges s m 0 old new) same edges)

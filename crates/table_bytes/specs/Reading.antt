@@ -1,5 +1,5 @@
 -- What reading a part of the bytes adds to a table.
-use Rattle.std.specs.Prelude.{◌≡◌, ◌↔◌, ℕ, true, Option, None, Some, List, [], ◌∷◌, ◌++◌, length, zip, Contains}
+use Rattle.std.specs.Prelude.{◌≡◌, ◌↔◌, ℕ, true, Option, None, Some, List, [], length, zip, Contains}
 use Rattle.std.specs.List.Sorted.{IsStrictlySortedBy}
 use Rattle.std.specs.declared.cmp.Ordering.TheVariants.{Less}
 use Rattle.retrograde.specs.declared.records.Record.{Record}

@@ -1,4 +1,4 @@
-use Rattle.std.proofs.Common.{◌++◌, ◌∙◌, sym, subst, List, ℕ, arith, rules}
+use Rattle.std.proofs.Common.{◌++◌, subst, List, ℕ, arith, rules}
 use Rattle.table_bytes.specs.Reading.{AreCells}
 use Rattle.table_bytes.proofs.CellLemmas.{cells_more, keeps_rest, rest_then, one_longer, cell_refused, left_after}
 use Rattle.table_bytes.proofs.Splits.{split_on, split_between}

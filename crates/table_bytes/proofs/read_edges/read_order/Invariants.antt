@@ -1,4 +1,4 @@
-use Rattle.std.proofs.Common.{◌≡◌, ◌-◌, ◌*◌, ◌+◌, ℕ, List, ◌++◌, length}
+use Rattle.std.proofs.Common.{◌≡◌, ◌-◌, ◌*◌, ℕ, List, ◌++◌, length}
 use Rattle.table_bytes.specs.Reading.{AddsOrder}
 use Rattle.table_bytes.proofs.read_edges.read_order.Given as goal
 

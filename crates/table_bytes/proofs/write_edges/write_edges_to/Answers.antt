@@ -1,4 +1,4 @@
-use Rattle.std.proofs.Common.{◌≡◌, ◌<◌, ◌∙◌, ap, subst, List, ℕ, arith}
+use Rattle.std.proofs.Common.{◌<◌, ◌∙◌, ap, subst, List, ℕ, arith}
 use Rattle.retrograde.specs.declared.records.Counts.{Counts}
 use Rattle.retrograde.specs.Stored.{Stored}
 use Rattle.retrograde.specs.Edges.{IsNextEdge, HasNoMoreEdges}
