@@ -59,8 +59,8 @@ module _ (packed : ℕ) (one : List ℕ) (old new : Stored (List ℕ)) (adds : A
       record {
         paired = omega (arith, ap length records, length-append old.records (adds.cell.1 ∷ []), one_longer, cells.paired);
         spelled =
-          subst (λ (ps : List (List ℕ × Record)). AreSpelled (IsCell packed) (bytes ++ one) ps) (sym pairs)
-          (spelled_more (IsCell packed) bytes (zip old.positions old.records) one adds.cell cells.spelled adds.is_cell);
+            subst (λ (ps : List (List ℕ × Record)). AreSpelled (IsCell packed) (bytes ++ one) ps) (sym pairs)
+            (spelled_more (IsCell packed) bytes (zip old.positions old.records) one adds.cell cells.spelled adds.is_cell);
       }
 
 -- the rest is kept by one call after another
@@ -125,12 +125,18 @@ pub first_cell : (packed : ℕ) (bytes : List ℕ) (r : Record) (old new : Store
 first_cell packed bytes r old new long of old_is new_is = subst (λ (s : Stored (List ℕ)). IsFirst packed bytes s) (sym (new_is ∙ ap (λ (s : Stored (List ℕ)). with_record s 0 r) old_is)) (record {
   cells = record {
     paired = refl;
-    spelled = (bytes, [], sym (append-nil bytes), record {
-      long = length-take-le packed bytes long;
-      behind = drop packed bytes;
-      is = sym (take-append-drop packed bytes);
-      is_record = of;
-    }, refl);
+    spelled = (
+      bytes,
+      [],
+      sym (append-nil bytes),
+      record {
+        long = length-take-le packed bytes long;
+        behind = drop packed bytes;
+        is = sym (take-append-drop packed bytes);
+        is_record = of;
+      },
+      refl,
+    );
   };
   rest = record { edges = λ i p is. absurd (cc); order = refl };
   one = refl;

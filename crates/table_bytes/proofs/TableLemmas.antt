@@ -28,8 +28,8 @@ split_table sizes bytes front rest cells other edges order k k_is front_is rest_
     let three : other ≡ edges ++ order = both_parts other edges order (8 * sizes.edges) edges_is order_is in
     record {
       is =
-        one ∙ ap (λ (b : List ℕ). front ++ b) two ∙ sym (append_assoc front cells other)
-        ∙ ap (λ (b : List ℕ). (front ++ cells) ++ b) three ∙ sym (append_assoc (front ++ cells) edges order);
+          one ∙ ap (λ (b : List ℕ). front ++ b) two ∙ sym (append_assoc front cells other)
+          ∙ ap (λ (b : List ℕ). (front ++ cells) ++ b) three ∙ sym (append_assoc (front ++ cells) edges order);
       front_long = front_long;
       cells_long = cells_long ∙ k_is;
       edges_long = edges_long;

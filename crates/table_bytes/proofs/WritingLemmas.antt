@@ -109,15 +109,15 @@ module _ (stored : Stored (List ℕ)) (s : ℕ) (after : Option ℕ) (front old 
     edges = so_far.edges ++ (s, p) ∷ [];
     written = writes_more IsEdge so_far.edges (s, p) front old new so_far.written one;
     ascending =
-      sorted_push edge_cmp so_far.edges (s, p) so_far.ascending
-      (all_contained (λ x. edge_cmp x (s, p) ≡ Less) so_far.edges (λ x is. is_less x (s, p) (first x (so_far.there x.0 x.1 is).1)));
+        sorted_push edge_cmp so_far.edges (s, p) so_far.ascending
+        (all_contained (λ x. edge_cmp x (s, p) ≡ Less) so_far.edges (λ x is. is_less x (s, p) (first x (so_far.there x.0 x.1 is).1)));
     there = λ i q is. ⊎_elim (λ before. ((so_far.there i q before).0, wider i q (so_far.there i q before).1)) (λ last. (at i q last, inr (sym (ap (λ (e : ℕ × ℕ). e.0) last), below i q last))) (front_or_last so_far.edges (s, p) (i, q) is);
     all = λ i q is before. ⊎_elim
         (λ less. in_front so_far.edges ((s, p) ∷ []) (i, q) (so_far.all i q is (inl less)))
         (λ same. ⊎_elim
-            (λ less. in_front so_far.edges ((s, p) ∷ []) (i, q) (so_far.all i q is (inr (same.0, less))))
-            (λ more. last i q same.0 (least i q same is more))
-            (cases_lt q (bound_of after)))
+        (λ less. in_front so_far.edges ((s, p) ∷ []) (i, q) (so_far.all i q is (inr (same.0, less))))
+        (λ more. last i q same.0 (least i q same is more))
+        (cases_lt q (bound_of after)))
         before;
   }
     where

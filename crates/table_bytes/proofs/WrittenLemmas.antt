@@ -20,9 +20,9 @@ spells_written sizes text start celled edged all stored table start_is text_long
       edge_bytes = edges.written.behind;
       order = order.behind;
       is =
-        order.is
-        ∙ ap (λ (b : List ℕ). b ++ order.behind)
-        (edges.written.is ∙ ap (λ (b : List ℕ). b ++ edges.written.behind) (cells.is ∙ ap (λ (b : List ℕ). b ++ cells.behind) start_is));
+          order.is
+          ∙ ap (λ (b : List ℕ). b ++ order.behind)
+          (edges.written.is ∙ ap (λ (b : List ℕ). b ++ edges.written.behind) (cells.is ∙ ap (λ (b : List ℕ). b ++ cells.behind) start_is));
       text_long = text_long;
       known = known;
       recorded = table.records ∙ known;

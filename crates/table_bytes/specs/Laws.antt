@@ -94,9 +94,11 @@ bytes_spell_one_table sizes bytes text other one two s t =
     let edges : s.edges ≡ t.edges =
     spelled_same IsEdge 8 fixed_edges t.edge_bytes s.edges t.edges (subst (λ (f : List ℕ). AreSpelled IsEdge f s.edges) edge_bytes s.edges_are) t.edges_are (s.edge_count ∙ sym t.edge_count) in
     let order : one.order ≡ two.order =
-    spelled_same IsNumber 4 fixed_numbers t.order one.order two.order (subst (λ (f : List ℕ). AreSpelled IsNumber f one.order) orders s.order_is) t.order_is (s.settled ∙ sym t.settled) in
-    (texts, same_stored one two positions records
-        (λ i p. same_truths (one.has_edge i p) (two.has_edge i p)
-            (λ is. (t.exactly i p).0 (subst (λ (es : List (ℕ × ℕ)). Contains es (i, p)) edges ((s.exactly i p).1 is)))
-            (λ is. (s.exactly i p).0 (subst (λ (es : List (ℕ × ℕ)). Contains es (i, p)) (sym edges) ((t.exactly i p).1 is))))
-        order)
+    spelled_same IsNumber 4 fixed_numbers t.order one.order two.order (subst (λ (f : List ℕ). AreSpelled IsNumber f one.order) orders s.order_is) t.order_is (s.settled ∙ sym t.settled) in (
+      texts,
+      same_stored one two positions records
+          (λ i p. same_truths (one.has_edge i p) (two.has_edge i p)
+          (λ is. (t.exactly i p).0 (subst (λ (es : List (ℕ × ℕ)). Contains es (i, p)) edges ((s.exactly i p).1 is)))
+          (λ is. (s.exactly i p).0 (subst (λ (es : List (ℕ × ℕ)). Contains es (i, p)) (sym edges) ((t.exactly i p).1 is))))
+          order,
+    )

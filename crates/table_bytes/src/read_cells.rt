@@ -23,11 +23,7 @@ fn position_of(bytes: &[u8]) -> Packed
 }
 
 /// Gives the first position the record of its cell.
-fn read_first_record<T: Table>(
-    table: &mut T,
-    packed: usize,
-    cell: &[u8],
-) -> Result<(), BytesFault>
+fn read_first_record<T: Table>(table: &mut T, packed: usize, cell: &[u8]) -> Result<(), BytesFault>
     requires honest { T.is_honest table.old }
     requires long { length cell.now ≡ packed + 16 }
     requires first { T.stored table.old ≡ loaded (take packed cell.now) }

@@ -49,6 +49,11 @@ pub fn write_table<T: Table>(
     let edges = ((bytes.len() - before) / 8) as u64;
     write_order(&mut bytes, table)?;
     let text = text.len() as u32;
-    let sizes = Sizes { text, packed, counts, edges };
+    let sizes = Sizes {
+        text,
+        packed,
+        counts,
+        edges,
+    };
     Ok(Written { sizes, bytes })
 }

@@ -8,11 +8,7 @@ use crate::record::{push_number, push_record};
 use table::{Table, TableFault};
 
 /// Puts the position and the record of a number behind other bytes.
-fn write_cell<T: Table>(
-    bytes: &mut Vec<u8>,
-    number: u32,
-    table: &mut T,
-) -> Result<(), TableFault>
+fn write_cell<T: Table>(bytes: &mut Vec<u8>, number: u32, table: &mut T) -> Result<(), TableFault>
     requires { number < (T.counted table.old).known }
     ensures cell { T.is_honest table.old → OnOk result (WritesCell (T.stored table.old) number bytes.old.items bytes.new.items) }
     ensures same { T.is_honest table.old → OnOk result (T.stored table.new ≡ T.stored table.old) }

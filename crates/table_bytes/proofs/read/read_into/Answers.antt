@@ -28,6 +28,6 @@ returns-clause-spelled g c =
     (λ added.
     subst (λ (front : List ℕ). Spells c.args.sizes.now c.args.bytes.now front (g.T.Table.stored c.read_order.new.table)) c.split_at.ensures.front
     (spells c.args.sizes.now c.args.bytes.now c.split_at.result.0.now c.split_at-2.result.0.now c.split_at-3.result.0.now c.split_at-3.result.1.now
-        (g.T.Table.stored c.read_cells.new.table) (g.T.Table.stored c.read_edges.new.table) (g.T.Table.stored c.read_order.new.table)
-        split c.in_ok-read_cells.ensures.cells c.in_ok-read_cells.ensures.known c.in_ok-read_edges.ensures.others c.in_ok-read_edges.ensures.edges added))
+    (g.T.Table.stored c.read_cells.new.table) (g.T.Table.stored c.read_edges.new.table) (g.T.Table.stored c.read_order.new.table)
+    split c.in_ok-read_cells.ensures.cells c.in_ok-read_cells.ensures.known c.in_ok-read_edges.ensures.others c.in_ok-read_edges.ensures.edges added))
     c.read_order.ensures.order

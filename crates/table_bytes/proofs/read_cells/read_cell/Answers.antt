@@ -14,12 +14,12 @@ returns-clause-added g c =
         long = ap length c.position_of-position.ensures ∙ c.split_at.ensures.front_len;
         behind = c.split_at.result.1.now;
         is =
-          both_parts c.args.cell.now c.position_of-position.result.items c.split_at.result.1.now c.args.packed
-          (c.position_of-position.ensures ∙ c.split_at.ensures.front) c.split_at.ensures.back;
+            both_parts c.args.cell.now c.position_of-position.result.items c.split_at.result.1.now c.args.packed
+            (c.position_of-position.ensures ∙ c.split_at.ensures.front) c.split_at.ensures.back;
         is_record = search rules;
       };
       added =
-        cell_added (g.T.Table.stored c.args.table.now) (g.T.Table.stored c.number_of.new.self) (g.T.Table.stored c.add.new.self) (g.T.Table.stored c.set_record.new.self)
-        c.position_of-position.result.items c.in_ok-kept.kept c.in_ok-number.number (c.in_ok-number_of.ensures.same c.requires.honest)
-        (c.in_ok-number.ensures.added honest) (c.in_ok-set_record.ensures.set (c.in_ok-number.ensures.honest.0 honest)) (c.in_ok-number.ensures.number ∙ known);
+          cell_added (g.T.Table.stored c.args.table.now) (g.T.Table.stored c.number_of.new.self) (g.T.Table.stored c.add.new.self) (g.T.Table.stored c.set_record.new.self)
+          c.position_of-position.result.items c.in_ok-kept.kept c.in_ok-number.number (c.in_ok-number_of.ensures.same c.requires.honest)
+          (c.in_ok-number.ensures.added honest) (c.in_ok-set_record.ensures.set (c.in_ok-number.ensures.honest.0 honest)) (c.in_ok-number.ensures.number ∙ known);
     }
