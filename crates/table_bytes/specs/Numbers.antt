@@ -1,5 +1,5 @@
 -- The numbers that go with the bytes of a table.
-use Rattle.std.specs.Prelude.{ℕ, ◌≡◌, ◌+◌, ◌*◌, ◌≤◌, ◌^◌}
+use Rattle.std.specs.Prelude.{ℕ, ◌+◌, ◌*◌, ◌≤◌, ◌^◌}
 use Rattle.table_bytes.specs.declared.sizes.Sizes.{Sizes}
 
 -- how many bytes such a table takes

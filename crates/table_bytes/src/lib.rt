@@ -1,11 +1,18 @@
 //! The bytes of a game's table, as the pages of a file hold them.
 #![tactic(auto)]
 
-pub mod laws;
 mod fault;
+pub mod laws;
 mod read;
+mod read_cells;
+mod read_edges;
+mod record;
 mod sizes;
+#[cfg(test)]
+mod tests;
 mod write;
+mod write_cells;
+mod write_edges;
 
 pub use fault::BytesFault;
 pub use read::read_table;

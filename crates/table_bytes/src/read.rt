@@ -1,13 +1,36 @@
 //! Bytes become a table in memory.
-ghost use Rattle.std.specs.Prelude.{◌≡◌, ◌≢◌, ◌≤◌, ◌^◌, ℕ, List, length, take, IfOk, IfErr, Err};
+ghost use Rattle.std.specs.Prelude.{◌≡◌, ◌+◌, ℕ, List, length, take, drop, IfOk, OnOk, Err};
 ghost use Rattle.retrograde.specs.Stored.{Stored, IsTable};
 ghost use Rattle.table_bytes.specs.Numbers.{AreWithinLimits, bytes_in};
+ghost use Rattle.table_bytes.specs.Reading.{IsFirst};
 ghost use Rattle.table_bytes.specs.Spelled.{Spells};
 ghost use Rattle.table_bytes.specs.declared.fault.BytesFault.TheVariants.{Damaged};
 
+use crate::read_cells::{read_cells, read_first};
+use crate::read_edges::{read_edges, read_order};
+use crate::record::RECORD_BYTES;
 use crate::{BytesFault, Sizes};
 use std::alloc::Global;
 use table::{MemTable, Table};
+
+/// Reads the rest of a table that has the first position and its record.
+fn read_into<T: Table>(table: &mut T, sizes: &Sizes, bytes: &[u8]) -> Result<(), BytesFault>
+    requires honest { T.is_honest table.old }
+    requires limits { AreWithinLimits sizes.now }
+    requires long { length bytes.now ≡ bytes_in sizes.now }
+    requires first { IsFirst sizes.now.packed (take (sizes.now.packed + 16) (drop sizes.now.text bytes.now)) (T.stored table.old) }
+    ensures spelled { OnOk result (Spells sizes.now bytes.now (take sizes.now.text bytes.now) (T.stored table.new)) }
+    ensures damaged { result ≡ Err Damaged → (text : List ℕ) (stored : Stored (List ℕ)) → IsTable stored
+        → Spells sizes.now bytes.now text stored → ⊥ }
+{
+    let packed = sizes.packed as usize;
+    let (_, rest) = bytes.split_at(sizes.text as usize);
+    let (cells, rest) = rest.split_at(sizes.counts.known as usize * (packed + RECORD_BYTES));
+    let (edges, order) = rest.split_at(8 * (sizes.edges as usize));
+    read_cells(table, packed, sizes.counts.known, cells)?;
+    read_edges(table, sizes.edges as usize, edges)?;
+    read_order(table, sizes.counts.settled, order)
+}
 
 /// The table that these bytes spell behind the game's text. `Damaged` only where they spell none whose parts fit
 /// together; not all of that is tested here.
@@ -17,5 +40,10 @@ pub fn read_table(alloc: Global, sizes: &Sizes, bytes: &[u8]) -> Result<MemTable
     ensures spelled { IfOk result (λ table. Spells sizes.now bytes.now (take sizes.now.text bytes.now) (⟦<MemTable as Table>⟧.stored table)) }
     ensures damaged { result ≡ Err Damaged → (text : List ℕ) (stored : Stored (List ℕ)) → IsTable stored → ¬ Spells sizes.now bytes.now text stored }
 {
-    Err(BytesFault::OutOfMemory)
+    let packed = sizes.packed as usize;
+    let (_, rest) = bytes.split_at(sizes.text as usize);
+    let (cell, _) = rest.split_at(packed + RECORD_BYTES);
+    let mut table = read_first(alloc, packed, cell)?;
+    read_into(&mut table, sizes, bytes)?;
+    Ok(table)
 }

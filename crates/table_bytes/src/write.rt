@@ -1,10 +1,13 @@
 //! A table becomes bytes.
-ghost use Rattle.std.specs.Prelude.{◌≡◌, ◌≤◌, ◌<◌, ℕ, List, length, slice_get, Some, IfOk};
+ghost use Rattle.std.specs.Prelude.{◌≡◌, ◌↔◌, ◌≤◌, ◌^◌, ℕ, List, length, slice_get, Some, IfOk, OnOk};
 ghost use Rattle.retrograde.specs.Stored.{IsTable};
 ghost use Rattle.retrograde.specs.Changes.{counts_of};
+ghost use Rattle.table_bytes.specs.Numbers.{AreWithinLimits, bytes_in};
 ghost use Rattle.table_bytes.specs.Spelled.{Spells};
 
 use crate::Sizes;
+use crate::write_cells::{write_cells, write_order};
+use crate::write_edges::write_edges;
 use std::alloc::Global;
 use table::{Table, TableFault};
 
@@ -28,6 +31,29 @@ pub fn write_table<T: Table>(
         → IfOk result (λ written. Spells written.sizes written.bytes.items text.now (T.stored table.old)) }
     ensures counts { T.is_honest table.old → IfOk result (λ written. written.sizes.counts ≡ counts_of (T.stored table.old)) }
     ensures packed { IfOk result (λ written. written.sizes.packed ≡ packed) }
+    ensures long { T.is_honest table.old → IsTable (T.stored table.old)
+        → ((x : List ℕ) (i : ℕ) → slice_get (T.stored table.old).positions i ≡ Some x → length x ≡ packed)
+        → IfOk result (λ written. length written.bytes.items ≡ bytes_in written.sizes) }
+    ensures limits { T.is_honest table.old → IsTable (T.stored table.old) → length (T.stored table.old).positions ≤ 2 ^ 24 → packed ≤ 240
+        → IfOk result (λ written. AreWithinLimits written.sizes) }
+    ensures same { T.is_honest table.old → OnOk result (T.stored table.new ≡ T.stored table.old) }
+    ensures honest { OnOk result (T.is_honest table.old ↔ T.is_honest table.new) }
+    ensures still { OnOk result (T.counted table.new ≡ T.counted table.old) }
 {
-    Err(TableFault::OutOfMemory)
+    let counts = table.counts();
+    let mut bytes = Vec::new(alloc);
+    bytes.extend_from_slice(text)?;
+    write_cells(&mut bytes, table)?;
+    let before = bytes.len();
+    write_edges(&mut bytes, table)?;
+    let edges = ((bytes.len() - before) / 8) as u64;
+    write_order(&mut bytes, table)?;
+    let text = text.len() as u32;
+    let sizes = Sizes {
+        text,
+        packed,
+        counts,
+        edges,
+    };
+    Ok(Written { sizes, bytes })
 }

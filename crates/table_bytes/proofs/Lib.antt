@@ -1,0 +1,9 @@
+mod CellLemmas
+mod CountLemmas
+mod EdgeLemmas
+mod OrderLemmas
+mod Outcomes
+mod Splits
+mod TableLemmas
+mod WritingLemmas
+mod WrittenLemmas

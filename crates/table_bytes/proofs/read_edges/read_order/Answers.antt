@@ -1,0 +1,18 @@
+use Rattle.std.proofs.Common.{◌++◌, sym, arith}
+use Rattle.table_bytes.proofs.OrderLemmas.{one_more_number}
+use Rattle.table_bytes.proofs.Splits.{split_on}
+use Rattle.table_bytes.proofs.read_edges.read_order.Goals as goal
+
+pub loop-place-preserved : goal.loop-place-preserved
+loop-place-preserved g c =
+    let before = c.loop-place.invariant in
+    let front = c.split_at.result.0.now in
+    record {
+      honest = c.in_ok-push_settled.ensures.honest.0 before.honest;
+      long = omega (arith, c.loop-place.invariant.long, c.split_at.ensures.back_len);
+      done = before.done ++ front;
+      split = split_on c.args.bytes.now before.done c.loop-place.rest.now front c.split_at.result.1.now 4 before.split c.split_at.ensures.front c.split_at.ensures.back;
+      so_far =
+          one_more_number before.done front c.loop-place._place c.read_u32.result (g.T.Table.stored c.args.table.now) (g.T.Table.stored c.loop-place.table) (g.T.Table.stored c.push_settled.new.self)
+          before.so_far (record { long = c.split_at.ensures.front_len; is = sym c.read_u32.ensures }) (c.in_ok-push_settled.ensures.pushed before.honest);
+    }

@@ -1,0 +1,106 @@
+//! The bytes of a record.
+ghost use Rattle.std.specs.Prelude.{◌≡◌, length, IfSome, IfNone, OnOk};
+ghost use Rattle.rbg_game.specs.declared.roles.Player.{Player};
+ghost use Rattle.std.specs.Prelude.{Option};
+ghost use Rattle.byteorder.specs.Endian.{big_bytes};
+ghost use Rattle.std.specs.Prelude.{◌++◌};
+ghost use Rattle.retrograde.specs.declared.records.State.{State};
+ghost use Rattle.retrograde.specs.declared.records.Record.{Record};
+ghost use Rattle.table_bytes.specs.Bytes.{state_byte, winner_byte, IsRecord};
+ghost use Rattle.table_bytes.specs.Writing.{WritesOne};
+
+use byteorder::{BigEndian, ByteOrder};
+use rbg_game::roles::Player;
+use retrograde::{Record, State};
+use table::TableFault;
+
+/// How many bytes a record takes.
+pub const RECORD_BYTES: usize = 16;
+
+/// The byte of a state.
+fn state_byte(state: State) -> u8
+    ensures { result ≡ state_byte state }
+{
+    match state {
+        State::Known => 0,
+        State::Expanded => 1,
+        State::Settled => 2,
+        State::Processed => 3,
+    }
+}
+
+/// The state with a byte.
+fn state_of(byte: u8) -> Option<State>
+    ensures some { IfSome result (λ state. byte ≡ state_byte state) }
+    ensures none { IfNone result ((state : State) → byte ≡ state_byte state → ⊥) }
+{
+    match byte {
+        0 => Some(State::Known),
+        1 => Some(State::Expanded),
+        2 => Some(State::Settled),
+        3 => Some(State::Processed),
+        _ => None,
+    }
+}
+
+/// The byte of a winner, or of none.
+fn winner_byte(winner: Option<Player>) -> u8
+    ensures { result ≡ winner_byte winner }
+{
+    match winner {
+        None => 0,
+        Some(Player::First) => 1,
+        Some(Player::Second) => 2,
+    }
+}
+
+/// The winner with a byte, or none, where the byte is one of theirs.
+fn winner_of(byte: u8) -> Option<Option<Player>>
+    ensures some { IfSome result (λ winner. byte ≡ winner_byte winner) }
+    ensures none { IfNone result ((winner : Option Player) → byte ≡ winner_byte winner → ⊥) }
+{
+    match byte {
+        0 => Some(None),
+        1 => Some(Some(Player::First)),
+        2 => Some(Some(Player::Second)),
+        _ => None,
+    }
+}
+
+/// The record of 16 bytes, where they are those of one.
+pub fn read_record(bytes: &[u8]) -> Option<Record>
+    requires { length bytes.now ≡ 16 }
+    ensures some { IfSome result (IsRecord bytes.now) }
+    ensures none { IfNone result ((r : Record) → IsRecord bytes.now r → ⊥) }
+{
+    let state = state_of(bytes[0])?;
+    let winner = winner_of(bytes[1])?;
+    Some(Record {
+        state,
+        winner,
+        distance: BigEndian::read_u32(&bytes[4..]),
+        left: BigEndian::read_u32(&bytes[8..]),
+        successors: BigEndian::read_u32(&bytes[12..]),
+    })
+}
+
+/// Puts the four bytes of a number behind others.
+pub fn push_number(bytes: &mut Vec<u8>, number: u32) -> Result<(), TableFault>
+    ensures { OnOk result (bytes.new.items ≡ bytes.old.items ++ big_bytes 4 number) }
+{
+    let mut four = [0; 4];
+    BigEndian::write_u32(&mut four, number);
+    bytes.extend_from_slice(&four)?;
+    Ok(())
+}
+
+/// Puts the 16 bytes of a record behind others.
+pub fn push_record(bytes: &mut Vec<u8>, kept: &Record) -> Result<(), TableFault>
+    ensures { OnOk result (WritesOne IsRecord kept.now bytes.old.items bytes.new.items) }
+{
+    let head = [state_byte(kept.state), winner_byte(kept.winner), 0, 0];
+    bytes.extend_from_slice(&head)?;
+    push_number(bytes, kept.distance)?;
+    push_number(bytes, kept.left)?;
+    push_number(bytes, kept.successors)
+}
