@@ -1,4 +1,1 @@
 pub mod Faults
-pub mod Held
-pub mod File
-pub mod Saving

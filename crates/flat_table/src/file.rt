@@ -1,12 +1,14 @@
 //! A table in a file.
 
-use crate::game::{Game, are_canonical, read_all, save};
-use root_slot::empty_slot;
+use crate::canonical::are_canonical;
 use crate::{FileFault, Refused};
+use flat_read::{Game, read_all};
+use flat_write::save;
 use page_store::{PageStore, Pages};
 use position_pack::{Packed, Packing};
 use retrograde::Counts;
 use root_pair::create;
+use root_slot::empty_slot;
 use sector_disk::SectorDisk;
 use std::alloc::Global;
 use table::{MemTable, Table};
@@ -58,7 +60,7 @@ impl<D: SectorDisk> FlatTable<D> {
             }),
             Err(fault) => Err(Refused {
                 disk: store.into_disk(),
-                fault,
+                fault: fault.into(),
             }),
         }
     }
@@ -87,7 +89,7 @@ impl<D: SectorDisk> FlatTable<D> {
     /// Whether each position of the table is one of this packing.
     pub fn are_canonical(&mut self, packing: &Packing) -> Result<bool, FileFault> {
         match &mut self.game {
-            Some(game) => are_canonical(packing, &mut game.table),
+            Some(game) => Ok(are_canonical(packing, &mut game.table)?),
             None => Ok(true),
         }
     }
@@ -145,10 +147,7 @@ impl<D: SectorDisk> FlatTable<D> {
                 });
                 Ok(())
             }
-            Err(fault) => {
-                self.store.discard();
-                Err(fault)
-            }
+            Err(fault) => Err(fault.into()),
         }
     }
 

@@ -3,7 +3,7 @@
 
 mod fault;
 mod file;
-mod game;
+mod canonical;
 #[cfg(test)]
 mod tests;
 

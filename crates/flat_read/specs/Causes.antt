@@ -1,0 +1,19 @@
+-- Why a file's table is not read.
+use Rattle.std.specs.Prelude.{◌≡◌, ℕ, ◌<◌, true, length, Option, IsTrue}
+use Rattle.sector_disk.specs.Disk.{Grew}
+use Rattle.page_chain.specs.Causes.{AllWait}
+use Rattle.page_store.specs.declared.fault.PageFault.{PageFault}
+use Rattle.page_store.specs.declared.fault.PageFault.TheVariants.{Disk, NotATable, Damaged, TableFull, OutOfMemory, Closed}
+use Rattle.page_store.specs.Store.{Store, reads}
+use Rattle.flat_read.specs.Held.{Kept, Keeps}
+
+-- the disk failed; with a root and pages that all wait, on an honest disk, the slot and the pages spell no table, or there
+-- are fewer than 16 pages; the store is closed; or memory is short
+abbrev pub ReadCause : Store → Store → PageFault → Type 0
+ReadCause old new Disk = Grew old.failures new.failures
+ReadCause old new NotATable = ⊥
+ReadCause old new Damaged =
+    IsTrue old.disk.honest → AllWait old → (kept : Option Kept) → Keeps old.root (length old.marks) kept (reads old) → length old.marks < 16
+ReadCause old new TableFull = ⊥
+ReadCause old new OutOfMemory = Unit {0}
+ReadCause old new Closed = old.closed ≡ true

@@ -1,0 +1,4 @@
+pub mod Held
+pub mod File
+pub mod Laws
+pub mod Causes

@@ -1,0 +1,24 @@
+//! A game's text and table in memory.
+ghost use Rattle.std.specs.Prelude.{◌≤◌, ◌^◌, length};
+
+use table::MemTable;
+
+/// A game's text, and its table as of the last commit.
+#[derive(Drop)]
+pub struct Game {
+    pub text: Vec<u8>,
+    /// Bytes of each packed position.
+    pub packed: u32,
+    /// The pages that hold both, in turn.
+    pub pages: Vec<u32>,
+    pub table: MemTable,
+}
+
+/// What a file holds as it is opened.
+#[derive(Drop)]
+pub struct Opened {
+    /// Commits since the file was made.
+    pub commits: u64,
+    /// The table, where a game is loaded.
+    pub game: Option<Game>,
+}

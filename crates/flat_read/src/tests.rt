@@ -1,0 +1,1 @@
+//! A table is read from pages.

@@ -1,0 +1,1 @@
+//! Tables are saved one after another.
