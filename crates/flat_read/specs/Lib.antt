@@ -1,4 +1,1 @@
-pub mod Held
-pub mod File
-pub mod Laws
 pub mod Causes

@@ -6,10 +6,10 @@ ghost use Rattle.page_store.specs.Marks.{mark as mark_of};
 ghost use Rattle.page_store.specs.Store.{reads, Works};
 ghost use Rattle.root_slot.specs.Slot.{SaysGame};
 ghost use Rattle.table_bytes.specs.Numbers.{AreWithinLimits, bytes_in};
-ghost use Rattle.flat_read.specs.File.{AreGames, IsBacked, kept_of, pages_of};
+ghost use Rattle.flat_file.specs.File.{AreGames, IsBacked, kept_of, pages_of};
 ghost use Rattle.flat_read.specs.Causes.{ReadCause};
 
-use crate::{Game, Opened};
+use flat_file::{Game, Opened};
 use page_chain::read_chain;
 use page_store::{PageFault, Pages};
 use root_slot::{GameSlot, Slot, read_slot};

@@ -2,7 +2,8 @@
 
 use crate::canonical::are_canonical;
 use crate::{FileFault, Refused};
-use flat_read::{Game, read_all};
+use flat_file::Game;
+use flat_read::read_all;
 use flat_write::save;
 use page_store::{PageStore, Pages};
 use position_pack::{Packed, Packing};

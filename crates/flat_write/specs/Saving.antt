@@ -7,8 +7,8 @@ use Rattle.retrograde.specs.Changes.{counts_of}
 use Rattle.table_bytes.specs.declared.sizes.Sizes.{Sizes}
 use Rattle.table_bytes.specs.Numbers.{AreWithinLimits}
 use Rattle.table_bytes.specs.Spelled.{Spells}
-use Rattle.flat_read.specs.Held.{Kept, Stores}
-use Rattle.flat_read.specs.File.{IsBacked}
+use Rattle.flat_file.specs.Held.{Kept, Stores}
+use Rattle.flat_file.specs.File.{IsBacked}
 
 -- these bytes and sizes are those of this text and table, whose parts fit together, and are within the limits
 pub record AreBytesOf (kept : Kept) (sizes : Sizes) (bytes : List ℕ) : Type 0 where

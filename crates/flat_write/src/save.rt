@@ -1,8 +1,8 @@
 //! One table in the place of another.
 ghost use Rattle.std.specs.Prelude.{◌≡◌, ◌⊎◌, ◌≤◌, ◌<◌, ℕ, List, false, Option, Some, length, Contains, OnOk, OnErr, IfOk, IfErr, IsTrue};
 ghost use Rattle.page_store.specs.Store.{reads, Works};
-ghost use Rattle.flat_read.specs.File.{IsBacked};
-ghost use Rattle.flat_read.specs.Held.{Kept};
+ghost use Rattle.flat_file.specs.File.{IsBacked};
+ghost use Rattle.flat_file.specs.Held.{Kept};
 ghost use Rattle.flat_write.specs.Causes.{SaveCause};
 ghost use Rattle.flat_write.specs.Saving.{AreBytesOf, LeavesEither, LeavesTable, GoesAhead};
 

@@ -1,5 +1,4 @@
-//! A game's text and table in memory.
-ghost use Rattle.std.specs.Prelude.{◌≤◌, ◌^◌, length};
+//! A game in memory, as a file keeps it.
 
 use table::MemTable;
 

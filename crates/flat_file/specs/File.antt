@@ -7,8 +7,8 @@ use Rattle.page_store.specs.Spelling.{Stands, IsCalm}
 use Rattle.page_store.specs.Store.{Store}
 use Rattle.table.specs.InMemory.{stored_in}
 use Rattle.table.specs.Fitting.{Fits}
-use Rattle.flat_read.specs.declared.game.Game.{Game}
-use Rattle.flat_read.specs.Held.{Kept, Keeps}
+use Rattle.flat_file.specs.declared.game.Game.{Game}
+use Rattle.flat_file.specs.Held.{Kept, Keeps}
 
 -- a file: its pages, and the table of the last commit
 pub record File : Type 0 where
