@@ -6,7 +6,7 @@ ghost use Rattle.page_store.specs.Marks.{mark as mark_of};
 ghost use Rattle.page_store.specs.Store.{reads, Works};
 ghost use Rattle.root_slot.specs.Slot.{SaysGame};
 ghost use Rattle.table_bytes.specs.Numbers.{AreWithinLimits, bytes_in};
-ghost use Rattle.flat_file.specs.File.{AreGames, IsBacked, kept_of, pages_of};
+ghost use Rattle.flat_file.specs.File.{AreGames, IsGame};
 ghost use Rattle.flat_read.specs.Causes.{ReadCause};
 
 use flat_file::{Game, Opened};
@@ -22,7 +22,9 @@ const LEAST_PAGES: u32 = 16;
 
 /// Reads all that the root of a store that was just opened names, marks its pages, and seals the store. `Damaged` where
 /// slot and pages spell no table whose parts fit together.
-pub fn read_all<P: Pages>(alloc: Global, store: &mut P) -> Result<Opened, PageFault> {
+pub fn read_all<P: Pages>(alloc: Global, store: &mut P) -> Result<Opened, PageFault>
+    ensures games { IfOk result (λ opened. AreGames opened.game) }
+{
     if store.capacity() < LEAST_PAGES {
         return Err(PageFault::Damaged);
     }
@@ -54,6 +56,7 @@ fn length_of(sizes: &Sizes) -> usize
 fn read_game<P: Pages>(alloc: Global, store: &mut P, slot: &GameSlot) -> Result<Game, PageFault>
     requires limits { AreWithinLimits slot.now.sizes }
     requires edges { slot.now.sizes.edges ≤ 2 ^ 32 }
+    ensures { IfOk result IsGame }
 {
     let sizes = slot.sizes;
     let chain = read_chain(alloc, store, slot.first, length_of(&sizes))?;
