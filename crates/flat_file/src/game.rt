@@ -1,4 +1,5 @@
 //! A game in memory, as a file keeps it.
+ghost use Rattle.std.specs.Prelude.{◌≤◌, length};
 
 use table::MemTable;
 
@@ -11,6 +12,8 @@ pub struct Game {
     /// The pages that hold both, in turn.
     pub pages: Vec<u32>,
     pub table: MemTable,
+    ghost text_fits: { length text.items ≤ 65536 },
+    ghost packed_fits: { packed ≤ 240 },
 }
 
 /// What a file holds as it is opened.

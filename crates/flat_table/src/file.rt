@@ -1,4 +1,5 @@
 //! A table in a file.
+ghost use Rattle.std.specs.Prelude.{◌≤◌, ◌^◌, length, IfOk, IfSome};
 
 use crate::canonical::are_canonical;
 use crate::{FileFault, Refused};
@@ -13,7 +14,7 @@ use root_slot::empty_slot;
 use sector_disk::SectorDisk;
 use std::alloc::Global;
 use table::{MemTable, Table};
-use table_bytes::{read_table, write_table};
+use table_bytes::write_table;
 
 /// A game's table in a file, with its last commit in memory. A command takes a copy of the table, works on that, and
 /// commits it; to give the command up it drops the copy.
@@ -96,19 +97,19 @@ impl<D: SectorDisk> FlatTable<D> {
     }
 
     /// A copy of the table as of the last commit, to work on; none where no game is loaded.
-    pub fn copy(&mut self) -> Result<Option<MemTable>, FileFault> {
-        match &mut self.game {
-            Some(game) => {
-                let written = write_table(self.alloc, &game.text, game.packed, &mut game.table)?;
-                let table = read_table(self.alloc, &written.sizes, &written.bytes)?;
-                Ok(Some(table))
-            }
+    pub fn copy(&self) -> Result<Option<MemTable>, FileFault>
+        ensures small { IfOk result (λ copy. IfSome copy (λ table. (⟦<MemTable as Table>⟧.counted table).known ≤ 2 ^ 24)) }
+    {
+        match &self.game {
+            Some(game) => Ok(Some(game.table.copy()?)),
             None => Ok(None),
         }
     }
 
     /// Commits the table of a game that is loaded now: its start, and no more.
-    pub fn load(&mut self, text: &[u8], start: &Packed) -> Result<(), FileFault> {
+    pub fn load(&mut self, text: &[u8], start: &Packed) -> Result<(), FileFault>
+        requires { length text.now ≤ 65536 }
+    {
         let table = MemTable::new(self.alloc, start)?;
         let text = text.to_vec(self.alloc)?;
         self.put(text, start.len() as u32, table)
@@ -116,7 +117,9 @@ impl<D: SectorDisk> FlatTable<D> {
 
     /// Commits a table that was worked on, in the place of the last commit's. After a refusal nothing is changed,
     /// but that after `Disk` in a write or a sync the file is closed, and holds the one table or the other.
-    pub fn commit(&mut self, table: MemTable) -> Result<(), FileFault> {
+    pub fn commit(&mut self, table: MemTable) -> Result<(), FileFault>
+        requires { (⟦<MemTable as Table>⟧.counted table).known ≤ 2 ^ 24 }
+    {
         let Some(game) = &self.game else {
             return Err(FileFault::Inconsistent);
         };
@@ -126,7 +129,11 @@ impl<D: SectorDisk> FlatTable<D> {
     }
 
     /// Stores a text and a table: a new chain on free pages, and then the root that names it.
-    fn put(&mut self, text: Vec<u8>, packed: u32, table: MemTable) -> Result<(), FileFault> {
+    fn put(&mut self, text: Vec<u8>, packed: u32, table: MemTable) -> Result<(), FileFault>
+        requires text { length text.items ≤ 65536 }
+        requires packed { packed ≤ 240 }
+        requires known { (⟦<MemTable as Table>⟧.counted table).known ≤ 2 ^ 24 }
+    {
         let mut table = table;
         if !table.fits(self.alloc, packed)? {
             return Err(FileFault::Inconsistent);

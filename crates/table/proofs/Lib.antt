@@ -3,3 +3,4 @@ pub mod NumberLemmas
 pub mod CountLemmas
 pub mod Listing
 pub mod Whole
+pub mod Copies

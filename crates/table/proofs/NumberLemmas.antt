@@ -13,7 +13,7 @@ use Rattle.retrograde.proofs.Adding.{push_before, push_at, push_cases}
 use Rattle.table.specs.Memory.{bytes_of_each, position_cmp, AreNumbered}
 
 -- positions with the same bytes are the same
-same_position : (x y : ArrayVec ℕ) → x.items ≡ y.items → x ≡ y
+pub same_position : (x y : ArrayVec ℕ) → x.items ≡ y.items → x ≡ y
 same_position x y e = λ i. record { items = e i }
 
 tied : (x y : ArrayVec ℕ) → is_at (position_cmp x) y ≡ true → x ≡ y

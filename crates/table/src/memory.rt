@@ -99,6 +99,27 @@ impl MemTable {
         Ok(table)
     }
 
+    /// The same table once more.
+    pub fn copy(&self) -> Result<MemTable, TableFault>
+        ensures same { IfOk result (λ t. ⟦<MemTable as Table>⟧.stored t ≡ ⟦<MemTable as Table>⟧.stored self.now) }
+        ensures small { IfOk result (λ t. (⟦<MemTable as Table>⟧.counted t).known ≤ 2 ^ 24) }
+    {
+        let positions = self.positions.clone()?;
+        let numbers = self.numbers.clone()?;
+        let records = self.records.clone()?;
+        let edges = self.edges.clone()?;
+        let order = self.order.clone()?;
+        Ok(MemTable {
+            positions,
+            numbers,
+            records,
+            edges,
+            order,
+            expanded: self.expanded,
+            processed: self.processed,
+        })
+    }
+
     /// Whether its parts fit together, and each position has so many bytes.
     pub fn fits(&self, alloc: Global, packed: u32) -> Result<bool, AllocError>
         ensures { IfOk result (λ fits. (fits ≡ true) ↔ Fits packed (⟦<MemTable as Table>⟧.stored self.now)) }
