@@ -1,4 +1,5 @@
 //! What commands ask for, and what they answer.
+ghost use Rattle.std.specs.Prelude.{◌≤◌};
 
 use retrograde::Counts;
 

@@ -1,4 +1,6 @@
 //! A solver over a disk.
+ghost use Rattle.std.specs.Prelude.{IfOk};
+ghost use Rattle.legal_moves.specs.Compiled.{IsCompiled};
 
 use crate::{Refused, SolverFault, Units, Worked};
 use flat_table::FlatTable;
@@ -13,17 +15,17 @@ use std::alloc::Global;
 use table::Table;
 use table_work::work;
 
-/// A game's table on a disk, and the game made ready for the search for moves.
+/// A game's table on a disk.
 #[derive(Drop)]
 pub struct Solver<D: SectorDisk> {
     alloc: Global,
     file: FlatTable<D>,
-    /// The game of the table, where one is loaded.
-    source: Option<Compiled>,
 }
 
 /// The game of a stored text, made ready. A text that is no game is `Damaged`.
-fn stored_game(alloc: Global, text: &[u8]) -> Result<Compiled, SolverFault> {
+fn stored_game(alloc: Global, text: &[u8]) -> Result<Compiled, SolverFault>
+    ensures { IfOk result IsCompiled }
+{
     match read_game(alloc, text) {
         Ok(game) => Ok(Compiled::new(alloc, game)?),
         Err(GameFault::OutOfMemory) => Err(SolverFault::OutOfMemory),
@@ -31,31 +33,24 @@ fn stored_game(alloc: Global, text: &[u8]) -> Result<Compiled, SolverFault> {
     }
 }
 
-/// Makes the game of the table ready, and sees that each stored position is one of its positions.
-fn source_of<D: SectorDisk>(
-    alloc: Global,
-    file: &mut FlatTable<D>,
-) -> Result<Option<Compiled>, SolverFault> {
+/// Sees that the text of the table is a game, and each stored position one of its positions.
+fn check_game<D: SectorDisk>(alloc: Global, file: &mut FlatTable<D>) -> Result<(), SolverFault> {
     let source = match file.text() {
         Some(text) => stored_game(alloc, text)?,
-        None => return Ok(None),
+        None => return Ok(()),
     };
     let packing = Packing::new(source.game());
     if !file.are_canonical(&packing)? {
         return Err(SolverFault::Damaged);
     }
-    Ok(Some(source))
+    Ok(())
 }
 
 impl<D: SectorDisk> Solver<D> {
     /// Makes the empty table on this disk: E1, E3 and then E6, E8.
     pub fn create(alloc: Global, disk: D) -> Result<Self, Refused<D>> {
         match FlatTable::create(alloc, disk) {
-            Ok(file) => Ok(Solver {
-                alloc,
-                file,
-                source: None,
-            }),
+            Ok(file) => Ok(Solver { alloc, file }),
             Err(refused) => Err(Refused {
                 disk: refused.disk,
                 fault: refused.fault.into(),
@@ -74,12 +69,8 @@ impl<D: SectorDisk> Solver<D> {
                 });
             }
         };
-        match source_of(alloc, &mut file) {
-            Ok(source) => Ok(Solver {
-                alloc,
-                file,
-                source,
-            }),
+        match check_game(alloc, &mut file) {
+            Ok(()) => Ok(Solver { alloc, file }),
             Err(fault) => Err(Refused {
                 disk: file.into_disk(),
                 fault,
@@ -92,13 +83,12 @@ impl<D: SectorDisk> Solver<D> {
         if self.file.is_closed() {
             return Err(SolverFault::Closed);
         }
-        if self.source.is_some() {
+        if self.file.text().is_some() {
             return Err(SolverFault::GameAlready);
         }
         let game = read_game(self.alloc, text)?;
         let source = Compiled::new(self.alloc, game)?;
         self.file.load(text, &MoveSource::start(&source))?;
-        self.source = Some(source);
         Ok(())
     }
 
@@ -108,10 +98,14 @@ impl<D: SectorDisk> Solver<D> {
         if self.file.is_closed() {
             return Err(SolverFault::Closed);
         }
-        let (Some(source), Some(mut table)) = (&self.source, self.file.copy()?) else {
+        let Some(text) = self.file.text() else {
             return Err(SolverFault::NoGame);
         };
-        let done = work(self.alloc, source, &mut table, units.count())?;
+        let source = stored_game(self.alloc, text)?;
+        let Some(mut table) = self.file.copy()? else {
+            return Err(SolverFault::NoGame);
+        };
+        let done = work(self.alloc, &source, &mut table, units.count())?;
         let counts = table.counts();
         if done > 0 {
             self.file.commit(table)?;
