@@ -1,2 +1,3 @@
 pub mod Saving
 pub mod Causes
+pub mod Steps

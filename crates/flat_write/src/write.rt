@@ -1,16 +1,19 @@
 //! One table in the place of another.
 ghost use Rattle.std.specs.Prelude.{◌≡◌, ◌⊎◌, ◌≤◌, ◌<◌, ℕ, List, false, Option, Some, length, Contains, OnOk, OnErr, IfOk, IfErr, IsTrue};
-ghost use Rattle.page_store.specs.Store.{reads, Works};
+ghost use Rattle.page_chain.specs.Causes.{WriteCause};
+ghost use Rattle.page_chain.specs.Chain.{first_of};
+ghost use Rattle.page_store.specs.Store.{Works};
 ghost use Rattle.flat_file.specs.File.{IsBacked};
 ghost use Rattle.flat_file.specs.Held.{Kept};
 ghost use Rattle.flat_write.specs.Causes.{SaveCause};
 ghost use Rattle.flat_write.specs.Saving.{AreBytesOf, LeavesEither, LeavesTable, GoesAhead};
+ghost use Rattle.flat_write.specs.Steps.{LetsGo, IsExchanged, IsSlotOf, IsReplaced, IsLeft};
 
 use page_chain::write_chain;
 use page_store::{PageFault, Pages};
 use root_slot::{GameSlot, game_slot};
 use std::alloc::Global;
-use table_bytes::Written;
+use table_bytes::{Sizes, Written};
 
 /// Writes a chain with these bytes on free pages, and commits a root that names it in the place of the one that names the
 /// old chain. Answers the pages of the new chain. After a refusal the store is as after the last commit, or closed.
@@ -47,7 +50,7 @@ pub fn save<P: Pages>(
     }
 }
 
-/// The same, but that after a refusal pages may be handed out or released.
+/// The same, but that after a refusal pages may be handed out or let go.
 fn replace<P: Pages>(
     alloc: Global,
     store: &mut P,
@@ -56,23 +59,50 @@ fn replace<P: Pages>(
     written: &Written,
 ) -> Result<Vec<u32>, PageFault>
     requires there { (p : ℕ) → Contains old.now p → (1 ≤ p) × (p < length (P.store store.old).marks) }
+    ensures ok { IfOk result (λ pages.
+        IsReplaced old.now pages.items written.now.sizes written.now.bytes.items (P.store store.old) (P.store store.new)) }
+    ensures err { IfErr result (IsLeft old.now written.now.sizes written.now.bytes.items (P.store store.old) (P.store store.new)) }
 {
-    let pages = write_chain(alloc, store, &written.bytes)?;
+    if store.is_closed() {
+        return Err(PageFault::Closed);
+    }
+    let pages = exchange(alloc, store, old, &written.bytes)?;
+    let root = slot_of(commits, &pages, written.sizes);
+    store.commit(&root)?;
+    Ok(pages)
+}
+
+/// Writes the bytes as a chain on free pages, and lets go of the old pages.
+fn exchange<P: Pages>(
+    alloc: Global,
+    store: &mut P,
+    old: &[u32],
+    bytes: &[u8],
+) -> Result<Vec<u32>, PageFault>
+    requires there { (p : ℕ) → Contains old.now p → (1 ≤ p) × (p < length (P.store store.old).marks) }
+    ensures ok { IfOk result (λ pages. IsExchanged old.now pages.items bytes.now (P.store store.old) (P.store store.new)) }
+    ensures works { Works (P.store store.old) (P.store store.new) }
+    ensures cause { IfErr result (WriteCause (length bytes.now) (P.store store.old) (P.store store.new)) }
+{
+    let pages = write_chain(alloc, store, bytes)?;
     release_all(store, old);
-    let slot = GameSlot {
-        first: pages.first().copied().unwrap_or(0),
-        sizes: written.sizes,
-    };
-    store.commit(&game_slot(commits, &slot))?;
     Ok(pages)
 }
 
 /// Lets go of these pages: they are free after the next commit.
 fn release_all<P: Pages>(store: &mut P, pages: &[u32])
     requires there { (p : ℕ) → Contains pages.now p → (1 ≤ p) × (p < length (P.store store.old).marks) }
-    ensures works { Works (P.store store.old) (P.store store.new) }
+    ensures { LetsGo pages.now (P.store store.old) (P.store store.new) }
 {
     for page in pages {
         store.release(*page);
     }
+}
+
+/// The slot that names a chain of these pages.
+fn slot_of(commits: u64, pages: &[u32], sizes: Sizes) -> [u8; 512]
+    ensures { IsSlotOf (first_of pages.now) sizes result }
+{
+    let first = pages.first().copied().unwrap_or(0);
+    game_slot(commits, &GameSlot { first, sizes })
 }
