@@ -136,6 +136,9 @@ pub replaces : (was_pages pages bytes root : List ℕ) (sizes : Sizes) (old mid 
 replaces was_pages pages bytes root sizes old mid new sound was_open exchanged slot commits done = record {
   was_open = was_open;
   is_open = done.closed;
+  there = λ p here.
+      let page = free_page old p sound (exchanged.freed p here) in
+      (page.0, omega (arith, page.1, done.marks.same_length, exchanged.works.same_pages));
   ahead = commit_ahead root old mid new was_open exchanged.works commits done.marks.same_length;
   stop = λ was is backed it honest open_. commit_leaves was_pages pages bytes root sizes old mid new was is sound was_open exchanged slot backed it commits honest;
   done = λ was is backed it. committed_backs was_pages pages bytes root sizes old mid new was is sound was_open exchanged slot backed it commits done;

@@ -1,5 +1,5 @@
 -- What the steps do that put one table in the place of another.
-use Rattle.std.specs.Prelude.{◌≡◌, ◌⊎◌, ℕ, ◌≤◌, false, true, List, length, Option, Some, Contains, IsTrue}
+use Rattle.std.specs.Prelude.{◌≡◌, ◌⊎◌, ℕ, ◌≤◌, ◌<◌, false, true, List, length, Option, Some, Contains, IsTrue}
 use Rattle.page_store.specs.declared.fault.PageFault.{PageFault}
 use Rattle.page_store.specs.declared.marks.Mark.TheVariants.{Fresh, Free}
 use Rattle.page_store.specs.Marks.{mark}
@@ -43,6 +43,7 @@ LeavesOne pages sizes bytes old new =
 pub record IsReplaced (was_pages pages : List ℕ) (sizes : Sizes) (bytes : List ℕ) (old new : Store) : Type 0 where
   pub was_open : old.closed ≡ false
   pub is_open : new.closed ≡ false
+  pub there : (p : ℕ) → Contains pages p → (1 ≤ p) × (p < length new.marks)
   pub ahead : GoesAhead old new
   pub stop : LeavesOne was_pages sizes bytes old new
   pub done : (was : Option Kept) (is : Kept) → IsBacked old was_pages was → AreBytesOf is sizes bytes → IsBacked new pages (Some is)

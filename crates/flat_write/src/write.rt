@@ -33,6 +33,7 @@ pub fn save<P: Pages>(
         → LeavesEither (P.store store.old).disk (P.store store.new).disk was (Some is) }
     ensures done { (was : Option Kept) (is : Kept) → IsBacked (P.store store.old) old.now was → AreBytesOf is written.now.sizes written.now.bytes.items
         → IfOk result (λ pages. IsBacked (P.store store.new) pages.items (Some is)) }
+    ensures pages { IfOk result (λ pages. (p : ℕ) → Contains pages.items p → (1 ≤ p) × (p < length (P.store store.new).marks)) }
     ensures open { OnOk result ((P.store store.new).closed ≡ false) }
     ensures back { (was : Option Kept) → IsBacked (P.store store.old) old.now was → OnErr result (IsBacked (P.store store.new) old.now was) }
     ensures kept { (was : Option Kept) → IsBacked (P.store store.old) old.now was
