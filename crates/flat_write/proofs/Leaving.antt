@@ -123,7 +123,7 @@ left_committing was_pages pages bytes root sizes old mid new fault sound was_ope
   stop = λ was is backed it honest open_. commit_leaves was_pages pages bytes root sizes old mid new was is sound was_open exchanged slot backed it commits honest;
   left = commit_left root old mid new exchanged.works commits fault cause same;
   untouched = inl was_open;
-  cause = commit_cause root old mid new exchanged.works commits (length bytes) fault exchanged.gone cause;
+  cause = commit_cause root old mid new exchanged.works commits (length bytes) fault exchanged.is_open cause;
 }
 
 -- the table is as it was

@@ -1,5 +1,5 @@
 -- The new table comes into the place of the old one.
-use Rattle.std.proofs.Common.{◌≡◌, inl, inr, ◌⊎◌, ℕ, zero, suc, ◌<◌, ◌≤◌, ◌^◌, Bool, false, List, length, Option, None, Some, Contains, refl, sym, ◌∙◌, ap, subst, arith}
+use Rattle.std.proofs.Common.{◌≡◌, ◌≢◌, inl, inr, ◌⊎◌, ℕ, zero, suc, ◌<◌, ◌≤◌, ◌^◌, Bool, false, List, length, Option, None, Some, Contains, refl, sym, ◌∙◌, ap, subst, arith}
 use Rattle.std.specs.Prelude.{IsTrue}
 use Rattle.std.proofs.lemmas.Bool.{cases_lt}
 use Rattle.std.proofs.lemmas.List.{get_or_past}
@@ -7,7 +7,7 @@ use Rattle.sector_disk.specs.Disk.{Picture}
 use Rattle.sector_disk.specs.Moments.{goes_on_trans, leaves_more, still_honest}
 use Rattle.page_store.specs.declared.marks.Mark.{Mark}
 use Rattle.page_store.specs.declared.marks.Mark.TheVariants.{Committed, Waiting, Fresh, Released, Free}
-use Rattle.page_store.specs.Marks.{mark, needs, keeps}
+use Rattle.page_store.specs.Marks.{mark, needs, keeps, turned}
 use Rattle.page_store.specs.Spelling.{Stands, IsPrepared, Spells}
 use Rattle.page_store.specs.Store.{Store, reads, IsSound, Works, Commits, IsCommitted}
 use Rattle.page_store.specs.Carrying.{commit_carries, committed_stands, committed_calm}
@@ -19,7 +19,7 @@ use Rattle.flat_file.specs.Held.{Kept, KeepsGame, Keeps, Stores}
 use Rattle.flat_file.specs.File.{IsBacked}
 use Rattle.flat_file.specs.Laws.{game_rests_on_its_pages, spells_stores}
 use Rattle.flat_write.specs.Saving.{AreBytesOf, LeavesEither, GoesAhead}
-use Rattle.flat_write.specs.Steps.{IsExchanged, IsSlotOf, IsReplaced}
+use Rattle.flat_write.specs.Steps.{IsGone, IsExchanged, IsSlotOf, IsReplaced}
 
 -- a mark is one of them
 marks_apart : (m : Mark) → m ≡ Committed → m ≡ Free → ⊥
@@ -130,6 +130,14 @@ commit_ahead root old mid new was_open works commits same = record {
   closed = λ open_. was_open;
 }
 
+-- what was let go is free after a commit, unless it waits
+turned_free : (m : Mark) → IsGone m → m ≢ Waiting → turned Committed Free Waiting m ≡ Free
+turned_free Committed gone not = absurd (gone.not_committed refl)
+turned_free Waiting gone not = absurd (not refl)
+turned_free Fresh gone not = absurd (gone.not_fresh refl)
+turned_free Released gone not = refl
+turned_free Free gone not = refl
+
 -- the new table is in the place of the old one
 pub replaces : (was_pages pages bytes root : List ℕ) (sizes : Sizes) (old mid new : Store) → IsSound old → old.closed ≡ false → IsExchanged was_pages pages bytes old mid
     → IsSlotOf (first_of pages) sizes root → Commits root mid new → IsCommitted root mid new → IsReplaced was_pages pages sizes bytes old new
@@ -139,6 +147,7 @@ replaces was_pages pages bytes root sizes old mid new sound was_open exchanged s
   there = λ p here.
       let page = free_page old p sound (exchanged.freed p here) in
       (page.0, omega (arith, page.1, done.marks.same_length, exchanged.works.same_pages));
+  freed = λ p here not. done.marks.each p ∙ turned_free _ (exchanged.gone p here) (λ waits. not (exchanged.works.waiting p waits));
   ahead = commit_ahead root old mid new was_open exchanged.works commits done.marks.same_length;
   stop = λ was is backed it honest open_. commit_leaves was_pages pages bytes root sizes old mid new was is sound was_open exchanged slot backed it commits honest;
   done = λ was is backed it. committed_backs was_pages pages bytes root sizes old mid new was is sound was_open exchanged slot backed it commits done;

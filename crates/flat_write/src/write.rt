@@ -1,8 +1,10 @@
 //! One table in the place of another.
-ghost use Rattle.std.specs.Prelude.{◌≡◌, ◌⊎◌, ◌≤◌, ◌<◌, ℕ, List, false, Option, Some, length, Contains, OnOk, OnErr, IfOk, IfErr, IsTrue};
+ghost use Rattle.std.specs.Prelude.{◌≡◌, ◌≢◌, ◌⊎◌, ◌≤◌, ◌<◌, ℕ, List, false, Option, Some, length, Contains, OnOk, OnErr, IfOk, IfErr, IsTrue};
 ghost use Rattle.page_chain.specs.Causes.{WriteCause};
 ghost use Rattle.page_chain.specs.Chain.{first_of};
+ghost use Rattle.page_store.specs.Marks.{mark as mark_of};
 ghost use Rattle.page_store.specs.Store.{Works};
+ghost use Rattle.page_store.specs.declared.marks.Mark.TheVariants.{Waiting, Free};
 ghost use Rattle.flat_file.specs.File.{IsBacked};
 ghost use Rattle.flat_file.specs.Held.{Kept};
 ghost use Rattle.flat_write.specs.Causes.{SaveCause};
@@ -16,7 +18,8 @@ use std::alloc::Global;
 use table_bytes::{Sizes, Written};
 
 /// Writes a chain with these bytes on free pages, and commits a root that names it in the place of the one that names the
-/// old chain. Answers the pages of the new chain. After a refusal the store is as after the last commit, or closed.
+/// old chain, whose pages are free then. Answers the pages of the new chain. After a refusal the store is as after the
+/// last commit, or closed.
 ///
 /// A stop of the power within it leaves the old table or the new one, and after `Ok` the new.
 pub fn save<P: Pages>(
@@ -34,6 +37,7 @@ pub fn save<P: Pages>(
     ensures done { (was : Option Kept) (is : Kept) → IsBacked (P.store store.old) old.now was → AreBytesOf is written.now.sizes written.now.bytes.items
         → IfOk result (λ pages. IsBacked (P.store store.new) pages.items (Some is)) }
     ensures pages { IfOk result (λ pages. (p : ℕ) → Contains pages.items p → (1 ≤ p) × (p < length (P.store store.new).marks)) }
+    ensures freed { OnOk result ((p : ℕ) → Contains old.now p → mark_of (P.store store.old).marks p ≢ Waiting → mark_of (P.store store.new).marks p ≡ Free) }
     ensures open { OnOk result ((P.store store.new).closed ≡ false) }
     ensures back { (was : Option Kept) → IsBacked (P.store store.old) old.now was → OnErr result (IsBacked (P.store store.new) old.now was) }
     ensures kept { (was : Option Kept) → IsBacked (P.store store.old) old.now was
