@@ -1,2 +1,4 @@
 pub mod Saving
 pub mod Causes
+pub mod Steps
+pub mod Laws

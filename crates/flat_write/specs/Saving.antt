@@ -1,5 +1,5 @@
 -- What it is to put a table in the place of another.
-use Rattle.std.specs.Prelude.{◌≡◌, ◌⊎◌, ℕ, ◌≤◌, ◌^◌, false, List, length, Option, Some, IsTrue}
+use Rattle.std.specs.Prelude.{◌≡◌, ◌⊎◌, ℕ, ◌≤◌, ◌^◌, false, List, length, Option}
 use Rattle.sector_disk.specs.Disk.{Disk, GoesOn, LeavesOnly, size}
 use Rattle.page_store.specs.Store.{Store}
 use Rattle.retrograde.specs.Stored.{IsTable}
@@ -8,7 +8,6 @@ use Rattle.table_bytes.specs.declared.sizes.Sizes.{Sizes}
 use Rattle.table_bytes.specs.Numbers.{AreWithinLimits}
 use Rattle.table_bytes.specs.Spelled.{Spells}
 use Rattle.flat_file.specs.Held.{Kept, Stores}
-use Rattle.flat_file.specs.File.{IsBacked}
 
 -- these bytes and sizes are those of this text and table, whose parts fit together, and are within the limits
 pub record AreBytesOf (kept : Kept) (sizes : Sizes) (bytes : List ℕ) : Type 0 where

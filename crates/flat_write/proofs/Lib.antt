@@ -1,0 +1,4 @@
+pub mod Letting
+pub mod Placing
+pub mod Leaving
+pub mod Passing
