@@ -60,15 +60,15 @@ writes_cell packed n stored front old new long so_far one =
     (pair_at stored.positions stored.records n one.cell.0 one.cell.1 one.position one.recorded) written
 
 -- a position, and behind it its record
-pub cell_written : (stored after : Stored (List ℕ)) (n : ℕ) (x : List ℕ) (r : Record) (old mid new : List ℕ) → slice_get stored.positions n ≡ Some x → after ≡ stored → HasRecord after n r
-    → mid ≡ old ++ x → WritesOne IsRecord r mid new → WritesCell stored n old new
-cell_written stored after n x r old mid new position same recorded mid_is one = record {
+pub cell_written : (stored after : Stored (List ℕ)) (n : ℕ) (x slice : List ℕ) (r : Record) (old mid new : List ℕ) → slice_get stored.positions n ≡ Some x → after ≡ stored → HasRecord after n r
+    → slice ≡ x → mid ≡ old ++ slice → WritesOne IsRecord r mid new → WritesCell stored n old new
+cell_written stored after n x slice r old mid new position same recorded slice_is mid_is one = record {
   cell = (x, r);
   position = position;
   recorded = subst (λ (s : Stored (List ℕ)). HasRecord s n r) same recorded;
   written = record {
     behind = x ++ one.behind;
-    is = one.is ∙ ap (λ (b : List ℕ). b ++ one.behind) mid_is ∙ append_assoc old x one.behind;
+    is = one.is ∙ ap (λ (b : List ℕ). b ++ one.behind) (mid_is ∙ ap (λ (b : List ℕ). old ++ b) slice_is) ∙ append_assoc old x one.behind;
     spelled = record { long = refl; behind = one.behind; is = refl; is_record = one.spelled };
   };
 }

@@ -1,9 +1,7 @@
 //! The bytes of a record.
-ghost use Rattle.std.specs.Prelude.{◌≡◌, length, IfSome, IfNone, OnOk};
-ghost use Rattle.rbg_game.specs.declared.roles.Player.{Player};
-ghost use Rattle.std.specs.Prelude.{Option};
+ghost use Rattle.std.specs.Prelude.{◌≡◌, ◌++◌, Option, length, IfSome, IfNone, OnOk};
 ghost use Rattle.byteorder.specs.Endian.{big_bytes};
-ghost use Rattle.std.specs.Prelude.{◌++◌};
+ghost use Rattle.rbg_game.specs.declared.roles.Player.{Player};
 ghost use Rattle.retrograde.specs.declared.records.State.{State};
 ghost use Rattle.retrograde.specs.declared.records.Record.{Record};
 ghost use Rattle.table_bytes.specs.Bytes.{state_byte, winner_byte, IsRecord};

@@ -84,6 +84,16 @@ fn second_record() -> Record {
     }
 }
 
+fn fresh_record() -> Record {
+    Record {
+        state: State::Known,
+        winner: None,
+        distance: 0,
+        left: 0,
+        successors: 0,
+    }
+}
+
 fn position(byte: u8) -> Packed
     ensures { result.items ≡ byte ∷ [] }
 {
@@ -111,6 +121,18 @@ fn fill<T: Table>(table: &mut T) -> Result<(), TableFault>
     table.set_record(0, first_record())?;
     table.set_record(1, second_record())?;
     table.add_edge(1, 0)
+}
+
+/// The records of two positions, and the number that was settled.
+fn parts<T: Table>(table: &mut T) -> Result<Option<(Record, Record, u32)>, TableFault> {
+    let counts = table.counts();
+    if counts.known != 2 || counts.settled != 1 {
+        return Ok(None);
+    }
+    let first = table.record(0)?;
+    let second = table.record(1)?;
+    let settled = table.settled_at(0)?;
+    Ok(Some((first, second, settled)))
 }
 
 /// The table of those bytes, made by hand.
@@ -154,6 +176,8 @@ fn a_table_of_two_positions_has_its_bytes(rt: HostRuntime) -> Result<(), Fail> {
 fn these_bytes_are_read_to_the_table(rt: HostRuntime) -> Result<(), Fail> {
     let mut table = read_table(rt.alloc(), &two_sizes(), &TWO)?;
     assert_eq!(rt; table.counts(), TWO_COUNTS);
+    let expected = (first_record(), second_record(), 1);
+    assert_eq!(rt; parts(&mut table)?, Some(expected));
     assert_eq!(rt; table.number_of(&position(4))?, Some(1));
     assert_eq!(rt; table.next_edge(1, None)?, Some(0));
     assert_eq!(rt; table.next_edge(0, None)?, None);
@@ -193,8 +217,10 @@ fn the_first_table_of_take_is_its_text_and_thirty_bytes(rt: HostRuntime) -> Resu
     bytes[2] = 107;
     bytes[3] = 101;
     assert_eq!(rt; written.bytes.as_slice(), bytes.as_slice());
-    let again = read_table(rt.alloc(), &sizes, &bytes)?;
+    let mut again = read_table(rt.alloc(), &sizes, &bytes)?;
     assert_eq!(rt; again.counts(), counts);
+    assert_eq!(rt; again.number_of(&start)?, Some(0));
+    assert_eq!(rt; again.record(0)?, fresh_record());
     Ok(())
 }
 

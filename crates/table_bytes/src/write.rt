@@ -31,6 +31,7 @@ pub fn write_table<T: Table>(
         → IfOk result (λ written. Spells written.sizes written.bytes.items text.now (T.stored table.old)) }
     ensures counts { T.is_honest table.old → IfOk result (λ written. written.sizes.counts ≡ counts_of (T.stored table.old)) }
     ensures packed { IfOk result (λ written. written.sizes.packed ≡ packed) }
+    ensures text { IfOk result (λ written. written.sizes.text ≡ length text.now) }
     ensures long { T.is_honest table.old → IsTable (T.stored table.old)
         → ((x : List ℕ) (i : ℕ) → slice_get (T.stored table.old).positions i ≡ Some x → length x ≡ packed)
         → IfOk result (λ written. length written.bytes.items ≡ bytes_in written.sizes) }
