@@ -2,7 +2,8 @@
 use Rattle.std.proofs.Common.{◌≡◌, inl, inr, ◌⊎◌, ℕ, ◌<◌, ◌≤◌, List, Option, length, Contains, IsTrue, refl, sym, ◌∙◌, ap, subst, arith}
 use Rattle.std.proofs.lemmas.Bool.{cases_lt}
 use Rattle.std.proofs.lemmas.List.{get_or_past}
-use Rattle.sector_disk.specs.Disk.{Disk, Shown}
+use Rattle.sector_disk.specs.Disk.{Disk, Shown, LeavesOnly, MayLeave}
+use Rattle.sector_disk.specs.Moments.{leaves_now}
 use Rattle.page_store.specs.declared.marks.Mark.{Mark}
 use Rattle.page_store.specs.declared.marks.Mark.TheVariants.{Committed, Waiting, Fresh, Released, Free}
 use Rattle.page_store.specs.Carrying.{sealed_stands}
@@ -17,9 +18,19 @@ use Rattle.flat_file.specs.File.{IsBacked}
 use Rattle.flat_file.specs.Held.{Kept, Keeps}
 use Rattle.flat_read.specs.Reading.{IsRead}
 
+-- a stop before the first call leaves what it may leave
+pub still_leaves : (disk : Disk) → LeavesOnly disk disk (MayLeave disk.now)
+still_leaves disk = leaves_now disk (λ picture left. left)
+
 -- nothing is marked
 pub nothing_marked : (store : Store) → OnlyMarks store store
-nothing_marked store = record { works = works_refl store; shown = λ honest. refl; closed = refl; others = λ p. inl refl }
+nothing_marked store = record {
+  works = works_refl store;
+  shown = λ honest. refl;
+  leaves = λ honest. still_leaves store.disk;
+  closed = refl;
+  others = λ p. inl refl;
+}
 
 waits_apart : (m : Mark) → m ≡ Committed → m ≡ Waiting → ⊥
 waits_apart m one other = cc

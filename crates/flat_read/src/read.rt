@@ -20,7 +20,7 @@ use std::alloc::Global;
 const LEAST_PAGES: u32 = 16;
 
 /// Reads all that the root of a store that was just opened names, marks its pages, and seals the store. `Damaged` where
-/// slot and pages spell no table whose parts fit together.
+/// slot and pages spell no table whose parts fit together. A stop meanwhile leaves what it could leave before.
 pub fn read_all<P: Pages>(alloc: Global, store: &mut P) -> Result<Opened, PageFault>
     ensures games { IfOk result (λ opened. AreGames opened.game) }
     ensures backed { (P.store store.old).closed ≡ false → AllWait (P.store store.old)
@@ -31,6 +31,8 @@ pub fn read_all<P: Pages>(alloc: Global, store: &mut P) -> Result<Opened, PageFa
     ensures root { (P.store store.new).root ≡ (P.store store.old).root }
     ensures same_pages { length (P.store store.new).marks ≡ length (P.store store.old).marks }
     ensures shown { IsTrue (P.store store.old).disk.honest → (P.store store.new).disk.now ≡ (P.store store.old).disk.now }
+    ensures leaves { IsTrue (P.store store.old).disk.honest
+        → LeavesOnly (P.store store.old).disk (P.store store.new).disk (MayLeave (P.store store.old).disk.now) }
     ensures closed { (P.store store.new).closed ≡ (P.store store.old).closed }
     ensures works { IfErr result (λ _. Works (P.store store.old) (P.store store.new)) }
     ensures cause { IfErr result (ReadCause (P.store store.old) (P.store store.new)) }
