@@ -1,7 +1,5 @@
 //! The bytes of a chain become a game in memory.
 ghost use Rattle.std.specs.Prelude.{◌≡◌, ◌↔◌, ◌≤◌, ◌^◌, true, length, IfOk, IfErr};
-ghost use Rattle.retrograde.specs.Changes.{counts_of};
-ghost use Rattle.table.specs.Fitting.{Fits};
 ghost use Rattle.table.specs.InMemory.{stored_in};
 ghost use Rattle.table_bytes.specs.Numbers.{AreWithinLimits, bytes_in};
 ghost use Rattle.flat_read.specs.Reading.{IsWhole, IsTableOf, IsGameOf, TableCause};

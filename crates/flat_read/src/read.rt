@@ -1,5 +1,5 @@
 //! All that the root of a file names is read.
-ghost use Rattle.std.specs.Prelude.{◌≡◌, ◌≤◌, ◌<◌, ℕ, false, Some, length, IfOk, IfErr, IsTrue};
+ghost use Rattle.std.specs.Prelude.{◌≡◌, ◌≤◌, false, Some, length, IfOk, IfErr, IsTrue};
 ghost use Rattle.sector_disk.specs.Disk.{size, GoesOn, LeavesOnly, MayLeave};
 ghost use Rattle.page_chain.specs.Causes.{AllWait};
 ghost use Rattle.page_chain.specs.Links.{OnlyMarks};
