@@ -1,5 +1,5 @@
 -- Why a file's table is not read.
-use Rattle.std.specs.Prelude.{◌≡◌, ℕ, ◌<◌, true, length, Option, IsTrue}
+use Rattle.std.specs.Prelude.{◌≡◌, ◌<◌, true, length, Option, IsTrue}
 use Rattle.sector_disk.specs.Disk.{Grew}
 use Rattle.page_chain.specs.Causes.{AllWait}
 use Rattle.page_store.specs.declared.fault.PageFault.{PageFault}

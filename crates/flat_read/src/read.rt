@@ -1,29 +1,41 @@
 //! All that the root of a file names is read.
-ghost use Rattle.std.specs.Prelude.{◌≡◌, ◌⊎◌, ◌≤◌, ◌<◌, ◌^◌, ℕ, false, length, Contains, OnOk, IfOk, IfErr, IsTrue};
+ghost use Rattle.std.specs.Prelude.{◌≡◌, ◌≤◌, false, Some, length, IfOk, IfErr, IsTrue};
+ghost use Rattle.sector_disk.specs.Disk.{size, GoesOn, LeavesOnly, MayLeave};
 ghost use Rattle.page_chain.specs.Causes.{AllWait};
-ghost use Rattle.page_store.specs.declared.marks.Mark.TheVariants.{Committed, Waiting};
-ghost use Rattle.page_store.specs.Marks.{mark as mark_of};
-ghost use Rattle.page_store.specs.Store.{reads, Works};
-ghost use Rattle.root_slot.specs.Slot.{SaysGame};
-ghost use Rattle.table_bytes.specs.Numbers.{AreWithinLimits, bytes_in};
-ghost use Rattle.flat_file.specs.File.{AreGames, IsGame};
+ghost use Rattle.page_chain.specs.Links.{OnlyMarks};
+ghost use Rattle.page_store.specs.Store.{Works};
+ghost use Rattle.root_slot.specs.Slot.{Says, SaysGame};
+ghost use Rattle.flat_file.specs.File.{IsGame, AreGames, IsBacked, kept_of, pages_of};
 ghost use Rattle.flat_read.specs.Causes.{ReadCause};
+ghost use Rattle.flat_read.specs.Reading.{IsRead};
 
+use crate::bytes::{game_of, length_of};
 use flat_file::{Game, Opened};
 use page_chain::read_chain;
 use page_store::{PageFault, Pages};
 use root_slot::{GameSlot, Slot, read_slot};
 use std::alloc::Global;
-use table::Table;
-use table_bytes::{BytesFault, Sizes, read_table};
 
 /// The fewest pages that a table's file has.
 const LEAST_PAGES: u32 = 16;
 
 /// Reads all that the root of a store that was just opened names, marks its pages, and seals the store. `Damaged` where
-/// slot and pages spell no table whose parts fit together.
+/// slot and pages spell no table whose parts fit together. A stop meanwhile leaves what it could leave before.
 pub fn read_all<P: Pages>(alloc: Global, store: &mut P) -> Result<Opened, PageFault>
     ensures games { IfOk result (λ opened. AreGames opened.game) }
+    ensures backed { (P.store store.old).closed ≡ false → AllWait (P.store store.old)
+        → IfOk result (λ opened. IsBacked (P.store store.new) (pages_of opened.game) (kept_of opened.game)) }
+    ensures goes_on { GoesOn (P.store store.old).disk (P.store store.new).disk }
+    ensures same_size { size (P.store store.new).disk ≡ size (P.store store.old).disk }
+    ensures failures { (P.store store.old).failures ≤ (P.store store.new).failures }
+    ensures root { (P.store store.new).root ≡ (P.store store.old).root }
+    ensures same_pages { length (P.store store.new).marks ≡ length (P.store store.old).marks }
+    ensures shown { IsTrue (P.store store.old).disk.honest → (P.store store.new).disk.now ≡ (P.store store.old).disk.now }
+    ensures leaves { IsTrue (P.store store.old).disk.honest
+        → LeavesOnly (P.store store.old).disk (P.store store.new).disk (MayLeave (P.store store.old).disk.now) }
+    ensures closed { (P.store store.new).closed ≡ (P.store store.old).closed }
+    ensures works { IfErr result (λ _. Works (P.store store.old) (P.store store.new)) }
+    ensures cause { IfErr result (ReadCause (P.store store.old) (P.store store.new)) }
 {
     if store.capacity() < LEAST_PAGES {
         return Err(PageFault::Damaged);
@@ -32,51 +44,38 @@ pub fn read_all<P: Pages>(alloc: Global, store: &mut P) -> Result<Opened, PageFa
     let Some(Slot { commits, game }) = read_slot(&root.bytes) else {
         return Err(PageFault::Damaged);
     };
-    let game = match game {
-        None => None,
-        Some(slot) => Some(read_game(alloc, store, &slot)?),
-    };
+    let game = read_named(alloc, store, game)?;
     store.seal();
     Ok(Opened { commits, game })
 }
 
-/// How many bytes such a table takes.
-fn length_of(sizes: &Sizes) -> usize
-    requires limits { AreWithinLimits sizes.now }
-    requires edges { sizes.now.edges ≤ 2 ^ 32 }
-    ensures { result ≡ bytes_in sizes.now }
+/// Reads the game that the slot names, if one.
+fn read_named<P: Pages>(
+    alloc: Global,
+    store: &mut P,
+    slot: Option<GameSlot>,
+) -> Result<Option<Game>, PageFault>
+    requires { Says (P.store store.old).root slot }
+    ensures games { IfOk result AreGames }
+    ensures only { OnlyMarks (P.store store.old) (P.store store.new) }
+    ensures read { IfOk result (λ game. IsRead (pages_of game) (kept_of game) (P.store store.old) (P.store store.new)) }
+    ensures cause { IfErr result (ReadCause (P.store store.old) (P.store store.new)) }
 {
-    let counts = sizes.counts;
-    let cells = u64::from(counts.known) * (u64::from(sizes.packed) + 16);
-    let rest = 8 * sizes.edges + 4 * u64::from(counts.settled);
-    (u64::from(sizes.text) + cells + rest) as usize
+    match slot {
+        None => Ok(None),
+        Some(slot) => Ok(Some(read_game(alloc, store, &slot)?)),
+    }
 }
 
 /// Reads a game's text and table from the chain that the slot names.
 fn read_game<P: Pages>(alloc: Global, store: &mut P, slot: &GameSlot) -> Result<Game, PageFault>
-    requires limits { AreWithinLimits slot.now.sizes }
-    requires edges { slot.now.sizes.edges ≤ 2 ^ 32 }
-    ensures { IfOk result IsGame }
+    requires { SaysGame (P.store store.old).root slot.now }
+    ensures game { IfOk result IsGame }
+    ensures only { OnlyMarks (P.store store.old) (P.store store.new) }
+    ensures read { IfOk result (λ game. IsRead (pages_of (Some game)) (kept_of (Some game)) (P.store store.old) (P.store store.new)) }
+    ensures cause { IfErr result (ReadCause (P.store store.old) (P.store store.new)) }
 {
     let sizes = slot.sizes;
     let chain = read_chain(alloc, store, slot.first, length_of(&sizes))?;
-    let table = match read_table(alloc, &sizes, &chain.content) {
-        Ok(table) => table,
-        Err(BytesFault::Damaged) => return Err(PageFault::Damaged),
-        Err(BytesFault::OutOfMemory) => return Err(PageFault::OutOfMemory),
-    };
-    let Ok(fits) = table.fits(alloc, sizes.packed) else {
-        return Err(PageFault::OutOfMemory);
-    };
-    if !fits || table.counts() != sizes.counts {
-        return Err(PageFault::Damaged);
-    }
-    let mut text = chain.content;
-    text.truncate(sizes.text as usize);
-    Ok(Game {
-        text,
-        packed: sizes.packed,
-        pages: chain.pages,
-        table,
-    })
+    game_of(alloc, &sizes, chain)
 }

@@ -4,8 +4,8 @@ use Rattle.std.proofs.lemmas.List.{length-append, length-take-le}
 use Rattle.std.proofs.lemmas.List.Elements.{Contains-push_cases}
 use Rattle.std.proofs.lemmas.Bool.{cases_eq}
 use Rattle.std.specs.Prelude.{slice_get}
-use Rattle.sector_disk.specs.Disk.{Shown}
-use Rattle.sector_disk.specs.Moments.{still_honest}
+use Rattle.sector_disk.specs.Disk.{Shown, Disk as DiskStated, LeavesOnly, MayLeave}
+use Rattle.sector_disk.specs.Moments.{still_honest, leaves_now, leaves_then, leaves_more}
 use Rattle.page_store.specs.declared.fault.PageFault.{PageFault}
 use Rattle.page_store.specs.declared.fault.PageFault.TheVariants.{Disk, NotATable, Damaged, TableFull, OutOfMemory, Closed}
 use Rattle.page_store.specs.declared.marks.Mark.{Mark}
@@ -20,12 +20,21 @@ use Rattle.page_chain.specs.Links.{IsOnce, OnlyMarks, IsLinked}
 use Rattle.page_chain.proofs.Linking.{LeadsTo, leads_more, leads_end, payloads_more, once_more, none_once, none_contained, contains_before, contains_last, same_way, got_seam, got_before, contains_got}
 
 pub only_marks_refl : (store : Store) → OnlyMarks store store
-only_marks_refl store = record { works = works_refl store; shown = λ honest. refl; closed = refl; others = λ p. inl refl }
+only_marks_refl store = record {
+  works = works_refl store;
+  shown = λ honest. refl;
+  leaves = λ honest. leaves_now store.disk (λ picture left. left);
+  closed = refl;
+  others = λ p. inl refl;
+}
 
 pub only_marks_then : {old mid new : Store} → OnlyMarks old mid → OnlyMarks mid new → OnlyMarks old new
 only_marks_then {old} {mid} {new} first second = record {
   works = works_then first.works second.works;
   shown = λ honest. second.shown (still_honest first.works.goes_on honest) ∙ first.shown honest;
+  leaves = λ honest.
+      leaves_then second.works.goes_on (first.leaves honest)
+      (leaves_more (λ picture left. subst (λ (s : Shown). MayLeave s picture) (first.shown honest) left) (second.leaves (still_honest first.works.goes_on honest)));
   closed = second.closed ∙ first.closed;
   others = each;
 }
@@ -39,9 +48,14 @@ only_marks_then {old} {mid} {new} first second = record {
       ]
     ]
 
+-- what a stop leaves where the disk was at first as it was
+pub leaves_same : (old mid new : DiskStated) → mid ≡ old → (IsTrue mid.honest → LeavesOnly mid new (MayLeave mid.now)) → IsTrue old.honest → LeavesOnly old new (MayLeave old.now)
+leaves_same old mid new same leaves honest = subst (λ (d : DiskStated). LeavesOnly d new (MayLeave d.now)) same (leaves (subst (λ (d : DiskStated). IsTrue d.honest) (sym same) honest))
+
 -- one page is marked, and then read
-pub one_marked : (at : ℕ) (old new : Store) → Works old new → (IsTrue old.disk.honest → new.disk.now ≡ old.disk.now) → new.closed ≡ old.closed → IsMarked at Committed old.marks new.marks → OnlyMarks old new
-one_marked at old new works shown closed marked = record { works = works; shown = shown; closed = closed; others = each }
+pub one_marked : (at : ℕ) (old new : Store) → Works old new → (IsTrue old.disk.honest → new.disk.now ≡ old.disk.now)
+    → (IsTrue old.disk.honest → LeavesOnly old.disk new.disk (MayLeave old.disk.now)) → new.closed ≡ old.closed → IsMarked at Committed old.marks new.marks → OnlyMarks old new
+one_marked at old new works shown leaves closed marked = record { works = works; shown = shown; leaves = leaves; closed = closed; others = each }
   where
     each : (p : ℕ) → (mark new.marks p ≡ mark old.marks p) ⊎ (mark new.marks p ≡ Committed)
     each p = elim (cases_eq p at) [

@@ -1,5 +1,6 @@
 -- What one step of reading or writing a chain does.
 use Rattle.std.specs.Prelude.{◌≡◌, ◌⊎◌, ℕ, ◌+◌, ◌<◌, ◌≤◌, List, [], ◌∷◌, ◌++◌, length, drop, slice_get, Contains, Some, false, IsTrue}
+use Rattle.sector_disk.specs.Disk.{LeavesOnly, MayLeave}
 use Rattle.page_store.specs.declared.marks.Mark.TheVariants.{Committed, Waiting, Fresh, Free}
 use Rattle.page_store.specs.Marks.{mark, IsMarked}
 use Rattle.page_store.specs.Store.{Store, reads, Works}
@@ -9,10 +10,11 @@ use Rattle.page_chain.specs.Chain.{next_in}
 abbrev pub IsOnce : List ℕ → Type 0
 IsOnce pages = (i j p : ℕ) → slice_get pages i ≡ Some p → slice_get pages j ≡ Some p → i ≡ j
 
--- some pages are marked, and else the store is as it was
+-- some pages are marked, and else the store is as it was; a stop meanwhile leaves what it could leave before
 pub record OnlyMarks (old new : Store) : Type 0 where
   pub works : Works old new
   pub shown : IsTrue old.disk.honest → new.disk.now ≡ old.disk.now
+  pub leaves : IsTrue old.disk.honest → LeavesOnly old.disk new.disk (MayLeave old.disk.now)
   pub closed : new.closed ≡ old.closed
   pub others : (p : ℕ) → (mark new.marks p ≡ mark old.marks p) ⊎ (mark new.marks p ≡ Committed)
 

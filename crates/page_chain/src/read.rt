@@ -1,5 +1,6 @@
 //! A chain is read, page by page. No memory is reserved for a length before its pages are there.
 ghost use Rattle.std.specs.Prelude.{◌≡◌, ◌⊎◌, ◌++◌, ◌∷◌, [], ◌<◌, ◌≤◌, ◌+◌, ◌*◌, ℕ, length, drop, Contains, OnOk, IfOk, IfErr, IsTrue};
+ghost use Rattle.sector_disk.specs.Disk.{LeavesOnly, MayLeave};
 ghost use Rattle.page_store.specs.declared.marks.Mark.TheVariants.{Committed, Waiting};
 ghost use Rattle.page_store.specs.Marks.{mark as mark_of};
 ghost use Rattle.page_store.specs.Store.{reads, Works};
@@ -38,6 +39,8 @@ pub fn read_chain<P: Pages>(
     ensures others { (p : ℕ) → (mark_of (P.store store.new).marks p ≡ mark_of (P.store store.old).marks p)
         ⊎ (mark_of (P.store store.new).marks p ≡ Committed) }
     ensures shown { IsTrue (P.store store.old).disk.honest → (P.store store.new).disk.now ≡ (P.store store.old).disk.now }
+    ensures leaves { IsTrue (P.store store.old).disk.honest
+        → LeavesOnly (P.store store.old).disk (P.store store.new).disk (MayLeave (P.store store.old).disk.now) }
     ensures closed { (P.store store.new).closed ≡ (P.store store.old).closed }
     ensures works { Works (P.store store.old) (P.store store.new) }
     ensures cause { IfErr result (ReadCause first size (P.store store.old) (P.store store.new)) }

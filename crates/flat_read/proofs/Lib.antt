@@ -1,0 +1,4 @@
+mod Opening
+mod Passing
+mod Reading
+mod Whole
