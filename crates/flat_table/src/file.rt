@@ -1,5 +1,5 @@
 //! A table in a file.
-ghost use Rattle.std.specs.Prelude.{◌≤◌, ◌^◌, length, IfOk, IfSome};
+ghost use Rattle.std.specs.Prelude.{◌≡◌, ◌≤◌, ◌<◌, ◌^◌, ℕ, true, length, Contains, IfOk, IfSome};
 
 use crate::canonical::are_canonical;
 use crate::{FileFault, Refused};
@@ -25,6 +25,21 @@ pub struct FlatTable<D: SectorDisk> {
     commits: u64,
     /// The table, where a game is loaded.
     game: Option<Game>,
+}
+
+/// The pages that hold a game's text and table; none where no game is loaded.
+fn pages_in(game: &Option<Game>) -> &[u32] {
+    match game {
+        Some(game) => &game.pages,
+        None => &[],
+    }
+}
+
+/// Whether each of these pages is one that is handed out: not the system page, and below the capacity.
+fn are_pages(pages: &[u32], capacity: u32) -> bool
+    ensures { result ≡ true → (p : ℕ) → Contains pages.now p → (1 ≤ p) × (p < capacity) }
+{
+    pages.iter().all(|page| *page >= 1 && *page < capacity)
 }
 
 impl<D: SectorDisk> FlatTable<D> {
@@ -140,10 +155,10 @@ impl<D: SectorDisk> FlatTable<D> {
         }
         let written = write_table(self.alloc, &text, packed, &mut table)?;
         let commits = self.commits.wrapping_add(1);
-        let old: &[u32] = match &self.game {
-            Some(game) => &game.pages,
-            None => &[],
-        };
+        let old = pages_in(&self.game);
+        if !are_pages(old, self.store.capacity()) {
+            return Err(FileFault::Inconsistent);
+        }
         match save(self.alloc, &mut self.store, commits, old, &written) {
             Ok(pages) => {
                 self.commits = commits;
