@@ -21,7 +21,7 @@ enum Found {
     Expanded(u32),
 }
 
-fn found(alloc: Global, disk: MemDisk) -> Result<Found, Fail> {
+fn table_on(alloc: Global, disk: MemDisk) -> Result<Found, Fail> {
     match Solver::open(alloc, disk) {
         Ok(solver) => Ok(match solver.status() {
             None => Found::Empty,
@@ -38,7 +38,7 @@ fn found(alloc: Global, disk: MemDisk) -> Result<Found, Fail> {
 /// What each of the 256 pictures that a stop now leaves holds: whether all are among the allowed.
 fn all_are(alloc: Global, disk: &MemDisk, allowed: &[Found]) -> Result<bool, Fail> {
     for pick in 0..256 {
-        let left = found(alloc, disk.after_stop(alloc, pick)?)?;
+        let left = table_on(alloc, disk.after_stop(alloc, pick)?)?;
         if !allowed.iter().any(|one| *one == left) {
             return Ok(false);
         }

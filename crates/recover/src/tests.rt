@@ -9,8 +9,8 @@ use std::alloc::Global;
 use std::test::Fail;
 
 /// A solver over a new disk of so many pages.
-fn made(alloc: Global, pages: u64) -> Result<Solver<MemDisk>, Fail> {
-    match Solver::create(alloc, MemDisk::new(alloc, 8 * pages)?) {
+fn made(alloc: Global, pages: u32) -> Result<Solver<MemDisk>, Fail> {
+    match Solver::create(alloc, MemDisk::new(alloc, 8 * u64::from(pages))?) {
         Ok(solver) => Ok(solver),
         Err(_) => Err("no table was made")?,
     }

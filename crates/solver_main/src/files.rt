@@ -7,7 +7,7 @@ use crate::{read_start, status_of_refused, tell, tell_fault};
 use rbg_read::read::read_game;
 use root_pair::MAGIC;
 use sector_disk::FileDisk;
-use std::alloc::Global;
+use std::alloc::{AllocError, Global};
 use std::fs::{File, OpenOptions};
 use std::io::{self, BufWriter, ErrorKind, Read};
 
@@ -40,7 +40,7 @@ pub fn load_file(rt: &HostRuntime, alloc: Global, name: &str, game: &str) -> u8 
     if let Err(error) = read_start(rt, game, &mut text) {
         return refused_file(rt, game, &error);
     }
-    let told = text.clone();
+    let told: Result<Vec<u8>, AllocError> = text.clone();
     let status = match opened(rt, name) {
         Ok(file) => command_on_file(rt, alloc, file, FileCommand::Load(text)),
         Err(error) => refused_file(rt, name, &error),

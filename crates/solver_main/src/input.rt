@@ -78,7 +78,7 @@ fn asked_by(line: &[u8]) -> Asked {
     if first.is_empty() {
         return Asked::Nothing;
     }
-    if first == b"work" && third.is_empty() {
+    if first == b"work".as_slice() && third.is_empty() {
         return match number(second).and_then(Units::new) {
             Some(units) => Asked::Work(units),
             None => Asked::Usage,
@@ -87,9 +87,9 @@ fn asked_by(line: &[u8]) -> Asked {
     if !second.is_empty() {
         return Asked::Usage;
     }
-    if first == b"status" {
+    if first == b"status".as_slice() {
         Asked::Status
-    } else if first == b"quit" {
+    } else if first == b"quit".as_slice() {
         Asked::Quit
     } else {
         Asked::Usage

@@ -25,8 +25,8 @@ fn done(
 }
 
 /// A disk of so many pages with the empty table.
-fn empty(alloc: Global, pages: u64) -> Result<MemDisk, Fail> {
-    let disk = MemDisk::new(alloc, 8 * pages)?;
+fn empty(alloc: Global, pages: u32) -> Result<MemDisk, Fail> {
+    let disk = MemDisk::new(alloc, 8 * u64::from(pages))?;
     let (_, disk, _) = done(alloc, disk, FileCommand::Create)?;
     Ok(disk)
 }

@@ -68,10 +68,15 @@ pub fn words_of(alloc: Global, words: &[String]) -> Result<Words, Refusal>
 fn parsed<'a>(alloc: Global, words: &'a [String]) -> Result<Words, Error> {
     let command: Command<'a> = command(alloc)?;
     let matches = command.try_get_matches_from(words)?;
-    let (name, inner) = match matches.subcommand() {
-        Some((name, inner)) => (name, inner),
-        None => ("", &matches),
+    let asked = match matches.subcommand() {
+        Some((name, inner)) => asked_for(alloc, name, inner)?,
+        None => asked_for(alloc, "", &matches)?,
     };
+    Ok(asked)
+}
+
+/// What the command of this name asks for, with the words behind it.
+fn asked_for(alloc: Global, name: &str, inner: &ArgMatches<'_>) -> Result<Words, AllocError> {
     match name {
         "create" => Ok(Words::Create {
             file: given(alloc, inner, "FILE")?,
