@@ -2,10 +2,10 @@
 #![tactic(auto)]
 
 mod fault;
-mod replies;
-mod solver;
 #[cfg(test)]
 mod games;
+mod replies;
+mod solver;
 #[cfg(test)]
 mod stop_tests;
 #[cfg(test)]

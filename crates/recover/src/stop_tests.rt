@@ -27,10 +27,12 @@ fn table_on(alloc: Global, disk: MemDisk) -> Result<Found, Fail> {
             None => Found::Empty,
             Some(Counts { expanded, .. }) => Found::Expanded(expanded),
         }),
-        Err(Refused {
-            fault: SolverFault::NotATable,
-            ..
-        }) => Ok(Found::NotATable),
+        Err(
+            Refused {
+                fault: SolverFault::NotATable,
+                ..
+            },
+        ) => Ok(Found::NotATable),
         Err(_) => Err("the disk was refused")?,
     }
 }
@@ -107,7 +109,10 @@ fn a_stop_while_a_table_is_made_leaves_none_or_the_empty_one(rt: HostRuntime) ->
             return Ok(());
         }
         let allowed = [Found::NotATable, Found::Empty];
-        assert!(rt; all_are(rt.alloc(), &disk, &allowed)?, "{passes} calls pass");
+        assert!(rt;
+            all_are(rt.alloc(), &disk, &allowed)?,
+            "{passes} calls pass"
+        );
     }
     Err("no call was made in full")?
 }
@@ -126,7 +131,10 @@ fn a_stop_while_a_game_is_loaded_leaves_the_empty_table_or_the_game(
         }
         assert_eq!(rt; answer, Err(SolverFault::Disk));
         let allowed = [Found::Empty, Found::Expanded(0)];
-        assert!(rt; all_are(rt.alloc(), &disk, &allowed)?, "{passes} calls pass");
+        assert!(rt;
+            all_are(rt.alloc(), &disk, &allowed)?,
+            "{passes} calls pass"
+        );
     }
     Err("no call was made in full")?
 }
@@ -143,7 +151,10 @@ fn a_stop_within_work_leaves_the_table_before_it_or_after(rt: HostRuntime) -> Re
         }
         assert_eq!(rt; answer, Err(SolverFault::Disk));
         let allowed = [Found::Expanded(0), Found::Expanded(7)];
-        assert!(rt; all_are(rt.alloc(), &disk, &allowed)?, "{passes} calls pass");
+        assert!(rt;
+            all_are(rt.alloc(), &disk, &allowed)?,
+            "{passes} calls pass"
+        );
     }
     Err("no call was made in full")?
 }

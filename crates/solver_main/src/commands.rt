@@ -1,7 +1,7 @@
 //! The commands on a table's file that are one command each.
 
-use recover::{Solver, SolverFault};
 use rbg_read::fault::GameFault;
+use recover::{Solver, SolverFault};
 use sector_disk::SectorDisk;
 use std::alloc::Global;
 use std::io::{self, Write};

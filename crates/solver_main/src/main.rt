@@ -5,9 +5,9 @@ mod commands;
 mod explain;
 #[cfg(test)]
 mod explain_tests;
+mod files;
 #[cfg(test)]
 mod game_tests;
-mod files;
 mod input;
 mod lines;
 mod mentions;
@@ -16,8 +16,6 @@ mod move_tests;
 mod moves;
 mod refused;
 mod session;
-#[cfg(test)]
-mod session_tests;
 #[cfg(test)]
 mod tests;
 mod words;

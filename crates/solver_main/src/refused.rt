@@ -43,10 +43,7 @@ impl Refused {
         match self {
             Refused::Disk => 4,
             Refused::OutOfMemory | Refused::Game(GameFault::OutOfMemory) => 5,
-            Refused::AlreadyATable
-            | Refused::TooSmall
-            | Refused::Game(_)
-            | Refused::TooWide => 1,
+            Refused::AlreadyATable | Refused::TooSmall | Refused::Game(_) | Refused::TooWide => 1,
         }
     }
 }

@@ -46,8 +46,8 @@ edges_same old new same i p = ap (λ (ks : List (ℕ × ℕ)). list_any (is_at (
 pub stored_same : (xs ys : List (ArrayVec ℕ)) (records others : List Record) (old new : BTreeSet (ℕ × ℕ)) (order other : List ℕ)
     → ys ≡ xs → others ≡ records → new.keys ≡ old.keys → other ≡ order
     → ◌≡◌ {A = Stored (List ℕ)}
-      (record { positions = bytes_of_each ys; records = others; has_edge = λ i p. contains edge_cmp new (i, p); order = other })
-      (record { positions = bytes_of_each xs; records = records; has_edge = λ i p. contains edge_cmp old (i, p); order = order })
+    (record { positions = bytes_of_each ys; records = others; has_edge = λ i p. contains edge_cmp new (i, p); order = other })
+    (record { positions = bytes_of_each xs; records = records; has_edge = λ i p. contains edge_cmp old (i, p); order = order })
 stored_same xs ys records others old new order other is kept same listed = λ k. record {
   positions = bytes_of_each (is k);
   records = kept k;

@@ -25,9 +25,9 @@ module _ (processed : ℕ) (records : List Record) (order : List ℕ) where
     once = λ j k i low. absurd (omega (arith, low));
     marked = λ k i low. absurd (omega (arith, low));
     only = λ i is. let unmarked : slice_index_or marks i false ≡ false = elim (cases_lt i (length marks)) [
-        | inl within ↦ none i within
-        | inr past ↦ get_or_past marks i false past
-      ] in absurd (cc);
+      | inl within ↦ none i within
+      | inr past ↦ get_or_past marks i false past
+    ] in absurd (cc);
   }
 
   module _ (place n : ℕ) (marks : List Bool) (so_far : IsListed processed records order place marks) (here : slice_get order place ≡ Some n) where
@@ -44,20 +44,20 @@ module _ (processed : ℕ) (records : List Record) (order : List ℕ) where
       ];
       once = λ j k i low high at_j at_k. elim (cases_eq j place) [
         | inl j_is ↦ elim (cases_eq k place) [
-            | inl k_is ↦ j_is ∙ sym k_is
-            | inr before ↦ absurd (apart k i (omega (arith, high, before)) at_k (same_number i (subst (λ (q : ℕ). slice_get order q ≡ Some i) j_is at_j)))
-          ]
+          | inl k_is ↦ j_is ∙ sym k_is
+          | inr before ↦ absurd (apart k i (omega (arith, high, before)) at_k (same_number i (subst (λ (q : ℕ). slice_get order q ≡ Some i) j_is at_j)))
+        ]
         | inr j_before ↦ elim (cases_eq k place) [
-            | inl k_is ↦ absurd (apart j i (omega (arith, low, j_before)) at_j (same_number i (subst (λ (q : ℕ). slice_get order q ≡ Some i) k_is at_k)))
-            | inr before ↦ so_far.once j k i (omega (arith, low, j_before)) (omega (arith, high, before)) at_j at_k
-          ]
+          | inl k_is ↦ absurd (apart j i (omega (arith, low, j_before)) at_j (same_number i (subst (λ (q : ℕ). slice_get order q ≡ Some i) k_is at_k)))
+          | inr before ↦ so_far.once j k i (omega (arith, low, j_before)) (omega (arith, high, before)) at_j at_k
+        ]
       ];
       marked = λ k i low is. elim (cases_eq i n) [
         | inl same ↦ subst (λ (q : ℕ). slice_index_or (slice_set marks n true) q false ≡ true) (sym same) (get_or-set_same marks n true false within)
         | inr differs ↦ elim (cases_eq k place) [
-            | inl at ↦ absurd (differs (same_number i (subst (λ (q : ℕ). slice_get order q ≡ Some i) at is)))
-            | inr other ↦ get_or-set_other marks n i true false differs ∙ so_far.marked k i (omega (arith, low, other)) is
-          ]
+          | inl at ↦ absurd (differs (same_number i (subst (λ (q : ℕ). slice_get order q ≡ Some i) at is)))
+          | inr other ↦ get_or-set_other marks n i true false differs ∙ so_far.marked k i (omega (arith, low, other)) is
+        ]
       ];
       only = λ i is. elim (cases_eq i n) [
         | inl same ↦ (place, omega arith, here ∙ ap (λ (q : ℕ). Some q) (sym same))

@@ -79,9 +79,10 @@ module _ (positions : List (ArrayVec ℕ)) (numbers : BTreeMap (ArrayVec ℕ) �
     settled = λ k i at. (let it = parts.in_order.settled k i at in value_at i it.kept it.found (settled_has it.kept it.kept.state it.settled (parts.each i it.kept it.found).0));
     counted = parts.counted;
     once = parts.in_order.once;
-    processed = λ k i at. (let it = parts.in_order.settled k i at in
-        ((λ is. (let low = it.processed.0 (sym (processed_at i it.kept it.found) ∙ is) in omega (arith, low, processed_is))),
-        (λ low. processed_at i it.kept it.found ∙ it.processed.1 (omega (arith, low, processed_is)))));
+    processed = λ k i at. (let it = parts.in_order.settled k i at in (
+      (λ is. (let low = it.processed.0 (sym (processed_at i it.kept it.found) ∙ is) in omega (arith, low, processed_is))),
+      (λ low. processed_at i it.kept it.found ∙ it.processed.1 (omega (arith, low, processed_is))),
+    ));
     edges = λ i j is. (let both = known i j is in (omega (arith, both.0, as_many), omega (arith, both.1, as_many)));
   }
 
@@ -101,8 +102,10 @@ module _ (positions : List (ArrayVec ℕ)) (numbers : BTreeMap (ArrayVec ℕ) �
             kept = r;
             found = here;
             settled = only_settled r r.state (table.states i r here) won;
-            processed = ((λ is. (let low = (table.processed k i at).0 (processed_at i r here ∙ is) in omega (arith, low, processed_is))),
-                (λ low. sym (processed_at i r here) ∙ (table.processed k i at).1 (omega (arith, low, processed_is))));
+            processed = (
+              (λ is. (let low = (table.processed k i at).0 (processed_at i r here ∙ is) in omega (arith, low, processed_is))),
+              (λ low. sym (processed_at i r here) ∙ (table.processed k i at).1 (omega (arith, low, processed_is))),
+            );
           }
 
   -- all lengths

@@ -25,10 +25,7 @@ fn fits_state(kept: Record) -> bool
 {
     match kept.state {
         State::Known => {
-            kept.winner.is_none()
-                && kept.distance == 0
-                && kept.left == 0
-                && kept.successors == 0
+            kept.winner.is_none() && kept.distance == 0 && kept.left == 0 && kept.successors == 0
         }
         State::Expanded => kept.winner.is_none() && kept.distance == 0,
         State::Settled | State::Processed => kept.winner.is_some(),
@@ -39,10 +36,7 @@ fn fits_state(kept: Record) -> bool
 fn records_fit(records: &[Record], expanded: u32) -> bool
     ensures { (result ≡ true) ↔ RecordsFit expanded records.now }
 {
-    records
-        .iter()
-        .enumerate()
-        .all(|(number, kept)| fits_at(*kept, number < expanded as usize))
+    records.iter().enumerate().all(|(number, kept)| fits_at(*kept, number < expanded as usize))
 }
 
 /// Whether the record holds what one of its state may, and is expanded where it should be.
@@ -64,9 +58,7 @@ fn is_settled_as(records: &[Record], number: u32, is_processed: bool) -> bool
     ensures { (result ≡ true) ↔ IsSettledAs records.now number (is_processed ≡ true) }
 {
     match records.get(number as usize) {
-        Some(record) => {
-            is_settled(record.state) && record.state.is_processed() == is_processed
-        }
+        Some(record) => { is_settled(record.state) && record.state.is_processed() == is_processed }
         None => false,
     }
 }
@@ -126,17 +118,17 @@ fn is_marked(marks: &[bool], number: usize) -> bool
 fn all_listed(records: &[Record], marks: &[bool]) -> bool
     ensures { (result ≡ true) ↔ ((i : ℕ) (r : Record) → slice_get records.now i ≡ Some r → settled_in r.state ≡ true → slice_index_or marks.now i false ≡ true) }
 {
-    records
-        .iter()
-        .enumerate()
-        .all(|(number, kept)| !is_settled(kept.state) || is_marked(marks, number))
+    records.iter().enumerate().all(|(number, kept)| !is_settled(kept.state)
+        || is_marked(marks, number))
 }
 
 /// Whether each position has so many bytes.
 pub fn are_long(positions: &[Packed], packed: u32) -> bool
     ensures { (result ≡ true) ↔ ((i : ℕ) (x : ArrayVec ℕ) → slice_get positions.now i ≡ Some x → length x.items ≡ packed) }
 {
-    positions.iter().all(|position| position.len() == packed as usize)
+    positions
+        .iter()
+        .all(|position| position.len() == packed as usize)
 }
 
 /// Whether records and settled order fit together, of which so many are expanded and processed.
@@ -149,7 +141,10 @@ pub fn parts_fit(
 ) -> Result<bool, AllocError>
     ensures { IfOk result (λ fits. (fits ≡ true) ↔ PartsFit expanded processed records.now order.now) }
 {
-    if records.is_empty() || !records_fit(records, expanded) || settled_count(records) != order.len() {
+    if records.is_empty()
+        || !records_fit(records, expanded)
+        || settled_count(records) != order.len()
+    {
         return Ok(false);
     }
     match listed(alloc, records, order, processed)? {
