@@ -4,8 +4,6 @@
 mod canonical;
 mod fault;
 mod file;
-#[cfg(test)]
-mod tests;
 
 pub use fault::{FileFault, Refused};
 pub use file::FlatTable;
