@@ -4,16 +4,16 @@ use Rattle.sector_disk.specs.Disk.{Picture, Disk}
 use Rattle.page_store.specs.declared.marks.Mark.TheVariants.{Free}
 use Rattle.page_store.specs.Marks.{mark}
 use Rattle.page_store.specs.Spelling.{Stands, IsCalm}
-use Rattle.page_store.specs.Store.{Store}
+use Rattle.page_store.specs.Store.{Store, IsSound}
 use Rattle.table.specs.InMemory.{stored_in}
 use Rattle.table.specs.Fitting.{Fits}
 use Rattle.flat_file.specs.declared.game.Game.{Game}
 use Rattle.flat_file.specs.Held.{Kept, Keeps}
 
--- a file: its pages, and the table of the last commit
+-- a table's file: its pages, and in memory the game of the last commit, if one is loaded
 pub record File : Type 0 where
   pub store : Store
-  pub kept : Option Kept
+  pub game : Option Game
 
 -- the text and the table that are in memory
 abbrev pub kept_in : Game → Kept
@@ -48,3 +48,9 @@ pub record IsBacked (store : Store) (pages : List ℕ) (kept : Option Kept) : Ty
   pub calm : store.closed ≡ false → IsCalm store
   pub free : store.closed ≡ false → kept ≡ None → (p : ℕ) → 1 ≤ p → p < length store.marks → mark store.marks p ≡ Free
   pub stands : IsTrue store.disk.honest → store.closed ≡ false → Stands (λ p. Contains pages p) (Keeps store.root (length store.marks) kept) store
+
+-- the file as it is between commands
+pub record IsFile (file : File) : Type 0 where
+  pub sound : IsSound file.store
+  pub games : AreGames file.game
+  pub backed : IsBacked file.store (pages_of file.game) (kept_of file.game)

@@ -1,11 +1,14 @@
 -- What holds of all that a file of layout 1 keeps.
-use Rattle.std.specs.Prelude.{◌≡◌, ℕ, ◌*◌, ◌/◌, ◌≤◌, min, List, length, Option, None, Some, Contains}
+use Rattle.std.specs.Prelude.{◌≡◌, ℕ, ◌*◌, ◌/◌, ◌≤◌, min, false, List, length, Option, None, Some, Contains, IsTrue}
 use Rattle.std.proofs.Common.{arith}
 use Rattle.std.proofs.Math.Nat.{le-min, le-div_iff_mul-le}
 use Rattle.sector_disk.specs.Disk.{Picture}
 use Rattle.page_store.specs.Page.{page}
+use Rattle.page_store.specs.Carrying.{stop_leaves}
 use Rattle.page_store.specs.Spelling.{SpelledBy, Spells}
+use Rattle.page_store.specs.Store.{StopLeaves}
 use Rattle.page_chain.specs.Resting.{a_chain_rests_on_its_pages, a_chain_fits_more}
+use Rattle.flat_file.specs.File.{File, IsFile, kept_of}
 use Rattle.flat_file.specs.Held.{Kept, KeepsGame, Keeps, capacity_of, Stores}
 
 -- what is kept of a game rests on the pages of its chain alone
@@ -56,3 +59,9 @@ spells_stores root c kept picture enough few it =
       room = omega (arith, enough, fits);
       keeps = keeps_in_more root c (capacity_of picture) kept (page picture) fits it.spelt;
     }
+
+-- between commands a stop leaves what is kept
+pub a_file_is_kept : (file : File) → IsFile file → IsTrue file.store.disk.honest → file.store.closed ≡ false → StopLeaves file.store (λ picture. Stores picture (kept_of file.game))
+a_file_is_kept file it honest is_open picture left =
+    spells_stores file.store.root (length file.store.marks) (kept_of file.game) picture it.backed.room it.sound.few
+    (stop_leaves file.store (it.backed.stands honest is_open) (it.sound.safe honest is_open) picture left)

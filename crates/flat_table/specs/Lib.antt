@@ -1,1 +1,5 @@
 pub mod Faults
+pub mod Pages
+pub mod Bytes
+pub mod Causes
+pub mod Calls

@@ -1,20 +1,34 @@
 //! A table in a file.
-ghost use Rattle.std.specs.Prelude.{◌≡◌, ◌≤◌, ◌<◌, ◌^◌, ℕ, true, length, Contains, IfOk, IfSome};
+ghost use Rattle.std.specs.Prelude.{◌≡◌, ◌≢◌, ◌≤◌, ◌^◌, ℕ, true, None, length, option_map, OnOk, OnErr, IfOk, IfErr, IsErr, IsErrOf, IfSome, IfNone, IsTrue};
+ghost use Rattle.sector_disk.specs.Disk.{LeavesOnly, MayLeave};
+ghost use Rattle.root_pair.specs.Root.{Begins};
+ghost use Rattle.retrograde.specs.Stored.{loaded};
+ghost use Rattle.table.specs.InMemory.{stored_in};
+ghost use Rattle.flat_file.specs.declared.game.Game.{Game as Loaded};
+ghost use Rattle.flat_file.specs.File.{File, IsFile, kept_of, pages_of};
+ghost use Rattle.flat_write.specs.Saving.{GoesAhead};
+ghost use Rattle.flat_table.specs.Calls.{file_of, kept_as, text_kept, table_kept, IsOpened, IsNotOpened, IsCreated, IsNotCreated, IsPut, IsNotPut};
+ghost use Rattle.flat_table.specs.Causes.{OpenCause, CreateCause, PutCause};
+ghost use Rattle.flat_table.specs.Pages.{ArePages};
 
-use crate::canonical::are_canonical;
+use crate::put::put;
 use crate::{FileFault, Refused};
 use flat_file::Game;
 use flat_read::read_all;
-use flat_write::save;
 use page_store::{PageStore, Pages};
-use position_pack::{Packed, Packing};
+use position_pack::Packed;
 use retrograde::Counts;
 use root_pair::create;
 use root_slot::empty_slot;
 use sector_disk::SectorDisk;
 use std::alloc::Global;
 use table::{MemTable, Table};
-use table_bytes::write_table;
+
+/// What is stated of a table's file.
+pub trait TableFile {
+    /// Its pages, and the game of the last commit, which is in memory.
+    ghost file: { Self → File };
+}
 
 /// A game's table in a file, with its last commit in memory. A command takes a copy of the table, works on that, and
 /// commits it; to give the command up it drops the copy.
@@ -25,27 +39,21 @@ pub struct FlatTable<D: SectorDisk> {
     commits: u64,
     /// The table, where a game is loaded.
     game: Option<Game>,
+    ghost there: { ArePages (length store.marks.items) (pages_of game) },
 }
 
-/// The pages that hold a game's text and table; none where no game is loaded.
-fn pages_in(game: &Option<Game>) -> &[u32] {
-    match game {
-        Some(game) => &game.pages,
-        None => &[],
-    }
-}
-
-/// Whether each of these pages is one that is handed out: not the system page, and below the capacity.
-fn are_pages(pages: &[u32], capacity: u32) -> bool
-    ensures { result ≡ true → (p : ℕ) → Contains pages.now p → (1 ≤ p) × (p < capacity) }
-{
-    pages.iter().all(|page| *page >= 1 && *page < capacity)
+impl<D: SectorDisk> TableFile for FlatTable<D> {
+    ghost file = { λ t. file_of (⟦<PageStore<D> as Pages>⟧.store t.store) t.game };
 }
 
 impl<D: SectorDisk> FlatTable<D> {
     /// Makes the empty table on this disk, and opens it. `Disk` (E1), `AlreadyATable` (E3) and then `TooSmall` (E6),
     /// or `OutOfMemory` (E8).
-    pub fn create(alloc: Global, disk: D) -> Result<Self, Refused<D>> {
+    pub fn create(alloc: Global, disk: D) -> Result<Self, Refused<D>>
+        ensures ok { IfOk result (λ t. IsCreated (D.disk disk) (D.failures disk) (⟦<FlatTable<D> as TableFile>⟧.file t)) }
+        ensures refused { IfErr result (λ back. IsNotCreated (D.disk disk) (D.failures disk) (D.disk back.disk) (D.failures back.disk)) }
+        ensures cause { IfErr result (λ back. CreateCause (D.disk disk) (D.failures disk) (D.failures back.disk) back.fault) }
+    {
         let mut disk = disk;
         match create(&mut disk, &empty_slot()) {
             Ok(()) => FlatTable::open(alloc, disk),
@@ -58,7 +66,11 @@ impl<D: SectorDisk> FlatTable<D> {
 
     /// Reads the whole table that this disk holds, after a sync. `Disk` (E1), `NotATable` (E2), `Damaged` (E4) or
     /// `OutOfMemory` (E8).
-    pub fn open(alloc: Global, disk: D) -> Result<Self, Refused<D>> {
+    pub fn open(alloc: Global, disk: D) -> Result<Self, Refused<D>>
+        ensures ok { IfOk result (λ t. IsOpened (D.disk disk) (D.failures disk) (⟦<FlatTable<D> as TableFile>⟧.file t)) }
+        ensures refused { IfErr result (λ back. IsNotOpened (D.disk disk) (D.failures disk) (D.disk back.disk) (D.failures back.disk)) }
+        ensures cause { IfErr result (λ back. OpenCause (D.disk disk) (D.failures disk) (D.failures back.disk) back.fault) }
+    {
         let mut store = match PageStore::open(alloc, disk) {
             Ok(store) => store,
             Err(refused) => {
@@ -82,100 +94,114 @@ impl<D: SectorDisk> FlatTable<D> {
         }
     }
 
-    /// The text of the game, where one is loaded.
-    pub fn text(&self) -> Option<&[u8]> {
+    /// The text of the game, where one is loaded. It takes no memory and always answers.
+    pub fn text(&self) -> Option<&[u8]>
+        ensures some { IfSome result (λ text. text_kept (kept_of (⟦<FlatTable<D> as TableFile>⟧.file self.now).game) ≡ Some text.now) }
+        ensures none { IfNone result (kept_of (⟦<FlatTable<D> as TableFile>⟧.file self.now).game ≡ None) }
+    {
         match &self.game {
             Some(game) => Some(&game.text),
             None => None,
         }
     }
 
-    /// How much is known of the game, as of the last commit.
-    pub fn counts(&self) -> Option<Counts> {
+    /// The table of the last commit, where a game is loaded. It takes no memory and always answers.
+    pub fn table(&self) -> Option<&MemTable>
+        ensures some { IfSome result (λ table. table_kept (kept_of (⟦<FlatTable<D> as TableFile>⟧.file self.now).game) ≡ Some (stored_in table.now)) }
+        ensures none { IfNone result (kept_of (⟦<FlatTable<D> as TableFile>⟧.file self.now).game ≡ None) }
+    {
         match &self.game {
-            Some(game) => Some(game.table.counts()),
+            Some(game) => Some(&game.table),
             None => None,
         }
     }
 
-    /// Whether a write or a sync has failed; the file has then to be opened again.
-    pub fn is_closed(&self) -> bool {
+    /// Whether a write or a sync has failed; the file has then to be opened again. It takes no memory and always answers.
+    pub fn is_closed(&self) -> bool
+        ensures { result ≡ (⟦<FlatTable<D> as TableFile>⟧.file self.now).store.closed }
+    {
         self.store.is_closed()
     }
 
-    /// Whether each position of the table is one of this packing.
-    pub fn are_canonical(&mut self, packing: &Packing) -> Result<bool, FileFault> {
-        match &mut self.game {
-            Some(game) => Ok(are_canonical(packing, &mut game.table)?),
-            None => Ok(true),
-        }
-    }
-
-    /// A copy of the table as of the last commit, to work on; none where no game is loaded.
-    pub fn copy(&self) -> Result<Option<MemTable>, FileFault>
-        ensures small { IfOk result (λ copy. IfSome copy (λ table. (⟦<MemTable as Table>⟧.counted table).known ≤ 2 ^ 24)) }
-    {
-        match &self.game {
-            Some(game) => Ok(Some(game.table.copy()?)),
-            None => Ok(None),
-        }
-    }
-
-    /// Commits the table of a game that is loaded now: its start, and no more.
+    /// Commits the table of a game that is loaded now, its start and no more, in the place of what is kept. `TableFull`
+    /// (E7), `Closed` (E9), `Disk` (E1) or `OutOfMemory` (E8). After a refusal what was kept is, but that after `Disk` in
+    /// a write or a sync the file is closed, and holds the one or the other.
     pub fn load(&mut self, text: &[u8], start: &Packed) -> Result<(), FileFault>
         requires { length text.now ≤ 65536 }
+        ensures ahead { GoesAhead (⟦<FlatTable<D> as TableFile>⟧.file self.old).store (⟦<FlatTable<D> as TableFile>⟧.file self.new).store }
+        ensures ok { IsFile (⟦<FlatTable<D> as TableFile>⟧.file self.old)
+            → OnOk result (IsPut (kept_as text.now (loaded start.now.items)) (⟦<FlatTable<D> as TableFile>⟧.file self.old) (⟦<FlatTable<D> as TableFile>⟧.file self.new)) }
+        ensures err { IsFile (⟦<FlatTable<D> as TableFile>⟧.file self.old)
+            → OnErr result (IsNotPut (kept_as text.now (loaded start.now.items)) (⟦<FlatTable<D> as TableFile>⟧.file self.old) (⟦<FlatTable<D> as TableFile>⟧.file self.new)) }
+        ensures cause { IsFile (⟦<FlatTable<D> as TableFile>⟧.file self.old)
+            → IfErr result (PutCause (kept_as text.now (loaded start.now.items)) (length start.now.items) (⟦<FlatTable<D> as TableFile>⟧.file self.old).store (⟦<FlatTable<D> as TableFile>⟧.file self.new).store) }
+        ensures still { IfErr result (λ fault. fault ≢ FileFault.Disk
+            → (⟦<FlatTable<D> as TableFile>⟧.file self.new).store.closed ≡ (⟦<FlatTable<D> as TableFile>⟧.file self.old).store.closed) }
     {
         let table = MemTable::new(self.alloc, start)?;
         let text = text.to_vec(self.alloc)?;
-        self.put(text, start.len() as u32, table)
+        self.replace(text, start.len() as u32, table)
     }
 
-    /// Commits a table that was worked on, in the place of the last commit's. After a refusal nothing is changed,
-    /// but that after `Disk` in a write or a sync the file is closed, and holds the one table or the other.
+    /// Commits a table that was worked on, in the place of the last commit's. `Inconsistent` (S6) where its parts do not
+    /// fit together, and else as `load`.
     pub fn commit(&mut self, table: MemTable) -> Result<(), FileFault>
         requires { (⟦<MemTable as Table>⟧.counted table).known ≤ 2 ^ 24 }
+        ensures ahead { GoesAhead (⟦<FlatTable<D> as TableFile>⟧.file self.old).store (⟦<FlatTable<D> as TableFile>⟧.file self.new).store }
+        ensures ok { (was : Loaded) → (⟦<FlatTable<D> as TableFile>⟧.file self.old).game ≡ Some was → IsFile (⟦<FlatTable<D> as TableFile>⟧.file self.old)
+            → OnOk result (IsPut (kept_as was.text.items (stored_in table)) (⟦<FlatTable<D> as TableFile>⟧.file self.old) (⟦<FlatTable<D> as TableFile>⟧.file self.new)) }
+        ensures err { (was : Loaded) → (⟦<FlatTable<D> as TableFile>⟧.file self.old).game ≡ Some was → IsFile (⟦<FlatTable<D> as TableFile>⟧.file self.old)
+            → OnErr result (IsNotPut (kept_as was.text.items (stored_in table)) (⟦<FlatTable<D> as TableFile>⟧.file self.old) (⟦<FlatTable<D> as TableFile>⟧.file self.new)) }
+        ensures cause { (was : Loaded) → (⟦<FlatTable<D> as TableFile>⟧.file self.old).game ≡ Some was → IsFile (⟦<FlatTable<D> as TableFile>⟧.file self.old)
+            → IfErr result (PutCause (kept_as was.text.items (stored_in table)) was.packed (⟦<FlatTable<D> as TableFile>⟧.file self.old).store (⟦<FlatTable<D> as TableFile>⟧.file self.new).store) }
+        ensures still { IfErr result (λ fault. fault ≢ FileFault.Disk
+            → (⟦<FlatTable<D> as TableFile>⟧.file self.new).store.closed ≡ (⟦<FlatTable<D> as TableFile>⟧.file self.old).store.closed) }
+        ensures none { (⟦<FlatTable<D> as TableFile>⟧.file self.old).game ≡ None
+            → IsErrOf result FileFault.Inconsistent × ((⟦<FlatTable<D> as TableFile>⟧.file self.new) ≡ (⟦<FlatTable<D> as TableFile>⟧.file self.old)) }
     {
         let Some(game) = &self.game else {
             return Err(FileFault::Inconsistent);
         };
         let packed = game.packed;
         let text = game.text.to_vec(self.alloc)?;
-        self.put(text, packed, table)
+        self.replace(text, packed, table)
     }
 
-    /// Stores a text and a table: a new chain on free pages, and then the root that names it.
-    fn put(&mut self, text: Vec<u8>, packed: u32, table: MemTable) -> Result<(), FileFault>
+    /// Stores a text and a table in the place of what is kept.
+    fn replace(&mut self, text: Vec<u8>, packed: u32, table: MemTable) -> Result<(), FileFault>
         requires text { length text.items ≤ 65536 }
         requires packed { packed ≤ 240 }
         requires known { (⟦<MemTable as Table>⟧.counted table).known ≤ 2 ^ 24 }
+        ensures ahead { GoesAhead (⟦<FlatTable<D> as TableFile>⟧.file self.old).store (⟦<FlatTable<D> as TableFile>⟧.file self.new).store }
+        ensures ok { IsFile (⟦<FlatTable<D> as TableFile>⟧.file self.old)
+            → OnOk result (IsPut (kept_as text.items (stored_in table)) (⟦<FlatTable<D> as TableFile>⟧.file self.old) (⟦<FlatTable<D> as TableFile>⟧.file self.new)) }
+        ensures err { IsFile (⟦<FlatTable<D> as TableFile>⟧.file self.old)
+            → OnErr result (IsNotPut (kept_as text.items (stored_in table)) (⟦<FlatTable<D> as TableFile>⟧.file self.old) (⟦<FlatTable<D> as TableFile>⟧.file self.new)) }
+        ensures cause { IsFile (⟦<FlatTable<D> as TableFile>⟧.file self.old)
+            → IfErr result (PutCause (kept_as text.items (stored_in table)) packed (⟦<FlatTable<D> as TableFile>⟧.file self.old).store (⟦<FlatTable<D> as TableFile>⟧.file self.new).store) }
+        ensures still { IfErr result (λ fault. fault ≢ FileFault.Disk
+            → (⟦<FlatTable<D> as TableFile>⟧.file self.new).store.closed ≡ (⟦<FlatTable<D> as TableFile>⟧.file self.old).store.closed) }
     {
-        let mut table = table;
-        if !table.fits(self.alloc, packed)? {
-            return Err(FileFault::Inconsistent);
-        }
-        let written = write_table(self.alloc, &text, packed, &mut table)?;
         let commits = self.commits.wrapping_add(1);
-        let old = pages_in(&self.game);
-        if !are_pages(old, self.store.capacity()) {
-            return Err(FileFault::Inconsistent);
-        }
-        match save(self.alloc, &mut self.store, commits, old, &written) {
-            Ok(pages) => {
-                self.commits = commits;
-                self.game = Some(Game {
-                    text,
-                    packed,
-                    pages,
-                    table,
-                });
-                Ok(())
-            }
-            Err(fault) => Err(fault.into()),
-        }
+        let game = put(
+            self.alloc,
+            &mut self.store,
+            commits,
+            &self.game,
+            text,
+            packed,
+            table,
+        )?;
+        self.commits = commits;
+        self.game = Some(game);
+        Ok(())
     }
 
-    /// The disk, as it is.
-    pub fn into_disk(self) -> D {
+    /// The disk, as it is. It always answers.
+    pub fn into_disk(self) -> D
+        ensures disk { D.disk result ≡ (⟦<FlatTable<D> as TableFile>⟧.file self).store.disk }
+        ensures failures { D.failures result ≡ (⟦<FlatTable<D> as TableFile>⟧.file self).store.failures }
+    {
         let FlatTable { store, .. } = self;
         store.into_disk()
     }

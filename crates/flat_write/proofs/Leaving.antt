@@ -80,12 +80,13 @@ write_cause long old new Closed cause = λ some. cause
 
 -- the chain was not written
 pub left_writing : (pages : List ℕ) (sizes : Sizes) (bytes : List ℕ) (old new : Store) (fault : PageFault) → IsSound old → old.closed ≡ false → Works old new
-    → WriteCause (length bytes) old new fault → IsLeft pages sizes bytes old new fault
-left_writing pages sizes bytes old new fault sound was_open works cause = record {
+    → (fault ≢ DiskFailed → new.closed ≡ old.closed) → WriteCause (length bytes) old new fault → IsLeft pages sizes bytes old new fault
+left_writing pages sizes bytes old new fault sound was_open works still cause = record {
   ahead = works_ahead old new works;
   stop = λ was is backed it honest open_. leaves_more (λ picture stores. inl stores) (works_leaves pages old new was sound backed honest was_open works);
   left = inl works;
   untouched = inl was_open;
+  still = still;
   cause = write_cause (length bytes) old new fault cause;
 }
 
@@ -123,6 +124,7 @@ left_committing was_pages pages bytes root sizes old mid new fault sound was_ope
   stop = λ was is backed it honest open_. commit_leaves was_pages pages bytes root sizes old mid new was is sound was_open exchanged slot backed it commits honest;
   left = commit_left root old mid new exchanged.works commits fault cause same;
   untouched = inl was_open;
+  still = λ other. ap (λ (s : Store). s.closed) (same other) ∙ exchanged.closed;
   cause = commit_cause root old mid new exchanged.works commits (length bytes) fault exchanged.is_open cause;
 }
 

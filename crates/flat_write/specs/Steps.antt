@@ -1,6 +1,7 @@
 -- What the steps do that put one table in the place of another.
 use Rattle.std.specs.Prelude.{◌≡◌, ◌≢◌, ◌⊎◌, ℕ, ◌≤◌, ◌<◌, false, true, List, length, Option, Some, Contains, IsTrue}
 use Rattle.page_store.specs.declared.fault.PageFault.{PageFault}
+use Rattle.page_store.specs.declared.fault.PageFault.TheVariants.{Disk as DiskFailed}
 use Rattle.page_store.specs.declared.marks.Mark.{Mark}
 use Rattle.page_store.specs.declared.marks.Mark.TheVariants.{Committed, Waiting, Fresh, Free}
 use Rattle.page_store.specs.Marks.{mark}
@@ -33,6 +34,7 @@ pub record IsExchanged (was pages bytes : List ℕ) (old new : Store) : Type 0 w
   pub handed : (p : ℕ) → Contains pages p → (Contains was p → ⊥) → mark new.marks p ≡ Fresh
   pub gone : (p : ℕ) → Contains was p → IsGone (mark new.marks p)
   pub is_open : 1 ≤ length bytes → new.closed ≡ false
+  pub closed : new.closed ≡ old.closed
 
 -- the slot says that a table of these sizes begins at this page
 pub record IsSlotOf (from : ℕ) (numbers : Sizes) (root : List ℕ) : Type 0 where
@@ -57,10 +59,12 @@ pub record IsReplaced (was_pages pages : List ℕ) (sizes : Sizes) (bytes : List
   pub stop : LeavesOne was_pages sizes bytes old new
   pub done : (was : Option Kept) (is : Kept) → IsBacked old was_pages was → AreBytesOf is sizes bytes → IsBacked new pages (Some is)
 
--- the table of the old pages is left in its place for this fault, or the store is closed
+-- the table of the old pages is left in its place for this fault, or the store is closed, and that for a fault of the
+-- disk alone
 pub record IsLeft (was_pages : List ℕ) (sizes : Sizes) (bytes : List ℕ) (old new : Store) (fault : PageFault) : Type 0 where
   pub ahead : GoesAhead old new
   pub stop : LeavesOne was_pages sizes bytes old new
   pub left : Works old new ⊎ (new.closed ≡ true)
   pub untouched : (old.closed ≡ false) ⊎ (new.disk ≡ old.disk)
+  pub still : fault ≢ DiskFailed → new.closed ≡ old.closed
   pub cause : SaveCause (length bytes) old new fault

@@ -19,7 +19,7 @@ use table_bytes::{Sizes, Written};
 
 /// Writes a chain with these bytes on free pages, and commits a root that names it in the place of the one that names the
 /// old chain, whose pages are free then. Answers the pages of the new chain. After a refusal the store is as after the
-/// last commit, or closed.
+/// last commit, or closed; it is closed by `Disk` alone.
 ///
 /// A stop of the power within it leaves the old table or the new one, and after `Ok` the new.
 pub fn save<P: Pages>(
@@ -44,6 +44,7 @@ pub fn save<P: Pages>(
         → IsTrue (P.store store.old).disk.honest → OnErr result ((P.store store.new).closed ≡ false
         → LeavesTable (P.store store.old).disk (P.store store.new).disk was) }
     ensures untouched { (P.store store.old).closed ≡ false ⊎ ((P.store store.new).disk ≡ (P.store store.old).disk) }
+    ensures still { IfErr result (λ fault. fault ≢ PageFault.Disk → (P.store store.new).closed ≡ (P.store store.old).closed) }
     ensures cause { IfErr result (SaveCause (length written.now.bytes.items) (P.store store.old) (P.store store.new)) }
 {
     match replace(alloc, store, commits, old, written) {
@@ -87,6 +88,7 @@ fn exchange<P: Pages>(
     requires there { (p : ℕ) → Contains old.now p → (1 ≤ p) × (p < length (P.store store.old).marks) }
     ensures ok { IfOk result (λ pages. IsExchanged old.now pages.items bytes.now (P.store store.old) (P.store store.new)) }
     ensures works { Works (P.store store.old) (P.store store.new) }
+    ensures still { IfErr result (λ fault. fault ≢ PageFault.Disk → (P.store store.new).closed ≡ (P.store store.old).closed) }
     ensures cause { IfErr result (WriteCause (length bytes.now) (P.store store.old) (P.store store.new)) }
 {
     let pages = write_chain(alloc, store, bytes)?;

@@ -1,5 +1,5 @@
 -- The pages of a chain are written, one by one.
-use Rattle.std.proofs.Common.{◌≡◌, inl, inr, ℕ, ◌+◌, ◌*◌, ◌-◌, ◌<◌, ◌≤◌, List, [], ◌∷◌, ◌++◌, Some, false, length, take, drop, Contains, IsTrue, refl, sym, ◌∙◌, ap, subst, arith}
+use Rattle.std.proofs.Common.{◌≡◌, ◌≢◌, inl, inr, ℕ, ◌+◌, ◌*◌, ◌-◌, ◌<◌, ◌≤◌, List, [], ◌∷◌, ◌++◌, Some, false, length, take, drop, Contains, IsTrue, refl, sym, ◌∙◌, ap, subst, arith}
 use Rattle.std.proofs.Math.Seq.{take-append-add, take-length}
 use Rattle.std.proofs.lemmas.Bool.{cases_lt}
 use Rattle.std.proofs.lemmas.List.{length-append, length-take-le, length-drop, take_all, take-append-drop, take_more, get_or_past}
@@ -143,3 +143,8 @@ put_cause new Damaged put never = never
 put_cause new TableFull put never = never
 put_cause new OutOfMemory put never = never
 put_cause new Closed put closed = sym put.closed ∙ closed
+
+-- a page that is refused with any fault but that of the disk leaves the store open or closed as it was
+pub put_still : {old mid : Store} {pages content : List ℕ} {place : ℕ} (new : Store) (fault : PageFault) → IsPut old mid pages content place → (fault ≢ Disk → new ≡ mid) → fault ≢ Disk
+    → new.closed ≡ old.closed
+put_still new fault put same other = ap (λ (s : Store). s.closed) (same other) ∙ put.closed

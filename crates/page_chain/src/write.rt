@@ -1,5 +1,5 @@
 //! A chain is written: its pages are taken first, and then each is written with the number of the next one.
-ghost use Rattle.std.specs.Prelude.{◌≡◌, ◌⊎◌, ◌+◌, ◌*◌, ◌<◌, ◌≤◌, ℕ, false, length, take, drop, slice_index, Contains, OnOk, IfOk, IfErr, IsTrue};
+ghost use Rattle.std.specs.Prelude.{◌≡◌, ◌≢◌, ◌⊎◌, ◌+◌, ◌*◌, ◌<◌, ◌≤◌, ℕ, false, length, take, drop, slice_index, Contains, OnOk, IfOk, IfErr, IsTrue};
 ghost use Rattle.page_store.specs.declared.marks.Mark.TheVariants.{Fresh, Free};
 ghost use Rattle.page_store.specs.Marks.{mark as mark_of, free_count};
 ghost use Rattle.page_store.specs.Store.{reads, Works};
@@ -13,7 +13,8 @@ use page_store::{PageFault, Pages};
 use std::alloc::Global;
 
 /// Writes a chain with this content on free pages, and answers its pages in turn. `TableFull` where too few are free:
-/// then nothing is handed out. After another error some pages may be: the store goes back by `discard`.
+/// then nothing is handed out. After another error some pages may be: the store goes back by `discard`. Only `Disk`
+/// closes it.
 pub fn write_chain<P: Pages>(
     alloc: Global,
     store: &mut P,
@@ -28,8 +29,10 @@ pub fn write_chain<P: Pages>(
     ensures others { (p : ℕ) → (mark_of (P.store store.new).marks p ≡ mark_of (P.store store.old).marks p)
         ⊎ ((mark_of (P.store store.old).marks p ≡ Free) × (mark_of (P.store store.new).marks p ≡ Fresh)) }
     ensures open { OnOk result (1 ≤ length content.now → (P.store store.new).closed ≡ false) }
+    ensures closed { OnOk result ((P.store store.new).closed ≡ (P.store store.old).closed) }
     ensures works { Works (P.store store.old) (P.store store.new) }
     ensures refused { IfErr result (λ fault. fault ≡ PageFault.TableFull → P.store store.new ≡ P.store store.old) }
+    ensures still { IfErr result (λ fault. fault ≢ PageFault.Disk → (P.store store.new).closed ≡ (P.store store.old).closed) }
     ensures cause { IfErr result (WriteCause (length content.now) (P.store store.old) (P.store store.new)) }
 {
     let count = pages_for(content.len());
@@ -65,8 +68,10 @@ fn write_pages<P: Pages>(store: &mut P, pages: &[u32], content: &[u8]) -> Result
     ensures holds { IsTrue (P.store store.old).disk.honest → OnOk result
         (take (length content.now) (payloads (reads (P.store store.new)) pages.now) ≡ take (4092 * length pages.now) content.now) }
     ensures open { OnOk result (1 ≤ length pages.now → (P.store store.new).closed ≡ false) }
+    ensures closed { OnOk result ((P.store store.new).closed ≡ (P.store store.old).closed) }
     ensures marks { (P.store store.new).marks ≡ (P.store store.old).marks }
     ensures works { Works (P.store store.old) (P.store store.new) }
+    ensures still { IfErr result (λ fault. fault ≢ PageFault.Disk → (P.store store.new).closed ≡ (P.store store.old).closed) }
     ensures cause { IfErr result (PutCause (P.store store.old) (P.store store.new)) }
 {
     for place in 0..pages.len() {

@@ -1,8 +1,6 @@
 -- What a fault of a layer below is here, and the code of each.
 use Rattle.std.specs.Prelude.{ℕ, List, codes}
-use Rattle.rbg_read.specs.declared.fault.GameFault.{GameFault}
 use Rattle.rbg_read.specs.Codes.{fault_code}
-use Rattle.table.specs.declared.fault.TableFault.{TableFault}
 use Rattle.frontier.specs.declared.fault.StepFault.{StepFault}
 use Rattle.frontier.specs.declared.fault.StepFault.TheVariants as step
 use Rattle.flat_table.specs.declared.fault.FileFault.{FileFault}

@@ -1,2 +1,9 @@
 pub mod Faults
 pub mod Units
+pub mod Held
+pub mod State
+pub mod Stops
+pub mod Opening
+pub mod Machine
+pub mod Steps
+pub mod Laws

@@ -3,7 +3,7 @@
 use flat_table::FileFault;
 use frontier::StepFault;
 use rbg_read::fault::GameFault;
-use std::alloc::AllocError;
+use table::TableFault;
 use thiserror::Error;
 
 /// Why a command is refused. After any refusal the table is as it was, but that after `Disk` in a write or a sync the
@@ -141,13 +141,13 @@ impl From<GameFault> for SolverFault {
     }
 }
 
-impl From<AllocError> for SolverFault {
+impl From<TableFault> for SolverFault {
     ghost use Rattle.std.specs.Prelude.{◌≡◌};
     ghost use Rattle.recover.specs.declared.fault.SolverFault.TheVariants.{OutOfMemory};
 
     ghost from_gives = { λ _ r. r ≡ OutOfMemory };
 
-    fn from(_: AllocError) -> Self {
+    fn from(_: TableFault) -> Self {
         SolverFault::OutOfMemory
     }
 }

@@ -4,7 +4,12 @@
 mod fault;
 #[cfg(test)]
 mod games;
+pub mod laws;
+mod next;
+mod ready;
 mod replies;
+#[cfg(test)]
+mod row_tests;
 mod solver;
 #[cfg(test)]
 mod stop_tests;
@@ -13,4 +18,4 @@ mod tests;
 
 pub use fault::{Refused, SolverFault};
 pub use replies::{Units, Worked};
-pub use solver::Solver;
+pub use solver::{Solver, Solving};

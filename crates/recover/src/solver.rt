@@ -1,56 +1,82 @@
 //! A solver over a disk.
-ghost use Rattle.std.specs.Prelude.{IfOk};
-ghost use Rattle.legal_moves.specs.Compiled.{IsCompiled};
+ghost use Rattle.std.specs.Prelude.{◌≡◌, true, option_map, OnOk, IfOk, IfErr, IsErrOf};
+ghost use Rattle.retrograde.specs.Changes.{counts_of};
+ghost use Rattle.flat_file.specs.File.{IsFile, kept_of};
+ghost use Rattle.flat_table.specs.Calls.{IsNotOpened, IsNotCreated};
+ghost use Rattle.recover.specs.Held.{IsOfAGame, IsSound};
+ghost use Rattle.recover.specs.Machine.{load as load_it, work as work_on, loaded_it, worked};
+ghost use Rattle.recover.specs.Opening.{IsOpened, IsCreated, OpenCause, CreateCause};
+ghost use Rattle.recover.specs.State.{State, GoesAhead, IsReady, state_of};
+ghost use Rattle.recover.specs.Steps.{IsDone, IsRefused, IsNoGame};
+ghost use Rattle.recover.specs.Units.{units_in};
 
+use crate::next::next_table;
+use crate::ready::source_in;
 use crate::{Refused, SolverFault, Units, Worked};
-use flat_table::FlatTable;
-use legal_moves::compiled::Compiled;
-use legal_moves::source::MoveSource;
-use position_pack::Packing;
-use rbg_read::fault::GameFault;
-use rbg_read::read::read_game;
+use flat_table::{FlatTable, TableFile};
+use game_table::Source;
 use retrograde::Counts;
 use sector_disk::SectorDisk;
 use std::alloc::Global;
 use table::Table;
-use table_work::work;
+
+/// What is stated of a solver.
+pub trait Solving {
+    /// Its disk, and the table of the last commit.
+    ghost state: { Self → State };
+
+    /// What is in memory is what the disk keeps. So it is after `create` and `open`, and no call changes that.
+    ghost is_ready: { Self → Type 0 };
+}
 
 /// A game's table on a disk.
 #[derive(Drop)]
 pub struct Solver<D: SectorDisk> {
     alloc: Global,
     file: FlatTable<D>,
+    /// The game, where one is loaded.
+    source: Option<Source>,
 }
 
-/// The game of a stored text, made ready. A text that is no game is `Damaged`.
-fn stored_game(alloc: Global, text: &[u8]) -> Result<Compiled, SolverFault>
-    ensures { IfOk result IsCompiled }
+impl<D: SectorDisk> Solving for Solver<D> {
+    ghost state = { λ s. state_of (⟦<FlatTable<D> as TableFile>⟧.file s.file) };
+
+    ghost is_ready = { λ s. IsReady (⟦<FlatTable<D> as TableFile>⟧.file s.file) s.source };
+}
+
+/// The solver over this file, with its game made ready. `Damaged` where the text is no game or a position is not one of its
+/// positions.
+fn with_game<D: SectorDisk>(alloc: Global, file: FlatTable<D>) -> Result<Solver<D>, Refused<D>>
+    ensures same { IfOk result (λ solver. ⟦<Solver<D> as Solving>⟧.state solver ≡ state_of (⟦<FlatTable<D> as TableFile>⟧.file file)) }
+    ensures ready { IsFile (⟦<FlatTable<D> as TableFile>⟧.file file) → IfOk result (λ solver. ⟦<Solver<D> as Solving>⟧.is_ready solver) }
+    ensures of_a_game { OnOk result (IsOfAGame (kept_of (⟦<FlatTable<D> as TableFile>⟧.file file).game)) }
+    ensures disk { IfErr result (λ back. D.disk back.disk ≡ (⟦<FlatTable<D> as TableFile>⟧.file file).store.disk) }
+    ensures failures { IfErr result (λ back. D.failures back.disk ≡ (⟦<FlatTable<D> as TableFile>⟧.file file).store.failures) }
+    ensures cause { IfErr result (λ back. IsNoGame (kept_of (⟦<FlatTable<D> as TableFile>⟧.file file).game) back.fault) }
 {
-    match read_game(alloc, text) {
-        Ok(game) => Ok(Compiled::new(alloc, game)?),
-        Err(GameFault::OutOfMemory) => Err(SolverFault::OutOfMemory),
-        Err(_) => Err(SolverFault::Damaged),
+    match source_in(alloc, &file) {
+        Ok(source) => Ok(Solver {
+            alloc,
+            file,
+            source,
+        }),
+        Err(fault) => Err(Refused {
+            disk: file.into_disk(),
+            fault,
+        }),
     }
-}
-
-/// Sees that the text of the table is a game, and each stored position one of its positions.
-fn check_game<D: SectorDisk>(alloc: Global, file: &mut FlatTable<D>) -> Result<(), SolverFault> {
-    let source = match file.text() {
-        Some(text) => stored_game(alloc, text)?,
-        None => return Ok(()),
-    };
-    let packing = Packing::new(source.game());
-    if !file.are_canonical(&packing)? {
-        return Err(SolverFault::Damaged);
-    }
-    Ok(())
 }
 
 impl<D: SectorDisk> Solver<D> {
     /// Makes the empty table on this disk: E1, E3 and then E6, E8.
-    pub fn create(alloc: Global, disk: D) -> Result<Self, Refused<D>> {
+    pub fn create(alloc: Global, disk: D) -> Result<Self, Refused<D>>
+        ensures ready { IfOk result (λ solver. ⟦<Solver<D> as Solving>⟧.is_ready solver) }
+        ensures created { IfOk result (λ solver. IsCreated (D.disk disk) (D.failures disk) (⟦<Solver<D> as Solving>⟧.state solver)) }
+        ensures refused { IfErr result (λ back. IsNotCreated (D.disk disk) (D.failures disk) (D.disk back.disk) (D.failures back.disk)) }
+        ensures cause { IfErr result (λ back. CreateCause (D.disk disk) (D.failures disk) (D.failures back.disk) back.fault) }
+    {
         match FlatTable::create(alloc, disk) {
-            Ok(file) => Ok(Solver { alloc, file }),
+            Ok(file) => with_game(alloc, file),
             Err(refused) => Err(Refused {
                 disk: refused.disk,
                 fault: refused.fault.into(),
@@ -59,56 +85,74 @@ impl<D: SectorDisk> Solver<D> {
     }
 
     /// Opens the table that this disk holds: E1, E2, E4, E8.
-    pub fn open(alloc: Global, disk: D) -> Result<Self, Refused<D>> {
-        let mut file = match FlatTable::open(alloc, disk) {
-            Ok(file) => file,
-            Err(refused) => {
-                return Err(Refused {
-                    disk: refused.disk,
-                    fault: refused.fault.into(),
-                });
-            }
-        };
-        match check_game(alloc, &mut file) {
-            Ok(()) => Ok(Solver { alloc, file }),
-            Err(fault) => Err(Refused {
-                disk: file.into_disk(),
-                fault,
+    pub fn open(alloc: Global, disk: D) -> Result<Self, Refused<D>>
+        ensures ready { IfOk result (λ solver. ⟦<Solver<D> as Solving>⟧.is_ready solver) }
+        ensures opened { IfOk result (λ solver. IsOpened (D.disk disk) (D.failures disk) (⟦<Solver<D> as Solving>⟧.state solver)) }
+        ensures refused { IfErr result (λ back. IsNotOpened (D.disk disk) (D.failures disk) (D.disk back.disk) (D.failures back.disk)) }
+        ensures cause { IfErr result (λ back. OpenCause (D.disk disk) (D.failures disk) (D.failures back.disk) back.fault) }
+    {
+        match FlatTable::open(alloc, disk) {
+            Ok(file) => with_game(alloc, file),
+            Err(refused) => Err(Refused {
+                disk: refused.disk,
+                fault: refused.fault.into(),
             }),
         }
     }
 
     /// Loads the game of this text: E9, S2, then G1 to G10, then E1, E7, E8.
-    pub fn load(&mut self, text: &[u8]) -> Result<(), SolverFault> {
+    pub fn load(&mut self, text: &[u8]) -> Result<(), SolverFault>
+        ensures ready { ⟦<Solver<D> as Solving>⟧.is_ready self.old → ⟦<Solver<D> as Solving>⟧.is_ready self.new }
+        ensures ahead { GoesAhead (⟦<Solver<D> as Solving>⟧.state self.old) (⟦<Solver<D> as Solving>⟧.state self.new) }
+        ensures done { ⟦<Solver<D> as Solving>⟧.is_ready self.old
+            → OnOk result (IsDone (load_it text.now) loaded_it (⟦<Solver<D> as Solving>⟧.state self.old) (⟦<Solver<D> as Solving>⟧.state self.new)) }
+        ensures refused { ⟦<Solver<D> as Solving>⟧.is_ready self.old
+            → IfErr result (IsRefused (load_it text.now) (⟦<Solver<D> as Solving>⟧.state self.old) (⟦<Solver<D> as Solving>⟧.state self.new)) }
+        ensures closed { (⟦<Solver<D> as Solving>⟧.state self.old).closed ≡ true
+            → IsErrOf result SolverFault.Closed × (self.new ≡ self.old) }
+        ensures sound { ⟦<Solver<D> as Solving>⟧.is_ready self.old → IsSound (⟦<Solver<D> as Solving>⟧.state self.old).kept
+            → IsSound (⟦<Solver<D> as Solving>⟧.state self.new).kept }
+    {
         if self.file.is_closed() {
             return Err(SolverFault::Closed);
         }
         if self.file.text().is_some() {
             return Err(SolverFault::GameAlready);
         }
-        let game = read_game(self.alloc, text)?;
-        let source = Compiled::new(self.alloc, game)?;
-        self.file.load(text, &MoveSource::start(&source))?;
+        let source = Source::read(self.alloc, text)?;
+        self.file.load(text, &source.start())?;
+        self.source = Some(source);
         Ok(())
     }
 
     /// Does so many units of work, or fewer where the table is finished by then, and commits them at once: E9, S1,
     /// then S3 to S6, E1, E7, E8. Where no unit is done nothing is committed.
-    pub fn work(&mut self, units: Units) -> Result<Worked, SolverFault> {
+    pub fn work(&mut self, units: Units) -> Result<Worked, SolverFault>
+        ensures ready { ⟦<Solver<D> as Solving>⟧.is_ready self.old → ⟦<Solver<D> as Solving>⟧.is_ready self.new }
+        ensures ahead { GoesAhead (⟦<Solver<D> as Solving>⟧.state self.old) (⟦<Solver<D> as Solving>⟧.state self.new) }
+        ensures done { ⟦<Solver<D> as Solving>⟧.is_ready self.old → IfOk result (λ done.
+            IsDone (work_on (units_in units)) (worked done.units done.counts) (⟦<Solver<D> as Solving>⟧.state self.old) (⟦<Solver<D> as Solving>⟧.state self.new)) }
+        ensures refused { ⟦<Solver<D> as Solving>⟧.is_ready self.old
+            → IfErr result (IsRefused (work_on (units_in units)) (⟦<Solver<D> as Solving>⟧.state self.old) (⟦<Solver<D> as Solving>⟧.state self.new)) }
+        ensures closed { (⟦<Solver<D> as Solving>⟧.state self.old).closed ≡ true
+            → IsErrOf result SolverFault.Closed × (self.new ≡ self.old) }
+        ensures sound { ⟦<Solver<D> as Solving>⟧.is_ready self.old → IsSound (⟦<Solver<D> as Solving>⟧.state self.old).kept
+            → IsSound (⟦<Solver<D> as Solving>⟧.state self.new).kept }
+    {
         if self.file.is_closed() {
             return Err(SolverFault::Closed);
         }
-        let Some(text) = self.file.text() else {
+        let Some(source) = &self.source else {
             return Err(SolverFault::NoGame);
         };
-        let source = stored_game(self.alloc, text)?;
-        let Some(mut table) = self.file.copy()? else {
+        let Some(table) = self.file.table() else {
             return Err(SolverFault::NoGame);
         };
-        let done = work(self.alloc, &source, &mut table, units.count())?;
-        let counts = table.counts();
+        let next = next_table(self.alloc, source, table, units)?;
+        let done = next.units;
+        let counts = next.table.counts();
         if done > 0 {
-            self.file.commit(table)?;
+            self.file.commit(next.table)?;
         }
         Ok(Worked {
             units: done,
@@ -116,13 +160,20 @@ impl<D: SectorDisk> Solver<D> {
         })
     }
 
-    /// How far the table of the last commit is; none where no game is loaded. It always answers.
-    pub fn status(&self) -> Option<Counts> {
-        self.file.counts()
+    /// How far the table of the last commit is; none where no game is loaded. It takes no memory and always answers, of a
+    /// closed solver too.
+    pub fn status(&self) -> Option<Counts>
+        ensures { result ≡ option_map (λ kept. counts_of kept.table) (⟦<Solver<D> as Solving>⟧.state self.now).kept }
+    {
+        let table = self.file.table()?;
+        Some(table.counts())
     }
 
-    /// Gives the disk back. It always answers.
-    pub fn close(self) -> D {
+    /// Gives the disk back. It takes no memory and always answers, of a closed solver too.
+    pub fn close(self) -> D
+        ensures disk { D.disk result ≡ (⟦<Solver<D> as Solving>⟧.state self).disk }
+        ensures failures { D.failures result ≡ (⟦<Solver<D> as Solving>⟧.state self).failures }
+    {
         let Solver { file, .. } = self;
         file.into_disk()
     }

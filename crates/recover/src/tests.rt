@@ -9,21 +9,21 @@ use std::alloc::Global;
 use std::test::Fail;
 
 /// A solver over a new disk of so many pages.
-fn made(alloc: Global, pages: u32) -> Result<Solver<MemDisk>, Fail> {
+pub(crate) fn made(alloc: Global, pages: u32) -> Result<Solver<MemDisk>, Fail> {
     match Solver::create(alloc, MemDisk::new(alloc, 8 * u64::from(pages))?) {
         Ok(solver) => Ok(solver),
         Err(_) => Err("no table was made")?,
     }
 }
 
-fn units(count: u32) -> Result<Units, Fail> {
+pub(crate) fn units(count: u32) -> Result<Units, Fail> {
     match Units::new(count) {
         Some(units) => Ok(units),
         None => Err("not a number of units")?,
     }
 }
 
-fn counts(known: u32, expanded: u32, settled: u32, processed: u32) -> Counts {
+pub(crate) fn counts(known: u32, expanded: u32, settled: u32, processed: u32) -> Counts {
     Counts {
         known,
         expanded,

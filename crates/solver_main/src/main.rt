@@ -9,6 +9,8 @@ mod files;
 #[cfg(test)]
 mod game_tests;
 mod input;
+#[cfg(test)]
+mod line_tests;
 mod lines;
 mod mentions;
 #[cfg(test)]

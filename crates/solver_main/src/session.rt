@@ -120,9 +120,8 @@ fn put_work<D: SectorDisk, W: Write>(
     out: &mut W,
 ) -> io::Result<Option<u8>> {
     match solver.work(units) {
-        Ok(Worked { units, counts }) => {
-            let told = told(alloc, &counts)?;
-            let line = format!(in alloc; "units {units} {told}\n")?;
+        Ok(worked) => {
+            let line = work_line(alloc, &worked)?;
             put_line(out, line.as_bytes())?;
             Ok(None)
         }
@@ -134,7 +133,16 @@ fn put_work<D: SectorDisk, W: Write>(
     }
 }
 
-fn put_status<W: Write>(alloc: Global, counts: Option<Counts>, out: &mut W) -> io::Result<()> {
+/// The line that tells what work was done.
+pub fn work_line(alloc: Global, worked: &Worked) -> io::Result<String> {
+    let Worked { units, counts } = worked;
+    let told = told(alloc, counts)?;
+    let line = format!(in alloc; "units {units} {told}\n")?;
+    Ok(line)
+}
+
+/// Writes the line that tells how far a table is, at once.
+pub fn put_status<W: Write>(alloc: Global, counts: Option<Counts>, out: &mut W) -> io::Result<()> {
     match counts {
         Some(counts) => {
             let told = told(alloc, &counts)?;

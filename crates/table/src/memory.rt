@@ -120,6 +120,13 @@ impl MemTable {
         })
     }
 
+    /// Its positions, by number.
+    pub fn positions(&self) -> &[Packed]
+        ensures { bytes_of_each result.now ≡ (⟦<MemTable as Table>⟧.stored self.now).positions }
+    {
+        &self.positions
+    }
+
     /// Whether its parts fit together, and each position has so many bytes.
     pub fn fits(&self, alloc: Global, packed: u32) -> Result<bool, AllocError>
         ensures { IfOk result (λ fits. (fits ≡ true) ↔ Fits packed (⟦<MemTable as Table>⟧.stored self.now)) }

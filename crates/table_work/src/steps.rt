@@ -23,6 +23,7 @@ fn unit<M: MoveSource, T: Table>(
     requires limit { (T.counted table.old).known ≤ 2 ^ 24 }
     ensures limit { OnOk result ((T.counted table.new).known ≤ 2 ^ 24) }
     ensures honest { OnOk result (T.is_honest table.old ↔ T.is_honest table.new) }
+    ensures idle { IfOk result (λ done. done ≡ false → table.new ≡ table.old) }
     ensures sound { T.is_honest table.old → IsLocallySound (M.graph source.now) (M.is_wide source.now) (T.stored table.old)
         → OnOk result (IsLocallySound (M.graph source.now) (M.is_wide source.now) (T.stored table.new)) }
     ensures one { T.is_honest table.old → IsLocallySound (M.graph source.now) (M.is_wide source.now) (T.stored table.old)
@@ -70,6 +71,7 @@ pub fn work<M: MoveSource, T: Table>(
         → IfOk result (λ done. Works (M.graph source.now) (M.is_wide source.now) (T.stored table.old) done (T.stored table.new)) }
     ensures all { T.is_honest table.old → IsLocallySound (M.graph source.now) (M.is_wide source.now) (T.stored table.old)
         → IfOk result (λ done. (done ≡ units) ⊎ ((done < units) × IsFinished (view_of (T.stored table.new)))) }
+    ensures idle { IfOk result (λ done. done ≡ 0 → table.new ≡ table.old) }
     ensures cause { T.is_honest table.old → IsLocallySound (M.graph source.now) (M.is_wide source.now) (T.stored table.old)
         → IfErr result (StopsWith (M.graph source.now) (M.is_wide source.now) (T.stored table.old) units) }
     ensures consistent { T.is_honest table.old → IsLocallySound (M.graph source.now) (M.is_wide source.now) (T.stored table.old)

@@ -7,7 +7,7 @@ use Rattle.page_store.specs.Marks.{mark}
 use Rattle.page_store.specs.Works.{works_then}
 use Rattle.page_chain.proofs.Linking.{contains_got}
 use Rattle.page_chain.proofs.Passing.{passed_on}
-use Rattle.page_chain.proofs.Putting.{none_put, put_more, all_lead, all_hold, put_cause}
+use Rattle.page_chain.proofs.Putting.{none_put, put_more, all_lead, all_hold, put_still, put_cause}
 use Rattle.page_chain.proofs.write.write_pages.Goals as goal
 
 pub loop-place-init : goal.loop-place-init
@@ -28,6 +28,10 @@ returns-in_err-write_page-clause-marks g c = c.write_page.ensures.marks ∙ c.lo
 pub returns-in_err-write_page-clause-works : goal.returns-in_err-write_page-clause-works
 returns-in_err-write_page-clause-works g c = works_then c.loop-place.invariant.works c.write_page.ensures.works
 
+pub returns-in_err-write_page-clause-still : goal.returns-in_err-write_page-clause-still
+returns-in_err-write_page-clause-still g c =
+    passed_on _ c.from_residual.result _ c.from_residual.ensures (put_still (g.P.Pages.store c.write_page.new.self) _ c.loop-place.invariant c.in_err-write_page.ensures.untouched)
+
 pub returns-in_err-write_page-clause-cause : goal.returns-in_err-write_page-clause-cause
 returns-in_err-write_page-clause-cause g c =
     passed_on _ c.from_residual.result _ c.from_residual.ensures (put_cause (g.P.Pages.store c.write_page.new.self) _ c.loop-place.invariant c.in_err-write_page.ensures.cause)
@@ -46,6 +50,9 @@ returns-clause-holds g c = all_hold c.loop-place.place c.loop-place.invariant (o
 
 pub returns-clause-open : goal.returns-clause-open
 returns-clause-open g c = λ some. c.loop-place.invariant.gone (omega (arith, some, c.loop-place-test.false))
+
+pub returns-clause-closed : goal.returns-clause-closed
+returns-clause-closed g c = c.loop-place.invariant.closed
 
 pub returns-clause-marks : goal.returns-clause-marks
 returns-clause-marks g c = c.loop-place.invariant.marks

@@ -12,4 +12,5 @@ invariant-loop-done g l = record {
       → IsLocallySound (g.M.GameGraph.graph l.fn.source) (g.M.GameGraph.is_wide l.fn.source) (g.T.Table.stored l.table);
   works : g.T.Table.is_honest l.fn.table → IsLocallySound (g.M.GameGraph.graph l.fn.source) (g.M.GameGraph.is_wide l.fn.source) (g.T.Table.stored l.fn.table)
       → Works (g.M.GameGraph.graph l.fn.source) (g.M.GameGraph.is_wide l.fn.source) (g.T.Table.stored l.fn.table) l.done (g.T.Table.stored l.table);
+  idle : l.done ≡ 0 → l.table ≡ l.fn.table;
 }

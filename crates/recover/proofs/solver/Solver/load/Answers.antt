@@ -1,5 +1,31 @@
-use Rattle.recover.proofs.Texts.{text_fits}
+use Rattle.std.proofs.Common.{refl, sym, ◌∙◌}
+use Rattle.recover.proofs.Loading.{loaded_done, loaded_refused, loaded_sound, has_game, has_none}
+use Rattle.recover.proofs.Passing.{passed_on}
+use Rattle.recover.proofs.Refusing.{nothing_done}
 use Rattle.recover.proofs.solver.Solver.load.Goals as goal
 
-pub load-requires : goal.load-requires
-load-requires g c = text_fits c.args.text.now _ c.in_ok-game.ensures.reads
+pub returns-then-is_some-clause-refused : goal.returns-then-is_some-clause-refused
+returns-then-is_some-clause-refused g c = λ ready.
+    nothing_done _ _ _ ready.stands (refl, has_game c.text.result (λ t. t.now) _ c.is_some.result c.is_some.ensures c.if-is_some.true c.text.ensures.some)
+
+pub returns-in_err-source-clause-refused : goal.returns-in_err-source-clause-refused
+returns-in_err-source-clause-refused g c = λ ready.
+    passed_on _ c.from_residual.result _ c.from_residual.ensures (nothing_done _ _ _ ready.stands (refl, c.in_err-source.ensures.fault))
+
+pub returns-in_err-load-clause-refused : goal.returns-in_err-load-clause-refused
+returns-in_err-load-clause-refused g c = λ ready.
+    let none = has_none c.text.result _ c.is_some.result c.is_some.ensures c.if-is_some.false c.text.ensures.none in
+    let is_open = sym c.is_closed.ensures ∙ c.if-is_closed.false in
+    let refused = c.in_err-load.ensures in
+    passed_on _ c.from_residual-in_err-load.result _ c.from_residual-in_err-load.ensures
+    (loaded_refused _ _ _ c.in_ok-source.ensures.reads c.start.ensures.start _ _ none _ ready.stands is_open c.start.ensures.long (refused.err ready.stands) (refused.cause ready.stands) refused.still)
+
+pub returns-clause-done : goal.returns-clause-done
+returns-clause-done g c = λ ready.
+    let none = has_none c.text.result _ c.is_some.result c.is_some.ensures c.if-is_some.false c.text.ensures.none in
+    loaded_done _ _ _ c.in_ok-source.ensures.reads c.start.ensures.start _ _ none c.load.ensures.ahead.goes_on (c.in_ok-load.ensures.ok ready.stands)
+
+pub returns-clause-sound : goal.returns-clause-sound
+returns-clause-sound g c = λ ready sound.
+    let none = has_none c.text.result _ c.is_some.result c.is_some.ensures c.if-is_some.false c.text.ensures.none in
+    loaded_sound _ _ _ c.in_ok-source.ensures.reads c.start.ensures.start _ _ none (c.in_ok-load.ensures.ok ready.stands)

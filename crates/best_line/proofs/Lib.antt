@@ -1,0 +1,5 @@
+mod Passing
+mod ListLemmas
+mod FinishLemmas
+mod StepLemmas
+mod LineLemmas

@@ -1,0 +1,28 @@
+-- Why there is no line.
+use Rattle.std.specs.Prelude.{◌≡◌, ℕ, None, IsSome}
+use Rattle.legal_moves.specs.declared.fault.MoveFault.{MoveFault}
+use Rattle.legal_moves.specs.declared.fault.MoveFault.TheVariants as search
+use Rattle.retrograde.specs.View.{View}
+use Rattle.best_line.specs.declared.fault.LineFault.{LineFault}
+use Rattle.best_line.specs.declared.fault.LineFault.TheVariants.{NotSettled, Inconsistent, TooWide, OutOfMemory, Table}
+
+-- what a fault of the search is as a fault of the line
+abbrev pub search_fault : MoveFault → LineFault
+search_fault search.TooWide = TooWide
+search_fault search.OutOfMemory = OutOfMemory
+
+-- why a table that agrees with itself has no line from this number: it has no value, or memory or the table gave out
+abbrev pub IsCause : {P : Type 0} → View P → ℕ → LineFault → Type 0
+IsCause view number NotSettled = view.value number ≡ None
+IsCause view number Inconsistent = ⊥
+IsCause view number TooWide = ⊥
+IsCause view number OutOfMemory = IsSome (view.value number)
+IsCause view number (Table fault) = Unit {0}
+
+-- the table itself gave no answer
+abbrev pub IsOfTable : LineFault → Type 0
+IsOfTable NotSettled = ⊥
+IsOfTable Inconsistent = ⊥
+IsOfTable TooWide = ⊥
+IsOfTable OutOfMemory = ⊥
+IsOfTable (Table fault) = Unit {0}

@@ -1,0 +1,5 @@
+pub mod Values
+pub mod Rows
+pub mod Lines
+pub mod Causes
+pub mod Laws

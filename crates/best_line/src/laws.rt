@@ -1,0 +1,18 @@
+//! What the answers mean in the game: each is a law, which proofs cite by a call.
+ghost use Rattle.std.specs.Prelude.{ℕ, List};
+ghost use Rattle.retrograde.specs.View.{HasNumber};
+ghost use Rattle.retrograde.specs.Stored.{Stored, view_of};
+ghost use Rattle.retrograde.specs.Sound.{IsLocallySound};
+ghost use Rattle.best_line.specs.declared.answers.Value.{Value};
+ghost use Rattle.best_line.specs.Values.{IsValue};
+ghost use Rattle.best_line.specs.Laws.{IsSo};
+
+use retrograde::GameGraph;
+
+/// A value that a table that agrees with itself gives a position is so: who is said to win it does, in
+/// so many moves and no fewer, and nobody wins what is said to be drawn.
+pub fn values_are_so<M: GameGraph>()
+    ensures { (game : M) (stored : Stored (List ℕ)) (i : ℕ) (x : List ℕ) (value : Value)
+        → IsLocallySound (M.graph game) (M.is_wide game) stored → HasNumber (view_of stored) i x
+        → IsValue (view_of stored) i value → IsSo (M.graph game) x value }
+{}

@@ -1,0 +1,21 @@
+//! What a table of a game answers: the value of a position, a best line from it, and a list.
+#![tactic(auto)]
+
+mod answers;
+mod fault;
+#[cfg(test)]
+mod game_texts;
+mod laws;
+mod lines;
+mod rows;
+mod steps;
+#[cfg(test)]
+mod tests;
+mod values;
+
+pub use answers::{Row, Value};
+pub use fault::LineFault;
+pub use laws::values_are_so;
+pub use lines::line;
+pub use rows::list;
+pub use values::value;

@@ -1,0 +1,82 @@
+//! A best line: the winner wins as soon as he can, and the other side puts it off as long as it can.
+ghost use Rattle.std.specs.Prelude.{◌≡◌, ◌↔◌, ◌<◌, IfOk, OnOk, IfErr, Some, slice_get};
+ghost use Rattle.retrograde.specs.Stored.{IsTable, view_of};
+ghost use Rattle.retrograde.specs.Sound.{IsLocallySound};
+ghost use Rattle.best_line.specs.Lines.{IsBestLine, IsBestPlay};
+ghost use Rattle.best_line.specs.Causes.{IsCause, IsOfTable};
+
+use crate::answers::Value;
+use crate::fault::LineFault;
+use crate::steps::next_on_line;
+use crate::values::value;
+use legal_moves::MoveSource;
+use rbg_game::roles::Player;
+use std::alloc::Global;
+use table::Table;
+
+/// The line from a position that this player wins in this distance.
+fn follow<M: MoveSource, T: Table>(
+    alloc: Global,
+    source: &M,
+    table: &mut T,
+    number: u32,
+    winner: Player,
+    distance: u32,
+) -> Result<Vec<u32>, LineFault>
+    requires source { M.is_sound source.now }
+    requires known { number < (T.counted table.old).known }
+    ensures line { T.is_honest table.old → IsTable (T.stored table.old) → (view_of (T.stored table.old)).value number ≡ Some (winner, distance)
+        → IfOk result (λ numbers. IsBestLine (M.graph source.now) (view_of (T.stored table.old)) winner distance numbers.items) }
+    ensures begins { IfOk result (λ numbers. slice_get numbers.items 0 ≡ Some number) }
+    ensures cause { T.is_honest table.old → IsLocallySound (M.graph source.now) (M.is_wide source.now) (T.stored table.old)
+        → (view_of (T.stored table.old)).value number ≡ Some (winner, distance)
+        → IfErr result (IsCause (view_of (T.stored table.old)) number) }
+    ensures unchanged { T.is_honest table.old → IfErr result (λ fault. ¬ IsOfTable fault
+        → T.is_honest table.new × (T.stored table.new ≡ T.stored table.old)) }
+    ensures uncounted { IfErr result (λ fault. ¬ IsOfTable fault → T.counted table.new ≡ T.counted table.old) }
+    ensures same { T.is_honest table.old → OnOk result (T.stored table.new ≡ T.stored table.old) }
+    ensures honest { OnOk result (T.is_honest table.old ↔ T.is_honest table.new) }
+    ensures counts { OnOk result (T.counted table.new ≡ T.counted table.old) }
+{
+    let mut numbers = Vec::new(alloc);
+    numbers.push(number)?;
+    let mut at = number;
+    for step in 0..distance {
+        at = next_on_line(alloc, source, table, at, winner, distance - step - 1)?;
+        numbers.push(at)?;
+    }
+    Ok(numbers)
+}
+
+/// The numbers of a best line: from the position with this number, which is below the count of known
+/// positions, each next one is the first successor in the order of the bytes that the same player wins
+/// in one fewer, and the last is won in 0.
+///
+/// `NotSettled` comes where the position has no winner. `Inconsistent` and `TooWide` come only where the
+/// table did not agree with itself. The table stays as it was, but after its own fault nothing is said
+/// of it.
+pub fn line<M: MoveSource, T: Table>(
+    alloc: Global,
+    source: &M,
+    table: &mut T,
+    number: u32,
+) -> Result<Vec<u32>, LineFault>
+    requires source { M.is_sound source.now }
+    requires known { number < (T.counted table.old).known }
+    ensures line { T.is_honest table.old → IsLocallySound (M.graph source.now) (M.is_wide source.now) (T.stored table.old)
+        → IfOk result (λ numbers. IsBestPlay (M.graph source.now) (view_of (T.stored table.old)) number numbers.items) }
+    ensures begins { IfOk result (λ numbers. slice_get numbers.items 0 ≡ Some number) }
+    ensures cause { T.is_honest table.old → IsLocallySound (M.graph source.now) (M.is_wide source.now) (T.stored table.old)
+        → IfErr result (IsCause (view_of (T.stored table.old)) number) }
+    ensures unchanged { T.is_honest table.old → IfErr result (λ fault. ¬ IsOfTable fault
+        → T.is_honest table.new × (T.stored table.new ≡ T.stored table.old)) }
+    ensures uncounted { IfErr result (λ fault. ¬ IsOfTable fault → T.counted table.new ≡ T.counted table.old) }
+    ensures same { T.is_honest table.old → OnOk result (T.stored table.new ≡ T.stored table.old) }
+    ensures honest { OnOk result (T.is_honest table.old ↔ T.is_honest table.new) }
+    ensures counts { OnOk result (T.counted table.new ≡ T.counted table.old) }
+{
+    match value(table, number)? {
+        Value::Won(winner, distance) => follow(alloc, source, table, number, winner, distance),
+        Value::Drawn | Value::Open => Err(LineFault::NotSettled),
+    }
+}

@@ -1,0 +1,39 @@
+//! Positions by number, with their values.
+ghost use Rattle.std.specs.Prelude.{◌≡◌, ◌↔◌, ◌-◌, ◌<◌, ◌≤◌, IfOk, OnOk, length, min};
+ghost use Rattle.retrograde.specs.Stored.{IsTable, view_of};
+ghost use Rattle.best_line.specs.Rows.{AreRows};
+
+use crate::answers::Row;
+use crate::values::value;
+use std::alloc::Global;
+use table::{Table, TableFault};
+
+/// The rows of so many numbers, ascending from the one given, or of fewer where the known positions end
+/// before.
+///
+/// The first number is below the count of known positions, and the rows are 1 to 256. A fault is the
+/// table's or want of memory, and nothing is said of the table after it; else the table stays as it was.
+pub fn list<T: Table>(
+    alloc: Global,
+    table: &mut T,
+    from: u32,
+    count: u32,
+) -> Result<Vec<Row>, TableFault>
+    requires from { from < (T.counted table.old).known }
+    requires some { 1 ≤ count }
+    requires few { count ≤ 256 }
+    ensures rows { T.is_honest table.old → IsTable (T.stored table.old)
+        → IfOk result (λ rows. AreRows (view_of (T.stored table.old)) from count rows.items) }
+    ensures lengths { IfOk result (λ rows. length rows.items ≡ min count ((T.counted table.old).known - from)) }
+    ensures same { T.is_honest table.old → OnOk result (T.stored table.new ≡ T.stored table.old) }
+    ensures honest { OnOk result (T.is_honest table.old ↔ T.is_honest table.new) }
+    ensures counts { OnOk result (T.counted table.new ≡ T.counted table.old) }
+{
+    let end = from + count.min(table.counts().known - from);
+    let mut rows = Vec::new(alloc);
+    for number in from..end {
+        let value = value(table, number)?;
+        rows.push(Row { number, value })?;
+    }
+    Ok(rows)
+}

@@ -1,0 +1,98 @@
+-- The empty table is made, and opened.
+use Rattle.std.proofs.Common.{◌≡◌, ◌⊎◌, inl, inr, ◌≤◌, ℕ, false, true, List, None, IsTrue, ◌∙◌, subst, arith}
+use Rattle.std.proofs.Math.Nat.{le-min, le-div_iff_mul-le}
+use Rattle.sector_disk.specs.Disk.{Picture, Disk, size, GoesOn, LeavesOnly, MayLeave, AllSynced}
+use Rattle.sector_disk.specs.Moments.{goes_on_trans, leaves_then, leaves_more, still_honest}
+use Rattle.root_pair.specs.Rest.{rest_leaves, synced_rests}
+use Rattle.root_pair.specs.Root.{Begins, HoldsRoot, IsMade, OldOrNoneOrNew}
+use Rattle.root_slot.specs.Slot.{IsEmptySlot}
+use Rattle.flat_file.specs.File.{File, kept_of}
+use Rattle.flat_file.specs.Held.{Stores}
+use Rattle.flat_read.specs.Laws.{a_picture_stores_one_table}
+use Rattle.flat_table.specs.declared.fault.FileFault.{FileFault}
+use Rattle.flat_table.specs.declared.fault.FileFault.TheVariants.{Disk as DiskFailed, NotATable, AlreadyATable, Damaged, TooSmall, TableFull, OutOfMemory, Closed, Inconsistent}
+use Rattle.flat_table.specs.Calls.{GoesFrom, IsOpened, IsNotOpened, OldOrEmpty, IsCreated, IsNotCreated}
+use Rattle.flat_table.specs.Causes.{OpenCause, CreateCause}
+use Rattle.flat_table.proofs.Opening.{grew_from}
+
+-- a table with an empty slot and room for 16 pages stores the empty table
+pub made_stores : {root : List ℕ} → IsEmptySlot root → (picture : Picture) → IsMade root picture → Stores picture None
+made_stores {root} empty picture made = record {
+  root = root;
+  holds = made.holds;
+  room = le-min ((le-div_iff_mul-le (omega arith)).1 (omega (arith, made.room))) (omega arith);
+  keeps = empty;
+}
+
+pub old_or_empty : {root : List ℕ} → IsEmptySlot root → (disk : Disk) (picture : Picture) → OldOrNoneOrNew disk.now root picture → OldOrEmpty disk.now picture
+old_or_empty {root} empty disk picture either = λ table. each (either table)
+  where
+    each : MayLeave disk.now picture ⊎ IsMade root picture → MayLeave disk.now picture ⊎ Stores picture None
+    each (inl left) = inl left
+    each (inr made) = inr (made_stores empty picture made)
+
+-- no is not yes
+pub never : false ≡ true → ⊥
+never is = cc
+
+-- what `create` of the layer below promises where it answers Ok
+pub record IsLaidDown (root : List ℕ) (disk mid : Disk) : Type 0 where
+  pub goes_on : GoesOn disk mid
+  pub same_size : size mid ≡ size disk
+  pub room : 128 ≤ size disk
+  pub holds : IsTrue disk.honest → HoldsRoot root mid.now.contents
+  pub synced : IsTrue disk.honest → AllSynced mid.now
+  pub moments : IsTrue disk.honest → LeavesOnly disk mid (OldOrNoneOrNew disk.now root)
+  pub fresh : IsTrue disk.honest → ¬ Begins disk.now.contents
+
+module _ {root : List ℕ} (empty : IsEmptySlot root) (disk mid : Disk) (count middle : ℕ) (more : count ≤ middle) (laid : IsLaidDown root disk mid) where
+  -- a stop then leaves the empty table
+  left_empty : IsTrue disk.honest → (picture : Picture) → MayLeave mid.now picture → Stores picture None
+  left_empty honest picture left =
+      let rest = synced_rests (laid.holds honest) (laid.synced honest) in
+      let holds : HoldsRoot root picture =
+      subst (λ (r : List ℕ). HoldsRoot r picture) (laid.holds honest).is (rest_leaves mid.now rest picture left) in
+      made_stores empty picture (record { holds = holds; room = omega (arith, laid.room, laid.same_size, (laid.synced honest).lasting, left.no_shorter) })
+
+  stored_empty : IsTrue disk.honest → Stores mid.now.contents None
+  stored_empty honest = made_stores empty mid.now.contents (record { holds = laid.holds honest; room = omega (arith, laid.room, laid.same_size) })
+
+  from_first : (later : Disk) (now : ℕ) → GoesFrom mid middle later now → GoesFrom disk count later now
+  from_first later now from = record {
+    goes_on = goes_on_trans laid.goes_on from.goes_on;
+    failures = omega (arith, more, from.failures);
+    same_size = from.same_size ∙ laid.same_size;
+  }
+
+  leaves_through : (later : Disk) → GoesOn mid later → (IsTrue mid.honest → LeavesOnly mid later (MayLeave mid.now)) → IsTrue disk.honest → LeavesOnly disk later (OldOrEmpty disk.now)
+  leaves_through later goes_on leaves honest =
+      leaves_then goes_on (leaves_more (old_or_empty empty disk) (laid.moments honest))
+      (leaves_more (λ picture left table. inr (left_empty honest picture left)) (leaves (still_honest laid.goes_on honest)))
+
+  pub created : (file : File) → IsOpened mid middle file → IsCreated disk count file
+  created file opened = record {
+    from = from_first file.store.disk file.store.failures opened.from;
+    stands = opened.stands;
+    is_open = opened.is_open;
+    empty = λ honest. a_picture_stores_one_table mid.now.contents (kept_of file.game) None (opened.stored (still_honest laid.goes_on honest)) (stored_empty honest);
+    fresh = laid.fresh;
+    leaves = leaves_through file.store.disk opened.from.goes_on opened.leaves;
+  }
+
+  pub not_created : (back : Disk) (now : ℕ) → IsNotOpened mid middle back now → IsNotCreated disk count back now
+  not_created back now refused = record {
+    from = from_first back now refused.from;
+    leaves = leaves_through back refused.from.goes_on refused.leaves;
+    kept = λ honest begins. absurd (laid.fresh honest begins);
+  }
+
+  pub create_cause : (now : ℕ) (fault : FileFault) → OpenCause mid middle now fault → CreateCause disk count now fault
+  create_cause now DiskFailed cause = grew_from more cause
+  create_cause now NotATable cause = λ honest. cause (still_honest laid.goes_on honest) (laid.holds honest).table
+  create_cause now AlreadyATable cause = absurd cause
+  create_cause now Damaged cause = λ honest. cause (still_honest laid.goes_on honest) None (stored_empty honest)
+  create_cause now TooSmall cause = absurd cause
+  create_cause now TableFull cause = absurd cause
+  create_cause now OutOfMemory cause = tt
+  create_cause now Closed cause = absurd cause
+  create_cause now Inconsistent cause = absurd cause

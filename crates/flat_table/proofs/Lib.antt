@@ -1,0 +1,5 @@
+pub mod Passing
+pub mod Bytes
+pub mod Putting
+pub mod Opening
+pub mod Creating

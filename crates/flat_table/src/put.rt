@@ -1,0 +1,94 @@
+//! A text and a table in the place of others.
+ghost use Rattle.std.specs.Prelude.{◌≡◌, ◌≢◌, ◌≤◌, ◌^◌, Some, length, IfOk, IfErr, OnOk};
+ghost use Rattle.table.specs.Fitting.{Fits};
+ghost use Rattle.table.specs.InMemory.{stored_in};
+ghost use Rattle.flat_file.specs.File.{IsFile, pages_of};
+ghost use Rattle.flat_write.specs.Saving.{AreBytesOf, GoesAhead};
+ghost use Rattle.flat_table.specs.Calls.{file_of, kept_as, IsPut, IsNotPut};
+ghost use Rattle.flat_table.specs.Causes.{PutCause};
+ghost use Rattle.flat_table.specs.Pages.{ArePages};
+ghost use Rattle.flat_table.specs.Bytes.{BytesCause};
+
+use crate::FileFault;
+use flat_file::Game;
+use flat_write::save;
+use page_store::Pages;
+use std::alloc::Global;
+use table::{MemTable, Table};
+use table_bytes::{Written, write_table};
+
+/// No file has room for more edges.
+const MOST_EDGES: u64 = 1 << 32;
+
+/// Stores a text and a table in the place of what the pages of the old game hold: a new chain on free pages, and then
+/// the root that names it. Answers the game as it is stored. After a refusal the old one is, but that after `Disk` in a
+/// write or a sync the store is closed, and the file has the one or the other.
+pub fn put<P: Pages>(
+    alloc: Global,
+    store: &mut P,
+    commits: u64,
+    old: &Option<Game>,
+    text: Vec<u8>,
+    packed: u32,
+    table: MemTable,
+) -> Result<Game, FileFault>
+    requires text { length text.items ≤ 65536 }
+    requires packed { packed ≤ 240 }
+    requires known { (⟦<MemTable as Table>⟧.counted table).known ≤ 2 ^ 24 }
+    requires there { ArePages (length (P.store store.old).marks) (pages_of old.now) }
+    ensures pages { IfOk result (λ game. ArePages (length (P.store store.new).marks) game.pages.items) }
+    ensures ahead { GoesAhead (P.store store.old) (P.store store.new) }
+    ensures ok { IsFile (file_of (P.store store.old) old.now)
+        → IfOk result (λ game. IsPut (kept_as text.items (stored_in table)) (file_of (P.store store.old) old.now) (file_of (P.store store.new) (Some game))) }
+    ensures err { IsFile (file_of (P.store store.old) old.now)
+        → IfErr result (λ _. IsNotPut (kept_as text.items (stored_in table)) (file_of (P.store store.old) old.now) (file_of (P.store store.new) old.now)) }
+    ensures cause { IsFile (file_of (P.store store.old) old.now)
+        → IfErr result (PutCause (kept_as text.items (stored_in table)) packed (P.store store.old) (P.store store.new)) }
+    ensures still { IfErr result (λ fault. fault ≢ FileFault.Disk → (P.store store.new).closed ≡ (P.store store.old).closed) }
+{
+    let mut table = table;
+    let written = bytes_of(alloc, &text, packed, &mut table)?;
+    let pages = save(alloc, store, commits, pages_in(old), &written)?;
+    Ok(Game {
+        text,
+        packed,
+        pages,
+        table,
+    })
+}
+
+/// The pages that hold a game's text and table; none where no game is loaded.
+fn pages_in(game: &Option<Game>) -> &[u32]
+    ensures { result.now ≡ pages_of game.now }
+{
+    match game {
+        Some(game) => &game.pages,
+        None => &[],
+    }
+}
+
+/// The bytes of a text and a table. `Inconsistent` where the table's parts do not fit together or its positions have
+/// not so many bytes; `TableFull` where it has more edges than any file has bytes.
+fn bytes_of(
+    alloc: Global,
+    text: &[u8],
+    packed: u32,
+    table: &mut MemTable,
+) -> Result<Written, FileFault>
+    requires text { length text.now ≤ 65536 }
+    requires packed { packed ≤ 240 }
+    requires known { (⟦<MemTable as Table>⟧.counted table.old).known ≤ 2 ^ 24 }
+    ensures same { OnOk result (stored_in table.new ≡ stored_in table.old) }
+    ensures fits { OnOk result (Fits packed (stored_in table.new)) }
+    ensures bytes { IfOk result (λ written. AreBytesOf (kept_as text.now (stored_in table.old)) written.sizes written.bytes.items) }
+    ensures cause { IfErr result (BytesCause (kept_as text.now (stored_in table.old)) packed) }
+{
+    if !table.fits(alloc, packed)? {
+        return Err(FileFault::Inconsistent);
+    }
+    let written = write_table(alloc, text, packed, table)?;
+    if written.sizes.edges > MOST_EDGES {
+        return Err(FileFault::TableFull);
+    }
+    Ok(written)
+}

@@ -1,0 +1,47 @@
+-- What is packed as a game's positions are is the bytes of its positions.
+use Rattle.std.proofs.Common.{◌≡◌, ◌↔◌, ◌+◌, ◌<◌, ◌≤◌, inl, inr, Bool, true, ℕ, Option, Some, option_map, unwrap_or, List, [], length, slice_get, get_or, sym, ◌∙◌, ap, subst, arith}
+use Rattle.std.proofs.lemmas.Bool.{cases_lt}
+use Rattle.std.proofs.lemmas.List.{length-map}
+use Rattle.std.proofs.lemmas.Option.{slice_get-map, slice_get-get_or, slice_get_within}
+use Rattle.arrayvec.specs.ArrayVec.{ArrayVec}
+use Rattle.table.specs.Memory.{bytes_of_each}
+use Rattle.rbg_game.specs.Games.{Game}
+use Rattle.position_pack.specs.Shape.{Shape, shape_of}
+use Rattle.legal_moves.proofs.SourceLemmas.{at_by_packed, packed_by_at}
+use Rattle.retrograde.specs.Stored.{Stored}
+use Rattle.game_table.specs.Tables.{IsPackedBytes, ArePacked, ArePositions}
+
+-- an answer whether they are packed is one whether they are positions
+pub positions_by_packed : (game : Game) (shape : Shape) (stored : Stored (List ℕ)) (packed : List (List ℕ)) (are : Bool) → shape ≡ shape_of game → packed ≡ stored.positions
+    → (are ≡ true) ↔ ArePacked shape packed → (are ≡ true) ↔ ArePositions game stored
+positions_by_packed game shape stored packed are same bytes h = (
+  (λ is i x number. let (at, packed) = h.0 is i x (subst (λ (xs : List (List ℕ)). slice_get xs i ≡ Some x) (sym bytes) number) in (at, at_by_packed game shape x at same packed)),
+  (λ positions. h.1 (λ i x number.
+      let (at, here) = positions i x (subst (λ (xs : List (List ℕ)). slice_get xs i ≡ Some x) bytes number) in (at, packed_by_at game shape x at same here))),
+)
+
+module _ (shape : Shape) (positions : List (ArrayVec ℕ)) (index : ℕ) (d at : ArrayVec ℕ) (within : index < length positions) (is : at ≡ get_or positions index d) where
+  -- the bytes of the position with this number
+  number_is : slice_get (bytes_of_each positions) index ≡ Some at.items
+  number_is =
+      slice_get-map (λ p. p.items) positions index ∙ ap (λ (o : Option (ArrayVec ℕ)). option_map (λ p. p.items) o) (slice_get-get_or positions index d within ∙ ap Some (sym is))
+
+  pub packed_here : ArePacked shape (bytes_of_each positions) → IsPackedBytes shape at.items
+  packed_here are = are index at.items number_is
+
+  -- one more is packed
+  pub packed_so_far : ((i : ℕ) (x : List ℕ) → i < index → slice_get (bytes_of_each positions) i ≡ Some x → IsPackedBytes shape x) → IsPackedBytes shape at.items
+      → (i : ℕ) (x : List ℕ) → i < index + 1 → slice_get (bytes_of_each positions) i ≡ Some x → IsPackedBytes shape x
+  packed_so_far before here i x less number = elim (cases_lt i index) [
+    | inl below ↦ before i x below number
+    | inr past ↦
+        let same : i ≡ index = omega (arith, past, less) in
+        let found : Some at.items ≡ Some x = sym number_is ∙ ap (λ (k : ℕ). slice_get (bytes_of_each positions) k) (sym same) ∙ number in
+        subst (λ (bytes : List ℕ). IsPackedBytes shape bytes) (ap (λ (o : Option (List ℕ)). unwrap_or o []) found) here
+  ]
+
+-- all are packed
+pub packed_all : (shape : Shape) (positions : List (ArrayVec ℕ)) (index : ℕ) → length positions ≤ index
+    → ((i : ℕ) (x : List ℕ) → i < index → slice_get (bytes_of_each positions) i ≡ Some x → IsPackedBytes shape x) → ArePacked shape (bytes_of_each positions)
+packed_all shape positions index past before = λ i x number.
+    before i x (omega (arith, past, slice_get_within (bytes_of_each positions) i x number, length-map positions (λ (p : ArrayVec ℕ). p.items))) number

@@ -1,0 +1,5 @@
+use Rattle.game_table.specs.Laws.{sound_tables_fit}
+use Rattle.game_table.proofs.laws.sound_tables_fit.Goals as goal
+
+pub returns : goal.returns
+returns c = sound_tables_fit

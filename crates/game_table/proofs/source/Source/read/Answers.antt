@@ -1,0 +1,12 @@
+use Rattle.std.proofs.Common.{◌∙◌}
+use Rattle.rbg_game.specs.Meaning.{game_of}
+use Rattle.rbg_read.proofs.OneReading.{one_game}
+use Rattle.game_table.specs.Laws.{texts_are_short}
+use Rattle.game_table.proofs.source.Source.read.Goals as goal
+
+pub returns-clause-one : goal.returns-clause-one
+returns-clause-one c = λ game is.
+    c.in_ok-compiled.ensures.game ∙ one_game c.args.text.now (game_of c.in_ok-game.game) game c.in_ok-game.ensures.reads is
+
+pub returns-clause-short : goal.returns-clause-short
+returns-clause-short c = texts_are_short c.args.text.now (game_of c.in_ok-game.game) c.in_ok-game.ensures.reads

@@ -1,0 +1,39 @@
+//! What holds of every game and its tables: each is a law, which proofs cite by a call, or by the lemma of the same name in specs/.
+ghost use Rattle.std.specs.Prelude.{◌≡◌, ◌≤◌, ℕ, List, length};
+ghost use Rattle.rbg_game.specs.Games.{Game};
+ghost use Rattle.rbg_game.specs.Positions.{IsPositionOf};
+ghost use Rattle.rbg_text.specs.Token.{Text};
+ghost use Rattle.rbg_read.specs.Reading.{Reads};
+ghost use Rattle.legal_moves.specs.Moves.{start_of};
+ghost use Rattle.legal_moves.specs.Sources.{IsPositionBytes, IsWideAt, graph_of};
+ghost use Rattle.retrograde.specs.Stored.{Stored, loaded};
+ghost use Rattle.retrograde.specs.Sound.{IsLocallySound};
+ghost use Rattle.table.specs.Fitting.{Fits};
+ghost use Rattle.game_table.specs.Tables.{ArePositions, packed_length};
+
+/// A text that reads to a game has at most 65,536 bytes.
+pub fn texts_are_short()
+    ensures { (text : Text) (game : Game) → Reads text game → length text ≤ 65536 }
+{}
+
+/// The start of a game that a text reads to is a position of the game.
+pub fn starts_are_positions()
+    ensures { (text : Text) (game : Game) → Reads text game → IsPositionOf game (start_of game) }
+{}
+
+/// The positions of a game have as many bytes as each other.
+pub fn positions_have_one_length()
+    ensures { (game : Game) (x : List ℕ) → IsPositionBytes game x → length x ≡ packed_length game }
+{}
+
+/// A table that agrees with itself at each number stores positions of the game alone, so its parts fit together and its
+/// positions have their length.
+pub fn sound_tables_fit()
+    ensures { (game : Game) (stored : Stored (List ℕ)) → IsPositionOf game (start_of game) → IsLocallySound (graph_of game) (IsWideAt game) stored
+        → ArePositions game stored × Fits (packed_length game) stored }
+{}
+
+/// The table of a game that was just loaded agrees with itself at each number.
+pub fn a_first_table_is_sound()
+    ensures { (game : Game) → IsLocallySound (graph_of game) (IsWideAt game) (loaded (graph_of game).start) }
+{}

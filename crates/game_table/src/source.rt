@@ -1,0 +1,105 @@
+//! A game made ready from its text, and its tables.
+ghost use Rattle.std.specs.Prelude.{◌≡◌, ◌≢◌, ◌↔◌, ◌≤◌, ◌^◌, true, IfOk, IfErr, OnOk, Err, length};
+ghost use Rattle.rbg_game.specs.Games.{Game as TextbookGame};
+ghost use Rattle.rbg_game.specs.Meaning.{game_of};
+ghost use Rattle.rbg_game.specs.Positions.{IsPositionOf};
+ghost use Rattle.rbg_read.specs.Reading.{Reads, Fault};
+ghost use Rattle.legal_moves.specs.Moves.{start_of};
+ghost use Rattle.legal_moves.specs.Sources.{IsPositionBytes, IsWideAt, graph_of};
+ghost use Rattle.legal_moves.specs.Compiled.{compiled_game};
+ghost use Rattle.retrograde.specs.Sound.{IsLocallySound};
+ghost use Rattle.table.specs.InMemory.{stored_in};
+ghost use Rattle.table_work.specs.Work.{StopsWith};
+ghost use Rattle.game_table.specs.Tables.{ArePositions, packed_length, IsWorkOf};
+
+use crate::packings::are_packed;
+use legal_moves::{Compiled, MoveSource};
+use position_pack::{Packed, Packing};
+use rbg_game::game::Game;
+use rbg_read::fault::GameFault;
+use rbg_read::read::read_game;
+use std::alloc::Global;
+use std::marker::Model;
+use table::MemTable;
+use table_work::StepFault;
+
+/// A game made ready for the search for moves.
+#[derive(Drop)]
+pub struct Source {
+    compiled: Compiled,
+}
+
+impl Model for Source {
+    ghost use Rattle.legal_moves.specs.declared.compiled.Compiled.{Compiled};
+
+    ghost Value = { Compiled };
+
+    ghost use Rattle.legal_moves.specs.contracts.compiled.Compiled.{the_row};
+
+    ghost coded = { the_row.coded };
+
+    ghost use Rattle.legal_moves.specs.Compiled.{IsCompiled};
+
+    ghost view = { λ s. s.compiled };
+
+    ghost invariant = { λ s. IsCompiled s.compiled };
+}
+
+impl Source {
+    /// The game that a text reads to, or the first cause for which it is no game. A text that reads to a game is refused
+    /// for want of memory alone.
+    pub fn read(alloc: Global, text: &[u8]) -> Result<Source, GameFault>
+        ensures reads { IfOk result (λ source. Reads text.now (compiled_game source)) }
+        ensures one { (game : TextbookGame) → Reads text.now game → IfOk result (λ source. compiled_game source ≡ game) }
+        ensures fault { IfErr result (λ fault. fault ≢ GameFault.OutOfMemory → Fault text.now fault) }
+        ensures only { (game : TextbookGame) → Reads text.now game → IfErr result (λ fault. fault ≡ GameFault.OutOfMemory) }
+        ensures short { OnOk result (length text.now ≤ 65536) }
+        ensures start { IfOk result (λ source. IsPositionOf (compiled_game source) (start_of (compiled_game source))) }
+    {
+        let game = read_game(alloc, text)?;
+        let compiled = Compiled::new(alloc, game)?;
+        Ok(Source { compiled })
+    }
+
+    /// The game that was read.
+    pub fn game(&self) -> &Game
+        ensures { game_of result.now ≡ compiled_game self.now }
+    {
+        self.compiled.game()
+    }
+
+    /// The bytes of the start.
+    pub fn start(&self) -> Packed
+        ensures start { result.items ≡ (graph_of (compiled_game self.now)).start }
+        ensures position { IsPositionBytes (compiled_game self.now) result.items }
+        ensures long { length result.items ≡ packed_length (compiled_game self.now) }
+    {
+        MoveSource::start(&self.compiled)
+    }
+
+    /// Whether each position of a table is one of the game. It takes no memory and always answers.
+    pub fn are_positions(&self, table: &MemTable) -> bool
+        ensures { (result ≡ true) ↔ ArePositions (compiled_game self.now) (stored_in table.now) }
+    {
+        let packing = Packing::new(self.compiled.game());
+        are_packed(&packing, table.positions())
+    }
+
+    /// Does so many units of work on a table of the game, or fewer where the table is finished by then, and answers how
+    /// many. After an error the caller gives the table up.
+    ///
+    /// Of a table that does not agree with itself nothing is said but that it stays within the limit of 16,777,216
+    /// positions; `Inconsistent` comes of such a table alone.
+    pub fn work(&self, alloc: Global, table: &mut MemTable, units: u32) -> Result<u32, StepFault>
+        ensures limit { OnOk result (length (stored_in table.new).positions ≤ 2 ^ 24) }
+        ensures idle { IfOk result (λ done. done ≡ 0 → table.new ≡ table.old) }
+        ensures works { IsLocallySound (graph_of (compiled_game self.now)) (IsWideAt (compiled_game self.now)) (stored_in table.old)
+            → IfOk result (λ done. IsWorkOf (compiled_game self.now) units (stored_in table.old) done (stored_in table.new)) }
+        ensures cause { IsLocallySound (graph_of (compiled_game self.now)) (IsWideAt (compiled_game self.now)) (stored_in table.old)
+            → IfErr result (StopsWith (graph_of (compiled_game self.now)) (IsWideAt (compiled_game self.now)) (stored_in table.old) units) }
+        ensures consistent { IsLocallySound (graph_of (compiled_game self.now)) (IsWideAt (compiled_game self.now)) (stored_in table.old)
+            → result ≡ Err StepFault.Inconsistent → ⊥ }
+    {
+        table_work::work(alloc, &self.compiled, table, units)
+    }
+}

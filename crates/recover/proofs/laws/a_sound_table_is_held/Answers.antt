@@ -1,0 +1,5 @@
+use Rattle.recover.specs.Laws.{a_sound_table_is_held}
+use Rattle.recover.proofs.laws.a_sound_table_is_held.Goals as goal
+
+pub returns : goal.returns
+returns c = a_sound_table_is_held

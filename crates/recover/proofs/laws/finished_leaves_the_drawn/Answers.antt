@@ -1,0 +1,5 @@
+use Rattle.recover.specs.Laws.{finished_leaves_the_drawn}
+use Rattle.recover.proofs.laws.finished_leaves_the_drawn.Goals as goal
+
+pub returns : goal.returns
+returns c = finished_leaves_the_drawn

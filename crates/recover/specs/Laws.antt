@@ -1,0 +1,63 @@
+-- What holds of every table that a solver keeps, for readers in src/laws.rt and for proofs here.
+use Rattle.std.specs.Prelude.{◌≡◌, ◌⊎◌, ◌↔◌, ℕ, List, Option, None, Some, IsTrue}
+use Rattle.std.proofs.Common.{inl, inr, subst}
+use Rattle.sector_disk.specs.Disk.{Picture, Disk, MayLeave}
+use Rattle.sector_disk.specs.Moments.{reads_left}
+use Rattle.rbg_game.specs.Games.{Game}
+use Rattle.rbg_game.specs.declared.roles.Player.{Player}
+use Rattle.rbg_read.specs.Reading.{Reads}
+use Rattle.rbg_read.proofs.OneReading.{one_game}
+use Rattle.legal_moves.specs.Sources.{IsWideAt, graph_of}
+use Rattle.retrograde.specs.Graph.{IsReachable}
+use Rattle.retrograde.specs.Right.{IsRight}
+use Rattle.retrograde.specs.Sound.{IsLocallySound}
+use Rattle.retrograde.specs.Stored.{view_of}
+use Rattle.retrograde.specs.Values.{WonIn, Drawn}
+use Rattle.retrograde.specs.View.{IsKnown, HasNumber, HasValue, IsFinished}
+use Rattle.retrograde.proofs.Finished.{reach_is_known, draws, values_are_won}
+use Rattle.retrograde.proofs.Sound.{sound_right}
+use Rattle.game_table.specs.Laws.{starts_are_positions, sound_tables_fit}
+use Rattle.flat_file.specs.Held.{Kept, Stores}
+use Rattle.recover.specs.Held.{Holds, IsSound}
+use Rattle.recover.specs.Opening.{IsOpened}
+use Rattle.recover.specs.State.{State}
+
+-- a picture that stores a sound table holds it
+pub a_sound_table_is_held : (picture : Picture) (kept : Option Kept) → Stores picture kept → IsSound kept → Holds picture kept
+a_sound_table_is_held picture None stores sound = record { stores = stores; of_a_game = tt }
+a_sound_table_is_held picture (Some kept) stores (game, reads, sound) =
+    let (positions, fits) = sound_tables_fit game kept.table (starts_are_positions kept.text game reads) sound in
+    record { stores = stores; of_a_game = (game, record { reads = reads; positions = positions }) }
+
+-- where a stop left the one table or the other, that is the one that is opened
+pub what_was_left_is_opened : (disk : Disk) (count : ℕ) (state : State) (one other : Option Kept) → IsOpened disk count state → IsTrue disk.honest
+    → ((picture : Picture) → MayLeave disk.now picture → Holds picture one ⊎ Holds picture other) → (state.kept ≡ one) ⊎ (state.kept ≡ other)
+what_was_left_is_opened disk count state one other opened honest left = each (left disk.now.contents (reads_left disk))
+  where
+    each : Holds disk.now.contents one ⊎ Holds disk.now.contents other → (state.kept ≡ one) ⊎ (state.kept ≡ other)
+    each (inl holds) = inl (opened.only honest one holds)
+    each (inr holds) = inr (opened.only honest other holds)
+
+-- a sound table is right for the game that its text reads to
+pub a_sound_table_is_right : (kept : Kept) (game : Game) → IsSound (Some kept) → Reads kept.text game → IsRight (graph_of game) (view_of kept.table)
+a_sound_table_is_right kept game (other, reads, sound) is =
+    sound_right (graph_of game) (IsWideAt game) kept.table
+    (subst (λ (g : Game). IsLocallySound (graph_of g) (IsWideAt g) kept.table) (one_game kept.text other game reads is) sound)
+
+-- each settled position is won by the named player in the named number of moves
+pub what_is_settled_is_won : (kept : Kept) (game : Game) → IsSound (Some kept) → Reads kept.text game
+    → (x : List ℕ) (w : Player) (n : ℕ) → HasValue (view_of kept.table) x w n → WonIn (graph_of game) w n x
+what_is_settled_is_won kept game sound reads x w n has = values_are_won (graph_of game) (view_of kept.table) (a_sound_table_is_right kept game sound reads) x w n has
+
+-- a finished table has the positions that play can come to
+pub finished_is_all : (kept : Kept) (game : Game) → IsSound (Some kept) → Reads kept.text game → IsFinished (view_of kept.table)
+    → (x : List ℕ) → IsKnown (view_of kept.table) x ↔ IsReachable (graph_of game) x
+finished_is_all kept game sound reads finished x =
+    let right = a_sound_table_is_right kept game sound reads in
+    (right.moves.reached x, reach_is_known (graph_of game) (view_of kept.table) right finished x)
+
+-- and in it the unsettled are the drawn
+pub finished_leaves_the_drawn : (kept : Kept) (game : Game) → IsSound (Some kept) → Reads kept.text game → IsFinished (view_of kept.table)
+    → (i : ℕ) (x : List ℕ) → HasNumber (view_of kept.table) i x → ((view_of kept.table).value i ≡ None) ↔ Drawn (graph_of game) x
+finished_leaves_the_drawn kept game sound reads finished i x number =
+    draws (graph_of game) (view_of kept.table) (a_sound_table_is_right kept game sound reads) finished i x number

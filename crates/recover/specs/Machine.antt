@@ -1,0 +1,113 @@
+-- The machine: which reply and which next table may follow which command.
+use Rattle.std.specs.Prelude.{◌≡◌, ◌≢◌, ℕ, ◌<◌, true, List, Option, None, Some, IsSome}
+use Rattle.sector_disk.specs.Disk.{Grew}
+use Rattle.rbg_game.specs.Games.{Game}
+use Rattle.rbg_read.specs.Reading.{Reads, Fault}
+use Rattle.rbg_read.specs.declared.fault.GameFault.{GameFault}
+use Rattle.rbg_read.specs.declared.fault.GameFault.TheVariants as game_fault
+use Rattle.legal_moves.specs.Sources.{IsWideAt, graph_of}
+use Rattle.retrograde.specs.declared.records.Counts.{Counts}
+use Rattle.retrograde.specs.Changes.{counts_of}
+use Rattle.retrograde.specs.Sound.{IsLocallySound}
+use Rattle.retrograde.specs.Stored.{loaded}
+use Rattle.frontier.specs.declared.fault.StepFault.{StepFault}
+use Rattle.frontier.specs.declared.fault.StepFault.TheVariants as step
+use Rattle.table_work.specs.Work.{StopsWith}
+use Rattle.game_table.specs.Tables.{IsWorkOf}
+use Rattle.flat_file.specs.Held.{Kept}
+use Rattle.recover.specs.declared.fault.SolverFault.{SolverFault}
+use Rattle.recover.specs.declared.fault.SolverFault.TheVariants.{Disk, NotATable, AlreadyATable, Damaged, TooSmall, TableFull, OutOfMemory, Closed, Game as BadGame, NoGame, GameAlready, KeeperChooses, TooWide, TooManyPositions, Inconsistent}
+use Rattle.recover.specs.Held.{IsSound}
+use Rattle.recover.specs.State.{State}
+
+-- what changes the table
+pub data Command : Type 0 where
+  load : (text : List ℕ) → Command
+  work : (units : ℕ) → Command
+
+-- what a command answers
+pub data Reply : Type 0 where
+  loaded_it : Reply
+  worked : (done : ℕ) (counts : Counts) → Reply
+  refused : (fault : SolverFault) → Reply
+
+-- where no game is loaded, the game that the text reads to is now, and its start is known and no more
+pub record Loads (text : List ℕ) (old new : Option Kept) : Type 0 where
+  pub none : old ≡ None
+  pub game : Game
+  pub reads : Reads text game
+  pub is : new ≡ Some (record { text = text; table = loaded (graph_of game).start })
+
+-- so many units were asked of a table and these done, or it is finished by then; nothing is said of one that is not sound
+pub record WorksTo (units : ℕ) (was : Kept) (done : ℕ) (is : Kept) : Type 0 where
+  pub same_text : is.text ≡ was.text
+  pub work : (game : Game) → Reads was.text game → IsLocallySound (graph_of game) (IsWideAt game) was.table → IsWorkOf game units was.table done is.table
+
+-- units of work lead from the old table to the new, which has these counts
+pub record Works (units : ℕ) (old : Option Kept) (done : ℕ) (counts : Counts) (new : Option Kept) : Type 0 where
+  pub was : Kept
+  pub loaded : old ≡ Some was
+  pub is : Kept
+  pub worked : new ≡ Some is
+  pub works : WorksTo units was done is
+  pub counted : counts ≡ counts_of is.table
+
+-- fewer units than were asked lead to a table whose next unit has this fault with its cause
+abbrev pub StopsAt : ℕ → Option Kept → StepFault → Type 0
+StopsAt units None fault = ⊥
+StopsAt units (Some kept) fault =
+    (game : Game) → Reads kept.text game → IsLocallySound (graph_of game) (IsWideAt game) kept.table → StopsWith (graph_of game) (IsWideAt game) kept.table units fault
+
+-- the first fault of a text; want of memory needs no cause
+abbrev pub TextCause : List ℕ → GameFault → Type 0
+TextCause text fault = fault ≢ game_fault.OutOfMemory → Fault text fault
+
+-- why `load` is refused
+abbrev pub LoadCause : List ℕ → State → State → SolverFault → Type 0
+LoadCause text old new Disk = Grew old.failures new.failures
+LoadCause text old new NotATable = ⊥
+LoadCause text old new AlreadyATable = ⊥
+LoadCause text old new Damaged = ⊥
+LoadCause text old new TooSmall = ⊥
+LoadCause text old new TableFull = old.capacity < 24
+LoadCause text old new OutOfMemory = Unit {0}
+LoadCause text old new Closed = old.closed ≡ true
+LoadCause text old new (BadGame fault) = TextCause text fault
+LoadCause text old new NoGame = ⊥
+LoadCause text old new GameAlready = IsSome old.kept
+LoadCause text old new (KeeperChooses number) = ⊥
+LoadCause text old new TooWide = ⊥
+LoadCause text old new TooManyPositions = ⊥
+LoadCause text old new Inconsistent = ⊥
+
+-- why `work` is refused
+abbrev pub WorkCause : ℕ → State → State → SolverFault → Type 0
+WorkCause units old new Disk = Grew old.failures new.failures
+WorkCause units old new NotATable = ⊥
+WorkCause units old new AlreadyATable = ⊥
+WorkCause units old new Damaged = ⊥
+WorkCause units old new TooSmall = ⊥
+WorkCause units old new TableFull = Unit {0}
+WorkCause units old new OutOfMemory = Unit {0}
+WorkCause units old new Closed = old.closed ≡ true
+WorkCause units old new (BadGame fault) = ⊥
+WorkCause units old new NoGame = old.kept ≡ None
+WorkCause units old new GameAlready = ⊥
+WorkCause units old new (KeeperChooses number) = StopsAt units old.kept (step.KeeperChooses number)
+WorkCause units old new TooWide = StopsAt units old.kept step.TooWide
+WorkCause units old new TooManyPositions = StopsAt units old.kept step.TooManyPositions
+WorkCause units old new Inconsistent = ¬ IsSound old.kept
+
+-- why a command is refused
+abbrev pub Cause : Command → State → State → SolverFault → Type 0
+Cause (load text) = LoadCause text
+Cause (work units) = WorkCause units
+
+-- from the one state to the other by this command with this reply; a refusal leaves what is kept and has its cause
+abbrev pub Step : Command → State → Reply → State → Type 0
+Step (load text) old loaded_it new = Loads text old.kept new.kept
+Step (load text) old (worked done counts) new = ⊥
+Step (work units) old loaded_it new = ⊥
+Step (work units) old (worked done counts) new = Works units old.kept done counts new.kept
+Step (load text) old (refused fault) new = (new.kept ≡ old.kept) × LoadCause text old new fault
+Step (work units) old (refused fault) new = (new.kept ≡ old.kept) × WorkCause units old new fault

@@ -1,0 +1,45 @@
+//! What holds of every table that a solver keeps: each is a law, which proofs cite by a call, or by the lemma of the same name in specs/.
+ghost use Rattle.std.specs.Prelude.{◌≡◌, ◌⊎◌, ◌↔◌, ℕ, List, Option, None, Some, IsTrue};
+ghost use Rattle.sector_disk.specs.Disk.{Picture, Disk, MayLeave};
+ghost use Rattle.rbg_game.specs.Games.{Game};
+ghost use Rattle.rbg_game.specs.declared.roles.Player.{Player};
+ghost use Rattle.rbg_read.specs.Reading.{Reads};
+ghost use Rattle.legal_moves.specs.Sources.{graph_of};
+ghost use Rattle.retrograde.specs.Graph.{IsReachable};
+ghost use Rattle.retrograde.specs.Stored.{view_of};
+ghost use Rattle.retrograde.specs.Values.{WonIn, Drawn};
+ghost use Rattle.retrograde.specs.View.{IsKnown, HasNumber, HasValue, IsFinished};
+ghost use Rattle.flat_file.specs.Held.{Kept, Stores};
+ghost use Rattle.recover.specs.Held.{Holds, IsSound};
+ghost use Rattle.recover.specs.Opening.{IsOpened};
+ghost use Rattle.recover.specs.State.{State};
+
+/// A picture that stores a locally sound table holds it.
+pub fn a_sound_table_is_held()
+    ensures { (picture : Picture) (kept : Option Kept) → Stores picture kept → IsSound kept → Holds picture kept }
+{}
+
+/// Where each stop of the power has left the one table or the other, one of them is opened.
+pub fn what_was_left_is_opened()
+    ensures { (disk : Disk) (count : ℕ) (state : State) (one other : Option Kept) → IsOpened disk count state → IsTrue disk.honest
+        → ((picture : Picture) → MayLeave disk.now picture → Holds picture one ⊎ Holds picture other)
+        → (state.kept ≡ one) ⊎ (state.kept ≡ other) }
+{}
+
+/// Each settled position of a locally sound table is won by the named player in exactly the named number of moves.
+pub fn what_is_settled_is_won()
+    ensures { (kept : Kept) (game : Game) → IsSound (Some kept) → Reads kept.text game
+        → (x : List ℕ) (w : Player) (n : ℕ) → HasValue (view_of kept.table) x w n → WonIn (graph_of game) w n x }
+{}
+
+/// A finished, locally sound table has exactly the positions that play can come to.
+pub fn finished_is_all()
+    ensures { (kept : Kept) (game : Game) → IsSound (Some kept) → Reads kept.text game → IsFinished (view_of kept.table)
+        → (x : List ℕ) → IsKnown (view_of kept.table) x ↔ IsReachable (graph_of game) x }
+{}
+
+/// In a finished, locally sound table exactly the drawn positions are unsettled.
+pub fn finished_leaves_the_drawn()
+    ensures { (kept : Kept) (game : Game) → IsSound (Some kept) → Reads kept.text game → IsFinished (view_of kept.table)
+        → (i : ℕ) (x : List ℕ) → HasNumber (view_of kept.table) i x → ((view_of kept.table).value i ≡ None) ↔ Drawn (graph_of game) x }
+{}
