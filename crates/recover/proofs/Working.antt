@@ -58,22 +58,22 @@ one_length (x ∷ xs) m n some one other = sym (one 0 x refl) ∙ other 0 x refl
 module _ (s : Store) (was : Game) (source : Compiled) (it : IsReady (file_of s (Some was)) (Some source)) where
   -- what holds of the source's game holds of any that the text reads to
   of_any : (P : TextbookGame → Type 0) (game : TextbookGame) → Reads was.text.items game → P (compiled_game source) → P game
-  of_any P game reads so = subst P (one_game was.text.items (compiled_game source) game it.source_is reads) so
+  of_any P game is_read so = subst P (one_game was.text.items (compiled_game source) game it.source_is is_read) so
 
   to_source : (P : TextbookGame → Type 0) (game : TextbookGame) → Reads was.text.items game → P game → P (compiled_game source)
-  to_source P game reads so = subst P (one_game was.text.items game (compiled_game source) reads it.source_is) so
+  to_source P game is_read so = subst P (one_game was.text.items game (compiled_game source) is_read it.source_is) so
 
   sound_here : IsSound (Some (kept_in was)) → IsLocallySound (graph_of (compiled_game source)) (IsWideAt (compiled_game source)) (stored_in was.table)
-  sound_here (game, reads, sound) = to_source (λ g. IsLocallySound (graph_of g) (IsWideAt g) (stored_in was.table)) game reads sound
+  sound_here (game, is_read, sound) = to_source (λ g. IsLocallySound (graph_of g) (IsWideAt g) (stored_in was.table)) game is_read sound
 
   module _ (units done : ℕ) (now : Stored (List ℕ))
       (works : IsLocallySound (graph_of (compiled_game source)) (IsWideAt (compiled_game source)) (stored_in was.table) → IsWorkOf (compiled_game source) units (stored_in was.table) done now) where
     works_to : WorksTo units (kept_in was) done (kept_as was.text.items now)
     works_to = record {
       same_text = refl;
-      work = λ game reads sound.
-          of_any (λ g. IsWorkOf g units (stored_in was.table) done now) game reads
-          (works (to_source (λ g. IsLocallySound (graph_of g) (IsWideAt g) (stored_in was.table)) game reads sound));
+      work = λ game is_read sound.
+          of_any (λ g. IsWorkOf g units (stored_in was.table) done now) game is_read
+          (works (to_source (λ g. IsLocallySound (graph_of g) (IsWideAt g) (stored_in was.table)) game is_read sound));
     }
 
     works_of : (counts : Counts) → counts ≡ counts_of now → Works units (Some (kept_in was)) done counts (Some (kept_as was.text.items now))
@@ -149,15 +149,15 @@ module _ (s : Store) (was : Game) (source : Compiled) (it : IsReady (file_of s (
   work_cause units new (BadGame fault) cause = absurd cause
   work_cause units new NoGame cause = absurd cause
   work_cause units new GameAlready cause = absurd cause
-  work_cause units new (KeeperChooses number) cause = λ game reads sound.
-      of_any (λ g. StopsWith (graph_of g) (IsWideAt g) (stored_in was.table) units (step.KeeperChooses number)) game reads
-      (cause (to_source (λ g. IsLocallySound (graph_of g) (IsWideAt g) (stored_in was.table)) game reads sound))
-  work_cause units new TooWide cause = λ game reads sound.
-      of_any (λ g. StopsWith (graph_of g) (IsWideAt g) (stored_in was.table) units step.TooWide) game reads
-      (cause (to_source (λ g. IsLocallySound (graph_of g) (IsWideAt g) (stored_in was.table)) game reads sound))
-  work_cause units new TooManyPositions cause = λ game reads sound.
-      of_any (λ g. StopsWith (graph_of g) (IsWideAt g) (stored_in was.table) units step.TooManyPositions) game reads
-      (cause (to_source (λ g. IsLocallySound (graph_of g) (IsWideAt g) (stored_in was.table)) game reads sound))
+  work_cause units new (KeeperChooses number) cause = λ game is_read sound.
+      of_any (λ g. StopsWith (graph_of g) (IsWideAt g) (stored_in was.table) units (step.KeeperChooses number)) game is_read
+      (cause (to_source (λ g. IsLocallySound (graph_of g) (IsWideAt g) (stored_in was.table)) game is_read sound))
+  work_cause units new TooWide cause = λ game is_read sound.
+      of_any (λ g. StopsWith (graph_of g) (IsWideAt g) (stored_in was.table) units step.TooWide) game is_read
+      (cause (to_source (λ g. IsLocallySound (graph_of g) (IsWideAt g) (stored_in was.table)) game is_read sound))
+  work_cause units new TooManyPositions cause = λ game is_read sound.
+      of_any (λ g. StopsWith (graph_of g) (IsWideAt g) (stored_in was.table) units step.TooManyPositions) game is_read
+      (cause (to_source (λ g. IsLocallySound (graph_of g) (IsWideAt g) (stored_in was.table)) game is_read sound))
   work_cause units new Inconsistent cause = λ sound. cause (sound_here sound)
 
 -- the table in memory is the file's

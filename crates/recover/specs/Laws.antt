@@ -25,9 +25,9 @@ use Rattle.recover.specs.State.{State}
 -- a picture that stores a sound table holds it
 pub a_sound_table_is_held : (picture : Picture) (kept : Option Kept) → Stores picture kept → IsSound kept → Holds picture kept
 a_sound_table_is_held picture None stores sound = record { stores = stores; of_a_game = tt }
-a_sound_table_is_held picture (Some kept) stores (game, reads, sound) =
-    let (positions, fits) = sound_tables_fit game kept.table (starts_are_positions kept.text game reads) sound in
-    record { stores = stores; of_a_game = (game, record { reads = reads; positions = positions }) }
+a_sound_table_is_held picture (Some kept) stores (game, is_read, sound) =
+    let (positions, fits) = sound_tables_fit game kept.table (starts_are_positions kept.text game is_read) sound in
+    record { stores = stores; of_a_game = (game, record { reads = is_read; positions = positions }) }
 
 -- where a stop left the one table or the other, that is the one that is opened
 pub what_was_left_is_opened : (disk : Disk) (count : ℕ) (state : State) (one other : Option Kept) → IsOpened disk count state → IsTrue disk.honest
@@ -40,24 +40,24 @@ what_was_left_is_opened disk count state one other opened honest left = each (le
 
 -- a sound table is right for the game that its text reads to
 pub a_sound_table_is_right : (kept : Kept) (game : Game) → IsSound (Some kept) → Reads kept.text game → IsRight (graph_of game) (view_of kept.table)
-a_sound_table_is_right kept game (other, reads, sound) is =
+a_sound_table_is_right kept game (other, is_read, sound) is =
     sound_right (graph_of game) (IsWideAt game) kept.table
-    (subst (λ (g : Game). IsLocallySound (graph_of g) (IsWideAt g) kept.table) (one_game kept.text other game reads is) sound)
+    (subst (λ (g : Game). IsLocallySound (graph_of g) (IsWideAt g) kept.table) (one_game kept.text other game is_read is) sound)
 
 -- each settled position is won by the named player in the named number of moves
 pub what_is_settled_is_won : (kept : Kept) (game : Game) → IsSound (Some kept) → Reads kept.text game
     → (x : List ℕ) (w : Player) (n : ℕ) → HasValue (view_of kept.table) x w n → WonIn (graph_of game) w n x
-what_is_settled_is_won kept game sound reads x w n has = values_are_won (graph_of game) (view_of kept.table) (a_sound_table_is_right kept game sound reads) x w n has
+what_is_settled_is_won kept game sound is_read x w n has = values_are_won (graph_of game) (view_of kept.table) (a_sound_table_is_right kept game sound is_read) x w n has
 
 -- a finished table has the positions that play can come to
 pub finished_is_all : (kept : Kept) (game : Game) → IsSound (Some kept) → Reads kept.text game → IsFinished (view_of kept.table)
     → (x : List ℕ) → IsKnown (view_of kept.table) x ↔ IsReachable (graph_of game) x
-finished_is_all kept game sound reads finished x =
-    let right = a_sound_table_is_right kept game sound reads in
+finished_is_all kept game sound is_read finished x =
+    let right = a_sound_table_is_right kept game sound is_read in
     (right.moves.reached x, reach_is_known (graph_of game) (view_of kept.table) right finished x)
 
 -- and in it the unsettled are the drawn
 pub finished_leaves_the_drawn : (kept : Kept) (game : Game) → IsSound (Some kept) → Reads kept.text game → IsFinished (view_of kept.table)
     → (i : ℕ) (x : List ℕ) → HasNumber (view_of kept.table) i x → ((view_of kept.table).value i ≡ None) ↔ Drawn (graph_of game) x
-finished_leaves_the_drawn kept game sound reads finished i x number =
-    draws (graph_of game) (view_of kept.table) (a_sound_table_is_right kept game sound reads) finished i x number
+finished_leaves_the_drawn kept game sound is_read finished i x number =
+    draws (graph_of game) (view_of kept.table) (a_sound_table_is_right kept game sound is_read) finished i x number
