@@ -1,13 +1,19 @@
 -- A finished table by its counts.
-use Rattle.std.proofs.Common.{◌≡◌, ◌≤◌, ◌<◌, ⊎_elim, cond, length, arith}
+use Rattle.std.proofs.Common.{◌≡◌, ◌∙◌, sym, ap, ℕ, None, ◌≤◌, ◌<◌, ⊎_elim, cond, length, arith}
 use Rattle.std.proofs.lemmas.Bool.{cases_lt}
+use Rattle.std.proofs.lemmas.Option.{slice_get_within}
 use Rattle.std.proofs.lemmas.List.Sums.{sum_by-le-sum_by}
 use Rattle.retrograde.specs.declared.records.State.{State}
 use Rattle.retrograde.specs.declared.records.State.TheVariants.{Known, Expanded, Settled, Processed}
 use Rattle.retrograde.specs.declared.records.Record.{Record}
+use Rattle.retrograde.specs.declared.records.Counts.{Counts}
+use Rattle.retrograde.specs.Changes.{counts_of}
 use Rattle.retrograde.specs.View.{IsFinished}
 use Rattle.retrograde.specs.Stored.{Stored, IsTable, view_of, is_processed, is_settled, processed_count, settled_count}
 use Rattle.retrograde.proofs.Finished.{element}
+use Rattle.best_line.specs.declared.answers.Value.{Value}
+use Rattle.best_line.specs.declared.answers.Value.TheVariants.{Won, Drawn, Open}
+use Rattle.best_line.specs.Values.{IsValue, IsUnsettled}
 
 -- a processed position is settled
 processed_counts_less : (s : State) → cond (is_processed s) 1 0 ≤ cond (is_settled s) 1 0
@@ -29,3 +35,27 @@ all_of_order stored table finished =
     absurd (omega arith))
     (λ enough. omega arith)
     (cases_lt (processed_count stored) (length stored.order))
+
+-- the value of a position that is not settled, by the counts of the table
+pub unsettled_value : {P : Type 0} (stored : Stored P) (counts : Counts) → counts ≡ counts_of stored → IsTable stored → (i : ℕ) → (view_of stored).value i ≡ None
+    → (v : Value) → IsUnsettled counts v → IsValue (view_of stored) i v
+unsettled_value stored counts is table i none (Won w n) it = absurd it
+unsettled_value stored counts is table i none Drawn (expanded, processed) =
+    let some : processed_count stored ≡ length stored.order =
+    sym (ap (λ (k : Counts). k.processed) is) ∙ (processed ∙ ap (λ (k : Counts). k.settled) is) in (
+      none,
+      record {
+        all_expanded = sym (ap (λ (k : Counts). k.expanded) is) ∙ (expanded ∙ ap (λ (k : Counts). k.known) is);
+        all_processed = λ j settled.
+            let (k, at) = table.listed j settled in
+            let within : k < length stored.order = slice_get_within stored.order k j at in
+            (table.processed k j at).1 (omega (arith, within, some));
+      },
+    )
+unsettled_value stored counts is table i none Open isnt = (
+  none,
+  λ finished. isnt (
+    ap (λ (k : Counts). k.expanded) is ∙ (finished.all_expanded ∙ sym (ap (λ (k : Counts). k.known) is)),
+    ap (λ (k : Counts). k.processed) is ∙ (all_of_order stored table finished ∙ sym (ap (λ (k : Counts). k.settled) is)),
+  ),
+)

@@ -1,4 +1,3 @@
-mod Passing
 mod ListLemmas
 mod FinishLemmas
 mod StepLemmas

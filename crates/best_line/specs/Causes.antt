@@ -18,11 +18,3 @@ IsCause view number Inconsistent = ⊥
 IsCause view number TooWide = ⊥
 IsCause view number OutOfMemory = IsSome (view.value number)
 IsCause view number (Table fault) = Unit {0}
-
--- the table itself gave no answer
-abbrev pub IsOfTable : LineFault → Type 0
-IsOfTable NotSettled = ⊥
-IsOfTable Inconsistent = ⊥
-IsOfTable TooWide = ⊥
-IsOfTable OutOfMemory = ⊥
-IsOfTable (Table fault) = Unit {0}

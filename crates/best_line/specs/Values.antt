@@ -1,6 +1,7 @@
 -- What the value of a position says of the table.
 use Rattle.std.specs.Prelude.{◌≡◌, ℕ, Some, None}
 use Rattle.retrograde.specs.View.{View, IsFinished}
+use Rattle.retrograde.specs.declared.records.Counts.{Counts}
 use Rattle.best_line.specs.declared.answers.Value.{Value}
 use Rattle.best_line.specs.declared.answers.Value.TheVariants.{Won, Drawn, Open}
 
@@ -9,3 +10,9 @@ abbrev pub IsValue : {P : Type 0} → View P → ℕ → Value → Type 0
 IsValue view i (Won w n) = view.value i ≡ Some (w, n)
 IsValue view i Drawn = (view.value i ≡ None) × IsFinished view
 IsValue view i Open = (view.value i ≡ None) × (IsFinished view → ⊥)
+
+-- with these counts one that is not settled is drawn where all is expanded and all that is settled is processed
+abbrev pub IsUnsettled : Counts → Value → Type 0
+IsUnsettled counts (Won w n) = ⊥
+IsUnsettled counts Drawn = (counts.expanded ≡ counts.known) × (counts.processed ≡ counts.settled)
+IsUnsettled counts Open = (counts.expanded ≡ counts.known) × (counts.processed ≡ counts.settled) → ⊥

@@ -4,7 +4,7 @@ use std::alloc::AllocFailed;
 use table::TableFault;
 use thiserror::Error;
 
-/// Why there is no line. The table is as it was, but after its own fault nothing is said of it.
+/// Why there is no line. The table is as it was.
 #[derive(Clone, Copy, PartialEq, Eq, Debug, Drop, Error)]
 pub enum LineFault {
     /// The position has no winner in the table.

@@ -3,7 +3,7 @@ ghost use Rattle.std.specs.Prelude.{◌≡◌, ◌↔◌, ◌<◌, IfOk, OnOk, I
 ghost use Rattle.retrograde.specs.Stored.{IsTable, view_of};
 ghost use Rattle.retrograde.specs.Sound.{IsLocallySound};
 ghost use Rattle.best_line.specs.Lines.{IsBestLine, IsBestPlay};
-ghost use Rattle.best_line.specs.Causes.{IsCause, IsOfTable};
+ghost use Rattle.best_line.specs.Causes.{IsCause};
 
 use crate::answers::Value;
 use crate::fault::LineFault;
@@ -31,12 +31,9 @@ fn follow<M: MoveSource, T: Table>(
     ensures cause { T.is_honest table.old → IsLocallySound (M.graph source.now) (M.is_wide source.now) (T.stored table.old)
         → (view_of (T.stored table.old)).value number ≡ Some (winner, distance)
         → IfErr result (IsCause (view_of (T.stored table.old)) number) }
-    ensures unchanged { T.is_honest table.old → IfErr result (λ fault. ¬ IsOfTable fault
-        → T.is_honest table.new × (T.stored table.new ≡ T.stored table.old)) }
-    ensures uncounted { IfErr result (λ fault. ¬ IsOfTable fault → T.counted table.new ≡ T.counted table.old) }
-    ensures same { T.is_honest table.old → OnOk result (T.stored table.new ≡ T.stored table.old) }
-    ensures honest { OnOk result (T.is_honest table.old ↔ T.is_honest table.new) }
-    ensures counts { OnOk result (T.counted table.new ≡ T.counted table.old) }
+    ensures same { T.is_honest table.old → T.stored table.new ≡ T.stored table.old }
+    ensures honest { T.is_honest table.old ↔ T.is_honest table.new }
+    ensures counts { T.counted table.new ≡ T.counted table.old }
 {
     let mut numbers = Vec::new(alloc);
     numbers.push(number)?;
@@ -53,8 +50,7 @@ fn follow<M: MoveSource, T: Table>(
 /// in one fewer, and the last is won in 0.
 ///
 /// `NotSettled` comes where the position has no winner. `Inconsistent` and `TooWide` come only where the
-/// table did not agree with itself. The table stays as it was, but after its own fault nothing is said
-/// of it.
+/// table did not agree with itself. The table stays as it was.
 pub fn line<M: MoveSource, T: Table>(
     alloc: Global,
     source: &M,
@@ -68,12 +64,9 @@ pub fn line<M: MoveSource, T: Table>(
     ensures begins { IfOk result (λ numbers. slice_get numbers.items 0 ≡ Some number) }
     ensures cause { T.is_honest table.old → IsLocallySound (M.graph source.now) (M.is_wide source.now) (T.stored table.old)
         → IfErr result (IsCause (view_of (T.stored table.old)) number) }
-    ensures unchanged { T.is_honest table.old → IfErr result (λ fault. ¬ IsOfTable fault
-        → T.is_honest table.new × (T.stored table.new ≡ T.stored table.old)) }
-    ensures uncounted { IfErr result (λ fault. ¬ IsOfTable fault → T.counted table.new ≡ T.counted table.old) }
-    ensures same { T.is_honest table.old → OnOk result (T.stored table.new ≡ T.stored table.old) }
-    ensures honest { OnOk result (T.is_honest table.old ↔ T.is_honest table.new) }
-    ensures counts { OnOk result (T.counted table.new ≡ T.counted table.old) }
+    ensures same { T.is_honest table.old → T.stored table.new ≡ T.stored table.old }
+    ensures honest { T.is_honest table.old ↔ T.is_honest table.new }
+    ensures counts { T.counted table.new ≡ T.counted table.old }
 {
     match value(table, number)? {
         Value::Won(winner, distance) => follow(alloc, source, table, number, winner, distance),

@@ -12,7 +12,7 @@ use table::{Table, TableFault};
 /// before.
 ///
 /// The first number is below the count of known positions, and the rows are 1 to 256. A fault is the
-/// table's or want of memory, and nothing is said of the table after it; else the table stays as it was.
+/// table's or want of memory. The table stays as it was.
 pub fn list<T: Table>(
     alloc: Global,
     table: &mut T,
@@ -25,9 +25,9 @@ pub fn list<T: Table>(
     ensures rows { T.is_honest table.old → IsTable (T.stored table.old)
         → IfOk result (λ rows. AreRows (view_of (T.stored table.old)) from count rows.items) }
     ensures lengths { IfOk result (λ rows. length rows.items ≡ min count ((T.counted table.old).known - from)) }
-    ensures same { T.is_honest table.old → OnOk result (T.stored table.new ≡ T.stored table.old) }
-    ensures honest { OnOk result (T.is_honest table.old ↔ T.is_honest table.new) }
-    ensures counts { OnOk result (T.counted table.new ≡ T.counted table.old) }
+    ensures same { T.is_honest table.old → T.stored table.new ≡ T.stored table.old }
+    ensures honest { T.is_honest table.old ↔ T.is_honest table.new }
+    ensures counts { T.counted table.new ≡ T.counted table.old }
 {
     let end = from + count.min(table.counts().known - from);
     let mut rows = Vec::new(alloc);

@@ -4,7 +4,6 @@ ghost use Rattle.table.specs.Memory.{bytes_of_each};
 ghost use Rattle.retrograde.specs.View.{HasNumber, HasValue};
 ghost use Rattle.retrograde.specs.Stored.{IsTable, view_of};
 ghost use Rattle.best_line.specs.Lines.{IsFirstWon, IsBestStep, HasNoStep};
-ghost use Rattle.best_line.specs.Causes.{IsOfTable};
 ghost use Rattle.best_line.specs.declared.fault.LineFault.TheVariants.{NotSettled, Inconsistent, TooWide};
 
 use crate::fault::LineFault;
@@ -26,9 +25,9 @@ fn number_if_won<T: Table>(
     ensures none { T.is_honest table.old → IsTable (T.stored table.old) → IfOk result (λ r. IfNone r
         (HasValue (view_of (T.stored table.old)) position.now.items winner distance → ⊥)) }
     ensures within { IfOk result (λ r. IfSome r (λ i. i < (T.counted table.old).known)) }
-    ensures same { T.is_honest table.old → OnOk result (T.stored table.new ≡ T.stored table.old) }
-    ensures honest { OnOk result (T.is_honest table.old ↔ T.is_honest table.new) }
-    ensures counts { OnOk result (T.counted table.new ≡ T.counted table.old) }
+    ensures same { T.is_honest table.old → T.stored table.new ≡ T.stored table.old }
+    ensures honest { T.is_honest table.old ↔ T.is_honest table.new }
+    ensures counts { T.counted table.new ≡ T.counted table.old }
 {
     let Some(number) = table.number_of(position)? else {
         return Ok(None);
@@ -53,9 +52,9 @@ fn first_won<T: Table>(
     ensures none { T.is_honest table.old → IsTable (T.stored table.old) → IfOk result (λ r. IfNone r
         ((y : List ℕ) → Contains (bytes_of_each positions.now) y → HasValue (view_of (T.stored table.old)) y winner distance → ⊥)) }
     ensures within { IfOk result (λ r. IfSome r (λ i. i < (T.counted table.old).known)) }
-    ensures same { T.is_honest table.old → OnOk result (T.stored table.new ≡ T.stored table.old) }
-    ensures honest { OnOk result (T.is_honest table.old ↔ T.is_honest table.new) }
-    ensures counts { OnOk result (T.counted table.new ≡ T.counted table.old) }
+    ensures same { T.is_honest table.old → T.stored table.new ≡ T.stored table.old }
+    ensures honest { T.is_honest table.old ↔ T.is_honest table.new }
+    ensures counts { T.counted table.new ≡ T.counted table.old }
 {
     for position in positions {
         let found = number_if_won(table, position, winner, distance)?;
@@ -85,13 +84,10 @@ pub fn next_on_line<M: MoveSource, T: Table>(
     ensures wide { T.is_honest table.old → result ≡ Err TooWide
         → (x : List ℕ) × HasNumber (view_of (T.stored table.old)) number x × M.is_wide source.now x }
     ensures settled { IfErr result (λ fault. ¬ (fault ≡ NotSettled)) }
-    ensures unchanged { T.is_honest table.old → IfErr result (λ fault. ¬ IsOfTable fault
-        → T.is_honest table.new × (T.stored table.new ≡ T.stored table.old)) }
-    ensures uncounted { IfErr result (λ fault. ¬ IsOfTable fault → T.counted table.new ≡ T.counted table.old) }
     ensures within { IfOk result (λ i. i < (T.counted table.old).known) }
-    ensures same { T.is_honest table.old → OnOk result (T.stored table.new ≡ T.stored table.old) }
-    ensures honest { OnOk result (T.is_honest table.old ↔ T.is_honest table.new) }
-    ensures counts { OnOk result (T.counted table.new ≡ T.counted table.old) }
+    ensures same { T.is_honest table.old → T.stored table.new ≡ T.stored table.old }
+    ensures honest { T.is_honest table.old ↔ T.is_honest table.new }
+    ensures counts { T.counted table.new ≡ T.counted table.old }
 {
     let packed = table.packed(number)?;
     let found = source.successors(alloc, &packed)?;

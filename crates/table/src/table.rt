@@ -9,8 +9,8 @@ use crate::fault::TableFault;
 use position_pack::Packed;
 use retrograde::{Counts, Record};
 
-/// The table of one game. A call that writes changes one part of what is stored; after an error
-/// nothing is said of it any more.
+/// The table of one game. A call that reads leaves it as it was, also where it gives no answer. A call that
+/// writes changes one part of what is stored; after an error of such a call nothing is said of it any more.
 ///
 /// What a call says of the stored table it says of an honest one. What it asks, and what it says of
 /// how many positions are known and of the range of a number, holds of any: so no device that lies
@@ -34,25 +34,25 @@ pub trait Table {
         ensures found { is_honest self.old → IfOk result (λ r. IfSome r (λ i. slice_get (stored self.old).positions i ≡ Some packed.now.items)) }
         ensures unknown { is_honest self.old → IfOk result (λ r. IfNone r ((i : ℕ) → slice_get (stored self.old).positions i ≡ Some packed.now.items → ⊥)) }
         ensures within { IfOk result (λ r. IfSome r (λ i. i < (counted self.old).known)) }
-        ensures same { is_honest self.old → OnOk result (stored self.new ≡ stored self.old) }
-        ensures honest { OnOk result (is_honest self.old ↔ is_honest self.new) }
-        ensures counts { OnOk result (counted self.new ≡ counted self.old) };
+        ensures same { is_honest self.old → stored self.new ≡ stored self.old }
+        ensures honest { is_honest self.old ↔ is_honest self.new }
+        ensures counts { counted self.new ≡ counted self.old };
 
     /// The position with a number.
     fn packed(&mut self, number: u32) -> Result<Packed, TableFault>
         requires { number < (counted self.old).known }
         ensures position { is_honest self.old → IfOk result (λ p. slice_get (stored self.old).positions number ≡ Some p.items) }
-        ensures same { is_honest self.old → OnOk result (stored self.new ≡ stored self.old) }
-        ensures honest { OnOk result (is_honest self.old ↔ is_honest self.new) }
-        ensures counts { OnOk result (counted self.new ≡ counted self.old) };
+        ensures same { is_honest self.old → stored self.new ≡ stored self.old }
+        ensures honest { is_honest self.old ↔ is_honest self.new }
+        ensures counts { counted self.new ≡ counted self.old };
 
     /// The record of a number.
     fn record(&mut self, number: u32) -> Result<Record, TableFault>
         requires { number < (counted self.old).known }
         ensures record { is_honest self.old → IfOk result (λ r. HasRecord (stored self.old) number r) }
-        ensures same { is_honest self.old → OnOk result (stored self.new ≡ stored self.old) }
-        ensures honest { OnOk result (is_honest self.old ↔ is_honest self.new) }
-        ensures counts { OnOk result (counted self.new ≡ counted self.old) };
+        ensures same { is_honest self.old → stored self.new ≡ stored self.old }
+        ensures honest { is_honest self.old ↔ is_honest self.new }
+        ensures counts { counted self.new ≡ counted self.old };
 
     /// Adds a position that was not known, and answers its number.
     fn add(&mut self, packed: &Packed) -> Result<u32, TableFault>
@@ -84,9 +84,9 @@ pub trait Table {
         ensures none { is_honest self.old → IfOk result (λ r. IfNone r (HasNoMoreEdges (stored self.old) successor after)) }
         ensures within { IfOk result (λ r. IfSome r (λ p. p < (counted self.old).known)) }
         ensures later { IfOk result (λ r. IfSome r (IsAfter after)) }
-        ensures same { is_honest self.old → OnOk result (stored self.new ≡ stored self.old) }
-        ensures honest { OnOk result (is_honest self.old ↔ is_honest self.new) }
-        ensures counts { OnOk result (counted self.new ≡ counted self.old) };
+        ensures same { is_honest self.old → stored self.new ≡ stored self.old }
+        ensures honest { is_honest self.old ↔ is_honest self.new }
+        ensures counts { counted self.new ≡ counted self.old };
 
     /// Puts a number behind the settled order.
     fn push_settled(&mut self, number: u32) -> Result<(), TableFault>
@@ -99,9 +99,9 @@ pub trait Table {
     fn settled_at(&mut self, place: u32) -> Result<u32, TableFault>
         requires { place < (counted self.old).settled }
         ensures number { is_honest self.old → IfOk result (λ i. slice_get (stored self.old).order place ≡ Some i) }
-        ensures same { is_honest self.old → OnOk result (stored self.new ≡ stored self.old) }
-        ensures honest { OnOk result (is_honest self.old ↔ is_honest self.new) }
-        ensures counts { OnOk result (counted self.new ≡ counted self.old) };
+        ensures same { is_honest self.old → stored self.new ≡ stored self.old }
+        ensures honest { is_honest self.old ↔ is_honest self.new }
+        ensures counts { counted self.new ≡ counted self.old };
 
     /// An honest table counts what is stored.
     ghost counts_are: { (t : Self) → is_honest t → counted t ≡ counts_of (stored t) };

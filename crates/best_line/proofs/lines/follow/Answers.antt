@@ -1,13 +1,12 @@
-use Rattle.std.proofs.Common.{◌≡◌, ◌∙◌, sym, ap, rules, subst, ℕ, suc, ◌+◌, ◌-◌, List, [], ◌∷◌, ◌++◌, Some, refl, arith}
+use Rattle.std.proofs.Common.{◌≡◌, sym, ap, rules, subst, ℕ, suc, ◌+◌, ◌-◌, List, [], ◌∷◌, ◌++◌, Some, refl, arith}
 use Rattle.std.specs.Prelude.{Err}
 use Rattle.retrograde.specs.Stored.{Stored, IsTable, view_of}
 use Rattle.retrograde.proofs.Adding.{push_before}
 use Rattle.retrograde.proofs.Finished.{is_some_at}
-use Rattle.best_line.specs.Causes.{IsCause, IsOfTable}
+use Rattle.best_line.specs.Causes.{IsCause}
 use Rattle.best_line.specs.Lines.{IsBestStep, HasNoStep}
 use Rattle.best_line.specs.declared.fault.LineFault.{LineFault}
 use Rattle.best_line.proofs.LineLemmas.{IsLineTo, line_value, line_push, line_done}
-use Rattle.best_line.proofs.Passing.{passed_on}
 use Rattle.best_line.proofs.StepLemmas.{step_cause}
 use Rattle.best_line.proofs.lines.follow.Goals as goal
 
@@ -64,11 +63,3 @@ returns-clause-line g c = λ honest table value.
     let none : c.args.distance - c.loop-step.step ≡ 0 = omega (arith, c.loop-step-test.false) in
     line_done graph view c.args.winner c.args.distance c.loop-step.numbers.items c.loop-step.at
     (subst (λ (l : ℕ). IsLineTo graph view c.args.winner c.args.distance c.loop-step.numbers.items c.loop-step.at l) none (c.loop-step.invariant.line honest table value))
-
-pub returns-in_err-at-clause-unchanged : goal.returns-in_err-at-clause-unchanged
-returns-in_err-at-clause-unchanged g c = λ honest.
-    let h = c.loop-step.invariant.honest.0 honest in
-    passed_on
-    (λ (f : LineFault). (IsOfTable f → ⊥) → g.T.Table.is_honest c.next_on_line.new.table × (g.T.Table.stored c.next_on_line.new.table ≡ g.T.Table.stored c.args.table.now))
-    c.from_residual-in_err-at.result c.in_err-at.field-0.0 c.from_residual-in_err-at.ensures
-    (λ other. let (now, kept) = c.in_err-at.ensures.unchanged h other in (now, kept ∙ c.loop-step.invariant.same honest))
