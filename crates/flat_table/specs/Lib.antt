@@ -3,3 +3,4 @@ pub mod Pages
 pub mod Bytes
 pub mod Causes
 pub mod Calls
+pub mod Reading

@@ -34,11 +34,11 @@ pub trait TableFile {
 /// commits it; to give the command up it drops the copy.
 #[derive(Drop)]
 pub struct FlatTable<D: SectorDisk> {
-    alloc: Global,
-    store: PageStore<D>,
+    pub(crate) alloc: Global,
+    pub(crate) store: PageStore<D>,
     commits: u64,
     /// The table, where a game is loaded.
-    game: Option<Game>,
+    pub(crate) game: Option<Game>,
     ghost there: { ArePages (length store.marks.items) (pages_of game) },
 }
 

@@ -3,6 +3,7 @@
 
 mod fault;
 mod file;
+mod reading;
 mod put;
 
 pub use fault::{FileFault, Refused};
