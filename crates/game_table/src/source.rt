@@ -68,6 +68,14 @@ impl Source {
         self.compiled.game()
     }
 
+    /// The moves of the game.
+    pub fn moves(&self) -> &Compiled
+        ensures is { result.now ≡ self.now }
+        ensures sound { ⟦<Compiled as MoveSource>⟧.is_sound result.now }
+    {
+        &self.compiled
+    }
+
     /// The bytes of the start.
     pub fn start(&self) -> Packed
         ensures start { result.items ≡ (graph_of (compiled_game self.now)).start }

@@ -13,7 +13,7 @@ use Rattle.flat_table.specs.declared.fault.FileFault.TheVariants as file
 use Rattle.flat_table.specs.Calls.{IsOpened as IsFileOpened, IsNotOpened, IsCreated as IsFileCreated, IsNotCreated}
 use Rattle.flat_table.specs.Causes.{OpenCause as FileOpenCause, CreateCause as FileCreateCause}
 use Rattle.recover.specs.declared.fault.SolverFault.{SolverFault}
-use Rattle.recover.specs.declared.fault.SolverFault.TheVariants.{Disk as DiskFailed, NotATable, AlreadyATable, Damaged, TooSmall, TableFull, OutOfMemory, Closed, Game, NoGame, GameAlready, KeeperChooses, TooWide, TooManyPositions, Inconsistent}
+use Rattle.recover.specs.declared.fault.SolverFault.TheVariants.{Disk as DiskFailed, NotATable, AlreadyATable, Damaged, TooSmall, TableFull, OutOfMemory, Closed, Game, NoGame, GameAlready, KeeperChooses, TooWide, TooManyPositions, Inconsistent, NoSuchPosition, NotSettled, BadPosition}
 use Rattle.recover.specs.Faults.{file_fault}
 use Rattle.recover.specs.Held.{IsOfAGame}
 use Rattle.recover.specs.Opening.{IsOpened, IsCreated, OpenCause, CreateCause}

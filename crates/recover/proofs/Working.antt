@@ -29,7 +29,7 @@ use Rattle.flat_table.specs.declared.fault.FileFault.TheVariants as file
 use Rattle.flat_table.specs.Calls.{file_of, kept_as, table_kept, IsPut, IsNotPut}
 use Rattle.flat_table.specs.Causes.{PutCause}
 use Rattle.recover.specs.declared.fault.SolverFault.{SolverFault}
-use Rattle.recover.specs.declared.fault.SolverFault.TheVariants.{Disk, NotATable, AlreadyATable, Damaged, TooSmall, TableFull, OutOfMemory, Closed, Game as BadGame, NoGame, GameAlready, KeeperChooses, TooWide, TooManyPositions, Inconsistent}
+use Rattle.recover.specs.declared.fault.SolverFault.TheVariants.{Disk, NotATable, AlreadyATable, Damaged, TooSmall, TableFull, OutOfMemory, Closed, Game as BadGame, NoGame, GameAlready, KeeperChooses, TooWide, TooManyPositions, Inconsistent, NoSuchPosition, NotSettled, BadPosition}
 use Rattle.recover.specs.Faults.{file_fault, step_fault}
 use Rattle.recover.specs.Held.{IsSound}
 use Rattle.recover.specs.Machine.{work, worked, Works, WorksTo, WorkCause}
@@ -159,6 +159,9 @@ module _ (s : Store) (was : Game) (source : Compiled) (it : IsReady (file_of s (
       of_any (λ g. StopsWith (graph_of g) (IsWideAt g) (stored_in was.table) units step.TooManyPositions) game is_read
       (cause (to_source (λ g. IsLocallySound (graph_of g) (IsWideAt g) (stored_in was.table)) game is_read sound))
   work_cause units new Inconsistent cause = λ sound. cause (sound_here sound)
+  work_cause units new NoSuchPosition cause = absurd cause
+  work_cause units new NotSettled cause = absurd cause
+  work_cause units new BadPosition cause = absurd cause
 
 -- the table in memory is the file's
 table_is : (was : Game) (t : Stored (List ℕ)) → table_kept (kept_of (Some was)) ≡ Some t → t ≡ stored_in was.table

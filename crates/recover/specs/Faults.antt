@@ -5,8 +5,10 @@ use Rattle.frontier.specs.declared.fault.StepFault.{StepFault}
 use Rattle.frontier.specs.declared.fault.StepFault.TheVariants as step
 use Rattle.flat_table.specs.declared.fault.FileFault.{FileFault}
 use Rattle.flat_table.specs.declared.fault.FileFault.TheVariants as file
+use Rattle.best_line.specs.declared.fault.LineFault.{LineFault}
+use Rattle.best_line.specs.declared.fault.LineFault.TheVariants as line
 use Rattle.recover.specs.declared.fault.SolverFault.{SolverFault}
-use Rattle.recover.specs.declared.fault.SolverFault.TheVariants.{Disk, NotATable, AlreadyATable, Damaged, TooSmall, TableFull, OutOfMemory, Closed, Game, NoGame, GameAlready, KeeperChooses, TooWide, TooManyPositions, Inconsistent}
+use Rattle.recover.specs.declared.fault.SolverFault.TheVariants.{Disk, NotATable, AlreadyATable, Damaged, TooSmall, TableFull, OutOfMemory, Closed, Game, NoGame, GameAlready, KeeperChooses, TooWide, TooManyPositions, Inconsistent, NoSuchPosition, NotSettled, BadPosition}
 
 abbrev pub file_fault : FileFault → SolverFault
 file_fault file.Disk = Disk
@@ -27,6 +29,13 @@ step_fault step.Inconsistent = Inconsistent
 step_fault step.OutOfMemory = OutOfMemory
 step_fault (step.Table fault) = OutOfMemory
 
+abbrev pub line_fault : LineFault → SolverFault
+line_fault line.NotSettled = NotSettled
+line_fault line.Inconsistent = Inconsistent
+line_fault line.TooWide = TooWide
+line_fault line.OutOfMemory = OutOfMemory
+line_fault (line.Table fault) = OutOfMemory
+
 -- the code that is printed
 abbrev pub code_of : SolverFault → List ℕ
 code_of Disk = codes "E1"
@@ -44,3 +53,6 @@ code_of (KeeperChooses number) = codes "S3"
 code_of TooWide = codes "S4"
 code_of TooManyPositions = codes "S5"
 code_of Inconsistent = codes "S6"
+code_of NoSuchPosition = codes "S7"
+code_of NotSettled = codes "S8"
+code_of BadPosition = codes "S10"

@@ -16,7 +16,7 @@ use Rattle.table_work.specs.Work.{StopsWith}
 use Rattle.game_table.specs.Tables.{IsWorkOf}
 use Rattle.flat_file.specs.Held.{Kept}
 use Rattle.recover.specs.declared.fault.SolverFault.{SolverFault}
-use Rattle.recover.specs.declared.fault.SolverFault.TheVariants.{Disk, NotATable, AlreadyATable, Damaged, TooSmall, TableFull, OutOfMemory, Closed, Game as BadGame, NoGame, GameAlready, KeeperChooses, TooWide, TooManyPositions, Inconsistent}
+use Rattle.recover.specs.declared.fault.SolverFault.TheVariants.{Disk, NotATable, AlreadyATable, Damaged, TooSmall, TableFull, OutOfMemory, Closed, Game as BadGame, NoGame, GameAlready, KeeperChooses, TooWide, TooManyPositions, Inconsistent, NoSuchPosition, NotSettled, BadPosition}
 use Rattle.recover.specs.Held.{IsSound}
 use Rattle.recover.specs.State.{State}
 
@@ -79,6 +79,9 @@ LoadCause text old new (KeeperChooses number) = ⊥
 LoadCause text old new TooWide = ⊥
 LoadCause text old new TooManyPositions = ⊥
 LoadCause text old new Inconsistent = ⊥
+LoadCause text old new NoSuchPosition = ⊥
+LoadCause text old new NotSettled = ⊥
+LoadCause text old new BadPosition = ⊥
 
 -- why `work` is refused
 abbrev pub WorkCause : ℕ → State → State → SolverFault → Type 0
@@ -97,6 +100,9 @@ WorkCause units old new (KeeperChooses number) = StopsAt units old.kept (step.Ke
 WorkCause units old new TooWide = StopsAt units old.kept step.TooWide
 WorkCause units old new TooManyPositions = StopsAt units old.kept step.TooManyPositions
 WorkCause units old new Inconsistent = ¬ IsSound old.kept
+WorkCause units old new NoSuchPosition = ⊥
+WorkCause units old new NotSettled = ⊥
+WorkCause units old new BadPosition = ⊥
 
 -- why a command is refused
 abbrev pub Cause : Command → State → State → SolverFault → Type 0

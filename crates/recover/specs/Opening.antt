@@ -5,7 +5,7 @@ use Rattle.root_pair.specs.Root.{Begins, IsTable}
 use Rattle.flat_file.specs.Held.{Kept}
 use Rattle.flat_table.specs.Calls.{GoesFrom, OldOrEmpty}
 use Rattle.recover.specs.declared.fault.SolverFault.{SolverFault}
-use Rattle.recover.specs.declared.fault.SolverFault.TheVariants.{Disk as DiskFailed, NotATable, AlreadyATable, Damaged, TooSmall, TableFull, OutOfMemory, Closed, Game, NoGame, GameAlready, KeeperChooses, TooWide, TooManyPositions, Inconsistent}
+use Rattle.recover.specs.declared.fault.SolverFault.TheVariants.{Disk as DiskFailed, NotATable, AlreadyATable, Damaged, TooSmall, TableFull, OutOfMemory, Closed, Game, NoGame, GameAlready, KeeperChooses, TooWide, TooManyPositions, Inconsistent, NoSuchPosition, NotSettled, BadPosition}
 use Rattle.recover.specs.Held.{Holds}
 use Rattle.recover.specs.State.{State}
 use Rattle.recover.specs.Stops.{LeavesNow}
@@ -47,6 +47,9 @@ OpenCause disk before now (KeeperChooses number) = ⊥
 OpenCause disk before now TooWide = ⊥
 OpenCause disk before now TooManyPositions = ⊥
 OpenCause disk before now Inconsistent = ⊥
+OpenCause disk before now NoSuchPosition = ⊥
+OpenCause disk before now NotSettled = ⊥
+OpenCause disk before now BadPosition = ⊥
 
 -- why `create` is refused
 abbrev pub CreateCause : Disk → ℕ → ℕ → SolverFault → Type 0
@@ -65,3 +68,6 @@ CreateCause disk before now (KeeperChooses number) = ⊥
 CreateCause disk before now TooWide = ⊥
 CreateCause disk before now TooManyPositions = ⊥
 CreateCause disk before now Inconsistent = ⊥
+CreateCause disk before now NoSuchPosition = ⊥
+CreateCause disk before now NotSettled = ⊥
+CreateCause disk before now BadPosition = ⊥

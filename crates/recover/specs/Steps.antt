@@ -9,7 +9,7 @@ use Rattle.frontier.specs.declared.fault.StepFault.TheVariants as step
 use Rattle.table_work.specs.Work.{StopsWith}
 use Rattle.flat_file.specs.Held.{Kept}
 use Rattle.recover.specs.declared.fault.SolverFault.{SolverFault}
-use Rattle.recover.specs.declared.fault.SolverFault.TheVariants.{Disk, NotATable, AlreadyATable, Damaged, TooSmall, TableFull, OutOfMemory, Closed, Game as BadGame, NoGame, GameAlready, KeeperChooses, TooWide, TooManyPositions, Inconsistent}
+use Rattle.recover.specs.declared.fault.SolverFault.TheVariants.{Disk, NotATable, AlreadyATable, Damaged, TooSmall, TableFull, OutOfMemory, Closed, Game as BadGame, NoGame, GameAlready, KeeperChooses, TooWide, TooManyPositions, Inconsistent, NoSuchPosition, NotSettled, BadPosition}
 use Rattle.recover.specs.Held.{IsOfAGame}
 use Rattle.recover.specs.Machine.{Command, load, work, Reply, refused, Loads, Works, Step}
 use Rattle.recover.specs.State.{State}
@@ -49,6 +49,9 @@ NextCause game stored units (KeeperChooses number) =
 NextCause game stored units TooWide = IsLocallySound (graph_of game) (IsWideAt game) stored → StopsWith (graph_of game) (IsWideAt game) stored units step.TooWide
 NextCause game stored units TooManyPositions = IsLocallySound (graph_of game) (IsWideAt game) stored → StopsWith (graph_of game) (IsWideAt game) stored units step.TooManyPositions
 NextCause game stored units Inconsistent = ¬ IsLocallySound (graph_of game) (IsWideAt game) stored
+NextCause game stored units NoSuchPosition = ⊥
+NextCause game stored units NotSettled = ⊥
+NextCause game stored units BadPosition = ⊥
 
 -- why a stored table has no game: the text reads to none, or a position is not one of its positions; or memory is short
 abbrev pub IsNoGame : Option Kept → SolverFault → Type 0
@@ -67,3 +70,6 @@ IsNoGame kept (KeeperChooses number) = ⊥
 IsNoGame kept TooWide = ⊥
 IsNoGame kept TooManyPositions = ⊥
 IsNoGame kept Inconsistent = ⊥
+IsNoGame kept NoSuchPosition = ⊥
+IsNoGame kept NotSettled = ⊥
+IsNoGame kept BadPosition = ⊥

@@ -1,8 +1,10 @@
 //! Why a command is refused.
 
+use best_line::LineFault;
 use flat_table::FileFault;
 use frontier::StepFault;
 use rbg_read::fault::GameFault;
+use std::alloc::AllocError;
 use table::TableFault;
 use thiserror::Error;
 
@@ -55,6 +57,15 @@ pub enum SolverFault {
     /// S6: the table is not of this program's making.
     #[error("the table is inconsistent")]
     Inconsistent,
+    /// S7
+    #[error("no such position is known")]
+    NoSuchPosition,
+    /// S8
+    #[error("the position is not settled")]
+    NotSettled,
+    /// S10
+    #[error("the text is that of no position")]
+    BadPosition,
 }
 
 /// A disk that comes back with a refusal.
@@ -88,6 +99,9 @@ impl SolverFault {
             SolverFault::TooWide => "S4",
             SolverFault::TooManyPositions => "S5",
             SolverFault::Inconsistent => "S6",
+            SolverFault::NoSuchPosition => "S7",
+            SolverFault::NotSettled => "S8",
+            SolverFault::BadPosition => "S10",
         }
     }
 }
@@ -130,6 +144,22 @@ impl From<StepFault> for SolverFault {
     }
 }
 
+impl From<LineFault> for SolverFault {
+    ghost use Rattle.std.specs.Prelude.{◌≡◌};
+    ghost use Rattle.recover.specs.Faults.{line_fault};
+
+    ghost from_gives = { λ fault r. r ≡ line_fault fault };
+
+    fn from(fault: LineFault) -> Self {
+        match fault {
+            LineFault::NotSettled => SolverFault::NotSettled,
+            LineFault::Inconsistent => SolverFault::Inconsistent,
+            LineFault::TooWide => SolverFault::TooWide,
+            LineFault::OutOfMemory | LineFault::Table(_) => SolverFault::OutOfMemory,
+        }
+    }
+}
+
 impl From<GameFault> for SolverFault {
     ghost use Rattle.std.specs.Prelude.{◌≡◌};
     ghost use Rattle.recover.specs.declared.fault.SolverFault.TheVariants.{Game};
@@ -148,6 +178,17 @@ impl From<TableFault> for SolverFault {
     ghost from_gives = { λ _ r. r ≡ OutOfMemory };
 
     fn from(_: TableFault) -> Self {
+        SolverFault::OutOfMemory
+    }
+}
+
+impl From<AllocError> for SolverFault {
+    ghost use Rattle.std.specs.Prelude.{◌≡◌};
+    ghost use Rattle.recover.specs.declared.fault.SolverFault.TheVariants.{OutOfMemory};
+
+    ghost from_gives = { λ _ r. r ≡ OutOfMemory };
+
+    fn from(_: AllocError) -> Self {
         SolverFault::OutOfMemory
     }
 }
