@@ -21,16 +21,16 @@ use Rattle.position_pack.proofs.OrderLemmas.{same_position}
 use Rattle.position_pack.proofs.ShapeLemmas.{small_shape, fits}
 
 -- the byte is not in the text
-abbrev Lacks : ℕ → List ℕ → Type 0
+abbrev pub Lacks : ℕ → List ℕ → Type 0
 Lacks c [] = ⊤
 Lacks c (x ∷ xs) = (x ≢ c) × Lacks c xs
 
-lacks_append : (c : ℕ) (xs ys : List ℕ) → Lacks c xs → Lacks c ys → Lacks c (xs ++ ys)
+pub lacks_append : (c : ℕ) (xs ys : List ℕ) → Lacks c xs → Lacks c ys → Lacks c (xs ++ ys)
 lacks_append c [] ys h k = k
 lacks_append c (x ∷ xs) ys h k = (h.0, lacks_append c xs ys h.1 k)
 
 -- texts before the first such byte
-before : (c : ℕ) (a b r s : List ℕ) → Lacks c a → Lacks c b → a ++ (c ∷ r) ≡ b ++ (c ∷ s) → (a ≡ b) × (r ≡ s)
+pub before : (c : ℕ) (a b r s : List ℕ) → Lacks c a → Lacks c b → a ++ (c ∷ r) ≡ b ++ (c ∷ s) → (a ≡ b) × (r ≡ s)
 before c [] [] r s ha hb e = (refl, cc)
 before c [] (y ∷ b) r s ha hb e = absurd (hb.0 (let same : c ≡ y = cc in sym same))
 before c (x ∷ a) [] r s ha hb e = absurd (ha.0 (let same : x ≡ c = cc in same))
@@ -42,10 +42,10 @@ before c (x ∷ a) (y ∷ b) r s ha hb e =
 
 -- ---- lists with commas
 
-abbrev commas : List (List ℕ) → List ℕ
+abbrev pub commas : List (List ℕ) → List ℕ
 commas = flat_map (λ y. 44 ∷ y)
 
-abbrev EachLacks : ℕ → List (List ℕ) → Type 0
+abbrev pub EachLacks : ℕ → List (List ℕ) → Type 0
 EachLacks c [] = ⊤
 EachLacks c (x ∷ xs) = Lacks c x × EachLacks c xs
 
@@ -68,18 +68,18 @@ with_commas_tell (x ∷ xs) (y ∷ ys) hx hy e same =
     let rest = commas_tell x y xs ys hx.0 hy.0 hx.1 hy.1 (omega (arith, e)) same in
     rw (rest.0, rest.1) refl
 
-commas_lack : (c : ℕ) (xs : List (List ℕ)) → (44 ≢ c) → EachLacks c xs → Lacks c (commas xs)
+pub commas_lack : (c : ℕ) (xs : List (List ℕ)) → (44 ≢ c) → EachLacks c xs → Lacks c (commas xs)
 commas_lack c [] other h = tt
 commas_lack c (x ∷ xs) other h =
     subst (Lacks c) (sym (flat_map-cons (λ z. 44 ∷ z) x xs)) (other, lacks_append c x (commas xs) h.0 (commas_lack c xs other h.1))
 
-with_commas_lack : (c : ℕ) (xs : List (List ℕ)) → (44 ≢ c) → EachLacks c xs → Lacks c (with_commas xs)
+pub with_commas_lack : (c : ℕ) (xs : List (List ℕ)) → (44 ≢ c) → EachLacks c xs → Lacks c (with_commas xs)
 with_commas_lack c [] other h = tt
 with_commas_lack c (x ∷ xs) other h = lacks_append c x (commas xs) h.0 (commas_lack c xs other h.1)
 
 -- ---- numbers
 
-digits_lack : (c : ℕ) → c < 48 → (n : ℕ) → n < 2 ^ 64 → Lacks c (decimal n)
+pub digits_lack : (c : ℕ) → c < 48 → (n : ℕ) → n < 2 ^ 64 → Lacks c (decimal n)
 digits_lack c low n lt =
     decimal_by_steps (λ m ds. Lacks c ds) (λ m small. ((omega arith), tt))
     (λ m ds big before. lacks_append c ds ((48 + m % 10) ∷ []) before ((omega arith), tt)) n lt
@@ -90,11 +90,11 @@ decimal_tells m n hm hn e = sym (decimal_is_IsNumeral m hm).1 ∙ ap (digits_val
 -- ---- names
 
 -- the names of a list lack the byte, one after another
-each_lacks : (c : ℕ) (names : List (List ℕ)) → ((k : ℕ) → k < length names → Lacks c (get_or names k [])) → EachLacks c names
+pub each_lacks : (c : ℕ) (names : List (List ℕ)) → ((k : ℕ) → k < length names → Lacks c (get_or names k [])) → EachLacks c names
 each_lacks c [] h = tt
 each_lacks c (x ∷ names) h = (h 0 (omega arith), each_lacks c names (λ k lt. h (suc k) (omega (arith, lt))))
 
-lacks : (c : ℕ) (w : List ℕ) → ((k : ℕ) → k < length w → get_or w k 0 ≢ c) → Lacks c w
+pub lacks : (c : ℕ) (w : List ℕ) → ((k : ℕ) → k < length w → get_or w k 0 ≢ c) → Lacks c w
 lacks c [] h = tt
 lacks c (x ∷ w) h = (h 0 (omega arith), lacks c w (λ k lt. h (suc k) (omega (arith, lt))))
 
@@ -130,7 +130,7 @@ piece_is names k = unwrap_or-slice_get names k []
 -- ---- lists of pieces and of values
 
 -- what f makes of each element lacks the byte
-map_lacks : (c : ℕ) (f : ℕ → List ℕ) (xs : List ℕ) → ((k : ℕ) → k < length xs → Lacks c (f (get_or xs k 0))) → EachLacks c (map f xs)
+pub map_lacks : (c : ℕ) (f : ℕ → List ℕ) (xs : List ℕ) → ((k : ℕ) → k < length xs → Lacks c (f (get_or xs k 0))) → EachLacks c (map f xs)
 map_lacks c f [] h = tt
 map_lacks c f (x ∷ xs) h = (h 0 (omega arith), map_lacks c f xs (λ k lt. h (suc k) (omega (arith, lt))))
 
@@ -152,7 +152,7 @@ module _ (game : Game) (sound : IsSoundGame game) (proper : HasProperNames game)
   names = map (λ v. v.name) game.variables
 
   -- the text of a role
-  role_lacks : (role : Role) → Lacks 32 (role_text game role)
+  pub role_lacks : (role : Role) → Lacks 32 (role_text game role)
   role_lacks Keeper = (omega arith, (omega arith, tt))
   role_lacks (Player First) = subst (Lacks 32) (sym (variable_is game.variables 0)) (no_space _ (proper.variables_plain 0 [] (omega (arith, sound.has_players, length-map game.variables (λ v. v.name)))))
   role_lacks (Player Second) = subst (Lacks 32) (sym (variable_is game.variables 1)) (no_space _ (proper.variables_plain 1 [] (omega (arith, sound.has_players, length-map game.variables (λ v. v.name)))))
@@ -177,7 +177,7 @@ module _ (game : Game) (sound : IsSoundGame game) (proper : HasProperNames game)
   role_told (Player First) (Player Second) e = absurd (not_same e)
   role_told (Player Second) (Player First) e = absurd (not_same (sym e))
 
-  vertex_lacks : (k : ℕ) → k < length game.vertices → Lacks 32 (vertex_name game k)
+  pub vertex_lacks : (k : ℕ) → k < length game.vertices → Lacks 32 (vertex_name game k)
   vertex_lacks k lt = subst (Lacks 32) (sym (vertex_is game.vertices k)) (no_space _ (proper.vertices_plain k [] (omega (arith, lt, length-map game.vertices (λ v. v.name)))))
 
   vertex_told : (j k : ℕ) → j < length game.vertices → k < length game.vertices → vertex_name game j ≡ vertex_name game k → j ≡ k
@@ -188,21 +188,21 @@ module _ (game : Game) (sound : IsSoundGame game) (proper : HasProperNames game)
   piece_told : (j k : ℕ) → j < length game.pieces → k < length game.pieces → piece_name game j ≡ piece_name game k → j ≡ k
   piece_told j k hj hk e = place_told game.pieces proper.pieces_differ j k hj hk (sym (piece_is game.pieces j) ∙ e ∙ piece_is game.pieces k)
 
-  piece_space : (k : ℕ) → k < length game.pieces → Lacks 32 (piece_name game k)
+  pub piece_space : (k : ℕ) → k < length game.pieces → Lacks 32 (piece_name game k)
   piece_space k lt = subst (Lacks 32) (sym (piece_is game.pieces k)) (no_space _ (proper.pieces_plain k [] lt))
 
-  piece_comma : (k : ℕ) → k < length game.pieces → Lacks 44 (piece_name game k)
+  pub piece_comma : (k : ℕ) → k < length game.pieces → Lacks 44 (piece_name game k)
   piece_comma k lt = subst (Lacks 44) (sym (piece_is game.pieces k)) (no_comma _ (proper.pieces_plain k [] lt))
 
   -- the text from its parts, one behind the other
-  nested : (a b c d e : List ℕ) → a ++ 32 ∷ b ++ 32 ∷ c ++ 32 ∷ d ++ 32 ∷ e ≡ a ++ (32 ∷ (b ++ (32 ∷ (c ++ (32 ∷ (d ++ (32 ∷ e)))))))
+  pub nested : (a b c d e : List ℕ) → a ++ 32 ∷ b ++ 32 ∷ c ++ 32 ∷ d ++ 32 ∷ e ≡ a ++ (32 ∷ (b ++ (32 ∷ (c ++ (32 ∷ (d ++ (32 ∷ e)))))))
   nested a b c d e = simp append_assoc
 
   -- the facts of a position that its text rests on
-  place_low : (at : Position) → IsPositionOf game at → at.place < 2 ^ 64
+  pub place_low : (at : Position) → IsPositionOf game at → at.place < 2 ^ 64
   place_low at is = omega (arith, is.place_is, (small_shape game sound).few_actions)
 
-  values_low : (at : Position) → IsPositionOf game at → (k : ℕ) → k < length at.state.values.items → get_or at.state.values.items k 0 < 2 ^ 64
+  pub values_low : (at : Position) → IsPositionOf game at → (k : ℕ) → k < length at.state.values.items → get_or at.state.values.items k 0 < 2 ^ 64
   values_low at is k lt =
       let f = fits game at is in
       omega (arith, f.values_are k lt, (small_shape game sound).low_bounds k (omega (arith, lt, f.values_fit)))
@@ -210,7 +210,7 @@ module _ (game : Game) (sound : IsSoundGame game) (proper : HasProperNames game)
   pieces_low : (at : Position) → IsPositionOf game at → (k : ℕ) → k < length at.state.pieces.items → get_or at.state.pieces.items k 0 < length game.pieces
   pieces_low at is k lt = is.state_is.pieces_are k 0 lt
 
-  pieces_space : (at : Position) → IsPositionOf game at → Lacks 32 (with_commas (map (piece_name game) at.state.pieces.items))
+  pub pieces_space : (at : Position) → IsPositionOf game at → Lacks 32 (with_commas (map (piece_name game) at.state.pieces.items))
   pieces_space at is = with_commas_lack 32 _ (omega arith) (map_lacks 32 (piece_name game) at.state.pieces.items (λ k lt. piece_space _ (pieces_low at is k lt)))
 
   pub told : (x y : Position) → IsPositionOf game x → IsPositionOf game y → text_of game x ≡ text_of game y → x ≡ y

@@ -4,7 +4,10 @@
 pub mod laws;
 pub mod packed;
 mod parts;
+mod read;
 mod text;
+mod words;
 
 pub use packed::{Packed, Packing};
+pub use read::read_position;
 pub use text::show;
