@@ -1,5 +1,5 @@
 -- Lists with commas, read from the front.
-use Rattle.std.proofs.Common.{◌≡◌, ◌≢◌, ℕ, zero, suc, ◌+◌, ◌-◌, ◌<◌, ◌≤◌, List, [], ◌∷◌, ◌++◌, map, length, drop, get_or, refl, ap, sym, ◌∙◌, subst, append_assoc, append-nil, add-one, below_more, arith}
+use Rattle.std.proofs.Common.{◌≡◌, ◌≢◌, ℕ, zero, suc, ◌+◌, ◌<◌, List, [], ◌∷◌, ◌++◌, map, length, drop, get_or, refl, ap, sym, ◌∙◌, append_assoc, append-nil, add-one, arith}
 use Rattle.std.specs.Prelude.{All}
 use Rattle.std.specs.List.{flat_map}
 use Rattle.std.proofs.lemmas.List.Concat.{flat_map-cons}
@@ -7,7 +7,7 @@ use Rattle.std.proofs.lemmas.List.{flat_map_more, length_push, map_push}
 use Rattle.position_pack.specs.Texts.{with_commas}
 use Rattle.position_pack.specs.Spelled.{IsCut, IsWritten, AreWritten}
 use Rattle.position_pack.proofs.TellLemmas.{Lacks, lacks, before, commas}
-use Rattle.position_pack.proofs.WordLemmas.{not_cut, cut_told}
+use Rattle.position_pack.proofs.WordLemmas.{not_cut}
 use Rattle.position_pack.proofs.ValueBytes.{one_more}
 
 -- each word with a comma behind it
@@ -86,9 +86,9 @@ module _ (f : ℕ → List ℕ) (Allowed : ℕ → ℕ → Type 0) (count : ℕ)
     as_many = ap length more ∙ length_push xs x ∙ ap (λ n. n + 1) so_far.as_many;
     allowed = one_more Allowed xs x i zs so_far.as_many more so_far.allowed is.allowed;
     text_is =
-      so_far.text_is ∙ ap (λ t. followed (map f xs) ++ t) (cut.text_is ∙ ap (λ w. w ++ 44 ∷ back) is.text_is ∙ sym (append_assoc (f x) (44 ∷ []) back))
-      ∙ sym (append_assoc (followed (map f xs)) (f x ++ 44 ∷ []) back)
-      ∙ ap (λ t. t ++ back) (sym (followed_more f xs x) ∙ ap (λ all. followed (map f all)) (sym more));
+        so_far.text_is ∙ ap (λ t. followed (map f xs) ++ t) (cut.text_is ∙ ap (λ w. w ++ 44 ∷ back) is.text_is ∙ sym (append_assoc (f x) (44 ∷ []) back))
+        ∙ sym (append_assoc (followed (map f xs)) (f x ++ 44 ∷ []) back)
+        ∙ ap (λ t. t ++ back) (sym (followed_more f xs x) ∙ ap (λ all. followed (map f all)) (sym more));
     others = λ ys are. rw add-one (word_told i xs rest word back plain so_far lt cut ys are).1;
   }
 

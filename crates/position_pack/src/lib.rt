@@ -2,6 +2,8 @@
 #![tactic(auto)]
 
 pub mod laws;
+mod names;
+mod numbers;
 pub mod packed;
 mod parts;
 mod read;

@@ -7,7 +7,9 @@ ghost use Rattle.rbg_game.specs.Names.{HasProperNames};
 ghost use Rattle.rbg_game.specs.declared.position.Position.{Position};
 ghost use Rattle.position_pack.specs.Spelled.{IsSpelled, ArePieces, AreNumbers};
 
-use crate::words::{cut, read_piece, read_place, read_role, read_value, read_vertex, words_of};
+use crate::names::{read_piece, read_role, read_vertex};
+use crate::numbers::{read_place, read_value};
+use crate::words::{cut, words_of};
 use arrayvec::ArrayVec;
 use rbg_game::game::Game;
 use rbg_game::position::{Position, SemiState};

@@ -1,6 +1,6 @@
-use Rattle.std.proofs.Common.{ℕ, ◌≡◌, ◌<◌, ◌^◌, arith}
+use Rattle.std.proofs.Common.{◌<◌, ◌^◌, arith}
 use Rattle.position_pack.proofs.WordLemmas.{decimal_begins, value_told, digits_told}
-use Rattle.position_pack.proofs.words.read_number.Goals as goal
+use Rattle.position_pack.proofs.numbers.read_number.Goals as goal
 
 pub returns-then-not-begins_plainly : goal.returns-then-not-begins_plainly
 returns-then-not-begins_plainly c = λ n is.

@@ -1,8 +1,8 @@
-use Rattle.std.proofs.Common.{◌≡◌, ◌∙◌, ap, subst, sym, arith}
+use Rattle.std.proofs.Common.{◌∙◌, subst, sym, arith}
 use Rattle.std.specs.Str.{IsUtf8}
 use Rattle.std.proofs.lemmas.Fmt.{IsAscii-decimal, parse-decimal}
 use Rattle.std.proofs.lemmas.Str.{IsUtf8-from_ascii}
-use Rattle.position_pack.proofs.words.digits_of.Goals as goal
+use Rattle.position_pack.proofs.numbers.digits_of.Goals as goal
 
 pub returns-in_default : goal.returns-in_default
 returns-in_default c = λ n lt is.

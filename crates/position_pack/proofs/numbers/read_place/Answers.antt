@@ -1,7 +1,7 @@
 use Rattle.std.proofs.Common.{arith}
 use Rattle.rbg_game.specs.Meaning.{regex_of}
 use Rattle.rbg_game.proofs.CountLemmas.{count_within}
-use Rattle.position_pack.proofs.words.read_place.Goals as goal
+use Rattle.position_pack.proofs.numbers.read_place.Goals as goal
 
 pub action_count-requires : goal.action_count-requires
 action_count-requires c = omega (arith, count_within (regex_of c.args.game.now.rules), c.requires.few_actions)
