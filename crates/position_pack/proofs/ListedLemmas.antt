@@ -1,5 +1,5 @@
 -- Lists with commas, read from the front.
-use Rattle.std.proofs.Common.{◌≡◌, ◌≢◌, ℕ, zero, suc, ◌+◌, ◌<◌, List, [], ◌∷◌, ◌++◌, map, length, drop, get_or, refl, ap, sym, ◌∙◌, append_assoc, append-nil, add-one, arith}
+use Rattle.std.proofs.Common.{◌≡◌, ◌≢◌, ℕ, zero, suc, ◌+◌, ◌<◌, List, [], ◌∷◌, ◌++◌, map, length, drop, get_or, ap, sym, ◌∙◌, append_assoc, append-nil, add-one, arith}
 use Rattle.std.specs.Prelude.{All}
 use Rattle.std.specs.List.{flat_map}
 use Rattle.std.proofs.lemmas.List.Concat.{flat_map-cons}
@@ -56,14 +56,6 @@ abbrev pub HasNoComma : (ℕ → List ℕ) → (ℕ → ℕ → Type 0) → ℕ 
 HasNoComma f Allowed count = (k x : ℕ) → k < count → Allowed k x → Lacks 44 (f x)
 
 module _ (f : ℕ → List ℕ) (Allowed : ℕ → ℕ → Type 0) (count : ℕ) (text : List ℕ) where
-  pub none_read : IsReadTo f Allowed count text 0 [] text
-  none_read = record {
-    as_many = refl;
-    allowed = λ k lt. absurd (omega (arith, lt));
-    text_is = refl;
-    others = λ ys are. are.text_is;
-  }
-
   -- before the last item the rest has a comma
   pub no_comma_left : (i : ℕ) (xs rest : List ℕ) → IsReadTo f Allowed count text i xs rest → suc i < count → All (λ b. b ≢ 44) rest → (ys : List ℕ) → AreWritten f Allowed count text ys → ⊥
   no_comma_left i xs rest so_far lt none ys are =

@@ -25,7 +25,7 @@ abbrev pub Lacks : ℕ → List ℕ → Type 0
 Lacks c [] = ⊤
 Lacks c (x ∷ xs) = (x ≢ c) × Lacks c xs
 
-pub lacks_append : (c : ℕ) (xs ys : List ℕ) → Lacks c xs → Lacks c ys → Lacks c (xs ++ ys)
+lacks_append : (c : ℕ) (xs ys : List ℕ) → Lacks c xs → Lacks c ys → Lacks c (xs ++ ys)
 lacks_append c [] ys h k = k
 lacks_append c (x ∷ xs) ys h k = (h.0, lacks_append c xs ys h.1 k)
 
@@ -45,7 +45,7 @@ before c (x ∷ a) (y ∷ b) r s ha hb e =
 abbrev pub commas : List (List ℕ) → List ℕ
 commas = flat_map (λ y. 44 ∷ y)
 
-abbrev pub EachLacks : ℕ → List (List ℕ) → Type 0
+abbrev EachLacks : ℕ → List (List ℕ) → Type 0
 EachLacks c [] = ⊤
 EachLacks c (x ∷ xs) = Lacks c x × EachLacks c xs
 
@@ -68,12 +68,12 @@ with_commas_tell (x ∷ xs) (y ∷ ys) hx hy e same =
     let rest = commas_tell x y xs ys hx.0 hy.0 hx.1 hy.1 (omega (arith, e)) same in
     rw (rest.0, rest.1) refl
 
-pub commas_lack : (c : ℕ) (xs : List (List ℕ)) → (44 ≢ c) → EachLacks c xs → Lacks c (commas xs)
+commas_lack : (c : ℕ) (xs : List (List ℕ)) → (44 ≢ c) → EachLacks c xs → Lacks c (commas xs)
 commas_lack c [] other h = tt
 commas_lack c (x ∷ xs) other h =
     subst (Lacks c) (sym (flat_map-cons (λ z. 44 ∷ z) x xs)) (other, lacks_append c x (commas xs) h.0 (commas_lack c xs other h.1))
 
-pub with_commas_lack : (c : ℕ) (xs : List (List ℕ)) → (44 ≢ c) → EachLacks c xs → Lacks c (with_commas xs)
+with_commas_lack : (c : ℕ) (xs : List (List ℕ)) → (44 ≢ c) → EachLacks c xs → Lacks c (with_commas xs)
 with_commas_lack c [] other h = tt
 with_commas_lack c (x ∷ xs) other h = lacks_append c x (commas xs) h.0 (commas_lack c xs other h.1)
 
@@ -90,7 +90,7 @@ decimal_tells m n hm hn e = sym (decimal_is_IsNumeral m hm).1 ∙ ap (digits_val
 -- ---- names
 
 -- the names of a list lack the byte, one after another
-pub each_lacks : (c : ℕ) (names : List (List ℕ)) → ((k : ℕ) → k < length names → Lacks c (get_or names k [])) → EachLacks c names
+each_lacks : (c : ℕ) (names : List (List ℕ)) → ((k : ℕ) → k < length names → Lacks c (get_or names k [])) → EachLacks c names
 each_lacks c [] h = tt
 each_lacks c (x ∷ names) h = (h 0 (omega arith), each_lacks c names (λ k lt. h (suc k) (omega (arith, lt))))
 
@@ -130,7 +130,7 @@ piece_is names k = unwrap_or-slice_get names k []
 -- ---- lists of pieces and of values
 
 -- what f makes of each element lacks the byte
-pub map_lacks : (c : ℕ) (f : ℕ → List ℕ) (xs : List ℕ) → ((k : ℕ) → k < length xs → Lacks c (f (get_or xs k 0))) → EachLacks c (map f xs)
+map_lacks : (c : ℕ) (f : ℕ → List ℕ) (xs : List ℕ) → ((k : ℕ) → k < length xs → Lacks c (f (get_or xs k 0))) → EachLacks c (map f xs)
 map_lacks c f [] h = tt
 map_lacks c f (x ∷ xs) h = (h 0 (omega arith), map_lacks c f xs (λ k lt. h (suc k) (omega (arith, lt))))
 
@@ -188,7 +188,7 @@ module _ (game : Game) (sound : IsSoundGame game) (proper : HasProperNames game)
   piece_told : (j k : ℕ) → j < length game.pieces → k < length game.pieces → piece_name game j ≡ piece_name game k → j ≡ k
   piece_told j k hj hk e = place_told game.pieces proper.pieces_differ j k hj hk (sym (piece_is game.pieces j) ∙ e ∙ piece_is game.pieces k)
 
-  pub piece_space : (k : ℕ) → k < length game.pieces → Lacks 32 (piece_name game k)
+  piece_space : (k : ℕ) → k < length game.pieces → Lacks 32 (piece_name game k)
   piece_space k lt = subst (Lacks 32) (sym (piece_is game.pieces k)) (no_space _ (proper.pieces_plain k [] lt))
 
   pub piece_comma : (k : ℕ) → k < length game.pieces → Lacks 44 (piece_name game k)
@@ -202,7 +202,7 @@ module _ (game : Game) (sound : IsSoundGame game) (proper : HasProperNames game)
   pub place_low : (at : Position) → IsPositionOf game at → at.place < 2 ^ 64
   place_low at is = omega (arith, is.place_is, (small_shape game sound).few_actions)
 
-  pub values_low : (at : Position) → IsPositionOf game at → (k : ℕ) → k < length at.state.values.items → get_or at.state.values.items k 0 < 2 ^ 64
+  values_low : (at : Position) → IsPositionOf game at → (k : ℕ) → k < length at.state.values.items → get_or at.state.values.items k 0 < 2 ^ 64
   values_low at is k lt =
       let f = fits game at is in
       omega (arith, f.values_are k lt, (small_shape game sound).low_bounds k (omega (arith, lt, f.values_fit)))

@@ -1,25 +1,13 @@
 -- The words of a text, and numbers by their digits.
-use Rattle.std.proofs.Common.{◌≡◌, ◌≢◌, ℕ, zero, suc, ◌+◌, ◌^◌, ◌<◌, List, ◌∷◌, ◌++◌, length, take, drop, get_or, Option, None, refl, ap, sym, ◌∙◌, subst, arith}
+use Rattle.std.proofs.Common.{◌≡◌, ◌≢◌, ℕ, zero, suc, ◌^◌, ◌<◌, List, ◌∷◌, ◌++◌, length, get_or, Option, None, refl, ap, sym, ◌∙◌, subst, arith}
 use Rattle.std.specs.Prelude.{All, MatchOption}
 use Rattle.std.specs.Fmt.{decimal}
 use Rattle.std.specs.Str.Parse.{IsNumeral, AllDigits, digits_value, without_leading_plus}
 use Rattle.std.proofs.lemmas.Fmt.{decimal_digit, decimal_is_IsNumeral, decimal-digits_value, first_decimal}
 use Rattle.std.proofs.lemmas.Str.Parse.{IsNumeralModel, numerals_by_value, tells_digits, without_leading_plus_none}
-use Rattle.std.proofs.lemmas.List.{drop_more, get_or-take, get_or_at, length-append, length-take, take-append-drop}
-use Rattle.std.proofs.lemmas.List.Elements.{All-from_get_or}
+use Rattle.std.proofs.lemmas.List.{get_or_at, length-append}
 use Rattle.position_pack.specs.Spelled.{IsCut, AreWords}
 use Rattle.position_pack.proofs.TellLemmas.{before, lacks}
-
--- a text is cut at its first such byte
-pub cut_here : (c : ℕ) (xs : List ℕ) (i : ℕ) → i < length xs → get_or xs i 0 ≡ c → ((k : ℕ) → k < i → get_or xs k 0 ≢ c) → IsCut c xs (take i xs) (drop (i + 1) xs)
-cut_here c xs i lt here none = record {
-  front_lacks =
-      All-from_get_or (λ b. b ≢ c) (take i xs) 0
-      (λ k below.
-      let first : k < i = omega (arith, below, length-take i xs) in
-      subst (λ b. b ≢ c) (sym (get_or-take i xs k 0 first)) (none k first));
-  text_is = sym (take-append-drop i xs) ∙ ap (λ t. take i xs ++ t) (drop_more xs i 0 lt ∙ ap (λ b. b ∷ drop (i + 1) xs) here);
-}
 
 -- a text without the byte is not cut
 pub not_cut : (c : ℕ) (text front back : List ℕ) → All (λ b. b ≢ c) text → text ≡ front ++ (c ∷ back) → ⊥

@@ -10,7 +10,7 @@ use crate::text::{piece_name, vertex_name};
 use rbg_game::game::Game;
 use rbg_game::roles::{Player, Role};
 
-/// The role with this text.
+/// The role with this text, `>>` or the name of a player: none where no role has it.
 pub fn read_role(game: &Game, bytes: &[u8]) -> Option<Role>
     requires { IsSoundGame (game_of game.now) }
     ensures { MatchOption result ((role : Role) → bytes.now ≢ role_text (game_of game.now) role) (λ role. bytes.now ≡ role_text (game_of game.now) role) }
@@ -26,7 +26,7 @@ pub fn read_role(game: &Game, bytes: &[u8]) -> Option<Role>
     }
 }
 
-/// The vertex with this name, by its place.
+/// The place of the vertex with this name: none where no vertex has it.
 pub fn read_vertex(game: &Game, bytes: &[u8]) -> Option<u8>
     requires { IsSoundGame (game_of game.now) }
     ensures { MatchOption result ((k : ℕ) → ¬ IsVertex (game_of game.now) bytes.now k) (IsVertex (game_of game.now) bytes.now) }
@@ -39,7 +39,7 @@ pub fn read_vertex(game: &Game, bytes: &[u8]) -> Option<u8>
     None
 }
 
-/// The piece with this name, by its place.
+/// The place of the piece with this name: none where no piece has it.
 pub fn read_piece(game: &Game, bytes: &[u8]) -> Option<u8>
     requires { IsSoundGame (game_of game.now) }
     ensures { MatchOption result ((k : ℕ) → ¬ IsPiece (game_of game.now) bytes.now k) (IsPiece (game_of game.now) bytes.now) }

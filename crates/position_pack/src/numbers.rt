@@ -37,7 +37,8 @@ fn digits_of(bytes: &[u8]) -> Option<u32>
     Some(number)
 }
 
-/// The number up to `most` with these digits, which have no zero too many.
+/// The number from 0 to `most` whose decimal the bytes are: none where it is over that, or where
+/// they are no decimal, as with a zero too many or a sign.
 pub fn read_number(bytes: &[u8], most: u32) -> Option<u32>
     ensures { MatchOption result ((n : ℕ) → ¬ IsNumber most bytes.now n) (IsNumber most bytes.now) }
 {
@@ -51,7 +52,8 @@ pub fn read_number(bytes: &[u8], most: u32) -> Option<u32>
     Some(number)
 }
 
-/// The place of these digits: 0, or the number of an action.
+/// The place whose decimal the bytes are, from 0 to the number of the last action: none where they
+/// are that of no such place.
 pub fn read_place(game: &Game, bytes: &[u8]) -> Option<u16>
     requires { IsSoundGame (game_of game.now) }
     ensures { MatchOption result ((n : ℕ) → ¬ IsNumber (rules.count (game_of game.now).rules) bytes.now n) (IsNumber (rules.count (game_of game.now).rules) bytes.now) }
@@ -60,7 +62,8 @@ pub fn read_place(game: &Game, bytes: &[u8]) -> Option<u16>
     Some(place as u16)
 }
 
-/// The value of these digits, up to the bound of the variable.
+/// The value whose decimal the bytes are, from 0 to the bound of the variable at this place: none
+/// where they are that of no such value.
 pub fn read_value(game: &Game, variable: usize, bytes: &[u8]) -> Option<u32>
     requires { variable < length (game_of game.now).variables }
     ensures { MatchOption result ((n : ℕ) → ¬ IsNumber (bound_of (game_of game.now) variable) bytes.now n) (IsNumber (bound_of (game_of game.now) variable) bytes.now) }

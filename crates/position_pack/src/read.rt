@@ -40,7 +40,8 @@ pub fn read_position(game: &Game, text: &[u8]) -> Option<Position>
     })
 }
 
-/// The pieces with these names, one for each vertex, with commas between.
+/// The pieces with these names, with commas between: none where they are not as many as the
+/// vertices, or one is unknown.
 fn read_pieces(game: &Game, bytes: &[u8]) -> Option<ArrayVec<u8, 128>>
     requires sound { IsSoundGame (game_of game.now) }
     requires names { HasProperNames (game_of game.now) }
@@ -57,7 +58,8 @@ fn read_pieces(game: &Game, bytes: &[u8]) -> Option<ArrayVec<u8, 128>>
     Some(pieces)
 }
 
-/// The values of these digits, one for each variable, with commas between.
+/// The values with these decimals, with commas between: none where they are not as many as the
+/// variables, or one is no decimal up to its bound.
 fn read_values(game: &Game, bytes: &[u8]) -> Option<ArrayVec<u32, 34>>
     requires { IsSoundGame (game_of game.now) }
     ensures { MatchOption result ((values : List ℕ) → ¬ AreNumbers (game_of game.now) bytes.now values) (λ values. AreNumbers (game_of game.now) bytes.now values.items) }

@@ -3,7 +3,7 @@
 ghost use Rattle.std.specs.Prelude.{◌≢◌, ℕ, All, List, MatchOption};
 ghost use Rattle.position_pack.specs.Spelled.{IsCut, AreWords};
 
-/// What stands before the first such byte, and what behind it.
+/// What stands before the first such byte and what behind it: none where the byte is not there.
 pub fn cut(text: &[u8], byte: u8) -> Option<(&[u8], &[u8])>
     ensures { MatchOption result (All (λ b. b ≢ byte) text.now) (λ parts. IsCut byte text.now parts.0.now parts.1.now) }
 {
@@ -25,7 +25,7 @@ pub struct Words<'a> {
     pub values: &'a [u8],
 }
 
-/// The words of a text: what stands before its first four spaces, and the rest.
+/// The words of a text, which its first four spaces end, and the rest: none where it has fewer.
 pub fn words_of(text: &[u8]) -> Option<Words<'_>>
     ensures { MatchOption result ((a b c d e : List ℕ) → ¬ AreWords text.now a b c d e)
         (λ words. AreWords text.now words.role.now words.place.now words.vertex.now words.pieces.now words.values.now) }
