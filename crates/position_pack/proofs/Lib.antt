@@ -4,3 +4,6 @@ pub mod PartLemmas
 pub mod OrderLemmas
 pub mod TextLemmas
 pub mod TellLemmas
+pub mod WordLemmas
+pub mod ListedLemmas
+pub mod SpelledLemmas

@@ -1,5 +1,5 @@
 -- The order of bytes and the order of what they stand for.
-use Rattle.std.proofs.Common.{◌≡◌, ℕ, zero, suc, ◌+◌, ◌*◌, ◌/◌, ◌%◌, ◌<◌, ◌≤◌, List, [], ◌∷◌, ◌++◌, length, get_or, refl, ap, sym, ◌∙◌, subst, append_assoc, arith}
+use Rattle.std.proofs.Common.{◌≡◌, ℕ, suc, ◌*◌, ◌/◌, ◌%◌, ◌<◌, List, [], ◌∷◌, ◌++◌, length, get_or, refl, ap, sym, ◌∙◌, arith}
 use Rattle.std.proofs.lemmas.Bool.Decides.{nat_tests}
 use Rattle.std.proofs.lemmas.List.{length-append}
 use Rattle.std.proofs.lemmas.Slice.Eq.{bytes_eq-Decides}
@@ -15,9 +15,9 @@ use Rattle.rbg_game.specs.declared.roles.Player.TheVariants.{First, Second}
 use Rattle.rbg_game.specs.declared.position.Position.{Position}
 use Rattle.position_pack.specs.Shape.{Shape, IsSmall, Fits}
 use Rattle.position_pack.specs.Fields.{role_code, fields_of}
-use Rattle.position_pack.specs.Bytes.{IsPacked, bytes_of}
+use Rattle.position_pack.specs.Bytes.{bytes_of}
 use Rattle.position_pack.proofs.ValueBytes.{spelled, spelled-cons}
-use Rattle.position_pack.proofs.PartLemmas.{last_bytes, length-spelled, parts_of}
+use Rattle.position_pack.proofs.PartLemmas.{last_bytes, length-spelled}
 
 then_then : (a b c : Ordering) → ordering_then (ordering_then a b) c ≡ ordering_then a (ordering_then b c)
 then_then Less b c = refl

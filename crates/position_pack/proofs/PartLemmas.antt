@@ -1,11 +1,11 @@
 -- The parts of a packed position.
-use Rattle.std.proofs.Common.{◌≡◌, ℕ, suc, ◌+◌, ◌*◌, ◌/◌, ◌%◌, ◌-◌, ◌<◌, ◌≤◌, List, [], ◌∷◌, ◌++◌, length, take, drop, get_or, get_or-drop, length-drop, length-take-le, refl, ap, sym, ◌∙◌, subst, append_assoc, arith}
+use Rattle.std.proofs.Common.{◌≡◌, ℕ, ◌+◌, ◌*◌, ◌/◌, ◌%◌, ◌-◌, ◌<◌, ◌≤◌, List, [], ◌∷◌, ◌++◌, length, take, drop, get_or, get_or-drop, length-drop, length-take-le, refl, ap, sym, ◌∙◌, subst, append_assoc, arith}
 use Rattle.std.specs.Prelude.{All}
 use Rattle.std.proofs.lemmas.List.{length-append, take-append-drop}
 use Rattle.rbg_game.specs.declared.position.Position.{Position}
-use Rattle.position_pack.specs.Shape.{Shape, Fits}
+use Rattle.position_pack.specs.Shape.{Shape}
 use Rattle.position_pack.specs.Fields.{role_code}
-use Rattle.position_pack.specs.Bytes.{AreValues, IsPacked, bytes_of}
+use Rattle.position_pack.specs.Bytes.{AreValues, IsPacked}
 use Rattle.position_pack.proofs.ValueBytes.{spelled, spelled-cons}
 
 pub length-spelled : (vs : List ℕ) → length (spelled vs) ≡ 3 * length vs

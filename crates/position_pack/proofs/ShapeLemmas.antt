@@ -35,7 +35,7 @@ small_shape game sound = record {
         omega (arith, fit k none here, get_or-map (λ v. v.bound) all k none 0 here)
 
 -- the bound of a variable, in the list of bounds
-bound_is : (all : List Bounded) (v : ℕ) → unwrap_or (option_map (λ b. b.bound) (slice_get all v)) 0 ≡ get_or (map (λ b. b.bound) all) v 0
+pub bound_is : (all : List Bounded) (v : ℕ) → unwrap_or (option_map (λ b. b.bound) (slice_get all v)) 0 ≡ get_or (map (λ b. b.bound) all) v 0
 bound_is [] v = refl
 bound_is (b ∷ all) zero = refl
 bound_is (b ∷ all) (suc v) = bound_is all v

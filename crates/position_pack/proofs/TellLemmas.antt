@@ -1,6 +1,6 @@
 -- The text of a position tells the position.
-use Rattle.std.proofs.Common.{◌≡◌, ◌≢◌, ℕ, zero, suc, ◌+◌, ◌-◌, ◌^◌, ◌<◌, ◌≤◌, ◌%◌, List, [], ◌∷◌, ◌++◌, map, length, get_or, refl, ap, sym, ◌∙◌, subst, append_assoc, append-nil, inl, inr, arith}
-use Rattle.std.specs.Prelude.{All, AllPairs, slice_get, option_map, unwrap_or, ⊤}
+use Rattle.std.proofs.Common.{◌≡◌, ◌≢◌, ℕ, zero, suc, ◌+◌, ◌^◌, ◌<◌, ◌%◌, List, [], ◌∷◌, ◌++◌, map, length, get_or, refl, ap, sym, ◌∙◌, subst, append_assoc, append-nil, arith}
+use Rattle.std.specs.Prelude.{AllPairs, slice_get, option_map, unwrap_or, ⊤}
 use Rattle.std.specs.List.{flat_map}
 use Rattle.std.specs.Fmt.{decimal}
 use Rattle.std.specs.Str.Parse.{digits_value}
@@ -21,7 +21,7 @@ use Rattle.position_pack.proofs.OrderLemmas.{same_position}
 use Rattle.position_pack.proofs.ShapeLemmas.{small_shape, fits}
 
 -- the byte is not in the text
-abbrev Lacks : ℕ → List ℕ → Type 0
+abbrev pub Lacks : ℕ → List ℕ → Type 0
 Lacks c [] = ⊤
 Lacks c (x ∷ xs) = (x ≢ c) × Lacks c xs
 
@@ -30,7 +30,7 @@ lacks_append c [] ys h k = k
 lacks_append c (x ∷ xs) ys h k = (h.0, lacks_append c xs ys h.1 k)
 
 -- texts before the first such byte
-before : (c : ℕ) (a b r s : List ℕ) → Lacks c a → Lacks c b → a ++ (c ∷ r) ≡ b ++ (c ∷ s) → (a ≡ b) × (r ≡ s)
+pub before : (c : ℕ) (a b r s : List ℕ) → Lacks c a → Lacks c b → a ++ (c ∷ r) ≡ b ++ (c ∷ s) → (a ≡ b) × (r ≡ s)
 before c [] [] r s ha hb e = (refl, cc)
 before c [] (y ∷ b) r s ha hb e = absurd (hb.0 (let same : c ≡ y = cc in sym same))
 before c (x ∷ a) [] r s ha hb e = absurd (ha.0 (let same : x ≡ c = cc in same))
@@ -42,7 +42,7 @@ before c (x ∷ a) (y ∷ b) r s ha hb e =
 
 -- ---- lists with commas
 
-abbrev commas : List (List ℕ) → List ℕ
+abbrev pub commas : List (List ℕ) → List ℕ
 commas = flat_map (λ y. 44 ∷ y)
 
 abbrev EachLacks : ℕ → List (List ℕ) → Type 0
@@ -79,7 +79,7 @@ with_commas_lack c (x ∷ xs) other h = lacks_append c x (commas xs) h.0 (commas
 
 -- ---- numbers
 
-digits_lack : (c : ℕ) → c < 48 → (n : ℕ) → n < 2 ^ 64 → Lacks c (decimal n)
+pub digits_lack : (c : ℕ) → c < 48 → (n : ℕ) → n < 2 ^ 64 → Lacks c (decimal n)
 digits_lack c low n lt =
     decimal_by_steps (λ m ds. Lacks c ds) (λ m small. ((omega arith), tt))
     (λ m ds big before. lacks_append c ds ((48 + m % 10) ∷ []) before ((omega arith), tt)) n lt
@@ -94,7 +94,7 @@ each_lacks : (c : ℕ) (names : List (List ℕ)) → ((k : ℕ) → k < length n
 each_lacks c [] h = tt
 each_lacks c (x ∷ names) h = (h 0 (omega arith), each_lacks c names (λ k lt. h (suc k) (omega (arith, lt))))
 
-lacks : (c : ℕ) (w : List ℕ) → ((k : ℕ) → k < length w → get_or w k 0 ≢ c) → Lacks c w
+pub lacks : (c : ℕ) (w : List ℕ) → ((k : ℕ) → k < length w → get_or w k 0 ≢ c) → Lacks c w
 lacks c [] h = tt
 lacks c (x ∷ w) h = (h 0 (omega arith), lacks c w (λ k lt. h (suc k) (omega (arith, lt))))
 
@@ -152,7 +152,7 @@ module _ (game : Game) (sound : IsSoundGame game) (proper : HasProperNames game)
   names = map (λ v. v.name) game.variables
 
   -- the text of a role
-  role_lacks : (role : Role) → Lacks 32 (role_text game role)
+  pub role_lacks : (role : Role) → Lacks 32 (role_text game role)
   role_lacks Keeper = (omega arith, (omega arith, tt))
   role_lacks (Player First) = subst (Lacks 32) (sym (variable_is game.variables 0)) (no_space _ (proper.variables_plain 0 [] (omega (arith, sound.has_players, length-map game.variables (λ v. v.name)))))
   role_lacks (Player Second) = subst (Lacks 32) (sym (variable_is game.variables 1)) (no_space _ (proper.variables_plain 1 [] (omega (arith, sound.has_players, length-map game.variables (λ v. v.name)))))
@@ -177,7 +177,7 @@ module _ (game : Game) (sound : IsSoundGame game) (proper : HasProperNames game)
   role_told (Player First) (Player Second) e = absurd (not_same e)
   role_told (Player Second) (Player First) e = absurd (not_same (sym e))
 
-  vertex_lacks : (k : ℕ) → k < length game.vertices → Lacks 32 (vertex_name game k)
+  pub vertex_lacks : (k : ℕ) → k < length game.vertices → Lacks 32 (vertex_name game k)
   vertex_lacks k lt = subst (Lacks 32) (sym (vertex_is game.vertices k)) (no_space _ (proper.vertices_plain k [] (omega (arith, lt, length-map game.vertices (λ v. v.name)))))
 
   vertex_told : (j k : ℕ) → j < length game.vertices → k < length game.vertices → vertex_name game j ≡ vertex_name game k → j ≡ k
@@ -191,15 +191,15 @@ module _ (game : Game) (sound : IsSoundGame game) (proper : HasProperNames game)
   piece_space : (k : ℕ) → k < length game.pieces → Lacks 32 (piece_name game k)
   piece_space k lt = subst (Lacks 32) (sym (piece_is game.pieces k)) (no_space _ (proper.pieces_plain k [] lt))
 
-  piece_comma : (k : ℕ) → k < length game.pieces → Lacks 44 (piece_name game k)
+  pub piece_comma : (k : ℕ) → k < length game.pieces → Lacks 44 (piece_name game k)
   piece_comma k lt = subst (Lacks 44) (sym (piece_is game.pieces k)) (no_comma _ (proper.pieces_plain k [] lt))
 
   -- the text from its parts, one behind the other
-  nested : (a b c d e : List ℕ) → a ++ 32 ∷ b ++ 32 ∷ c ++ 32 ∷ d ++ 32 ∷ e ≡ a ++ (32 ∷ (b ++ (32 ∷ (c ++ (32 ∷ (d ++ (32 ∷ e)))))))
+  pub nested : (a b c d e : List ℕ) → a ++ 32 ∷ b ++ 32 ∷ c ++ 32 ∷ d ++ 32 ∷ e ≡ a ++ (32 ∷ (b ++ (32 ∷ (c ++ (32 ∷ (d ++ (32 ∷ e)))))))
   nested a b c d e = simp append_assoc
 
   -- the facts of a position that its text rests on
-  place_low : (at : Position) → IsPositionOf game at → at.place < 2 ^ 64
+  pub place_low : (at : Position) → IsPositionOf game at → at.place < 2 ^ 64
   place_low at is = omega (arith, is.place_is, (small_shape game sound).few_actions)
 
   values_low : (at : Position) → IsPositionOf game at → (k : ℕ) → k < length at.state.values.items → get_or at.state.values.items k 0 < 2 ^ 64
@@ -210,7 +210,7 @@ module _ (game : Game) (sound : IsSoundGame game) (proper : HasProperNames game)
   pieces_low : (at : Position) → IsPositionOf game at → (k : ℕ) → k < length at.state.pieces.items → get_or at.state.pieces.items k 0 < length game.pieces
   pieces_low at is k lt = is.state_is.pieces_are k 0 lt
 
-  pieces_space : (at : Position) → IsPositionOf game at → Lacks 32 (with_commas (map (piece_name game) at.state.pieces.items))
+  pub pieces_space : (at : Position) → IsPositionOf game at → Lacks 32 (with_commas (map (piece_name game) at.state.pieces.items))
   pieces_space at is = with_commas_lack 32 _ (omega arith) (map_lacks 32 (piece_name game) at.state.pieces.items (λ k lt. piece_space _ (pieces_low at is k lt)))
 
   pub told : (x y : Position) → IsPositionOf game x → IsPositionOf game y → text_of game x ≡ text_of game y → x ≡ y

@@ -34,14 +34,16 @@ pub fn show(alloc: Global, game: &Game, at: &Position) -> Result<Vec<u8>, AllocE
     Ok(text)
 }
 
-fn vertex_name(game: &Game, vertex: u8) -> &[u8]
+/// The name of a vertex by its place.
+pub fn vertex_name(game: &Game, vertex: u8) -> &[u8]
     requires { vertex < length (game_of game.now).vertices }
     ensures { result.now ≡ spec.vertex_name (game_of game.now) vertex }
 {
     &game.vertices[usize::from(vertex)].name.bytes
 }
 
-fn piece_name(game: &Game, piece: u8) -> &[u8]
+/// The name of a piece by its place.
+pub fn piece_name(game: &Game, piece: u8) -> &[u8]
     requires { piece < length (game_of game.now).pieces }
     ensures { result.now ≡ spec.piece_name (game_of game.now) piece }
 {

@@ -1,4 +1,4 @@
-use Rattle.std.proofs.Common.{◌≡◌, ◌≤◌, ◌<◌, ℕ, length, get_or, arith, ap, sym, ◌∙◌}
+use Rattle.std.proofs.Common.{◌≡◌, ◌≤◌, ◌<◌, ℕ, length, get_or, arith, ap}
 use Rattle.position_pack.proofs.ValueBytes.{three_at, spell, at_most, one_more}
 use Rattle.position_pack.proofs.parts.values_of.Goals as goal
 

@@ -1,5 +1,4 @@
 use Rattle.std.proofs.Common.{◌≡◌, take, map}
-use Rattle.rbg_game.specs.Meaning.{variable_of}
 use Rattle.position_pack.proofs.packed.Packing.new.Given as goal
 
 abbrev pub invariant-loop-variable : goal.invariant-loop-variable
