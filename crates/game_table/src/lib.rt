@@ -5,6 +5,7 @@
 pub mod laws;
 mod packings;
 mod source;
+mod texts;
 #[cfg(test)]
 mod tests;
 

@@ -2,6 +2,7 @@
 ghost use Rattle.std.specs.Prelude.{◌≡◌, ◌≢◌, ◌↔◌, ◌≤◌, ◌^◌, true, IfOk, IfErr, OnOk, Err, length};
 ghost use Rattle.rbg_game.specs.Games.{Game as TextbookGame};
 ghost use Rattle.rbg_game.specs.Meaning.{game_of};
+ghost use Rattle.rbg_game.specs.Names.{HasProperNames};
 ghost use Rattle.rbg_game.specs.Positions.{IsPositionOf};
 ghost use Rattle.rbg_read.specs.Reading.{Reads, Fault};
 ghost use Rattle.legal_moves.specs.Moves.{start_of};
@@ -26,7 +27,8 @@ use table_work::StepFault;
 /// A game made ready for the search for moves.
 #[derive(Drop)]
 pub struct Source {
-    compiled: Compiled,
+    pub(crate) compiled: Compiled,
+    ghost names: { HasProperNames (compiled_game compiled) },
 }
 
 impl Model for Source {

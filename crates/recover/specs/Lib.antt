@@ -7,3 +7,4 @@ pub mod Opening
 pub mod Machine
 pub mod Steps
 pub mod Laws
+pub mod Queries

@@ -6,6 +6,7 @@ mod fault;
 mod games;
 pub mod laws;
 mod next;
+mod queries;
 mod ready;
 mod replies;
 #[cfg(test)]

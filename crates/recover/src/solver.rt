@@ -32,10 +32,10 @@ pub trait Solving {
 /// A game's table on a disk.
 #[derive(Drop)]
 pub struct Solver<D: SectorDisk> {
-    alloc: Global,
-    file: FlatTable<D>,
+    pub(crate) alloc: Global,
+    pub(crate) file: FlatTable<D>,
     /// The game, where one is loaded.
-    source: Option<Source>,
+    pub(crate) source: Option<Source>,
 }
 
 impl<D: SectorDisk> Solving for Solver<D> {
