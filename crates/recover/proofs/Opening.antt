@@ -54,6 +54,9 @@ module _ (disk : Disk) (count : ℕ) (file : File) where
   no_game_opened now TooWide found cause = absurd cause
   no_game_opened now TooManyPositions found cause = absurd cause
   no_game_opened now Inconsistent found cause = absurd cause
+  no_game_opened now NoSuchPosition found cause = absurd cause
+  no_game_opened now NotSettled found cause = absurd cause
+  no_game_opened now BadPosition found cause = absurd cause
 
   pub created : IsFileCreated disk count file → IsCreated disk count (state_of file)
   created made = record {
@@ -88,6 +91,9 @@ module _ (disk : Disk) (count : ℕ) (file : File) where
   no_game_created now TooWide made cause = absurd cause
   no_game_created now TooManyPositions made cause = absurd cause
   no_game_created now Inconsistent made cause = absurd cause
+  no_game_created now NoSuchPosition made cause = absurd cause
+  no_game_created now NotSettled made cause = absurd cause
+  no_game_created now BadPosition made cause = absurd cause
 
 -- a file that is not opened is no solver
 pub open_cause : (disk : Disk) (count now : ℕ) (fault : FileFault) → FileOpenCause disk count now fault → OpenCause disk count now (file_fault fault)

@@ -8,3 +8,4 @@ pub mod Machine
 pub mod Steps
 pub mod Laws
 pub mod Queries
+pub mod Runs

@@ -4,7 +4,7 @@ use best_line::LineFault;
 use flat_table::FileFault;
 use frontier::StepFault;
 use rbg_read::fault::GameFault;
-use std::alloc::AllocError;
+use std::alloc::{AllocError, AllocFailed};
 use table::TableFault;
 use thiserror::Error;
 
@@ -189,6 +189,17 @@ impl From<AllocError> for SolverFault {
     ghost from_gives = { λ _ r. r ≡ OutOfMemory };
 
     fn from(_: AllocError) -> Self {
+        SolverFault::OutOfMemory
+    }
+}
+
+impl<T: Drop> From<AllocFailed<T>> for SolverFault {
+    ghost use Rattle.std.specs.Prelude.{◌≡◌};
+    ghost use Rattle.recover.specs.declared.fault.SolverFault.TheVariants.{OutOfMemory};
+
+    ghost from_gives = { λ _ r. r ≡ OutOfMemory };
+
+    fn from(_: AllocFailed<T>) -> Self {
         SolverFault::OutOfMemory
     }
 }

@@ -11,6 +11,7 @@ mod ready;
 mod replies;
 #[cfg(test)]
 mod row_tests;
+mod run;
 mod solver;
 #[cfg(test)]
 mod stop_tests;
@@ -18,5 +19,5 @@ mod stop_tests;
 mod tests;
 
 pub use fault::{Refused, SolverFault};
-pub use replies::{Units, Worked};
+pub use replies::{Command, Reply, Units, Worked};
 pub use solver::{Solver, Solving};

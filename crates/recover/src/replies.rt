@@ -1,6 +1,7 @@
 //! What commands ask for, and what they answer.
 ghost use Rattle.std.specs.Prelude.{◌≤◌};
 
+use crate::SolverFault;
 use retrograde::Counts;
 
 /// How many units of work a command does, or rows it gives: 1 to 256.
@@ -42,4 +43,24 @@ impl Units {
 pub struct Worked {
     pub units: u32,
     pub counts: Counts,
+}
+
+/// What changes a table.
+#[derive(Drop)]
+pub enum Command {
+    /// Loads the game of this text.
+    Load(Vec<u8>),
+    /// Does so many units of work, or fewer where the table is finished by then.
+    Work(Units),
+}
+
+/// What a command answers.
+#[derive(Clone, Copy, PartialEq, Eq, Debug, Drop)]
+pub enum Reply {
+    /// The game is loaded.
+    Loaded,
+    /// So many units are done, and the table is so far then.
+    Worked(u32, Counts),
+    /// The command is refused.
+    Refused(SolverFault),
 }
