@@ -4,3 +4,6 @@ pub mod Room
 pub mod Loading
 pub mod Working
 pub mod Opening
+pub mod Asking
+pub mod Turning
+pub mod Prefixes

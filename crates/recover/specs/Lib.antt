@@ -9,3 +9,4 @@ pub mod Steps
 pub mod Laws
 pub mod Queries
 pub mod Runs
+pub mod Headline

@@ -32,6 +32,10 @@ pub record IsAsked (old new : State) : Type 0 where
   pub since : IsTrue old.disk.honest → old.closed ≡ false → LeavesTable old.disk new.disk old.kept
   pub now : IsTrue old.disk.honest → old.closed ≡ false → LeavesNow new.disk old.kept
 
+-- so many positions are known
+abbrev pub HasSoMany : ℕ → Kept → Type 0
+HasSoMany known kept = known ≡ length kept.table.positions
+
 -- the number is that of a known position
 abbrev pub IsThere : ℕ → Kept → Type 0
 IsThere number kept = number < length kept.table.positions

@@ -35,9 +35,7 @@ LeavesBetween disk from to one other = (moment : ℕ) (picture : Picture) → fr
 -- may follow it
 pub record HasFailed (disk : Disk) (command : Command) (reply : Reply) (was : State) : Type 0 where
   pub reply_is : reply ≡ refused DiskFailed
-  pub next : Option Kept
-  pub follows : IsTrue disk.honest → MayFollow command was.kept next
-  pub leaves : IsTrue disk.honest → LeavesBetween disk was.disk.clock disk.clock was.kept next
+  pub leaves : IsTrue disk.honest → (next : Option Kept) × MayFollow command was.kept next × LeavesBetween disk was.disk.clock disk.clock was.kept next
 
 -- one command of a run, from the state of the solver before it to the one after it; the disk is the one of the end. The reply is
 -- that of the step. A stop between the two moments leaves the table before or the one after, and a stop at the second the one
@@ -56,8 +54,10 @@ Turns disk [] [] was is = is ≡ was
 Turns disk (command ∷ commands) (reply ∷ replies) was is = (mid : State) × IsTurn disk command reply was mid × Turns disk commands replies mid is
 Turns disk _ _ was is = ⊥
 
--- there are replies behind those that were there, one for each command, as the commands are answered one after another
+-- there are replies behind those that were there, one for each command, as the commands are answered one after another; a stop at
+-- the first moment leaves the table that was there
 pub record IsRun (commands : List Asked) (before after : List Answer) (was is : State) : Type 0 where
   pub added : List Answer
   pub replies_are : after ≡ before ++ added
+  pub begins : IsTrue is.disk.honest → was.closed ≡ false → LeavesAt is.disk was.disk.clock was.kept
   pub turns : Turns is.disk (map command_of commands) (map reply_of added) was is

@@ -3,7 +3,7 @@ ghost use Rattle.std.specs.Prelude.{◌≡◌, ◌<◌, true, false, Some, None,
 ghost use Rattle.rbg_game.specs.Meaning.{game_of};
 ghost use Rattle.flat_table.specs.Reading.{known_in};
 ghost use Rattle.recover.specs.Held.{IsSound};
-ghost use Rattle.recover.specs.Queries.{OfKept, IsAsked, HasValue, HasRows, HasLine, HasText, IsGameOf, AskCause, NumberCause, LineCause, ShowCause, FindCause};
+ghost use Rattle.recover.specs.Queries.{OfKept, IsAsked, HasSoMany, HasValue, HasRows, HasLine, HasText, IsGameOf, AskCause, NumberCause, LineCause, ShowCause, FindCause};
 ghost use Rattle.recover.specs.Units.{units_in};
 
 use crate::{Solver, SolverFault, Solving, Units};
@@ -28,7 +28,7 @@ impl<D: SectorDisk> Solver<D> {
 
     /// How many positions are known: E9, S1.
     fn known(&self) -> Result<u32, SolverFault>
-        ensures known { IfOk result (λ known. known ≡ known_in (⟦<Solver<D> as Solving>⟧.state self.now).kept) }
+        ensures known { IfOk result (λ known. OfKept (HasSoMany known) (⟦<Solver<D> as Solving>⟧.state self.now).kept) }
         ensures cause { IfErr result (AskCause (⟦<Solver<D> as Solving>⟧.state self.now) (⟦<Solver<D> as Solving>⟧.state self.now)) }
         ensures closed { (⟦<Solver<D> as Solving>⟧.state self.now).closed ≡ true → IsErrOf result SolverFault.Closed }
     {
@@ -42,6 +42,7 @@ impl<D: SectorDisk> Solver<D> {
     }
 
     /// Whether the number is that of a known position: E9, S1, S7.
+    #[tactic(auto, using(crate::proofs::Asking::is_there, crate::proofs::Asking::not_there))]
     fn check(&self, number: u32) -> Result<(), SolverFault>
         ensures there { OnOk result (number < known_in (⟦<Solver<D> as Solving>⟧.state self.now).kept) }
         ensures cause { IfErr result (NumberCause number (⟦<Solver<D> as Solving>⟧.state self.now) (⟦<Solver<D> as Solving>⟧.state self.now)) }
@@ -55,6 +56,7 @@ impl<D: SectorDisk> Solver<D> {
     }
 
     /// Who wins the position with this number, and in how many moves; a draw only where the table is finished: E9, S1, S7.
+    #[tactic(auto, using(crate::proofs::Asking::asked, crate::proofs::Asking::not_asked))]
     pub fn value(&mut self, number: u32) -> Result<Value, SolverFault>
         ensures ready { ⟦<Solver<D> as Solving>⟧.is_ready self.old → ⟦<Solver<D> as Solving>⟧.is_ready self.new }
         ensures asked { ⟦<Solver<D> as Solving>⟧.is_ready self.old → IsAsked (⟦<Solver<D> as Solving>⟧.state self.old) (⟦<Solver<D> as Solving>⟧.state self.new) }
@@ -68,6 +70,7 @@ impl<D: SectorDisk> Solver<D> {
     }
 
     /// The positions from this number on with their values, so many or up to the last: E9, S1, S7.
+    #[tactic(auto, using(crate::proofs::Asking::asked, crate::proofs::Asking::not_asked))]
     pub fn list(&mut self, from: u32, count: Units) -> Result<Vec<Row>, SolverFault>
         ensures ready { ⟦<Solver<D> as Solving>⟧.is_ready self.old → ⟦<Solver<D> as Solving>⟧.is_ready self.new }
         ensures asked { ⟦<Solver<D> as Solving>⟧.is_ready self.old → IsAsked (⟦<Solver<D> as Solving>⟧.state self.old) (⟦<Solver<D> as Solving>⟧.state self.new) }
@@ -83,6 +86,7 @@ impl<D: SectorDisk> Solver<D> {
 
     /// The numbers of a best line: each next one is the first successor in packed order that the same player wins in one
     /// fewer: E9, S1, S7, S8. S6 and S4 come only of a table that is not of this program's making.
+    #[tactic(auto, using(crate::proofs::Asking::asked, crate::proofs::Asking::not_asked, crate::proofs::Asking::line_found, crate::proofs::Asking::line_cause))]
     pub fn line(&mut self, number: u32) -> Result<Vec<u32>, SolverFault>
         ensures ready { ⟦<Solver<D> as Solving>⟧.is_ready self.old → ⟦<Solver<D> as Solving>⟧.is_ready self.new }
         ensures asked { ⟦<Solver<D> as Solving>⟧.is_ready self.old → IsAsked (⟦<Solver<D> as Solving>⟧.state self.old) (⟦<Solver<D> as Solving>⟧.state self.new) }
@@ -100,6 +104,7 @@ impl<D: SectorDisk> Solver<D> {
     }
 
     /// The text of the position with this number: E9, S1, S7. S6 comes only of a table that is not of this program's making.
+    #[tactic(auto, using(crate::proofs::Asking::asked, crate::proofs::Asking::not_asked, crate::proofs::Asking::text_found, crate::proofs::Asking::no_text))]
     pub fn show(&mut self, number: u32) -> Result<Vec<u8>, SolverFault>
         ensures ready { ⟦<Solver<D> as Solving>⟧.is_ready self.old → ⟦<Solver<D> as Solving>⟧.is_ready self.new }
         ensures asked { ⟦<Solver<D> as Solving>⟧.is_ready self.old → IsAsked (⟦<Solver<D> as Solving>⟧.state self.old) (⟦<Solver<D> as Solving>⟧.state self.new) }
@@ -121,6 +126,7 @@ impl<D: SectorDisk> Solver<D> {
 
     /// The number of the position with this text: E9, S1, then S10 where it is the text of no position of the game, and
     /// S7 where that position is not known.
+    #[tactic(auto, using(crate::proofs::Asking::asked, crate::proofs::Asking::not_asked, crate::proofs::Asking::text_found, crate::proofs::Asking::text_unknown))]
     pub fn find(&mut self, text: &[u8]) -> Result<u32, SolverFault>
         ensures ready { ⟦<Solver<D> as Solving>⟧.is_ready self.old → ⟦<Solver<D> as Solving>⟧.is_ready self.new }
         ensures asked { ⟦<Solver<D> as Solving>⟧.is_ready self.old → IsAsked (⟦<Solver<D> as Solving>⟧.state self.old) (⟦<Solver<D> as Solving>⟧.state self.new) }

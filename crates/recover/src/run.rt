@@ -1,10 +1,11 @@
 //! Many commands at once.
-ghost use Rattle.std.specs.Prelude.{◌≡◌, true, OnOk, OnErr, IfErr};
+ghost use Rattle.std.specs.Prelude.{◌≡◌, false, map, IsTrue, OnOk, OnErr, IfErr};
+ghost use Rattle.recover.specs.Headline.{LeavesAPrefix};
 ghost use Rattle.recover.specs.Held.{IsSound};
 ghost use Rattle.recover.specs.Runs.{command_of, reply_of, IsTurn, IsRun};
 ghost use Rattle.recover.specs.State.{GoesAhead};
 
-use crate::{Command, Reply, Solver, SolverFault, Solving};
+use crate::{Command, Reply, Solver, SolverFault, Solving, Worked};
 use sector_disk::SectorDisk;
 
 impl<D: SectorDisk> Solver<D> {
@@ -23,7 +24,7 @@ impl<D: SectorDisk> Solver<D> {
                 Err(fault) => Reply::Refused(fault),
             },
             Command::Work(units) => match self.work(*units) {
-                Ok(done) => Reply::Worked(done.units, done.counts),
+                Ok(Worked { units, counts }) => Reply::Worked(units, counts),
                 Err(fault) => Reply::Refused(fault),
             },
         }
@@ -36,6 +37,9 @@ impl<D: SectorDisk> Solver<D> {
         ensures ahead { GoesAhead (⟦<Solver<D> as Solving>⟧.state self.old) (⟦<Solver<D> as Solving>⟧.state self.new) }
         ensures run { ⟦<Solver<D> as Solving>⟧.is_ready self.old
             → OnOk result (IsRun commands.now replies.old.items replies.new.items (⟦<Solver<D> as Solving>⟧.state self.old) (⟦<Solver<D> as Solving>⟧.state self.new)) }
+        ensures stopped { ⟦<Solver<D> as Solving>⟧.is_ready self.old → IsSound (⟦<Solver<D> as Solving>⟧.state self.old).kept
+            → (⟦<Solver<D> as Solving>⟧.state self.old).closed ≡ false → IsTrue (⟦<Solver<D> as Solving>⟧.state self.old).disk.honest
+            → OnOk result (LeavesAPrefix (map command_of commands.now) (⟦<Solver<D> as Solving>⟧.state self.old) (⟦<Solver<D> as Solving>⟧.state self.new)) }
         ensures sound { ⟦<Solver<D> as Solving>⟧.is_ready self.old → IsSound (⟦<Solver<D> as Solving>⟧.state self.old).kept
             → IsSound (⟦<Solver<D> as Solving>⟧.state self.new).kept }
         ensures fault { IfErr result (λ fault. fault ≡ SolverFault.OutOfMemory) }

@@ -1,0 +1,34 @@
+use Rattle.std.proofs.Common.{arith, rules}
+use Rattle.std.proofs.lemmas.List.{take_all}
+use Rattle.recover.proofs.Prefixes.{stopped_run}
+use Rattle.recover.proofs.Turning.{ahead_then, run_begins, run_goes_on}
+use Rattle.recover.proofs.solver.Solver.run.Goals as goal
+
+pub loop-command-preserved : goal.loop-command-preserved
+loop-command-preserved g c =
+    let so_far = c.loop-command.invariant in
+    let reply = c.answer-reply.ensures in
+    let pushed = c.in_ok-push.ensures in
+    record {
+      room = omega (arith, so_far.room, pushed.len, pushed.capacity, c.loop-command-test.true);
+      ready = λ ready. reply.ready (so_far.ready ready);
+      ahead = ahead_then so_far.ahead reply.ahead;
+      sound = λ ready sound. reply.sound (so_far.ready ready) (so_far.sound ready sound);
+      run = λ ready.
+          run_goes_on c.args.commands.now c.loop-command.command-index c.command-item.result c.answer-reply.result c.args.replies.now.items c.loop-command.replies.items
+          c.push.new.self.items _ _ _ c.loop-command-test.true c.command-item.is reply.ahead.goes_on pushed.items (so_far.run ready) (reply.turn (so_far.ready ready));
+    }
+
+pub loop-command-init : goal.loop-command-init
+loop-command-init g c = record {
+  room = search rules;
+  ready = λ ready. ready;
+  ahead = search rules;
+  sound = λ ready sound. sound;
+  run = λ ready. rw c.in_ok-reserve.ensures.items (run_begins c.args.replies.now.items _ _ ready);
+}
+
+pub returns-clause-stopped : goal.returns-clause-stopped
+returns-clause-stopped g c = λ ready sound is_open honest.
+    let so_far = c.loop-command.invariant in
+    stopped_run c.args.commands.now _ _ _ _ _ (take_all c.loop-command.command-index c.args.commands.now c.loop-command-test.false) so_far.ahead (so_far.run ready) honest is_open sound
