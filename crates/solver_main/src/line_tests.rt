@@ -132,7 +132,13 @@ fn find_takes_all_behind_one_space(rt: HostRuntime) -> Result<(), Fail> {
     assert!(rt; asks(alloc, b"find ", Asked::Find(b""))?);
     assert!(rt; asks(alloc, b"find  x", Asked::Find(b" x"))?);
     assert!(rt; asks(alloc, b"  find x\r", Asked::Find(b"x"))?);
-    assert!(rt; asks(alloc, b"find white 2 v e 0,0,3", Asked::Find(b"white 2 v e 0,0,3"))?);
+    assert!(rt;
+        asks(
+            alloc,
+            b"find white 2 v e 0,0,3",
+            Asked::Find(b"white 2 v e 0,0,3")
+        )?
+    );
     assert!(rt; asks(alloc, b"find a b  c ", Asked::Find(b"a b  c "))?);
     Ok(())
 }

@@ -43,12 +43,7 @@ fn put_number(alloc: Global, line: &mut Vec<u8>, number: u32) -> Result<(), Allo
 }
 
 /// Puts the text of a value behind a line.
-fn put_value(
-    alloc: Global,
-    line: &mut Vec<u8>,
-    game: &Game,
-    value: Value,
-) -> Result<(), AllocError>
+fn put_value(alloc: Global, line: &mut Vec<u8>, game: &Game, value: Value) -> Result<(), AllocError>
     ensures { IfOk result (λ _. line.new.items ≡ line.old.items ++ value_text (game_of game.now) value) }
 {
     match value {

@@ -24,7 +24,8 @@ fn counts(known: u32, expanded: u32, settled: u32, processed: u32) -> Counts {
 
 /// A game of the players fox and hen.
 fn fox_and_hen(alloc: Global) -> Result<Game, Fail> {
-    let text = "#players = fox(1), hen(1) #pieces = e #variables = x(9) #board = v[e]{} #rules = ->fox";
+    let text =
+        "#players = fox(1), hen(1) #pieces = e #variables = x(9) #board = v[e]{} #rules = ->fox";
     match read_game(alloc, text.as_bytes()) {
         Ok(game) => Ok(game),
         Err(_) => Err("no game")?,
