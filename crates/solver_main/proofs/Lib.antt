@@ -2,3 +2,4 @@ pub mod Appending
 pub mod LineLemmas
 pub mod WritingLemmas
 pub mod AnswerLemmas
+pub mod OneReply

@@ -1,6 +1,7 @@
 //! The commands on a table's file that are one command each.
 
 use crate::replies::work_line;
+use crate::turns::reply_to;
 use rbg_read::fault::GameFault;
 use recover::{Command, Reply, Solver, SolverFault};
 use sector_disk::SectorDisk;
@@ -36,18 +37,6 @@ pub fn command_on<D: SectorDisk, W: Write>(
             }
             Err(refused) => (said_refused(alloc, out, refused.fault), refused.disk),
         },
-    }
-}
-
-/// The reply to one command, done as a run of its own.
-pub fn reply_to<D: SectorDisk>(alloc: Global, solver: &mut Solver<D>, command: Command) -> Reply {
-    let mut replies = Vec::new(alloc);
-    match solver.run(&[command], &mut replies) {
-        // A run that is done has put one reply there, so that there is a last one.
-        Ok(()) => replies
-            .pop()
-            .unwrap_or(Reply::Refused(SolverFault::OutOfMemory)),
-        Err(fault) => Reply::Refused(fault),
     }
 }
 

@@ -25,6 +25,7 @@ mod reply_tests;
 mod session;
 #[cfg(test)]
 mod tests;
+mod turns;
 mod words;
 
 use explain::{Explanation, LineColumn, explain, line_column};

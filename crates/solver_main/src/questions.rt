@@ -1,8 +1,9 @@
 //! What a session replies to the lines that ask for something.
 
-use crate::commands::{put_line, put_refused, put_reply, reply_to, status_of, status_of_reply};
+use crate::commands::{put_line, put_refused, put_reply, status_of, status_of_reply};
 use crate::input::Asked;
 use crate::replies::{found_line, numbers_line, row_lines, status_line, value_line};
+use crate::turns::reply_to;
 use best_line::{Row, Value};
 use rbg_game::game::Game;
 use recover::{Command, Solver, SolverFault, Units};

@@ -105,11 +105,19 @@ fn a_value_names_the_winner(rt: HostRuntime) -> Result<(), Fail> {
 fn a_list_has_a_line_for_each_position(rt: HostRuntime) -> Result<(), Fail> {
     let alloc = rt.alloc();
     let game = fox_and_hen(alloc)?;
-    let mut rows = Vec::new(alloc);
-    let values = [Value::Won(Player::Second, 3), Value::Drawn, Value::Open];
-    for (number, value) in (9..).zip(values) {
-        rows.push(Row { number, value })?;
-    }
+    let first = Row {
+        number: 9,
+        value: Value::Won(Player::Second, 3),
+    };
+    let second = Row {
+        number: 10,
+        value: Value::Drawn,
+    };
+    let third = Row {
+        number: 11,
+        value: Value::Open,
+    };
+    let rows = vec![in alloc; first, second, third]?;
     let mut out = Vec::new(alloc);
     assert_eq!(rt; put_rows(alloc, Some(&game), Ok(rows), &mut out)?, 0);
     let fault = Err(SolverFault::NoGame);
