@@ -23,8 +23,7 @@ use Rattle.recover.specs.Steps.{MayFollow}
 pub a_sound_table_is_exact : (kept : Option Kept) → IsSound kept → IsExact kept
 a_sound_table_is_exact None sound = tt
 a_sound_table_is_exact (Some kept) (game, is_read, sound) =
-    let it : IsSound (Some kept) = (game, is_read, sound) in
-    (
+    let it : IsSound (Some kept) = (game, is_read, sound) in (
       game,
       record {
         reads = is_read;

@@ -112,10 +112,10 @@ turns_more (c ∷ commands) [] command reply was mid is goes_on none turn = absu
 turns_more (c ∷ commands) (r ∷ replies) command reply was mid is goes_on (next, first, rest) turn = (
   next,
   turn_later c r was next mid.disk is.disk goes_on (turns_later mid.disk commands replies next mid rest)
-  (λ shut.
-  let end : mid ≡ next = turns_shut mid.disk commands replies next mid rest shut in
-  let (said, same) = turn.shut (ap (λ (s : State). s.closed) end ∙ shut) in
-  ap (λ (s : State). s.disk) same) first,
+      (λ shut.
+      let end : mid ≡ next = turns_shut mid.disk commands replies next mid rest shut in
+      let (said, same) = turn.shut (ap (λ (s : State). s.closed) end ∙ shut) in
+      ap (λ (s : State). s.disk) same) first,
   turns_more commands replies command reply next mid is goes_on rest turn,
 )
 
