@@ -1,9 +1,8 @@
 -- Commands one after another.
-use Rattle.std.proofs.Common.{◌≡◌, ◌≢◌, ◌⊎◌, inl, inr, ℕ, zero, suc, ◌+◌, ◌<◌, ◌≤◌, Bool, true, false, List, [], ◌∷◌, ◌++◌, length, take, map, get_or, Option, refl, sym, ◌∙◌, ap, subst, append_assoc, append-nil, add-one, arith}
+use Rattle.std.proofs.Common.{◌≡◌, ◌≢◌, inl, ℕ, zero, suc, ◌+◌, ◌<◌, ◌≤◌, Bool, true, false, List, [], ◌∷◌, ◌++◌, length, take, map, get_or, Option, refl, sym, ◌∙◌, ap, subst, append_assoc, append-nil, arith}
 use Rattle.std.specs.Prelude.{IsTrue}
-use Rattle.sector_disk.specs.Disk.{Picture, Disk, GoesOn, LeavesOnly, MayLeave}
+use Rattle.sector_disk.specs.Disk.{Disk, GoesOn, MayLeave}
 use Rattle.sector_disk.specs.Moments.{goes_on_trans, then_leaves}
-use Rattle.rbg_read.specs.declared.fault.GameFault.{GameFault}
 use Rattle.legal_moves.specs.declared.compiled.Compiled.{Compiled}
 use Rattle.flat_file.specs.File.{File}
 use Rattle.flat_file.specs.Held.{Kept, Stores}
@@ -13,7 +12,7 @@ use Rattle.recover.specs.declared.fault.SolverFault.TheVariants.{Disk as DiskFai
 use Rattle.recover.specs.declared.replies.Command.{Command as Asked}
 use Rattle.recover.specs.declared.replies.Reply.{Reply as Answer}
 use Rattle.recover.specs.Machine.{Command, Reply, refused}
-use Rattle.recover.specs.Runs.{command_of, reply_of, LeavesAt, LeavesBetween, HasFailed, IsTurn, Turns, IsRun}
+use Rattle.recover.specs.Runs.{command_of, reply_of, HasFailed, IsTurn, Turns, IsRun}
 use Rattle.recover.specs.State.{State, GoesAhead, IsReady, state_of}
 use Rattle.recover.specs.Steps.{IsDone, IsRefused}
 use Rattle.recover.proofs.Refusing.{apart}
