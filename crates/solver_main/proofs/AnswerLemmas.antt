@@ -1,5 +1,5 @@
 -- What was written is the answer to the text.
-use Rattle.std.proofs.Common.{◌≡◌, ◌≢◌, ◌<◌, ℕ, List, [], ◌∷◌, ◌++◌, length, get_or, map, Option, Result, Ok, Err, refl, ap, sym, ◌∙◌, subst, inl, inr, arith}
+use Rattle.std.proofs.Common.{◌≡◌, ℕ, List, [], ◌∷◌, ◌++◌, length, map, Result, Ok, Err, refl, sym, subst, inl, inr, arith}
 use Rattle.std.specs.Prelude.{All, OnOk, IfErr, Contains}
 use Rattle.rbg_game.specs.Games.{Game}
 use Rattle.rbg_game.specs.Sound.{IsSoundGame}
@@ -7,7 +7,7 @@ use Rattle.rbg_game.specs.Positions.{IsPositionOf}
 use Rattle.rbg_game.specs.declared.position.Position.{Position}
 use Rattle.rbg_text.specs.Token.{Text}
 use Rattle.rbg_read.specs.Reading.{Reads}
-use Rattle.legal_moves.specs.Moves.{IsSuccessor, IsEnded, start_of}
+use Rattle.legal_moves.specs.Moves.{IsEnded, start_of}
 use Rattle.legal_moves.specs.Listed.{ShownMove, AreMoves, IsShownMove, IsShortestMove}
 use Rattle.position_pack.specs.Bytes.{bytes_of}
 use Rattle.solver_main.specs.Lines.{HasPosition, SaysMoves}
@@ -16,7 +16,6 @@ use Rattle.solver_main.specs.Stops.{IsStoppedLine, IsStopped}
 use Rattle.solver_main.specs.declared.moves.Stop.{Stop}
 use Rattle.solver_main.specs.declared.moves.Stop.TheVariants as stop
 use Rattle.solver_main.specs.declared.refused.Refused.{Refused}
-use Rattle.solver_main.specs.declared.refused.Refused.TheVariants.{OutOfMemory}
 use Rattle.legal_moves.proofs.ReachLemmas.{position_of}
 
 -- each successor that is listed is a position of the game

@@ -1,5 +1,5 @@
 -- The line of a move.
-use Rattle.std.proofs.Common.{◌≡◌, ◌<◌, ℕ, List, [], ◌∷◌, length, get_or, Option, Some, None, Result, Ok, Err, refl, ap, sym, ◌∙◌, subst, Vec, Global}
+use Rattle.std.proofs.Common.{◌≡◌, ◌<◌, ℕ, List, [], length, get_or, Option, Some, None, Result, Ok, Err, ap, sym, ◌∙◌, subst, Vec, Global}
 use Rattle.std.specs.Prelude.{All, IfOk, IfSome, slice_get, option_map}
 use Rattle.std.proofs.lemmas.Option.{slice_get-get_or}
 use Rattle.rbg_game.specs.Games.{Game}

@@ -1,5 +1,5 @@
 -- What `moves` answers to a game text.
-use Rattle.std.specs.Prelude.{◌≡◌, ◌≢◌, ℕ, ◌⊎◌, ⊤, List, [], ◌∷◌, ◌++◌, All, take, codes}
+use Rattle.std.specs.Prelude.{◌≡◌, ◌≢◌, ℕ, ◌⊎◌, List, [], ◌∷◌, ◌++◌, All, take, codes}
 use Rattle.rbg_game.specs.Games.{Game}
 use Rattle.rbg_text.specs.Token.{Text}
 use Rattle.rbg_read.specs.Codes.{fault_code}

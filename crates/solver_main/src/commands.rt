@@ -1,10 +1,11 @@
 //! The commands on a table's file that are one command each.
 
+use crate::replies::work_line;
 use rbg_read::fault::GameFault;
-use recover::{Solver, SolverFault};
+use recover::{Command, Reply, Solver, SolverFault};
 use sector_disk::SectorDisk;
 use std::alloc::Global;
-use std::io::{self, Write};
+use std::io::{self, ErrorKind, Write};
 
 /// What is done to a file.
 #[derive(Debug, PartialEq, Eq, Drop)]
@@ -30,14 +31,31 @@ pub fn command_on<D: SectorDisk, W: Write>(
         },
         FileCommand::Load(text) => match Solver::open(alloc, disk) {
             Ok(mut solver) => {
-                let status = match solver.load(&text) {
-                    Ok(()) => said(out, b"loaded\n"),
-                    Err(fault) => said_refused(alloc, out, fault),
-                };
-                (status, solver.close())
+                let reply = reply_to(alloc, &mut solver, Command::Load(text));
+                (said_reply(alloc, out, reply), solver.close())
             }
             Err(refused) => (said_refused(alloc, out, refused.fault), refused.disk),
         },
+    }
+}
+
+/// The reply to one command, done as a run of its own.
+pub fn reply_to<D: SectorDisk>(alloc: Global, solver: &mut Solver<D>, command: Command) -> Reply {
+    let mut replies = Vec::new(alloc);
+    match solver.run(&[command], &mut replies) {
+        // A run that is done has put one reply there, so that there is a last one.
+        Ok(()) => replies
+            .pop()
+            .unwrap_or(Reply::Refused(SolverFault::OutOfMemory)),
+        Err(fault) => Reply::Refused(fault),
+    }
+}
+
+/// The exit status of a reply: 0, or that of the refusal.
+pub fn status_of_reply(reply: Reply) -> u8 {
+    match reply {
+        Reply::Loaded | Reply::Worked(..) => 0,
+        Reply::Refused(fault) => status_of(fault),
     }
 }
 
@@ -59,6 +77,17 @@ fn said<W: Write>(out: &mut W, line: &[u8]) -> u8 {
     }
 }
 
+/// Writes the line of a reply, and gives its status, or 4 where the output fails, 5 where memory for the line ran out.
+fn said_reply<W: Write>(alloc: Global, out: &mut W, reply: Reply) -> u8 {
+    match put_reply(alloc, out, reply) {
+        Ok(()) => status_of_reply(reply),
+        Err(error) if error.kind() == ErrorKind::OutOfMemory => {
+            said_refused(alloc, out, SolverFault::OutOfMemory)
+        }
+        Err(_) => 4,
+    }
+}
+
 /// Writes the line of a refusal, and gives its status, or 4 where the output fails.
 pub fn said_refused<W: Write>(alloc: Global, out: &mut W, fault: SolverFault) -> u8 {
     match put_refused(alloc, out, fault) {
@@ -71,6 +100,18 @@ pub fn said_refused<W: Write>(alloc: Global, out: &mut W, fault: SolverFault) ->
 pub fn put_line<W: Write>(out: &mut W, line: &[u8]) -> io::Result<()> {
     out.write_all(line)?;
     out.flush()
+}
+
+/// Writes the line of a reply at once: `loaded`, the work that was done, or the refusal.
+pub fn put_reply<W: Write>(alloc: Global, out: &mut W, reply: Reply) -> io::Result<()> {
+    match reply {
+        Reply::Loaded => put_line(out, b"loaded\n"),
+        Reply::Worked(units, counts) => {
+            let line = work_line(alloc, units, &counts)?;
+            put_line(out, line.as_bytes())
+        }
+        Reply::Refused(fault) => put_refused(alloc, out, fault),
+    }
 }
 
 /// Writes `refused` and the code at once; behind S3 the number of the position.

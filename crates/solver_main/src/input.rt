@@ -1,5 +1,6 @@
 //! The lines of a session.
 
+use crate::numbers::number;
 use recover::Units;
 use std::alloc::{AllocError, Global};
 
@@ -39,7 +40,7 @@ impl Line {
     }
 
     /// What the line asks for, where LF has ended it: a CR before that belongs to the end.
-    pub fn asked(&self) -> Asked {
+    pub fn asked(&self) -> Asked<'_> {
         let bytes: &[u8] = &self.bytes;
         if self.is_too_long {
             return Asked::Usage;
@@ -48,7 +49,7 @@ impl Line {
     }
 
     /// What the line asks for, where the input ends with it.
-    pub fn asked_last(&self) -> Asked {
+    pub fn asked_last(&self) -> Asked<'_> {
         if self.is_too_long {
             return Asked::Usage;
         }
@@ -58,41 +59,113 @@ impl Line {
 
 /// What a line of a session asks for.
 #[derive(Clone, Copy, PartialEq, Eq, Debug, Drop)]
-pub enum Asked {
+pub enum Asked<'a> {
     /// The line has no word.
     Nothing,
+    /// So many units of work.
     Work(Units),
+    /// How far the table is.
     Status,
+    /// The value of the position with this number.
+    Value(u32),
+    /// A best line from the position with this number.
+    Line(u32),
+    /// The values of so many positions, from the one with this number on.
+    List(u32, Units),
+    /// The text of the position with this number.
+    Show(u32),
+    /// The number of the position with this text.
+    Find(&'a [u8]),
+    /// The end of the session.
     Quit,
     /// The line is no command.
     Usage,
 }
 
-fn asked_by(line: &[u8]) -> Asked {
+/// What a line asks for, without what ends it.
+fn asked_by(line: &[u8]) -> Asked<'_> {
     if line.len() > MOST_BYTES {
         return Asked::Usage;
     }
     let (first, rest) = next_word(line);
+    if first == b"find".as_slice() {
+        find_asked(rest)
+    } else {
+        words_asked(first, rest)
+    }
+}
+
+/// What `find` asks for with what stands behind the word: one space, and the text.
+fn find_asked(rest: &[u8]) -> Asked<'_> {
+    match rest.strip_prefix(b" ") {
+        Some(text) => Asked::Find(text),
+        None => Asked::Usage,
+    }
+}
+
+/// What a line asks for that is its first word, and up to two more in the rest.
+fn words_asked<'a>(first: &[u8], rest: &[u8]) -> Asked<'a> {
     let (second, rest) = next_word(rest);
-    let (third, _) = next_word(rest);
-    if first.is_empty() {
-        return Asked::Nothing;
+    let (third, rest) = next_word(rest);
+    let (fourth, _) = next_word(rest);
+    if !fourth.is_empty() {
+        Asked::Usage
+    } else if !third.is_empty() {
+        two_asked(first, second, third)
+    } else if !second.is_empty() {
+        one_asked(first, second)
+    } else {
+        word_asked(first)
     }
-    if first == b"work".as_slice() && third.is_empty() {
-        return match number(second).and_then(Units::new) {
-            Some(units) => Asked::Work(units),
-            None => Asked::Usage,
-        };
-    }
-    if !second.is_empty() {
-        return Asked::Usage;
-    }
-    if first == b"status".as_slice() {
+}
+
+/// What a word asks for that stands alone.
+fn word_asked<'a>(word: &[u8]) -> Asked<'a> {
+    if word.is_empty() {
+        Asked::Nothing
+    } else if word == b"status".as_slice() {
         Asked::Status
-    } else if first == b"quit".as_slice() {
+    } else if word == b"quit".as_slice() {
         Asked::Quit
     } else {
         Asked::Usage
+    }
+}
+
+/// What a word asks for with a number behind it.
+fn one_asked<'a>(word: &[u8], number_word: &[u8]) -> Asked<'a> {
+    let Some(number) = number(number_word) else {
+        return Asked::Usage;
+    };
+    if word == b"work".as_slice() {
+        work_asked(number)
+    } else if word == b"value".as_slice() {
+        Asked::Value(number)
+    } else if word == b"line".as_slice() {
+        Asked::Line(number)
+    } else if word == b"show".as_slice() {
+        Asked::Show(number)
+    } else {
+        Asked::Usage
+    }
+}
+
+/// What `work` asks for with this number: 1 to 256.
+fn work_asked<'a>(count: u32) -> Asked<'a> {
+    match Units::new(count) {
+        Some(units) => Asked::Work(units),
+        None => Asked::Usage,
+    }
+}
+
+/// What a word asks for with two numbers behind it.
+fn two_asked<'a>(word: &[u8], from_word: &[u8], count_word: &[u8]) -> Asked<'a> {
+    if word != b"list".as_slice() {
+        return Asked::Usage;
+    }
+    match (number(from_word), number(count_word).and_then(Units::new)) {
+        (Some(from), Some(count)) => Asked::List(from, count),
+        _ => Asked::Usage,
     }
 }
 
@@ -102,21 +175,4 @@ fn next_word(line: &[u8]) -> (&[u8], &[u8]) {
     let line = &line[blanks.min(line.len())..];
     let letters = line.iter().take_while(|byte| **byte != b' ').count();
     line.split_at(letters.min(line.len()))
-}
-
-/// The number that one to ten digits write, at most 4,294,967,295.
-fn number(word: &[u8]) -> Option<u32> {
-    if word.is_empty() || word.len() > 10 {
-        return None;
-    }
-    let mut number: u64 = 0;
-    for byte in word {
-        if !byte.is_ascii_digit() {
-            return None;
-        }
-        number = number
-            .saturating_mul(10)
-            .saturating_add(u64::from(byte.saturating_sub(b'0')));
-    }
-    u32::try_from(number).ok()
 }

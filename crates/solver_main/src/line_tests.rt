@@ -1,11 +1,7 @@
-//! The lines of a session and the replies, without a table.
+//! What the lines of a session ask for.
 
-use crate::commands::{put_refused, status_of};
 use crate::input::{Asked, Line};
-use crate::session::{put_status, work_line};
-use rbg_read::fault::GameFault;
-use recover::{SolverFault, Units, Worked};
-use retrograde::Counts;
+use recover::Units;
 use std::alloc::{AllocError, Global};
 use std::test::Fail;
 
@@ -18,31 +14,28 @@ fn line_of(alloc: Global, bytes: &[u8]) -> Result<Line, AllocError> {
     Ok(line)
 }
 
-/// What a line of these bytes asks for, where LF has ended it.
-fn asked(alloc: Global, bytes: &[u8]) -> Result<Asked, AllocError> {
-    Ok(line_of(alloc, bytes)?.asked())
+/// Whether a line of these bytes asks for this, where LF has ended it.
+fn asks(alloc: Global, bytes: &[u8], want: Asked<'_>) -> Result<bool, AllocError> {
+    let line = line_of(alloc, bytes)?;
+    Ok(line.asked() == want)
 }
 
 /// What asks for so many units.
-fn work(count: u32) -> Asked {
+fn work(count: u32) -> Asked<'static> {
     Units::new(count).map_or(Asked::Usage, Asked::Work)
 }
 
-fn counts(known: u32, expanded: u32, settled: u32, processed: u32) -> Counts {
-    Counts {
-        known,
-        expanded,
-        settled,
-        processed,
-    }
+/// What asks for so many rows of a list.
+fn list(from: u32, count: u32) -> Asked<'static> {
+    Units::new(count).map_or(Asked::Usage, |count| Asked::List(from, count))
 }
 
 #[test]
 fn a_line_of_work_has_one_number_of_units(rt: HostRuntime) -> Result<(), Fail> {
     let alloc = rt.alloc();
-    assert_eq!(rt; asked(alloc, b"work 7")?, work(7));
-    assert_eq!(rt; asked(alloc, b"  work   256  ")?, work(256));
-    assert_eq!(rt; asked(alloc, b"work 0000000007")?, work(7));
+    assert!(rt; asks(alloc, b"work 7", work(7))?);
+    assert!(rt; asks(alloc, b"  work   256  ", work(256))?);
+    assert!(rt; asks(alloc, b"work 0000000007", work(7))?);
     let others: [&[u8]; 8] = [
         b"work",
         b"work 0",
@@ -54,7 +47,7 @@ fn a_line_of_work_has_one_number_of_units(rt: HostRuntime) -> Result<(), Fail> {
         b"work seven",
     ];
     for other in others {
-        assert_eq!(rt; asked(alloc, other)?, Asked::Usage);
+        assert!(rt; asks(alloc, other, Asked::Usage)?);
     }
     Ok(())
 }
@@ -62,13 +55,13 @@ fn a_line_of_work_has_one_number_of_units(rt: HostRuntime) -> Result<(), Fail> {
 #[test]
 fn a_line_is_a_command_or_nothing_or_wrong(rt: HostRuntime) -> Result<(), Fail> {
     let alloc = rt.alloc();
-    assert_eq!(rt; asked(alloc, b"status")?, Asked::Status);
-    assert_eq!(rt; asked(alloc, b" quit ")?, Asked::Quit);
-    assert_eq!(rt; asked(alloc, b"")?, Asked::Nothing);
-    assert_eq!(rt; asked(alloc, b"   ")?, Asked::Nothing);
-    assert_eq!(rt; asked(alloc, b"status 1")?, Asked::Usage);
-    assert_eq!(rt; asked(alloc, b"STATUS")?, Asked::Usage);
-    assert_eq!(rt; asked(alloc, b"status\r")?, Asked::Status);
+    assert!(rt; asks(alloc, b"status", Asked::Status)?);
+    assert!(rt; asks(alloc, b" quit ", Asked::Quit)?);
+    assert!(rt; asks(alloc, b"", Asked::Nothing)?);
+    assert!(rt; asks(alloc, b"   ", Asked::Nothing)?);
+    assert!(rt; asks(alloc, b"status 1", Asked::Usage)?);
+    assert!(rt; asks(alloc, b"STATUS", Asked::Usage)?);
+    assert!(rt; asks(alloc, b"status\r", Asked::Status)?);
     assert_eq!(rt; line_of(alloc, b"status\r")?.asked_last(), Asked::Usage);
     assert_eq!(rt; line_of(alloc, b"status")?.asked_last(), Asked::Status);
     Ok(())
@@ -99,55 +92,53 @@ fn a_line_has_a_greatest_length(rt: HostRuntime) -> Result<(), Fail> {
 }
 
 #[test]
-fn replies_tell_how_far_a_table_is(rt: HostRuntime) -> Result<(), Fail> {
+fn a_question_has_its_numbers(rt: HostRuntime) -> Result<(), Fail> {
     let alloc = rt.alloc();
-    let some = Worked {
-        units: 7,
-        counts: counts(7, 7, 2, 0),
-    };
-    assert_eq!(rt;
-        work_line(alloc, &some)?.as_str(),
-        "units 7 known 7 expanded 7 settled 2 processed 0 open\n"
-    );
-    let none = Worked {
-        units: 0,
-        counts: counts(7, 7, 7, 7),
-    };
-    assert_eq!(rt;
-        work_line(alloc, &none)?.as_str(),
-        "units 0 known 7 expanded 7 settled 7 processed 7 finished\n"
-    );
-    let mut out = Vec::new(alloc);
-    put_status(alloc, Some(counts(1, 0, 0, 0)), &mut out)?;
-    put_status(alloc, Some(counts(4, 4, 0, 0)), &mut out)?;
-    put_status(alloc, None, &mut out)?;
-    assert_eq!(rt;
-        out.as_slice(),
-        b"known 1 expanded 0 settled 0 processed 0 open\nknown 4 expanded 4 settled 0 processed 0 finished\nno game\n".as_slice()
-    );
+    assert!(rt; asks(alloc, b"value 0", Asked::Value(0))?);
+    assert!(rt; asks(alloc, b"line 4294967295", Asked::Line(4_294_967_295))?);
+    assert!(rt; asks(alloc, b" show  0000000012 ", Asked::Show(12))?);
+    assert!(rt; asks(alloc, b"list 4 2", list(4, 2))?);
+    assert!(rt; asks(alloc, b"list 4294967295 256\r", list(4_294_967_295, 256))?);
+    let others: [&[u8]; 16] = [
+        b"value",
+        b"value 4294967296",
+        b"value 00000000000",
+        b"value +1",
+        b"value 1 2",
+        b"line",
+        b"line 1 2",
+        b"show",
+        b"show x",
+        b"list",
+        b"list 4",
+        b"list 4 0",
+        b"list 4 257",
+        b"list 4294967296 1",
+        b"list 4 2 1",
+        b"value\t0",
+    ];
+    for other in others {
+        assert!(rt; asks(alloc, other, Asked::Usage)?);
+    }
     Ok(())
 }
 
 #[test]
-fn refusals_have_a_line_and_a_status(rt: HostRuntime) -> Result<(), Fail> {
+fn find_takes_all_behind_one_space(rt: HostRuntime) -> Result<(), Fail> {
     let alloc = rt.alloc();
-    let faults = [
-        (SolverFault::KeeperChooses(0), 1),
-        (SolverFault::NoGame, 1),
-        (SolverFault::Damaged, 3),
-        (SolverFault::Disk, 4),
-        (SolverFault::OutOfMemory, 5),
-        (SolverFault::Game(GameFault::OutOfMemory), 5),
-        (SolverFault::Game(GameFault::Syntax), 1),
-    ];
-    let mut out = Vec::new(alloc);
-    for (fault, status) in faults {
-        put_refused(alloc, &mut out, fault)?;
-        assert_eq!(rt; status_of(fault), status);
-    }
-    assert_eq!(rt;
-        out.as_slice(),
-        b"refused S3 0\nrefused S1\nrefused E4\nrefused E1\nrefused E8\nrefused G10\nrefused G1\n".as_slice()
+    assert!(rt; asks(alloc, b"find", Asked::Usage)?);
+    assert!(rt; asks(alloc, b"find\r", Asked::Usage)?);
+    assert!(rt; asks(alloc, b"finder x", Asked::Usage)?);
+    assert!(rt; asks(alloc, b"find ", Asked::Find(b""))?);
+    assert!(rt; asks(alloc, b"find  x", Asked::Find(b" x"))?);
+    assert!(rt; asks(alloc, b"  find x\r", Asked::Find(b"x"))?);
+    assert!(rt;
+        asks(
+            alloc,
+            b"find white 2 v e 0,0,3",
+            Asked::Find(b"white 2 v e 0,0,3")
+        )?
     );
+    assert!(rt; asks(alloc, b"find a b  c ", Asked::Find(b"a b  c "))?);
     Ok(())
 }

@@ -16,7 +16,12 @@ mod mentions;
 #[cfg(test)]
 mod move_tests;
 mod moves;
+mod numbers;
+mod questions;
 mod refused;
+mod replies;
+#[cfg(test)]
+mod reply_tests;
 mod session;
 #[cfg(test)]
 mod tests;

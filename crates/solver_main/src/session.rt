@@ -1,12 +1,12 @@
 //! A session: commands as lines on an input, each with its reply.
 
-use crate::commands::{put_line, put_refused, said_refused, status_of};
+use crate::commands::said_refused;
 use crate::input::{Asked, Line};
-use recover::{Solver, SolverFault, Units, Worked};
-use retrograde::Counts;
+use crate::questions::put_answer;
+use recover::{Solver, SolverFault};
 use sector_disk::SectorDisk;
 use std::alloc::Global;
-use std::io::{self, ErrorKind, Read, Write};
+use std::io::{ErrorKind, Read, Write};
 
 /// Answers each line of the input, on the table of this disk, before the next line is read. Gives the exit status, which
 /// is 4 where the input or the output failed, and the disk.
@@ -93,81 +93,17 @@ fn answer_byte<D: SectorDisk, W: Write>(
 fn answer<D: SectorDisk, W: Write>(
     alloc: Global,
     solver: &mut Solver<D>,
-    asked: Asked,
+    asked: Asked<'_>,
     out: &mut W,
 ) -> Option<u8> {
-    let replied = match asked {
-        Asked::Nothing => return None,
-        Asked::Quit => return Some(0),
-        Asked::Usage => put_line(out, b"usage\n").map(|()| None),
-        Asked::Status => put_status(alloc, solver.status(), out).map(|()| None),
-        Asked::Work(units) => put_work(alloc, solver, units, out),
-    };
-    match replied {
-        Ok(ended) => ended,
+    if matches!(asked, Asked::Quit) {
+        return Some(0);
+    }
+    match put_answer(alloc, solver, asked, out) {
+        Ok(status) => (status > 1).then_some(status),
         Err(error) if error.kind() == ErrorKind::OutOfMemory => {
             Some(said_refused(alloc, out, SolverFault::OutOfMemory))
         }
         Err(_) => Some(4),
     }
-}
-
-/// Works, and writes the reply. Gives the status where the refusal ends the session.
-fn put_work<D: SectorDisk, W: Write>(
-    alloc: Global,
-    solver: &mut Solver<D>,
-    units: Units,
-    out: &mut W,
-) -> io::Result<Option<u8>> {
-    match solver.work(units) {
-        Ok(worked) => {
-            let line = work_line(alloc, &worked)?;
-            put_line(out, line.as_bytes())?;
-            Ok(None)
-        }
-        Err(fault) => {
-            put_refused(alloc, out, fault)?;
-            let status = status_of(fault);
-            Ok((status != 1).then_some(status))
-        }
-    }
-}
-
-/// The line that tells what work was done.
-pub fn work_line(alloc: Global, worked: &Worked) -> io::Result<String> {
-    let Worked { units, counts } = worked;
-    let told = told(alloc, counts)?;
-    let line = format!(in alloc; "units {units} {told}\n")?;
-    Ok(line)
-}
-
-/// Writes the line that tells how far a table is, at once.
-pub fn put_status<W: Write>(alloc: Global, counts: Option<Counts>, out: &mut W) -> io::Result<()> {
-    match counts {
-        Some(counts) => {
-            let told = told(alloc, &counts)?;
-            let line = format!(in alloc; "{told}\n")?;
-            put_line(out, line.as_bytes())
-        }
-        None => put_line(out, b"no game\n"),
-    }
-}
-
-/// How far a table is, in words.
-fn told(alloc: Global, counts: &Counts) -> io::Result<String> {
-    let Counts {
-        known,
-        expanded,
-        settled,
-        processed,
-    } = *counts;
-    let state = if expanded == known && processed == settled {
-        "finished"
-    } else {
-        "open"
-    };
-    let line = format!(in alloc;
-        "known {known} expanded {expanded} settled {settled} processed {processed} {state}"
-    )?;
-    Ok(line)
 }

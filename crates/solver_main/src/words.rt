@@ -33,7 +33,7 @@ const LONG_ABOUT: &str =
     "Solves small two-player board games exactly.\n\nA game is a text in a profile of the low-level language of Regular Boardgames.";
 
 const AFTER_HELP: &str =
-    "Examples:\n  rbgsolve moves games/take.rbg\n    prints  1@v 2@v => white 2 v e 0,0,3\n  rbgsolve create take.table --pages 16\n  rbgsolve load take.table games/take.rbg\n  echo work 256 | rbgsolve session take.table\n    prints  units 14 known 7 expanded 7 settled 7 processed 7 finished\n\nA command that cannot be done is answered by `refused` and a code; README.md lists the codes.";
+    "Examples:\n  rbgsolve moves games/take.rbg\n    prints  1@v 2@v => white 2 v e 0,0,3\n  rbgsolve create take.table --pages 16\n  rbgsolve load take.table games/take.rbg\n  echo work 256 | rbgsolve session take.table\n    prints  units 14 known 7 expanded 7 settled 7 processed 7 finished\n  echo value 0 | rbgsolve session take.table\n    prints  black in 3\n\nA command that cannot be done is answered by `refused` and a code; README.md lists the codes.";
 
 const CREATE_ABOUT: &str = "Makes an empty table in a file";
 
@@ -45,10 +45,10 @@ const LOAD_ABOUT: &str = "Loads a game into an empty table";
 const LOAD_LONG_ABOUT: &str =
     "Loads the game of a text into an empty table, and prints `loaded`.\n\nThe table then knows the start of the game. `session` solves it.";
 
-const SESSION_ABOUT: &str = "Works on a table by commands, one a line, on standard input";
+const SESSION_ABOUT: &str = "Works on a table and asks it, by commands on standard input";
 
 const SESSION_LONG_ABOUT: &str =
-    "Works on a table by commands, one a line, on standard input, with a line in reply to each on standard output. When a reply is there, what it says is on the disk.\n\n  work U   does U units of work, 1 to 256, or fewer where the table is finished then\n  status   says how far the table is\n  quit     ends the session, as the end of the input does\n\nA unit of work looks at one position: finds where its moves lead, or, once that is done for all, tells its predecessors who wins it. A table is finished when nothing is left to do.";
+    "Works on a table and asks it, by commands, one a line, on standard input, with the reply to each on standard output. When a reply is there, what it says is on the disk.\n\n  work U     does U units of work, 1 to 256, or fewer where the table is finished then\n  status     says how far the table is\n  value N    who wins position N and in how many moves, or `drawn`, or `open`\n  line N     the numbers of the positions along a shortest win from N\n  list A B   the values of B positions, 1 to 256, from A on, one a line\n  show N     the text of position N\n  find TEXT  the number of the position with this text\n  quit       ends the session, as the end of the input does\n\nPositions are numbered from 0, the start, in the order in which they came to be known. A unit of work looks at one position: finds where its moves lead, or, once that is done for all, tells its predecessors who wins it. A table is finished when nothing is left to do. Any other line is answered by `usage`.";
 
 const MOVES_ABOUT: &str = "Prints the legal moves of a game's start";
 

@@ -1,7 +1,6 @@
-use Rattle.std.proofs.Common.{◌≡◌, [], ◌∷◌, ◌++◌, ap, sym, ◌∙◌, subst, inl, inr, length, refl}
+use Rattle.std.proofs.Common.{[], ◌∷◌, ◌++◌, ap, sym, ◌∙◌, subst, inl, inr, length, refl}
 use Rattle.std.specs.Prelude.{codes}
 use Rattle.std.specs.Io.KnownBytes.{Keeps}
-use Rattle.legal_moves.specs.Compiled.{compiled_game}
 use Rattle.solver_main.proofs.Appending.{appends_and_keeps}
 use Rattle.solver_main.proofs.AnswerLemmas.{nothing_left}
 use Rattle.solver_main.proofs.moves.write_answer.Goals as goal

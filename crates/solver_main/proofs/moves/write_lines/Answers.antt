@@ -1,4 +1,4 @@
-use Rattle.std.proofs.Common.{◌++◌, subst, take, sym, arith}
+use Rattle.std.proofs.Common.{◌++◌, subst, arith}
 use Rattle.std.proofs.lemmas.List.{take_all}
 use Rattle.std.specs.Io.KnownBytes.{Appends}
 use Rattle.legal_moves.specs.Compiled.{compiled_game}

@@ -1,4 +1,4 @@
-use Rattle.std.proofs.Common.{◌≡◌, ◌≤◌, ℕ, List, take, length}
+use Rattle.std.proofs.Common.{ℕ, List, take}
 use Rattle.std.specs.Io.KnownBytes.{Appends}
 use Rattle.legal_moves.specs.Compiled.{compiled_game}
 use Rattle.solver_main.specs.Lines.{AreLines}

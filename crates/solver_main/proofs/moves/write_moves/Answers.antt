@@ -1,4 +1,3 @@
-use Rattle.std.proofs.Common.{◌∙◌, subst}
 use Rattle.legal_moves.specs.Compiled.{compiled_game}
 use Rattle.solver_main.proofs.AnswerLemmas.{positions_of, answer_of, listing_of, on_ok, stopped_of}
 use Rattle.solver_main.proofs.moves.write_moves.Goals as goal
