@@ -1,5 +1,6 @@
 -- The empty table is made, and opened.
-use Rattle.std.proofs.Common.{◌≡◌, ◌⊎◌, inl, inr, ◌≤◌, ℕ, false, true, List, None, IsTrue, ◌∙◌, subst, arith}
+use Rattle.std.specs.Prelude.{min}
+use Rattle.std.proofs.Common.{◌≡◌, ◌⊎◌, inl, inr, ◌≤◌, ◌/◌, ℕ, false, true, List, None, IsTrue, ◌∙◌, ap, subst, arith}
 use Rattle.std.proofs.Math.Nat.{le-min, le-div_iff_mul-le}
 use Rattle.sector_disk.specs.Disk.{Picture, Disk, size, GoesOn, LeavesOnly, MayLeave, AllSynced}
 use Rattle.sector_disk.specs.Moments.{goes_on_trans, leaves_then, leaves_more, still_honest}
@@ -72,6 +73,7 @@ module _ {root : List ℕ} (empty : IsEmptySlot root) (disk mid : Disk) (count m
   pub created : (file : File) → IsOpened mid middle file → IsCreated disk count file
   created file opened = record {
     from = from_first file.store.disk file.store.failures opened.from;
+    capacity = opened.capacity ∙ ap (λ (n : ℕ). min (n / 8) 1048576) laid.same_size;
     stands = opened.stands;
     is_open = opened.is_open;
     empty = λ honest. a_picture_stores_one_table mid.now.contents (kept_of file.game) None (opened.stored (still_honest laid.goes_on honest)) (stored_empty honest);

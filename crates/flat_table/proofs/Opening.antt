@@ -70,6 +70,7 @@ module _ (disk : Disk) (count : ℕ) (found now : Store) (at_first : IsFound dis
   pub opened : (game : Option Game) → IsSound now → AreGames game → IsBacked now (pages_of game) (kept_of game) → IsOpened disk count (file_of now game)
   opened game sound games backed = record {
     from = from;
+    capacity = read.same_pages ∙ at_first.capacity;
     stands = record { sound = sound; games = games; backed = backed };
     is_open = read.closed ∙ at_first.closed;
     stored = stored game backed;

@@ -1,5 +1,5 @@
 -- What the calls on a table's file leave.
-use Rattle.std.specs.Prelude.{◌≡◌, ◌⊎◌, ℕ, ◌≤◌, false, List, Option, None, Some, IsTrue}
+use Rattle.std.specs.Prelude.{◌≡◌, ◌⊎◌, ℕ, ◌≤◌, ◌/◌, min, length, false, List, Option, None, Some, IsTrue}
 use Rattle.sector_disk.specs.Disk.{Picture, Shown, Disk, size, GoesOn, LeavesOnly, MayLeave}
 use Rattle.root_pair.specs.Root.{Begins, IsTable}
 use Rattle.page_store.specs.Store.{Store}
@@ -36,6 +36,7 @@ pub record GoesFrom (disk : Disk) (count : ℕ) (later : Disk) (now : ℕ) : Typ
 -- a file as `open` gives it: what the disk stores is in memory, and a stop since then leaves what it could leave before
 pub record IsOpened (disk : Disk) (count : ℕ) (file : File) : Type 0 where
   pub from : GoesFrom disk count file.store.disk file.store.failures
+  pub capacity : length file.store.marks ≡ min (size disk / 8) 1048576
   pub stands : IsFile file
   pub is_open : file.store.closed ≡ false
   pub stored : IsTrue disk.honest → Stores disk.now.contents (kept_of file.game)
@@ -53,6 +54,7 @@ OldOrEmpty old picture = IsTable picture → MayLeave old picture ⊎ Stores pic
 -- a file as `create` gives it: the empty table; a stop since then leaves no table, what it could leave before, or the empty table
 pub record IsCreated (disk : Disk) (count : ℕ) (file : File) : Type 0 where
   pub from : GoesFrom disk count file.store.disk file.store.failures
+  pub capacity : length file.store.marks ≡ min (size disk / 8) 1048576
   pub stands : IsFile file
   pub is_open : file.store.closed ≡ false
   pub empty : IsTrue disk.honest → kept_of file.game ≡ None

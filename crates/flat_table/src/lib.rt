@@ -3,8 +3,8 @@
 
 mod fault;
 mod file;
-mod reading;
 mod put;
+mod reading;
 
 pub use fault::{FileFault, Refused};
 pub use file::{FlatTable, TableFile};

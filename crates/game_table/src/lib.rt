@@ -5,8 +5,8 @@
 pub mod laws;
 mod packings;
 mod source;
-mod texts;
 #[cfg(test)]
 mod tests;
+mod texts;
 
 pub use source::Source;

@@ -1,5 +1,5 @@
 -- Questions change nothing, and answer from what is kept.
-use Rattle.std.proofs.Common.{◌≡◌, ℕ, ◌<◌, ◌≤◌, List, length, slice_get, Option, None, Some, refl, sym, subst, ap, arith}
+use Rattle.std.proofs.Common.{◌≡◌, ℕ, ◌<◌, ◌≤◌, List, slice_get, Option, None, Some, refl, sym, subst, arith}
 use Rattle.sector_disk.specs.Moments.{goes_on_refl, leaves_now}
 use Rattle.rbg_game.specs.Games.{Game as TextbookGame}
 use Rattle.rbg_read.specs.Reading.{Reads}
@@ -26,7 +26,7 @@ use Rattle.flat_table.specs.Reading.{IsReadOnly, known_in}
 use Rattle.recover.specs.Faults.{line_fault}
 use Rattle.recover.specs.Held.{IsSound}
 use Rattle.recover.specs.Queries.{OfKept, IsAsked, IsThere, HasSoMany, HasLine, HasText, IsOfUnknown, LineCause}
-use Rattle.recover.specs.State.{State, IsReady, IsSourceOf, state_of}
+use Rattle.recover.specs.State.{IsReady, IsSourceOf, state_of}
 
 -- a file with the same pages that keeps the same
 same_pages : (s : Store) (was is : Option Game) → IsFile (file_of s was) → kept_of is ≡ kept_of was → IsAsked (state_of (file_of s was)) (state_of (file_of s is))

@@ -55,7 +55,7 @@ module _ (text start : List ℕ) (game : Game) (reads : Reads text game) (start_
   load_cause file.AlreadyATable it is_open long cause = absurd cause
   load_cause file.Damaged it is_open long cause = absurd cause
   load_cause file.TooSmall it is_open long cause = absurd cause
-  load_cause file.TableFull it is_open long cause = loading_room text start old.store.marks (it.backed.free is_open none) cause
+  load_cause file.TableFull it is_open long cause = (loading_room text start old.store.marks (it.backed.free is_open none) cause, (game, reads))
   load_cause file.OutOfMemory it is_open long cause = tt
   load_cause file.Closed it is_open long cause = cause
   load_cause file.Inconsistent it is_open long cause =

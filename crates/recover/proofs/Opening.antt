@@ -24,6 +24,7 @@ module _ (disk : Disk) (count : ℕ) (file : File) where
   pub opened : IsFileOpened disk count file → IsOfAGame (kept_of file.game) → IsOpened disk count (state_of file)
   opened found of_a_game = record {
     from = found.from;
+    capacity = found.capacity;
     is_open = found.is_open;
     holds = λ honest. record { stores = found.stored honest; of_a_game = of_a_game };
     only = λ honest kept holds. a_picture_stores_one_table disk.now.contents (kept_of file.game) kept (found.stored honest) holds.stores;
@@ -61,6 +62,7 @@ module _ (disk : Disk) (count : ℕ) (file : File) where
   pub created : IsFileCreated disk count file → IsCreated disk count (state_of file)
   created made = record {
     from = made.from;
+    capacity = made.capacity;
     is_open = made.is_open;
     empty = made.empty;
     fresh = made.fresh;

@@ -1,21 +1,19 @@
 -- A stop in the course of many commands leaves a table after some of them.
-use Rattle.std.proofs.Common.{◌≡◌, ◌⊎◌, inl, inr, ℕ, zero, suc, ◌<◌, ◌≤◌, Bool, true, false, List, [], ◌∷◌, map, Option, None, Some, refl, sym, ap, subst, arith}
+use Rattle.std.proofs.Common.{◌≡◌, ◌⊎◌, inl, inr, ℕ, suc, Bool, true, false, List, [], ◌∷◌, map, Option, None, Some, refl, sym, ap, subst, arith}
 use Rattle.std.specs.Prelude.{IsTrue}
 use Rattle.std.proofs.lemmas.Bool.{cases_lt}
 use Rattle.sector_disk.specs.Disk.{Picture, MayLeave}
 use Rattle.sector_disk.specs.Moments.{still_honest}
 use Rattle.rbg_read.specs.Reading.{Reads}
-use Rattle.legal_moves.specs.Sources.{IsWideAt, graph_of}
-use Rattle.retrograde.specs.Sound.{IsLocallySound}
 use Rattle.game_table.specs.Laws.{a_first_table_is_sound}
 use Rattle.flat_file.specs.Held.{Kept, Stores}
 use Rattle.recover.specs.declared.replies.Command.{Command as Asked}
 use Rattle.recover.specs.declared.replies.Reply.{Reply as Answer}
 use Rattle.recover.specs.Held.{Holds, IsSound}
-use Rattle.recover.specs.Headline.{LeadsTo, SaysWhatIs, IsExact, LeavesAPrefix}
+use Rattle.recover.specs.Headline.{LeadsTo, IsExact, LeavesAPrefix}
 use Rattle.recover.specs.Laws.{a_sound_table_is_held, what_is_settled_is_won, finished_is_all, finished_leaves_the_drawn}
 use Rattle.recover.specs.Machine.{Command, load, work, Reply, loaded_it, worked, refused, Step}
-use Rattle.recover.specs.Runs.{command_of, reply_of, LeavesAt, IsTurn, Turns, IsRun}
+use Rattle.recover.specs.Runs.{command_of, reply_of, LeavesAt, Turns, IsRun}
 use Rattle.recover.specs.State.{State, GoesAhead}
 use Rattle.recover.specs.Steps.{MayFollow}
 
@@ -23,8 +21,7 @@ use Rattle.recover.specs.Steps.{MayFollow}
 pub a_sound_table_is_exact : (kept : Option Kept) → IsSound kept → IsExact kept
 a_sound_table_is_exact None sound = tt
 a_sound_table_is_exact (Some kept) (game, is_read, sound) =
-    let it : IsSound (Some kept) = (game, is_read, sound) in
-    (
+    let it : IsSound (Some kept) = (game, is_read, sound) in (
       game,
       record {
         reads = is_read;

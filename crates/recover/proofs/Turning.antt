@@ -1,9 +1,8 @@
 -- Commands one after another.
-use Rattle.std.proofs.Common.{◌≡◌, ◌≢◌, ◌⊎◌, inl, inr, ℕ, zero, suc, ◌+◌, ◌<◌, ◌≤◌, Bool, true, false, List, [], ◌∷◌, ◌++◌, length, take, map, get_or, Option, refl, sym, ◌∙◌, ap, subst, append_assoc, append-nil, add-one, arith}
+use Rattle.std.proofs.Common.{◌≡◌, ◌≢◌, inl, ℕ, zero, suc, ◌+◌, ◌<◌, ◌≤◌, Bool, true, false, List, [], ◌∷◌, ◌++◌, length, take, map, get_or, Option, refl, sym, ◌∙◌, ap, subst, append_assoc, append-nil, arith}
 use Rattle.std.specs.Prelude.{IsTrue}
-use Rattle.sector_disk.specs.Disk.{Picture, Disk, GoesOn, LeavesOnly, MayLeave}
+use Rattle.sector_disk.specs.Disk.{Disk, GoesOn, MayLeave}
 use Rattle.sector_disk.specs.Moments.{goes_on_trans, then_leaves}
-use Rattle.rbg_read.specs.declared.fault.GameFault.{GameFault}
 use Rattle.legal_moves.specs.declared.compiled.Compiled.{Compiled}
 use Rattle.flat_file.specs.File.{File}
 use Rattle.flat_file.specs.Held.{Kept, Stores}
@@ -13,7 +12,7 @@ use Rattle.recover.specs.declared.fault.SolverFault.TheVariants.{Disk as DiskFai
 use Rattle.recover.specs.declared.replies.Command.{Command as Asked}
 use Rattle.recover.specs.declared.replies.Reply.{Reply as Answer}
 use Rattle.recover.specs.Machine.{Command, Reply, refused}
-use Rattle.recover.specs.Runs.{command_of, reply_of, LeavesAt, LeavesBetween, HasFailed, IsTurn, Turns, IsRun}
+use Rattle.recover.specs.Runs.{command_of, reply_of, HasFailed, IsTurn, Turns, IsRun}
 use Rattle.recover.specs.State.{State, GoesAhead, IsReady, state_of}
 use Rattle.recover.specs.Steps.{IsDone, IsRefused}
 use Rattle.recover.proofs.Refusing.{apart}
@@ -112,10 +111,10 @@ turns_more (c ∷ commands) [] command reply was mid is goes_on none turn = absu
 turns_more (c ∷ commands) (r ∷ replies) command reply was mid is goes_on (next, first, rest) turn = (
   next,
   turn_later c r was next mid.disk is.disk goes_on (turns_later mid.disk commands replies next mid rest)
-  (λ shut.
-  let end : mid ≡ next = turns_shut mid.disk commands replies next mid rest shut in
-  let (said, same) = turn.shut (ap (λ (s : State). s.closed) end ∙ shut) in
-  ap (λ (s : State). s.disk) same) first,
+      (λ shut.
+      let end : mid ≡ next = turns_shut mid.disk commands replies next mid rest shut in
+      let (said, same) = turn.shut (ap (λ (s : State). s.closed) end ∙ shut) in
+      ap (λ (s : State). s.disk) same) first,
   turns_more commands replies command reply next mid is goes_on rest turn,
 )
 

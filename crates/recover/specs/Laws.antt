@@ -17,6 +17,10 @@ use Rattle.retrograde.specs.View.{IsKnown, HasNumber, HasValue, IsFinished}
 use Rattle.retrograde.proofs.Finished.{reach_is_known, draws, values_are_won}
 use Rattle.retrograde.proofs.Sound.{sound_right}
 use Rattle.game_table.specs.Laws.{starts_are_positions, sound_tables_fit}
+use Rattle.best_line.specs.declared.answers.Value.{Value}
+use Rattle.best_line.specs.declared.answers.Value.TheVariants.{Won, Drawn as NobodyWins, Open}
+use Rattle.best_line.specs.Values.{IsValue}
+use Rattle.best_line.specs.Laws.{IsSo}
 use Rattle.flat_file.specs.Held.{Kept, Stores}
 use Rattle.recover.specs.Held.{Holds, IsSound}
 use Rattle.recover.specs.Opening.{IsOpened}
@@ -61,3 +65,10 @@ pub finished_leaves_the_drawn : (kept : Kept) (game : Game) → IsSound (Some ke
     → (i : ℕ) (x : List ℕ) → HasNumber (view_of kept.table) i x → ((view_of kept.table).value i ≡ None) ↔ Drawn (graph_of game) x
 finished_leaves_the_drawn kept game sound is_read finished i x number =
     draws (graph_of game) (view_of kept.table) (a_sound_table_is_right kept game sound is_read) finished i x number
+
+-- what is answered of a position of a sound table is so in the game
+pub a_value_is_so : (kept : Kept) (game : Game) → IsSound (Some kept) → Reads kept.text game → (i : ℕ) (x : List ℕ) (value : Value) → HasNumber (view_of kept.table) i x
+    → IsValue (view_of kept.table) i value → IsSo (graph_of game) x value
+a_value_is_so kept game sound is_read i x (Won w n) number is = what_is_settled_is_won kept game sound is_read x w n (i, number, is)
+a_value_is_so kept game sound is_read i x NobodyWins number (none, finished) = (finished_leaves_the_drawn kept game sound is_read finished i x number).0 none
+a_value_is_so kept game sound is_read i x Open number is = tt

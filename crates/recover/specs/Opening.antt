@@ -1,5 +1,5 @@
 -- What `open` and `create` give.
-use Rattle.std.specs.Prelude.{◌≡◌, ◌<◌, ℕ, false, Option, None, IsTrue}
+use Rattle.std.specs.Prelude.{◌≡◌, ◌<◌, ◌/◌, min, ℕ, false, Option, None, IsTrue}
 use Rattle.sector_disk.specs.Disk.{Disk, size, LeavesOnly, MayLeave, Grew}
 use Rattle.root_pair.specs.Root.{Begins, IsTable}
 use Rattle.flat_file.specs.Held.{Kept}
@@ -14,6 +14,7 @@ use Rattle.recover.specs.Stops.{LeavesNow}
 -- before, and a stop now this table
 pub record IsOpened (disk : Disk) (count : ℕ) (state : State) : Type 0 where
   pub from : GoesFrom disk count state.disk state.failures
+  pub capacity : state.capacity ≡ min (size disk / 8) 1048576
   pub is_open : state.closed ≡ false
   pub holds : IsTrue disk.honest → Holds disk.now.contents state.kept
   pub only : IsTrue disk.honest → (kept : Option Kept) → Holds disk.now.contents kept → state.kept ≡ kept
@@ -24,6 +25,7 @@ pub record IsOpened (disk : Disk) (count : ℕ) (state : State) : Type 0 where
 -- before, or the empty table, and a stop now the empty table
 pub record IsCreated (disk : Disk) (count : ℕ) (state : State) : Type 0 where
   pub from : GoesFrom disk count state.disk state.failures
+  pub capacity : state.capacity ≡ min (size disk / 8) 1048576
   pub is_open : state.closed ≡ false
   pub empty : IsTrue disk.honest → state.kept ≡ None
   pub fresh : IsTrue disk.honest → ¬ Begins disk.now.contents

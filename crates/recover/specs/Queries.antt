@@ -1,5 +1,5 @@
 -- What is asked of a solver, what it answers, and why not.
-use Rattle.std.specs.Prelude.{◌≡◌, ◌≤◌, ◌<◌, ℕ, List, length, true, false, Option, None, Some, IsTrue}
+use Rattle.std.specs.Prelude.{◌≡◌, ◌<◌, ℕ, List, length, true, false, Option, None, Some, IsTrue}
 use Rattle.sector_disk.specs.Disk.{Grew}
 use Rattle.rbg_game.specs.Games.{Game}
 use Rattle.rbg_read.specs.Reading.{Reads}
@@ -14,7 +14,7 @@ use Rattle.best_line.specs.Rows.{AreRows}
 use Rattle.best_line.specs.Lines.{IsBestPlay}
 use Rattle.flat_file.specs.Held.{Kept}
 use Rattle.recover.specs.declared.fault.SolverFault.{SolverFault}
-use Rattle.recover.specs.declared.fault.SolverFault.TheVariants.{Disk, NotATable, AlreadyATable, Damaged, TooSmall, TableFull, OutOfMemory, Closed, Game as BadGame, NoGame, GameAlready, KeeperChooses, TooWide, TooManyPositions, Inconsistent, NoSuchPosition, NotSettled, BadPosition}
+use Rattle.recover.specs.declared.fault.SolverFault.TheVariants.{Disk, OutOfMemory, Closed, NoGame, TooWide, Inconsistent, NoSuchPosition, NotSettled, BadPosition}
 use Rattle.recover.specs.Held.{IsSound}
 use Rattle.recover.specs.State.{State, GoesAhead}
 use Rattle.recover.specs.Stops.{LeavesTable, LeavesNow}

@@ -9,10 +9,15 @@ ghost use Rattle.retrograde.specs.Graph.{IsReachable};
 ghost use Rattle.retrograde.specs.Stored.{view_of};
 ghost use Rattle.retrograde.specs.Values.{WonIn, Drawn};
 ghost use Rattle.retrograde.specs.View.{IsKnown, HasNumber, HasValue, IsFinished};
+ghost use Rattle.best_line.specs.declared.answers.Value.{Value};
+ghost use Rattle.best_line.specs.Values.{IsValue};
+ghost use Rattle.best_line.specs.Laws.{IsSo};
 ghost use Rattle.flat_file.specs.Held.{Kept, Stores};
 ghost use Rattle.recover.specs.Held.{Holds, IsSound};
+ghost use Rattle.recover.specs.Machine.{Command};
 ghost use Rattle.recover.specs.Opening.{IsOpened};
 ghost use Rattle.recover.specs.State.{State};
+ghost use Rattle.recover.specs.Steps.{MayFollow};
 
 /// A picture that stores a locally sound table holds it.
 pub fn a_sound_table_is_held()
@@ -42,4 +47,16 @@ pub fn finished_is_all()
 pub fn finished_leaves_the_drawn()
     ensures { (kept : Kept) (game : Game) → IsSound (Some kept) → Reads kept.text game → IsFinished (view_of kept.table)
         → (i : ℕ) (x : List ℕ) → HasNumber (view_of kept.table) i x → ((view_of kept.table).value i ≡ None) ↔ Drawn (graph_of game) x }
+{}
+
+/// What is answered of a position of a locally sound table is so in the game: who is said to win it does, in so many moves
+/// and no fewer, and nobody wins what is said to be drawn.
+pub fn a_value_is_so()
+    ensures { (kept : Kept) (game : Game) → IsSound (Some kept) → Reads kept.text game → (i : ℕ) (x : List ℕ) (value : Value)
+        → HasNumber (view_of kept.table) i x → IsValue (view_of kept.table) i value → IsSo (graph_of game) x value }
+{}
+
+/// What a command leads to from a locally sound table is locally sound.
+pub fn what_follows_is_sound()
+    ensures { (command : Command) (old new : Option Kept) → MayFollow command old new → IsSound old → IsSound new }
 {}

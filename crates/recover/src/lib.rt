@@ -7,6 +7,8 @@ mod games;
 pub mod laws;
 mod next;
 mod queries;
+#[cfg(test)]
+mod query_tests;
 mod ready;
 mod replies;
 #[cfg(test)]

@@ -1,5 +1,5 @@
 //! A solver over a disk.
-ghost use Rattle.std.specs.Prelude.{◌≡◌, true, option_map, OnOk, IfOk, IfErr, IsErrOf};
+ghost use Rattle.std.specs.Prelude.{◌≡◌, true, false, None, option_map, IsSome, OnOk, IfOk, IfErr, IsErrOf};
 ghost use Rattle.retrograde.specs.Changes.{counts_of};
 ghost use Rattle.flat_file.specs.File.{IsFile, kept_of};
 ghost use Rattle.flat_table.specs.Calls.{IsNotOpened, IsNotCreated};
@@ -110,6 +110,8 @@ impl<D: SectorDisk> Solver<D> {
             → IfErr result (IsRefused (load_it text.now) (⟦<Solver<D> as Solving>⟧.state self.old) (⟦<Solver<D> as Solving>⟧.state self.new)) }
         ensures closed { (⟦<Solver<D> as Solving>⟧.state self.old).closed ≡ true
             → IsErrOf result SolverFault.Closed × (self.new ≡ self.old) }
+        ensures already { (⟦<Solver<D> as Solving>⟧.state self.old).closed ≡ false → IsSome (⟦<Solver<D> as Solving>⟧.state self.old).kept
+            → IsErrOf result SolverFault.GameAlready × (self.new ≡ self.old) }
         ensures sound { ⟦<Solver<D> as Solving>⟧.is_ready self.old → IsSound (⟦<Solver<D> as Solving>⟧.state self.old).kept
             → IsSound (⟦<Solver<D> as Solving>⟧.state self.new).kept }
     {
@@ -136,6 +138,9 @@ impl<D: SectorDisk> Solver<D> {
             → IfErr result (IsRefused (work_on (units_in units)) (⟦<Solver<D> as Solving>⟧.state self.old) (⟦<Solver<D> as Solving>⟧.state self.new)) }
         ensures closed { (⟦<Solver<D> as Solving>⟧.state self.old).closed ≡ true
             → IsErrOf result SolverFault.Closed × (self.new ≡ self.old) }
+        ensures no_game { (⟦<Solver<D> as Solving>⟧.state self.old).closed ≡ false → (⟦<Solver<D> as Solving>⟧.state self.old).kept ≡ None
+            → IsErrOf result SolverFault.NoGame × (self.new ≡ self.old) }
+        ensures idle { IfOk result (λ done. done.units ≡ 0 → self.new ≡ self.old) }
         ensures sound { ⟦<Solver<D> as Solving>⟧.is_ready self.old → IsSound (⟦<Solver<D> as Solving>⟧.state self.old).kept
             → IsSound (⟦<Solver<D> as Solving>⟧.state self.new).kept }
     {

@@ -1,7 +1,7 @@
 //! The power stopped, or one disk call failing, at each place of `create`, `load` and `work`.
 
 use crate::games::TAKE;
-use crate::{Refused, Solver, SolverFault, Units};
+use crate::{Command, Refused, Reply, Solver, SolverFault, Units};
 use retrograde::Counts;
 use sector_disk::{FlakyDisk, FuseDisk, MemDisk, SectorDisk};
 use std::alloc::Global;
@@ -71,6 +71,33 @@ fn load_on<D: SectorDisk>(alloc: Global, disk: D) -> (D, Result<(), SolverFault>
             (solver.close(), answer)
         }
         Err(refused) => (refused.disk, Err(refused.fault)),
+    }
+}
+
+/// Opens the empty table, and loads the game and does seven units at once; the disk, and how many commands were done.
+fn run_on<D: SectorDisk + Drop>(alloc: Global, disk: D) -> Result<(D, u32), Fail> {
+    let Some(units) = Units::new(7) else {
+        return Err("seven units are a number of units")?;
+    };
+    let mut commands = Vec::new(alloc);
+    commands.push(Command::Load(TAKE.as_bytes().to_vec(alloc)?))?;
+    commands.push(Command::Work(units))?;
+    let mut replies = Vec::new(alloc);
+    match Solver::open(alloc, disk) {
+        Ok(mut solver) => {
+            solver.run(&commands, &mut replies)?;
+            let done = match (replies.first(), replies.last()) {
+                (Some(Reply::Loaded), Some(Reply::Worked(7, _))) => 2,
+                (Some(Reply::Loaded), Some(Reply::Refused(SolverFault::Disk))) => 1,
+                (
+                    Some(Reply::Refused(SolverFault::Disk)),
+                    Some(Reply::Refused(SolverFault::Closed | SolverFault::NoGame)),
+                ) => 0,
+                _ => return Err("an answer that cannot be")?,
+            };
+            Ok((solver.close(), done))
+        }
+        Err(refused) => Ok((refused.disk, 0)),
     }
 }
 
@@ -160,6 +187,28 @@ fn a_stop_within_work_leaves_the_table_before_it_or_after(rt: HostRuntime) -> Re
 }
 
 #[test]
+fn a_stop_in_a_run_leaves_a_table_after_some_of_its_commands(rt: HostRuntime) -> Result<(), Fail> {
+    for passes in 0..MOST_CALLS {
+        let fuse = FuseDisk::new(empty_disk(rt.alloc())?, passes);
+        let (disk, done) = run_on(rt.alloc(), fuse)?;
+        let disk = disk.into_inner();
+        let allowed = match done {
+            0 => [Found::Empty, Found::Expanded(0)],
+            1 => [Found::Expanded(0), Found::Expanded(7)],
+            _ => [Found::Expanded(7), Found::Expanded(7)],
+        };
+        assert!(rt;
+            all_are(rt.alloc(), &disk, &allowed)?,
+            "{passes} calls pass"
+        );
+        if done == 2 {
+            return Ok(());
+        }
+    }
+    Err("no call was made in full")?
+}
+
+#[test]
 fn one_call_that_fails_is_told_and_leaves_one_table_or_the_other(
     rt: HostRuntime,
 ) -> Result<(), Fail> {
@@ -195,6 +244,8 @@ fn after_a_failed_sync_all_is_closed_until_it_is_opened_again(rt: HostRuntime) -
     assert_eq!(rt; seven(&mut solver), Err(SolverFault::Disk));
     assert_eq!(rt; seven(&mut solver), Err(SolverFault::Closed));
     assert_eq!(rt; solver.load(TAKE.as_bytes()), Err(SolverFault::Closed));
+    assert_eq!(rt; solver.value(0), Err(SolverFault::Closed));
+    assert_eq!(rt; solver.find(b"white 2 v e 0,0,3"), Err(SolverFault::Closed));
     assert_eq!(rt; solver.status(), before);
     let disk = solver.close().into_inner();
     let allowed = [Found::Expanded(0), Found::Expanded(7)];
