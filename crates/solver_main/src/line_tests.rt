@@ -22,12 +22,18 @@ fn asks(alloc: Global, bytes: &[u8], want: Asked<'_>) -> Result<bool, AllocError
 
 /// What asks for so many units.
 fn work(count: u32) -> Asked<'static> {
-    Units::new(count).map_or(Asked::Usage, Asked::Work)
+    match Units::new(count) {
+        Some(units) => Asked::Work(units),
+        None => Asked::Usage,
+    }
 }
 
 /// What asks for so many rows of a list.
 fn list(from: u32, count: u32) -> Asked<'static> {
-    Units::new(count).map_or(Asked::Usage, |count| Asked::List(from, count))
+    match Units::new(count) {
+        Some(count) => Asked::List(from, count),
+        None => Asked::Usage,
+    }
 }
 
 #[test]
