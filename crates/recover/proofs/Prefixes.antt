@@ -1,5 +1,5 @@
 -- A stop in the course of many commands leaves a table after some of them.
-use Rattle.std.proofs.Common.{◌≡◌, ◌⊎◌, inl, inr, ℕ, suc, Bool, true, false, List, [], ◌∷◌, map, Option, None, Some, refl, sym, ap, subst, arith}
+use Rattle.std.proofs.Common.{◌≡◌, ◌⊎◌, inl, inr, ℕ, zero, suc, Bool, true, false, List, [], ◌∷◌, map, Option, None, Some, refl, sym, ap, subst, arith}
 use Rattle.std.specs.Prelude.{IsTrue}
 use Rattle.std.proofs.lemmas.Bool.{cases_lt}
 use Rattle.sector_disk.specs.Disk.{Picture, MayLeave}
@@ -52,6 +52,13 @@ step_follows (work units) (refused fault) was is step = inr step.0
 step_sound : (command : Command) (old new : Option Kept) → MayFollow command old new ⊎ (new ≡ old) → IsSound old → IsSound new
 step_sound command old new (inl follows) sound = what_follows_is_sound command old new follows sound
 step_sound command old new (inr same) sound = subst (λ (k : Option Kept). IsSound k) (sym same) sound
+
+-- what some of the commands lead to from a sound table is sound
+pub what_commands_lead_to_is_sound : (commands : List Command) (old : Option Kept) (count : ℕ) (new : Option Kept) → LeadsTo commands old count new → IsSound old → IsSound new
+what_commands_lead_to_is_sound commands old zero new same sound = subst (λ (k : Option Kept). IsSound k) (sym same) sound
+what_commands_lead_to_is_sound [] old (suc count) new none sound = absurd none
+what_commands_lead_to_is_sound (command ∷ commands) old (suc count) new (mid, follows, leads) sound =
+    what_commands_lead_to_is_sound commands mid count new leads (step_sound command old mid follows sound)
 
 -- what some of the commands lead to
 abbrev Left : List Command → Option Kept → Picture → Type 0

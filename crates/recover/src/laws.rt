@@ -13,6 +13,7 @@ ghost use Rattle.best_line.specs.declared.answers.Value.{Value};
 ghost use Rattle.best_line.specs.Values.{IsValue};
 ghost use Rattle.best_line.specs.Laws.{IsSo};
 ghost use Rattle.flat_file.specs.Held.{Kept, Stores};
+ghost use Rattle.recover.specs.Headline.{LeadsTo};
 ghost use Rattle.recover.specs.Held.{Holds, IsSound};
 ghost use Rattle.recover.specs.Machine.{Command};
 ghost use Rattle.recover.specs.Opening.{IsOpened};
@@ -59,4 +60,10 @@ pub fn a_value_is_so()
 /// What a command leads to from a locally sound table is locally sound.
 pub fn what_follows_is_sound()
     ensures { (command : Command) (old new : Option Kept) → MayFollow command old new → IsSound old → IsSound new }
+{}
+
+/// What some commands lead to from a locally sound table is locally sound: so is what is opened after a stop in the course of
+/// many commands, and the next run may begin from it.
+pub fn what_commands_lead_to_is_sound()
+    ensures { (commands : List Command) (old : Option Kept) (count : ℕ) (new : Option Kept) → LeadsTo commands old count new → IsSound old → IsSound new }
 {}
