@@ -15,8 +15,8 @@ use Rattle.recover.specs.Machine.{Command}
 use Rattle.recover.specs.State.{State}
 use Rattle.recover.specs.Steps.{MayFollow}
 
--- so many of the commands lead from the one table to the other: each is done, by a step of the machine, or refused, and then the
--- table stays
+-- the first so many of the commands lead from the one table to the other: each is done, by a step of the machine, or leaves the
+-- table; which were done the replies say, in `IsTurn` of Runs.antt
 abbrev pub LeadsTo : List Command → Option Kept → ℕ → Option Kept → Type 0
 LeadsTo commands old zero new = new ≡ old
 LeadsTo [] old (suc count) new = ⊥
@@ -36,8 +36,9 @@ abbrev pub IsExact : Option Kept → Type 0
 IsExact None = Unit {0}
 IsExact (Some kept) = (game : Game) × SaysWhatIs kept game
 
--- a stop at any moment of the run leaves a table that some of the commands lead to, in their order and none left out between: the
--- picture holds it, so that it is what is opened, and what it says is so
+-- a stop at any moment of the run leaves a table that the first so many of the commands lead to: the picture holds it, so that it
+-- is what is opened, and what it says is so; a picture stores one table at most, so it is the one that `IsTurn` names for that
+-- moment, with each command in it that was answered by then
 abbrev pub LeavesAPrefix : List Command → State → State → Type 0
 LeavesAPrefix commands old new =
     (moment : ℕ) (picture : Picture) → old.disk.clock ≤ moment → moment ≤ new.disk.clock → MayLeave (new.disk.was moment) picture
