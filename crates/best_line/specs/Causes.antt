@@ -3,6 +3,7 @@ use Rattle.std.specs.Prelude.{◌≡◌, ℕ, None, IsSome}
 use Rattle.legal_moves.specs.declared.fault.MoveFault.{MoveFault}
 use Rattle.legal_moves.specs.declared.fault.MoveFault.TheVariants as search
 use Rattle.retrograde.specs.View.{View}
+use Rattle.table.specs.declared.fault.TableFault.{TableFault}
 use Rattle.best_line.specs.declared.fault.LineFault.{LineFault}
 use Rattle.best_line.specs.declared.fault.LineFault.TheVariants.{NotSettled, Inconsistent, TooWide, OutOfMemory, Table}
 
@@ -18,3 +19,11 @@ IsCause view number Inconsistent = ⊥
 IsCause view number TooWide = ⊥
 IsCause view number OutOfMemory = IsSome (view.value number)
 IsCause view number (Table fault) = Unit {0}
+
+-- where the fault is the table's, this is said of it
+abbrev pub OfTable : (TableFault → Type 0) → LineFault → Type 0
+OfTable fails NotSettled = Unit {0}
+OfTable fails Inconsistent = Unit {0}
+OfTable fails TooWide = Unit {0}
+OfTable fails OutOfMemory = Unit {0}
+OfTable fails (Table fault) = fails fault

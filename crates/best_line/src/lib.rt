@@ -18,4 +18,4 @@ pub use fault::LineFault;
 pub use laws::values_are_so;
 pub use lines::line;
 pub use rows::list;
-pub use values::value;
+pub use values::{value, value_of};

@@ -1,9 +1,10 @@
 //! A best line: the winner wins as soon as he can, and the other side puts it off as long as it can.
-ghost use Rattle.std.specs.Prelude.{◌≡◌, ◌↔◌, ◌<◌, IfOk, OnOk, IfErr, Some, slice_get};
+ghost use Rattle.std.specs.Prelude.{◌≡◌, ◌↔◌, ◌<◌, IfOk, OnOk, IfErr, Err, Some, None, slice_get};
 ghost use Rattle.retrograde.specs.Stored.{IsTable, view_of};
 ghost use Rattle.retrograde.specs.Sound.{IsLocallySound};
 ghost use Rattle.best_line.specs.Lines.{IsBestLine, IsBestPlay};
-ghost use Rattle.best_line.specs.Causes.{IsCause};
+ghost use Rattle.best_line.specs.Causes.{IsCause, OfTable};
+ghost use Rattle.best_line.specs.declared.fault.LineFault.TheVariants.{NotSettled};
 
 use crate::answers::Value;
 use crate::fault::LineFault;
@@ -31,9 +32,12 @@ fn follow<M: MoveSource, T: Table>(
     ensures cause { T.is_honest table.old → IsLocallySound (M.graph source.now) (M.is_wide source.now) (T.stored table.old)
         → (view_of (T.stored table.old)).value number ≡ Some (winner, distance)
         → IfErr result (IsCause (view_of (T.stored table.old)) number) }
+    ensures settled { IfErr result (λ fault. ¬ (fault ≡ NotSettled)) }
     ensures same { T.is_honest table.old → T.stored table.new ≡ T.stored table.old }
     ensures honest { T.is_honest table.old ↔ T.is_honest table.new }
     ensures counts { T.counted table.new ≡ T.counted table.old }
+    ensures stays { T.stays table.old table.new }
+    ensures fault { IfErr result (OfTable (T.fails table.old table.new)) }
 {
     let mut numbers = Vec::new(alloc);
     numbers.push(number)?;
@@ -64,9 +68,12 @@ pub fn line<M: MoveSource, T: Table>(
     ensures begins { IfOk result (λ numbers. slice_get numbers.items 0 ≡ Some number) }
     ensures cause { T.is_honest table.old → IsLocallySound (M.graph source.now) (M.is_wide source.now) (T.stored table.old)
         → IfErr result (IsCause (view_of (T.stored table.old)) number) }
+    ensures settled { T.is_honest table.old → IsTable (T.stored table.old) → result ≡ Err NotSettled → (view_of (T.stored table.old)).value number ≡ None }
     ensures same { T.is_honest table.old → T.stored table.new ≡ T.stored table.old }
     ensures honest { T.is_honest table.old ↔ T.is_honest table.new }
     ensures counts { T.counted table.new ≡ T.counted table.old }
+    ensures stays { T.stays table.old table.new }
+    ensures fault { IfErr result (OfTable (T.fails table.old table.new)) }
 {
     match value(table, number)? {
         Value::Won(winner, distance) => follow(alloc, source, table, number, winner, distance),

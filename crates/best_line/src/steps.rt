@@ -4,6 +4,7 @@ ghost use Rattle.table.specs.Memory.{bytes_of_each};
 ghost use Rattle.retrograde.specs.View.{HasNumber, HasValue};
 ghost use Rattle.retrograde.specs.Stored.{IsTable, view_of};
 ghost use Rattle.best_line.specs.Lines.{IsFirstWon, IsBestStep, HasNoStep};
+ghost use Rattle.best_line.specs.Causes.{OfTable};
 ghost use Rattle.best_line.specs.declared.fault.LineFault.TheVariants.{NotSettled, Inconsistent, TooWide};
 
 use crate::fault::LineFault;
@@ -28,6 +29,8 @@ fn number_if_won<T: Table>(
     ensures same { T.is_honest table.old → T.stored table.new ≡ T.stored table.old }
     ensures honest { T.is_honest table.old ↔ T.is_honest table.new }
     ensures counts { T.counted table.new ≡ T.counted table.old }
+    ensures stays { T.stays table.old table.new }
+    ensures fault { IfErr result (T.fails table.old table.new) }
 {
     let Some(number) = table.number_of(position)? else {
         return Ok(None);
@@ -55,6 +58,8 @@ fn first_won<T: Table>(
     ensures same { T.is_honest table.old → T.stored table.new ≡ T.stored table.old }
     ensures honest { T.is_honest table.old ↔ T.is_honest table.new }
     ensures counts { T.counted table.new ≡ T.counted table.old }
+    ensures stays { T.stays table.old table.new }
+    ensures fault { IfErr result (T.fails table.old table.new) }
 {
     for position in positions {
         let found = number_if_won(table, position, winner, distance)?;
@@ -88,6 +93,8 @@ pub fn next_on_line<M: MoveSource, T: Table>(
     ensures same { T.is_honest table.old → T.stored table.new ≡ T.stored table.old }
     ensures honest { T.is_honest table.old ↔ T.is_honest table.new }
     ensures counts { T.counted table.new ≡ T.counted table.old }
+    ensures stays { T.stays table.old table.new }
+    ensures fault { IfErr result (OfTable (T.fails table.old table.new)) }
 {
     let packed = table.packed(number)?;
     let found = source.successors(alloc, &packed)?;

@@ -1,10 +1,11 @@
 //! The value of a position.
-ghost use Rattle.std.specs.Prelude.{◌≡◌, ◌↔◌, ◌<◌, true, IfOk, OnOk};
-ghost use Rattle.retrograde.specs.Stored.{IsTable, view_of};
+ghost use Rattle.std.specs.Prelude.{◌≡◌, ◌↔◌, ◌<◌, ℕ, List, true, IfOk, OnOk, IfErr};
+ghost use Rattle.retrograde.specs.Stored.{Stored, HasRecord, IsTable, view_of};
+ghost use Rattle.retrograde.specs.Changes.{counts_of};
 ghost use Rattle.best_line.specs.Values.{IsValue, IsUnsettled};
 
 use crate::answers::Value;
-use retrograde::Counts;
+use retrograde::{Counts, Record};
 use table::{Table, TableFault};
 
 /// The value of a position that is not settled, in a table with these counts: a draw where all that is known is
@@ -19,6 +20,17 @@ fn unsettled(counts: Counts) -> Value
     }
 }
 
+/// The value of a position that has this record, in a table with these counts.
+pub fn value_of(kept: Record, counts: Counts) -> Value
+    ensures { (stored : Stored (List ℕ)) (number : ℕ) → IsTable stored → HasRecord stored number kept → counts ≡ counts_of stored
+        → IsValue (view_of stored) number result }
+{
+    if let Some(winner) = kept.winner {
+        return Value::Won(winner, kept.distance);
+    }
+    unsettled(counts)
+}
+
 /// The value of a position by its number, which is below the count of known positions.
 ///
 /// A fault is the table's. The table stays as it was.
@@ -29,10 +41,9 @@ pub fn value<T: Table>(table: &mut T, number: u32) -> Result<Value, TableFault>
     ensures same { T.is_honest table.old → T.stored table.new ≡ T.stored table.old }
     ensures honest { T.is_honest table.old ↔ T.is_honest table.new }
     ensures counts { T.counted table.new ≡ T.counted table.old }
+    ensures stays { T.stays table.old table.new }
+    ensures fault { IfErr result (T.fails table.old table.new) }
 {
     let kept = table.record(number)?;
-    if let Some(winner) = kept.winner {
-        return Ok(Value::Won(winner, kept.distance));
-    }
-    Ok(unsettled(table.counts()))
+    Ok(value_of(kept, table.counts()))
 }

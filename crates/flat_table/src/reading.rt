@@ -1,5 +1,5 @@
 //! What the table of the last commit answers.
-ghost use Rattle.std.specs.Prelude.{◌≡◌, ◌<◌, ◌≤◌, ℕ, List, Some, None, IfOk, IfErr, IfSome, IfNone, slice_get};
+ghost use Rattle.std.specs.Prelude.{◌≡◌, ◌<◌, ◌≤◌, ℕ, List, Some, None, Err, IfOk, IfErr, IfSome, IfNone, slice_get};
 ghost use Rattle.retrograde.specs.Sound.{IsLocallySound};
 ghost use Rattle.retrograde.specs.Stored.{IsTable, view_of};
 ghost use Rattle.flat_file.specs.File.{kept_of};
@@ -7,7 +7,9 @@ ghost use Rattle.flat_file.specs.Held.{Kept};
 ghost use Rattle.best_line.specs.Values.{IsValue};
 ghost use Rattle.best_line.specs.Rows.{AreRows};
 ghost use Rattle.best_line.specs.Lines.{IsBestPlay};
-ghost use Rattle.best_line.specs.Causes.{IsCause};
+ghost use Rattle.best_line.specs.Causes.{IsCause, OfTable};
+ghost use Rattle.best_line.specs.declared.fault.LineFault.TheVariants.{NotSettled};
+ghost use Rattle.table.specs.declared.fault.TableFault.TheVariants.{OutOfMemory};
 ghost use Rattle.flat_table.specs.Reading.{known_in, IsReadOnly};
 
 use crate::{FlatTable, TableFile};
@@ -26,6 +28,7 @@ impl<D: SectorDisk> FlatTable<D> {
         ensures position { (kept : Kept) → kept_of (⟦<FlatTable<D> as TableFile>⟧.file self.old).game ≡ Some kept
             → IfOk result (λ packed. slice_get kept.table.positions number ≡ Some packed.items) }
         ensures same { IsReadOnly (⟦<FlatTable<D> as TableFile>⟧.file self.old) (⟦<FlatTable<D> as TableFile>⟧.file self.new) }
+        ensures memory { IfErr result (λ fault. fault ≡ OutOfMemory) }
     {
         match &mut self.game {
             Some(game) => game.table.packed(number),
@@ -40,6 +43,7 @@ impl<D: SectorDisk> FlatTable<D> {
         ensures unknown { (kept : Kept) → kept_of (⟦<FlatTable<D> as TableFile>⟧.file self.old).game ≡ Some kept
             → IfOk result (λ r. IfNone r ((i : ℕ) → slice_get kept.table.positions i ≡ Some packed.now.items → ⊥)) }
         ensures same { IsReadOnly (⟦<FlatTable<D> as TableFile>⟧.file self.old) (⟦<FlatTable<D> as TableFile>⟧.file self.new) }
+        ensures memory { IfErr result (λ fault. fault ≡ OutOfMemory) }
     {
         match &mut self.game {
             Some(game) => game.table.number_of(packed),
@@ -53,6 +57,7 @@ impl<D: SectorDisk> FlatTable<D> {
         ensures value { (kept : Kept) → kept_of (⟦<FlatTable<D> as TableFile>⟧.file self.old).game ≡ Some kept → IsTable kept.table
             → IfOk result (IsValue (view_of kept.table) number) }
         ensures same { IsReadOnly (⟦<FlatTable<D> as TableFile>⟧.file self.old) (⟦<FlatTable<D> as TableFile>⟧.file self.new) }
+        ensures memory { IfErr result (λ fault. fault ≡ OutOfMemory) }
     {
         match &mut self.game {
             Some(game) => best_line::value(&mut game.table, number),
@@ -68,6 +73,7 @@ impl<D: SectorDisk> FlatTable<D> {
         ensures rows { (kept : Kept) → kept_of (⟦<FlatTable<D> as TableFile>⟧.file self.old).game ≡ Some kept → IsTable kept.table
             → IfOk result (λ rows. AreRows (view_of kept.table) from count rows.items) }
         ensures same { IsReadOnly (⟦<FlatTable<D> as TableFile>⟧.file self.old) (⟦<FlatTable<D> as TableFile>⟧.file self.new) }
+        ensures memory { IfErr result (λ fault. fault ≡ OutOfMemory) }
     {
         match &mut self.game {
             Some(game) => best_line::list(self.alloc, &mut game.table, from, count),
@@ -85,7 +91,10 @@ impl<D: SectorDisk> FlatTable<D> {
         ensures cause { (kept : Kept) → kept_of (⟦<FlatTable<D> as TableFile>⟧.file self.old).game ≡ Some kept
             → IsLocallySound (M.graph source.now) (M.is_wide source.now) kept.table
             → IfErr result (IsCause (view_of kept.table) number) }
+        ensures settled { (kept : Kept) → kept_of (⟦<FlatTable<D> as TableFile>⟧.file self.old).game ≡ Some kept → IsTable kept.table
+            → result ≡ Err NotSettled → (view_of kept.table).value number ≡ None }
         ensures same { IsReadOnly (⟦<FlatTable<D> as TableFile>⟧.file self.old) (⟦<FlatTable<D> as TableFile>⟧.file self.new) }
+        ensures memory { IfErr result (OfTable (λ fault. fault ≡ OutOfMemory)) }
     {
         match &mut self.game {
             Some(game) => best_line::line(self.alloc, source, &mut game.table, number),

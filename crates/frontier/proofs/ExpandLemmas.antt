@@ -10,7 +10,7 @@ use Rattle.rbg_game.specs.declared.roles.Player.{Player}
 use Rattle.rbg_game.specs.declared.roles.Role.{Role}
 use Rattle.retrograde.specs.Graph.{Graph, IsReachable}
 use Rattle.retrograde.specs.Values.{Drawn}
-use Rattle.retrograde.specs.View.{HasNumber, IsKnown, IsFinished}
+use Rattle.retrograde.specs.View.{IsFinished}
 use Rattle.retrograde.specs.Right.{IsRight}
 use Rattle.retrograde.specs.declared.records.Record.{Record}
 use Rattle.retrograde.specs.Stored.{Stored, view_of, is_settled, expanded_count, settled_count}
@@ -27,6 +27,8 @@ use Rattle.retrograde.proofs.Finished.{draws, reach_is_known, element, none_or_s
 use Rattle.retrograde.proofs.Noting.{Grew, are_noted_grew, unsettled}
 use Rattle.retrograde.proofs.Settling.{count_less}
 use Rattle.retrograde.proofs.Sound.{sound_right}
+use Rattle.frontier.specs.Done.{IsUnitDone}
+use Rattle.frontier.proofs.DoneLemmas.{unit_done}
 
 sorted_pairs : {P : Type 0} (cmp : P → P → Ordering) (xs : List P) → AllPairs (λ x y. cmp x y ≡ Less) xs → IsStrictlySortedBy cmp xs
 sorted_pairs cmp [] pairs = sorted_none cmp
@@ -46,12 +48,8 @@ module _ (graph : Graph (List ℕ)) (IsWide : List ℕ → Type 0) (old new : St
   -- what the unit has done, and what is so then
   pub record IsDone : Type 0 where
     pub expands : (x : List ℕ) × (ys : List (List ℕ)) × Expands packed_cmp graph old new x ys
-    pub sound : IsLocallySound graph IsWide new
-    pub step : UnitsOfWork packed_cmp graph IsWide (2 ^ 24) (view_of old) 1 (view_of new)
-    pub right : IsRight graph (view_of new)
+    pub done : IsUnitDone graph IsWide old new
     pub last : expanded_count new ≡ length new.positions → new.order ≡ [] → IsFinished (view_of new) × ((x : List ℕ) → IsReachable graph x → Drawn graph x)
-    pub reached : IsFinished (view_of new) → (x : List ℕ) → IsKnown (view_of new) x ↔ IsReachable graph x
-    pub drawn : IsFinished (view_of new) → (i : ℕ) (x : List ℕ) → HasNumber (view_of new) i x → ((view_of new).value i ≡ None) ↔ Drawn graph x
 
   -- where nothing is in the order, nothing is settled
   none_settled : IsLocallySound graph IsWide new → new.order ≡ [] → (i : ℕ) → IsSome ((view_of new).value i) → ⊥
@@ -96,7 +94,6 @@ module _ (graph : Graph (List ℕ)) (IsWide : List ℕ → Type 0) (old new : St
       let now_sound : IsLocallySound graph IsWide new =
       subst (λ (t : Stored (List ℕ)). IsLocallySound graph IsWide t) back
       (expanded_sound packed_cmp nat_list_cmp_total graph IsWide old sound x number' ys list forced next noted' narrow) in
-      let now_right : IsRight graph (view_of new) = sound_right graph IsWide new now_sound in
       record {
         expands = (
           x,
@@ -104,14 +101,11 @@ module _ (graph : Graph (List ℕ)) (IsWide : List ℕ → Type 0) (old new : St
           subst (λ (t : Stored (List ℕ)). Expands packed_cmp graph old t x ys) back
               (expands packed_cmp nat_list_cmp_total graph IsWide old sound x number' ys list forced next noted' narrow),
         );
-        sound = now_sound;
-        step = subst (λ (t : Stored (List ℕ)). UnitsOfWork packed_cmp graph IsWide (2 ^ 24) (view_of old) 1 (view_of t)) back
+        done = unit_done graph IsWide old new now_sound
+            (subst (λ (t : Stored (List ℕ)). UnitsOfWork packed_cmp graph IsWide (2 ^ 24) (view_of old) 1 (view_of t)) back
             (expanded_works packed_cmp nat_list_cmp_total graph IsWide (2 ^ 24) old sound x number' ys list forced next noted' narrow
-            (subst (λ (t : Stored (List ℕ)). length t.positions ≤ 2 ^ 24) is' room));
-        right = now_right;
+            (subst (λ (t : Stored (List ℕ)). length t.positions ≤ 2 ^ 24) is' room)));
         last = ends now_sound;
-        reached = λ finished x. (now_right.moves.reached x, reach_is_known graph (view_of new) now_right finished x);
-        drawn = λ finished i x number. draws graph (view_of new) now_right finished i x number;
       }
 
 -- while a position waits, the settled order has room

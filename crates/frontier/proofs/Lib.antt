@@ -1,3 +1,4 @@
 pub mod NumberLemmas
 pub mod NotedLemmas
+pub mod DoneLemmas
 pub mod ExpandLemmas

@@ -6,6 +6,7 @@ use Rattle.retrograde.specs.Graph.{Graph}
 use Rattle.retrograde.specs.Stored.{Stored, expanded_count}
 use Rattle.retrograde.specs.Successors.{packed_cmp}
 use Rattle.retrograde.specs.Expands.{IsChoice, IsTooMany}
+use Rattle.table.specs.declared.fault.TableFault.{TableFault}
 use Rattle.frontier.specs.declared.fault.StepFault.{StepFault}
 use Rattle.frontier.specs.declared.fault.StepFault.TheVariants.{TooWide, KeeperChooses, TooManyPositions, Inconsistent, OutOfMemory, Table}
 
@@ -22,6 +23,15 @@ IsRefusal TooManyPositions = Unit {0}
 IsRefusal Inconsistent = ⊥
 IsRefusal OutOfMemory = ⊥
 IsRefusal (Table fault) = ⊥
+
+-- what a unit that is not done leaves, and why: of its own fault the table says both, and after another it has gone on
+abbrev pub Leaves : Type 0 → (TableFault → Type 0) → StepFault → Type 0
+Leaves ahead fails TooWide = ahead
+Leaves ahead fails (KeeperChooses number) = ahead
+Leaves ahead fails TooManyPositions = ahead
+Leaves ahead fails Inconsistent = ahead
+Leaves ahead fails OutOfMemory = ahead
+Leaves ahead fails (Table fault) = fails fault
 
 -- why x, which has this number, is not expanded: a search that is too wide before a choice of the keeper's, and that
 -- before the limit of positions

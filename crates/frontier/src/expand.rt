@@ -4,14 +4,13 @@ ghost use Rattle.rbg_game.specs.declared.roles.Role.{Role};
 ghost use Rattle.legal_moves.specs.Listed.{ListsExactly};
 ghost use Rattle.retrograde.specs.Graph.{IsReachable};
 ghost use Rattle.retrograde.specs.Values.{Drawn};
-ghost use Rattle.retrograde.specs.View.{IsKnown, HasNumber, IsFinished};
-ghost use Rattle.retrograde.specs.Right.{IsRight};
+ghost use Rattle.retrograde.specs.View.{IsFinished};
 ghost use Rattle.retrograde.specs.Stored.{view_of, expanded_count};
 ghost use Rattle.retrograde.specs.Sound.{IsLocallySound};
 ghost use Rattle.retrograde.specs.Successors.{packed_cmp};
-ghost use Rattle.retrograde.specs.Units.{UnitsOfWork};
 ghost use Rattle.retrograde.specs.Expands.{Expands};
-ghost use Rattle.frontier.specs.Causes.{HasCause, IsRefusal};
+ghost use Rattle.frontier.specs.Causes.{HasCause, IsRefusal, Leaves};
+ghost use Rattle.frontier.specs.Done.{IsUnitDone};
 ghost use Rattle.frontier.specs.declared.fault.StepFault.TheVariants.{TooWide, Inconsistent, OutOfMemory};
 
 use crate::fault::StepFault;
@@ -74,27 +73,18 @@ pub fn expand_one<M: MoveSource, T: Table>(
         × Expands packed_cmp (M.graph source.now) (T.stored table.old) (T.stored table.new) x ys) }
     ensures more { T.is_honest table.old → IfOk result (λ more.
         length (T.stored table.new).positions ≡ length (T.stored table.old).positions + more) }
-    ensures sound { T.is_honest table.old → IsLocallySound (M.graph source.now) (M.is_wide source.now) (T.stored table.old)
-        → OnOk result (IsLocallySound (M.graph source.now) (M.is_wide source.now) (T.stored table.new)) }
-    ensures step { T.is_honest table.old → IsLocallySound (M.graph source.now) (M.is_wide source.now) (T.stored table.old)
-        → OnOk result (UnitsOfWork packed_cmp (M.graph source.now) (M.is_wide source.now) (2 ^ 24) (view_of (T.stored table.old)) 1 (view_of (T.stored table.new))) }
-    ensures right { T.is_honest table.old → IsLocallySound (M.graph source.now) (M.is_wide source.now) (T.stored table.old)
-        → OnOk result (IsRight (M.graph source.now) (view_of (T.stored table.new))) }
+    ensures done { T.is_honest table.old → IsLocallySound (M.graph source.now) (M.is_wide source.now) (T.stored table.old)
+        → OnOk result (IsUnitDone (M.graph source.now) (M.is_wide source.now) (T.stored table.old) (T.stored table.new)) }
     ensures last { T.is_honest table.old → IsLocallySound (M.graph source.now) (M.is_wide source.now) (T.stored table.old)
         → OnOk result (expanded_count (T.stored table.new) ≡ length (T.stored table.new).positions → (T.stored table.new).order ≡ []
         → IsFinished (view_of (T.stored table.new)) × ((x : List ℕ) → IsReachable (M.graph source.now) x → Drawn (M.graph source.now) x)) }
-    ensures reached { T.is_honest table.old → IsLocallySound (M.graph source.now) (M.is_wide source.now) (T.stored table.old)
-        → OnOk result (IsFinished (view_of (T.stored table.new))
-        → (x : List ℕ) → IsKnown (view_of (T.stored table.new)) x ↔ IsReachable (M.graph source.now) x) }
-    ensures drawn { T.is_honest table.old → IsLocallySound (M.graph source.now) (M.is_wide source.now) (T.stored table.old)
-        → OnOk result (IsFinished (view_of (T.stored table.new))
-        → (i : ℕ) (x : List ℕ) → HasNumber (view_of (T.stored table.new)) i x
-        → ((view_of (T.stored table.new)).value i ≡ None) ↔ Drawn (M.graph source.now) x) }
     ensures cause { T.is_honest table.old → IfErr result (HasCause (M.graph source.now) (M.is_wide source.now) (T.stored table.old)) }
     ensures unchanged { T.is_honest table.old → IfErr result (λ fault. IsRefusal fault
         → T.is_honest table.new × (T.stored table.new ≡ T.stored table.old)) }
     ensures consistent { T.is_honest table.old → IsLocallySound (M.graph source.now) (M.is_wide source.now) (T.stored table.old)
         → result ≡ Err Inconsistent → ⊥ }
+    ensures ahead { OnOk result (T.goes_on table.old table.new) }
+    ensures left { IfErr result (Leaves (T.goes_on table.old table.new) (T.fails table.old table.new)) }
 {
     let before = table.counts();
     let number = before.expanded;

@@ -1,7 +1,7 @@
 //! The record of an expanded position.
 ghost use Rattle.std.specs.Prelude.{◌≡◌, ◌↔◌, ◌<◌, ◌≤◌, OnOk, IfErr, Err, Some, length};
 ghost use Rattle.retrograde.specs.Expansion.{with_ended, with_expanded};
-ghost use Rattle.frontier.specs.Causes.{IsRefusal};
+ghost use Rattle.frontier.specs.Causes.{IsRefusal, Leaves};
 ghost use Rattle.frontier.specs.declared.fault.StepFault.TheVariants.{Inconsistent};
 
 use crate::fault::StepFault;
@@ -17,6 +17,8 @@ fn end<T: Table>(table: &mut T, number: u32, winner: Player) -> Result<(), StepF
     ensures known { OnOk result ((T.counted table.new).known ≡ (T.counted table.old).known) }
     ensures full { T.is_honest table.old → result ≡ Err Inconsistent → length (T.stored table.old).positions ≤ length (T.stored table.old).order }
     ensures goes_on { IfErr result (λ fault. ¬ IsRefusal fault) }
+    ensures ahead { OnOk result (T.goes_on table.old table.new) }
+    ensures left { IfErr result (Leaves (T.goes_on table.old table.new) (T.fails table.old table.new)) }
 {
     let kept = Record {
         state: State::Settled,
@@ -47,6 +49,8 @@ pub fn finish<T: Table>(
     ensures known { OnOk result ((T.counted table.new).known ≡ (T.counted table.old).known) }
     ensures full { T.is_honest table.old → result ≡ Err Inconsistent → length (T.stored table.old).positions ≤ length (T.stored table.old).order }
     ensures goes_on { IfErr result (λ fault. ¬ IsRefusal fault) }
+    ensures ahead { OnOk result (T.goes_on table.old table.new) }
+    ensures left { IfErr result (Leaves (T.goes_on table.old table.new) (T.fails table.old table.new)) }
 {
     match (successors, ahead) {
         (0, Some(winner)) => end(table, number, winner),

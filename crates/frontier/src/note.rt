@@ -5,7 +5,7 @@ ghost use Rattle.table.specs.Memory.{bytes_of_each};
 ghost use Rattle.retrograde.specs.Changes.{with_position, with_edge};
 ghost use Rattle.retrograde.specs.Expansion.{AreNoted};
 ghost use Rattle.retrograde.specs.Successors.{packed_cmp};
-ghost use Rattle.frontier.specs.Causes.{IsRefusal};
+ghost use Rattle.frontier.specs.Causes.{IsRefusal, Leaves};
 ghost use Rattle.frontier.specs.declared.fault.StepFault.TheVariants.{Inconsistent};
 ghost use Rattle.frontier.specs.Numbering.{AreNumbersOf};
 
@@ -33,6 +33,8 @@ fn note<T: Table>(
     ensures room { OnOk result ((T.counted table.old).known ≤ 2 ^ 24 → (T.counted table.new).known ≤ 2 ^ 24) }
     ensures goes_on { IfErr result (λ fault. ¬ IsRefusal fault) }
     ensures consistent { result ≡ Err Inconsistent → ⊥ }
+    ensures ahead { OnOk result (T.goes_on table.old table.new) }
+    ensures left { IfErr result (Leaves (T.goes_on table.old table.new) (T.fails table.old table.new)) }
 {
     let mut noted = number;
     if number >= table.counts().known {
@@ -61,6 +63,8 @@ pub fn note_all<T: Table>(
     ensures room { OnOk result ((T.counted table.old).known ≤ 2 ^ 24 → (T.counted table.new).known ≤ 2 ^ 24) }
     ensures goes_on { IfErr result (λ fault. ¬ IsRefusal fault) }
     ensures consistent { result ≡ Err Inconsistent → ⊥ }
+    ensures ahead { OnOk result (T.goes_on table.old table.new) }
+    ensures left { IfErr result (Leaves (T.goes_on table.old table.new) (T.fails table.old table.new)) }
 {
     for i in 0..successors.len() {
         note(table, predecessor, numbers[i], &successors[i])?;

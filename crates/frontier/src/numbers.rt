@@ -1,7 +1,7 @@
 //! The numbers of the successors.
 ghost use Rattle.std.specs.Prelude.{◌≡◌, ◌↔◌, ◌+◌, ◌^◌, ◌<◌, ◌≤◌, ◌⊎◌, ℕ, suc, All, IfOk, OnOk, IfErr, Err, length, slice_get, Some};
 ghost use Rattle.table.specs.Memory.{bytes_of_each};
-ghost use Rattle.frontier.specs.Causes.{IsRefusal};
+ghost use Rattle.frontier.specs.Causes.{IsRefusal, Leaves};
 ghost use Rattle.frontier.specs.declared.fault.StepFault.TheVariants.{Inconsistent};
 ghost use Rattle.frontier.specs.Numbering.{AreNumbersOf};
 
@@ -33,6 +33,8 @@ fn number_or_next<T: Table>(table: &mut T, position: &Packed, next: u32) -> Resu
     ensures counts { OnOk result (T.counted table.new ≡ T.counted table.old) }
     ensures goes_on { IfErr result (λ fault. ¬ IsRefusal fault) }
     ensures consistent { result ≡ Err Inconsistent → ⊥ }
+    ensures stays { T.stays table.old table.new }
+    ensures left { IfErr result (Leaves (T.goes_on table.old table.new) (T.fails table.old table.new)) }
 {
     Ok(table.number_of(position)?.unwrap_or(next))
 }
@@ -55,6 +57,8 @@ pub fn numbers_of<T: Table>(
     ensures counts { OnOk result (T.counted table.new ≡ T.counted table.old) }
     ensures goes_on { IfErr result (λ fault. ¬ IsRefusal fault) }
     ensures consistent { result ≡ Err Inconsistent → ⊥ }
+    ensures stays { T.stays table.old table.new }
+    ensures left { IfErr result (Leaves (T.goes_on table.old table.new) (T.fails table.old table.new)) }
 {
     let mut next = table.counts().known;
     let mut each = Vec::new(alloc);

@@ -1,5 +1,6 @@
 -- What is packed as a game's positions are is the bytes of its positions.
-use Rattle.std.proofs.Common.{◌≡◌, ◌↔◌, ◌+◌, ◌<◌, ◌≤◌, inl, inr, Bool, true, ℕ, Option, Some, option_map, unwrap_or, List, [], length, slice_get, get_or, sym, ◌∙◌, ap, subst, arith}
+use Rattle.std.proofs.Common.{◌≡◌, ◌↔◌, ◌+◌, ◌<◌, ◌≤◌, inl, inr, Bool, true, ℕ, Option, Some, option_map, unwrap_or, List, [], length, slice_get, get_or, refl, sym, ◌∙◌, ap, subst, arith}
+use Rattle.std.specs.Prelude.{Result, Ok, Err, IfOk}
 use Rattle.std.proofs.lemmas.Bool.{cases_lt}
 use Rattle.std.proofs.lemmas.List.{length-map}
 use Rattle.std.proofs.lemmas.Option.{slice_get-map, slice_get-get_or, slice_get_within}
@@ -19,6 +20,12 @@ positions_by_packed game shape stored packed are same bytes h = (
   (λ positions. h.1 (λ i x number.
       let (at, here) = positions i x (subst (λ (xs : List (List ℕ)). slice_get xs i ≡ Some x) bytes number) in (at, packed_by_at game shape x at same here))),
 )
+
+-- the same of an answer that may not be given
+pub positions_if_packed : {E : Type 0} (game : Game) (shape : Shape) (stored : Stored (List ℕ)) (answer : Result Bool E) → shape ≡ shape_of game
+    → IfOk answer (λ are. (are ≡ true) ↔ ArePacked shape stored.positions) → IfOk answer (λ are. (are ≡ true) ↔ ArePositions game stored)
+positions_if_packed game shape stored (Ok are) same h = positions_by_packed game shape stored stored.positions are same refl h
+positions_if_packed game shape stored (Err fault) same h = tt
 
 module _ (shape : Shape) (positions : List (ArrayVec ℕ)) (index : ℕ) (d at : ArrayVec ℕ) (within : index < length positions) (is : at ≡ get_or positions index d) where
   -- the bytes of the position with this number
@@ -45,3 +52,15 @@ pub packed_all : (shape : Shape) (positions : List (ArrayVec ℕ)) (index : ℕ)
     → ((i : ℕ) (x : List ℕ) → i < index → slice_get (bytes_of_each positions) i ≡ Some x → IsPackedBytes shape x) → ArePacked shape (bytes_of_each positions)
 packed_all shape positions index past before = λ i x number.
     before i x (omega (arith, past, slice_get_within (bytes_of_each positions) i x number, length-map positions (λ (p : ArrayVec ℕ). p.items))) number
+
+-- one more of a table's positions is packed
+pub packed_next : (shape : Shape) (positions : List (List ℕ)) (index : ℕ) (at : List ℕ) → slice_get positions index ≡ Some at → IsPackedBytes shape at
+    → ((i : ℕ) (x : List ℕ) → i < index → slice_get positions i ≡ Some x → IsPackedBytes shape x)
+    → (i : ℕ) (x : List ℕ) → i < index + 1 → slice_get positions i ≡ Some x → IsPackedBytes shape x
+packed_next shape positions index at is here before i x less number = elim (cases_lt i index) [
+  | inl below ↦ before i x below number
+  | inr past ↦
+      let same : i ≡ index = omega (arith, past, less) in
+      let found : Some at ≡ Some x = sym is ∙ ap (λ (k : ℕ). slice_get positions k) (sym same) ∙ number in
+      subst (λ (bytes : List ℕ). IsPackedBytes shape bytes) (ap (λ (o : Option (List ℕ)). unwrap_or o []) found) here
+]

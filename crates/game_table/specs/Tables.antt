@@ -1,14 +1,12 @@
 -- When a table is one of a game, and what units of work on it come to.
-use Rattle.std.specs.Prelude.{◌≡◌, ℕ, ◌+◌, ◌*◌, ◌<◌, ◌⊎◌, List, length, slice_get, Some}
+use Rattle.std.specs.Prelude.{◌≡◌, ℕ, ◌+◌, ◌*◌, List, length, slice_get, Some}
 use Rattle.rbg_game.specs.Games.{Game}
 use Rattle.rbg_game.specs.declared.position.Position.{Position}
 use Rattle.position_pack.specs.Shape.{Shape}
 use Rattle.position_pack.specs.Bytes.{IsPacked}
 use Rattle.legal_moves.specs.Sources.{IsPositionBytes, IsWideAt, graph_of}
-use Rattle.retrograde.specs.Stored.{Stored, view_of}
-use Rattle.retrograde.specs.View.{IsFinished}
-use Rattle.retrograde.specs.Sound.{IsLocallySound}
-use Rattle.table_work.specs.Work.{Works}
+use Rattle.retrograde.specs.Stored.{Stored}
+use Rattle.table_work.specs.Work.{AreDone}
 
 -- each stored position is the bytes of a position of the game
 abbrev pub ArePositions : Game → Stored (List ℕ) → Type 0
@@ -27,7 +25,5 @@ abbrev pub packed_length : Game → ℕ
 packed_length game = length game.vertices + 3 * length game.variables + 4
 
 -- so many units were asked of the old table and these done, all or to its end, and the new one agrees with itself
-pub record IsWorkOf (game : Game) (units : ℕ) (old : Stored (List ℕ)) (done : ℕ) (new : Stored (List ℕ)) : Type 0 where
-  pub works : Works (graph_of game) (IsWideAt game) old done new
-  pub all : (done ≡ units) ⊎ ((done < units) × IsFinished (view_of new))
-  pub sound : IsLocallySound (graph_of game) (IsWideAt game) new
+abbrev pub IsWorkOf : Game → ℕ → Stored (List ℕ) → ℕ → Stored (List ℕ) → Type 0
+IsWorkOf game units old done new = AreDone (graph_of game) (IsWideAt game) units old done new

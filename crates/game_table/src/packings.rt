@@ -1,9 +1,10 @@
 //! Whether what a table stores are positions.
-ghost use Rattle.std.specs.Prelude.{◌≡◌, ◌↔◌, true};
+ghost use Rattle.std.specs.Prelude.{◌≡◌, ◌↔◌, true, IfOk, IfErr};
 ghost use Rattle.table.specs.Memory.{bytes_of_each};
 ghost use Rattle.game_table.specs.Tables.{IsPackedBytes, ArePacked};
 
 use position_pack::{Packed, Packing};
+use table::{Table, TableFault};
 
 /// Whether each of these is a position of this packing.
 pub fn are_packed(packing: &Packing, positions: &[Packed]) -> bool
@@ -15,6 +16,24 @@ pub fn are_packed(packing: &Packing, positions: &[Packed]) -> bool
         }
     }
     true
+}
+
+/// Whether each position of a table is one of this packing. The table stays as it was.
+pub fn are_packed_in<T: Table>(packing: &Packing, table: &mut T) -> Result<bool, TableFault>
+    ensures are { T.is_honest table.old → IfOk result (λ are. (are ≡ true) ↔ ArePacked packing.now (T.stored table.old).positions) }
+    ensures same { T.is_honest table.old → T.stored table.new ≡ T.stored table.old }
+    ensures honest { T.is_honest table.old ↔ T.is_honest table.new }
+    ensures counts { T.counted table.new ≡ T.counted table.old }
+    ensures stays { T.stays table.old table.new }
+    ensures fault { IfErr result (T.fails table.old table.new) }
+{
+    for number in 0..table.counts().known {
+        let position = table.packed(number)?;
+        if !is_packed(packing, &position) {
+            return Ok(false);
+        }
+    }
+    Ok(true)
 }
 
 /// Whether this is a position of this packing.

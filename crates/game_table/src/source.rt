@@ -10,10 +10,11 @@ ghost use Rattle.legal_moves.specs.Sources.{IsPositionBytes, IsWideAt, graph_of}
 ghost use Rattle.legal_moves.specs.Compiled.{compiled_game};
 ghost use Rattle.retrograde.specs.Sound.{IsLocallySound};
 ghost use Rattle.table.specs.InMemory.{stored_in};
+ghost use Rattle.frontier.specs.Causes.{Leaves};
 ghost use Rattle.table_work.specs.Work.{StopsWith};
 ghost use Rattle.game_table.specs.Tables.{ArePositions, packed_length, IsWorkOf};
 
-use crate::packings::are_packed;
+use crate::packings::{are_packed, are_packed_in};
 use legal_moves::{Compiled, MoveSource};
 use position_pack::{Packed, Packing};
 use rbg_game::game::Game;
@@ -21,7 +22,7 @@ use rbg_read::fault::GameFault;
 use rbg_read::read::read_game;
 use std::alloc::Global;
 use std::marker::Model;
-use table::MemTable;
+use table::{MemTable, Table, TableFault};
 use table_work::StepFault;
 
 /// A game made ready for the search for moves.
@@ -95,20 +96,37 @@ impl Source {
         are_packed(&packing, table.positions())
     }
 
+    /// Whether each position of a table is one of the game, read one by one. The table stays as it was.
+    pub fn are_all_positions<T: Table>(&self, table: &mut T) -> Result<bool, TableFault>
+        ensures are { T.is_honest table.old → IfOk result (λ are. (are ≡ true) ↔ ArePositions (compiled_game self.now) (T.stored table.old)) }
+        ensures same { T.is_honest table.old → T.stored table.new ≡ T.stored table.old }
+        ensures honest { T.is_honest table.old ↔ T.is_honest table.new }
+        ensures counts { T.counted table.new ≡ T.counted table.old }
+        ensures stays { T.stays table.old table.new }
+        ensures fault { IfErr result (T.fails table.old table.new) }
+    {
+        let packing = Packing::new(self.compiled.game());
+        are_packed_in(&packing, table)
+    }
+
     /// Does so many units of work on a table of the game, or fewer where the table is finished by then, and answers how
-    /// many. After an error the caller gives the table up.
+    /// many. It is asked of a table within the limit of 16,777,216 positions. After an error the caller gives the table up.
     ///
-    /// Of a table that does not agree with itself nothing is said but that it stays within the limit of 16,777,216
-    /// positions; `Inconsistent` comes of such a table alone.
-    pub fn work(&self, alloc: Global, table: &mut MemTable, units: u32) -> Result<u32, StepFault>
-        ensures limit { OnOk result (length (stored_in table.new).positions ≤ 2 ^ 24) }
+    /// Of a table that does not agree with itself nothing is said but that it stays within the limit, and what is left of a
+    /// device under it; `Inconsistent` comes of such a table alone.
+    pub fn work<T: Table>(&self, alloc: Global, table: &mut T, units: u32) -> Result<u32, StepFault>
+        requires { (T.counted table.old).known ≤ 2 ^ 24 }
+        ensures limit { OnOk result ((T.counted table.new).known ≤ 2 ^ 24) }
+        ensures honest { OnOk result (T.is_honest table.old ↔ T.is_honest table.new) }
         ensures idle { IfOk result (λ done. done ≡ 0 → table.new ≡ table.old) }
-        ensures works { IsLocallySound (graph_of (compiled_game self.now)) (IsWideAt (compiled_game self.now)) (stored_in table.old)
-            → IfOk result (λ done. IsWorkOf (compiled_game self.now) units (stored_in table.old) done (stored_in table.new)) }
-        ensures cause { IsLocallySound (graph_of (compiled_game self.now)) (IsWideAt (compiled_game self.now)) (stored_in table.old)
-            → IfErr result (StopsWith (graph_of (compiled_game self.now)) (IsWideAt (compiled_game self.now)) (stored_in table.old) units) }
-        ensures consistent { IsLocallySound (graph_of (compiled_game self.now)) (IsWideAt (compiled_game self.now)) (stored_in table.old)
+        ensures works { T.is_honest table.old → IsLocallySound (graph_of (compiled_game self.now)) (IsWideAt (compiled_game self.now)) (T.stored table.old)
+            → IfOk result (λ done. IsWorkOf (compiled_game self.now) units (T.stored table.old) done (T.stored table.new)) }
+        ensures cause { T.is_honest table.old → IsLocallySound (graph_of (compiled_game self.now)) (IsWideAt (compiled_game self.now)) (T.stored table.old)
+            → IfErr result (StopsWith (graph_of (compiled_game self.now)) (IsWideAt (compiled_game self.now)) (T.stored table.old) units) }
+        ensures consistent { T.is_honest table.old → IsLocallySound (graph_of (compiled_game self.now)) (IsWideAt (compiled_game self.now)) (T.stored table.old)
             → result ≡ Err StepFault.Inconsistent → ⊥ }
+        ensures ahead { OnOk result (T.goes_on table.old table.new) }
+        ensures left { IfErr result (Leaves (T.goes_on table.old table.new) (T.fails table.old table.new)) }
     {
         table_work::work(alloc, &self.compiled, table, units)
     }

@@ -44,7 +44,7 @@ module _ (text start : List ℕ) (game : Game) (reads : Reads text game) (start_
 
   pub loaded_done : GoesOn old.store.disk new.store.disk → IsPut (kept_as text (loaded start)) old new → IsDone (load text) loaded_it (state_of old) (state_of new)
   loaded_done goes_on put = record {
-    step = record { none = none; game = game; reads = reads; is = put.kept ∙ ap (λ (s : List ℕ). Some (kept_as text (loaded s))) start_is };
+    step = λ honest. record { none = none; game = game; reads = reads; is = put.kept ∙ ap (λ (s : List ℕ). Some (kept_as text (loaded s))) start_is };
     stops = put_stops (kept_as text (loaded start)) old new goes_on put;
   }
 
@@ -66,9 +66,9 @@ module _ (text start : List ℕ) (game : Game) (reads : Reads text game) (start_
       → PutCause (kept_as text (loaded start)) (length start) old.store new.store fault → (fault ≢ file.Disk → new.store.closed ≡ old.store.closed)
       → IsRefused (load text) (state_of old) (state_of new) (file_fault fault)
   loaded_refused fault it is_open long left cause still = record {
-    step = (ap kept_of left.game, load_cause fault it is_open long cause);
+    step = ((λ honest. ap kept_of left.game), load_cause fault it is_open long cause);
     stops = record {
-      same = ap kept_of left.game;
+      same = λ honest. ap kept_of left.game;
       since = left.leaves;
       failed = λ honest was is. (Some (kept_as text (loaded start)), loads, left.either honest was);
     };

@@ -41,13 +41,13 @@ what_follows_is_sound (work units) old new (done, counts, works) sound =
     (game, subst (λ (text : List ℕ). Reads text game) (sym works.works.same_text) is_read, (works.works.work game is_read here).sound)
 
 -- a step is done or leaves the table
-step_follows : (command : Command) (reply : Reply) (was is : State) → Step command was reply is → MayFollow command was.kept is.kept ⊎ (is.kept ≡ was.kept)
-step_follows (load text) loaded_it was is step = inl step
-step_follows (load text) (worked done counts) was is step = absurd step
-step_follows (load text) (refused fault) was is step = inr step.0
-step_follows (work units) loaded_it was is step = absurd step
-step_follows (work units) (worked done counts) was is step = inl (done, counts, step)
-step_follows (work units) (refused fault) was is step = inr step.0
+step_follows : (command : Command) (reply : Reply) (was is : State) → IsTrue was.disk.honest → Step command was reply is → MayFollow command was.kept is.kept ⊎ (is.kept ≡ was.kept)
+step_follows (load text) loaded_it was is honest step = inl (step honest)
+step_follows (load text) (worked done counts) was is honest step = absurd step
+step_follows (load text) (refused fault) was is honest step = inr (step.0 honest)
+step_follows (work units) loaded_it was is honest step = absurd step
+step_follows (work units) (worked done counts) was is honest step = inl (done, counts, step honest)
+step_follows (work units) (refused fault) was is honest step = inr (step.0 honest)
 
 step_sound : (command : Command) (old new : Option Kept) → MayFollow command old new ⊎ (new ≡ old) → IsSound old → IsSound new
 step_sound command old new (inl follows) sound = what_follows_is_sound command old new follows sound
@@ -84,20 +84,20 @@ either command commands old new picture follows sound (inr stores) = one_done co
 
 module _ (is : State) (honest : IsTrue is.disk.honest) where
   -- the table that a stop at this moment leaves
-  pub left_by : (commands : List Command) (replies : List Reply) (was : State) → Turns is.disk commands replies was is → was.closed ≡ false → IsSound was.kept
+  pub left_by : (commands : List Command) (replies : List Reply) (was : State) → IsTrue was.disk.honest → Turns is.disk commands replies was is → was.closed ≡ false → IsSound was.kept
       → LeavesAt is.disk was.disk.clock was.kept → LeavesAPrefix commands was is
-  left_by [] [] was same is_open sound begins moment picture from to left =
+  left_by [] [] was was_honest same is_open sound begins moment picture from to left =
       let clock : is.disk.clock ≡ was.disk.clock = ap (λ (s : State). s.disk.clock) same in
       let now : moment ≡ was.disk.clock = omega (arith, from, to, clock) in
       none_yet [] was.kept picture sound (begins picture (subst (λ (k : ℕ). MayLeave (is.disk.was k) picture) now left))
-  left_by [] (reply ∷ replies) was none is_open sound begins moment picture from to left = absurd none
-  left_by (command ∷ commands) [] was none is_open sound begins moment picture from to left = absurd none
-  left_by (command ∷ commands) (reply ∷ replies) was (mid, turn, rest) is_open sound begins moment picture from to left =
+  left_by [] (reply ∷ replies) was was_honest none is_open sound begins moment picture from to left = absurd none
+  left_by (command ∷ commands) [] was was_honest none is_open sound begins moment picture from to left = absurd none
+  left_by (command ∷ commands) (reply ∷ replies) was was_honest (mid, turn, rest) is_open sound begins moment picture from to left =
       by mid.closed refl
-      (λ open_. left_by commands replies mid rest open_ (step_sound command was.kept mid.kept follows sound) (turn.at honest is_open open_))
+      (λ open_. left_by commands replies mid (still_honest turn.ahead.goes_on was_honest) rest open_ (step_sound command was.kept mid.kept follows sound) (turn.at honest is_open open_))
     where
       follows : MayFollow command was.kept mid.kept ⊎ (mid.kept ≡ was.kept)
-      follows = step_follows command reply was mid turn.step
+      follows = step_follows command reply was mid was_honest turn.step
 
       failed : mid.closed ≡ true → Left (command ∷ commands) was.kept picture
       failed shut =
@@ -120,5 +120,5 @@ pub stopped_run : (commands done : List Asked) (before after : List Answer) (was
 stopped_run commands done before after was is all ahead run honest is_open sound =
     let honest_now = still_honest ahead.goes_on honest in
     let left : LeavesAPrefix (map command_of done) was is =
-    left_by is honest_now (map command_of done) (map reply_of run.added) was run.turns is_open sound (run.begins honest_now is_open) in
+    left_by is honest_now (map command_of done) (map reply_of run.added) was honest run.turns is_open sound (run.begins honest_now is_open) in
     subst (λ (cs : List Asked). LeavesAPrefix (map command_of cs) was is) all left

@@ -17,7 +17,7 @@ pub nothing_done : (command : Command) (file : File) (fault : SolverFault) → I
 nothing_done command file fault it step = record {
   step = step;
   stops = record {
-    same = refl;
+    same = λ honest. refl;
     since = λ honest is_open. leaves_now file.store.disk (a_file_is_kept file it honest is_open);
     failed = λ honest was is. absurd (apart file.store.closed was is);
   };

@@ -47,7 +47,7 @@ module _ (command : Command) (old new : State) (ahead : GoesAhead old new) where
   pub done_turn : (reply : Reply) → IsDone command reply old new → (old.closed ≡ true → ⊥) → IsTurn new.disk command reply old new
   done_turn reply done is_open = record {
     step = done.step;
-    later = ahead.goes_on.later;
+    ahead = ahead;
     between = λ honest was is moment picture from to left. (done.stops.since (was_honest ahead.goes_on honest)).each moment picture from to left;
     at = λ honest was is picture left.
         done.stops.now (was_honest ahead.goes_on honest) picture (subst (λ shown. MayLeave shown picture) new.disk.was_now left);
@@ -59,10 +59,10 @@ module _ (command : Command) (old new : State) (ahead : GoesAhead old new) where
   pub refused_turn : (fault : SolverFault) → IsRefused command old new fault → (old.closed ≡ true → (fault ≡ Closed) × (new ≡ old)) → IsTurn new.disk command (refused fault) old new
   refused_turn fault it shut = record {
     step = it.step;
-    later = ahead.goes_on.later;
+    ahead = ahead;
     between = λ honest was is moment picture from to left. inl ((it.stops.since (was_honest ahead.goes_on honest) is).each moment picture from to left);
     at = λ honest was is picture left.
-        subst (λ (kept : Option Kept). Stores picture kept) (sym it.stops.same)
+        subst (λ (kept : Option Kept). Stores picture kept) (sym (it.stops.same (was_honest ahead.goes_on honest)))
         ((it.stops.since (was_honest ahead.goes_on honest) is).each new.disk.clock picture ahead.goes_on.later (omega arith) left);
     failed = λ was is. record {
       reply_is = ap refused (is_disk fault old.closed new.closed it.still was is);
@@ -78,7 +78,7 @@ module _ (command : Command) (reply : Reply) (was is : State) (end new : Disk) (
   turn_later : IsTurn end command reply was is → IsTurn new command reply was is
   turn_later it = record {
     step = it.step;
-    later = it.later;
+    ahead = it.ahead;
     between = λ honest before after moment picture from to left.
         it.between (was_honest goes_on honest) before after moment picture from to (then_leaves goes_on moment picture (omega (arith, to, within)) left);
     at = λ honest before after picture left. it.at (was_honest goes_on honest) before after picture (then_leaves goes_on is.disk.clock picture within left);
@@ -91,7 +91,7 @@ turns_later : (disk : Disk) (commands : List Command) (replies : List Reply) (wa
 turns_later disk [] [] was is same = let clock : is.disk.clock ≡ was.disk.clock = ap (λ (s : State). s.disk.clock) same in omega (arith, clock)
 turns_later disk [] (reply ∷ replies) was is none = absurd none
 turns_later disk (command ∷ commands) [] was is none = absurd none
-turns_later disk (command ∷ commands) (reply ∷ replies) was is (mid, turn, rest) = omega (arith, turn.later, turns_later disk commands replies mid is rest)
+turns_later disk (command ∷ commands) (reply ∷ replies) was is (mid, turn, rest) = omega (arith, turn.ahead.goes_on.later, turns_later disk commands replies mid is rest)
 
 -- a closed solver stays as it is
 turns_shut : (disk : Disk) (commands : List Command) (replies : List Reply) (was is : State) → Turns disk commands replies was is → was.closed ≡ true → is ≡ was

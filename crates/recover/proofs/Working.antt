@@ -15,6 +15,9 @@ use Rattle.retrograde.specs.Sound.{IsLocallySound}
 use Rattle.retrograde.specs.Stored.{Stored}
 use Rattle.table.specs.Fitting.{Fits}
 use Rattle.table.specs.InMemory.{stored_in}
+use Rattle.table.specs.declared.fault.TableFault.{TableFault}
+use Rattle.table.specs.declared.fault.TableFault.TheVariants as table_fault
+use Rattle.frontier.specs.Causes.{Leaves}
 use Rattle.frontier.specs.declared.fault.StepFault.{StepFault}
 use Rattle.frontier.specs.declared.fault.StepFault.TheVariants as step
 use Rattle.table_work.specs.Work.{StopsWith}
@@ -41,13 +44,15 @@ use Rattle.recover.proofs.Refusing.{nothing_done}
 -- why units of work are refused
 pub next_cause : (game : TextbookGame) (stored : Stored (List ℕ)) (units : ℕ) (fault : StepFault)
     → (IsLocallySound (graph_of game) (IsWideAt game) stored → StopsWith (graph_of game) (IsWideAt game) stored units fault)
-    → (IsLocallySound (graph_of game) (IsWideAt game) stored → fault ≡ step.Inconsistent → ⊥) → NextCause game stored units (step_fault fault)
-next_cause game stored units step.TooWide cause consistent = cause
-next_cause game stored units (step.KeeperChooses number) cause consistent = cause
-next_cause game stored units step.TooManyPositions cause consistent = cause
-next_cause game stored units step.Inconsistent cause consistent = λ sound. consistent sound refl
-next_cause game stored units step.OutOfMemory cause consistent = tt
-next_cause game stored units (step.Table fault) cause consistent = tt
+    → (IsLocallySound (graph_of game) (IsWideAt game) stored → fault ≡ step.Inconsistent → ⊥)
+    → Leaves (Unit {0}) (λ fault. fault ≡ table_fault.OutOfMemory) fault → NextCause game stored units (step_fault fault)
+next_cause game stored units step.TooWide cause consistent left = cause
+next_cause game stored units (step.KeeperChooses number) cause consistent left = cause
+next_cause game stored units step.TooManyPositions cause consistent left = cause
+next_cause game stored units step.Inconsistent cause consistent left = λ sound. consistent sound refl
+next_cause game stored units step.OutOfMemory cause consistent left = tt
+next_cause game stored units (step.Table fault) cause consistent left =
+    subst (λ (f : TableFault). NextCause game stored units (step_fault (step.Table f))) (sym left) tt
 
 -- the positions of a table have one length
 one_length : (xs : List (List ℕ)) (m n : ℕ) → 0 < length xs → ((i : ℕ) (x : List ℕ) → slice_get xs i ≡ Some x → length x ≡ m)
@@ -83,7 +88,7 @@ module _ (s : Store) (was : Game) (source : Compiled) (it : IsReady (file_of s (
     pub worked_done : (new : File) (counts : Counts) → counts ≡ counts_of now → GoesOn s.disk new.store.disk → IsPut (kept_as was.text.items now) (file_of s (Some was)) new
         → IsDone (work units) (worked done counts) (state_of (file_of s (Some was))) (state_of new)
     worked_done new counts counted goes_on put = record {
-      step = subst (λ (kept : Option Kept). Works units (Some (kept_in was)) done counts kept) (sym put.kept) (works_of counts counted);
+      step = λ honest. subst (λ (kept : Option Kept). Works units (Some (kept_in was)) done counts kept) (sym put.kept) (works_of counts counted);
       stops = put_stops (kept_as was.text.items now) (file_of s (Some was)) new goes_on put;
     }
 
@@ -91,7 +96,7 @@ module _ (s : Store) (was : Game) (source : Compiled) (it : IsReady (file_of s (
     pub idled : (counts : Counts) → counts ≡ counts_of now → now ≡ stored_in was.table → s.closed ≡ false
         → IsDone (work units) (worked done counts) (state_of (file_of s (Some was))) (state_of (file_of s (Some was)))
     idled counts counted same is_open = record {
-      step = subst (λ (t : Stored (List ℕ)). Works units (Some (kept_in was)) done counts (Some (kept_as was.text.items t))) same (works_of counts counted);
+      step = λ honest. subst (λ (t : Stored (List ℕ)). Works units (Some (kept_in was)) done counts (Some (kept_as was.text.items t))) same (works_of counts counted);
       stops = record {
         is_open = is_open;
         since = λ honest. leaves_now s.disk (λ picture left. inl (a_file_is_kept (file_of s (Some was)) it.stands honest is_open picture left));
@@ -119,16 +124,16 @@ module _ (s : Store) (was : Game) (source : Compiled) (it : IsReady (file_of s (
     keep_cause new file.TableFull cause = tt
     keep_cause new file.OutOfMemory cause = tt
     keep_cause new file.Closed cause = cause
-    keep_cause new file.Inconsistent cause = λ sound. cause (fits sound)
+    keep_cause new file.Inconsistent cause = λ honest sound. cause (fits sound)
 
     -- they are not kept
     pub not_kept : (new : File) (counts : Counts) → counts ≡ counts_of now → (fault : FileFault) → IsNotPut (kept_as was.text.items now) (file_of s (Some was)) new
         → PutCause (kept_as was.text.items now) was.packed s new.store fault → (fault ≢ file.Disk → new.store.closed ≡ s.closed)
         → IsRefused (work units) (state_of (file_of s (Some was))) (state_of new) (file_fault fault)
     not_kept new counts counted fault left cause still = record {
-      step = (ap kept_of left.game, keep_cause new fault cause);
+      step = ((λ honest. ap kept_of left.game), keep_cause new fault cause);
       stops = record {
-        same = ap kept_of left.game;
+        same = λ honest. ap kept_of left.game;
         since = left.leaves;
         failed = λ honest open_ is. (Some (kept_as was.text.items now), (done, counts, works_of counts counted), left.either honest open_);
       };
@@ -149,16 +154,16 @@ module _ (s : Store) (was : Game) (source : Compiled) (it : IsReady (file_of s (
   work_cause units new (BadGame fault) cause = absurd cause
   work_cause units new NoGame cause = absurd cause
   work_cause units new GameAlready cause = absurd cause
-  work_cause units new (KeeperChooses number) cause = λ game is_read sound.
+  work_cause units new (KeeperChooses number) cause = λ honest game is_read sound.
       of_any (λ g. StopsWith (graph_of g) (IsWideAt g) (stored_in was.table) units (step.KeeperChooses number)) game is_read
       (cause (to_source (λ g. IsLocallySound (graph_of g) (IsWideAt g) (stored_in was.table)) game is_read sound))
-  work_cause units new TooWide cause = λ game is_read sound.
+  work_cause units new TooWide cause = λ honest game is_read sound.
       of_any (λ g. StopsWith (graph_of g) (IsWideAt g) (stored_in was.table) units step.TooWide) game is_read
       (cause (to_source (λ g. IsLocallySound (graph_of g) (IsWideAt g) (stored_in was.table)) game is_read sound))
-  work_cause units new TooManyPositions cause = λ game is_read sound.
+  work_cause units new TooManyPositions cause = λ honest game is_read sound.
       of_any (λ g. StopsWith (graph_of g) (IsWideAt g) (stored_in was.table) units step.TooManyPositions) game is_read
       (cause (to_source (λ g. IsLocallySound (graph_of g) (IsWideAt g) (stored_in was.table)) game is_read sound))
-  work_cause units new Inconsistent cause = λ sound. cause (sound_here sound)
+  work_cause units new Inconsistent cause = λ honest sound. cause (sound_here sound)
   work_cause units new NoSuchPosition cause = absurd cause
   work_cause units new NotSettled cause = absurd cause
   work_cause units new BadPosition cause = absurd cause
@@ -174,7 +179,7 @@ module _ (s : Store) (source : Compiled) (t : Stored (List ℕ)) where
   refused_at_work None units fault ready has cause = absurd (cc)
   refused_at_work (Some was) units fault ready has cause =
       nothing_done (work units) (file_of s (Some was)) fault ready.stands
-      (refl, work_cause s was source ready units (state_of (file_of s (Some was))) fault (subst (λ (x : Stored (List ℕ)). NextCause (compiled_game source) x units fault) (table_is was t has) cause))
+      ((λ honest. refl), work_cause s was source ready units (state_of (file_of s (Some was))) fault (subst (λ (x : Stored (List ℕ)). NextCause (compiled_game source) x units fault) (table_is was t has) cause))
 
   module _ (units done : ℕ) (now : Stored (List ℕ)) (counts : Counts) (counted : counts ≡ counts_of now)
       (works : IsLocallySound (graph_of (compiled_game source)) (IsWideAt (compiled_game source)) t → IsWorkOf (compiled_game source) units t done now) where

@@ -1,6 +1,8 @@
 -- What a fault of a layer below is here, and the code of each.
 use Rattle.std.specs.Prelude.{ℕ, List, codes}
 use Rattle.rbg_read.specs.Codes.{fault_code}
+use Rattle.table.specs.declared.fault.TableFault.{TableFault}
+use Rattle.table.specs.declared.fault.TableFault.TheVariants as table
 use Rattle.frontier.specs.declared.fault.StepFault.{StepFault}
 use Rattle.frontier.specs.declared.fault.StepFault.TheVariants as step
 use Rattle.flat_table.specs.declared.fault.FileFault.{FileFault}
@@ -21,20 +23,27 @@ file_fault file.OutOfMemory = OutOfMemory
 file_fault file.Closed = Closed
 file_fault file.Inconsistent = Inconsistent
 
+abbrev pub table_fault : TableFault → SolverFault
+table_fault table.Disk = Disk
+table_fault table.Damaged = Damaged
+table_fault table.TableFull = TableFull
+table_fault table.OutOfMemory = OutOfMemory
+table_fault table.Closed = Closed
+
 abbrev pub step_fault : StepFault → SolverFault
 step_fault step.TooWide = TooWide
 step_fault (step.KeeperChooses number) = KeeperChooses number
 step_fault step.TooManyPositions = TooManyPositions
 step_fault step.Inconsistent = Inconsistent
 step_fault step.OutOfMemory = OutOfMemory
-step_fault (step.Table fault) = OutOfMemory
+step_fault (step.Table fault) = table_fault fault
 
 abbrev pub line_fault : LineFault → SolverFault
 line_fault line.NotSettled = NotSettled
 line_fault line.Inconsistent = Inconsistent
 line_fault line.TooWide = TooWide
 line_fault line.OutOfMemory = OutOfMemory
-line_fault (line.Table fault) = OutOfMemory
+line_fault (line.Table fault) = table_fault fault
 
 -- the code that is printed
 abbrev pub code_of : SolverFault → List ℕ

@@ -1,5 +1,5 @@
 -- The machine: which reply and which next table may follow which command.
-use Rattle.std.specs.Prelude.{◌≡◌, ◌≢◌, ℕ, ◌<◌, true, List, Option, None, Some, IsSome}
+use Rattle.std.specs.Prelude.{◌≡◌, ◌≢◌, ℕ, ◌<◌, true, List, Option, None, Some, IsSome, IsTrue}
 use Rattle.sector_disk.specs.Disk.{Grew}
 use Rattle.rbg_game.specs.Games.{Game}
 use Rattle.rbg_read.specs.Reading.{Reads, Fault}
@@ -17,8 +17,7 @@ use Rattle.game_table.specs.Tables.{IsWorkOf}
 use Rattle.flat_file.specs.Held.{Kept}
 use Rattle.recover.specs.declared.fault.SolverFault.{SolverFault}
 use Rattle.recover.specs.declared.fault.SolverFault.TheVariants.{Disk, NotATable, AlreadyATable, Damaged, TooSmall, TableFull, OutOfMemory, Closed, Game as BadGame, NoGame, GameAlready, KeeperChooses, TooWide, TooManyPositions, Inconsistent, NoSuchPosition, NotSettled, BadPosition}
-use Rattle.recover.specs.Held.{IsSound}
-use Rattle.recover.specs.State.{State}
+use Rattle.recover.specs.State.{State, IsOfOtherOrigin}
 
 -- what changes the table
 pub data Command : Type 0 where
@@ -67,7 +66,7 @@ abbrev pub LoadCause : List ℕ → State → State → SolverFault → Type 0
 LoadCause text old new Disk = Grew old.failures new.failures
 LoadCause text old new NotATable = ⊥
 LoadCause text old new AlreadyATable = ⊥
-LoadCause text old new Damaged = ⊥
+LoadCause text old new Damaged = ¬ IsTrue old.disk.honest
 LoadCause text old new TooSmall = ⊥
 LoadCause text old new TableFull = (old.capacity < 24) × ((game : Game) × Reads text game)
 LoadCause text old new OutOfMemory = Unit {0}
@@ -88,7 +87,7 @@ abbrev pub WorkCause : ℕ → State → State → SolverFault → Type 0
 WorkCause units old new Disk = Grew old.failures new.failures
 WorkCause units old new NotATable = ⊥
 WorkCause units old new AlreadyATable = ⊥
-WorkCause units old new Damaged = ⊥
+WorkCause units old new Damaged = ¬ IsTrue old.disk.honest
 WorkCause units old new TooSmall = ⊥
 WorkCause units old new TableFull = Unit {0}
 WorkCause units old new OutOfMemory = Unit {0}
@@ -96,10 +95,10 @@ WorkCause units old new Closed = old.closed ≡ true
 WorkCause units old new (BadGame fault) = ⊥
 WorkCause units old new NoGame = old.kept ≡ None
 WorkCause units old new GameAlready = ⊥
-WorkCause units old new (KeeperChooses number) = StopsAt units old.kept (step.KeeperChooses number)
-WorkCause units old new TooWide = StopsAt units old.kept step.TooWide
-WorkCause units old new TooManyPositions = StopsAt units old.kept step.TooManyPositions
-WorkCause units old new Inconsistent = ¬ IsSound old.kept
+WorkCause units old new (KeeperChooses number) = IsTrue old.disk.honest → StopsAt units old.kept (step.KeeperChooses number)
+WorkCause units old new TooWide = IsTrue old.disk.honest → StopsAt units old.kept step.TooWide
+WorkCause units old new TooManyPositions = IsTrue old.disk.honest → StopsAt units old.kept step.TooManyPositions
+WorkCause units old new Inconsistent = IsOfOtherOrigin old
 WorkCause units old new NoSuchPosition = ⊥
 WorkCause units old new NotSettled = ⊥
 WorkCause units old new BadPosition = ⊥
@@ -109,11 +108,12 @@ abbrev pub Cause : Command → State → State → SolverFault → Type 0
 Cause (load text) = LoadCause text
 Cause (work units) = WorkCause units
 
--- from the one state to the other by this command with this reply; a refusal leaves what is kept and has its cause
+-- from the one state to the other by this command with this reply; a refusal leaves what is kept and has its cause. What is said
+-- of what is kept is said of an honest disk
 abbrev pub Step : Command → State → Reply → State → Type 0
-Step (load text) old loaded_it new = Loads text old.kept new.kept
+Step (load text) old loaded_it new = IsTrue old.disk.honest → Loads text old.kept new.kept
 Step (load text) old (worked done counts) new = ⊥
 Step (work units) old loaded_it new = ⊥
-Step (work units) old (worked done counts) new = Works units old.kept done counts new.kept
-Step (load text) old (refused fault) new = (new.kept ≡ old.kept) × LoadCause text old new fault
-Step (work units) old (refused fault) new = (new.kept ≡ old.kept) × WorkCause units old new fault
+Step (work units) old (worked done counts) new = IsTrue old.disk.honest → Works units old.kept done counts new.kept
+Step (load text) old (refused fault) new = (IsTrue old.disk.honest → new.kept ≡ old.kept) × LoadCause text old new fault
+Step (work units) old (refused fault) new = (IsTrue old.disk.honest → new.kept ≡ old.kept) × WorkCause units old new fault

@@ -14,9 +14,8 @@ use Rattle.best_line.specs.Rows.{AreRows}
 use Rattle.best_line.specs.Lines.{IsBestPlay}
 use Rattle.flat_file.specs.Held.{Kept}
 use Rattle.recover.specs.declared.fault.SolverFault.{SolverFault}
-use Rattle.recover.specs.declared.fault.SolverFault.TheVariants.{Disk, OutOfMemory, Closed, NoGame, TooWide, Inconsistent, NoSuchPosition, NotSettled, BadPosition}
-use Rattle.recover.specs.Held.{IsSound}
-use Rattle.recover.specs.State.{State, GoesAhead}
+use Rattle.recover.specs.declared.fault.SolverFault.TheVariants.{Disk, Damaged, OutOfMemory, Closed, NoGame, TooWide, Inconsistent, NoSuchPosition, NotSettled, BadPosition}
+use Rattle.recover.specs.State.{State, GoesAhead, IsOfOtherOrigin}
 use Rattle.recover.specs.Stops.{LeavesTable, LeavesNow}
 
 -- a game is loaded, and this holds of what is kept
@@ -24,10 +23,14 @@ abbrev pub OfKept : (Kept → Type 0) → Option Kept → Type 0
 OfKept Such None = ⊥
 OfKept Such (Some kept) = Such kept
 
+-- the same of the table of a state, where the disk is honest
+abbrev pub Tells : (Kept → Type 0) → State → Type 0
+Tells Such state = IsTrue state.disk.honest → OfKept Such state.kept
+
 -- a question changes nothing: the table is kept, and a stop since it was asked leaves it, and a stop now
 pub record IsAsked (old new : State) : Type 0 where
   pub ahead : GoesAhead old new
-  pub kept : new.kept ≡ old.kept
+  pub kept : IsTrue old.disk.honest → new.kept ≡ old.kept
   pub closed : new.closed ≡ old.closed
   pub since : IsTrue old.disk.honest → old.closed ≡ false → LeavesTable old.disk new.disk old.kept
   pub now : IsTrue old.disk.honest → old.closed ≡ false → LeavesNow new.disk old.kept
@@ -80,9 +83,10 @@ pub record IsOfNone (text : List ℕ) (kept : Kept) : Type 0 where
   pub reads : Reads kept.text game
   pub none : (bytes : List ℕ) → ¬ IsText game bytes text
 
--- why no question can be asked: the disk failed, memory is short, the solver is closed, or no game is loaded
+-- why no question can be asked: the disk failed, or is not honest, memory is short, the solver is closed, or no game is loaded
 abbrev pub AskCause : State → State → SolverFault → Type 0
 AskCause old new Disk = Grew old.failures new.failures
+AskCause old new Damaged = ¬ IsTrue old.disk.honest
 AskCause old new OutOfMemory = Unit {0}
 AskCause old new Closed = old.closed ≡ true
 AskCause old new NoGame = (old.closed ≡ false) × (old.kept ≡ None)
@@ -90,23 +94,23 @@ AskCause old new _ = ⊥
 
 -- why `value` and `list` are refused
 abbrev pub NumberCause : ℕ → State → State → SolverFault → Type 0
-NumberCause number old new NoSuchPosition = OfKept (λ kept. ¬ IsThere number kept) old.kept
+NumberCause number old new NoSuchPosition = Tells (λ kept. ¬ IsThere number kept) old
 NumberCause number old new fault = AskCause old new fault
 
--- why `line` is refused; S6 and S4 never come of a sound table
+-- why `line` is refused; S6 and S4 never come of a sound table on an honest disk
 abbrev pub LineCause : ℕ → State → State → SolverFault → Type 0
-LineCause number old new NotSettled = OfKept (λ kept. IsThere number kept × ((view_of kept.table).value number ≡ None)) old.kept
-LineCause number old new Inconsistent = ¬ IsSound old.kept
-LineCause number old new TooWide = ¬ IsSound old.kept
+LineCause number old new NotSettled = Tells (λ kept. IsThere number kept × ((view_of kept.table).value number ≡ None)) old
+LineCause number old new Inconsistent = IsOfOtherOrigin old
+LineCause number old new TooWide = IsOfOtherOrigin old
 LineCause number old new fault = NumberCause number old new fault
 
--- why `show` is refused; S6 never comes of a sound table
+-- why `show` is refused; S6 never comes of a sound table on an honest disk
 abbrev pub ShowCause : ℕ → State → State → SolverFault → Type 0
-ShowCause number old new Inconsistent = ¬ IsSound old.kept
+ShowCause number old new Inconsistent = IsOfOtherOrigin old
 ShowCause number old new fault = NumberCause number old new fault
 
 -- why `find` is refused
 abbrev pub FindCause : List ℕ → State → State → SolverFault → Type 0
-FindCause text old new BadPosition = OfKept (IsOfNone text) old.kept
-FindCause text old new NoSuchPosition = OfKept (IsOfUnknown text) old.kept
+FindCause text old new BadPosition = Tells (IsOfNone text) old
+FindCause text old new NoSuchPosition = Tells (IsOfUnknown text) old
 FindCause text old new fault = AskCause old new fault

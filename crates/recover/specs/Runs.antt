@@ -8,7 +8,7 @@ use Rattle.recover.specs.declared.replies.Command.TheVariants as asked
 use Rattle.recover.specs.declared.replies.Reply.{Reply as Answer}
 use Rattle.recover.specs.declared.replies.Reply.TheVariants as answer
 use Rattle.recover.specs.Machine.{Command, load, work, Reply, loaded_it, worked, refused, Step}
-use Rattle.recover.specs.State.{State}
+use Rattle.recover.specs.State.{State, GoesAhead}
 use Rattle.recover.specs.Steps.{MayFollow}
 use Rattle.recover.specs.Units.{units_in}
 
@@ -42,7 +42,7 @@ pub record HasFailed (disk : Disk) (command : Command) (reply : Reply) (was : St
 -- after; where a write or a sync fails in it, the solver is closed. A closed solver answers E9 and stays as it is.
 pub record IsTurn (disk : Disk) (command : Command) (reply : Reply) (was is : State) : Type 0 where
   pub step : Step command was reply is
-  pub later : was.disk.clock ≤ is.disk.clock
+  pub ahead : GoesAhead was is
   pub between : IsTrue disk.honest → was.closed ≡ false → is.closed ≡ false → LeavesBetween disk was.disk.clock is.disk.clock was.kept is.kept
   pub at : IsTrue disk.honest → was.closed ≡ false → is.closed ≡ false → LeavesAt disk is.disk.clock is.kept
   pub failed : was.closed ≡ false → is.closed ≡ true → HasFailed disk command reply was

@@ -1,11 +1,12 @@
 -- What is stated of a solver.
-use Rattle.std.specs.Prelude.{◌≡◌, ℕ, ◌≤◌, Bool, length, Option, None, Some}
+use Rattle.std.specs.Prelude.{◌≡◌, ℕ, ◌≤◌, Bool, length, Option, None, Some, IsTrue}
 use Rattle.sector_disk.specs.Disk.{Disk, size, GoesOn}
 use Rattle.rbg_read.specs.Reading.{Reads}
 use Rattle.legal_moves.specs.declared.compiled.Compiled.{Compiled}
 use Rattle.legal_moves.specs.Compiled.{compiled_game}
 use Rattle.flat_file.specs.File.{File, IsFile, kept_of}
 use Rattle.flat_file.specs.Held.{Kept}
+use Rattle.recover.specs.Held.{IsSound}
 
 -- a solver between commands: its disk, how often that has failed, how many pages there are, whether a write or a sync has
 -- failed since it was opened, and the text and table of the last commit, if a game is loaded
@@ -44,3 +45,7 @@ pub record GoesAhead (old new : State) : Type 0 where
   pub same_size : size new.disk ≡ size old.disk
   pub failures : old.failures ≤ new.failures
   pub capacity : new.capacity ≡ old.capacity
+
+-- the disk does not keep to its word, or what is kept is of other origin
+abbrev pub IsOfOtherOrigin : State → Type 0
+IsOfOtherOrigin state = IsTrue state.disk.honest → ¬ IsSound state.kept

@@ -25,7 +25,7 @@ pub record StopsDone (old new : State) : Type 0 where
 -- a command is refused: what was kept is; a stop since it began leaves that; but where a write or a sync has failed, it
 -- leaves that or the table that would have been next
 pub record StopsRefused (Next : Option Kept → Type 0) (old new : State) : Type 0 where
-  pub same : new.kept ≡ old.kept
+  pub same : IsTrue old.disk.honest → new.kept ≡ old.kept
   pub since : IsTrue old.disk.honest → new.closed ≡ false → LeavesTable old.disk new.disk old.kept
   pub failed : IsTrue old.disk.honest → old.closed ≡ false → new.closed ≡ true
       → (is : Option Kept) × Next is × LeavesEither old.disk new.disk old.kept is

@@ -139,7 +139,8 @@ impl From<StepFault> for SolverFault {
             StepFault::KeeperChooses(number) => SolverFault::KeeperChooses(number),
             StepFault::TooManyPositions => SolverFault::TooManyPositions,
             StepFault::Inconsistent => SolverFault::Inconsistent,
-            StepFault::OutOfMemory | StepFault::Table(_) => SolverFault::OutOfMemory,
+            StepFault::OutOfMemory => SolverFault::OutOfMemory,
+            StepFault::Table(fault) => fault.into(),
         }
     }
 }
@@ -155,7 +156,8 @@ impl From<LineFault> for SolverFault {
             LineFault::NotSettled => SolverFault::NotSettled,
             LineFault::Inconsistent => SolverFault::Inconsistent,
             LineFault::TooWide => SolverFault::TooWide,
-            LineFault::OutOfMemory | LineFault::Table(_) => SolverFault::OutOfMemory,
+            LineFault::OutOfMemory => SolverFault::OutOfMemory,
+            LineFault::Table(fault) => fault.into(),
         }
     }
 }
@@ -173,12 +175,18 @@ impl From<GameFault> for SolverFault {
 
 impl From<TableFault> for SolverFault {
     ghost use Rattle.std.specs.Prelude.{◌≡◌};
-    ghost use Rattle.recover.specs.declared.fault.SolverFault.TheVariants.{OutOfMemory};
+    ghost use Rattle.recover.specs.Faults.{table_fault};
 
-    ghost from_gives = { λ _ r. r ≡ OutOfMemory };
+    ghost from_gives = { λ fault r. r ≡ table_fault fault };
 
-    fn from(_: TableFault) -> Self {
-        SolverFault::OutOfMemory
+    fn from(fault: TableFault) -> Self {
+        match fault {
+            TableFault::Disk => SolverFault::Disk,
+            TableFault::Damaged => SolverFault::Damaged,
+            TableFault::TableFull => SolverFault::TableFull,
+            TableFault::OutOfMemory => SolverFault::OutOfMemory,
+            TableFault::Closed => SolverFault::Closed,
+        }
     }
 }
 

@@ -3,7 +3,7 @@ ghost use Rattle.std.specs.Prelude.{◌≡◌, ◌<◌, true, false, Some, None,
 ghost use Rattle.rbg_game.specs.Meaning.{game_of};
 ghost use Rattle.flat_table.specs.Reading.{known_in};
 ghost use Rattle.recover.specs.Held.{IsSound};
-ghost use Rattle.recover.specs.Queries.{OfKept, IsAsked, HasSoMany, HasValue, HasRows, HasLine, HasText, IsGameOf, AskCause, NumberCause, LineCause, ShowCause, FindCause};
+ghost use Rattle.recover.specs.Queries.{OfKept, Tells, IsAsked, HasSoMany, HasValue, HasRows, HasLine, HasText, IsGameOf, AskCause, NumberCause, LineCause, ShowCause, FindCause};
 ghost use Rattle.recover.specs.Units.{units_in};
 
 use crate::{Solver, SolverFault, Solving, Units};
@@ -60,10 +60,10 @@ impl<D: SectorDisk> Solver<D> {
     pub fn value(&mut self, number: u32) -> Result<Value, SolverFault>
         ensures ready { ⟦<Solver<D> as Solving>⟧.is_ready self.old → ⟦<Solver<D> as Solving>⟧.is_ready self.new }
         ensures asked { ⟦<Solver<D> as Solving>⟧.is_ready self.old → IsAsked (⟦<Solver<D> as Solving>⟧.state self.old) (⟦<Solver<D> as Solving>⟧.state self.new) }
-        ensures value { ⟦<Solver<D> as Solving>⟧.is_ready self.old → IfOk result (λ value. OfKept (HasValue number value) (⟦<Solver<D> as Solving>⟧.state self.old).kept) }
+        ensures value { ⟦<Solver<D> as Solving>⟧.is_ready self.old → IfOk result (λ value. Tells (HasValue number value) (⟦<Solver<D> as Solving>⟧.state self.old)) }
         ensures cause { ⟦<Solver<D> as Solving>⟧.is_ready self.old
             → IfErr result (NumberCause number (⟦<Solver<D> as Solving>⟧.state self.old) (⟦<Solver<D> as Solving>⟧.state self.new)) }
-        ensures closed { (⟦<Solver<D> as Solving>⟧.state self.old).closed ≡ true → IsErrOf result SolverFault.Closed }
+        ensures closed { (⟦<Solver<D> as Solving>⟧.state self.old).closed ≡ true → IsErrOf result SolverFault.Closed × (self.new ≡ self.old) }
     {
         self.check(number)?;
         Ok(self.file.value(number)?)
@@ -75,10 +75,10 @@ impl<D: SectorDisk> Solver<D> {
         ensures ready { ⟦<Solver<D> as Solving>⟧.is_ready self.old → ⟦<Solver<D> as Solving>⟧.is_ready self.new }
         ensures asked { ⟦<Solver<D> as Solving>⟧.is_ready self.old → IsAsked (⟦<Solver<D> as Solving>⟧.state self.old) (⟦<Solver<D> as Solving>⟧.state self.new) }
         ensures rows { ⟦<Solver<D> as Solving>⟧.is_ready self.old
-            → IfOk result (λ rows. OfKept (HasRows from (units_in count) rows.items) (⟦<Solver<D> as Solving>⟧.state self.old).kept) }
+            → IfOk result (λ rows. Tells (HasRows from (units_in count) rows.items) (⟦<Solver<D> as Solving>⟧.state self.old)) }
         ensures cause { ⟦<Solver<D> as Solving>⟧.is_ready self.old
             → IfErr result (NumberCause from (⟦<Solver<D> as Solving>⟧.state self.old) (⟦<Solver<D> as Solving>⟧.state self.new)) }
-        ensures closed { (⟦<Solver<D> as Solving>⟧.state self.old).closed ≡ true → IsErrOf result SolverFault.Closed }
+        ensures closed { (⟦<Solver<D> as Solving>⟧.state self.old).closed ≡ true → IsErrOf result SolverFault.Closed × (self.new ≡ self.old) }
     {
         self.check(from)?;
         Ok(self.file.list(from, count.count())?)
@@ -91,10 +91,10 @@ impl<D: SectorDisk> Solver<D> {
         ensures ready { ⟦<Solver<D> as Solving>⟧.is_ready self.old → ⟦<Solver<D> as Solving>⟧.is_ready self.new }
         ensures asked { ⟦<Solver<D> as Solving>⟧.is_ready self.old → IsAsked (⟦<Solver<D> as Solving>⟧.state self.old) (⟦<Solver<D> as Solving>⟧.state self.new) }
         ensures line { ⟦<Solver<D> as Solving>⟧.is_ready self.old → IsSound (⟦<Solver<D> as Solving>⟧.state self.old).kept
-            → IfOk result (λ numbers. OfKept (HasLine number numbers.items) (⟦<Solver<D> as Solving>⟧.state self.old).kept) }
-        ensures cause { ⟦<Solver<D> as Solving>⟧.is_ready self.old → IsSound (⟦<Solver<D> as Solving>⟧.state self.old).kept
+            → IfOk result (λ numbers. Tells (HasLine number numbers.items) (⟦<Solver<D> as Solving>⟧.state self.old)) }
+        ensures cause { ⟦<Solver<D> as Solving>⟧.is_ready self.old
             → IfErr result (LineCause number (⟦<Solver<D> as Solving>⟧.state self.old) (⟦<Solver<D> as Solving>⟧.state self.new)) }
-        ensures closed { (⟦<Solver<D> as Solving>⟧.state self.old).closed ≡ true → IsErrOf result SolverFault.Closed }
+        ensures closed { (⟦<Solver<D> as Solving>⟧.state self.old).closed ≡ true → IsErrOf result SolverFault.Closed × (self.new ≡ self.old) }
     {
         self.check(number)?;
         let Some(source) = &self.source else {
@@ -108,10 +108,10 @@ impl<D: SectorDisk> Solver<D> {
     pub fn show(&mut self, number: u32) -> Result<Vec<u8>, SolverFault>
         ensures ready { ⟦<Solver<D> as Solving>⟧.is_ready self.old → ⟦<Solver<D> as Solving>⟧.is_ready self.new }
         ensures asked { ⟦<Solver<D> as Solving>⟧.is_ready self.old → IsAsked (⟦<Solver<D> as Solving>⟧.state self.old) (⟦<Solver<D> as Solving>⟧.state self.new) }
-        ensures text { ⟦<Solver<D> as Solving>⟧.is_ready self.old → IfOk result (λ text. OfKept (HasText number text.items) (⟦<Solver<D> as Solving>⟧.state self.old).kept) }
+        ensures text { ⟦<Solver<D> as Solving>⟧.is_ready self.old → IfOk result (λ text. Tells (HasText number text.items) (⟦<Solver<D> as Solving>⟧.state self.old)) }
         ensures cause { ⟦<Solver<D> as Solving>⟧.is_ready self.old
             → IfErr result (ShowCause number (⟦<Solver<D> as Solving>⟧.state self.old) (⟦<Solver<D> as Solving>⟧.state self.new)) }
-        ensures closed { (⟦<Solver<D> as Solving>⟧.state self.old).closed ≡ true → IsErrOf result SolverFault.Closed }
+        ensures closed { (⟦<Solver<D> as Solving>⟧.state self.old).closed ≡ true → IsErrOf result SolverFault.Closed × (self.new ≡ self.old) }
     {
         self.check(number)?;
         let packed = self.file.packed(number)?;
@@ -130,10 +130,10 @@ impl<D: SectorDisk> Solver<D> {
     pub fn find(&mut self, text: &[u8]) -> Result<u32, SolverFault>
         ensures ready { ⟦<Solver<D> as Solving>⟧.is_ready self.old → ⟦<Solver<D> as Solving>⟧.is_ready self.new }
         ensures asked { ⟦<Solver<D> as Solving>⟧.is_ready self.old → IsAsked (⟦<Solver<D> as Solving>⟧.state self.old) (⟦<Solver<D> as Solving>⟧.state self.new) }
-        ensures number { ⟦<Solver<D> as Solving>⟧.is_ready self.old → IfOk result (λ number. OfKept (HasText number text.now) (⟦<Solver<D> as Solving>⟧.state self.old).kept) }
+        ensures number { ⟦<Solver<D> as Solving>⟧.is_ready self.old → IfOk result (λ number. Tells (HasText number text.now) (⟦<Solver<D> as Solving>⟧.state self.old)) }
         ensures cause { ⟦<Solver<D> as Solving>⟧.is_ready self.old
             → IfErr result (FindCause text.now (⟦<Solver<D> as Solving>⟧.state self.old) (⟦<Solver<D> as Solving>⟧.state self.new)) }
-        ensures closed { (⟦<Solver<D> as Solving>⟧.state self.old).closed ≡ true → IsErrOf result SolverFault.Closed }
+        ensures closed { (⟦<Solver<D> as Solving>⟧.state self.old).closed ≡ true → IsErrOf result SolverFault.Closed × (self.new ≡ self.old) }
     {
         self.known()?;
         let Some(source) = &self.source else {

@@ -15,7 +15,7 @@ impl<D: SectorDisk> Solver<D> {
         ensures ahead { GoesAhead (⟦<Solver<D> as Solving>⟧.state self.old) (⟦<Solver<D> as Solving>⟧.state self.new) }
         ensures turn { ⟦<Solver<D> as Solving>⟧.is_ready self.old
             → IsTurn (⟦<Solver<D> as Solving>⟧.state self.new).disk (command_of command.now) (reply_of result) (⟦<Solver<D> as Solving>⟧.state self.old) (⟦<Solver<D> as Solving>⟧.state self.new) }
-        ensures sound { ⟦<Solver<D> as Solving>⟧.is_ready self.old → IsSound (⟦<Solver<D> as Solving>⟧.state self.old).kept
+        ensures sound { ⟦<Solver<D> as Solving>⟧.is_ready self.old → IsTrue (⟦<Solver<D> as Solving>⟧.state self.old).disk.honest → IsSound (⟦<Solver<D> as Solving>⟧.state self.old).kept
             → IsSound (⟦<Solver<D> as Solving>⟧.state self.new).kept }
     {
         match command {
@@ -40,7 +40,7 @@ impl<D: SectorDisk> Solver<D> {
         ensures stopped { ⟦<Solver<D> as Solving>⟧.is_ready self.old → IsSound (⟦<Solver<D> as Solving>⟧.state self.old).kept
             → (⟦<Solver<D> as Solving>⟧.state self.old).closed ≡ false → IsTrue (⟦<Solver<D> as Solving>⟧.state self.old).disk.honest
             → OnOk result (LeavesAPrefix (map command_of commands.now) (⟦<Solver<D> as Solving>⟧.state self.old) (⟦<Solver<D> as Solving>⟧.state self.new)) }
-        ensures sound { ⟦<Solver<D> as Solving>⟧.is_ready self.old → IsSound (⟦<Solver<D> as Solving>⟧.state self.old).kept
+        ensures sound { ⟦<Solver<D> as Solving>⟧.is_ready self.old → IsTrue (⟦<Solver<D> as Solving>⟧.state self.old).disk.honest → IsSound (⟦<Solver<D> as Solving>⟧.state self.old).kept
             → IsSound (⟦<Solver<D> as Solving>⟧.state self.new).kept }
         ensures fault { IfErr result (λ fault. fault ≡ SolverFault.OutOfMemory) }
         ensures refused { OnErr result (self.new ≡ self.old) }

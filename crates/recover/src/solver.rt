@@ -1,5 +1,5 @@
 //! A solver over a disk.
-ghost use Rattle.std.specs.Prelude.{◌≡◌, true, false, None, option_map, IsSome, OnOk, IfOk, IfErr, IsErrOf};
+ghost use Rattle.std.specs.Prelude.{◌≡◌, ◌↔◌, true, false, None, option_map, IsSome, OnOk, IfOk, IfErr, IsErrOf, IsTrue};
 ghost use Rattle.retrograde.specs.Changes.{counts_of};
 ghost use Rattle.flat_file.specs.File.{IsFile, kept_of};
 ghost use Rattle.flat_table.specs.Calls.{IsNotOpened, IsNotCreated};
@@ -112,7 +112,7 @@ impl<D: SectorDisk> Solver<D> {
             → IsErrOf result SolverFault.Closed × (self.new ≡ self.old) }
         ensures already { (⟦<Solver<D> as Solving>⟧.state self.old).closed ≡ false → IsSome (⟦<Solver<D> as Solving>⟧.state self.old).kept
             → IsErrOf result SolverFault.GameAlready × (self.new ≡ self.old) }
-        ensures sound { ⟦<Solver<D> as Solving>⟧.is_ready self.old → IsSound (⟦<Solver<D> as Solving>⟧.state self.old).kept
+        ensures sound { ⟦<Solver<D> as Solving>⟧.is_ready self.old → IsTrue (⟦<Solver<D> as Solving>⟧.state self.old).disk.honest → IsSound (⟦<Solver<D> as Solving>⟧.state self.old).kept
             → IsSound (⟦<Solver<D> as Solving>⟧.state self.new).kept }
     {
         if self.file.is_closed() {
@@ -141,7 +141,7 @@ impl<D: SectorDisk> Solver<D> {
         ensures no_game { (⟦<Solver<D> as Solving>⟧.state self.old).closed ≡ false → (⟦<Solver<D> as Solving>⟧.state self.old).kept ≡ None
             → IsErrOf result SolverFault.NoGame × (self.new ≡ self.old) }
         ensures idle { IfOk result (λ done. done.units ≡ 0 → self.new ≡ self.old) }
-        ensures sound { ⟦<Solver<D> as Solving>⟧.is_ready self.old → IsSound (⟦<Solver<D> as Solving>⟧.state self.old).kept
+        ensures sound { ⟦<Solver<D> as Solving>⟧.is_ready self.old → IsTrue (⟦<Solver<D> as Solving>⟧.state self.old).disk.honest → IsSound (⟦<Solver<D> as Solving>⟧.state self.old).kept
             → IsSound (⟦<Solver<D> as Solving>⟧.state self.new).kept }
     {
         if self.file.is_closed() {
@@ -168,7 +168,9 @@ impl<D: SectorDisk> Solver<D> {
     /// How far the table of the last commit is; none where no game is loaded. It takes no memory and always answers, of a
     /// closed solver too.
     pub fn status(&self) -> Option<Counts>
-        ensures { result ≡ option_map (λ kept. counts_of kept.table) (⟦<Solver<D> as Solving>⟧.state self.now).kept }
+        ensures counts { ⟦<Solver<D> as Solving>⟧.is_ready self.now → IsTrue (⟦<Solver<D> as Solving>⟧.state self.now).disk.honest
+            → result ≡ option_map (λ kept. counts_of kept.table) (⟦<Solver<D> as Solving>⟧.state self.now).kept }
+        ensures none { (result ≡ None) ↔ ((⟦<Solver<D> as Solving>⟧.state self.now).kept ≡ None) }
     {
         let table = self.file.table()?;
         Some(table.counts())

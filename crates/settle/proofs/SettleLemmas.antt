@@ -7,10 +7,7 @@ use Rattle.std.proofs.lemmas.List.{length-append}
 use Rattle.std.proofs.lemmas.List.Sums.{count_by-le-length}
 use Rattle.rbg_game.specs.declared.roles.Player.{Player}
 use Rattle.retrograde.specs.declared.records.Record.{Record}
-use Rattle.retrograde.specs.Graph.{Graph, IsReachable}
-use Rattle.retrograde.specs.Values.{Drawn}
-use Rattle.retrograde.specs.View.{HasNumber, IsKnown, IsFinished}
-use Rattle.retrograde.specs.Right.{IsRight}
+use Rattle.retrograde.specs.Graph.{Graph}
 use Rattle.retrograde.specs.Stored.{Stored, HasRecord, IsTable, view_of, is_processed, is_settled, expanded_count, processed_count, count_below}
 use Rattle.retrograde.specs.Sound.{IsLocallySound}
 use Rattle.retrograde.specs.Successors.{packed_cmp}
@@ -19,12 +16,14 @@ use Rattle.retrograde.specs.Settles.{Settles}
 use Rattle.retrograde.specs.Units.{UnitsOfWork}
 use Rattle.retrograde.proofs.Counting.{counted}
 use Rattle.retrograde.proofs.Diminishing.{processed_sound}
-use Rattle.retrograde.proofs.Finished.{draws, reach_is_known, element}
+use Rattle.retrograde.proofs.Finished.{element}
 use Rattle.retrograde.proofs.Lowering.{get_set_same, get_set_other}
 use Rattle.retrograde.proofs.Settles.{settles}
 use Rattle.retrograde.proofs.Settling.{count_less, open_unsettled, counted_below, s_in, s_known, base_records, base_counted, s_waits, value_is}
-use Rattle.retrograde.proofs.Sound.{sound_right, distance_within_place, value_needs_record}
+use Rattle.retrograde.proofs.Sound.{distance_within_place, value_needs_record}
 use Rattle.retrograde.proofs.Working.{processed_works}
+use Rattle.frontier.specs.Done.{IsUnitDone}
+use Rattle.frontier.proofs.DoneLemmas.{unit_done}
 use Rattle.settle.specs.Stuck.{IsStuckAt}
 use Rattle.settle.proofs.Bounds.{keeps}
 
@@ -101,26 +100,18 @@ module _ (graph : Graph (List ℕ)) (IsWide : List ℕ → Type 0) (old : Stored
     -- what the unit has done, and what is so then
     pub record IsDone (new : Stored (List ℕ)) : Type 0 where
       pub settles : Settles graph old new s r w
-      pub sound : IsLocallySound graph IsWide new
-      pub step : UnitsOfWork packed_cmp graph IsWide (2 ^ 24) (view_of old) 1 (view_of new)
-      pub right : IsRight graph (view_of new)
-      pub reached : IsFinished (view_of new) → (x : List ℕ) → IsKnown (view_of new) x ↔ IsReachable graph x
-      pub drawn : IsFinished (view_of new) → (i : ℕ) (x : List ℕ) → HasNumber (view_of new) i x → ((view_of new).value i ≡ None) ↔ Drawn graph x
+      pub unit : IsUnitDone graph IsWide old new
       pub longer : length old.order ≤ length new.order
 
     pub done : expanded_count old ≡ length old.positions → length old.positions ≤ 2 ^ 24 → (new : Stored (List ℕ)) → new ≡ with_processed graph s r w old → IsDone new
     done full limit new is =
         let made : Settles graph old new s r w = subst (λ (t : Stored (List ℕ)). Settles graph old t s r w) (sym is) (settles graph IsWide old agrees full s r w next) in
         let now_sound : IsLocallySound graph IsWide new = subst (λ (t : Stored (List ℕ)). IsLocallySound graph IsWide t) (sym is) (processed_sound graph IsWide old agrees full s r w next) in
-        let now_right : IsRight graph (view_of new) = sound_right graph IsWide new now_sound in
         record {
           settles = made;
-          sound = now_sound;
-          step = subst (λ (t : Stored (List ℕ)). UnitsOfWork packed_cmp graph IsWide (2 ^ 24) (view_of old) 1 (view_of t)) (sym is)
-              (processed_works packed_cmp graph IsWide (2 ^ 24) old agrees full s r w next limit);
-          right = now_right;
-          reached = λ finished x. (now_right.moves.reached x, reach_is_known graph (view_of new) now_right finished x);
-          drawn = λ finished i x number. draws graph (view_of new) now_right finished i x number;
+          unit = unit_done graph IsWide old new now_sound
+              (subst (λ (t : Stored (List ℕ)). UnitsOfWork packed_cmp graph IsWide (2 ^ 24) (view_of old) 1 (view_of t)) (sym is)
+              (processed_works packed_cmp graph IsWide (2 ^ 24) old agrees full s r w next limit));
           longer =
               let more : length new.order ≡ length old.order + length made.newly = ap (λ (ks : List ℕ). length ks) made.order ∙ length-append old.order made.newly in
               omega arith;

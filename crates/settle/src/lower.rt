@@ -4,7 +4,7 @@ ghost use Rattle.retrograde.specs.declared.records.Record.{Record};
 ghost use Rattle.retrograde.specs.Stored.{HasRecord};
 ghost use Rattle.retrograde.specs.Changes.{with_record, with_settled};
 ghost use Rattle.retrograde.specs.Processing.{lower_at, lowered_below};
-ghost use Rattle.frontier.specs.Causes.{IsRefusal};
+ghost use Rattle.frontier.specs.Causes.{IsRefusal, Leaves};
 ghost use Rattle.frontier.specs.declared.fault.StepFault.TheVariants.{Inconsistent};
 ghost use Rattle.settle.specs.Stuck.{IsStuck, IsStuckAt};
 
@@ -23,6 +23,8 @@ fn settle<T: Table>(table: &mut T, number: u32, kept: Record) -> Result<(), Step
     ensures honest { OnOk result (T.is_honest table.old ↔ T.is_honest table.new) }
     ensures known { OnOk result ((T.counted table.new).known ≡ (T.counted table.old).known) }
     ensures goes_on { IfErr result (λ fault. ¬ IsRefusal fault) }
+    ensures ahead { OnOk result (T.goes_on table.old table.new) }
+    ensures left { IfErr result (Leaves (T.goes_on table.old table.new) (T.fails table.old table.new)) }
 {
     let counts = table.counts();
     if counts.settled >= counts.known {
@@ -49,6 +51,8 @@ fn lower<M: MoveSource, T: Table>(
     ensures honest { OnOk result (T.is_honest table.old ↔ T.is_honest table.new) }
     ensures known { OnOk result ((T.counted table.new).known ≡ (T.counted table.old).known) }
     ensures goes_on { IfErr result (λ fault. ¬ IsRefusal fault) }
+    ensures ahead { OnOk result (T.goes_on table.old table.new) }
+    ensures left { IfErr result (Leaves (T.goes_on table.old table.new) (T.fails table.old table.new)) }
 {
     let packed = table.packed(predecessor)?;
     let mover = source.mover(&packed);
@@ -92,6 +96,8 @@ pub fn lower_all<M: MoveSource, T: Table>(
     ensures honest { OnOk result (T.is_honest table.old ↔ T.is_honest table.new) }
     ensures known { OnOk result ((T.counted table.new).known ≡ (T.counted table.old).known) }
     ensures goes_on { IfErr result (λ fault. ¬ IsRefusal fault) }
+    ensures ahead { OnOk result (T.goes_on table.old table.new) }
+    ensures left { IfErr result (Leaves (T.goes_on table.old table.new) (T.fails table.old table.new)) }
 {
     let mut after: Option<u32> = None;
     while let Some(predecessor) = table.next_edge(number, after)? {

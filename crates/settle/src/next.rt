@@ -2,7 +2,7 @@
 ghost use Rattle.std.specs.Prelude.{◌≡◌, ◌↔◌, ◌<◌, IfOk, OnOk, IfErr, Err};
 ghost use Rattle.retrograde.specs.Stored.{IsTable};
 ghost use Rattle.retrograde.specs.Processing.{IsNextSettled, with_processed_alone};
-ghost use Rattle.frontier.specs.Causes.{IsRefusal};
+ghost use Rattle.frontier.specs.Causes.{IsRefusal, Leaves};
 ghost use Rattle.frontier.specs.declared.fault.StepFault.TheVariants.{Inconsistent};
 
 use frontier::StepFault;
@@ -28,6 +28,8 @@ pub fn process_next<T: Table>(table: &mut T) -> Result<Settled, StepFault>
     ensures honest { OnOk result (T.is_honest table.old ↔ T.is_honest table.new) }
     ensures consistent { T.is_honest table.old → IsTable (T.stored table.old) → result ≡ Err Inconsistent → ⊥ }
     ensures goes_on { IfErr result (λ fault. ¬ IsRefusal fault) }
+    ensures ahead { OnOk result (T.goes_on table.old table.new) }
+    ensures left { IfErr result (Leaves (T.goes_on table.old table.new) (T.fails table.old table.new)) }
 {
     let counts = table.counts();
     let number = table.settled_at(counts.processed)?;

@@ -1,17 +1,11 @@
 //! One settled position is processed.
-ghost use Rattle.std.specs.Prelude.{◌≡◌, ◌↔◌, ◌+◌, ◌^◌, ◌<◌, ◌≤◌, ℕ, List, IfOk, OnOk, IfErr, Err, None, length};
+ghost use Rattle.std.specs.Prelude.{◌≡◌, ◌↔◌, ◌+◌, ◌^◌, ◌<◌, ◌≤◌, ℕ, IfOk, OnOk, IfErr, Err, length};
 ghost use Rattle.rbg_game.specs.declared.roles.Player.{Player};
 ghost use Rattle.retrograde.specs.declared.records.Record.{Record};
-ghost use Rattle.retrograde.specs.Graph.{IsReachable};
-ghost use Rattle.retrograde.specs.Values.{Drawn};
-ghost use Rattle.retrograde.specs.View.{IsKnown, HasNumber, IsFinished};
-ghost use Rattle.retrograde.specs.Right.{IsRight};
-ghost use Rattle.retrograde.specs.Stored.{view_of};
 ghost use Rattle.retrograde.specs.Sound.{IsLocallySound};
-ghost use Rattle.retrograde.specs.Successors.{packed_cmp};
-ghost use Rattle.retrograde.specs.Units.{UnitsOfWork};
 ghost use Rattle.retrograde.specs.Settles.{Settles};
-ghost use Rattle.frontier.specs.Causes.{IsRefusal};
+ghost use Rattle.frontier.specs.Causes.{IsRefusal, Leaves};
+ghost use Rattle.frontier.specs.Done.{IsUnitDone};
 ghost use Rattle.frontier.specs.declared.fault.StepFault.TheVariants.{Inconsistent};
 
 use crate::lower::lower_all;
@@ -38,22 +32,13 @@ pub fn settle_one<M: MoveSource, T: Table>(source: &M, table: &mut T) -> Result<
     ensures known { OnOk result ((T.counted table.new).known ≡ (T.counted table.old).known) }
     ensures newly { T.is_honest table.old → IfOk result (λ newly.
         length (T.stored table.new).order ≡ length (T.stored table.old).order + newly) }
-    ensures sound { T.is_honest table.old → IsLocallySound (M.graph source.now) (M.is_wide source.now) (T.stored table.old)
-        → OnOk result (IsLocallySound (M.graph source.now) (M.is_wide source.now) (T.stored table.new)) }
-    ensures step { T.is_honest table.old → IsLocallySound (M.graph source.now) (M.is_wide source.now) (T.stored table.old)
-        → OnOk result (UnitsOfWork packed_cmp (M.graph source.now) (M.is_wide source.now) (2 ^ 24) (view_of (T.stored table.old)) 1 (view_of (T.stored table.new))) }
-    ensures right { T.is_honest table.old → IsLocallySound (M.graph source.now) (M.is_wide source.now) (T.stored table.old)
-        → OnOk result (IsRight (M.graph source.now) (view_of (T.stored table.new))) }
-    ensures reached { T.is_honest table.old → IsLocallySound (M.graph source.now) (M.is_wide source.now) (T.stored table.old)
-        → OnOk result (IsFinished (view_of (T.stored table.new))
-        → (x : List ℕ) → IsKnown (view_of (T.stored table.new)) x ↔ IsReachable (M.graph source.now) x) }
-    ensures drawn { T.is_honest table.old → IsLocallySound (M.graph source.now) (M.is_wide source.now) (T.stored table.old)
-        → OnOk result (IsFinished (view_of (T.stored table.new))
-        → (i : ℕ) (x : List ℕ) → HasNumber (view_of (T.stored table.new)) i x
-        → ((view_of (T.stored table.new)).value i ≡ None) ↔ Drawn (M.graph source.now) x) }
+    ensures done { T.is_honest table.old → IsLocallySound (M.graph source.now) (M.is_wide source.now) (T.stored table.old)
+        → OnOk result (IsUnitDone (M.graph source.now) (M.is_wide source.now) (T.stored table.old) (T.stored table.new)) }
     ensures consistent { T.is_honest table.old → IsLocallySound (M.graph source.now) (M.is_wide source.now) (T.stored table.old)
         → result ≡ Err Inconsistent → ⊥ }
     ensures goes_on { IfErr result (λ fault. ¬ IsRefusal fault) }
+    ensures ahead { OnOk result (T.goes_on table.old table.new) }
+    ensures left { IfErr result (Leaves (T.goes_on table.old table.new) (T.fails table.old table.new)) }
 {
     let before = table.counts();
     let next = process_next(table)?;

@@ -1,9 +1,10 @@
 //! A table in memory.
-ghost use Rattle.std.specs.Prelude.{◌≡◌, refl, ◌↔◌, ◌+◌, ◌-◌, ◌^◌, ◌<◌, ◌≤◌, ℕ, true, if◌then◌else◌, IfOk, IfSome, IfNone, length, count_by};
+ghost use Rattle.std.specs.Prelude.{◌≡◌, refl, ◌↔◌, ◌+◌, ◌-◌, ◌^◌, ◌<◌, ◌≤◌, ℕ, true, if◌then◌else◌, IfOk, IfErr, IfSome, IfNone, length, count_by};
 ghost use Rattle.std.specs.BTreeSet.{contains};
 ghost use Rattle.retrograde.specs.Changes.{fresh_record, counts_of};
 ghost use Rattle.retrograde.specs.Edges.{IsAfter};
 ghost use Rattle.retrograde.specs.Stored.{is_expanded, is_processed, loaded};
+ghost use Rattle.table.specs.declared.fault.TableFault.TheVariants.{OutOfMemory};
 ghost use Rattle.table.specs.Fitting.{Fits};
 ghost use Rattle.table.specs.Memory.{AreNumbered, AreBetweenKnown, bytes_of_each, edge_cmp};
 
@@ -85,6 +86,7 @@ impl MemTable {
     pub fn new(alloc: Global, start: &Packed) -> Result<MemTable, TableFault>
         ensures loaded { IfOk result (λ t. ⟦<MemTable as Table>⟧.stored t ≡ loaded start.now.items) }
         ensures honest { IfOk result (λ t. ⟦<MemTable as Table>⟧.is_honest t) }
+        ensures memory { IfErr result (λ fault. fault ≡ OutOfMemory) }
     {
         let mut table = MemTable {
             positions: Vec::new(alloc),
@@ -103,6 +105,7 @@ impl MemTable {
     pub fn copy(&self) -> Result<MemTable, TableFault>
         ensures same { IfOk result (λ t. ⟦<MemTable as Table>⟧.stored t ≡ ⟦<MemTable as Table>⟧.stored self.now) }
         ensures small { IfOk result (λ t. (⟦<MemTable as Table>⟧.counted t).known ≤ 2 ^ 24) }
+        ensures memory { IfErr result (λ fault. fault ≡ OutOfMemory) }
     {
         let positions = self.positions.clone()?;
         let numbers = self.numbers.clone()?;
@@ -173,7 +176,25 @@ impl Table for MemTable {
       order = t.order.items;
     }) };
 
+    ghost stays = { λ was is. Unit {0} };
+
+    ghost goes_on = { λ was is. Unit {0} };
+
+    ghost fails = { λ was is fault. fault ≡ OutOfMemory };
+
     ghost counts_are = { λ t honest. refl };
+
+    ghost stays_here = { λ t. tt };
+
+    ghost stays_then = { λ a b c first second. tt };
+
+    ghost stays_goes_on = { λ a b stays. tt };
+
+    ghost goes_on_then = { λ a b c first second. tt };
+
+    ghost fails_since = { λ a b c fault ahead cause. cause };
+
+    ghost memory_fails = { λ a b ahead. refl };
 
     fn counts(&self) -> Counts {
         Counts {

@@ -1,9 +1,11 @@
 //! What is kept of a game: positions by number, records, edges, and the settled order.
-ghost use Rattle.std.specs.Prelude.{◌≡◌, ◌↔◌, ◌+◌, ◌^◌, ◌<◌, ℕ, List, IfOk, OnOk, IfSome, IfNone, slice_get, Some};
+ghost use Rattle.std.specs.Prelude.{◌≡◌, ◌↔◌, ◌+◌, ◌^◌, ◌<◌, ℕ, List, IfOk, OnOk, IfErr, IfSome, IfNone, slice_get, Some};
 ghost use Rattle.retrograde.specs.declared.records.Counts.{Counts};
 ghost use Rattle.retrograde.specs.Stored.{Stored, HasRecord};
 ghost use Rattle.retrograde.specs.Changes.{counts_of, with_position, with_record, with_edge, with_settled};
 ghost use Rattle.retrograde.specs.Edges.{IsAfter, IsNextEdge, HasNoMoreEdges};
+ghost use Rattle.table.specs.declared.fault.TableFault.{TableFault};
+ghost use Rattle.table.specs.declared.fault.TableFault.TheVariants.{OutOfMemory};
 
 use crate::fault::TableFault;
 use position_pack::Packed;
@@ -15,6 +17,9 @@ use retrograde::{Counts, Record};
 /// What a call says of the stored table it says of an honest one. What it asks, and what it says of
 /// how many positions are known and of the range of a number, holds of any: so no device that lies
 /// can lead a caller out of range, or round for ever.
+///
+/// What is left of a device under it is the table's own matter, and so is the cause of a fault: `stays`, `goes_on` and
+/// `fails` say it, of honest tables and of others, and a caller of many calls hands them on by the laws at the end.
 pub trait Table {
     /// What is stored.
     ghost stored: { Self → Stored (List ℕ) };
@@ -24,6 +29,15 @@ pub trait Table {
 
     /// How many positions are known, expanded, settled and processed, as it counts them.
     ghost counted: { Self → Counts };
+
+    /// What calls that only read leave of the first table, answered or not.
+    ghost stays: { Self → Self → Type 0 };
+
+    /// What calls that are answered leave of it.
+    ghost goes_on: { Self → Self → Type 0 };
+
+    /// What is left of it where then a call gives no answer, and the cause of its fault.
+    ghost fails: { Self → Self → TableFault → Type 0 };
 
     /// How many positions are known, expanded, settled and processed.
     fn counts(&self) -> Counts
@@ -36,7 +50,9 @@ pub trait Table {
         ensures within { IfOk result (λ r. IfSome r (λ i. i < (counted self.old).known)) }
         ensures same { is_honest self.old → stored self.new ≡ stored self.old }
         ensures honest { is_honest self.old ↔ is_honest self.new }
-        ensures counts { counted self.new ≡ counted self.old };
+        ensures counts { counted self.new ≡ counted self.old }
+        ensures stays { stays self.old self.new }
+        ensures fault { IfErr result (fails self.old self.new) };
 
     /// The position with a number.
     fn packed(&mut self, number: u32) -> Result<Packed, TableFault>
@@ -44,7 +60,9 @@ pub trait Table {
         ensures position { is_honest self.old → IfOk result (λ p. slice_get (stored self.old).positions number ≡ Some p.items) }
         ensures same { is_honest self.old → stored self.new ≡ stored self.old }
         ensures honest { is_honest self.old ↔ is_honest self.new }
-        ensures counts { counted self.new ≡ counted self.old };
+        ensures counts { counted self.new ≡ counted self.old }
+        ensures stays { stays self.old self.new }
+        ensures fault { IfErr result (fails self.old self.new) };
 
     /// The record of a number.
     fn record(&mut self, number: u32) -> Result<Record, TableFault>
@@ -52,7 +70,9 @@ pub trait Table {
         ensures record { is_honest self.old → IfOk result (λ r. HasRecord (stored self.old) number r) }
         ensures same { is_honest self.old → stored self.new ≡ stored self.old }
         ensures honest { is_honest self.old ↔ is_honest self.new }
-        ensures counts { counted self.new ≡ counted self.old };
+        ensures counts { counted self.new ≡ counted self.old }
+        ensures stays { stays self.old self.new }
+        ensures fault { IfErr result (fails self.old self.new) };
 
     /// Adds a position that was not known, and answers its number.
     fn add(&mut self, packed: &Packed) -> Result<u32, TableFault>
@@ -61,14 +81,18 @@ pub trait Table {
         ensures number { IfOk result (λ i. i ≡ (counted self.old).known) }
         ensures added { is_honest self.old → OnOk result (stored self.new ≡ with_position (stored self.old) packed.now.items) }
         ensures honest { OnOk result (is_honest self.old ↔ is_honest self.new) }
-        ensures known { OnOk result ((counted self.new).known ≡ (counted self.old).known + 1) };
+        ensures known { OnOk result ((counted self.new).known ≡ (counted self.old).known + 1) }
+        ensures ahead { OnOk result (goes_on self.old self.new) }
+        ensures fault { IfErr result (fails self.old self.new) };
 
     /// Writes the record of a number.
     fn set_record(&mut self, number: u32, kept: Record) -> Result<(), TableFault>
         requires { number < (counted self.old).known }
         ensures set { is_honest self.old → OnOk result (stored self.new ≡ with_record (stored self.old) number kept) }
         ensures honest { OnOk result (is_honest self.old ↔ is_honest self.new) }
-        ensures known { OnOk result ((counted self.new).known ≡ (counted self.old).known) };
+        ensures known { OnOk result ((counted self.new).known ≡ (counted self.old).known) }
+        ensures ahead { OnOk result (goes_on self.old self.new) }
+        ensures fault { IfErr result (fails self.old self.new) };
 
     /// Adds an edge, which may be there already.
     fn add_edge(&mut self, successor: u32, predecessor: u32) -> Result<(), TableFault>
@@ -76,7 +100,9 @@ pub trait Table {
         requires predecessor { predecessor < (counted self.old).known }
         ensures added { is_honest self.old → OnOk result (stored self.new ≡ with_edge (stored self.old) successor predecessor) }
         ensures honest { OnOk result (is_honest self.old ↔ is_honest self.new) }
-        ensures counts { OnOk result (counted self.new ≡ counted self.old) };
+        ensures counts { OnOk result (counted self.new ≡ counted self.old) }
+        ensures ahead { OnOk result (goes_on self.old self.new) }
+        ensures fault { IfErr result (fails self.old self.new) };
 
     /// The least predecessor, or the least one after the number given.
     fn next_edge(&mut self, successor: u32, after: Option<u32>) -> Result<Option<u32>, TableFault>
@@ -86,14 +112,18 @@ pub trait Table {
         ensures later { IfOk result (λ r. IfSome r (IsAfter after)) }
         ensures same { is_honest self.old → stored self.new ≡ stored self.old }
         ensures honest { is_honest self.old ↔ is_honest self.new }
-        ensures counts { counted self.new ≡ counted self.old };
+        ensures counts { counted self.new ≡ counted self.old }
+        ensures stays { stays self.old self.new }
+        ensures fault { IfErr result (fails self.old self.new) };
 
     /// Puts a number behind the settled order.
     fn push_settled(&mut self, number: u32) -> Result<(), TableFault>
         requires { (counted self.old).settled < (counted self.old).known }
         ensures pushed { is_honest self.old → OnOk result (stored self.new ≡ with_settled (stored self.old) number) }
         ensures honest { OnOk result (is_honest self.old ↔ is_honest self.new) }
-        ensures known { OnOk result ((counted self.new).known ≡ (counted self.old).known) };
+        ensures known { OnOk result ((counted self.new).known ≡ (counted self.old).known) }
+        ensures ahead { OnOk result (goes_on self.old self.new) }
+        ensures fault { IfErr result (fails self.old self.new) };
 
     /// The number at a place of the settled order.
     fn settled_at(&mut self, place: u32) -> Result<u32, TableFault>
@@ -101,8 +131,28 @@ pub trait Table {
         ensures number { is_honest self.old → IfOk result (λ i. slice_get (stored self.old).order place ≡ Some i) }
         ensures same { is_honest self.old → stored self.new ≡ stored self.old }
         ensures honest { is_honest self.old ↔ is_honest self.new }
-        ensures counts { counted self.new ≡ counted self.old };
+        ensures counts { counted self.new ≡ counted self.old }
+        ensures stays { stays self.old self.new }
+        ensures fault { IfErr result (fails self.old self.new) };
 
     /// An honest table counts what is stored.
     ghost counts_are: { (t : Self) → is_honest t → counted t ≡ counts_of (stored t) };
+
+    /// Before any call nothing has changed.
+    ghost stays_here: { (t : Self) → stays t t };
+
+    /// One call that reads after another.
+    ghost stays_then: { (a b c : Self) → stays a b → stays b c → stays a c };
+
+    /// To stay is to go on.
+    ghost stays_goes_on: { (a b : Self) → stays a b → goes_on a b };
+
+    /// One call that is answered after another.
+    ghost goes_on_then: { (a b c : Self) → goes_on a b → goes_on b c → goes_on a c };
+
+    /// A call that gives no answer, after others that did.
+    ghost fails_since: { (a b c : Self) (fault : TableFault) → goes_on a b → fails b c fault → fails a c fault };
+
+    /// Want of memory is a cause of its own, also where a caller finds it.
+    ghost memory_fails: { (a b : Self) → goes_on a b → fails a b OutOfMemory };
 }

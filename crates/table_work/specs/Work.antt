@@ -1,7 +1,8 @@
 -- What many units of work come to.
-use Rattle.std.specs.Prelude.{◌<◌, ◌^◌, ℕ, List}
+use Rattle.std.specs.Prelude.{◌≡◌, ◌⊎◌, ◌<◌, ◌^◌, ℕ, List}
 use Rattle.retrograde.specs.Graph.{Graph}
 use Rattle.retrograde.specs.Stored.{Stored, view_of}
+use Rattle.retrograde.specs.View.{IsFinished}
 use Rattle.retrograde.specs.Sound.{IsLocallySound}
 use Rattle.retrograde.specs.Successors.{packed_cmp}
 use Rattle.retrograde.specs.Units.{UnitsOfWork}
@@ -11,6 +12,12 @@ use Rattle.frontier.specs.Causes.{HasCause}
 -- this many units of work lead from one stored table to the other, within the limit of positions
 abbrev pub Works : Graph (List ℕ) → (List ℕ → Type 0) → Stored (List ℕ) → ℕ → Stored (List ℕ) → Type 0
 Works graph IsWide old units new = UnitsOfWork packed_cmp graph IsWide (2 ^ 24) (view_of old) units (view_of new)
+
+-- so many units were asked of the old table and these done, all or to its end, and the new one is locally sound again
+pub record AreDone (graph : Graph (List ℕ)) (IsWide : List ℕ → Type 0) (units : ℕ) (old : Stored (List ℕ)) (done : ℕ) (new : Stored (List ℕ)) : Type 0 where
+  pub works : Works graph IsWide old done new
+  pub all : (done ≡ units) ⊎ ((done < units) × IsFinished (view_of new))
+  pub sound : IsLocallySound graph IsWide new
 
 -- fewer units than were asked lead to a table whose next unit has this fault with its cause
 pub record StopsWith (graph : Graph (List ℕ)) (IsWide : List ℕ → Type 0) (old : Stored (List ℕ)) (units : ℕ) (fault : StepFault) : Type 0 where

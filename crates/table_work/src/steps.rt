@@ -3,9 +3,9 @@ ghost use Rattle.std.specs.Prelude.{◌≡◌, ◌↔◌, ◌⊎◌, ◌^◌, �
 ghost use Rattle.retrograde.specs.View.{IsFinished};
 ghost use Rattle.retrograde.specs.Stored.{view_of};
 ghost use Rattle.retrograde.specs.Sound.{IsLocallySound};
-ghost use Rattle.frontier.specs.Causes.{HasCause};
+ghost use Rattle.frontier.specs.Causes.{HasCause, Leaves};
 ghost use Rattle.frontier.specs.declared.fault.StepFault.TheVariants.{Inconsistent};
-ghost use Rattle.table_work.specs.Work.{Works, StopsWith};
+ghost use Rattle.table_work.specs.Work.{Works, AreDone, StopsWith};
 
 use frontier::{StepFault, expand_one};
 use legal_moves::MoveSource;
@@ -34,6 +34,8 @@ fn unit<M: MoveSource, T: Table>(
         → IfErr result (HasCause (M.graph source.now) (M.is_wide source.now) (T.stored table.old)) }
     ensures consistent { T.is_honest table.old → IsLocallySound (M.graph source.now) (M.is_wide source.now) (T.stored table.old)
         → result ≡ Err Inconsistent → ⊥ }
+    ensures ahead { OnOk result (T.goes_on table.old table.new) }
+    ensures left { IfErr result (Leaves (T.goes_on table.old table.new) (T.fails table.old table.new)) }
 {
     let counts = table.counts();
     if counts.expanded < counts.known {
@@ -65,17 +67,15 @@ pub fn work<M: MoveSource, T: Table>(
     requires limit { (T.counted table.old).known ≤ 2 ^ 24 }
     ensures limit { OnOk result ((T.counted table.new).known ≤ 2 ^ 24) }
     ensures honest { OnOk result (T.is_honest table.old ↔ T.is_honest table.new) }
-    ensures sound { T.is_honest table.old → IsLocallySound (M.graph source.now) (M.is_wide source.now) (T.stored table.old)
-        → OnOk result (IsLocallySound (M.graph source.now) (M.is_wide source.now) (T.stored table.new)) }
-    ensures works { T.is_honest table.old → IsLocallySound (M.graph source.now) (M.is_wide source.now) (T.stored table.old)
-        → IfOk result (λ done. Works (M.graph source.now) (M.is_wide source.now) (T.stored table.old) done (T.stored table.new)) }
-    ensures all { T.is_honest table.old → IsLocallySound (M.graph source.now) (M.is_wide source.now) (T.stored table.old)
-        → IfOk result (λ done. (done ≡ units) ⊎ ((done < units) × IsFinished (view_of (T.stored table.new)))) }
+    ensures done { T.is_honest table.old → IsLocallySound (M.graph source.now) (M.is_wide source.now) (T.stored table.old)
+        → IfOk result (λ done. AreDone (M.graph source.now) (M.is_wide source.now) units (T.stored table.old) done (T.stored table.new)) }
     ensures idle { IfOk result (λ done. done ≡ 0 → table.new ≡ table.old) }
     ensures cause { T.is_honest table.old → IsLocallySound (M.graph source.now) (M.is_wide source.now) (T.stored table.old)
         → IfErr result (StopsWith (M.graph source.now) (M.is_wide source.now) (T.stored table.old) units) }
     ensures consistent { T.is_honest table.old → IsLocallySound (M.graph source.now) (M.is_wide source.now) (T.stored table.old)
         → result ≡ Err Inconsistent → ⊥ }
+    ensures ahead { OnOk result (T.goes_on table.old table.new) }
+    ensures left { IfErr result (Leaves (T.goes_on table.old table.new) (T.fails table.old table.new)) }
 {
     for done in 0..units {
         if !unit(alloc, source, table)? {

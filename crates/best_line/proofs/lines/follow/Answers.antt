@@ -32,6 +32,7 @@ returns-in_err-at-clause-cause g c = λ honest sound value.
 pub loop-step-preserved : goal.loop-step-preserved
 loop-step-preserved g c = record {
   counts = search rules;
+  stays = g.met.T.Table.stays_then _ _ _ c.loop-step.invariant.stays c.in_ok-at.ensures.stays;
   known = search rules;
   source = refl;
   honest = search rules;

@@ -8,6 +8,7 @@ invariant-loop-step g l = record {
   counts : g.T.Table.counted l.table ≡ g.T.Table.counted l.fn.table;
   known : l.at < (g.T.Table.counted l.fn.table).known;
   source : l.source ≡ l.fn.source;
+  stays : g.T.Table.stays l.fn.table l.table;
   honest : g.T.Table.is_honest l.fn.table ↔ g.T.Table.is_honest l.table;
   same : g.T.Table.is_honest l.fn.table → g.T.Table.stored l.table ≡ g.T.Table.stored l.fn.table;
   begins : slice_get l.numbers.items 0 ≡ Some l.fn.number;

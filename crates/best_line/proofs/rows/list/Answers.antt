@@ -8,6 +8,7 @@ use Rattle.best_line.proofs.rows.list.Goals as goal
 pub loop-number-preserved : goal.loop-number-preserved
 loop-number-preserved g c = record {
   counts = search rules;
+  stays = g.met.T.Table.stays_then _ _ _ c.loop-number.invariant.stays c.in_ok-value.ensures.stays;
   honest = search rules;
   same = search rules;
   lengths = search rules;

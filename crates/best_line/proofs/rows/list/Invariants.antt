@@ -7,6 +7,7 @@ use Rattle.best_line.proofs.rows.list.Given as goal
 abbrev pub invariant-loop-number : goal.invariant-loop-number
 invariant-loop-number g l = record {
   counts : g.T.Table.counted l.table ≡ g.T.Table.counted l.fn.table;
+  stays : g.T.Table.stays l.fn.table l.table;
   honest : g.T.Table.is_honest l.fn.table ↔ g.T.Table.is_honest l.table;
   same : g.T.Table.is_honest l.fn.table → g.T.Table.stored l.table ≡ g.T.Table.stored l.fn.table;
   lengths : l.from + length l.rows.items ≡ l.number;

@@ -22,6 +22,7 @@ returns-then-is_some-clause-found g c = λ honest table.
 pub loop-position-preserved : goal.loop-position-preserved
 loop-position-preserved g c = record {
   counts = search rules;
+  stays = g.met.T.Table.stays_then _ _ _ c.loop-position.invariant.stays c.in_ok-found.ensures.stays;
   honest = search rules;
   same = search rules;
   passed = λ honest table.

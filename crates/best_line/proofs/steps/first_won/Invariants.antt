@@ -7,6 +7,7 @@ use Rattle.best_line.proofs.steps.first_won.Given as goal
 abbrev pub invariant-loop-position : goal.invariant-loop-position
 invariant-loop-position g l = record {
   counts : g.T.Table.counted l.table ≡ g.T.Table.counted l.fn.table;
+  stays : g.T.Table.stays l.fn.table l.table;
   honest : g.T.Table.is_honest l.fn.table ↔ g.T.Table.is_honest l.table;
   same : g.T.Table.is_honest l.fn.table → g.T.Table.stored l.table ≡ g.T.Table.stored l.fn.table;
   passed : g.T.Table.is_honest l.fn.table → IsTable (g.T.Table.stored l.fn.table)

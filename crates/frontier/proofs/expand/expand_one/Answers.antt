@@ -98,20 +98,8 @@ is_done g c honest sound =
 pub returns-clause-expands : goal.returns-clause-expands
 returns-clause-expands g c = λ honest sound. (is_done g c honest sound).expands
 
-pub returns-clause-sound : goal.returns-clause-sound
-returns-clause-sound g c = λ honest sound. (is_done g c honest sound).sound
-
-pub returns-clause-step : goal.returns-clause-step
-returns-clause-step g c = λ honest sound. (is_done g c honest sound).step
-
-pub returns-clause-right : goal.returns-clause-right
-returns-clause-right g c = λ honest sound. (is_done g c honest sound).right
-
 pub returns-clause-last : goal.returns-clause-last
 returns-clause-last g c = λ honest sound. (is_done g c honest sound).last
 
-pub returns-clause-reached : goal.returns-clause-reached
-returns-clause-reached g c = λ honest sound. (is_done g c honest sound).reached
-
-pub returns-clause-drawn : goal.returns-clause-drawn
-returns-clause-drawn g c = λ honest sound. (is_done g c honest sound).drawn
+pub returns-clause-done : goal.returns-clause-done
+returns-clause-done g c = λ honest sound. (is_done g c honest sound).done

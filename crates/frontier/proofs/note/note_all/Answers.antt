@@ -17,6 +17,7 @@ loop-i-preserved g c = record {
   known = let a : (g.T.Table.counted c.args.table.now).known ≤ (g.T.Table.counted c.loop-i.table).known = c.loop-i.invariant.known in omega (arith, c.in_ok-note.ensures.more);
   room = λ few. c.in_ok-note.ensures.room (c.loop-i.invariant.room few);
   honest = (λ first. c.in_ok-note.ensures.honest.0 (c.loop-i.invariant.honest.0 first), λ last. c.loop-i.invariant.honest.1 (c.in_ok-note.ensures.honest.1 last));
+  ahead = g.met.T.Table.goes_on_then _ _ _ c.loop-i.invariant.ahead c.in_ok-note.ensures.ahead;
   ready = λ honest.
       let h = c.loop-i.invariant.honest.0 honest in
       let (noted, ready) = c.loop-i.invariant.ready honest in

@@ -11,6 +11,7 @@ invariant-loop-i g l = record {
   known : (g.T.Table.counted l.fn.table).known ≤ (g.T.Table.counted l.table).known;
   room : (g.T.Table.counted l.fn.table).known ≤ 2 ^ 24 → (g.T.Table.counted l.table).known ≤ 2 ^ 24;
   honest : g.T.Table.is_honest l.fn.table ↔ g.T.Table.is_honest l.table;
+  ahead : g.T.Table.goes_on l.fn.table l.table;
   ready : g.T.Table.is_honest l.fn.table
       → AreNoted l.predecessor (take l.i (bytes_of_each l.successors)) (g.T.Table.stored l.fn.table) (g.T.Table.stored l.table)
       × IsReady packed_cmp nat_list_cmp_total (g.T.Table.stored l.fn.table).positions l.predecessor

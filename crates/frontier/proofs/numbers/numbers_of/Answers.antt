@@ -12,6 +12,7 @@ loop-position-preserved g c = record {
   lengths = search rules;
   within = search rules;
   honest = search rules;
+  stays = g.met.T.Table.stays_then _ _ _ c.loop-position.invariant.stays c.in_ok-number.ensures.stays;
   same = search rules;
   numbers = λ honest.
       let h = c.loop-position.invariant.honest.0 honest in

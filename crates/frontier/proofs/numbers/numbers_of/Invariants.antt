@@ -11,6 +11,7 @@ invariant-loop-position g l = record {
   lengths : length l.each.items ≡ l.position-index;
   within : All (λ i. i < l.next) l.each.items;
   honest : g.T.Table.is_honest l.fn.table ↔ g.T.Table.is_honest l.table;
+  stays : g.T.Table.stays l.fn.table l.table;
   same : g.T.Table.is_honest l.fn.table → g.T.Table.stored l.table ≡ g.T.Table.stored l.fn.table;
   numbers : g.T.Table.is_honest l.fn.table → AreNumbersOf (g.T.Table.stored l.fn.table).positions (length (g.T.Table.stored l.fn.table).positions)
       (take l.position-index (bytes_of_each l.positions)) l.each.items l.next;

@@ -18,6 +18,7 @@ loop-predecessor-preserved g c = record {
   within = let p : c.in-Some.predecessor < (g.T.Table.counted c.loop-predecessor.table).known = rw c.in-Some.is at c.in_ok-predecessor.ensures.within in omega (arith, c.loop-predecessor.invariant.known);
   known = search rules;
   honest = search rules;
+  ahead = g.met.T.Table.goes_on_then _ _ _ (g.met.T.Table.goes_on_then _ _ _ c.loop-predecessor.invariant.ahead (g.met.T.Table.stays_goes_on _ _ c.in_ok-predecessor.ensures.stays)) c.in_ok-lower.ensures.ahead;
   source = refl;
   done = λ honest.
       let h = c.loop-predecessor.invariant.honest.0 honest in

@@ -8,6 +8,7 @@ invariant-loop-predecessor g l = record {
   within : bound_of l.after ≤ (g.T.Table.counted l.fn.table).known;
   known : (g.T.Table.counted l.table).known ≡ (g.T.Table.counted l.fn.table).known;
   honest : g.T.Table.is_honest l.fn.table ↔ g.T.Table.is_honest l.table;
+  ahead : g.T.Table.goes_on l.fn.table l.table;
   source : l.source ≡ l.fn.source;
   done : g.T.Table.is_honest l.fn.table → g.T.Table.stored l.table
       ≡ lowered_below (g.M.GameGraph.graph l.fn.source) l.number l.winner l.distance (bound_of l.after) (g.T.Table.stored l.fn.table);

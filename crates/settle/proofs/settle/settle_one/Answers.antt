@@ -27,8 +27,8 @@ returns-then-settled-before-clause-consistent g c = λ honest sound is.
     let after = c.counts-settled.ensures ∙ g.met.T.Table.counts_are c.lower_all.new.table (c.in_ok-lower_all.ensures.honest.0 h) in
     omega (arith, done.longer, ap (λ (k : Counts). k.settled) (c.counts-before.ensures ∙ counts), ap (λ (k : Counts). k.settled) after, c.if-settled-before.true)
 
-pub returns : goal.returns
-returns g c =
+pub returns-clause-settles : goal.returns-clause-settles
+returns-clause-settles g c =
     let it : (honest : g.T.Table.is_honest c.args.table.now)
     (sound : IsLocallySound (g.M.GameGraph.graph c.args.source.now) (g.M.GameGraph.is_wide c.args.source.now) (g.T.Table.stored c.args.table.now))
     → IsDone (g.M.GameGraph.graph c.args.source.now) (g.M.GameGraph.is_wide c.args.source.now) (g.T.Table.stored c.args.table.now) sound
@@ -42,16 +42,21 @@ returns g c =
     c.in_ok-next.next.number c.in_ok-next.next.kept c.in_ok-next.next.winner (c.in_ok-next.ensures.next honest) full few
     (g.T.Table.stored c.process_next.new.table) (g.T.Table.stored c.lower_all.new.table) (c.in_ok-next.ensures.marked honest)
     (c.in_ok-lower_all.ensures.lowered (c.in_ok-next.ensures.honest.0 honest)) in
-    record {
-      honest = search rules;
-      settles = λ honest sound. (_, _, _, (it honest sound).settles);
-      known = search rules;
-      newly = search rules;
-      sound = λ honest sound. (it honest sound).sound;
-      step = λ honest sound. (it honest sound).step;
-      right = λ honest sound. (it honest sound).right;
-      reached = λ honest sound. (it honest sound).reached;
-      drawn = λ honest sound. (it honest sound).drawn;
-      consistent = search rules;
-      goes_on = search rules;
-    }
+    λ honest sound. (_, _, _, (it honest sound).settles)
+
+pub returns-clause-done : goal.returns-clause-done
+returns-clause-done g c =
+    let it : (honest : g.T.Table.is_honest c.args.table.now)
+    (sound : IsLocallySound (g.M.GameGraph.graph c.args.source.now) (g.M.GameGraph.is_wide c.args.source.now) (g.T.Table.stored c.args.table.now))
+    → IsDone (g.M.GameGraph.graph c.args.source.now) (g.M.GameGraph.is_wide c.args.source.now) (g.T.Table.stored c.args.table.now) sound
+    c.in_ok-next.next.number c.in_ok-next.next.kept c.in_ok-next.next.winner (c.in_ok-next.ensures.next honest) (g.T.Table.stored c.lower_all.new.table)
+    = λ honest sound.
+    let counts = g.met.T.Table.counts_are c.args.table.now honest in
+    let few : length (g.T.Table.stored c.args.table.now).positions ≤ 2 ^ 24 = omega (arith, ap (λ (k : Counts). k.known) counts, c.requires.limit) in
+    let full : expanded_count (g.T.Table.stored c.args.table.now) ≡ length (g.T.Table.stored c.args.table.now).positions =
+    omega (arith, ap (λ (k : Counts). k.expanded) counts, ap (λ (k : Counts). k.known) counts, c.requires.expanded) in
+    done_from (g.M.GameGraph.graph c.args.source.now) (g.M.GameGraph.is_wide c.args.source.now) (g.T.Table.stored c.args.table.now) sound
+    c.in_ok-next.next.number c.in_ok-next.next.kept c.in_ok-next.next.winner (c.in_ok-next.ensures.next honest) full few
+    (g.T.Table.stored c.process_next.new.table) (g.T.Table.stored c.lower_all.new.table) (c.in_ok-next.ensures.marked honest)
+    (c.in_ok-lower_all.ensures.lowered (c.in_ok-next.ensures.honest.0 honest)) in
+    λ honest sound. (it honest sound).unit

@@ -7,6 +7,7 @@ pub loop-done-init : goal.loop-done-init
 loop-done-init g c = record {
   limit = c.requires.limit;
   honest = (λ h. h, λ h. h);
+  ahead = g.met.T.Table.stays_goes_on _ _ (g.met.T.Table.stays_here _);
   source = refl;
   sound = λ honest sound. sound;
   works = λ honest sound.
@@ -19,6 +20,7 @@ pub loop-done-preserved : goal.loop-done-preserved
 loop-done-preserved g c = record {
   limit = search rules;
   honest = search rules;
+  ahead = g.met.T.Table.goes_on_then _ _ _ c.loop-done.invariant.ahead c.in_ok-unit.ensures.ahead;
   source = refl;
   sound = search rules;
   works = λ honest sound.

@@ -7,6 +7,7 @@ abbrev pub invariant-loop-done : goal.invariant-loop-done
 invariant-loop-done g l = record {
   limit : (g.T.Table.counted l.table).known ≤ 2 ^ 24;
   honest : g.T.Table.is_honest l.fn.table ↔ g.T.Table.is_honest l.table;
+  ahead : g.T.Table.goes_on l.fn.table l.table;
   source : l.source ≡ l.fn.source;
   sound : g.T.Table.is_honest l.fn.table → IsLocallySound (g.M.GameGraph.graph l.fn.source) (g.M.GameGraph.is_wide l.fn.source) (g.T.Table.stored l.fn.table)
       → IsLocallySound (g.M.GameGraph.graph l.fn.source) (g.M.GameGraph.is_wide l.fn.source) (g.T.Table.stored l.table);

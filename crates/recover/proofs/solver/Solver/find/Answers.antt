@@ -18,13 +18,13 @@ pub returns-in-None-clause-asked : goal.returns-in-None-clause-asked
 returns-in-None-clause-asked g c = λ ready. asked _ _ _ ready c.number_of.ensures.same
 
 pub returns-in-Some-2-clause-number : goal.returns-in-Some-2-clause-number
-returns-in-Some-2-clause-number g c = λ ready.
+returns-in-Some-2-clause-number g c = λ ready honest.
     let here = ready_with c.in-Some.is ready in
     text_found c.in-Some.source c.in-Some-position.packed.items c.args.text.now _ c.in-Some-2.number here.source_is c.in-Some-position.ensures
     (λ k is. rw c.in-Some-2.is at c.in_ok-number.ensures.found k is)
 
 pub returns-in-None-clause-cause : goal.returns-in-None-clause-cause
-returns-in-None-clause-cause g c = λ ready.
+returns-in-None-clause-cause g c = λ ready honest.
     let here = ready_with c.in-Some.is ready in
     text_unknown c.in-Some.source c.in-Some-position.packed.items c.args.text.now _ here.source_is c.in-Some-position.ensures
     (λ k is. rw c.in-None.is at c.in_ok-number.ensures.unknown k is)

@@ -6,11 +6,11 @@ use Rattle.recover.proofs.solver.Solver.load.Goals as goal
 
 pub returns-then-is_some-clause-refused : goal.returns-then-is_some-clause-refused
 returns-then-is_some-clause-refused g c = λ ready.
-    nothing_done _ _ _ ready.stands (refl, has_game c.text.result (λ t. t.now) _ c.is_some.result c.is_some.ensures c.if-is_some.true c.text.ensures.some)
+    nothing_done _ _ _ ready.stands ((λ honest. refl), has_game c.text.result (λ t. t.now) _ c.is_some.result c.is_some.ensures c.if-is_some.true c.text.ensures.some)
 
 pub returns-in_err-source-clause-refused : goal.returns-in_err-source-clause-refused
 returns-in_err-source-clause-refused g c = λ ready.
-    passed_on _ c.from_residual.result _ c.from_residual.ensures (nothing_done _ _ _ ready.stands (refl, c.in_err-source.ensures.fault))
+    passed_on _ c.from_residual.result _ c.from_residual.ensures (nothing_done _ _ _ ready.stands ((λ honest. refl), c.in_err-source.ensures.fault))
 
 pub returns-in_err-load-clause-refused : goal.returns-in_err-load-clause-refused
 returns-in_err-load-clause-refused g c = λ ready.
@@ -26,6 +26,6 @@ returns-clause-done g c = λ ready.
     loaded_done _ _ _ c.in_ok-source.ensures.reads c.start.ensures.start _ _ none c.load.ensures.ahead.goes_on (c.in_ok-load.ensures.ok ready.stands)
 
 pub returns-clause-sound : goal.returns-clause-sound
-returns-clause-sound g c = λ ready sound.
+returns-clause-sound g c = λ ready honest sound.
     let none = has_none c.text.result _ c.is_some.result c.is_some.ensures c.if-is_some.false c.text.ensures.none in
     loaded_sound _ _ _ c.in_ok-source.ensures.reads c.start.ensures.start _ _ none (c.in_ok-load.ensures.ok ready.stands)

@@ -1,5 +1,6 @@
 use Rattle.std.proofs.Common.{arith, rules}
 use Rattle.std.proofs.lemmas.List.{take_all}
+use Rattle.sector_disk.specs.Moments.{still_honest}
 use Rattle.recover.proofs.Prefixes.{stopped_run}
 use Rattle.recover.proofs.Turning.{ahead_then, run_begins, run_goes_on}
 use Rattle.recover.proofs.solver.Solver.run.Goals as goal
@@ -13,7 +14,7 @@ loop-command-preserved g c =
       room = omega (arith, so_far.room, pushed.len, pushed.capacity, c.loop-command-test.true);
       ready = λ ready. reply.ready (so_far.ready ready);
       ahead = ahead_then so_far.ahead reply.ahead;
-      sound = λ ready sound. reply.sound (so_far.ready ready) (so_far.sound ready sound);
+      sound = λ ready honest sound. reply.sound (so_far.ready ready) (still_honest so_far.ahead.goes_on honest) (so_far.sound ready honest sound);
       run = λ ready.
           run_goes_on c.args.commands.now c.loop-command.command-index c.command-item.result c.answer-reply.result c.args.replies.now.items c.loop-command.replies.items
           c.push.new.self.items _ _ _ c.loop-command-test.true c.command-item.is reply.ahead.goes_on pushed.items (so_far.run ready) (reply.turn (so_far.ready ready));
@@ -24,7 +25,7 @@ loop-command-init g c = record {
   room = search rules;
   ready = λ ready. ready;
   ahead = search rules;
-  sound = λ ready sound. sound;
+  sound = λ ready honest sound. sound;
   run = λ ready. rw c.in_ok-reserve.ensures.items (run_begins c.args.replies.now.items _ _ ready);
 }
 

@@ -1,4 +1,5 @@
 use Rattle.std.proofs.Common.{◌+◌, ◌-◌, ◌≤◌, length, take}
+use Rattle.std.specs.Prelude.{IsTrue}
 use Rattle.std.specs.Vec.{vec_len, vec_capacity}
 use Rattle.recover.specs.Held.{IsSound}
 use Rattle.recover.specs.Runs.{IsRun}
@@ -13,6 +14,6 @@ invariant-loop-command g l =
       room : vec_len l.replies + (length l.fn.commands - l.command-index) ≤ vec_capacity l.replies;
       ready : its.is_ready l.fn.self → its.is_ready l.self;
       ahead : GoesAhead (its.state l.fn.self) (its.state l.self);
-      sound : its.is_ready l.fn.self → IsSound (its.state l.fn.self).kept → IsSound (its.state l.self).kept;
+      sound : its.is_ready l.fn.self → IsTrue (its.state l.fn.self).disk.honest → IsSound (its.state l.fn.self).kept → IsSound (its.state l.self).kept;
       run : its.is_ready l.fn.self → IsRun (take l.command-index l.fn.commands) l.fn.replies.items l.replies.items (its.state l.fn.self) (its.state l.self);
     }

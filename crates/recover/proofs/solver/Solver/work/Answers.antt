@@ -24,7 +24,7 @@ returns-in_err-commit-clause-refused g c = λ ready.
     (not_committed _ _ _ _ _ _ _ c.counts-counts.ensures next.works _ _ _ here c.in-Some-table.ensures.some refused.err refused.cause refused.still)
 
 pub returns-in_err-commit-clause-sound : goal.returns-in_err-commit-clause-sound
-returns-in_err-commit-clause-sound g c = λ ready sound.
+returns-in_err-commit-clause-sound g c = λ ready honest sound.
     let here = ready_with c.in-Some.is ready in
     let next = c.in_ok-next.ensures in
     not_committed_sound _ _ _ _ _ _ _ c.counts-counts.ensures next.works _ _ here c.in-Some-table.ensures.some c.in_err-commit.ensures.err sound
@@ -43,7 +43,7 @@ returns-in_ok-commit-clause-done g c = λ ready.
     committed _ _ _ _ _ _ _ c.counts-counts.ensures next.works _ _ here c.in-Some-table.ensures.some c.commit.ensures.ahead.goes_on c.in_ok-commit.ensures.ok
 
 pub returns-in_ok-commit-clause-sound : goal.returns-in_ok-commit-clause-sound
-returns-in_ok-commit-clause-sound g c = λ ready sound.
+returns-in_ok-commit-clause-sound g c = λ ready honest sound.
     let here = ready_with c.in-Some.is ready in
     let next = c.in_ok-next.ensures in
     committed_sound _ _ _ _ _ _ _ c.counts-counts.ensures next.works _ _ here c.in-Some-table.ensures.some c.in_ok-commit.ensures.ok sound
