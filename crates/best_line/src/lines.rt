@@ -5,6 +5,7 @@ ghost use Rattle.retrograde.specs.Sound.{IsLocallySound};
 ghost use Rattle.best_line.specs.Lines.{IsBestLine, IsBestPlay};
 ghost use Rattle.best_line.specs.Causes.{IsCause, OfTable};
 ghost use Rattle.best_line.specs.declared.fault.LineFault.TheVariants.{NotSettled};
+ghost use Rattle.table.specs.Faults.{NeedsNoPage};
 
 use crate::answers::Value;
 use crate::fault::LineFault;
@@ -37,6 +38,7 @@ fn follow<M: MoveSource, T: Table>(
     ensures honest { T.is_honest table.old ↔ T.is_honest table.new }
     ensures counts { T.counted table.new ≡ T.counted table.old }
     ensures stays { T.stays table.old table.new }
+    ensures room { IfErr result (OfTable NeedsNoPage) }
     ensures fault { IfErr result (OfTable (T.fails table.old table.new)) }
 {
     let mut numbers = Vec::new(alloc);
@@ -73,6 +75,7 @@ pub fn line<M: MoveSource, T: Table>(
     ensures honest { T.is_honest table.old ↔ T.is_honest table.new }
     ensures counts { T.counted table.new ≡ T.counted table.old }
     ensures stays { T.stays table.old table.new }
+    ensures room { IfErr result (OfTable NeedsNoPage) }
     ensures fault { IfErr result (OfTable (T.fails table.old table.new)) }
 {
     match value(table, number)? {

@@ -2,6 +2,7 @@
 ghost use Rattle.std.specs.Prelude.{◌≡◌, ◌↔◌, ◌-◌, ◌<◌, ◌≤◌, IfOk, OnOk, IfErr, length, min};
 ghost use Rattle.retrograde.specs.Stored.{IsTable, view_of};
 ghost use Rattle.best_line.specs.Rows.{AreRows};
+ghost use Rattle.table.specs.Faults.{NeedsNoPage};
 
 use crate::answers::Row;
 use crate::values::value;
@@ -29,6 +30,7 @@ pub fn list<T: Table>(
     ensures honest { T.is_honest table.old ↔ T.is_honest table.new }
     ensures counts { T.counted table.new ≡ T.counted table.old }
     ensures stays { T.stays table.old table.new }
+    ensures room { IfErr result NeedsNoPage }
     ensures fault { IfErr result (T.fails table.old table.new) }
 {
     let end = from + count.min(table.counts().known - from);

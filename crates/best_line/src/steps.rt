@@ -6,6 +6,7 @@ ghost use Rattle.retrograde.specs.Stored.{IsTable, view_of};
 ghost use Rattle.best_line.specs.Lines.{IsFirstWon, IsBestStep, HasNoStep};
 ghost use Rattle.best_line.specs.Causes.{OfTable};
 ghost use Rattle.best_line.specs.declared.fault.LineFault.TheVariants.{NotSettled, Inconsistent, TooWide};
+ghost use Rattle.table.specs.Faults.{NeedsNoPage};
 
 use crate::fault::LineFault;
 use legal_moves::MoveSource;
@@ -30,6 +31,7 @@ fn number_if_won<T: Table>(
     ensures honest { T.is_honest table.old ↔ T.is_honest table.new }
     ensures counts { T.counted table.new ≡ T.counted table.old }
     ensures stays { T.stays table.old table.new }
+    ensures room { IfErr result NeedsNoPage }
     ensures fault { IfErr result (T.fails table.old table.new) }
 {
     let Some(number) = table.number_of(position)? else {
@@ -59,6 +61,7 @@ fn first_won<T: Table>(
     ensures honest { T.is_honest table.old ↔ T.is_honest table.new }
     ensures counts { T.counted table.new ≡ T.counted table.old }
     ensures stays { T.stays table.old table.new }
+    ensures room { IfErr result NeedsNoPage }
     ensures fault { IfErr result (T.fails table.old table.new) }
 {
     for position in positions {
@@ -94,6 +97,7 @@ pub fn next_on_line<M: MoveSource, T: Table>(
     ensures honest { T.is_honest table.old ↔ T.is_honest table.new }
     ensures counts { T.counted table.new ≡ T.counted table.old }
     ensures stays { T.stays table.old table.new }
+    ensures room { IfErr result (OfTable NeedsNoPage) }
     ensures fault { IfErr result (OfTable (T.fails table.old table.new)) }
 {
     let packed = table.packed(number)?;

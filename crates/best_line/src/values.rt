@@ -3,6 +3,7 @@ ghost use Rattle.std.specs.Prelude.{◌≡◌, ◌↔◌, ◌<◌, ℕ, List, tr
 ghost use Rattle.retrograde.specs.Stored.{Stored, HasRecord, IsTable, view_of};
 ghost use Rattle.retrograde.specs.Changes.{counts_of};
 ghost use Rattle.best_line.specs.Values.{IsValue, IsUnsettled};
+ghost use Rattle.table.specs.Faults.{NeedsNoPage};
 
 use crate::answers::Value;
 use retrograde::{Counts, Record};
@@ -42,6 +43,7 @@ pub fn value<T: Table>(table: &mut T, number: u32) -> Result<Value, TableFault>
     ensures honest { T.is_honest table.old ↔ T.is_honest table.new }
     ensures counts { T.counted table.new ≡ T.counted table.old }
     ensures stays { T.stays table.old table.new }
+    ensures room { IfErr result NeedsNoPage }
     ensures fault { IfErr result (T.fails table.old table.new) }
 {
     let kept = table.record(number)?;

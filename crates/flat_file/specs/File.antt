@@ -8,7 +8,8 @@ use Rattle.page_store.specs.Store.{Store, IsSound}
 use Rattle.table.specs.InMemory.{stored_in}
 use Rattle.table.specs.Fitting.{Fits}
 use Rattle.flat_file.specs.declared.game.Game.{Game}
-use Rattle.flat_file.specs.Held.{Kept, Keeps}
+use Rattle.flat_file.specs.Held.{Keeps}
+use Rattle.game_file.specs.Kept.{Kept}
 
 -- a table's file: its pages, and in memory the game of the last commit, if one is loaded
 pub record File : Type 0 where

@@ -4,16 +4,12 @@ use Rattle.sector_disk.specs.Disk.{Picture}
 use Rattle.root_pair.specs.Root.{HoldsRoot}
 use Rattle.page_store.specs.Page.{page}
 use Rattle.page_chain.specs.Chain.{IsChain}
-use Rattle.retrograde.specs.Stored.{Stored, IsTable}
+use Rattle.retrograde.specs.Stored.{IsTable}
 use Rattle.retrograde.specs.Changes.{counts_of}
 use Rattle.table_bytes.specs.Numbers.{AreWithinLimits, bytes_in}
 use Rattle.table_bytes.specs.Spelled.{Spells}
+use Rattle.game_file.specs.Kept.{Kept}
 use Rattle.root_slot.specs.Slot.{layout_in, packing_in, first_in, sizes_in, IsEmptySlot}
-
--- what is kept of a game: its text, and its table
-pub record Kept : Type 0 where
-  pub text : List ℕ
-  pub table : Stored (List ℕ)
 
 -- the chain of pages that the slot names spells the text and a table whose parts fit together, and the slot counts it right
 pub record KeepsGame (root : List ℕ) (capacity : ℕ) (kept : Kept) (bytes : ℕ → List ℕ) : Type 0 where

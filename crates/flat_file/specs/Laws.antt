@@ -9,7 +9,8 @@ use Rattle.page_store.specs.Spelling.{SpelledBy, Spells}
 use Rattle.page_store.specs.Store.{StopLeaves}
 use Rattle.page_chain.specs.Resting.{a_chain_rests_on_its_pages, a_chain_fits_more}
 use Rattle.flat_file.specs.File.{File, IsFile, kept_of}
-use Rattle.flat_file.specs.Held.{Kept, KeepsGame, Keeps, capacity_of, Stores}
+use Rattle.flat_file.specs.Held.{KeepsGame, Keeps, capacity_of, Stores}
+use Rattle.game_file.specs.Kept.{Kept}
 
 -- what is kept of a game rests on the pages of its chain alone
 pub game_rests_on_its_pages : (root : List ℕ) (capacity : ℕ) (kept : Kept) (bytes : ℕ → List ℕ) (it : KeepsGame root capacity kept bytes)

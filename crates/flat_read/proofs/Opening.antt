@@ -15,7 +15,8 @@ use Rattle.page_store.specs.Works.{works_refl}
 use Rattle.page_chain.specs.Causes.{AllWait}
 use Rattle.page_chain.specs.Links.{OnlyMarks}
 use Rattle.flat_file.specs.File.{IsBacked}
-use Rattle.flat_file.specs.Held.{Kept, Keeps}
+use Rattle.flat_file.specs.Held.{Keeps}
+use Rattle.game_file.specs.Kept.{Kept}
 use Rattle.flat_read.specs.Reading.{IsRead}
 
 -- a stop before the first call leaves what it may leave

@@ -18,7 +18,8 @@ use Rattle.root_slot.specs.declared.slot.GameSlot.{GameSlot}
 use Rattle.root_slot.specs.Slot.{sizes_in, SaysGame}
 use Rattle.flat_file.specs.declared.game.Game.{Game}
 use Rattle.flat_file.specs.File.{kept_in}
-use Rattle.flat_file.specs.Held.{Kept, KeepsGame, Keeps}
+use Rattle.flat_file.specs.Held.{KeepsGame, Keeps}
+use Rattle.game_file.specs.Kept.{Kept}
 use Rattle.flat_file.specs.Laws.{game_rests_on_its_pages}
 use Rattle.flat_read.specs.Causes.{ReadCause}
 use Rattle.flat_read.specs.Reading.{IsGameOf, TableCause, IsRead}

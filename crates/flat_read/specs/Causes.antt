@@ -5,7 +5,8 @@ use Rattle.page_chain.specs.Causes.{AllWait}
 use Rattle.page_store.specs.declared.fault.PageFault.{PageFault}
 use Rattle.page_store.specs.declared.fault.PageFault.TheVariants.{Disk, NotATable, Damaged, TableFull, OutOfMemory, Closed}
 use Rattle.page_store.specs.Store.{Store, reads}
-use Rattle.flat_file.specs.Held.{Kept, Keeps}
+use Rattle.flat_file.specs.Held.{Keeps}
+use Rattle.game_file.specs.Kept.{Kept}
 
 -- the disk failed; with a root and pages that all wait, on an honest disk, the slot and the pages spell no table, or there
 -- are fewer than 16 pages; the store is closed; or memory is short

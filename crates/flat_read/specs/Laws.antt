@@ -7,7 +7,8 @@ use Rattle.page_chain.specs.Resting.{a_chain_has_one_content}
 use Rattle.table_bytes.specs.Spelled.{Spells}
 use Rattle.table_bytes.specs.Laws.{tables_have_their_length, bytes_spell_one_table}
 use Rattle.root_slot.specs.Slot.{first_in, sizes_in}
-use Rattle.flat_file.specs.Held.{Kept, Keeps, capacity_of, Stores}
+use Rattle.flat_file.specs.Held.{Keeps, capacity_of, Stores}
+use Rattle.game_file.specs.Kept.{Kept}
 
 -- slot and pages spell one table at most
 pub a_root_keeps_one_table : (root : List ℕ) (capacity : ℕ) (one other : Option Kept) (bytes : ℕ → List ℕ) → Keeps root capacity one bytes → Keeps root capacity other bytes → one ≡ other

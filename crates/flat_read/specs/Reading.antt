@@ -13,7 +13,8 @@ use Rattle.table.specs.InMemory.{stored_in}
 use Rattle.table_bytes.specs.declared.sizes.Sizes.{Sizes}
 use Rattle.table_bytes.specs.Spelled.{Spells}
 use Rattle.flat_file.specs.declared.game.Game.{Game}
-use Rattle.flat_file.specs.Held.{Kept, Keeps}
+use Rattle.flat_file.specs.Held.{Keeps}
+use Rattle.game_file.specs.Kept.{Kept}
 
 -- the parts of the table fit together, and there is of each as much as the sizes say
 pub record IsWhole (sizes : Sizes) (stored : Stored (List ℕ)) : Type 0 where

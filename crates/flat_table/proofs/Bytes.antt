@@ -8,15 +8,15 @@ use Rattle.page_store.specs.Marks.{free_one, free_count}
 use Rattle.page_store.specs.Store.{Store}
 use Rattle.table_bytes.specs.declared.sizes.Sizes.{Sizes}
 use Rattle.table_bytes.specs.Laws.{tables_have_their_length}
-use Rattle.flat_file.specs.Held.{Kept}
+use Rattle.game_file.specs.Kept.{Kept}
 use Rattle.flat_write.specs.Causes.{SaveCause}
 use Rattle.flat_write.specs.Laws.{a_table_has_bytes}
 use Rattle.flat_write.specs.Saving.{AreBytesOf}
-use Rattle.flat_table.specs.declared.fault.FileFault.{FileFault}
-use Rattle.flat_table.specs.declared.fault.FileFault.TheVariants.{Disk, NotATable, AlreadyATable, Damaged, TooSmall, TableFull, OutOfMemory, Closed, Inconsistent}
+use Rattle.game_file.specs.declared.fault.FileFault.{FileFault}
+use Rattle.game_file.specs.declared.fault.FileFault.TheVariants.{Disk, NotATable, AlreadyATable, Damaged, TooSmall, TableFull, OutOfMemory, Closed, Inconsistent}
 use Rattle.flat_table.specs.Bytes.{HasManyEdges, BytesCause}
 use Rattle.flat_table.specs.Causes.{IsTooLong, PutCause}
-use Rattle.flat_table.specs.Faults.{page_fault}
+use Rattle.game_file.specs.Faults.{of_pages}
 
 one_free : (m : Mark) → free_one m ≤ 1
 one_free Committed = omega arith
@@ -53,7 +53,7 @@ bytes_cause kept packed store Inconsistent few cause = cause
 
 -- why bytes are not saved
 pub save_cause : (kept : Kept) (packed : ℕ) (sizes : Sizes) (bytes : List ℕ) (old new : Store) (fault : PageFault) → AreBytesOf kept sizes bytes
-    → SaveCause (length bytes) old new fault → PutCause kept packed old new (page_fault fault)
+    → SaveCause (length bytes) old new fault → PutCause kept packed old new (of_pages fault)
 save_cause kept packed sizes bytes old new page.Disk are cause = cause
 save_cause kept packed sizes bytes old new page.NotATable are cause = cause
 save_cause kept packed sizes bytes old new page.Damaged are cause = cause

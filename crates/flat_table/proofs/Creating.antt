@@ -7,13 +7,14 @@ use Rattle.sector_disk.specs.Moments.{goes_on_trans, leaves_then, leaves_more, s
 use Rattle.root_pair.specs.Rest.{rest_leaves, synced_rests}
 use Rattle.root_pair.specs.Root.{Begins, HoldsRoot, IsMade, OldOrNoneOrNew}
 use Rattle.root_slot.specs.Slot.{IsEmptySlot}
-use Rattle.flat_file.specs.File.{File, kept_of}
 use Rattle.flat_file.specs.Held.{Stores}
 use Rattle.flat_read.specs.Laws.{a_picture_stores_one_table}
-use Rattle.flat_table.specs.declared.fault.FileFault.{FileFault}
-use Rattle.flat_table.specs.declared.fault.FileFault.TheVariants.{Disk as DiskFailed, NotATable, AlreadyATable, Damaged, TooSmall, TableFull, OutOfMemory, Closed, Inconsistent}
-use Rattle.flat_table.specs.Calls.{GoesFrom, IsOpened, IsNotOpened, OldOrEmpty, IsCreated, IsNotCreated}
-use Rattle.flat_table.specs.Causes.{OpenCause, CreateCause}
+use Rattle.game_file.specs.declared.fault.FileFault.{FileFault}
+use Rattle.game_file.specs.declared.fault.FileFault.TheVariants.{Disk as DiskFailed, NotATable, AlreadyATable, Damaged, TooSmall, TableFull, OutOfMemory, Closed, Inconsistent}
+use Rattle.game_file.specs.Calls.{IsOpenedFile, IsNotOpened, IsCreatedFile, IsNotCreated}
+use Rattle.game_file.specs.Causes.{OpenCause, CreateCause}
+use Rattle.game_file.specs.State.{State, GoesFrom}
+use Rattle.game_file.specs.Stops.{OldOrEmpty}
 use Rattle.flat_table.proofs.Opening.{grew_from}
 
 -- a table with an empty slot and room for 16 pages stores the empty table
@@ -25,7 +26,7 @@ made_stores {root} empty picture made = record {
   keeps = empty;
 }
 
-pub old_or_empty : {root : List ℕ} → IsEmptySlot root → (disk : Disk) (picture : Picture) → OldOrNoneOrNew disk.now root picture → OldOrEmpty disk.now picture
+pub old_or_empty : {root : List ℕ} → IsEmptySlot root → (disk : Disk) (picture : Picture) → OldOrNoneOrNew disk.now root picture → OldOrEmpty Stores disk.now picture
 old_or_empty {root} empty disk picture either = λ table. each (either table)
   where
     each : MayLeave disk.now picture ⊎ IsMade root picture → MayLeave disk.now picture ⊎ Stores picture None
@@ -65,30 +66,29 @@ module _ {root : List ℕ} (empty : IsEmptySlot root) (disk mid : Disk) (count m
     same_size = from.same_size ∙ laid.same_size;
   }
 
-  leaves_through : (later : Disk) → GoesOn mid later → (IsTrue mid.honest → LeavesOnly mid later (MayLeave mid.now)) → IsTrue disk.honest → LeavesOnly disk later (OldOrEmpty disk.now)
+  leaves_through : (later : Disk) → GoesOn mid later → (IsTrue mid.honest → LeavesOnly mid later (MayLeave mid.now)) → IsTrue disk.honest → LeavesOnly disk later (OldOrEmpty Stores disk.now)
   leaves_through later goes_on leaves honest =
       leaves_then goes_on (leaves_more (old_or_empty empty disk) (laid.moments honest))
       (leaves_more (λ picture left table. inr (left_empty honest picture left)) (leaves (still_honest laid.goes_on honest)))
 
-  pub created : (file : File) → IsOpened mid middle file → IsCreated disk count file
+  pub created : (file : State) → IsOpenedFile Stores mid middle file → IsCreatedFile Stores disk count file
   created file opened = record {
-    from = from_first file.store.disk file.store.failures opened.from;
+    from = from_first file.disk file.failures opened.from;
     capacity = opened.capacity ∙ ap (λ (n : ℕ). min (n / 8) 1048576) laid.same_size;
-    stands = opened.stands;
     is_open = opened.is_open;
-    empty = λ honest. a_picture_stores_one_table mid.now.contents (kept_of file.game) None (opened.stored (still_honest laid.goes_on honest)) (stored_empty honest);
+    empty = λ honest. a_picture_stores_one_table mid.now.contents file.kept None (opened.stored (still_honest laid.goes_on honest)) (stored_empty honest);
     fresh = laid.fresh;
-    leaves = leaves_through file.store.disk opened.from.goes_on opened.leaves;
+    leaves = leaves_through file.disk opened.from.goes_on opened.leaves;
   }
 
-  pub not_created : (back : Disk) (now : ℕ) → IsNotOpened mid middle back now → IsNotCreated disk count back now
+  pub not_created : (back : Disk) (now : ℕ) → IsNotOpened mid middle back now → IsNotCreated Stores disk count back now
   not_created back now refused = record {
     from = from_first back now refused.from;
     leaves = leaves_through back refused.from.goes_on refused.leaves;
     kept = λ honest begins. absurd (laid.fresh honest begins);
   }
 
-  pub create_cause : (now : ℕ) (fault : FileFault) → OpenCause mid middle now fault → CreateCause disk count now fault
+  pub create_cause : (now : ℕ) (fault : FileFault) → OpenCause Stores mid middle now fault → CreateCause disk count now fault
   create_cause now DiskFailed cause = grew_from more cause
   create_cause now NotATable cause = λ honest. cause (still_honest laid.goes_on honest) (laid.holds honest).table
   create_cause now AlreadyATable cause = absurd cause

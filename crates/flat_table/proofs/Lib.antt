@@ -3,3 +3,5 @@ pub mod Bytes
 pub mod Putting
 pub mod Opening
 pub mod Creating
+pub mod Room
+pub mod Drafting

@@ -9,11 +9,14 @@ use Rattle.page_store.specs.Page.{page as bytes_of}
 use Rattle.page_store.specs.Store.{Store, IsSound, IsOpened as IsFound, reads}
 use Rattle.flat_file.specs.declared.game.Game.{Game}
 use Rattle.flat_file.specs.File.{AreGames, IsBacked, kept_of, pages_of}
-use Rattle.flat_file.specs.Held.{Kept, Keeps, capacity_of, Stores}
+use Rattle.flat_file.specs.Held.{Keeps, capacity_of, Stores}
+use Rattle.game_file.specs.Kept.{Kept}
 use Rattle.flat_read.specs.Causes.{ReadCause}
-use Rattle.flat_table.specs.Calls.{file_of, GoesFrom, IsOpened}
-use Rattle.flat_table.specs.Causes.{OpenCause}
-use Rattle.flat_table.specs.Faults.{page_fault}
+use Rattle.game_file.specs.Calls.{IsOpenedFile}
+use Rattle.game_file.specs.Causes.{OpenCause}
+use Rattle.game_file.specs.Faults.{of_pages}
+use Rattle.game_file.specs.State.{GoesFrom}
+use Rattle.flat_table.specs.Calls.{file_of, state_of}
 
 -- what a stop leaves after a sync it could leave before
 pub left_before : {old new : Shown} → SyncedMore old new → (picture : Picture) → MayLeave new picture → MayLeave old picture
@@ -67,11 +70,10 @@ module _ (disk : Disk) (count : ℕ) (found now : Store) (at_first : IsFound dis
             (stands.spelled.anywhere (bytes_of disk.now.contents) (λ p here. ap (λ (picture : Picture). bytes_of picture p) (sym same)));
       }
 
-  pub opened : (game : Option Game) → IsSound now → AreGames game → IsBacked now (pages_of game) (kept_of game) → IsOpened disk count (file_of now game)
-  opened game sound games backed = record {
+  pub opened : (game : Option Game) → IsBacked now (pages_of game) (kept_of game) → IsOpenedFile Stores disk count (state_of (file_of now game))
+  opened game backed = record {
     from = from;
     capacity = read.same_pages ∙ at_first.capacity;
-    stands = record { sound = sound; games = games; backed = backed };
     is_open = read.closed ∙ at_first.closed;
     stored = stored game backed;
     leaves = leaves;
@@ -87,7 +89,7 @@ module _ (disk : Disk) (count : ℕ) (found now : Store) (at_first : IsFound dis
       (subst (λ (root : List ℕ). Keeps root (capacity_of disk.now.contents) kept (bytes_of disk.now.contents)) same_root stores.keeps))
 
   -- why it is not opened
-  pub open_cause : (fault : PageFault) → ReadCause found now fault → OpenCause disk count now.failures (page_fault fault)
+  pub open_cause : (fault : PageFault) → ReadCause found now fault → OpenCause Stores disk count now.failures (of_pages fault)
   open_cause page.Disk cause = grew_from at_first.failures cause
   open_cause page.NotATable cause = absurd cause
   open_cause page.Damaged cause = λ honest kept stores.

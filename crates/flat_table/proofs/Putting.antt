@@ -3,14 +3,17 @@ use Rattle.std.proofs.Common.{◌≡◌, ◌⊎◌, inl, inr, false, Option, Som
 use Rattle.sector_disk.specs.Moments.{leaves_now}
 use Rattle.page_store.specs.Store.{Store, IsSound}
 use Rattle.flat_file.specs.declared.game.Game.{Game}
+use Rattle.flat_file.specs.Held.{Stores}
 use Rattle.flat_file.specs.File.{File, IsFile, IsGame, IsBacked, kept_in, kept_of, pages_of}
-use Rattle.flat_file.specs.Held.{Kept}
+use Rattle.game_file.specs.Kept.{Kept}
 use Rattle.flat_file.specs.Laws.{a_file_is_kept}
-use Rattle.flat_write.specs.Saving.{LeavesEither, LeavesTable}
-use Rattle.flat_table.specs.Calls.{file_of, IsPut, IsNotPut}
+use Rattle.game_file.specs.Calls.{IsPut, IsNotPut}
+use Rattle.game_file.specs.Kept.{text_kept}
+use Rattle.game_file.specs.Stops.{LeavesEither, LeavesTable}
+use Rattle.flat_table.specs.Calls.{file_of, state_of, IsPutInFile, IsNotPutInFile}
 
 -- before anything is done what was kept still is
-pub nothing_put : (is : Kept) (file : File) → IsFile file → IsNotPut is file file
+pub nothing_put : (is : Kept) (file : File) → IsFile file → IsNotPutInFile is file file
 nothing_put is file it = record {
   stands = it;
   game = refl;
@@ -21,9 +24,9 @@ nothing_put is file it = record {
 
 -- a refused save keeps it
 pub left_in_place : (is : Kept) (old new : Store) (game : Option Game) → IsFile (file_of old game) → IsSound new → IsBacked new (pages_of game) (kept_of game)
-    → (IsTrue old.disk.honest → new.closed ≡ false → LeavesTable old.disk new.disk (kept_of game))
-    → (IsTrue old.disk.honest → old.closed ≡ false → LeavesEither old.disk new.disk (kept_of game) (Some is))
-    → (old.closed ≡ false) ⊎ (new.disk ≡ old.disk) → IsNotPut is (file_of old game) (file_of new game)
+    → (IsTrue old.disk.honest → new.closed ≡ false → LeavesTable Stores old.disk new.disk (kept_of game))
+    → (IsTrue old.disk.honest → old.closed ≡ false → LeavesEither Stores old.disk new.disk (kept_of game) (Some is))
+    → (old.closed ≡ false) ⊎ (new.disk ≡ old.disk) → IsNotPutInFile is (file_of old game) (file_of new game)
 left_in_place is old new game it sound backed kept either untouched = record {
   stands = record { sound = sound; games = it.games; backed = backed };
   game = refl;
@@ -34,7 +37,7 @@ left_in_place is old new game it sound backed kept either untouched = record {
 
 -- a save that is done puts the other there
 pub put_in_place : (is : Kept) (old new : Store) (game : Option Game) (now : Game) → IsSound new → kept_in now ≡ is → IsGame now → IsBacked new now.pages.items (Some is)
-    → new.closed ≡ false → (IsTrue old.disk.honest → LeavesEither old.disk new.disk (kept_of game) (Some is)) → IsPut is (file_of old game) (file_of new (Some now))
+    → new.closed ≡ false → (IsTrue old.disk.honest → LeavesEither Stores old.disk new.disk (kept_of game) (Some is)) → IsPutInFile is (file_of old game) (file_of new (Some now))
 put_in_place is old new game now sound same fits backed is_open either = record {
   stands = record {
     sound = sound;
@@ -44,4 +47,16 @@ put_in_place is old new game now sound same fits backed is_open either = record 
   kept = ap Some same;
   is_open = is_open;
   leaves = either;
+}
+
+-- a text and a table that were put are put as a file of any layout does
+pub put_whole : (is : Kept) (old new : File) → IsPutInFile is old new → IsPut Stores is (state_of old) (state_of new)
+put_whole is old new put = record { text = ap text_kept put.kept; kept = λ honest. put.kept; is_open = put.is_open; leaves = put.leaves }
+
+pub not_put_whole : (is : Kept) (old new : File) → IsNotPutInFile is old new → IsNotPut Stores is (state_of old) (state_of new)
+not_put_whole is old new left = record {
+  text = ap (λ (game : Option Game). text_kept (kept_of game)) left.game;
+  kept = λ honest. ap kept_of left.game;
+  leaves = left.leaves;
+  either = left.either;
 }

@@ -1,6 +1,6 @@
-pub mod Faults
 pub mod Pages
 pub mod Bytes
 pub mod Causes
 pub mod Calls
-pub mod Reading
+pub mod Drafts
+pub mod aid

@@ -1,44 +1,48 @@
 //! A table in a file.
-ghost use Rattle.std.specs.Prelude.{◌≡◌, ◌≢◌, ◌≤◌, ◌^◌, ℕ, true, None, length, option_map, OnOk, OnErr, IfOk, IfErr, IsErr, IsErrOf, IfSome, IfNone, IsTrue};
-ghost use Rattle.sector_disk.specs.Disk.{LeavesOnly, MayLeave};
-ghost use Rattle.root_pair.specs.Root.{Begins};
-ghost use Rattle.retrograde.specs.Stored.{loaded};
+ghost use Rattle.std.specs.Prelude.{◌≡◌, ◌≢◌, ◌≤◌, ◌^◌, ℕ, true, None, length, OnOk, OnErr, IfOk, IfErr, IsTrue};
 ghost use Rattle.table.specs.InMemory.{stored_in};
+ghost use Rattle.game_file.specs.Kept.{kept_as};
 ghost use Rattle.flat_file.specs.declared.game.Game.{Game as Loaded};
 ghost use Rattle.flat_file.specs.File.{File, IsFile, kept_of, pages_of};
+ghost use Rattle.flat_file.specs.Held.{Stores};
+ghost use Rattle.flat_file.specs.Laws.{a_file_is_kept};
+ghost use Rattle.flat_read.specs.Laws.{a_picture_stores_one_table};
 ghost use Rattle.flat_write.specs.Saving.{GoesAhead};
-ghost use Rattle.flat_table.specs.Calls.{file_of, kept_as, text_kept, table_kept, IsOpened, IsNotOpened, IsCreated, IsNotCreated, IsPut, IsNotPut};
-ghost use Rattle.flat_table.specs.Causes.{OpenCause, CreateCause, PutCause};
+ghost use Rattle.flat_table.specs.Calls.{file_of, state_of, IsPutInFile, IsNotPutInFile};
+ghost use Rattle.flat_table.specs.Causes.{PutCause};
 ghost use Rattle.flat_table.specs.Pages.{ArePages};
+ghost use Rattle.flat_table.specs.aid.Drafts.{few_stored};
+ghost use Rattle.flat_table.specs.aid.Whole.{the_table_is_kept, unwritten_asked, memory_cause};
 
 use crate::put::put;
-use crate::{FileFault, Refused};
 use flat_file::Game;
 use flat_read::read_all;
+use game_file::{FileFault, GameFile, Refused};
 use page_store::{PageStore, Pages};
 use position_pack::Packed;
-use retrograde::Counts;
 use root_pair::create;
 use root_slot::empty_slot;
 use sector_disk::SectorDisk;
 use std::alloc::Global;
 use table::{MemTable, Table};
 
-/// What is stated of a table's file.
+/// What is stated of a file of this layout.
 pub trait TableFile {
     /// Its pages, and the game of the last commit, which is in memory.
     ghost file: { Self → File };
 }
 
-/// A game's table in a file, with its last commit in memory. A command takes a copy of the table, works on that, and
-/// commits it; to give the command up it drops the copy.
+/// A game's table in a file, with its last commit in memory. A command works on a copy of the table, which is made as it first
+/// writes; to give the command up the copy is dropped.
 #[derive(Drop)]
 pub struct FlatTable<D: SectorDisk> {
-    pub(crate) alloc: Global,
-    pub(crate) store: PageStore<D>,
+    alloc: Global,
+    store: PageStore<D>,
     commits: u64,
-    /// The table, where a game is loaded.
+    /// The table of the last commit, where a game is loaded.
     pub(crate) game: Option<Game>,
+    /// What the command that is going on has made of it.
+    pub(crate) draft: Option<MemTable>,
     ghost there: { ArePages (length store.marks.items) (pages_of game) },
 }
 
@@ -47,117 +51,19 @@ impl<D: SectorDisk> TableFile for FlatTable<D> {
 }
 
 impl<D: SectorDisk> FlatTable<D> {
-    /// Makes the empty table on this disk, and opens it. `Disk` (E1), `AlreadyATable` (E3) and then `TooSmall` (E6),
-    /// or `OutOfMemory` (E8).
-    pub fn create(alloc: Global, disk: D) -> Result<Self, Refused<D>>
-        ensures ok { IfOk result (λ t. IsCreated (D.disk disk) (D.failures disk) (⟦<FlatTable<D> as TableFile>⟧.file t)) }
-        ensures refused { IfErr result (λ back. IsNotCreated (D.disk disk) (D.failures disk) (D.disk back.disk) (D.failures back.disk)) }
-        ensures cause { IfErr result (λ back. CreateCause (D.disk disk) (D.failures disk) (D.failures back.disk) back.fault) }
-    {
-        let mut disk = disk;
-        match create(&mut disk, &empty_slot()) {
-            Ok(()) => FlatTable::open(alloc, disk),
-            Err(fault) => Err(Refused {
-                disk,
-                fault: fault.into(),
-            }),
-        }
-    }
-
-    /// Reads the whole table that this disk holds, after a sync. `Disk` (E1), `NotATable` (E2), `Damaged` (E4) or
-    /// `OutOfMemory` (E8).
-    pub fn open(alloc: Global, disk: D) -> Result<Self, Refused<D>>
-        ensures ok { IfOk result (λ t. IsOpened (D.disk disk) (D.failures disk) (⟦<FlatTable<D> as TableFile>⟧.file t)) }
-        ensures refused { IfErr result (λ back. IsNotOpened (D.disk disk) (D.failures disk) (D.disk back.disk) (D.failures back.disk)) }
-        ensures cause { IfErr result (λ back. OpenCause (D.disk disk) (D.failures disk) (D.failures back.disk) back.fault) }
-    {
-        let mut store = match PageStore::open(alloc, disk) {
-            Ok(store) => store,
-            Err(refused) => {
-                return Err(Refused {
-                    disk: refused.disk,
-                    fault: refused.fault.into(),
-                });
-            }
-        };
-        match read_all(alloc, &mut store) {
-            Ok(opened) => Ok(FlatTable {
-                alloc,
-                store,
-                commits: opened.commits,
-                game: opened.game,
-            }),
-            Err(fault) => Err(Refused {
-                disk: store.into_disk(),
-                fault: fault.into(),
-            }),
-        }
-    }
-
-    /// The text of the game, where one is loaded. It takes no memory and always answers.
-    pub fn text(&self) -> Option<&[u8]>
-        ensures some { IfSome result (λ text. text_kept (kept_of (⟦<FlatTable<D> as TableFile>⟧.file self.now).game) ≡ Some text.now) }
-        ensures none { IfNone result (kept_of (⟦<FlatTable<D> as TableFile>⟧.file self.now).game ≡ None) }
-    {
-        match &self.game {
-            Some(game) => Some(&game.text),
-            None => None,
-        }
-    }
-
-    /// The table of the last commit, where a game is loaded. It takes no memory and always answers.
-    pub fn table(&self) -> Option<&MemTable>
-        ensures some { IfSome result (λ table. table_kept (kept_of (⟦<FlatTable<D> as TableFile>⟧.file self.now).game) ≡ Some (stored_in table.now)) }
-        ensures none { IfNone result (kept_of (⟦<FlatTable<D> as TableFile>⟧.file self.now).game ≡ None) }
-    {
-        match &self.game {
-            Some(game) => Some(&game.table),
-            None => None,
-        }
-    }
-
-    /// Whether a write or a sync has failed; the file has then to be opened again. It takes no memory and always answers.
-    pub fn is_closed(&self) -> bool
-        ensures { result ≡ (⟦<FlatTable<D> as TableFile>⟧.file self.now).store.closed }
-    {
-        self.store.is_closed()
-    }
-
-    /// Commits the table of a game that is loaded now, its start and no more, in the place of what is kept. `TableFull`
-    /// (E7), `Closed` (E9), `Disk` (E1) or `OutOfMemory` (E8). After a refusal what was kept is, but that after `Disk` in
-    /// a write or a sync the file is closed, and holds the one or the other.
-    pub fn load(&mut self, text: &[u8], start: &Packed) -> Result<(), FileFault>
-        requires { length text.now ≤ 65536 }
-        ensures ahead { GoesAhead (⟦<FlatTable<D> as TableFile>⟧.file self.old).store (⟦<FlatTable<D> as TableFile>⟧.file self.new).store }
-        ensures ok { IsFile (⟦<FlatTable<D> as TableFile>⟧.file self.old)
-            → OnOk result (IsPut (kept_as text.now (loaded start.now.items)) (⟦<FlatTable<D> as TableFile>⟧.file self.old) (⟦<FlatTable<D> as TableFile>⟧.file self.new)) }
-        ensures err { IsFile (⟦<FlatTable<D> as TableFile>⟧.file self.old)
-            → OnErr result (IsNotPut (kept_as text.now (loaded start.now.items)) (⟦<FlatTable<D> as TableFile>⟧.file self.old) (⟦<FlatTable<D> as TableFile>⟧.file self.new)) }
-        ensures cause { IsFile (⟦<FlatTable<D> as TableFile>⟧.file self.old)
-            → IfErr result (PutCause (kept_as text.now (loaded start.now.items)) (length start.now.items) (⟦<FlatTable<D> as TableFile>⟧.file self.old).store (⟦<FlatTable<D> as TableFile>⟧.file self.new).store) }
-        ensures still { IfErr result (λ fault. fault ≢ FileFault.Disk
-            → (⟦<FlatTable<D> as TableFile>⟧.file self.new).store.closed ≡ (⟦<FlatTable<D> as TableFile>⟧.file self.old).store.closed) }
-    {
-        let table = MemTable::new(self.alloc, start)?;
-        let text = text.to_vec(self.alloc)?;
-        self.replace(text, start.len() as u32, table)
-    }
-
-    /// Commits a table that was worked on, in the place of the last commit's. `Inconsistent` (S6) where its parts do not
-    /// fit together, and else as `load`.
-    pub fn commit(&mut self, table: MemTable) -> Result<(), FileFault>
+    /// Stores a table that was worked on in the place of the last commit's, if a game is loaded.
+    fn keep(&mut self, table: MemTable) -> Result<(), FileFault>
         requires { (⟦<MemTable as Table>⟧.counted table).known ≤ 2 ^ 24 }
+        ensures draft { self.new.draft ≡ self.old.draft }
         ensures ahead { GoesAhead (⟦<FlatTable<D> as TableFile>⟧.file self.old).store (⟦<FlatTable<D> as TableFile>⟧.file self.new).store }
         ensures ok { (was : Loaded) → (⟦<FlatTable<D> as TableFile>⟧.file self.old).game ≡ Some was → IsFile (⟦<FlatTable<D> as TableFile>⟧.file self.old)
-            → OnOk result (IsPut (kept_as was.text.items (stored_in table)) (⟦<FlatTable<D> as TableFile>⟧.file self.old) (⟦<FlatTable<D> as TableFile>⟧.file self.new)) }
+            → OnOk result (IsPutInFile (kept_as was.text.items (stored_in table)) (⟦<FlatTable<D> as TableFile>⟧.file self.old) (⟦<FlatTable<D> as TableFile>⟧.file self.new)) }
         ensures err { (was : Loaded) → (⟦<FlatTable<D> as TableFile>⟧.file self.old).game ≡ Some was → IsFile (⟦<FlatTable<D> as TableFile>⟧.file self.old)
-            → OnErr result (IsNotPut (kept_as was.text.items (stored_in table)) (⟦<FlatTable<D> as TableFile>⟧.file self.old) (⟦<FlatTable<D> as TableFile>⟧.file self.new)) }
+            → OnErr result (IsNotPutInFile (kept_as was.text.items (stored_in table)) (⟦<FlatTable<D> as TableFile>⟧.file self.old) (⟦<FlatTable<D> as TableFile>⟧.file self.new)) }
         ensures cause { (was : Loaded) → (⟦<FlatTable<D> as TableFile>⟧.file self.old).game ≡ Some was → IsFile (⟦<FlatTable<D> as TableFile>⟧.file self.old)
             → IfErr result (PutCause (kept_as was.text.items (stored_in table)) was.packed (⟦<FlatTable<D> as TableFile>⟧.file self.old).store (⟦<FlatTable<D> as TableFile>⟧.file self.new).store) }
         ensures still { IfErr result (λ fault. fault ≢ FileFault.Disk
             → (⟦<FlatTable<D> as TableFile>⟧.file self.new).store.closed ≡ (⟦<FlatTable<D> as TableFile>⟧.file self.old).store.closed) }
-        ensures none { (⟦<FlatTable<D> as TableFile>⟧.file self.old).game ≡ None
-            → IsErrOf result FileFault.Inconsistent × ((⟦<FlatTable<D> as TableFile>⟧.file self.new) ≡ (⟦<FlatTable<D> as TableFile>⟧.file self.old)) }
     {
         let Some(game) = &self.game else {
             return Err(FileFault::Inconsistent);
@@ -172,11 +78,12 @@ impl<D: SectorDisk> FlatTable<D> {
         requires text { length text.items ≤ 65536 }
         requires packed { packed ≤ 240 }
         requires known { (⟦<MemTable as Table>⟧.counted table).known ≤ 2 ^ 24 }
+        ensures draft { self.new.draft ≡ self.old.draft }
         ensures ahead { GoesAhead (⟦<FlatTable<D> as TableFile>⟧.file self.old).store (⟦<FlatTable<D> as TableFile>⟧.file self.new).store }
         ensures ok { IsFile (⟦<FlatTable<D> as TableFile>⟧.file self.old)
-            → OnOk result (IsPut (kept_as text.items (stored_in table)) (⟦<FlatTable<D> as TableFile>⟧.file self.old) (⟦<FlatTable<D> as TableFile>⟧.file self.new)) }
+            → OnOk result (IsPutInFile (kept_as text.items (stored_in table)) (⟦<FlatTable<D> as TableFile>⟧.file self.old) (⟦<FlatTable<D> as TableFile>⟧.file self.new)) }
         ensures err { IsFile (⟦<FlatTable<D> as TableFile>⟧.file self.old)
-            → OnErr result (IsNotPut (kept_as text.items (stored_in table)) (⟦<FlatTable<D> as TableFile>⟧.file self.old) (⟦<FlatTable<D> as TableFile>⟧.file self.new)) }
+            → OnErr result (IsNotPutInFile (kept_as text.items (stored_in table)) (⟦<FlatTable<D> as TableFile>⟧.file self.old) (⟦<FlatTable<D> as TableFile>⟧.file self.new)) }
         ensures cause { IsFile (⟦<FlatTable<D> as TableFile>⟧.file self.old)
             → IfErr result (PutCause (kept_as text.items (stored_in table)) packed (⟦<FlatTable<D> as TableFile>⟧.file self.old).store (⟦<FlatTable<D> as TableFile>⟧.file self.new).store) }
         ensures still { IfErr result (λ fault. fault ≢ FileFault.Disk
@@ -196,12 +103,99 @@ impl<D: SectorDisk> FlatTable<D> {
         self.game = Some(game);
         Ok(())
     }
+}
 
-    /// The disk, as it is. It always answers.
-    pub fn into_disk(self) -> D
-        ensures disk { D.disk result ≡ (⟦<FlatTable<D> as TableFile>⟧.file self).store.disk }
-        ensures failures { D.failures result ≡ (⟦<FlatTable<D> as TableFile>⟧.file self).store.failures }
-    {
+impl<D: SectorDisk> GameFile for FlatTable<D> {
+    type Device = D;
+
+    ghost stores = { Stores };
+
+    ghost state = { λ t. state_of (⟦<FlatTable<D> as TableFile>⟧.file t) };
+
+    ghost is_whole = { λ t. IsFile (⟦<FlatTable<D> as TableFile>⟧.file t) × (t.draft ≡ None) };
+
+    ghost stores_one = { λ picture one other first second. a_picture_stores_one_table picture one other first second };
+
+    ghost whole_leaves = { λ t whole honest is_open. a_file_is_kept (⟦<FlatTable<D> as TableFile>⟧.file t) whole.0 honest is_open };
+
+    ghost whole_stored = { λ t kept whole honest is.
+        let both = the_table_is_kept (⟦<PageStore<D> as Pages>⟧.store t.store) t.draft t.game kept whole.0 whole.1 is in (tt, both.0, both.1) };
+
+    ghost whole_stays = { λ old new whole stays.
+        ((stays.unwritten.stands whole.0, stays.idle whole.1),
+        unwritten_asked (⟦<FlatTable<D> as TableFile>⟧.file old) (⟦<FlatTable<D> as TableFile>⟧.file new) whole.0 stays.unwritten) };
+
+    ghost fails_for = { λ old new fault whole cause.
+        memory_cause (state_of (⟦<FlatTable<D> as TableFile>⟧.file old)) (state_of (⟦<FlatTable<D> as TableFile>⟧.file new)) fault cause.1 };
+
+    ghost few = { λ t. few_stored t.draft t.game };
+
+    fn create(alloc: Global, disk: D) -> Result<Self, Refused<D>> {
+        let mut disk = disk;
+        match create(&mut disk, &empty_slot()) {
+            Ok(()) => FlatTable::open(alloc, disk),
+            Err(fault) => Err(Refused {
+                disk,
+                fault: fault.into(),
+            }),
+        }
+    }
+
+    fn open(alloc: Global, disk: D) -> Result<Self, Refused<D>> {
+        let mut store = match PageStore::open(alloc, disk) {
+            Ok(store) => store,
+            Err(refused) => {
+                return Err(Refused {
+                    disk: refused.disk,
+                    fault: refused.fault.into(),
+                });
+            }
+        };
+        match read_all(alloc, &mut store) {
+            Ok(opened) => Ok(FlatTable {
+                alloc,
+                store,
+                commits: opened.commits,
+                game: opened.game,
+                draft: None,
+            }),
+            Err(fault) => Err(Refused {
+                disk: store.into_disk(),
+                fault: fault.into(),
+            }),
+        }
+    }
+
+    fn text(&self) -> Option<&[u8]> {
+        match &self.game {
+            Some(game) => Some(&game.text),
+            None => None,
+        }
+    }
+
+    fn is_closed(&self) -> bool {
+        self.store.is_closed()
+    }
+
+    fn load(&mut self, text: &[u8], start: &Packed) -> Result<(), FileFault> {
+        let table = MemTable::new(self.alloc, start)?;
+        let text = text.to_vec(self.alloc)?;
+        self.replace(text, start.len() as u32, table)
+    }
+
+    fn commit(&mut self) -> Result<(), FileFault> {
+        match self.draft.take() {
+            Some(table) => self.keep(table),
+            None if self.store.is_closed() => Err(FileFault::Closed),
+            None => Ok(()),
+        }
+    }
+
+    fn discard(&mut self) {
+        self.draft = None;
+    }
+
+    fn into_disk(self) -> D {
         let FlatTable { store, .. } = self;
         store.into_disk()
     }

@@ -4,14 +4,15 @@ ghost use Rattle.table.specs.Fitting.{Fits};
 ghost use Rattle.table.specs.InMemory.{stored_in};
 ghost use Rattle.flat_file.specs.File.{IsFile, pages_of};
 ghost use Rattle.flat_write.specs.Saving.{AreBytesOf, GoesAhead};
-ghost use Rattle.flat_table.specs.Calls.{file_of, kept_as, IsPut, IsNotPut};
+ghost use Rattle.game_file.specs.Kept.{kept_as};
+ghost use Rattle.flat_table.specs.Calls.{file_of, IsPutInFile, IsNotPutInFile};
 ghost use Rattle.flat_table.specs.Causes.{PutCause};
 ghost use Rattle.flat_table.specs.Pages.{ArePages};
 ghost use Rattle.flat_table.specs.Bytes.{BytesCause};
 
-use crate::FileFault;
 use flat_file::Game;
 use flat_write::save;
+use game_file::FileFault;
 use page_store::Pages;
 use std::alloc::Global;
 use table::{MemTable, Table};
@@ -39,9 +40,9 @@ pub fn put<P: Pages>(
     ensures pages { IfOk result (λ game. ArePages (length (P.store store.new).marks) game.pages.items) }
     ensures ahead { GoesAhead (P.store store.old) (P.store store.new) }
     ensures ok { IsFile (file_of (P.store store.old) old.now)
-        → IfOk result (λ game. IsPut (kept_as text.items (stored_in table)) (file_of (P.store store.old) old.now) (file_of (P.store store.new) (Some game))) }
+        → IfOk result (λ game. IsPutInFile (kept_as text.items (stored_in table)) (file_of (P.store store.old) old.now) (file_of (P.store store.new) (Some game))) }
     ensures err { IsFile (file_of (P.store store.old) old.now)
-        → IfErr result (λ _. IsNotPut (kept_as text.items (stored_in table)) (file_of (P.store store.old) old.now) (file_of (P.store store.new) old.now)) }
+        → IfErr result (λ _. IsNotPutInFile (kept_as text.items (stored_in table)) (file_of (P.store store.old) old.now) (file_of (P.store store.new) old.now)) }
     ensures cause { IsFile (file_of (P.store store.old) old.now)
         → IfErr result (PutCause (kept_as text.items (stored_in table)) packed (P.store store.old) (P.store store.new)) }
     ensures still { IfErr result (λ fault. fault ≢ FileFault.Disk → (P.store store.new).closed ≡ (P.store store.old).closed) }
@@ -86,7 +87,10 @@ fn bytes_of(
     if !table.fits(alloc, packed)? {
         return Err(FileFault::Inconsistent);
     }
-    let written = write_table(alloc, text, packed, table)?;
+    // a table in memory refuses for want of memory alone
+    let Ok(written) = write_table(alloc, text, packed, table) else {
+        return Err(FileFault::OutOfMemory);
+    };
     if written.sizes.edges > MOST_EDGES {
         return Err(FileFault::TableFull);
     }

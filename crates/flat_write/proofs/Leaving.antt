@@ -18,11 +18,13 @@ use Rattle.page_store.specs.Carrying.{saved_spells, works_stands, discard_goes_b
 use Rattle.page_chain.specs.Causes.{WriteCause}
 use Rattle.page_chain.specs.Chain.{first_of}
 use Rattle.table_bytes.specs.declared.sizes.Sizes.{Sizes}
-use Rattle.flat_file.specs.Held.{Kept, Keeps, Stores}
+use Rattle.flat_file.specs.Held.{Keeps, Stores}
+use Rattle.game_file.specs.Kept.{Kept}
 use Rattle.flat_file.specs.File.{IsBacked}
 use Rattle.flat_file.specs.Laws.{spells_stores}
 use Rattle.flat_write.specs.Causes.{SaveCause}
-use Rattle.flat_write.specs.Saving.{LeavesTable, GoesAhead}
+use Rattle.flat_write.specs.Saving.{GoesAhead}
+use Rattle.game_file.specs.Stops.{LeavesTable}
 use Rattle.flat_write.specs.Steps.{IsExchanged, IsSlotOf, IsLeft}
 use Rattle.flat_write.proofs.Letting.{still_there}
 use Rattle.flat_write.proofs.Placing.{commit_leaves, commit_ahead}
@@ -63,7 +65,7 @@ works_ahead old new works = record { goes_on = works.goes_on; same_size = works.
 
 -- a stop within work leaves the table that was there
 pub works_leaves : (pages : List ℕ) (old new : Store) (was : Option Kept) → IsSound old → IsBacked old pages was → IsTrue old.disk.honest → old.closed ≡ false → Works old new
-    → LeavesTable old.disk new.disk was
+    → LeavesTable Stores old.disk new.disk was
 works_leaves pages old new was sound backed honest was_open works = leaves_more stores (works.leaves honest (sound.safe honest was_open))
   where
     stores : (picture : Picture) → Saved old picture → Stores picture was
@@ -166,7 +168,7 @@ module _ (pages : List ℕ) (sizes : Sizes) (bytes : List ℕ) (old mid new : St
     | inr closed ↦ backed_closed pages old new was backed (works.same_pages ∙ left.ahead.same_pages) (others.closed ∙ closed)
   ]
 
-  pub left_kept : IsSound old → (was : Option Kept) → IsBacked old pages was → IsTrue old.disk.honest → new.closed ≡ false → LeavesTable old.disk new.disk was
+  pub left_kept : IsSound old → (was : Option Kept) → IsBacked old pages was → IsTrue old.disk.honest → new.closed ≡ false → LeavesTable Stores old.disk new.disk was
   left_kept sound was backed honest open_ = elim left.left [
     | inl did ↦ works_leaves pages old new was sound backed honest (left.ahead.closed (works.closed open_)) (works_then did works)
     | inr closed ↦ absurd (both _ open_ (others.closed ∙ closed))

@@ -15,10 +15,12 @@ use Rattle.page_chain.specs.Chain.{IsChain, first_of}
 use Rattle.table_bytes.specs.declared.sizes.Sizes.{Sizes}
 use Rattle.table_bytes.specs.Numbers.{AreWithinLimits}
 use Rattle.table_bytes.specs.Spelled.{Spells as SpellsTable}
-use Rattle.flat_file.specs.Held.{Kept, KeepsGame, Keeps, Stores}
+use Rattle.flat_file.specs.Held.{KeepsGame, Keeps, Stores}
+use Rattle.game_file.specs.Kept.{Kept}
 use Rattle.flat_file.specs.File.{IsBacked}
 use Rattle.flat_file.specs.Laws.{game_rests_on_its_pages, spells_stores}
-use Rattle.flat_write.specs.Saving.{AreBytesOf, LeavesEither, GoesAhead}
+use Rattle.flat_write.specs.Saving.{AreBytesOf, GoesAhead}
+use Rattle.game_file.specs.Stops.{LeavesEither}
 use Rattle.flat_write.specs.Steps.{IsGone, IsExchanged, IsSlotOf, IsReplaced}
 
 -- a mark is one of them
@@ -90,7 +92,7 @@ module _ (was_pages pages bytes root : List ℕ) (sizes : Sizes) (old mid new : 
   stores_one picture (inl spells) = inl (spells_stores old.root (length old.marks) was picture backed.room sound.few spells)
   stores_one picture (inr spells) = inr (spells_stores root (length old.marks) (Some is) picture backed.room sound.few spells)
 
-  pub commit_leaves : Commits root mid new → IsTrue old.disk.honest → LeavesEither old.disk new.disk was (Some is)
+  pub commit_leaves : Commits root mid new → IsTrue old.disk.honest → LeavesEither Stores old.disk new.disk was (Some is)
   commit_leaves commits honest =
       leaves_more stores_one (commit_carries root old mid new honest (sound.safe honest was_open) (old_stands honest) exchanged.works (prepared honest) commits).stop
 

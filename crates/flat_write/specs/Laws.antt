@@ -6,7 +6,7 @@ use Rattle.retrograde.specs.declared.records.Record.{Record}
 use Rattle.table_bytes.specs.declared.sizes.Sizes.{Sizes}
 use Rattle.table_bytes.specs.Bytes.{IsCell}
 use Rattle.table_bytes.specs.Spelled.{AreSpelled}
-use Rattle.flat_file.specs.Held.{Kept}
+use Rattle.game_file.specs.Kept.{Kept}
 use Rattle.flat_write.specs.Saving.{AreBytesOf}
 
 -- a position with its record takes some bytes

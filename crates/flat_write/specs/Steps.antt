@@ -1,4 +1,5 @@
 -- What the steps do that put one table in the place of another.
+use Rattle.flat_file.specs.Held.{Stores}
 use Rattle.std.specs.Prelude.{◌≡◌, ◌≢◌, ◌⊎◌, ℕ, ◌≤◌, ◌<◌, false, true, List, length, Option, Some, Contains, IsTrue}
 use Rattle.page_store.specs.declared.fault.PageFault.{PageFault}
 use Rattle.page_store.specs.declared.fault.PageFault.TheVariants.{Disk as DiskFailed}
@@ -9,10 +10,11 @@ use Rattle.page_store.specs.Store.{Store, reads, Works, IsRemarked}
 use Rattle.page_chain.specs.Chain.{IsChain, first_of}
 use Rattle.table_bytes.specs.declared.sizes.Sizes.{Sizes}
 use Rattle.root_slot.specs.Slot.{layout_in, packing_in, first_in, sizes_in}
-use Rattle.flat_file.specs.Held.{Kept}
+use Rattle.game_file.specs.Kept.{Kept}
 use Rattle.flat_file.specs.File.{IsBacked}
 use Rattle.flat_write.specs.Causes.{SaveCause}
-use Rattle.flat_write.specs.Saving.{AreBytesOf, LeavesEither, GoesAhead}
+use Rattle.flat_write.specs.Saving.{AreBytesOf, GoesAhead}
+use Rattle.game_file.specs.Stops.{LeavesEither}
 
 -- a page of this mark was let go: the next commit does not keep it, unless it waits
 pub record IsGone (m : Mark) : Type 0 where
@@ -47,7 +49,7 @@ pub record IsSlotOf (from : ℕ) (numbers : Sizes) (root : List ℕ) : Type 0 wh
 abbrev pub LeavesOne : List ℕ → Sizes → List ℕ → Store → Store → Type 0
 LeavesOne pages sizes bytes old new =
     (was : Option Kept) (is : Kept) → IsBacked old pages was → AreBytesOf is sizes bytes
-    → IsTrue old.disk.honest → old.closed ≡ false → LeavesEither old.disk new.disk was (Some is)
+    → IsTrue old.disk.honest → old.closed ≡ false → LeavesEither Stores old.disk new.disk was (Some is)
 
 -- the table that has these bytes is in the place of the one of the old pages
 pub record IsReplaced (was_pages pages : List ℕ) (sizes : Sizes) (bytes : List ℕ) (old new : Store) : Type 0 where

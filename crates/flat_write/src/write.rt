@@ -1,4 +1,5 @@
 //! One table in the place of another.
+ghost use Rattle.flat_file.specs.Held.{Stores};
 ghost use Rattle.std.specs.Prelude.{◌≡◌, ◌≢◌, ◌⊎◌, ◌≤◌, ◌<◌, ℕ, List, false, Option, Some, length, Contains, OnOk, OnErr, IfOk, IfErr, IsTrue};
 ghost use Rattle.page_chain.specs.Causes.{WriteCause};
 ghost use Rattle.page_chain.specs.Chain.{first_of};
@@ -6,9 +7,10 @@ ghost use Rattle.page_store.specs.Marks.{mark as mark_of};
 ghost use Rattle.page_store.specs.Store.{Works};
 ghost use Rattle.page_store.specs.declared.marks.Mark.TheVariants.{Waiting, Free};
 ghost use Rattle.flat_file.specs.File.{IsBacked};
-ghost use Rattle.flat_file.specs.Held.{Kept};
+ghost use Rattle.game_file.specs.Kept.{Kept};
 ghost use Rattle.flat_write.specs.Causes.{SaveCause};
-ghost use Rattle.flat_write.specs.Saving.{AreBytesOf, LeavesEither, LeavesTable, GoesAhead};
+ghost use Rattle.flat_write.specs.Saving.{AreBytesOf, GoesAhead};
+ghost use Rattle.game_file.specs.Stops.{LeavesEither, LeavesTable};
 ghost use Rattle.flat_write.specs.Steps.{LetsGo, IsExchanged, IsSlotOf, IsReplaced, IsLeft};
 
 use page_chain::write_chain;
@@ -33,7 +35,7 @@ pub fn save<P: Pages>(
     ensures ahead { GoesAhead (P.store store.old) (P.store store.new) }
     ensures stop { (was : Option Kept) (is : Kept) → IsBacked (P.store store.old) old.now was → AreBytesOf is written.now.sizes written.now.bytes.items
         → IsTrue (P.store store.old).disk.honest → (P.store store.old).closed ≡ false
-        → LeavesEither (P.store store.old).disk (P.store store.new).disk was (Some is) }
+        → LeavesEither Stores (P.store store.old).disk (P.store store.new).disk was (Some is) }
     ensures done { (was : Option Kept) (is : Kept) → IsBacked (P.store store.old) old.now was → AreBytesOf is written.now.sizes written.now.bytes.items
         → IfOk result (λ pages. IsBacked (P.store store.new) pages.items (Some is)) }
     ensures pages { IfOk result (λ pages. (p : ℕ) → Contains pages.items p → (1 ≤ p) × (p < length (P.store store.new).marks)) }
@@ -42,7 +44,7 @@ pub fn save<P: Pages>(
     ensures back { (was : Option Kept) → IsBacked (P.store store.old) old.now was → OnErr result (IsBacked (P.store store.new) old.now was) }
     ensures kept { (was : Option Kept) → IsBacked (P.store store.old) old.now was
         → IsTrue (P.store store.old).disk.honest → OnErr result ((P.store store.new).closed ≡ false
-        → LeavesTable (P.store store.old).disk (P.store store.new).disk was) }
+        → LeavesTable Stores (P.store store.old).disk (P.store store.new).disk was) }
     ensures untouched { (P.store store.old).closed ≡ false ⊎ ((P.store store.new).disk ≡ (P.store store.old).disk) }
     ensures still { IfErr result (λ fault. fault ≢ PageFault.Disk → (P.store store.new).closed ≡ (P.store store.old).closed) }
     ensures cause { IfErr result (SaveCause (length written.now.bytes.items) (P.store store.old) (P.store store.new)) }

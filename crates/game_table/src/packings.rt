@@ -2,6 +2,7 @@
 ghost use Rattle.std.specs.Prelude.{◌≡◌, ◌↔◌, true, IfOk, IfErr};
 ghost use Rattle.table.specs.Memory.{bytes_of_each};
 ghost use Rattle.game_table.specs.Tables.{IsPackedBytes, ArePacked};
+ghost use Rattle.table.specs.Faults.{NeedsNoPage};
 
 use position_pack::{Packed, Packing};
 use table::{Table, TableFault};
@@ -25,6 +26,7 @@ pub fn are_packed_in<T: Table>(packing: &Packing, table: &mut T) -> Result<bool,
     ensures honest { T.is_honest table.old ↔ T.is_honest table.new }
     ensures counts { T.counted table.new ≡ T.counted table.old }
     ensures stays { T.stays table.old table.new }
+    ensures room { IfErr result NeedsNoPage }
     ensures fault { IfErr result (T.fails table.old table.new) }
 {
     for number in 0..table.counts().known {

@@ -13,6 +13,7 @@ ghost use Rattle.table.specs.InMemory.{stored_in};
 ghost use Rattle.frontier.specs.Causes.{Leaves};
 ghost use Rattle.table_work.specs.Work.{StopsWith};
 ghost use Rattle.game_table.specs.Tables.{ArePositions, packed_length, IsWorkOf};
+ghost use Rattle.table.specs.Faults.{NeedsNoPage};
 
 use crate::packings::{are_packed, are_packed_in};
 use legal_moves::{Compiled, MoveSource};
@@ -103,6 +104,7 @@ impl Source {
         ensures honest { T.is_honest table.old ↔ T.is_honest table.new }
         ensures counts { T.counted table.new ≡ T.counted table.old }
         ensures stays { T.stays table.old table.new }
+        ensures room { IfErr result NeedsNoPage }
         ensures fault { IfErr result (T.fails table.old table.new) }
     {
         let packing = Packing::new(self.compiled.game());

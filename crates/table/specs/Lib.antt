@@ -1,3 +1,4 @@
 pub mod Memory
 pub mod Fitting
 pub mod InMemory
+pub mod Faults

@@ -4,6 +4,7 @@ ghost use Rattle.retrograde.specs.declared.records.Counts.{Counts};
 ghost use Rattle.retrograde.specs.Stored.{Stored, HasRecord};
 ghost use Rattle.retrograde.specs.Changes.{counts_of, with_position, with_record, with_edge, with_settled};
 ghost use Rattle.retrograde.specs.Edges.{IsAfter, IsNextEdge, HasNoMoreEdges};
+ghost use Rattle.table.specs.Faults.{NeedsNoPage};
 ghost use Rattle.table.specs.declared.fault.TableFault.{TableFault};
 ghost use Rattle.table.specs.declared.fault.TableFault.TheVariants.{OutOfMemory};
 
@@ -52,6 +53,7 @@ pub trait Table {
         ensures honest { is_honest self.old ↔ is_honest self.new }
         ensures counts { counted self.new ≡ counted self.old }
         ensures stays { stays self.old self.new }
+        ensures room { IfErr result NeedsNoPage }
         ensures fault { IfErr result (fails self.old self.new) };
 
     /// The position with a number.
@@ -62,6 +64,7 @@ pub trait Table {
         ensures honest { is_honest self.old ↔ is_honest self.new }
         ensures counts { counted self.new ≡ counted self.old }
         ensures stays { stays self.old self.new }
+        ensures room { IfErr result NeedsNoPage }
         ensures fault { IfErr result (fails self.old self.new) };
 
     /// The record of a number.
@@ -72,6 +75,7 @@ pub trait Table {
         ensures honest { is_honest self.old ↔ is_honest self.new }
         ensures counts { counted self.new ≡ counted self.old }
         ensures stays { stays self.old self.new }
+        ensures room { IfErr result NeedsNoPage }
         ensures fault { IfErr result (fails self.old self.new) };
 
     /// Adds a position that was not known, and answers its number.
@@ -114,6 +118,7 @@ pub trait Table {
         ensures honest { is_honest self.old ↔ is_honest self.new }
         ensures counts { counted self.new ≡ counted self.old }
         ensures stays { stays self.old self.new }
+        ensures room { IfErr result NeedsNoPage }
         ensures fault { IfErr result (fails self.old self.new) };
 
     /// Puts a number behind the settled order.
@@ -133,6 +138,7 @@ pub trait Table {
         ensures honest { is_honest self.old ↔ is_honest self.new }
         ensures counts { counted self.new ≡ counted self.old }
         ensures stays { stays self.old self.new }
+        ensures room { IfErr result NeedsNoPage }
         ensures fault { IfErr result (fails self.old self.new) };
 
     /// An honest table counts what is stored.

@@ -5,9 +5,9 @@ use Rattle.table.specs.InMemory.{stored_in}
 use Rattle.flat_file.specs.File.{IsBacked, kept_of}
 use Rattle.flat_write.specs.Saving.{AreBytesOf}
 use Rattle.flat_table.specs.Bytes.{BytesCause}
-use Rattle.flat_table.specs.Calls.{kept_as}
-use Rattle.flat_table.specs.declared.fault.FileFault.TheVariants.{Disk}
-use Rattle.flat_table.specs.Faults.{page_fault}
+use Rattle.game_file.specs.Faults.{of_pages}
+use Rattle.game_file.specs.Kept.{kept_as}
+use Rattle.game_file.specs.declared.fault.FileFault.TheVariants.{Disk}
 use Rattle.flat_table.specs.Pages.{ArePages}
 use Rattle.flat_table.proofs.Bytes.{bytes_cause, save_cause}
 use Rattle.flat_table.proofs.Passing.{passed_on, so_refused_for}
@@ -46,7 +46,7 @@ returns-in_err-pages-clause-cause g c = λ it.
 pub returns-in_err-pages-clause-still : goal.returns-in_err-pages-clause-still
 returns-in_err-pages-clause-still g c =
     passed_on (λ fault. fault ≢ Disk → (g.P.Pages.store c.save.new.store).closed ≡ (g.P.Pages.store c.args.store.now).closed) c.from_residual-in_err-pages.result _ c.from_residual-in_err-pages.ensures
-    (λ other. c.in_err-pages.ensures.still (λ is. other (ap page_fault is)))
+    (λ other. c.in_err-pages.ensures.still (λ is. other (ap of_pages is)))
 
 pub returns-clause-ok : goal.returns-clause-ok
 returns-clause-ok g c = λ it.

@@ -1,0 +1,140 @@
+-- A draft is committed, or a first table is loaded.
+use Rattle.std.proofs.Common.{◌≡◌, ◌<◌, ◌≤◌, ℕ, Bool, true, false, List, [], ◌∷◌, length, Option, None, Some, slice_get, Result, Ok, Err, refl, sym, ◌∙◌, ap, subst, inl, arith}
+use Rattle.std.specs.Prelude.{IsTrue}
+use Rattle.std.specs.Result.{OnOk, OnErr, IfErr}
+use Rattle.std.proofs.lemmas.Option.{same_Some}
+use Rattle.std.proofs.lemmas.Result.{IfErr-weaker}
+use Rattle.sector_disk.specs.Moments.{leaves_now}
+use Rattle.page_store.specs.Store.{Store}
+use Rattle.retrograde.specs.Stored.{Stored, IsTable, loaded}
+use Rattle.table.specs.Fitting.{Fits}
+use Rattle.game_file.specs.Calls.{IsPut, IsNotPut}
+use Rattle.game_file.specs.Causes.{LoadCause, CommitCause}
+use Rattle.game_file.specs.Kept.{Kept, kept_as, text_kept}
+use Rattle.game_file.specs.State.{State}
+use Rattle.game_file.specs.declared.fault.FileFault.{FileFault}
+use Rattle.game_file.specs.declared.fault.FileFault.TheVariants.{Disk, NotATable, AlreadyATable, Damaged, TooSmall, TableFull, OutOfMemory, Closed, Inconsistent}
+use Rattle.flat_file.specs.declared.game.Game.{Game}
+use Rattle.flat_file.specs.File.{File, IsFile, AreGames, kept_in, kept_of}
+use Rattle.flat_file.specs.Held.{Stores}
+use Rattle.flat_file.specs.Laws.{a_file_is_kept}
+use Rattle.flat_table.specs.Calls.{file_of, state_of, IsPutInFile, IsNotPutInFile}
+use Rattle.flat_table.specs.Causes.{PutCause}
+use Rattle.flat_table.specs.Drafts.{IsUnwritten}
+use Rattle.flat_table.proofs.Putting.{put_whole, not_put_whole}
+use Rattle.flat_table.proofs.Room.{loading_room}
+
+-- the positions of a table have one length
+one_length : (xs : List (List ℕ)) (m n : ℕ) → 0 < length xs → ((i : ℕ) (x : List ℕ) → slice_get xs i ≡ Some x → length x ≡ m)
+    → ((i : ℕ) (x : List ℕ) → slice_get xs i ≡ Some x → length x ≡ n) → m ≡ n
+one_length [] m n some one other = absurd (omega (arith, some))
+one_length (x ∷ xs) m n some one other = sym (one 0 x refl) ∙ other 0 x refl
+
+on_ok : {X E P Q : Type 0} (r : Result X E) → (P → Q) → OnOk r P → OnOk r Q
+on_ok (Ok x) f p = f p
+on_ok (Err e) f p = tt
+
+on_err : {X E P Q : Type 0} (r : Result X E) → (P → Q) → OnErr r P → OnErr r Q
+on_err (Ok x) f p = tt
+on_err (Err e) f p = f p
+
+-- a file with these pages that keeps this
+abbrev with_kept : Store → Option Kept → State
+with_kept s k = record { disk = s.disk; failures = s.failures; capacity = length s.marks; closed = s.closed; kept = k }
+
+-- a file that was not written is in the same state
+same_state : (was mid : File) → IsUnwritten was mid → state_of mid ≡ state_of was
+same_state was mid same =
+    ap (λ (s : Store). with_kept s (kept_of mid.game)) same.store ∙ ap (λ (k : Option Kept). with_kept was.store k) same.kept
+
+-- the game in memory, which is what is kept
+its_game : (game : Option Game) (kept : Kept) → kept_of game ≡ Some kept → (was : Game) × (game ≡ Some was) × (kept_in was ≡ kept)
+its_game None kept none = absurd (cc)
+its_game (Some was) kept some = (was, refl, same_Some (kept_in was) kept some)
+
+-- the file was only worked on since it was whole
+module _ (was mid new : File) (kept : Kept) (now : Stored (List ℕ)) (whole : IsFile was) (is : kept_of was.game ≡ Some kept) (same : IsUnwritten was mid) where
+  -- the draft is put in the place of what was kept
+  pub committed : {X E None_left : Type 0} (r : Result X E) → None_left
+      → ((g : Game) → mid.game ≡ Some g → IsFile mid → OnOk r (IsPutInFile (kept_as g.text.items now) mid new))
+      → OnOk r ((IsFile new × None_left) × IsPut Stores (kept_as kept.text now) (state_of was) (state_of new))
+  committed r none put =
+      let (g, has, keeps) = its_game mid.game kept (same.kept ∙ is) in
+      let text : g.text.items ≡ kept.text = ap (λ (k : Kept). k.text) keeps in
+      on_ok r
+      (λ it. ((it.stands, none),
+        subst (λ (s : State). IsPut Stores (kept_as kept.text now) s (state_of new)) (same_state was mid same)
+        (subst (λ (t : List ℕ). IsPut Stores (kept_as t now) (state_of mid) (state_of new)) text (put_whole _ mid new it))))
+      (put g has (same.stands whole))
+
+  -- or it is not
+  pub not_committed : {X E None_left : Type 0} (r : Result X E) → None_left
+      → ((g : Game) → mid.game ≡ Some g → IsFile mid → OnErr r (IsNotPutInFile (kept_as g.text.items now) mid new))
+      → OnErr r ((IsFile new × None_left) × IsNotPut Stores (kept_as kept.text now) (state_of was) (state_of new))
+  not_committed r none left =
+      let (g, has, keeps) = its_game mid.game kept (same.kept ∙ is) in
+      let text : g.text.items ≡ kept.text = ap (λ (k : Kept). k.text) keeps in
+      on_err r
+      (λ it. ((it.stands, none),
+        subst (λ (s : State). IsNotPut Stores (kept_as kept.text now) s (state_of new)) (same_state was mid same)
+        (subst (λ (t : List ℕ). IsNotPut Stores (kept_as t now) (state_of mid) (state_of new)) text (not_put_whole _ mid new it))))
+      (left g has (same.stands whole))
+
+  -- a table with positions of another length does not fit
+  unfit : (g : Game) → IsFile mid → mid.game ≡ Some g → kept_in g ≡ kept → ¬ Fits g.packed now → (n : ℕ) → Fits n kept.table → ¬ Fits n now
+  unfit g it has keeps cause n fits =
+      let fits_packed : Fits g.packed kept.table = subst (λ (k : Kept). Fits g.packed k.table) keeps (fits_of mid.game it.games has) in
+      let long = one_length kept.table.positions n g.packed fits.table.started fits.long fits_packed.long in
+      λ other. cause (subst (λ (m : ℕ). Fits m now) long other)
+    where
+      fits_of : (game : Option Game) → AreGames game → game ≡ Some g → Fits g.packed (kept_in g).table
+      fits_of None games none = absurd (cc)
+      fits_of (Some h) games some = subst (λ (x : Game). Fits x.packed (kept_in x).table) (same_Some h g some) games.fits
+
+  commit_cause : (g : Game) → IsFile mid → mid.game ≡ Some g → kept_in g ≡ kept → (fault : FileFault)
+      → PutCause (kept_as g.text.items now) g.packed mid.store new.store fault → CommitCause kept.table now (state_of mid) (state_of new) fault
+  commit_cause g it has keeps Disk cause = cause
+  commit_cause g it has keeps NotATable cause = cause
+  commit_cause g it has keeps AlreadyATable cause = cause
+  commit_cause g it has keeps Damaged cause = absurd cause
+  commit_cause g it has keeps TooSmall cause = cause
+  commit_cause g it has keeps TableFull cause = tt
+  commit_cause g it has keeps OutOfMemory cause = tt
+  commit_cause g it has keeps Closed cause = cause
+  commit_cause g it has keeps Inconsistent cause = λ honest. unfit g it has keeps cause
+
+  pub why_not_committed : {X : Type 0} (r : Result X FileFault)
+      → ((g : Game) → mid.game ≡ Some g → IsFile mid → IfErr r (PutCause (kept_as g.text.items now) g.packed mid.store new.store))
+      → IfErr r (CommitCause kept.table now (state_of was) (state_of new))
+  why_not_committed r why =
+      let (g, has, keeps) = its_game mid.game kept (same.kept ∙ is) in
+      let it = same.stands whole in
+      IfErr-weaker r _ _
+      (λ fault cause. subst (λ (s : State). CommitCause kept.table now s (state_of new) fault) (same_state was mid same) (commit_cause g it has keeps fault cause))
+      (why g has it)
+
+-- where no command had begun, the table that is kept is in its own place
+pub idly_committed : (was mid : File) (kept : Kept) (now : Stored (List ℕ)) → IsFile was → kept_of was.game ≡ Some kept → IsUnwritten was mid → now ≡ kept.table
+    → mid.store.closed ≡ false → IsPut Stores (kept_as kept.text now) (state_of was) (state_of mid)
+idly_committed was mid kept now whole is same table is_open =
+    let kept_is : kept_of mid.game ≡ Some (kept_as kept.text now) = same.kept ∙ is ∙ ap (λ (t : Stored (List ℕ)). Some (kept_as kept.text t)) (sym table) in
+    subst (λ (s : State). IsPut Stores (kept_as kept.text now) s (state_of mid)) (same_state was mid same)
+    (record {
+      text = ap text_kept kept_is;
+      kept = λ honest. kept_is;
+      is_open = is_open;
+      leaves = λ honest. leaves_now mid.store.disk (λ picture left. inl (a_file_is_kept mid (same.stands whole) honest is_open picture left));
+    })
+
+-- a first table is not loaded
+pub load_cause : (text start : List ℕ) (old new : File) → IsFile old → kept_of old.game ≡ None → old.store.closed ≡ false → (fault : FileFault)
+    → PutCause (kept_as text (loaded start)) (length start) old.store new.store fault → LoadCause start (state_of old) (state_of new) fault
+load_cause text start old new it none is_open Disk cause = cause
+load_cause text start old new it none is_open NotATable cause = cause
+load_cause text start old new it none is_open AlreadyATable cause = cause
+load_cause text start old new it none is_open Damaged cause = absurd cause
+load_cause text start old new it none is_open TooSmall cause = cause
+load_cause text start old new it none is_open TableFull cause = loading_room text start old.store.marks (it.backed.free is_open none) cause
+load_cause text start old new it none is_open OutOfMemory cause = tt
+load_cause text start old new it none is_open Closed cause = cause
+load_cause text start old new it none is_open Inconsistent cause = cause

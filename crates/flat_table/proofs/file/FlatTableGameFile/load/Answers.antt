@@ -1,0 +1,25 @@
+use Rattle.std.proofs.Common.{◌≡◌, rules}
+use Rattle.flat_file.specs.File.{File}
+use Rattle.flat_table.specs.declared.file.FlatTable.{FlatTable}
+use Rattle.flat_table.specs.contracts.file.FlatTableTableFile.TheImpl as it
+use Rattle.flat_table.proofs.file.FlatTableGameFile.load.Given as Given
+use Rattle.std.proofs.lemmas.Result.{IfErr-weaker}
+use Rattle.flat_table.proofs.Drafting.{load_cause}
+use Rattle.flat_table.proofs.Passing.{so_refused}
+use Rattle.flat_table.proofs.Putting.{nothing_put, not_put_whole}
+use Rattle.flat_table.proofs.file.FlatTableGameFile.load.Goals as goal
+
+pub returns-in_err-table-clause-err : goal.returns-in_err-table-clause-err
+returns-in_err-table-clause-err g c = λ whole none. so_refused c.from_residual.result (not_put_whole _ _ _ (nothing_put _ _ whole.0))
+
+pub returns-in_err-text-clause-err : goal.returns-in_err-text-clause-err
+returns-in_err-text-clause-err g c = λ whole none. so_refused c.from_residual-in_err-text.result (not_put_whole _ _ _ (nothing_put _ _ whole.0))
+
+pub returns-clause-cause : goal.returns-clause-cause
+returns-clause-cause g c = λ whole none is_open.
+    let text : c.in_ok-text.text.items ≡ c.args.text.now = search rules in
+    let cause = rw (c.len.ensures.value, text, c.in_ok-table.ensures.loaded) at c.replace.ensures.cause whole.0 in
+    IfErr-weaker c.replace.result _ _ (λ fault cause. load_cause _ _ (file g c.args.self.now) (file g c.replace.new.self) whole.0 none is_open fault cause) cause
+  where
+    file : (g : Given.Over) → FlatTable g.row.D.Denot g.D.SectorDisk → File
+    file g t = (it.ghosts g.row.D g.D.SectorDisk g.D.SectorDisk-dict).file t

@@ -1,0 +1,57 @@
+-- What a whole file promises as a table's file of any layout does.
+use Rattle.std.specs.Prelude.{◌≡◌, ◌≢◌, ◌<◌, ◌≤◌, ℕ, List, length, false, true, Option, None, Some, IsTrue, refl, slice_get, unwrap_or}
+use Rattle.std.proofs.Common.{sym, ◌∙◌, ap, subst, inl, arith}
+use Rattle.std.proofs.lemmas.Option.{same_Some}
+use Rattle.sector_disk.specs.Moments.{goes_on_refl, leaves_now}
+use Rattle.page_store.specs.Store.{Store}
+use Rattle.retrograde.specs.Stored.{Stored, IsTable}
+use Rattle.table.specs.InMemory.{stored_in}
+use Rattle.table.specs.declared.memory.MemTable.{MemTable}
+use Rattle.table.specs.declared.fault.TableFault.{TableFault}
+use Rattle.table.specs.declared.fault.TableFault.TheVariants.{OutOfMemory}
+use Rattle.game_file.specs.Calls.{IsAsked, IsKept}
+use Rattle.game_file.specs.Causes.{TableCause}
+use Rattle.game_file.specs.Kept.{Kept, text_kept}
+use Rattle.game_file.specs.State.{State, GoesAhead}
+use Rattle.flat_file.specs.declared.game.Game.{Game}
+use Rattle.flat_file.specs.File.{File, IsFile, kept_in, kept_of}
+use Rattle.flat_file.specs.Held.{Stores}
+use Rattle.flat_file.specs.Laws.{a_file_is_kept}
+use Rattle.flat_table.specs.Calls.{file_of, state_of}
+use Rattle.flat_table.specs.Drafts.{stored_now, IsUnwritten, IsOnlyRead}
+
+-- between commands the table is the one that is kept
+pub the_table_is_kept : (s : Store) (draft : Option MemTable) (game : Option Game) (kept : Kept) → IsFile (file_of s game) → draft ≡ None
+    → kept_of game ≡ Some kept → (stored_now draft game ≡ kept.table) × IsTable kept.table
+the_table_is_kept s (Some draft) game kept it none is = absurd (cc)
+the_table_is_kept s None None kept it none is = absurd (cc)
+the_table_is_kept s None (Some game) kept it none is =
+    let same : kept_in game ≡ kept = same_Some (kept_in game) kept is in
+    (ap (λ (k : Kept). k.table) same, subst (λ (k : Kept). IsTable k.table) same it.games.fits.table)
+
+-- a file with the same pages that keeps the same is as one of which a question was asked
+same_pages : (s : Store) (was is : Option Game) → IsFile (file_of s was) → kept_of is ≡ kept_of was
+    → IsAsked Stores (state_of (file_of s was)) (state_of (file_of s is))
+same_pages s was is stands same = record {
+  ahead = record { goes_on = goes_on_refl s.disk; same_size = refl; failures = omega arith; capacity = refl };
+  text = ap text_kept same;
+  kept = λ honest. same;
+  closed = refl;
+  since = λ honest is_open. leaves_now s.disk (a_file_is_kept (file_of s was) stands honest is_open);
+  now = λ honest is_open. a_file_is_kept (file_of s was) stands honest is_open;
+}
+
+pub unwritten_asked : (old new : File) → IsFile old → IsUnwritten old new → IsAsked Stores (state_of old) (state_of new)
+unwritten_asked old new it same =
+    subst (λ (s : Store). IsAsked Stores (state_of old) (state_of (file_of s new.game))) (sym same.store)
+    (same_pages old.store old.game new.game it same.kept)
+
+-- so is a file of which a draft is given up
+pub unwritten_kept : (old new : File) → IsFile old → IsUnwritten old new → IsKept Stores (state_of old) (state_of new)
+unwritten_kept old new it same =
+    let asked = unwritten_asked old new it same in
+    record { ahead = asked.ahead; text = asked.text; kept = asked.kept; leaves = asked.since }
+
+-- want of memory needs no cause
+pub memory_cause : (old new : State) (fault : TableFault) → fault ≡ OutOfMemory → TableCause old new fault
+memory_cause old new fault is = subst (λ (f : TableFault). TableCause old new f) (sym is) tt

@@ -1,0 +1,156 @@
+//! The table that a command has come to: that of the last commit, or a copy of it that was worked on.
+ghost use Rattle.std.specs.Prelude.{◌≡◌, None, refl, OnOk, OnErr, IfErr, IsSome};
+ghost use Rattle.retrograde.specs.Changes.{counts_of};
+ghost use Rattle.table.specs.declared.fault.TableFault.TheVariants.{OutOfMemory};
+ghost use Rattle.flat_table.specs.Drafts.{stored_now, IsUnwritten, IsOnlyRead};
+ghost use Rattle.flat_table.specs.aid.Drafts.{unwritten_here, unwritten_then, only_read_here, only_read_then};
+
+use crate::file::{FlatTable, TableFile};
+use position_pack::Packed;
+use retrograde::{Counts, Record};
+use sector_disk::SectorDisk;
+use table::{Table, TableFault};
+
+impl<D: SectorDisk> FlatTable<D> {
+    /// Begins a command: the table of the last commit is copied, if it is not yet.
+    fn begin(&mut self) -> Result<(), TableFault>
+        ensures same { (⟦<FlatTable<D> as TableFile>⟧.file self.new) ≡ (⟦<FlatTable<D> as TableFile>⟧.file self.old) }
+        ensures some { OnOk result (IsSome self.new.draft) }
+        ensures stored { stored_now self.new.draft self.new.game ≡ stored_now self.old.draft self.old.game }
+        ensures memory { IfErr result (λ fault. fault ≡ OutOfMemory) }
+    {
+        if self.draft.is_none() {
+            let Some(game) = &self.game else {
+                return Err(TableFault::OutOfMemory);
+            };
+            let draft = game.table.copy()?;
+            self.draft = Some(draft);
+        }
+        Ok(())
+    }
+}
+
+impl<D: SectorDisk> Table for FlatTable<D> {
+    ghost stored = { λ t. stored_now t.draft t.game };
+
+    ghost is_honest = { λ t. Unit {0} };
+
+    ghost counted = { λ t. counts_of (stored_now t.draft t.game) };
+
+    ghost stays = { λ was is. IsOnlyRead (⟦<FlatTable<D> as TableFile>⟧.file was) was.draft (⟦<FlatTable<D> as TableFile>⟧.file is) is.draft };
+
+    ghost goes_on = { λ was is. IsUnwritten (⟦<FlatTable<D> as TableFile>⟧.file was) (⟦<FlatTable<D> as TableFile>⟧.file is) };
+
+    ghost fails = { λ was is fault. IsUnwritten (⟦<FlatTable<D> as TableFile>⟧.file was) (⟦<FlatTable<D> as TableFile>⟧.file is) × (fault ≡ OutOfMemory) };
+
+    ghost counts_are = { λ t honest. refl };
+
+    ghost stays_here = { λ t. only_read_here (⟦<FlatTable<D> as TableFile>⟧.file t) t.draft };
+
+    ghost stays_then = { λ a b c first second. only_read_then first second };
+
+    ghost stays_goes_on = { λ a b stays. stays.unwritten };
+
+    ghost goes_on_then = { λ a b c first second. unwritten_then first second };
+
+    ghost fails_since = { λ a b c fault ahead cause. (unwritten_then ahead cause.0, cause.1) };
+
+    ghost memory_fails = { λ a b ahead. (ahead, refl) };
+
+    fn counts(&self) -> Counts {
+        match &self.draft {
+            Some(draft) => draft.counts(),
+            None => match &self.game {
+                Some(game) => game.table.counts(),
+                None => Counts {
+                    known: 0,
+                    expanded: 0,
+                    settled: 0,
+                    processed: 0,
+                },
+            },
+        }
+    }
+
+    fn number_of(&mut self, packed: &Packed) -> Result<Option<u32>, TableFault> {
+        match &mut self.draft {
+            Some(draft) => draft.number_of(packed),
+            None => match &mut self.game {
+                Some(game) => game.table.number_of(packed),
+                None => Ok(None),
+            },
+        }
+    }
+
+    fn packed(&mut self, number: u32) -> Result<Packed, TableFault> {
+        match &mut self.draft {
+            Some(draft) => draft.packed(number),
+            None => match &mut self.game {
+                Some(game) => game.table.packed(number),
+                None => unreachable!(),
+            },
+        }
+    }
+
+    fn record(&mut self, number: u32) -> Result<Record, TableFault> {
+        match &mut self.draft {
+            Some(draft) => draft.record(number),
+            None => match &mut self.game {
+                Some(game) => game.table.record(number),
+                None => unreachable!(),
+            },
+        }
+    }
+
+    fn add(&mut self, packed: &Packed) -> Result<u32, TableFault> {
+        self.begin()?;
+        match &mut self.draft {
+            Some(draft) => draft.add(packed),
+            None => unreachable!(),
+        }
+    }
+
+    fn set_record(&mut self, number: u32, kept: Record) -> Result<(), TableFault> {
+        self.begin()?;
+        match &mut self.draft {
+            Some(draft) => draft.set_record(number, kept),
+            None => unreachable!(),
+        }
+    }
+
+    fn add_edge(&mut self, successor: u32, predecessor: u32) -> Result<(), TableFault> {
+        self.begin()?;
+        match &mut self.draft {
+            Some(draft) => draft.add_edge(successor, predecessor),
+            None => unreachable!(),
+        }
+    }
+
+    fn next_edge(&mut self, successor: u32, after: Option<u32>) -> Result<Option<u32>, TableFault> {
+        match &mut self.draft {
+            Some(draft) => draft.next_edge(successor, after),
+            None => match &mut self.game {
+                Some(game) => game.table.next_edge(successor, after),
+                None => Ok(None),
+            },
+        }
+    }
+
+    fn push_settled(&mut self, number: u32) -> Result<(), TableFault> {
+        self.begin()?;
+        match &mut self.draft {
+            Some(draft) => draft.push_settled(number),
+            None => unreachable!(),
+        }
+    }
+
+    fn settled_at(&mut self, place: u32) -> Result<u32, TableFault> {
+        match &mut self.draft {
+            Some(draft) => draft.settled_at(place),
+            None => match &mut self.game {
+                Some(game) => game.table.settled_at(place),
+                None => unreachable!(),
+            },
+        }
+    }
+}

@@ -1,0 +1,27 @@
+-- What a file keeps of a game, and which pictures of a disk store it.
+use Rattle.std.specs.Prelude.{ℕ, List, Option, None, Some, length}
+use Rattle.sector_disk.specs.Disk.{Picture}
+use Rattle.retrograde.specs.Stored.{Stored}
+
+-- what is kept of a game: its text, and its table
+pub record Kept : Type 0 where
+  pub text : List ℕ
+  pub table : Stored (List ℕ)
+
+-- a text and a table
+abbrev pub kept_as : List ℕ → Stored (List ℕ) → Kept
+kept_as t s = record { text = t; table = s }
+
+-- the text of what is kept, if a game is loaded
+abbrev pub text_kept : Option Kept → Option (List ℕ)
+text_kept None = None
+text_kept (Some kept) = Some kept.text
+
+-- how many positions are known, none if no game is loaded
+abbrev pub known_in : Option Kept → ℕ
+known_in None = 0
+known_in (Some kept) = length kept.table.positions
+
+-- which picture of a disk stores which table, or that none of a game is there: each layout of a file says it in its own way
+abbrev pub Layout : Type 1
+Layout = Picture → Option Kept → Type 0

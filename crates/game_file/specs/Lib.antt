@@ -1,0 +1,6 @@
+pub mod Kept
+pub mod State
+pub mod Stops
+pub mod Faults
+pub mod Causes
+pub mod Calls

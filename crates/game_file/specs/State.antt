@@ -1,0 +1,26 @@
+-- What is stated of a table's file between commands.
+use Rattle.std.specs.Prelude.{◌≡◌, ℕ, ◌≤◌, Bool, Option}
+use Rattle.sector_disk.specs.Disk.{Disk, size, GoesOn}
+use Rattle.game_file.specs.Kept.{Kept}
+
+-- its disk, how often that has failed, how many pages there are, whether a write or a sync has failed since it was opened, and
+-- the text and table of the last commit, if a game is loaded
+pub record State : Type 0 where
+  pub disk : Disk
+  pub failures : ℕ
+  pub capacity : ℕ
+  pub closed : Bool
+  pub kept : Option Kept
+
+-- a later state of the same file
+pub record GoesAhead (old new : State) : Type 0 where
+  pub goes_on : GoesOn old.disk new.disk
+  pub same_size : size new.disk ≡ size old.disk
+  pub failures : old.failures ≤ new.failures
+  pub capacity : new.capacity ≡ old.capacity
+
+-- a later state of the same disk, with as many sectors
+pub record GoesFrom (disk : Disk) (count : ℕ) (later : Disk) (now : ℕ) : Type 0 where
+  pub goes_on : GoesOn disk later
+  pub failures : count ≤ now
+  pub same_size : size later ≡ size disk

@@ -1,0 +1,22 @@
+-- What a power failure leaves.
+use Rattle.std.specs.Prelude.{◌⊎◌, Option, None}
+use Rattle.sector_disk.specs.Disk.{Picture, Shown, Disk, LeavesOnly, MayLeave}
+use Rattle.root_pair.specs.Root.{IsTable}
+use Rattle.game_file.specs.Kept.{Kept, Layout}
+
+module _ (Stores : Layout) where
+  -- a stop now leaves this table
+  abbrev pub LeavesNow : Disk → Option Kept → Type 0
+  LeavesNow disk kept = (picture : Picture) → MayLeave disk.now picture → Stores picture kept
+
+  -- from the one moment to the other a stop leaves this table
+  abbrev pub LeavesTable : Disk → Disk → Option Kept → Type 0
+  LeavesTable old new kept = LeavesOnly old new (λ picture. Stores picture kept)
+
+  -- from the one moment to the other a stop leaves the one table or the other
+  abbrev pub LeavesEither : Disk → Disk → Option Kept → Option Kept → Type 0
+  LeavesEither old new was is = LeavesOnly old new (λ picture. Stores picture was ⊎ Stores picture is)
+
+  -- no table, or what a stop could leave before, or the empty table
+  abbrev pub OldOrEmpty : Shown → Picture → Type 0
+  OldOrEmpty old picture = IsTable picture → MayLeave old picture ⊎ Stores picture None

@@ -1,0 +1,127 @@
+//! What a game's table in a file promises.
+ghost use Rattle.std.specs.Prelude.{◌≡◌, ◌≢◌, ◌≤◌, ◌^◌, ℕ, true, false, Option, None, Some, length, OnOk, OnErr, IfOk, IfErr, IfSome, IfNone, IsTrue};
+ghost use Rattle.sector_disk.specs.Disk.{Picture};
+ghost use Rattle.retrograde.specs.Stored.{IsTable, loaded};
+ghost use Rattle.table.specs.declared.fault.TableFault.{TableFault};
+ghost use Rattle.game_file.specs.Kept.{Kept, Layout, kept_as, text_kept};
+ghost use Rattle.game_file.specs.State.{State, GoesAhead};
+ghost use Rattle.game_file.specs.Stops.{LeavesNow};
+ghost use Rattle.game_file.specs.Calls.{IsOpenedFile, IsNotOpened, IsCreatedFile, IsNotCreated, IsPut, IsNotPut, IsKept, IsAsked};
+ghost use Rattle.game_file.specs.Causes.{OpenCause, CreateCause, LoadCause, CommitCause, TableCause};
+
+use crate::{FileFault, Refused};
+use position_pack::Packed;
+use sector_disk::SectorDisk;
+use std::alloc::Global;
+use table::Table;
+
+/// A game's table in a file. As a `Table` it is the one that a command has come to, at first that of the last commit. A command
+/// works on it and then commits it, or gives it up; what a power failure leaves is the table of the last commit until then.
+///
+/// What a call says of what is kept it says of a file that is whole, as `create` and `open` give it and every call leaves it but
+/// those that write to the table: after these it is whole again once it is committed or given up.
+pub trait GameFile: Table {
+    /// The disk that it is on.
+    type Device: SectorDisk;
+
+    /// Which pictures of the disk store which table: the layout of the file.
+    ghost stores: { Layout };
+
+    /// Its disk, and what the last commit keeps.
+    ghost state: { Self → State };
+
+    /// What the last commit keeps is what the disk stores, and no command is going on.
+    ghost is_whole: { Self → Type 0 };
+
+    /// Makes the empty table on this disk, and opens it: E1, E3 and then E6, E8.
+    fn create(alloc: Global, disk: Self::Device) -> Result<Self, Refused<Self::Device>>
+        ensures whole { IfOk result is_whole }
+        ensures ok { IfOk result (λ file. IsCreatedFile stores (Self.Device.disk disk) (Self.Device.failures disk) (state file)) }
+        ensures refused { IfErr result (λ back. IsNotCreated stores (Self.Device.disk disk) (Self.Device.failures disk)
+            (Self.Device.disk back.disk) (Self.Device.failures back.disk)) }
+        ensures cause { IfErr result (λ back. CreateCause (Self.Device.disk disk) (Self.Device.failures disk)
+            (Self.Device.failures back.disk) back.fault) };
+
+    /// Opens the table that this disk stores, after a sync: E1, E2, E4, E8.
+    fn open(alloc: Global, disk: Self::Device) -> Result<Self, Refused<Self::Device>>
+        ensures whole { IfOk result is_whole }
+        ensures ok { IfOk result (λ file. IsOpenedFile stores (Self.Device.disk disk) (Self.Device.failures disk) (state file)) }
+        ensures refused { IfErr result (λ back. IsNotOpened (Self.Device.disk disk) (Self.Device.failures disk)
+            (Self.Device.disk back.disk) (Self.Device.failures back.disk)) }
+        ensures cause { IfErr result (λ back. OpenCause stores (Self.Device.disk disk) (Self.Device.failures disk)
+            (Self.Device.failures back.disk) back.fault) };
+
+    /// The text of the game, if one is loaded. It takes no memory and always answers.
+    fn text(&self) -> Option<&[u8]>
+        ensures some { IfSome result (λ text. text_kept (state self.now).kept ≡ Some text.now) }
+        ensures none { IfNone result ((state self.now).kept ≡ None) };
+
+    /// Whether a write or a sync has failed; the file has then to be opened again. It takes no memory and always answers.
+    fn is_closed(&self) -> bool
+        ensures { result ≡ (state self.now).closed };
+
+    /// Commits the table of a game that is loaded now, its start and no more, where none was: E9, E1, E7, E8. After a refusal there
+    /// is still none, but that after E1 in a write or a sync the file is closed, and the disk has the one or the other.
+    fn load(&mut self, text: &[u8], start: &Packed) -> Result<(), FileFault>
+        requires { length text.now ≤ 65536 }
+        ensures ahead { GoesAhead (state self.old) (state self.new) }
+        ensures whole { is_whole self.old → is_whole self.new }
+        ensures ok { is_whole self.old → (state self.old).kept ≡ None
+            → OnOk result (IsPut stores (kept_as text.now (loaded start.now.items)) (state self.old) (state self.new)) }
+        ensures err { is_whole self.old → (state self.old).kept ≡ None
+            → OnErr result (IsNotPut stores (kept_as text.now (loaded start.now.items)) (state self.old) (state self.new)) }
+        ensures cause { is_whole self.old → (state self.old).kept ≡ None → (state self.old).closed ≡ false
+            → IfErr result (LoadCause start.now.items (state self.old) (state self.new)) }
+        ensures still { IfErr result (λ fault. fault ≢ FileFault.Disk → (state self.new).closed ≡ (state self.old).closed) };
+
+    /// Commits the table that a command has come to since the file was whole: S6 if its parts do not fit together, and E9, E1, E7, E8.
+    /// A refusal gives the command up, but that after E1 in a write or a sync the file is closed, and the disk has the table of the
+    /// last commit or this one.
+    fn commit(&mut self) -> Result<(), FileFault>
+        ensures ahead { GoesAhead (state self.old) (state self.new) }
+        ensures ok { (was : Self) (kept : Kept) → is_whole was → (state was).kept ≡ Some kept → Self.goes_on was self.old
+            → (IsTrue (state was).disk.honest → IsTable (Self.stored self.old))
+            → OnOk result (is_whole self.new × IsPut stores (kept_as kept.text (Self.stored self.old)) (state was) (state self.new)) }
+        ensures err { (was : Self) (kept : Kept) → is_whole was → (state was).kept ≡ Some kept → Self.goes_on was self.old
+            → (IsTrue (state was).disk.honest → IsTable (Self.stored self.old))
+            → OnErr result (is_whole self.new × IsNotPut stores (kept_as kept.text (Self.stored self.old)) (state was) (state self.new)) }
+        ensures cause { (was : Self) (kept : Kept) → is_whole was → (state was).kept ≡ Some kept → Self.goes_on was self.old
+            → IfErr result (CommitCause kept.table (Self.stored self.old) (state was) (state self.new)) }
+        ensures still { IfErr result (λ fault. fault ≢ FileFault.Disk → (state self.new).closed ≡ (state self.old).closed) };
+
+    /// Gives a command up: the table is that of the last commit again. It takes no memory and always answers.
+    fn discard(&mut self)
+        ensures ahead { GoesAhead (state self.old) (state self.new) }
+        ensures back { (was : Self) → is_whole was → Self.goes_on was self.old
+            → is_whole self.new × IsAsked stores (state was) (state self.new) }
+        ensures failed { (was : Self) (fault : TableFault) → is_whole was → Self.fails was self.old fault
+            → is_whole self.new × IsKept stores (state was) (state self.new) × TableCause (state was) (state self.new) fault }
+        ensures still { (was : Self) (fault : TableFault) → is_whole was → Self.fails was self.old fault → fault ≢ TableFault.Disk
+            → (state self.new).closed ≡ (state was).closed };
+
+    /// The disk, as it is. It always answers.
+    fn into_disk(self) -> Self::Device
+        ensures disk { Self.Device.disk result ≡ (state self).disk }
+        ensures failures { Self.Device.failures result ≡ (state self).failures };
+
+    /// A picture stores one table at most.
+    ghost stores_one: { (picture : Picture) (one other : Option Kept) → stores picture one → stores picture other → one ≡ other };
+
+    /// A stop of a file that is whole and open leaves what it keeps.
+    ghost whole_leaves: { (file : Self) → is_whole file → IsTrue (state file).disk.honest → (state file).closed ≡ false
+        → LeavesNow stores (state file).disk (state file).kept };
+
+    /// The table of a file that is whole is what it keeps.
+    ghost whole_stored: { (file : Self) (kept : Kept) → is_whole file → IsTrue (state file).disk.honest → (state file).kept ≡ Some kept
+        → Self.is_honest file × (Self.stored file ≡ kept.table) × IsTable kept.table };
+
+    /// A question leaves a file whole.
+    ghost whole_stays: { (old new : Self) → is_whole old → Self.stays old new → is_whole new × IsAsked stores (state old) (state new) };
+
+    /// A fault of the table has its cause.
+    ghost fails_for: { (old new : Self) (fault : TableFault) → is_whole old → Self.fails old new fault
+        → TableCause (state old) (state new) fault };
+
+    /// No file has more than 16,777,216 positions.
+    ghost few: { (file : Self) → (Self.counted file).known ≤ 2 ^ 24 };
+}
