@@ -12,7 +12,7 @@ ghost use Rattle.flat_table.specs.Calls.{file_of, state_of, IsPutInFile, IsNotPu
 ghost use Rattle.flat_table.specs.Causes.{PutCause};
 ghost use Rattle.flat_table.specs.Pages.{ArePages};
 ghost use Rattle.flat_table.specs.aid.Drafts.{few_stored};
-ghost use Rattle.flat_table.specs.aid.Whole.{the_table_is_kept, unwritten_asked, memory_cause};
+ghost use Rattle.flat_table.specs.aid.Whole.{the_table_is_kept, unwritten_ahead, unwritten_asked, memory_cause};
 
 use crate::put::put;
 use flat_file::Game;
@@ -124,6 +124,12 @@ impl<D: SectorDisk> GameFile for FlatTable<D> {
     ghost whole_stays = { λ old new whole stays.
         ((stays.unwritten.stands whole.0, stays.idle whole.1),
         unwritten_asked (⟦<FlatTable<D> as TableFile>⟧.file old) (⟦<FlatTable<D> as TableFile>⟧.file new) whole.0 stays.unwritten) };
+
+    ghost goes_ahead = { λ old new goes_on.
+        unwritten_ahead (⟦<FlatTable<D> as TableFile>⟧.file old) (⟦<FlatTable<D> as TableFile>⟧.file new) goes_on };
+
+    ghost fails_ahead = { λ old new fault cause.
+        unwritten_ahead (⟦<FlatTable<D> as TableFile>⟧.file old) (⟦<FlatTable<D> as TableFile>⟧.file new) cause.0 };
 
     ghost fails_for = { λ old new fault whole cause.
         memory_cause (state_of (⟦<FlatTable<D> as TableFile>⟧.file old)) (state_of (⟦<FlatTable<D> as TableFile>⟧.file new)) fault cause.1 };

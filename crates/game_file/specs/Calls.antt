@@ -56,11 +56,13 @@ module _ (Stores : Layout) where
     pub kept : IsTrue old.disk.honest → new.kept ≡ old.kept
     pub leaves : IsTrue old.disk.honest → old.closed ≡ false → LeavesTable Stores old.disk new.disk old.kept
 
-  -- a question changes nothing: the table is kept, and a stop since it was asked leaves it, and a stop now
+  -- a question changes nothing: the table is kept; a stop since it was asked leaves what it could leave before, so that table, and
+  -- a stop now
   pub record IsAsked (old new : State) : Type 0 where
     pub ahead : GoesAhead old new
     pub text : text_kept new.kept ≡ text_kept old.kept
     pub kept : IsTrue old.disk.honest → new.kept ≡ old.kept
     pub closed : new.closed ≡ old.closed
+    pub leaves : IsTrue old.disk.honest → LeavesOnly old.disk new.disk (MayLeave old.disk.now)
     pub since : IsTrue old.disk.honest → old.closed ≡ false → LeavesTable Stores old.disk new.disk old.kept
     pub now : IsTrue old.disk.honest → old.closed ≡ false → LeavesNow Stores new.disk old.kept

@@ -80,20 +80,19 @@ pub trait GameFile: Table {
     fn commit(&mut self) -> Result<(), FileFault>
         ensures ahead { GoesAhead (state self.old) (state self.new) }
         ensures ok { (was : Self) (kept : Kept) → is_whole was → (state was).kept ≡ Some kept → Self.goes_on was self.old
-            → (IsTrue (state was).disk.honest → IsTable (Self.stored self.old))
             → OnOk result (is_whole self.new × IsPut stores (kept_as kept.text (Self.stored self.old)) (state was) (state self.new)) }
         ensures err { (was : Self) (kept : Kept) → is_whole was → (state was).kept ≡ Some kept → Self.goes_on was self.old
-            → (IsTrue (state was).disk.honest → IsTable (Self.stored self.old))
             → OnErr result (is_whole self.new × IsNotPut stores (kept_as kept.text (Self.stored self.old)) (state was) (state self.new)) }
         ensures cause { (was : Self) (kept : Kept) → is_whole was → (state was).kept ≡ Some kept → Self.goes_on was self.old
             → IfErr result (CommitCause kept.table (Self.stored self.old) (state was) (state self.new)) }
-        ensures still { IfErr result (λ fault. fault ≢ FileFault.Disk → (state self.new).closed ≡ (state self.old).closed) };
+        ensures still { (was : Self) → Self.goes_on was self.old
+            → IfErr result (λ fault. fault ≢ FileFault.Disk → (state self.new).closed ≡ (state was).closed) };
 
     /// Gives a command up: the table is that of the last commit again. It takes no memory and always answers.
     fn discard(&mut self)
         ensures ahead { GoesAhead (state self.old) (state self.new) }
         ensures back { (was : Self) → is_whole was → Self.goes_on was self.old
-            → is_whole self.new × IsAsked stores (state was) (state self.new) }
+            → is_whole self.new × IsKept stores (state was) (state self.new) × ((state self.new).closed ≡ (state was).closed) }
         ensures failed { (was : Self) (fault : TableFault) → is_whole was → Self.fails was self.old fault
             → is_whole self.new × IsKept stores (state was) (state self.new) × TableCause (state was) (state self.new) fault }
         ensures still { (was : Self) (fault : TableFault) → is_whole was → Self.fails was self.old fault → fault ≢ TableFault.Disk
@@ -117,6 +116,12 @@ pub trait GameFile: Table {
 
     /// A question leaves a file whole.
     ghost whole_stays: { (old new : Self) → is_whole old → Self.stays old new → is_whole new × IsAsked stores (state old) (state new) };
+
+    /// What the table's calls leave is a later state of the same file.
+    ghost goes_ahead: { (old new : Self) → Self.goes_on old new → GoesAhead (state old) (state new) };
+
+    /// So is what is left after a fault.
+    ghost fails_ahead: { (old new : Self) (fault : TableFault) → Self.fails old new fault → GoesAhead (state old) (state new) };
 
     /// A fault of the table has its cause.
     ghost fails_for: { (old new : Self) (fault : TableFault) → is_whole old → Self.fails old new fault

@@ -6,3 +6,4 @@ pub mod Opening
 pub mod Asking
 pub mod Turning
 pub mod Prefixes
+pub mod Making

@@ -1,113 +1,167 @@
 -- The game of a table is made ready as a file is opened.
-use Rattle.std.proofs.lemmas.Result.{IfOk-weaker}
-use Rattle.std.specs.Result.{IfOk, OnOk, IfErr}
-use Rattle.std.proofs.Common.{◌≡◌, Result, Ok, Err, ℕ, Option, sym, subst}
-use Rattle.sector_disk.specs.Disk.{Disk}
-use Rattle.sector_disk.specs.Moments.{still_honest}
-use Rattle.flat_file.specs.File.{File, kept_of}
-use Rattle.flat_file.specs.Held.{Kept, Stores}
-use Rattle.flat_file.specs.Laws.{a_file_is_kept}
-use Rattle.flat_read.specs.Laws.{a_picture_stores_one_table}
-use Rattle.flat_table.specs.declared.fault.FileFault.{FileFault}
-use Rattle.flat_table.specs.declared.fault.FileFault.TheVariants as file
-use Rattle.flat_table.specs.Calls.{IsOpened as IsFileOpened, IsNotOpened, IsCreated as IsFileCreated, IsNotCreated}
-use Rattle.flat_table.specs.Causes.{OpenCause as FileOpenCause, CreateCause as FileCreateCause}
+use Rattle.std.proofs.Common.{◌≡◌, ◌≤◌, inl, inr, ℕ, Bool, false, true, Option, None, refl, sym, ◌∙◌, subst, arith}
+use Rattle.std.specs.Prelude.{IsTrue, Result, Ok, Err}
+use Rattle.std.specs.Result.{IfOk, OnOk}
+use Rattle.sector_disk.specs.Disk.{Picture, Disk, LeavesOnly, MayLeave, Grew}
+use Rattle.sector_disk.specs.Moments.{goes_on_trans, leaves_then, leaves_more, still_honest}
+use Rattle.game_file.specs.Calls.{IsOpenedFile, IsNotOpened, IsCreatedFile, IsNotCreated, IsAsked}
+use Rattle.game_file.specs.Causes.{OpenCause as FileOpenCause, CreateCause as FileCreateCause}
+use Rattle.game_file.specs.Kept.{Kept, Layout}
+use Rattle.game_file.specs.State.{State, GoesFrom}
+use Rattle.game_file.specs.Stops.{OldOrEmpty}
+use Rattle.game_file.specs.declared.fault.FileFault.{FileFault}
+use Rattle.game_file.specs.declared.fault.FileFault.TheVariants as file
 use Rattle.recover.specs.declared.fault.SolverFault.{SolverFault}
 use Rattle.recover.specs.declared.fault.SolverFault.TheVariants.{Disk as DiskFailed, NotATable, AlreadyATable, Damaged, TooSmall, TableFull, OutOfMemory, Closed, Game, NoGame, GameAlready, KeeperChooses, TooWide, TooManyPositions, Inconsistent, NoSuchPosition, NotSettled, BadPosition}
 use Rattle.recover.specs.Faults.{file_fault}
 use Rattle.recover.specs.Held.{IsOfAGame}
 use Rattle.recover.specs.Opening.{IsOpened, IsCreated, OpenCause, CreateCause}
-use Rattle.recover.specs.State.{State, state_of}
-use Rattle.recover.specs.Steps.{IsNoGame}
+use Rattle.recover.specs.aid.Ready.{NoGameCause, IsBack}
+use Rattle.recover.proofs.Loading.{Leaves}
+use Rattle.recover.proofs.Refusing.{apart}
 
-module _ (disk : Disk) (count : ℕ) (file : File) where
-  pub opened : IsFileOpened disk count file → IsOfAGame (kept_of file.game) → IsOpened disk count (state_of file)
-  opened found of_a_game = record {
-    from = found.from;
-    capacity = found.capacity;
-    is_open = found.is_open;
-    holds = λ honest. record { stores = found.stored honest; of_a_game = of_a_game };
-    only = λ honest kept holds. a_picture_stores_one_table disk.now.contents (kept_of file.game) kept (found.stored honest) holds.stores;
-    since = found.leaves;
-    now = λ honest. a_file_is_kept file found.stands (still_honest found.from.goes_on honest) found.is_open;
+-- a picture stores one table at most
+abbrev pub StoresOne : Layout → Type 0
+StoresOne Stores = (picture : Picture) (one other : Option Kept) → Stores picture one → Stores picture other → one ≡ other
+
+-- a count that grew from a later one on grew
+grew_from : {before mid now : ℕ} → before ≤ mid → Grew mid now → Grew before now
+grew_from le (inl less) = inl (omega (arith, le, less))
+grew_from le (inr most) = inr most
+
+module _ (Stores : Layout) (disk : Disk) (count : ℕ) (file : State) where
+  from_first : GoesFrom disk count file.disk file.failures → (later : State) → IsAsked Stores file later → GoesFrom disk count later.disk later.failures
+  from_first from later asked = record {
+    goes_on = goes_on_trans from.goes_on asked.ahead.goes_on;
+    failures = omega (arith, from.failures, asked.ahead.failures);
+    same_size = asked.ahead.same_size ∙ from.same_size;
   }
 
-  -- the disk as it comes back, where the text is no game or a position is not one of its positions
-  pub opened_back : (back : Disk) (now : ℕ) → back ≡ file.store.disk → now ≡ file.store.failures → IsFileOpened disk count file → IsNotOpened disk count back now
-  opened_back back now same_disk same_failures found =
-      subst (λ (d : Disk). IsNotOpened disk count d now) (sym same_disk)
-      (subst (λ (n : ℕ). IsNotOpened disk count file.store.disk n) (sym same_failures) (record { from = found.from; leaves = found.leaves }))
+  -- the file is opened, and its game read
+  pub opened : StoresOne Stores → IsOpenedFile Stores disk count file → (IsTrue file.disk.honest → IsOfAGame file.kept)
+      → (later : State) → IsAsked Stores file later → Leaves Stores later → IsOpened Stores disk count later
+  opened one found of_a_game later asked leaves = record {
+    from = from_first found.from later asked;
+    capacity = asked.ahead.capacity ∙ found.capacity;
+    is_open = asked.closed ∙ found.is_open;
+    holds = λ honest.
+        let here = still_honest found.from.goes_on honest in
+        record {
+          stores = subst (λ (kept : Option Kept). Stores disk.now.contents kept) (sym (asked.kept here)) (found.stored honest);
+          of_a_game = subst (λ (kept : Option Kept). IsOfAGame kept) (sym (asked.kept here)) (of_a_game here);
+        };
+    only = λ honest kept holds.
+        asked.kept (still_honest found.from.goes_on honest) ∙ one disk.now.contents file.kept kept (found.stored honest) holds.stores;
+    since = since found asked;
+    now = λ honest. leaves (still_honest (goes_on_trans found.from.goes_on asked.ahead.goes_on) honest) (asked.closed ∙ found.is_open);
+  }
+    where
+      since : IsOpenedFile Stores disk count file → {later : State} → IsAsked Stores file later → IsTrue disk.honest → LeavesOnly disk later.disk (MayLeave disk.now)
+      since found asked honest =
+          leaves_then asked.ahead.goes_on (found.leaves honest)
+          (leaves_more (λ picture left. (found.leaves honest).each file.disk.clock picture found.from.goes_on.later (omega arith)
+            (subst (λ shown. MayLeave shown picture) (sym file.disk.was_now) left))
+          (asked.leaves (still_honest found.from.goes_on honest)))
 
-  pub no_game_opened : (now : ℕ) (fault : SolverFault) → IsFileOpened disk count file → IsNoGame (kept_of file.game) fault → OpenCause disk count now fault
-  no_game_opened now DiskFailed found cause = absurd cause
-  no_game_opened now NotATable found cause = absurd cause
-  no_game_opened now AlreadyATable found cause = absurd cause
-  no_game_opened now Damaged found cause = λ honest kept holds.
-      cause (subst IsOfAGame (a_picture_stores_one_table disk.now.contents kept (kept_of file.game) holds.stores (found.stored honest)) holds.of_a_game)
-  no_game_opened now TooSmall found cause = absurd cause
-  no_game_opened now TableFull found cause = absurd cause
-  no_game_opened now OutOfMemory found cause = tt
-  no_game_opened now Closed found cause = absurd cause
-  no_game_opened now (Game fault) found cause = absurd cause
-  no_game_opened now NoGame found cause = absurd cause
-  no_game_opened now GameAlready found cause = absurd cause
-  no_game_opened now (KeeperChooses number) found cause = absurd cause
-  no_game_opened now TooWide found cause = absurd cause
-  no_game_opened now TooManyPositions found cause = absurd cause
-  no_game_opened now Inconsistent found cause = absurd cause
-  no_game_opened now NoSuchPosition found cause = absurd cause
-  no_game_opened now NotSettled found cause = absurd cause
-  no_game_opened now BadPosition found cause = absurd cause
+  -- the disk as it comes back, because the text is no game or a position is not one of its positions
+  pub opened_back : (back : Disk) (now : ℕ) → IsOpenedFile Stores disk count file → IsBack Stores file back now → IsNotOpened disk count back now
+  opened_back back now found it =
+      subst (λ (d : Disk). IsNotOpened disk count d now) (sym it.disk)
+      (subst (λ (n : ℕ). IsNotOpened disk count it.later.disk n) (sym it.failures)
+      (record {
+        from = from_first found.from it.later it.asked;
+        leaves = λ honest.
+            leaves_then it.asked.ahead.goes_on (found.leaves honest)
+            (leaves_more (λ picture left. (found.leaves honest).each file.disk.clock picture found.from.goes_on.later (omega arith)
+              (subst (λ shown. MayLeave shown picture) (sym file.disk.was_now) left))
+            (it.asked.leaves (still_honest found.from.goes_on honest)));
+      }))
 
-  pub created : IsFileCreated disk count file → IsCreated disk count (state_of file)
-  created made = record {
-    from = made.from;
-    capacity = made.capacity;
-    is_open = made.is_open;
-    empty = made.empty;
+  pub no_game_opened : (now : ℕ) (fault : SolverFault) → StoresOne Stores → IsOpenedFile Stores disk count file → NoGameCause file now fault → OpenCause Stores disk count now fault
+  no_game_opened now DiskFailed one found cause = grew_from found.from.failures cause
+  no_game_opened now NotATable one found cause = absurd cause
+  no_game_opened now AlreadyATable one found cause = cause
+  no_game_opened now Damaged one found cause = λ honest kept holds.
+      cause (still_honest found.from.goes_on honest)
+      (subst (λ (k : Option Kept). IsOfAGame k) (one disk.now.contents kept file.kept holds.stores (found.stored honest)) holds.of_a_game)
+  no_game_opened now TooSmall one found cause = cause
+  no_game_opened now TableFull one found cause = cause
+  no_game_opened now OutOfMemory one found cause = tt
+  no_game_opened now Closed one found cause = apart file.closed found.is_open cause
+  no_game_opened now (Game fault) one found cause = cause
+  no_game_opened now NoGame one found cause = cause
+  no_game_opened now GameAlready one found cause = cause
+  no_game_opened now (KeeperChooses number) one found cause = cause
+  no_game_opened now TooWide one found cause = cause
+  no_game_opened now TooManyPositions one found cause = cause
+  no_game_opened now Inconsistent one found cause = cause
+  no_game_opened now NoSuchPosition one found cause = cause
+  no_game_opened now NotSettled one found cause = cause
+  no_game_opened now BadPosition one found cause = cause
+
+  -- what a stop since the making leaves
+  created_since : IsCreatedFile Stores disk count file → {later : State} → IsAsked Stores file later → IsTrue disk.honest → LeavesOnly disk later.disk (OldOrEmpty Stores disk.now)
+  created_since made asked honest =
+      leaves_then asked.ahead.goes_on (made.leaves honest)
+      (leaves_more (λ picture left. (made.leaves honest).each file.disk.clock picture made.from.goes_on.later (omega arith)
+        (subst (λ shown. MayLeave shown picture) (sym file.disk.was_now) left))
+      (asked.leaves (still_honest made.from.goes_on honest)))
+
+  pub created : IsCreatedFile Stores disk count file → (later : State) → IsAsked Stores file later → Leaves Stores later → IsCreated Stores disk count later
+  created made later asked leaves = record {
+    from = from_first made.from later asked;
+    capacity = asked.ahead.capacity ∙ made.capacity;
+    is_open = asked.closed ∙ made.is_open;
+    empty = λ honest. asked.kept (still_honest made.from.goes_on honest) ∙ made.empty honest;
     fresh = made.fresh;
-    since = made.leaves;
+    since = created_since made asked;
     now = λ honest picture left.
-        subst (λ (kept : Option Kept). Stores picture kept) (made.empty honest) (a_file_is_kept file made.stands (still_honest made.from.goes_on honest) made.is_open picture left);
+        subst (λ (kept : Option Kept). Stores picture kept) (asked.kept (still_honest made.from.goes_on honest) ∙ made.empty honest)
+        (leaves (still_honest (goes_on_trans made.from.goes_on asked.ahead.goes_on) honest) (asked.closed ∙ made.is_open) picture left);
   }
 
-  pub created_back : (back : Disk) (now : ℕ) → back ≡ file.store.disk → now ≡ file.store.failures → IsFileCreated disk count file → IsNotCreated disk count back now
-  created_back back now same_disk same_failures made =
-      subst (λ (d : Disk). IsNotCreated disk count d now) (sym same_disk)
-      (subst (λ (n : ℕ). IsNotCreated disk count file.store.disk n) (sym same_failures)
-      (record { from = made.from; leaves = made.leaves; kept = λ honest begins. absurd (made.fresh honest begins) }))
+  pub created_back : (back : Disk) (now : ℕ) → IsCreatedFile Stores disk count file → IsBack Stores file back now → IsNotCreated Stores disk count back now
+  created_back back now made it =
+      subst (λ (d : Disk). IsNotCreated Stores disk count d now) (sym it.disk)
+      (subst (λ (n : ℕ). IsNotCreated Stores disk count it.later.disk n) (sym it.failures)
+      (record {
+        from = from_first made.from it.later it.asked;
+        leaves = created_since made it.asked;
+        kept = λ honest begins. absurd (made.fresh honest begins);
+      }))
 
-  pub no_game_created : (now : ℕ) (fault : SolverFault) → IsFileCreated disk count file → IsNoGame (kept_of file.game) fault → CreateCause disk count now fault
-  no_game_created now DiskFailed made cause = absurd cause
+  pub no_game_created : (now : ℕ) (fault : SolverFault) → IsCreatedFile Stores disk count file → NoGameCause file now fault → CreateCause disk count now fault
+  no_game_created now DiskFailed made cause = grew_from made.from.failures cause
   no_game_created now NotATable made cause = absurd cause
   no_game_created now AlreadyATable made cause = absurd cause
-  no_game_created now Damaged made cause = λ honest. cause (subst IsOfAGame (sym (made.empty honest)) tt)
+  no_game_created now Damaged made cause = λ honest.
+      cause (still_honest made.from.goes_on honest) (subst (λ (k : Option Kept). IsOfAGame k) (sym (made.empty honest)) tt)
   no_game_created now TooSmall made cause = absurd cause
-  no_game_created now TableFull made cause = absurd cause
+  no_game_created now TableFull made cause = cause
   no_game_created now OutOfMemory made cause = tt
-  no_game_created now Closed made cause = absurd cause
-  no_game_created now (Game fault) made cause = absurd cause
-  no_game_created now NoGame made cause = absurd cause
-  no_game_created now GameAlready made cause = absurd cause
-  no_game_created now (KeeperChooses number) made cause = absurd cause
-  no_game_created now TooWide made cause = absurd cause
-  no_game_created now TooManyPositions made cause = absurd cause
-  no_game_created now Inconsistent made cause = absurd cause
-  no_game_created now NoSuchPosition made cause = absurd cause
-  no_game_created now NotSettled made cause = absurd cause
-  no_game_created now BadPosition made cause = absurd cause
+  no_game_created now Closed made cause = apart file.closed made.is_open cause
+  no_game_created now (Game fault) made cause = cause
+  no_game_created now NoGame made cause = cause
+  no_game_created now GameAlready made cause = cause
+  no_game_created now (KeeperChooses number) made cause = cause
+  no_game_created now TooWide made cause = cause
+  no_game_created now TooManyPositions made cause = cause
+  no_game_created now Inconsistent made cause = cause
+  no_game_created now NoSuchPosition made cause = cause
+  no_game_created now NotSettled made cause = cause
+  no_game_created now BadPosition made cause = cause
 
 -- a file that is not opened is no solver
-pub open_cause : (disk : Disk) (count now : ℕ) (fault : FileFault) → FileOpenCause disk count now fault → OpenCause disk count now (file_fault fault)
-open_cause disk count now file.Disk cause = cause
-open_cause disk count now file.NotATable cause = cause
-open_cause disk count now file.AlreadyATable cause = cause
-open_cause disk count now file.Damaged cause = λ honest kept holds. cause honest kept holds.stores
-open_cause disk count now file.TooSmall cause = cause
-open_cause disk count now file.TableFull cause = cause
-open_cause disk count now file.OutOfMemory cause = cause
-open_cause disk count now file.Closed cause = cause
-open_cause disk count now file.Inconsistent cause = cause
+pub open_cause : (Stores : Layout) (disk : Disk) (count now : ℕ) (fault : FileFault) → FileOpenCause Stores disk count now fault → OpenCause Stores disk count now (file_fault fault)
+open_cause Stores disk count now file.Disk cause = cause
+open_cause Stores disk count now file.NotATable cause = cause
+open_cause Stores disk count now file.AlreadyATable cause = cause
+open_cause Stores disk count now file.Damaged cause = λ honest kept holds. cause honest kept holds.stores
+open_cause Stores disk count now file.TooSmall cause = cause
+open_cause Stores disk count now file.TableFull cause = cause
+open_cause Stores disk count now file.OutOfMemory cause = cause
+open_cause Stores disk count now file.Closed cause = cause
+open_cause Stores disk count now file.Inconsistent cause = cause
 
 pub create_cause : (disk : Disk) (count now : ℕ) (fault : FileFault) → FileCreateCause disk count now fault → CreateCause disk count now (file_fault fault)
 create_cause disk count now file.Disk cause = cause
@@ -120,21 +174,16 @@ create_cause disk count now file.OutOfMemory cause = cause
 create_cause disk count now file.Closed cause = cause
 create_cause disk count now file.Inconsistent cause = cause
 
-module _ {X E : Type 0} (disk : Disk) (count : ℕ) (file : File) (r : Result X E) (state : X → State) (same : IfOk r (λ x. state x ≡ state_of file)) where
-  -- a solver over a file that was opened
-  pub opened_with : OnOk r (IsOfAGame (kept_of file.game)) → IsFileOpened disk count file → IfOk r (λ x. IsOpened disk count (state x))
-  opened_with of_a_game found = by_cases r same of_a_game
-    where
-      by_cases : (r : Result X E) → IfOk r (λ x. state x ≡ state_of file) → OnOk r (IsOfAGame (kept_of file.game)) → IfOk r (λ x. IsOpened disk count (state x))
-      by_cases (Ok x) same of_a_game = subst (λ (s : State). IsOpened disk count s) (sym same) (opened disk count file found of_a_game)
-      by_cases (Err e) same of_a_game = tt
+-- a solver over a file that was opened
+pub opened_with : {X E : Type 0} (Stores : Layout) (disk : Disk) (count : ℕ) (file : State) (r : Result X E) (state : X → State) (IsReady : X → Type 0)
+    → StoresOne Stores → IsOpenedFile Stores disk count file → (IsTrue file.disk.honest → OnOk r (IsOfAGame file.kept)) → IfOk r (λ x. IsAsked Stores file (state x)) → IfOk r IsReady
+    → ((x : X) → IsReady x → Leaves Stores (state x)) → IfOk r (λ x. IsOpened Stores disk count (state x))
+opened_with Stores disk count file (Ok x) state IsReady one found of_a_game asked ready leaves = opened Stores disk count file one found of_a_game (state x) asked (leaves x ready)
+opened_with Stores disk count file (Err e) state IsReady one found of_a_game asked ready leaves = tt
 
-  -- and over one that was made
-  pub created_with : IsFileCreated disk count file → IfOk r (λ x. IsCreated disk count (state x))
-  created_with made = IfOk-weaker r _ _ (λ x same. subst (λ (s : State). IsCreated disk count s) (sym same) (created disk count file made)) same
-
--- the disk as it comes back from one that was made
-pub created_back_with : {X E : Type 0} (disk : Disk) (count : ℕ) (file : File) (r : Result X E) (back : E → Disk) (now : E → ℕ) → IfErr r (λ e. back e ≡ file.store.disk)
-    → IfErr r (λ e. now e ≡ file.store.failures) → IsFileCreated disk count file → IfErr r (λ e. IsNotCreated disk count (back e) (now e))
-created_back_with disk count file (Ok x) back now same_disk same_failures made = tt
-created_back_with disk count file (Err e) back now same_disk same_failures made = created_back disk count file (back e) (now e) same_disk same_failures made
+-- and over one that was made
+pub created_with : {X E : Type 0} (Stores : Layout) (disk : Disk) (count : ℕ) (file : State) (r : Result X E) (state : X → State) (IsReady : X → Type 0)
+    → IsCreatedFile Stores disk count file → IfOk r (λ x. IsAsked Stores file (state x)) → IfOk r IsReady
+    → ((x : X) → IsReady x → Leaves Stores (state x)) → IfOk r (λ x. IsCreated Stores disk count (state x))
+created_with Stores disk count file (Ok x) state IsReady made asked ready leaves = created Stores disk count file made (state x) asked (leaves x ready)
+created_with Stores disk count file (Err e) state IsReady made asked ready leaves = tt

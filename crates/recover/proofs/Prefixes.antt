@@ -6,7 +6,8 @@ use Rattle.sector_disk.specs.Disk.{Picture, MayLeave}
 use Rattle.sector_disk.specs.Moments.{still_honest}
 use Rattle.rbg_read.specs.Reading.{Reads}
 use Rattle.game_table.specs.Laws.{a_first_table_is_sound}
-use Rattle.flat_file.specs.Held.{Kept, Stores}
+use Rattle.game_file.specs.Kept.{Kept, Layout}
+use Rattle.game_file.specs.State.{State, GoesAhead}
 use Rattle.recover.specs.declared.replies.Command.{Command as Asked}
 use Rattle.recover.specs.declared.replies.Reply.{Reply as Answer}
 use Rattle.recover.specs.Held.{Holds, IsSound}
@@ -14,7 +15,6 @@ use Rattle.recover.specs.Headline.{LeadsTo, IsExact, LeavesAPrefix}
 use Rattle.recover.specs.Laws.{a_sound_table_is_held, what_is_settled_is_won, finished_is_all, finished_leaves_the_drawn}
 use Rattle.recover.specs.Machine.{Command, load, work, Reply, loaded_it, worked, refused, Step}
 use Rattle.recover.specs.Runs.{command_of, reply_of, LeavesAt, Turns, IsRun}
-use Rattle.recover.specs.State.{State, GoesAhead}
 use Rattle.recover.specs.Steps.{MayFollow}
 
 -- what a sound table says is so
@@ -60,65 +60,66 @@ what_commands_lead_to_is_sound [] old (suc count) new none sound = absurd none
 what_commands_lead_to_is_sound (command ∷ commands) old (suc count) new (mid, follows, leads) sound =
     what_commands_lead_to_is_sound commands mid count new leads (step_sound command old mid follows sound)
 
--- what some of the commands lead to
-abbrev Left : List Command → Option Kept → Picture → Type 0
-Left commands old picture = (count : ℕ) × (kept : Option Kept) × LeadsTo commands old count kept × Holds picture kept × IsExact kept
+module _ (Stores : Layout) where
+  -- what some of the commands lead to
+  abbrev Left : List Command → Option Kept → Picture → Type 0
+  Left commands old picture = (count : ℕ) × (kept : Option Kept) × LeadsTo commands old count kept × Holds Stores picture kept × IsExact kept
 
-none_yet : (commands : List Command) (old : Option Kept) (picture : Picture) → IsSound old → Stores picture old → Left commands old picture
-none_yet commands old picture sound stores = (0, old, refl, a_sound_table_is_held picture old stores sound, a_sound_table_is_exact old sound)
+  none_yet : (commands : List Command) (old : Option Kept) (picture : Picture) → IsSound old → Stores picture old → Left commands old picture
+  none_yet commands old picture sound stores = (0, old, refl, a_sound_table_is_held Stores picture old stores sound, a_sound_table_is_exact old sound)
 
-one_done : (command : Command) (commands : List Command) (old new : Option Kept) (picture : Picture) → MayFollow command old new ⊎ (new ≡ old) → IsSound old → Stores picture new
-    → Left (command ∷ commands) old picture
-one_done command commands old new picture follows sound stores =
-    let sound_now = step_sound command old new follows sound in
-    (1, new, (new, follows, refl), a_sound_table_is_held picture new stores sound_now, a_sound_table_is_exact new sound_now)
+  one_done : (command : Command) (commands : List Command) (old new : Option Kept) (picture : Picture) → MayFollow command old new ⊎ (new ≡ old) → IsSound old → Stores picture new
+      → Left (command ∷ commands) old picture
+  one_done command commands old new picture follows sound stores =
+      let sound_now = step_sound command old new follows sound in
+      (1, new, (new, follows, refl), a_sound_table_is_held Stores picture new stores sound_now, a_sound_table_is_exact new sound_now)
 
-one_more : (command : Command) (commands : List Command) (old mid : Option Kept) (picture : Picture) → MayFollow command old mid ⊎ (mid ≡ old) → Left commands mid picture
-    → Left (command ∷ commands) old picture
-one_more command commands old mid picture follows (count, kept, leads, holds, exact) = (suc count, kept, (mid, follows, leads), holds, exact)
+  one_more : (command : Command) (commands : List Command) (old mid : Option Kept) (picture : Picture) → MayFollow command old mid ⊎ (mid ≡ old) → Left commands mid picture
+      → Left (command ∷ commands) old picture
+  one_more command commands old mid picture follows (count, kept, leads, holds, exact) = (suc count, kept, (mid, follows, leads), holds, exact)
 
-either : (command : Command) (commands : List Command) (old new : Option Kept) (picture : Picture) → MayFollow command old new ⊎ (new ≡ old) → IsSound old
-    → Stores picture old ⊎ Stores picture new → Left (command ∷ commands) old picture
-either command commands old new picture follows sound (inl stores) = none_yet (command ∷ commands) old picture sound stores
-either command commands old new picture follows sound (inr stores) = one_done command commands old new picture follows sound stores
+  either : (command : Command) (commands : List Command) (old new : Option Kept) (picture : Picture) → MayFollow command old new ⊎ (new ≡ old) → IsSound old
+      → Stores picture old ⊎ Stores picture new → Left (command ∷ commands) old picture
+  either command commands old new picture follows sound (inl stores) = none_yet (command ∷ commands) old picture sound stores
+  either command commands old new picture follows sound (inr stores) = one_done command commands old new picture follows sound stores
 
-module _ (is : State) (honest : IsTrue is.disk.honest) where
-  -- the table that a stop at this moment leaves
-  pub left_by : (commands : List Command) (replies : List Reply) (was : State) → IsTrue was.disk.honest → Turns is.disk commands replies was is → was.closed ≡ false → IsSound was.kept
-      → LeavesAt is.disk was.disk.clock was.kept → LeavesAPrefix commands was is
-  left_by [] [] was was_honest same is_open sound begins moment picture from to left =
-      let clock : is.disk.clock ≡ was.disk.clock = ap (λ (s : State). s.disk.clock) same in
-      let now : moment ≡ was.disk.clock = omega (arith, from, to, clock) in
-      none_yet [] was.kept picture sound (begins picture (subst (λ (k : ℕ). MayLeave (is.disk.was k) picture) now left))
-  left_by [] (reply ∷ replies) was was_honest none is_open sound begins moment picture from to left = absurd none
-  left_by (command ∷ commands) [] was was_honest none is_open sound begins moment picture from to left = absurd none
-  left_by (command ∷ commands) (reply ∷ replies) was was_honest (mid, turn, rest) is_open sound begins moment picture from to left =
-      by mid.closed refl
-      (λ open_. left_by commands replies mid (still_honest turn.ahead.goes_on was_honest) rest open_ (step_sound command was.kept mid.kept follows sound) (turn.at honest is_open open_))
-    where
-      follows : MayFollow command was.kept mid.kept ⊎ (mid.kept ≡ was.kept)
-      follows = step_follows command reply was mid was_honest turn.step
+  module _ (is : State) (honest : IsTrue is.disk.honest) where
+    -- the table that a stop at this moment leaves
+    pub left_by : (commands : List Command) (replies : List Reply) (was : State) → IsTrue was.disk.honest → Turns Stores is.disk commands replies was is → was.closed ≡ false → IsSound was.kept
+        → LeavesAt Stores is.disk was.disk.clock was.kept → LeavesAPrefix Stores commands was is
+    left_by [] [] was was_honest same is_open sound begins moment picture from to left =
+        let clock : is.disk.clock ≡ was.disk.clock = ap (λ (s : State). s.disk.clock) same in
+        let now : moment ≡ was.disk.clock = omega (arith, from, to, clock) in
+        none_yet [] was.kept picture sound (begins picture (subst (λ (k : ℕ). MayLeave (is.disk.was k) picture) now left))
+    left_by [] (reply ∷ replies) was was_honest none is_open sound begins moment picture from to left = absurd none
+    left_by (command ∷ commands) [] was was_honest none is_open sound begins moment picture from to left = absurd none
+    left_by (command ∷ commands) (reply ∷ replies) was was_honest (mid, turn, rest) is_open sound begins moment picture from to left =
+        by mid.closed refl
+        (λ open_. left_by commands replies mid (still_honest turn.ahead.goes_on was_honest) rest open_ (step_sound command was.kept mid.kept follows sound) (turn.at honest is_open open_))
+      where
+        follows : MayFollow command was.kept mid.kept ⊎ (mid.kept ≡ was.kept)
+        follows = step_follows command reply was mid was_honest turn.step
 
-      failed : mid.closed ≡ true → Left (command ∷ commands) was.kept picture
-      failed shut =
-          let (next, may, leaves) = (turn.failed is_open shut).leaves honest in
-          either command commands was.kept next picture (inl may) sound (leaves moment picture from to left)
+        failed : mid.closed ≡ true → Left (command ∷ commands) was.kept picture
+        failed shut =
+            let (next, may, leaves) = (turn.failed is_open shut).leaves honest in
+            either command commands was.kept next picture may sound (leaves moment picture from to left)
 
-      later : mid.closed ≡ false → LeavesAPrefix commands mid is → Left (command ∷ commands) was.kept picture
-      later open_ after = elim (cases_lt mid.disk.clock moment) [
-        | inl past ↦ one_more command commands was.kept mid.kept picture follows (after moment picture (omega (arith, past)) to left)
-        | inr within ↦ either command commands was.kept mid.kept picture follows sound (turn.between honest is_open open_ moment picture from within left)
-      ]
+        later : mid.closed ≡ false → LeavesAPrefix Stores commands mid is → Left (command ∷ commands) was.kept picture
+        later open_ after = elim (cases_lt mid.disk.clock moment) [
+          | inl past ↦ one_more command commands was.kept mid.kept picture follows (after moment picture (omega (arith, past)) to left)
+          | inr within ↦ either command commands was.kept mid.kept picture follows sound (turn.between honest is_open open_ moment picture from within left)
+        ]
 
-      by : (b : Bool) → mid.closed ≡ b → (mid.closed ≡ false → LeavesAPrefix commands mid is) → Left (command ∷ commands) was.kept picture
-      by true shut after = failed shut
-      by false open_ after = later open_ (after open_)
+        by : (b : Bool) → mid.closed ≡ b → (mid.closed ≡ false → LeavesAPrefix Stores commands mid is) → Left (command ∷ commands) was.kept picture
+        by true shut after = failed shut
+        by false open_ after = later open_ (after open_)
 
--- the same of a run
-pub stopped_run : (commands done : List Asked) (before after : List Answer) (was is : State) → done ≡ commands → GoesAhead was is → IsRun done before after was is
-    → IsTrue was.disk.honest → was.closed ≡ false → IsSound was.kept → LeavesAPrefix (map command_of commands) was is
-stopped_run commands done before after was is all ahead run honest is_open sound =
-    let honest_now = still_honest ahead.goes_on honest in
-    let left : LeavesAPrefix (map command_of done) was is =
-    left_by is honest_now (map command_of done) (map reply_of run.added) was honest run.turns is_open sound (run.begins honest_now is_open) in
-    subst (λ (cs : List Asked). LeavesAPrefix (map command_of cs) was is) all left
+  -- the same of a run
+  pub stopped_run : (commands done : List Asked) (before after : List Answer) (was is : State) → done ≡ commands → GoesAhead was is → IsRun Stores done before after was is
+      → IsTrue was.disk.honest → was.closed ≡ false → IsSound was.kept → LeavesAPrefix Stores (map command_of commands) was is
+  stopped_run commands done before after was is all ahead run honest is_open sound =
+      let honest_now = still_honest ahead.goes_on honest in
+      let left : LeavesAPrefix Stores (map command_of done) was is =
+      left_by is honest_now (map command_of done) (map reply_of run.added) was honest run.turns is_open sound (run.begins honest_now is_open) in
+      subst (λ (cs : List Asked). LeavesAPrefix Stores (map command_of cs) was is) all left

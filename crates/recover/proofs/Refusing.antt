@@ -1,25 +1,27 @@
 -- A refusal that changes nothing.
 use Rattle.std.proofs.Common.{◌≡◌, Bool, false, true, refl}
+use Rattle.std.specs.Prelude.{IsTrue}
 use Rattle.sector_disk.specs.Moments.{leaves_now}
-use Rattle.flat_file.specs.File.{File, IsFile}
-use Rattle.flat_file.specs.Laws.{a_file_is_kept}
+use Rattle.game_file.specs.Kept.{Layout}
+use Rattle.game_file.specs.State.{State}
+use Rattle.game_file.specs.Stops.{LeavesNow}
 use Rattle.recover.specs.declared.fault.SolverFault.{SolverFault}
 use Rattle.recover.specs.Machine.{Command, Step, refused}
-use Rattle.recover.specs.State.{state_of}
 use Rattle.recover.specs.Steps.{IsRefused}
 
 pub apart : (b : Bool) → b ≡ false → b ≡ true → ⊥
 apart b one other = cc
 
 -- what was kept is, and a stop leaves it
-pub nothing_done : (command : Command) (file : File) (fault : SolverFault) → IsFile file → Step command (state_of file) (refused fault) (state_of file)
-    → IsRefused command (state_of file) (state_of file) fault
-nothing_done command file fault it step = record {
+pub nothing_done : (Stores : Layout) (command : Command) (state : State) (fault : SolverFault)
+    → (IsTrue state.disk.honest → state.closed ≡ false → LeavesNow Stores state.disk state.kept) → Step command state (refused fault) state
+    → IsRefused Stores command state state fault
+nothing_done Stores command state fault leaves step = record {
   step = step;
   stops = record {
     same = λ honest. refl;
-    since = λ honest is_open. leaves_now file.store.disk (a_file_is_kept file it honest is_open);
-    failed = λ honest was is. absurd (apart file.store.closed was is);
+    since = λ honest is_open. leaves_now state.disk (leaves honest is_open);
+    failed = λ honest was is. absurd (apart state.closed was is);
   };
   still = λ other. refl;
 }

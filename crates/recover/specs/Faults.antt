@@ -5,8 +5,8 @@ use Rattle.table.specs.declared.fault.TableFault.{TableFault}
 use Rattle.table.specs.declared.fault.TableFault.TheVariants as table
 use Rattle.frontier.specs.declared.fault.StepFault.{StepFault}
 use Rattle.frontier.specs.declared.fault.StepFault.TheVariants as step
-use Rattle.flat_table.specs.declared.fault.FileFault.{FileFault}
-use Rattle.flat_table.specs.declared.fault.FileFault.TheVariants as file
+use Rattle.game_file.specs.declared.fault.FileFault.{FileFault}
+use Rattle.game_file.specs.declared.fault.FileFault.TheVariants as file
 use Rattle.best_line.specs.declared.fault.LineFault.{LineFault}
 use Rattle.best_line.specs.declared.fault.LineFault.TheVariants as line
 use Rattle.recover.specs.declared.fault.SolverFault.{SolverFault}

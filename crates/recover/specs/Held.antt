@@ -1,12 +1,17 @@
 -- The table that a picture holds, and the one that is to be trusted.
-use Rattle.std.specs.Prelude.{Option, None, Some}
+use Rattle.std.specs.Prelude.{ℕ, List, Option, None, Some}
 use Rattle.sector_disk.specs.Disk.{Picture}
 use Rattle.rbg_game.specs.Games.{Game}
 use Rattle.rbg_read.specs.Reading.{Reads}
 use Rattle.legal_moves.specs.Sources.{IsWideAt, graph_of}
+use Rattle.retrograde.specs.Graph.{Graph}
 use Rattle.retrograde.specs.Sound.{IsLocallySound}
 use Rattle.game_table.specs.Tables.{ArePositions}
-use Rattle.flat_file.specs.Held.{Kept, Stores}
+use Rattle.game_file.specs.Kept.{Kept, Layout}
+
+-- the game of a table as a graph of positions: where it starts, who has the turn, who is ahead, and where a move leads
+abbrev pub graph_in : Game → Kept → Graph (List ℕ)
+graph_in game kept = graph_of game
 
 -- the text reads to this game, and each position of the table is one of its positions
 pub record IsOf (game : Game) (kept : Kept) : Type 0 where
@@ -18,12 +23,13 @@ abbrev pub IsOfAGame : Option Kept → Type 0
 IsOfAGame None = Unit {0}
 IsOfAGame (Some kept) = (game : Game) × IsOf game kept
 
--- the picture stores this table, and it is a game's: what `open` gives
-pub record Holds (picture : Picture) (kept : Option Kept) : Type 0 where
-  pub stores : Stores picture kept
-  pub of_a_game : IsOfAGame kept
+module _ (Stores : Layout) where
+  -- the picture stores this table, and it is a game's: what `open` gives
+  pub record Holds (picture : Picture) (kept : Option Kept) : Type 0 where
+    pub stores : Stores picture kept
+    pub of_a_game : IsOfAGame kept
 
 -- no game is loaded, or the table is locally sound for the game that the text reads to
 abbrev pub IsSound : Option Kept → Type 0
 IsSound None = Unit {0}
-IsSound (Some kept) = (game : Game) × Reads kept.text game × IsLocallySound (graph_of game) (IsWideAt game) kept.table
+IsSound (Some kept) = (game : Game) × Reads kept.text game × IsLocallySound (graph_in game kept) (IsWideAt game) kept.table

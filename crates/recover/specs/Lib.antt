@@ -10,3 +10,4 @@ pub mod Laws
 pub mod Queries
 pub mod Runs
 pub mod Headline
+pub mod aid

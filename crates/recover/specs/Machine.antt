@@ -14,10 +14,12 @@ use Rattle.frontier.specs.declared.fault.StepFault.{StepFault}
 use Rattle.frontier.specs.declared.fault.StepFault.TheVariants as step
 use Rattle.table_work.specs.Work.{StopsWith}
 use Rattle.game_table.specs.Tables.{IsWorkOf}
-use Rattle.flat_file.specs.Held.{Kept}
+use Rattle.game_file.specs.Kept.{Kept}
+use Rattle.game_file.specs.State.{State}
 use Rattle.recover.specs.declared.fault.SolverFault.{SolverFault}
-use Rattle.recover.specs.declared.fault.SolverFault.TheVariants.{Disk, NotATable, AlreadyATable, Damaged, TooSmall, TableFull, OutOfMemory, Closed, Game as BadGame, NoGame, GameAlready, KeeperChooses, TooWide, TooManyPositions, Inconsistent, NoSuchPosition, NotSettled, BadPosition}
-use Rattle.recover.specs.State.{State, IsOfOtherOrigin}
+use Rattle.recover.specs.declared.fault.SolverFault.TheVariants.{Disk, Damaged, TableFull, OutOfMemory, Closed, Game as BadGame, NoGame, GameAlready, KeeperChooses, TooWide, TooManyPositions, Inconsistent}
+use Rattle.recover.specs.Held.{graph_in}
+use Rattle.recover.specs.State.{IsOfOtherOrigin}
 
 -- what changes the table
 pub data Command : Type 0 where
@@ -40,7 +42,7 @@ pub record Loads (text : List ℕ) (old new : Option Kept) : Type 0 where
 -- so many units were asked of a table and these done, or it is finished by then; nothing is said of one that is not sound
 pub record WorksTo (units : ℕ) (was : Kept) (done : ℕ) (is : Kept) : Type 0 where
   pub same_text : is.text ≡ was.text
-  pub work : (game : Game) → Reads was.text game → IsLocallySound (graph_of game) (IsWideAt game) was.table → IsWorkOf game units was.table done is.table
+  pub work : (game : Game) → Reads was.text game → IsLocallySound (graph_in game was) (IsWideAt game) was.table → IsWorkOf game units was.table done is.table
 
 -- units of work lead from the old table to the new, which has these counts
 pub record Works (units : ℕ) (old : Option Kept) (done : ℕ) (counts : Counts) (new : Option Kept) : Type 0 where
@@ -55,53 +57,37 @@ pub record Works (units : ℕ) (old : Option Kept) (done : ℕ) (counts : Counts
 abbrev pub StopsAt : ℕ → Option Kept → StepFault → Type 0
 StopsAt units None fault = ⊥
 StopsAt units (Some kept) fault =
-    (game : Game) → Reads kept.text game → IsLocallySound (graph_of game) (IsWideAt game) kept.table → StopsWith (graph_of game) (IsWideAt game) kept.table units fault
+    (game : Game) → Reads kept.text game → IsLocallySound (graph_in game kept) (IsWideAt game) kept.table
+    → StopsWith (graph_in game kept) (IsWideAt game) kept.table units fault
 
--- the first fault of a text; want of memory needs no cause
+-- the first fault of a text; out of memory needs no cause
 abbrev pub TextCause : List ℕ → GameFault → Type 0
 TextCause text fault = fault ≢ game_fault.OutOfMemory → Fault text fault
 
 -- why `load` is refused
 abbrev pub LoadCause : List ℕ → State → State → SolverFault → Type 0
 LoadCause text old new Disk = Grew old.failures new.failures
-LoadCause text old new NotATable = ⊥
-LoadCause text old new AlreadyATable = ⊥
 LoadCause text old new Damaged = ¬ IsTrue old.disk.honest
-LoadCause text old new TooSmall = ⊥
 LoadCause text old new TableFull = (old.capacity < 24) × ((game : Game) × Reads text game)
 LoadCause text old new OutOfMemory = Unit {0}
 LoadCause text old new Closed = old.closed ≡ true
 LoadCause text old new (BadGame fault) = TextCause text fault
-LoadCause text old new NoGame = ⊥
 LoadCause text old new GameAlready = IsSome old.kept
-LoadCause text old new (KeeperChooses number) = ⊥
-LoadCause text old new TooWide = ⊥
-LoadCause text old new TooManyPositions = ⊥
-LoadCause text old new Inconsistent = ⊥
-LoadCause text old new NoSuchPosition = ⊥
-LoadCause text old new NotSettled = ⊥
-LoadCause text old new BadPosition = ⊥
+LoadCause text old new _ = ⊥
 
 -- why `work` is refused
 abbrev pub WorkCause : ℕ → State → State → SolverFault → Type 0
 WorkCause units old new Disk = Grew old.failures new.failures
-WorkCause units old new NotATable = ⊥
-WorkCause units old new AlreadyATable = ⊥
 WorkCause units old new Damaged = ¬ IsTrue old.disk.honest
-WorkCause units old new TooSmall = ⊥
 WorkCause units old new TableFull = Unit {0}
 WorkCause units old new OutOfMemory = Unit {0}
 WorkCause units old new Closed = old.closed ≡ true
-WorkCause units old new (BadGame fault) = ⊥
 WorkCause units old new NoGame = old.kept ≡ None
-WorkCause units old new GameAlready = ⊥
 WorkCause units old new (KeeperChooses number) = IsTrue old.disk.honest → StopsAt units old.kept (step.KeeperChooses number)
 WorkCause units old new TooWide = IsTrue old.disk.honest → StopsAt units old.kept step.TooWide
 WorkCause units old new TooManyPositions = IsTrue old.disk.honest → StopsAt units old.kept step.TooManyPositions
 WorkCause units old new Inconsistent = IsOfOtherOrigin old
-WorkCause units old new NoSuchPosition = ⊥
-WorkCause units old new NotSettled = ⊥
-WorkCause units old new BadPosition = ⊥
+WorkCause units old new _ = ⊥
 
 -- why a command is refused
 abbrev pub Cause : Command → State → State → SolverFault → Type 0

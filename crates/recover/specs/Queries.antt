@@ -3,7 +3,6 @@ use Rattle.std.specs.Prelude.{◌≡◌, ◌<◌, ℕ, List, length, true, false
 use Rattle.sector_disk.specs.Disk.{Grew}
 use Rattle.rbg_game.specs.Games.{Game}
 use Rattle.rbg_read.specs.Reading.{Reads}
-use Rattle.legal_moves.specs.Sources.{graph_of}
 use Rattle.retrograde.specs.Stored.{view_of}
 use Rattle.retrograde.specs.View.{HasNumber}
 use Rattle.game_table.specs.Texts.{IsText}
@@ -12,11 +11,12 @@ use Rattle.best_line.specs.declared.answers.Row.{Row}
 use Rattle.best_line.specs.Values.{IsValue}
 use Rattle.best_line.specs.Rows.{AreRows}
 use Rattle.best_line.specs.Lines.{IsBestPlay}
-use Rattle.flat_file.specs.Held.{Kept}
+use Rattle.game_file.specs.Kept.{Kept}
+use Rattle.game_file.specs.State.{State}
 use Rattle.recover.specs.declared.fault.SolverFault.{SolverFault}
 use Rattle.recover.specs.declared.fault.SolverFault.TheVariants.{Disk, Damaged, OutOfMemory, Closed, NoGame, TooWide, Inconsistent, NoSuchPosition, NotSettled, BadPosition}
-use Rattle.recover.specs.State.{State, GoesAhead, IsOfOtherOrigin}
-use Rattle.recover.specs.Stops.{LeavesTable, LeavesNow}
+use Rattle.recover.specs.Held.{graph_in}
+use Rattle.recover.specs.State.{IsOfOtherOrigin}
 
 -- a game is loaded, and this holds of what is kept
 abbrev pub OfKept : (Kept → Type 0) → Option Kept → Type 0
@@ -26,14 +26,6 @@ OfKept Such (Some kept) = Such kept
 -- the same of the table of a state, where the disk is honest
 abbrev pub Tells : (Kept → Type 0) → State → Type 0
 Tells Such state = IsTrue state.disk.honest → OfKept Such state.kept
-
--- a question changes nothing: the table is kept, and a stop since it was asked leaves it, and a stop now
-pub record IsAsked (old new : State) : Type 0 where
-  pub ahead : GoesAhead old new
-  pub kept : IsTrue old.disk.honest → new.kept ≡ old.kept
-  pub closed : new.closed ≡ old.closed
-  pub since : IsTrue old.disk.honest → old.closed ≡ false → LeavesTable old.disk new.disk old.kept
-  pub now : IsTrue old.disk.honest → old.closed ≡ false → LeavesNow new.disk old.kept
 
 -- so many positions are known
 abbrev pub HasSoMany : ℕ → Kept → Type 0
@@ -59,7 +51,7 @@ pub record HasRows (from count : ℕ) (rows : List Row) (kept : Kept) : Type 0 w
 
 -- the numbers are a best line from this one by the moves of the game
 abbrev pub HasLine : ℕ → List ℕ → Kept → Type 0
-HasLine number numbers kept = (game : Game) → Reads kept.text game → IsBestPlay (graph_of game) (view_of kept.table) number numbers
+HasLine number numbers kept = (game : Game) → Reads kept.text game → IsBestPlay (graph_in game kept) (view_of kept.table) number numbers
 
 -- the position with this number has this text
 pub record HasText (number : ℕ) (text : List ℕ) (kept : Kept) : Type 0 where

@@ -1,8 +1,8 @@
 //! Why a command is refused.
 
 use best_line::LineFault;
-use flat_table::FileFault;
 use frontier::StepFault;
+use game_file::FileFault;
 use rbg_read::fault::GameFault;
 use std::alloc::{AllocError, AllocFailed};
 use table::TableFault;

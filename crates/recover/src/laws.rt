@@ -4,7 +4,6 @@ ghost use Rattle.sector_disk.specs.Disk.{Picture, Disk, MayLeave};
 ghost use Rattle.rbg_game.specs.Games.{Game};
 ghost use Rattle.rbg_game.specs.declared.roles.Player.{Player};
 ghost use Rattle.rbg_read.specs.Reading.{Reads};
-ghost use Rattle.legal_moves.specs.Sources.{graph_of};
 ghost use Rattle.retrograde.specs.Graph.{IsReachable};
 ghost use Rattle.retrograde.specs.Stored.{view_of};
 ghost use Rattle.retrograde.specs.Values.{WonIn, Drawn};
@@ -12,49 +11,56 @@ ghost use Rattle.retrograde.specs.View.{IsKnown, HasNumber, HasValue, IsFinished
 ghost use Rattle.best_line.specs.declared.answers.Value.{Value};
 ghost use Rattle.best_line.specs.Values.{IsValue};
 ghost use Rattle.best_line.specs.Laws.{IsSo};
-ghost use Rattle.flat_file.specs.Held.{Kept, Stores};
+ghost use Rattle.game_file.specs.Kept.{Kept};
+ghost use Rattle.game_file.specs.State.{State};
 ghost use Rattle.recover.specs.Headline.{LeadsTo};
-ghost use Rattle.recover.specs.Held.{Holds, IsSound};
+ghost use Rattle.recover.specs.Held.{Holds, IsSound, graph_in};
 ghost use Rattle.recover.specs.Machine.{Command};
 ghost use Rattle.recover.specs.Opening.{IsOpened};
-ghost use Rattle.recover.specs.State.{State};
 ghost use Rattle.recover.specs.Steps.{MayFollow};
 
+use game_file::GameFile;
+
+/// A picture of the disk stores one table at most.
+pub fn a_picture_stores_one_table<F: GameFile>()
+    ensures { (picture : Picture) (one other : Option Kept) → F.stores picture one → F.stores picture other → one ≡ other }
+{}
+
 /// A picture that stores a locally sound table holds it.
-pub fn a_sound_table_is_held()
-    ensures { (picture : Picture) (kept : Option Kept) → Stores picture kept → IsSound kept → Holds picture kept }
+pub fn a_sound_table_is_held<F: GameFile>()
+    ensures { (picture : Picture) (kept : Option Kept) → F.stores picture kept → IsSound kept → Holds F.stores picture kept }
 {}
 
 /// Where each stop of the power has left the one table or the other, one of them is opened.
-pub fn what_was_left_is_opened()
-    ensures { (disk : Disk) (count : ℕ) (state : State) (one other : Option Kept) → IsOpened disk count state → IsTrue disk.honest
-        → ((picture : Picture) → MayLeave disk.now picture → Holds picture one ⊎ Holds picture other)
+pub fn what_was_left_is_opened<F: GameFile>()
+    ensures { (disk : Disk) (count : ℕ) (state : State) (one other : Option Kept) → IsOpened F.stores disk count state → IsTrue disk.honest
+        → ((picture : Picture) → MayLeave disk.now picture → Holds F.stores picture one ⊎ Holds F.stores picture other)
         → (state.kept ≡ one) ⊎ (state.kept ≡ other) }
 {}
 
 /// Each settled position of a locally sound table is won by the named player in exactly the named number of moves.
 pub fn what_is_settled_is_won()
     ensures { (kept : Kept) (game : Game) → IsSound (Some kept) → Reads kept.text game
-        → (x : List ℕ) (w : Player) (n : ℕ) → HasValue (view_of kept.table) x w n → WonIn (graph_of game) w n x }
+        → (x : List ℕ) (w : Player) (n : ℕ) → HasValue (view_of kept.table) x w n → WonIn (graph_in game kept) w n x }
 {}
 
 /// A finished, locally sound table has exactly the positions that play can come to.
 pub fn finished_is_all()
     ensures { (kept : Kept) (game : Game) → IsSound (Some kept) → Reads kept.text game → IsFinished (view_of kept.table)
-        → (x : List ℕ) → IsKnown (view_of kept.table) x ↔ IsReachable (graph_of game) x }
+        → (x : List ℕ) → IsKnown (view_of kept.table) x ↔ IsReachable (graph_in game kept) x }
 {}
 
 /// In a finished, locally sound table exactly the drawn positions are unsettled.
 pub fn finished_leaves_the_drawn()
     ensures { (kept : Kept) (game : Game) → IsSound (Some kept) → Reads kept.text game → IsFinished (view_of kept.table)
-        → (i : ℕ) (x : List ℕ) → HasNumber (view_of kept.table) i x → ((view_of kept.table).value i ≡ None) ↔ Drawn (graph_of game) x }
+        → (i : ℕ) (x : List ℕ) → HasNumber (view_of kept.table) i x → ((view_of kept.table).value i ≡ None) ↔ Drawn (graph_in game kept) x }
 {}
 
 /// What is answered of a position of a locally sound table is so in the game: who is said to win it does, in so many moves
 /// and no fewer, and nobody wins what is said to be drawn.
 pub fn a_value_is_so()
     ensures { (kept : Kept) (game : Game) → IsSound (Some kept) → Reads kept.text game → (i : ℕ) (x : List ℕ) (value : Value)
-        → HasNumber (view_of kept.table) i x → IsValue (view_of kept.table) i value → IsSo (graph_of game) x value }
+        → HasNumber (view_of kept.table) i x → IsValue (view_of kept.table) i value → IsSo (graph_in game kept) x value }
 {}
 
 /// What a command leads to from a locally sound table is locally sound.

@@ -5,11 +5,9 @@ mod fault;
 #[cfg(test)]
 mod games;
 pub mod laws;
-mod next;
 mod queries;
 #[cfg(test)]
 mod query_tests;
-mod ready;
 mod replies;
 #[cfg(test)]
 mod row_tests;
@@ -19,7 +17,13 @@ mod solver;
 mod stop_tests;
 #[cfg(test)]
 mod tests;
+mod with_game;
+
+use flat_table::FlatTable;
 
 pub use fault::{Refused, SolverFault};
 pub use replies::{Command, Reply, Units, Worked};
-pub use solver::{Solver, Solving};
+pub use solver::{FileSolver, Solving};
+
+/// A solver over the file of today's layout, on a disk.
+pub type Solver<D> = FileSolver<FlatTable<D>>;

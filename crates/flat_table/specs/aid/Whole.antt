@@ -37,9 +37,16 @@ same_pages s was is stands same = record {
   text = ap text_kept same;
   kept = λ honest. same;
   closed = refl;
+  leaves = λ honest. leaves_now s.disk (λ picture left. left);
   since = λ honest is_open. leaves_now s.disk (a_file_is_kept (file_of s was) stands honest is_open);
   now = λ honest is_open. a_file_is_kept (file_of s was) stands honest is_open;
 }
+
+-- it is in a later state
+pub unwritten_ahead : (old new : File) → IsUnwritten old new → GoesAhead (state_of old) (state_of new)
+unwritten_ahead old new same =
+    subst (λ (s : Store). GoesAhead (state_of old) (state_of (file_of s new.game))) (sym same.store)
+    (record { goes_on = goes_on_refl old.store.disk; same_size = refl; failures = omega arith; capacity = refl })
 
 pub unwritten_asked : (old new : File) → IsFile old → IsUnwritten old new → IsAsked Stores (state_of old) (state_of new)
 unwritten_asked old new it same =

@@ -2,4 +2,4 @@ use Rattle.recover.specs.Laws.{a_sound_table_is_held}
 use Rattle.recover.proofs.laws.a_sound_table_is_held.Goals as goal
 
 pub returns : goal.returns
-returns c = a_sound_table_is_held
+returns g c = a_sound_table_is_held g.F.GameFile.stores

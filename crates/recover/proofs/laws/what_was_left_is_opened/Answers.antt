@@ -2,4 +2,4 @@ use Rattle.recover.specs.Laws.{what_was_left_is_opened}
 use Rattle.recover.proofs.laws.what_was_left_is_opened.Goals as goal
 
 pub returns : goal.returns
-returns c = what_was_left_is_opened
+returns g c = what_was_left_is_opened g.F.GameFile.stores

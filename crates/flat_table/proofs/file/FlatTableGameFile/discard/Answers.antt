@@ -1,9 +1,10 @@
-use Rattle.std.proofs.Common.{refl}
-use Rattle.flat_table.specs.aid.Whole.{unwritten_asked, unwritten_kept}
+use Rattle.std.proofs.Common.{refl, ap}
+use Rattle.page_store.specs.Store.{Store}
+use Rattle.flat_table.specs.aid.Whole.{unwritten_kept}
 use Rattle.flat_table.proofs.file.FlatTableGameFile.discard.Goals as goal
 
 pub returns-clause-back : goal.returns-clause-back
-returns-clause-back g c = λ was whole goes_on. ((goes_on.stands whole.0, refl), unwritten_asked _ _ whole.0 goes_on)
+returns-clause-back g c = λ was whole goes_on. ((goes_on.stands whole.0, refl), unwritten_kept _ _ whole.0 goes_on, ap (λ (s : Store). s.closed) goes_on.store)
 
 pub returns-clause-failed : goal.returns-clause-failed
 returns-clause-failed g c = λ was fault whole fails.

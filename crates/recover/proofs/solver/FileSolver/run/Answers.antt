@@ -3,7 +3,7 @@ use Rattle.std.proofs.lemmas.List.{take_all}
 use Rattle.sector_disk.specs.Moments.{still_honest}
 use Rattle.recover.proofs.Prefixes.{stopped_run}
 use Rattle.recover.proofs.Turning.{ahead_then, run_begins, run_goes_on}
-use Rattle.recover.proofs.solver.Solver.run.Goals as goal
+use Rattle.recover.proofs.solver.FileSolver.run.Goals as goal
 
 pub loop-command-preserved : goal.loop-command-preserved
 loop-command-preserved g c =
@@ -16,7 +16,7 @@ loop-command-preserved g c =
       ahead = ahead_then so_far.ahead reply.ahead;
       sound = λ ready honest sound. reply.sound (so_far.ready ready) (still_honest so_far.ahead.goes_on honest) (so_far.sound ready honest sound);
       run = λ ready.
-          run_goes_on c.args.commands.now c.loop-command.command-index c.command-item.result c.answer-reply.result c.args.replies.now.items c.loop-command.replies.items
+          run_goes_on _ c.args.commands.now c.loop-command.command-index c.command-item.result c.answer-reply.result c.args.replies.now.items c.loop-command.replies.items
           c.push.new.self.items _ _ _ c.loop-command-test.true c.command-item.is reply.ahead.goes_on pushed.items (so_far.run ready) (reply.turn (so_far.ready ready));
     }
 
@@ -26,10 +26,10 @@ loop-command-init g c = record {
   ready = λ ready. ready;
   ahead = search rules;
   sound = λ ready honest sound. sound;
-  run = λ ready. rw c.in_ok-reserve.ensures.items (run_begins c.args.replies.now.items _ _ ready);
+  run = λ ready. rw c.in_ok-reserve.ensures.items (run_begins _ c.args.replies.now.items _ (λ honest is_open. g.met.F.GameFile.whole_leaves c.args.self.now.file ready.0 honest is_open));
 }
 
 pub returns-clause-stopped : goal.returns-clause-stopped
 returns-clause-stopped g c = λ ready sound is_open honest.
     let so_far = c.loop-command.invariant in
-    stopped_run c.args.commands.now _ _ _ _ _ (take_all c.loop-command.command-index c.args.commands.now c.loop-command-test.false) so_far.ahead (so_far.run ready) honest is_open sound
+    stopped_run _ c.args.commands.now _ _ _ _ _ (take_all c.loop-command.command-index c.args.commands.now c.loop-command-test.false) so_far.ahead (so_far.run ready) honest is_open sound
