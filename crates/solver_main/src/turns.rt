@@ -5,16 +5,20 @@ ghost use Rattle.recover.specs.Runs.{command_of, reply_of, IsTurn};
 ghost use Rattle.recover.specs.declared.replies.Reply.TheVariants as answer;
 ghost use Rattle.recover.specs.declared.fault.SolverFault.TheVariants as fault;
 
-use recover::{Command, Reply, Solver, SolverFault, Solving};
-use sector_disk::SectorDisk;
+use game_file::GameFile;
+use recover::{Command, FileSolver, Reply, SolverFault, Solving};
 use std::alloc::Global;
 
 /// The reply to one command, done as a run of its own: what it says and does is the command's turn. Where there is no room for the
 /// reply, E8 is answered and nothing is done.
-pub fn reply_to<D: SectorDisk>(alloc: Global, solver: &mut Solver<D>, command: Command) -> Reply
-    ensures ready { ⟦<Solver<D> as Solving>⟧.is_ready solver.old → ⟦<Solver<D> as Solving>⟧.is_ready solver.new }
-    ensures turn { ⟦<Solver<D> as Solving>⟧.is_ready solver.old
-        → IsTurn (⟦<Solver<D> as Solving>⟧.state solver.new).disk (command_of command) (reply_of result) (⟦<Solver<D> as Solving>⟧.state solver.old) (⟦<Solver<D> as Solving>⟧.state solver.new)
+pub fn reply_to<F: GameFile>(
+    alloc: Global,
+    solver: &mut FileSolver<F>,
+    command: Command,
+) -> Reply
+    ensures ready { ⟦<FileSolver<F> as Solving>⟧.is_ready solver.old → ⟦<FileSolver<F> as Solving>⟧.is_ready solver.new }
+    ensures turn { ⟦<FileSolver<F> as Solving>⟧.is_ready solver.old
+        → IsTurn F.stores (⟦<FileSolver<F> as Solving>⟧.state solver.new).disk (command_of command) (reply_of result) (⟦<FileSolver<F> as Solving>⟧.state solver.old) (⟦<FileSolver<F> as Solving>⟧.state solver.new)
         ⊎ ((result ≡ answer.Refused fault.OutOfMemory) × (solver.new ≡ solver.old)) }
 {
     let mut replies = Vec::new(alloc);

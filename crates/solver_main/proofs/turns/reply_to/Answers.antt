@@ -9,4 +9,4 @@ use Rattle.solver_main.proofs.turns.reply_to.Goals as goal
 pub returns-in-Ok-clause-turn : goal.returns-in-Ok-clause-turn
 returns-in-Ok-clause-turn g c = λ ready.
     let first = c.first_of.ensures ∙ ap (λ rs. unwrap_or (slice_get rs 0) (answer.Refused fault.OutOfMemory)) c.deref.ensures.value in
-    inl (one_reply c.args.command _ c.run.new.replies.items _ _ _ _ c.new-replies.ensures.items (c.in-Ok.ensures.run ready) first)
+    inl (one_reply _ c.args.command _ c.run.new.replies.items _ _ _ _ c.new-replies.ensures.items (c.in-Ok.ensures.run ready) first)
