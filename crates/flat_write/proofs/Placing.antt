@@ -76,13 +76,14 @@ module _ (was_pages pages bytes root : List ℕ) (sizes : Sizes) (old mid new : 
   old_stands honest = backed.stands honest was_open
 
   not_old : IsTrue old.disk.honest → (p : ℕ) → Contains pages p → Contains was_pages p → ⊥
-  not_old honest p here there = not_needed _ ((old_stands honest).needed p there).1 (exchanged.freed p here)
+  not_old honest p here there = not_needed _ ((old_stands honest).needed p there).2 (exchanged.freed p here)
 
   prepared : IsTrue old.disk.honest → IsPrepared (λ p. Contains pages p) (Keeps root (length old.marks) (Some is)) mid
   prepared honest = record {
     spelled = game_rests_on_its_pages root (length old.marks) is (reads mid) (keeps_game root (length old.marks) pages bytes sizes is (reads mid) slot it (exchanged.chain honest));
     kept = λ p here.
-        ((free_page old p sound (exchanged.freed p here)).0, subst (λ (m : Mark). IsTrue (keeps m)) (sym (exchanged.handed p here (not_old honest p here))) refl);
+        let page = free_page old p sound (exchanged.freed p here) in
+        (page.0, omega (arith, page.1, exchanged.works.same_pages), subst (λ (m : Mark). IsTrue (keeps m)) (sym (exchanged.handed p here (not_old honest p here))) refl);
   }
 
   stores_one : (picture : Picture) → Spells old.root (length old.marks) (Keeps old.root (length old.marks) was) picture ⊎ Spells root (length old.marks) (Keeps root (length old.marks) (Some is)) picture

@@ -6,6 +6,7 @@ use Rattle.page_store.specs.declared.marks.Mark.TheVariants.{Committed, Fresh}
 use Rattle.page_store.specs.Marks.{mark, needs, keeps}
 use Rattle.page_store.specs.Spelling.{SpelledBy, Stands, IsPrepared}
 use Rattle.page_store.specs.Store.{Store, reads}
+use Rattle.page_store.specs.Works.{fresh_within}
 use Rattle.page_chain.specs.Chain.{next_in, LeadsThrough, payloads, IsChain}
 
 -- the first of some pages is one of them, and so are the others
@@ -76,13 +77,13 @@ pub a_chain_is_prepared : (capacity first : ℕ) (pages content : List ℕ) (sto
     → ((p : ℕ) → Contains pages p → mark store.marks p ≡ Fresh) → IsPrepared (λ p. Contains pages p) (IsChain capacity first pages content) store
 a_chain_is_prepared capacity first pages content store chain fresh = record {
   spelled = a_chain_rests_on_its_pages capacity first pages content (reads store) chain;
-  kept = λ p here. ((chain.within p here).0, subst (λ (m : Mark). IsTrue (keeps m)) (sym (fresh p here)) refl);
+  kept = λ p here. ((chain.within p here).0, fresh_within store.marks p (fresh p here), subst (λ (m : Mark). IsTrue (keeps m)) (sym (fresh p here)) refl);
 }
 
 -- a chain on pages that are marked stands
-pub a_chain_stands : (capacity first : ℕ) (pages content : List ℕ) (store : Store) → IsChain capacity first pages content (reads store)
+pub a_chain_stands : (capacity first : ℕ) (pages content : List ℕ) (store : Store) → capacity ≤ length store.marks → IsChain capacity first pages content (reads store)
     → ((p : ℕ) → Contains pages p → mark store.marks p ≡ Committed) → Stands (λ p. Contains pages p) (IsChain capacity first pages content) store
-a_chain_stands capacity first pages content store chain marked = record {
+a_chain_stands capacity first pages content store below chain marked = record {
   spelled = a_chain_rests_on_its_pages capacity first pages content (reads store) chain;
-  needed = λ p here. ((chain.within p here).0, subst (λ (m : Mark). IsTrue (needs m)) (sym (marked p here)) refl);
+  needed = λ p here. ((chain.within p here).0, omega (arith, below, (chain.within p here).1), subst (λ (m : Mark). IsTrue (needs m)) (sym (marked p here)) refl);
 }

@@ -34,7 +34,8 @@ pub fn a_chain_is_prepared()
 
 /// A chain on pages that are marked is one that the committed root may need.
 pub fn a_chain_stands()
-    ensures { (capacity first : ℕ) (pages content : List ℕ) (store : Store) → IsChain capacity first pages content (reads store)
+    ensures { (capacity first : ℕ) (pages content : List ℕ) (store : Store) → capacity ≤ length store.marks
+        → IsChain capacity first pages content (reads store)
         → ((p : ℕ) → Contains pages p → mark store.marks p ≡ Committed)
         → Stands (λ p. Contains pages p) (IsChain capacity first pages content) store }
 {}
