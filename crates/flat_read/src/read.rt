@@ -1,12 +1,11 @@
 //! All that the root of a file names is read.
 ghost use Rattle.std.specs.Prelude.{◌≡◌, ◌≤◌, false, Some, length, IfOk, IfErr, IsTrue};
 ghost use Rattle.sector_disk.specs.Disk.{size, GoesOn, LeavesOnly, MayLeave};
-ghost use Rattle.page_chain.specs.Causes.{AllWait};
 ghost use Rattle.page_chain.specs.Links.{OnlyMarks};
 ghost use Rattle.page_store.specs.Store.{Works};
 ghost use Rattle.root_slot.specs.Slot.{Says, SaysGame};
 ghost use Rattle.flat_file.specs.File.{IsGame, AreGames, IsBacked, kept_of, pages_of};
-ghost use Rattle.flat_read.specs.Causes.{ReadCause};
+ghost use Rattle.flat_read.specs.Causes.{AllWait, ReadCause};
 ghost use Rattle.flat_read.specs.Reading.{IsRead};
 
 use crate::bytes::{game_of, length_of};
