@@ -21,6 +21,10 @@ layout_in root = word_at root 0
 abbrev pub packing_in : List ℕ → ℕ
 packing_in root = word_at root 4
 
+-- how many commits there were since the file was made; 0 follows the greatest number
+abbrev pub commits_in : List ℕ → ℕ
+commits_in root = long_at root 8
+
 -- the first page of the chain
 abbrev pub first_in : List ℕ → ℕ
 first_in root = word_at root 16
