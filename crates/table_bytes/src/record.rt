@@ -4,7 +4,7 @@ ghost use Rattle.byteorder.specs.Endian.{big_bytes};
 ghost use Rattle.rbg_game.specs.declared.roles.Player.{Player};
 ghost use Rattle.retrograde.specs.declared.records.State.{State};
 ghost use Rattle.retrograde.specs.declared.records.Record.{Record};
-ghost use Rattle.table_bytes.specs.Bytes.{state_byte, winner_byte, IsRecord};
+ghost use Rattle.table_bytes.specs.Bytes.{state_byte, winner_byte, IsRecord, IsPlainRecord};
 ghost use Rattle.table_bytes.specs.Writing.{WritesOne};
 
 use byteorder::{BigEndian, ByteOrder};
@@ -92,9 +92,9 @@ pub fn push_number(bytes: &mut Vec<u8>, number: u32) -> Result<(), TableFault>
     Ok(())
 }
 
-/// Puts the 16 bytes of a record behind others.
+/// Puts the 16 bytes of a record behind others. The third and the fourth are zero.
 pub fn push_record(bytes: &mut Vec<u8>, kept: &Record) -> Result<(), TableFault>
-    ensures { OnOk result (WritesOne IsRecord kept.now bytes.old.items bytes.new.items) }
+    ensures { OnOk result (WritesOne IsPlainRecord kept.now bytes.old.items bytes.new.items) }
 {
     let head = [state_byte(kept.state), winner_byte(kept.winner), 0, 0];
     bytes.extend_from_slice(&head)?;

@@ -3,7 +3,7 @@ ghost use Rattle.std.specs.Prelude.{◌≡◌, ◌↔◌, ◌≤◌, ◌^◌, �
 ghost use Rattle.retrograde.specs.Stored.{IsTable};
 ghost use Rattle.retrograde.specs.Changes.{counts_of};
 ghost use Rattle.table_bytes.specs.Numbers.{AreWithinLimits, bytes_in};
-ghost use Rattle.table_bytes.specs.Spelled.{Spells};
+ghost use Rattle.table_bytes.specs.Spelled.{Spells, BeginsPlainly};
 
 use crate::Sizes;
 use crate::write_cells::{write_cells, write_order};
@@ -18,7 +18,7 @@ pub struct Written {
     pub bytes: Vec<u8>,
 }
 
-/// The bytes of a game's text and table, where each position has so many bytes.
+/// The bytes of a game's text and table, where each position has so many bytes. Those that readers ignore are zero.
 pub fn write_table<T: Table>(
     alloc: Global,
     text: &[u8],
@@ -29,6 +29,9 @@ pub fn write_table<T: Table>(
     ensures spelled { T.is_honest table.old → IsTable (T.stored table.old)
         → ((x : List ℕ) (i : ℕ) → slice_get (T.stored table.old).positions i ≡ Some x → length x ≡ packed)
         → IfOk result (λ written. Spells written.sizes written.bytes.items text.now (T.stored table.old)) }
+    ensures plain { T.is_honest table.old → IsTable (T.stored table.old)
+        → ((x : List ℕ) (i : ℕ) → slice_get (T.stored table.old).positions i ≡ Some x → length x ≡ packed)
+        → IfOk result (λ written. BeginsPlainly packed written.bytes.items text.now (T.stored table.old)) }
     ensures counts { T.is_honest table.old → IfOk result (λ written. written.sizes.counts ≡ counts_of (T.stored table.old)) }
     ensures packed { IfOk result (λ written. written.sizes.packed ≡ packed) }
     ensures text { IfOk result (λ written. written.sizes.text ≡ length text.now) }

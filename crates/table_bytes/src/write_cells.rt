@@ -1,7 +1,7 @@
 //! Positions, their records and the settled order are written.
 ghost use Rattle.std.specs.Prelude.{◌≡◌, ◌↔◌, ◌<◌, ℕ, List, length, zip, slice_get, Some, OnOk};
 ghost use Rattle.retrograde.specs.Stored.{HasRecord};
-ghost use Rattle.table_bytes.specs.Bytes.{IsCell, IsNumber};
+ghost use Rattle.table_bytes.specs.Bytes.{IsPlainCell, IsNumber};
 ghost use Rattle.table_bytes.specs.Writing.{Writes, WritesOne, WritesCell};
 
 use crate::record::{push_number, push_record};
@@ -25,7 +25,7 @@ fn write_cell<T: Table>(bytes: &mut Vec<u8>, number: u32, table: &mut T) -> Resu
 pub fn write_cells<T: Table>(bytes: &mut Vec<u8>, table: &mut T) -> Result<(), TableFault>
     ensures cells { T.is_honest table.old → length (T.stored table.old).records ≡ length (T.stored table.old).positions → (packed : ℕ)
         → ((x : List ℕ) (i : ℕ) → slice_get (T.stored table.old).positions i ≡ Some x → length x ≡ packed)
-        → OnOk result (Writes (IsCell packed) (zip (T.stored table.old).positions (T.stored table.old).records) bytes.old.items bytes.new.items) }
+        → OnOk result (Writes (IsPlainCell packed) (zip (T.stored table.old).positions (T.stored table.old).records) bytes.old.items bytes.new.items) }
     ensures same { T.is_honest table.old → OnOk result (T.stored table.new ≡ T.stored table.old) }
     ensures honest { OnOk result (T.is_honest table.old ↔ T.is_honest table.new) }
     ensures counts { OnOk result (T.counted table.new ≡ T.counted table.old) }
