@@ -10,7 +10,6 @@ use Rattle.table_bytes.specs.declared.sizes.Sizes.{Sizes}
 use Rattle.table_bytes.specs.Laws.{tables_have_their_length}
 use Rattle.flat_file.specs.Held.{Kept}
 use Rattle.flat_write.specs.Causes.{SaveCause}
-use Rattle.flat_write.specs.Laws.{a_table_has_bytes}
 use Rattle.flat_write.specs.Saving.{AreBytesOf}
 use Rattle.flat_table.specs.declared.fault.FileFault.{FileFault}
 use Rattle.flat_table.specs.declared.fault.FileFault.TheVariants.{Disk, NotATable, AlreadyATable, Damaged, TooSmall, TableFull, OutOfMemory, Closed, Inconsistent}
@@ -59,4 +58,4 @@ save_cause kept packed sizes bytes old new page.NotATable are cause = cause
 save_cause kept packed sizes bytes old new page.Damaged are cause = cause
 save_cause kept packed sizes bytes old new page.TableFull are cause = record { sizes = sizes; bytes = bytes; limits = are.limits; spells = are.spells; long = cause }
 save_cause kept packed sizes bytes old new page.OutOfMemory are cause = cause
-save_cause kept packed sizes bytes old new page.Closed are cause = cause (a_table_has_bytes kept sizes bytes are)
+save_cause kept packed sizes bytes old new page.Closed are cause = cause
