@@ -42,7 +42,7 @@ module _ (old : Store) (slot : GameSlot) (says : SaysGame old.root slot) where
   chain_cause new long Disk is cause = cause
   chain_cause new long NotATable is cause = cause
   chain_cause new long Damaged is cause = λ honest wait kept keeps.
-      absurd (nothing_kept (λ k game. 
+      absurd (nothing_kept (λ k game.
       let chain = game_chain k game in
       cause honest game.pages game.content (game_long k game ∙ sym is) (λ p here. wait p (chain.within p here).0 (chain.within p here).1) chain) kept keeps)
   chain_cause new long TableFull is cause = cause

@@ -1,12 +1,12 @@
 -- The empty table is made, and opened.
 use Rattle.std.specs.Prelude.{min}
-use Rattle.std.proofs.Common.{◌≡◌, ◌⊎◌, inl, inr, ◌≤◌, ◌/◌, ℕ, false, true, List, None, IsTrue, ◌∙◌, ap, subst, arith}
+use Rattle.std.proofs.Common.{◌≡◌, ◌⊎◌, inl, inr, ◌≤◌, ◌/◌, ℕ, false, true, List, None, IsTrue, sym, ◌∙◌, ap, subst, arith}
 use Rattle.std.proofs.Math.Nat.{le-min, le-div_iff_mul-le}
 use Rattle.sector_disk.specs.Disk.{Picture, Disk, size, GoesOn, LeavesOnly, MayLeave, AllSynced}
 use Rattle.sector_disk.specs.Moments.{goes_on_trans, leaves_then, leaves_more, still_honest}
 use Rattle.root_pair.specs.Rest.{rest_leaves, synced_rests}
 use Rattle.root_pair.specs.Root.{Begins, HoldsRoot, IsMade, OldOrNoneOrNew}
-use Rattle.root_slot.specs.Slot.{IsEmptySlot}
+use Rattle.root_slot.specs.Slot.{commits_in, IsEmptySlot}
 use Rattle.flat_file.specs.File.{File, kept_of}
 use Rattle.flat_file.specs.Held.{Stores}
 use Rattle.flat_read.specs.Laws.{a_picture_stores_one_table}
@@ -45,6 +45,10 @@ pub record IsLaidDown (root : List ℕ) (disk mid : Disk) : Type 0 where
   pub synced : IsTrue disk.honest → AllSynced mid.now
   pub moments : IsTrue disk.honest → LeavesOnly disk mid (OldOrNoneOrNew disk.now root)
   pub fresh : IsTrue disk.honest → ¬ Begins disk.now.contents
+
+-- where the slot that was laid down tells no commit, none is told
+pub counts_none : {root found : List ℕ} (disk mid : Disk) → IsLaidDown root disk mid → IsTrue disk.honest → HoldsRoot found mid.now.contents → commits_in root ≡ 0 → commits_in found ≡ 0
+counts_none {root} {found} disk mid laid honest holds none = ap commits_in (sym holds.is ∙ (laid.holds honest).is) ∙ none
 
 module _ {root : List ℕ} (empty : IsEmptySlot root) (disk mid : Disk) (count middle : ℕ) (more : count ≤ middle) (laid : IsLaidDown root disk mid) where
   -- a stop then leaves the empty table

@@ -1,7 +1,8 @@
 //! A table in a file.
 ghost use Rattle.std.specs.Prelude.{◌≡◌, ◌≢◌, ◌≤◌, ◌^◌, ℕ, true, None, length, option_map, OnOk, OnErr, IfOk, IfErr, IsErr, IsErrOf, IfSome, IfNone, IsTrue};
 ghost use Rattle.sector_disk.specs.Disk.{LeavesOnly, MayLeave};
-ghost use Rattle.root_pair.specs.Root.{Begins};
+ghost use Rattle.root_pair.specs.Root.{Begins, HoldsRoot};
+ghost use Rattle.root_slot.specs.Slot.{commits_in, count_behind};
 ghost use Rattle.retrograde.specs.Stored.{loaded};
 ghost use Rattle.table.specs.InMemory.{stored_in};
 ghost use Rattle.flat_file.specs.declared.game.Game.{Game as Loaded};
@@ -36,10 +37,12 @@ pub trait TableFile {
 pub struct FlatTable<D: SectorDisk> {
     pub(crate) alloc: Global,
     pub(crate) store: PageStore<D>,
+    /// Commits since the file was made, as the committed root tells them.
     commits: u64,
     /// The table, where a game is loaded.
     pub(crate) game: Option<Game>,
     ghost there: { ArePages (length store.marks.items) (pages_of game) },
+    ghost counted: { commits ≡ commits_in store.root.bytes },
 }
 
 impl<D: SectorDisk> TableFile for FlatTable<D> {
@@ -51,6 +54,7 @@ impl<D: SectorDisk> FlatTable<D> {
     /// or `OutOfMemory` (E8).
     pub fn create(alloc: Global, disk: D) -> Result<Self, Refused<D>>
         ensures ok { IfOk result (λ t. IsCreated (D.disk disk) (D.failures disk) (⟦<FlatTable<D> as TableFile>⟧.file t)) }
+        ensures commits { IfOk result (λ t. IsTrue (D.disk disk).honest → commits_in (⟦<FlatTable<D> as TableFile>⟧.file t).store.root ≡ 0) }
         ensures refused { IfErr result (λ back. IsNotCreated (D.disk disk) (D.failures disk) (D.disk back.disk) (D.failures back.disk)) }
         ensures cause { IfErr result (λ back. CreateCause (D.disk disk) (D.failures disk) (D.failures back.disk) back.fault) }
     {
@@ -68,6 +72,8 @@ impl<D: SectorDisk> FlatTable<D> {
     /// `OutOfMemory` (E8).
     pub fn open(alloc: Global, disk: D) -> Result<Self, Refused<D>>
         ensures ok { IfOk result (λ t. IsOpened (D.disk disk) (D.failures disk) (⟦<FlatTable<D> as TableFile>⟧.file t)) }
+        ensures root { IfOk result (λ t. IsTrue (D.disk disk).honest
+            → HoldsRoot (⟦<FlatTable<D> as TableFile>⟧.file t).store.root (D.disk disk).now.contents) }
         ensures refused { IfErr result (λ back. IsNotOpened (D.disk disk) (D.failures disk) (D.disk back.disk) (D.failures back.disk)) }
         ensures cause { IfErr result (λ back. OpenCause (D.disk disk) (D.failures disk) (D.failures back.disk) back.fault) }
     {
@@ -123,12 +129,16 @@ impl<D: SectorDisk> FlatTable<D> {
         self.store.is_closed()
     }
 
-    /// Commits the table of a game that is loaded now, its start and no more, in the place of what is kept. `TableFull`
-    /// (E7), `Closed` (E9), `Disk` (E1) or `OutOfMemory` (E8). After a refusal what was kept is, but that after `Disk` in
-    /// a write or a sync the file is closed, and holds the one or the other.
+    /// Commits the table of a game that is loaded now, its start and no more, in the place of what is kept. The root tells
+    /// one commit more then, and 0 behind the greatest number. `TableFull` (E7), `Closed` (E9), `Disk` (E1) or
+    /// `OutOfMemory` (E8). After a refusal what was kept is, but that after `Disk` in a write or a sync the file is closed,
+    /// and holds the one or the other.
     pub fn load(&mut self, text: &[u8], start: &Packed) -> Result<(), FileFault>
         requires { length text.now ≤ 65536 }
         ensures ahead { GoesAhead (⟦<FlatTable<D> as TableFile>⟧.file self.old).store (⟦<FlatTable<D> as TableFile>⟧.file self.new).store }
+        ensures commits { OnOk result (commits_in (⟦<FlatTable<D> as TableFile>⟧.file self.new).store.root
+            ≡ count_behind (commits_in (⟦<FlatTable<D> as TableFile>⟧.file self.old).store.root)) }
+        ensures root { OnErr result ((⟦<FlatTable<D> as TableFile>⟧.file self.new).store.root ≡ (⟦<FlatTable<D> as TableFile>⟧.file self.old).store.root) }
         ensures ok { IsFile (⟦<FlatTable<D> as TableFile>⟧.file self.old)
             → OnOk result (IsPut (kept_as text.now (loaded start.now.items)) (⟦<FlatTable<D> as TableFile>⟧.file self.old) (⟦<FlatTable<D> as TableFile>⟧.file self.new)) }
         ensures err { IsFile (⟦<FlatTable<D> as TableFile>⟧.file self.old)
@@ -148,6 +158,9 @@ impl<D: SectorDisk> FlatTable<D> {
     pub fn commit(&mut self, table: MemTable) -> Result<(), FileFault>
         requires { (⟦<MemTable as Table>⟧.counted table).known ≤ 2 ^ 24 }
         ensures ahead { GoesAhead (⟦<FlatTable<D> as TableFile>⟧.file self.old).store (⟦<FlatTable<D> as TableFile>⟧.file self.new).store }
+        ensures commits { OnOk result (commits_in (⟦<FlatTable<D> as TableFile>⟧.file self.new).store.root
+            ≡ count_behind (commits_in (⟦<FlatTable<D> as TableFile>⟧.file self.old).store.root)) }
+        ensures root { OnErr result ((⟦<FlatTable<D> as TableFile>⟧.file self.new).store.root ≡ (⟦<FlatTable<D> as TableFile>⟧.file self.old).store.root) }
         ensures ok { (was : Loaded) → (⟦<FlatTable<D> as TableFile>⟧.file self.old).game ≡ Some was → IsFile (⟦<FlatTable<D> as TableFile>⟧.file self.old)
             → OnOk result (IsPut (kept_as was.text.items (stored_in table)) (⟦<FlatTable<D> as TableFile>⟧.file self.old) (⟦<FlatTable<D> as TableFile>⟧.file self.new)) }
         ensures err { (was : Loaded) → (⟦<FlatTable<D> as TableFile>⟧.file self.old).game ≡ Some was → IsFile (⟦<FlatTable<D> as TableFile>⟧.file self.old)
@@ -173,6 +186,9 @@ impl<D: SectorDisk> FlatTable<D> {
         requires packed { packed ≤ 240 }
         requires known { (⟦<MemTable as Table>⟧.counted table).known ≤ 2 ^ 24 }
         ensures ahead { GoesAhead (⟦<FlatTable<D> as TableFile>⟧.file self.old).store (⟦<FlatTable<D> as TableFile>⟧.file self.new).store }
+        ensures commits { OnOk result (commits_in (⟦<FlatTable<D> as TableFile>⟧.file self.new).store.root
+            ≡ count_behind (commits_in (⟦<FlatTable<D> as TableFile>⟧.file self.old).store.root)) }
+        ensures root { OnErr result ((⟦<FlatTable<D> as TableFile>⟧.file self.new).store.root ≡ (⟦<FlatTable<D> as TableFile>⟧.file self.old).store.root) }
         ensures ok { IsFile (⟦<FlatTable<D> as TableFile>⟧.file self.old)
             → OnOk result (IsPut (kept_as text.items (stored_in table)) (⟦<FlatTable<D> as TableFile>⟧.file self.old) (⟦<FlatTable<D> as TableFile>⟧.file self.new)) }
         ensures err { IsFile (⟦<FlatTable<D> as TableFile>⟧.file self.old)

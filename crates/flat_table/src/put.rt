@@ -1,7 +1,8 @@
 //! A text and a table in the place of others.
-ghost use Rattle.std.specs.Prelude.{◌≡◌, ◌≢◌, ◌≤◌, ◌^◌, Some, length, IfOk, IfErr, OnOk};
+ghost use Rattle.std.specs.Prelude.{◌≡◌, ◌≢◌, ◌≤◌, ◌^◌, Some, length, IfOk, IfErr, OnOk, OnErr};
 ghost use Rattle.table.specs.Fitting.{Fits};
 ghost use Rattle.table.specs.InMemory.{stored_in};
+ghost use Rattle.root_slot.specs.Slot.{commits_in};
 ghost use Rattle.flat_file.specs.File.{IsFile, pages_of};
 ghost use Rattle.flat_write.specs.Saving.{AreBytesOf, GoesAhead};
 ghost use Rattle.flat_table.specs.Calls.{file_of, kept_as, IsPut, IsNotPut};
@@ -38,6 +39,8 @@ pub fn put<P: Pages>(
     requires there { ArePages (length (P.store store.old).marks) (pages_of old.now) }
     ensures pages { IfOk result (λ game. ArePages (length (P.store store.new).marks) game.pages.items) }
     ensures ahead { GoesAhead (P.store store.old) (P.store store.new) }
+    ensures commits { OnOk result (commits_in (P.store store.new).root ≡ commits) }
+    ensures root { OnErr result ((P.store store.new).root ≡ (P.store store.old).root) }
     ensures ok { IsFile (file_of (P.store store.old) old.now)
         → IfOk result (λ game. IsPut (kept_as text.items (stored_in table)) (file_of (P.store store.old) old.now) (file_of (P.store store.new) (Some game))) }
     ensures err { IsFile (file_of (P.store store.old) old.now)

@@ -1,5 +1,6 @@
 use Rattle.std.proofs.lemmas.Result.{IfOk-weaker, IfErr-weaker}
-use Rattle.flat_table.proofs.Creating.{IsLaidDown, never, created, not_created, create_cause}
+use Rattle.sector_disk.specs.Moments.{still_honest}
+use Rattle.flat_table.proofs.Creating.{IsLaidDown, never, counts_none, created, not_created, create_cause}
 use Rattle.flat_table.proofs.file.FlatTable.create.Goals as goal
 
 pub returns-in-Ok : goal.returns-in-Ok
@@ -17,6 +18,7 @@ returns-in-Ok g c =
     } in
     record {
       ok = IfOk-weaker c.open.result _ _ (λ t opened. created empty _ _ _ _ made.failures laid _ opened) c.open.ensures.ok;
+      commits = IfOk-weaker c.open.result _ _ (λ t root honest. counts_none _ _ laid honest (root (still_honest laid.goes_on honest)) c.empty_slot.ensures.commits) c.open.ensures.root;
       refused = IfErr-weaker c.open.result _ _ (λ back refused. not_created empty _ _ _ _ made.failures laid _ _ refused) c.open.ensures.refused;
       cause = IfErr-weaker c.open.result _ _ (λ back cause. create_cause empty _ _ _ _ made.failures laid _ _ cause) c.open.ensures.cause;
     }
