@@ -1,6 +1,11 @@
 -- What holds of every chain.
-use Rattle.std.specs.Prelude.{◌≡◌, ℕ, suc, ◌≤◌, List, [], ◌∷◌, ◌++◌, length, take, drop, Contains, IsTrue}
+use Rattle.std.specs.Prelude.{◌≡◌, ℕ, suc, ◌*◌, ◌≤◌, false, List, [], ◌∷◌, ◌++◌, length, take, drop, slice_get, Contains, Some, IsTrue}
 use Rattle.std.proofs.Common.{refl, sym, ◌∙◌, ap, subst, arith}
+use Rattle.std.specs.List.{AllByRecursion, IsDistinct}
+use Rattle.std.proofs.Math.Dec.{eqb}
+use Rattle.std.proofs.lemmas.Bool.{eqb-true, ne_eqb}
+use Rattle.std.proofs.lemmas.Map.Steps.{length-le_from_distinct_below}
+use Rattle.std.proofs.lemmas.Map.Views.{Contains-from_any}
 use Rattle.page_store.specs.declared.marks.Mark.{Mark}
 use Rattle.page_store.specs.declared.marks.Mark.TheVariants.{Committed, Fresh}
 use Rattle.page_store.specs.Marks.{mark, needs, keeps}
@@ -71,6 +76,27 @@ a_chain_fits_more capacity more first pages content bytes greater chain = record
   no_more = chain.no_more;
   is = chain.is;
 }
+
+-- one of some pages that is at no place is another
+none_again : (p : ℕ) (ps : List ℕ) → ((k q : ℕ) → slice_get ps k ≡ Some q → p ≡ q → ⊥) → AllByRecursion (λ q. eqb p q ≡ false) ps
+none_again p [] apart = tt
+none_again p (q ∷ ps) apart = (ne_eqb p q (apart 0 q refl), none_again p ps (λ k r at. apart (suc k) r at))
+
+-- pages that are named once each are all different
+all_different : (ps : List ℕ) → ((i j p : ℕ) → slice_get ps i ≡ Some p → slice_get ps j ≡ Some p → i ≡ j) → IsDistinct eqb ps
+unfolding IsDistinct
+all_different [] once = tt
+all_different (p ∷ ps) once = (
+  none_again p ps (λ k q at same. omega (arith, once 0 (suc k) q (ap Some same) at)),
+  all_different ps (λ i j q at_i at_j. omega (arith, once (suc i) (suc j) q at_i at_j)),
+)
+
+-- a chain has no more pages than lie below its capacity, and so no more content
+pub a_chain_is_not_longer : (capacity first : ℕ) (pages content : List ℕ) (bytes : ℕ → List ℕ) → IsChain capacity first pages content bytes → length content ≤ 4092 * capacity
+a_chain_is_not_longer capacity first pages content bytes chain =
+    let many : length pages ≤ capacity =
+    length-le_from_distinct_below pages capacity (all_different pages chain.once) (λ q here. (chain.within q (Contains-from_any eqb-true q pages here)).1) in
+    omega (arith, many, chain.enough)
 
 -- a chain on pages that were handed out is prepared for the next commit
 pub a_chain_is_prepared : (capacity first : ℕ) (pages content : List ℕ) (store : Store) → IsChain capacity first pages content (reads store)

@@ -1,5 +1,5 @@
 //! What holds of every chain: each is a law, which proofs cite by a call, or by the lemma of the same name in specs/.
-ghost use Rattle.std.specs.Prelude.{◌≡◌, ◌≤◌, ℕ, List, length, Contains};
+ghost use Rattle.std.specs.Prelude.{◌≡◌, ◌*◌, ◌≤◌, ℕ, List, length, Contains};
 ghost use Rattle.page_store.specs.declared.marks.Mark.TheVariants.{Committed, Fresh};
 ghost use Rattle.page_store.specs.Marks.{mark};
 ghost use Rattle.page_store.specs.Spelling.{SpelledBy, Stands, IsPrepared};
@@ -23,6 +23,12 @@ pub fn a_chain_has_one_content()
 pub fn a_chain_fits_more()
     ensures { (capacity more first : ℕ) (pages content : List ℕ) (bytes : ℕ → List ℕ) → capacity ≤ more
         → IsChain capacity first pages content bytes → IsChain more first pages content bytes }
+{}
+
+/// A chain has no more content than all pages below its capacity hold.
+pub fn a_chain_is_not_longer()
+    ensures { (capacity first : ℕ) (pages content : List ℕ) (bytes : ℕ → List ℕ) → IsChain capacity first pages content bytes
+        → length content ≤ 4092 * capacity }
 {}
 
 /// A chain on pages that were handed out is prepared for the next commit.
