@@ -1,5 +1,5 @@
 -- The new table comes into the place of the old one.
-use Rattle.std.proofs.Common.{◌≡◌, ◌≢◌, inl, inr, ◌⊎◌, ℕ, zero, suc, ◌<◌, ◌≤◌, ◌^◌, Bool, false, List, length, Option, None, Some, Contains, refl, sym, ◌∙◌, ap, subst, arith}
+use Rattle.std.proofs.Common.{◌≡◌, ◌≢◌, inl, inr, ◌⊎◌, ℕ, zero, suc, ◌<◌, ◌≤◌, Bool, false, List, length, Option, None, Some, Contains, refl, sym, ◌∙◌, ap, subst, arith}
 use Rattle.std.specs.Prelude.{IsTrue}
 use Rattle.std.proofs.lemmas.Bool.{cases_lt}
 use Rattle.std.proofs.lemmas.List.{get_or_past}
@@ -60,7 +60,6 @@ keeps_game root capacity pages bytes sizes kept read slot it chain = record {
   layout = slot.layout;
   packing = slot.packing;
   limits = subst (λ (s : Sizes). AreWithinLimits s) (sym slot.sizes) it.limits;
-  edges = subst (λ (s : Sizes). s.edges ≤ 2 ^ 32) (sym slot.sizes) it.edges;
   pages = pages;
   content = bytes;
   chain = subst (λ (n : ℕ). IsChain capacity n pages bytes read) (sym slot.first) chain;
