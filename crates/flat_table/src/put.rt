@@ -18,9 +18,6 @@ use std::alloc::Global;
 use table::{MemTable, Table};
 use table_bytes::{Written, write_table};
 
-/// No file has room for more edges.
-const MOST_EDGES: u64 = 1 << 32;
-
 /// Stores a text and a table in the place of what the pages of the old game hold: a new chain on free pages, and then
 /// the root that names it. Answers the game as it is stored. After a refusal the old one is, but that after `Disk` in a
 /// write or a sync the store is closed, and the file has the one or the other.
@@ -71,7 +68,7 @@ fn pages_in(game: &Option<Game>) -> &[u32]
 }
 
 /// The bytes of a text and a table. `Inconsistent` where the table's parts do not fit together or its positions have
-/// not so many bytes; `TableFull` where it has more edges than any file has bytes.
+/// not so many bytes.
 fn bytes_of(
     alloc: Global,
     text: &[u8],
@@ -90,8 +87,5 @@ fn bytes_of(
         return Err(FileFault::Inconsistent);
     }
     let written = write_table(alloc, text, packed, table)?;
-    if written.sizes.edges > MOST_EDGES {
-        return Err(FileFault::TableFull);
-    }
     Ok(written)
 }
