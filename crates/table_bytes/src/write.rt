@@ -1,5 +1,5 @@
 //! A table becomes bytes.
-ghost use Rattle.std.specs.Prelude.{◌≡◌, ◌↔◌, ◌≤◌, ◌^◌, ℕ, List, length, slice_get, Some, IfOk, OnOk};
+ghost use Rattle.std.specs.Prelude.{◌≡◌, ◌↔◌, ◌≤◌, ◌^◌, ℕ, List, length, slice_get, Some, IfOk, IfErr, OnOk};
 ghost use Rattle.retrograde.specs.Stored.{IsTable};
 ghost use Rattle.retrograde.specs.Changes.{counts_of};
 ghost use Rattle.table_bytes.specs.Numbers.{AreWithinLimits, bytes_in};
@@ -43,6 +43,8 @@ pub fn write_table<T: Table>(
     ensures same { T.is_honest table.old → OnOk result (T.stored table.new ≡ T.stored table.old) }
     ensures honest { OnOk result (T.is_honest table.old ↔ T.is_honest table.new) }
     ensures still { OnOk result (T.counted table.new ≡ T.counted table.old) }
+    ensures stays { T.stays table.old table.new }
+    ensures fault { IfErr result (T.fails table.old table.new) }
 {
     let counts = table.counts();
     let mut bytes = Vec::new(alloc);

@@ -14,6 +14,7 @@ loop-number-preserved g c =
     let cell = c.in_ok-write_cell.ensures in
     record {
       counts = cell.counts ∙ before.counts;
+      stays = g.met.T.Table.stays_then _ _ _ before.stays cell.stays;
       honest = (λ h. cell.honest.0 (before.honest.0 h), λ h. before.honest.1 (cell.honest.1 h));
       same = λ h. cell.same (before.honest.0 h) ∙ before.same h;
       written = λ h packed long.
