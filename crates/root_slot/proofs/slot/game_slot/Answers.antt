@@ -1,5 +1,4 @@
 use Rattle.std.proofs.Common.{◌≡◌, ◌∙◌, arith}
-use Rattle.table_bytes.specs.declared.sizes.Sizes.{Sizes}
 use Rattle.root_slot.specs.Slot.{word_at, sizes_in}
 use Rattle.root_slot.proofs.Words.{long_same}
 use Rattle.root_slot.proofs.slot.game_slot.Goals as goal
