@@ -1,5 +1,5 @@
 -- The table that a picture of the disk holds, as far as that can be told without the game's rules.
-use Rattle.std.specs.Prelude.{◌≡◌, ℕ, ◌/◌, ◌^◌, ◌≤◌, min, List, length, Option, None, Some}
+use Rattle.std.specs.Prelude.{◌≡◌, ℕ, ◌/◌, ◌≤◌, min, List, length, Option, None, Some}
 use Rattle.sector_disk.specs.Disk.{Picture}
 use Rattle.root_pair.specs.Root.{HoldsRoot}
 use Rattle.page_store.specs.Page.{page}
@@ -16,8 +16,6 @@ pub record KeepsGame (root : List ℕ) (capacity : ℕ) (kept : Kept) (bytes : �
   pub layout : layout_in root ≡ 1
   pub packing : packing_in root ≡ 1
   pub limits : AreWithinLimits (sizes_in root)
-  -- no file has room for more
-  pub edges : (sizes_in root).edges ≤ 2 ^ 32
   pub pages : List ℕ
   pub content : List ℕ
   pub chain : IsChain capacity (first_in root) pages content bytes

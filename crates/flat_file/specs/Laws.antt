@@ -1,5 +1,5 @@
 -- What holds of all that a file of layout 1 keeps.
-use Rattle.std.specs.Prelude.{◌≡◌, ℕ, ◌*◌, ◌/◌, ◌≤◌, min, false, List, length, Option, None, Some, Contains, IsTrue}
+use Rattle.std.specs.Prelude.{◌≡◌, ℕ, ◌*◌, ◌/◌, ◌^◌, ◌≤◌, min, false, List, length, Option, None, Some, Contains, IsTrue}
 use Rattle.std.proofs.Common.{arith}
 use Rattle.std.proofs.Math.Nat.{le-min, le-div_iff_mul-le}
 use Rattle.sector_disk.specs.Disk.{Picture}
@@ -7,7 +7,9 @@ use Rattle.page_store.specs.Page.{page}
 use Rattle.page_store.specs.Carrying.{stop_leaves}
 use Rattle.page_store.specs.Spelling.{SpelledBy, Spells}
 use Rattle.page_store.specs.Store.{StopLeaves}
-use Rattle.page_chain.specs.Resting.{a_chain_rests_on_its_pages, a_chain_fits_more}
+use Rattle.page_chain.specs.Resting.{a_chain_rests_on_its_pages, a_chain_fits_more, a_chain_is_not_longer}
+use Rattle.table_bytes.specs.Laws.{tables_have_their_length}
+use Rattle.root_slot.specs.Slot.{sizes_in}
 use Rattle.flat_file.specs.File.{File, IsFile, kept_of}
 use Rattle.flat_file.specs.Held.{KeepsGame, Keeps, capacity_of, Stores}
 use Rattle.game_file.specs.Kept.{Kept}
@@ -20,7 +22,6 @@ game_rests_on_its_pages root capacity kept bytes it = record {
     layout = it.layout;
     packing = it.packing;
     limits = it.limits;
-    edges = it.edges;
     pages = it.pages;
     content = it.content;
     chain = (a_chain_rests_on_its_pages capacity _ it.pages it.content bytes it.chain).anywhere other same;
@@ -30,6 +31,11 @@ game_rests_on_its_pages root capacity kept bytes it = record {
   };
 }
 
+-- the pages have room for fewer edges than a slot may tell of
+pub few_edges : (root : List ℕ) (capacity : ℕ) (kept : Kept) (bytes : ℕ → List ℕ) → capacity ≤ 1048576 → KeepsGame root capacity kept bytes → (sizes_in root).edges ≤ 2 ^ 32
+few_edges root capacity kept bytes few it =
+    omega (arith, few, a_chain_is_not_longer capacity _ it.pages it.content bytes it.chain, tables_have_their_length (sizes_in root) it.content kept.text kept.table it.spells)
+
 -- what is kept in fewer pages is kept in more
 pub keeps_in_more : (root : List ℕ) (fewer more : ℕ) (kept : Option Kept) (bytes : ℕ → List ℕ) → fewer ≤ more → Keeps root fewer kept bytes → Keeps root more kept bytes
 keeps_in_more root fewer more None bytes le it = it
@@ -37,7 +43,6 @@ keeps_in_more root fewer more (Some kept) bytes le it = record {
   layout = it.layout;
   packing = it.packing;
   limits = it.limits;
-  edges = it.edges;
   pages = it.pages;
   content = it.content;
   chain = a_chain_fits_more fewer more _ it.pages it.content bytes le it.chain;

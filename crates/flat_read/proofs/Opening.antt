@@ -12,11 +12,11 @@ use Rattle.page_store.specs.Page.{page}
 use Rattle.page_store.specs.Spelling.{SpelledBy, Stands}
 use Rattle.page_store.specs.Store.{Store, IsSound, IsRemarked}
 use Rattle.page_store.specs.Works.{works_refl}
-use Rattle.page_chain.specs.Causes.{AllWait}
 use Rattle.page_chain.specs.Links.{OnlyMarks}
 use Rattle.flat_file.specs.File.{IsBacked}
-use Rattle.flat_file.specs.Held.{Keeps}
 use Rattle.game_file.specs.Kept.{Kept}
+use Rattle.flat_file.specs.Held.{Keeps}
+use Rattle.flat_read.specs.Causes.{AllWait}
 use Rattle.flat_read.specs.Reading.{IsRead}
 
 -- a stop before the first call leaves what it may leave
@@ -81,7 +81,7 @@ module _ (old mid new : Store) (pages : List ℕ) (kept : Option Kept) (sound : 
   mid_stands : IsTrue old.disk.honest → Stands (λ p. Contains pages p) (Keeps old.root (length old.marks) kept) mid
   mid_stands honest = record {
     spelled = subst (λ (shown : Shown). SpelledBy (λ p. Contains pages p) (λ p. page shown.contents p) (Keeps old.root (length old.marks) kept)) (sym (only.shown honest)) (read.held honest);
-    needed = λ p here. ((there p here).0, subst (λ (m : Mark). IsTrue (needs m)) (sym (read.marked p here)) refl);
+    needed = λ p here. ((there p here).0, omega (arith, (there p here).1, sealed.same_length), subst (λ (m : Mark). IsTrue (needs m)) (sym (read.marked p here)) refl);
   }
 
   -- and after it

@@ -1,5 +1,5 @@
 -- What a chain that the slot names gives, and why it gives nothing.
-use Rattle.std.proofs.Common.{◌≡◌, ℕ, List, Option, None, Some, length, Contains, IsTrue, sym, ◌∙◌, ap, subst, arith}
+use Rattle.std.proofs.Common.{◌≡◌, ℕ, ◌≤◌, List, Option, None, Some, length, Contains, IsTrue, sym, ◌∙◌, ap, subst, arith}
 use Rattle.page_store.specs.declared.fault.PageFault.{PageFault}
 use Rattle.page_store.specs.declared.fault.PageFault.TheVariants.{Disk, NotATable, Damaged, TableFull, OutOfMemory, Closed}
 use Rattle.page_store.specs.declared.marks.Mark.TheVariants.{Committed, Waiting}
@@ -15,14 +15,19 @@ use Rattle.table_bytes.specs.Numbers.{bytes_in}
 use Rattle.table_bytes.specs.Spelled.{Spells}
 use Rattle.table_bytes.specs.Laws.{tables_have_their_length}
 use Rattle.root_slot.specs.declared.slot.GameSlot.{GameSlot}
-use Rattle.root_slot.specs.Slot.{sizes_in, SaysGame}
+use Rattle.root_slot.specs.Slot.{sizes_in, SaysGame, IsNoSlot}
 use Rattle.flat_file.specs.declared.game.Game.{Game}
 use Rattle.flat_file.specs.File.{kept_in}
-use Rattle.flat_file.specs.Held.{KeepsGame, Keeps}
 use Rattle.game_file.specs.Kept.{Kept}
-use Rattle.flat_file.specs.Laws.{game_rests_on_its_pages}
+use Rattle.flat_file.specs.Held.{KeepsGame, Keeps}
+use Rattle.flat_file.specs.Laws.{game_rests_on_its_pages, few_edges}
 use Rattle.flat_read.specs.Causes.{ReadCause}
 use Rattle.flat_read.specs.Reading.{IsGameOf, TableCause, IsRead}
+
+-- where the slot says nothing nothing is kept
+pub no_slot_keeps : (root : List ℕ) (capacity : ℕ) (bytes : ℕ → List ℕ) → capacity ≤ 1048576 → IsNoSlot root → (kept : Option Kept) → Keeps root capacity kept bytes → ⊥
+no_slot_keeps root capacity bytes few none None keeps = none.not_empty keeps
+no_slot_keeps root capacity bytes few none (Some kept) keeps = none.no_game keeps.layout keeps.packing keeps.limits (few_edges root capacity kept bytes few keeps)
 
 module _ (old : Store) (slot : GameSlot) (says : SaysGame old.root slot) where
   -- the slot names a game, and where no game is kept nothing is
@@ -43,7 +48,9 @@ module _ (old : Store) (slot : GameSlot) (says : SaysGame old.root slot) where
   chain_cause new long Disk is cause = cause
   chain_cause new long NotATable is cause = cause
   chain_cause new long Damaged is cause = λ honest wait kept keeps.
-      absurd (nothing_kept (λ k game. cause honest wait game.pages game.content (game_long k game ∙ sym is) (game_chain k game)) kept keeps)
+      absurd (nothing_kept (λ k game.
+      let chain = game_chain k game in
+      cause honest game.pages game.content (game_long k game ∙ sym is) (λ p here. wait p (chain.within p here).0 (chain.within p here).1) chain) kept keeps)
   chain_cause new long TableFull is cause = cause
   chain_cause new long OutOfMemory is cause = cause
   chain_cause new long Closed is cause = cause
@@ -72,7 +79,6 @@ module _ (old : Store) (slot : GameSlot) (says : SaysGame old.root slot) where
       layout = says.layout;
       packing = says.packing;
       limits = says.limits;
-      edges = says.edges;
       pages = pages;
       content = content;
       chain = subst (λ (first : ℕ). IsChain (length old.marks) first pages content (reads old)) says.first (chain honest);

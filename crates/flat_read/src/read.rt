@@ -1,12 +1,11 @@
 //! All that the root of a file names is read.
 ghost use Rattle.std.specs.Prelude.{◌≡◌, ◌≤◌, false, Some, length, IfOk, IfErr, IsTrue};
 ghost use Rattle.sector_disk.specs.Disk.{size, GoesOn, LeavesOnly, MayLeave};
-ghost use Rattle.page_chain.specs.Causes.{AllWait};
 ghost use Rattle.page_chain.specs.Links.{OnlyMarks};
 ghost use Rattle.page_store.specs.Store.{Works};
-ghost use Rattle.root_slot.specs.Slot.{Says, SaysGame};
+ghost use Rattle.root_slot.specs.Slot.{commits_in, Says, SaysGame};
 ghost use Rattle.flat_file.specs.File.{IsGame, AreGames, IsBacked, kept_of, pages_of};
-ghost use Rattle.flat_read.specs.Causes.{ReadCause};
+ghost use Rattle.flat_read.specs.Causes.{AllWait, ReadCause};
 ghost use Rattle.flat_read.specs.Reading.{IsRead};
 
 use crate::bytes::{game_of, length_of};
@@ -23,6 +22,7 @@ const LEAST_PAGES: u32 = 16;
 /// slot and pages spell no table whose parts fit together. A stop meanwhile leaves what it could leave before.
 pub fn read_all<P: Pages>(alloc: Global, store: &mut P) -> Result<Opened, PageFault>
     ensures games { IfOk result (λ opened. AreGames opened.game) }
+    ensures commits { IfOk result (λ opened. opened.commits ≡ commits_in (P.store store.old).root) }
     ensures backed { (P.store store.old).closed ≡ false → AllWait (P.store store.old)
         → IfOk result (λ opened. IsBacked (P.store store.new) (pages_of opened.game) (kept_of opened.game)) }
     ensures goes_on { GoesOn (P.store store.old).disk (P.store store.new).disk }

@@ -1,12 +1,13 @@
 -- The empty table is made, and opened.
-use Rattle.std.specs.Prelude.{min}
-use Rattle.std.proofs.Common.{◌≡◌, ◌⊎◌, inl, inr, ◌≤◌, ◌/◌, ℕ, false, true, List, None, IsTrue, ◌∙◌, ap, subst, arith}
+use Rattle.std.specs.Prelude.{min, Result, Ok, Err}
+use Rattle.std.specs.Result.{IfOk}
+use Rattle.std.proofs.Common.{◌≡◌, ◌⊎◌, inl, inr, ◌≤◌, ◌/◌, ℕ, false, true, List, None, IsTrue, sym, ◌∙◌, ap, subst, arith}
 use Rattle.std.proofs.Math.Nat.{le-min, le-div_iff_mul-le}
 use Rattle.sector_disk.specs.Disk.{Picture, Disk, size, GoesOn, LeavesOnly, MayLeave, AllSynced}
 use Rattle.sector_disk.specs.Moments.{goes_on_trans, leaves_then, leaves_more, still_honest}
 use Rattle.root_pair.specs.Rest.{rest_leaves, synced_rests}
 use Rattle.root_pair.specs.Root.{Begins, HoldsRoot, IsMade, OldOrNoneOrNew}
-use Rattle.root_slot.specs.Slot.{IsEmptySlot}
+use Rattle.root_slot.specs.Slot.{commits_in, IsEmptySlot}
 use Rattle.flat_file.specs.Held.{Stores}
 use Rattle.flat_read.specs.Laws.{a_picture_stores_one_table}
 use Rattle.game_file.specs.declared.fault.FileFault.{FileFault}
@@ -33,6 +34,11 @@ old_or_empty {root} empty disk picture either = λ table. each (either table)
     each (inl left) = inl left
     each (inr made) = inr (made_stores empty picture made)
 
+-- two facts of an answer give a third
+pub both_ok : {X E : Type 0} (r : Result X E) (P Q R : X → Type 0) → ((x : X) → P x → Q x → R x) → IfOk r P → IfOk r Q → IfOk r R
+both_ok (Ok x) P Q R f p q = f x p q
+both_ok (Err e) P Q R f p q = tt
+
 -- no is not yes
 pub never : false ≡ true → ⊥
 never is = cc
@@ -46,6 +52,10 @@ pub record IsLaidDown (root : List ℕ) (disk mid : Disk) : Type 0 where
   pub synced : IsTrue disk.honest → AllSynced mid.now
   pub moments : IsTrue disk.honest → LeavesOnly disk mid (OldOrNoneOrNew disk.now root)
   pub fresh : IsTrue disk.honest → ¬ Begins disk.now.contents
+
+-- if the slot that was laid down tells no commit, none is told
+pub counts_none : {root found : List ℕ} (disk mid : Disk) → IsLaidDown root disk mid → IsTrue disk.honest → HoldsRoot found mid.now.contents → commits_in root ≡ 0 → commits_in found ≡ 0
+counts_none {root} {found} disk mid laid honest holds none = ap commits_in (sym holds.is ∙ (laid.holds honest).is) ∙ none
 
 module _ {root : List ℕ} (empty : IsEmptySlot root) (disk mid : Disk) (count middle : ℕ) (more : count ≤ middle) (laid : IsLaidDown root disk mid) where
   -- a stop then leaves the empty table
@@ -71,11 +81,12 @@ module _ {root : List ℕ} (empty : IsEmptySlot root) (disk mid : Disk) (count m
       leaves_then goes_on (leaves_more (old_or_empty empty disk) (laid.moments honest))
       (leaves_more (λ picture left table. inr (left_empty honest picture left)) (leaves (still_honest laid.goes_on honest)))
 
-  pub created : (file : State) → IsOpenedFile Stores mid middle file → IsCreatedFile Stores disk count file
-  created file opened = record {
+  pub created : (file : State) → (IsTrue disk.honest → file.commits ≡ 0) → IsOpenedFile Stores mid middle file → IsCreatedFile Stores disk count file
+  created file commits opened = record {
     from = from_first file.disk file.failures opened.from;
     capacity = opened.capacity ∙ ap (λ (n : ℕ). min (n / 8) 1048576) laid.same_size;
     is_open = opened.is_open;
+    commits = commits;
     empty = λ honest. a_picture_stores_one_table mid.now.contents file.kept None (opened.stored (still_honest laid.goes_on honest)) (stored_empty honest);
     fresh = laid.fresh;
     leaves = leaves_through file.disk opened.from.goes_on opened.leaves;

@@ -11,7 +11,8 @@ use Rattle.table.specs.Fitting.{Fits}
 use Rattle.game_file.specs.Calls.{IsPut, IsNotPut}
 use Rattle.game_file.specs.Causes.{LoadCause, CommitCause}
 use Rattle.game_file.specs.Kept.{Kept, kept_as, text_kept}
-use Rattle.game_file.specs.State.{State}
+use Rattle.game_file.specs.State.{State, count_behind}
+use Rattle.root_slot.specs.Slot.{commits_in}
 use Rattle.game_file.specs.declared.fault.FileFault.{FileFault}
 use Rattle.game_file.specs.declared.fault.FileFault.TheVariants.{Disk, NotATable, AlreadyATable, Damaged, TooSmall, TableFull, OutOfMemory, Closed, Inconsistent}
 use Rattle.flat_file.specs.declared.game.Game.{Game}
@@ -21,7 +22,8 @@ use Rattle.flat_file.specs.Laws.{a_file_is_kept}
 use Rattle.flat_table.specs.Calls.{file_of, state_of, IsPutInFile, IsNotPutInFile}
 use Rattle.flat_table.specs.Causes.{PutCause}
 use Rattle.flat_table.specs.Drafts.{IsUnwritten}
-use Rattle.flat_table.proofs.Putting.{put_whole, not_put_whole}
+use Rattle.flat_table.proofs.Passing.{so_refused}
+use Rattle.flat_table.proofs.Putting.{nothing_put, put_whole, not_put_whole}
 use Rattle.flat_table.proofs.Room.{loading_room}
 
 -- the positions of a table have one length
@@ -30,17 +32,17 @@ one_length : (xs : List (List ℕ)) (m n : ℕ) → 0 < length xs → ((i : ℕ)
 one_length [] m n some one other = absurd (omega (arith, some))
 one_length (x ∷ xs) m n some one other = sym (one 0 x refl) ∙ other 0 x refl
 
-on_ok : {X E P Q : Type 0} (r : Result X E) → (P → Q) → OnOk r P → OnOk r Q
-on_ok (Ok x) f p = f p
-on_ok (Err e) f p = tt
+both_ok : {X E P Q R : Type 0} (r : Result X E) → (P → Q → R) → OnOk r P → OnOk r Q → OnOk r R
+both_ok (Ok x) f p q = f p q
+both_ok (Err e) f p q = tt
 
-on_err : {X E P Q : Type 0} (r : Result X E) → (P → Q) → OnErr r P → OnErr r Q
-on_err (Ok x) f p = tt
-on_err (Err e) f p = f p
+both_err : {X E P Q R : Type 0} (r : Result X E) → (P → Q → R) → OnErr r P → OnErr r Q → OnErr r R
+both_err (Ok x) f p q = tt
+both_err (Err e) f p q = f p q
 
 -- a file with these pages that keeps this
 abbrev with_kept : Store → Option Kept → State
-with_kept s k = record { disk = s.disk; failures = s.failures; capacity = length s.marks; closed = s.closed; kept = k }
+with_kept s k = record { disk = s.disk; failures = s.failures; capacity = length s.marks; closed = s.closed; commits = commits_in s.root; kept = k }
 
 -- a file that was not written is in the same state
 same_state : (was mid : File) → IsUnwritten was mid → state_of mid ≡ state_of was
@@ -55,30 +57,30 @@ its_game (Some was) kept some = (was, refl, same_Some (kept_in was) kept some)
 -- the file was only worked on since it was whole
 module _ (was mid new : File) (kept : Kept) (now : Stored (List ℕ)) (whole : IsFile was) (is : kept_of was.game ≡ Some kept) (same : IsUnwritten was mid) where
   -- the draft is put in the place of what was kept
-  pub committed : {X E None_left : Type 0} (r : Result X E) → None_left
+  pub committed : {X E None_left : Type 0} (r : Result X E) → None_left → OnOk r (commits_in new.store.root ≡ count_behind (commits_in mid.store.root))
       → ((g : Game) → mid.game ≡ Some g → IsFile mid → OnOk r (IsPutInFile (kept_as g.text.items now) mid new))
       → OnOk r ((IsFile new × None_left) × IsPut Stores (kept_as kept.text now) (state_of was) (state_of new))
-  committed r none put =
+  committed r none counts put =
       let (g, has, keeps) = its_game mid.game kept (same.kept ∙ is) in
       let text : g.text.items ≡ kept.text = ap (λ (k : Kept). k.text) keeps in
-      on_ok r
-      (λ it. ((it.stands, none),
+      both_ok r
+      (λ count it. ((it.stands, none),
         subst (λ (s : State). IsPut Stores (kept_as kept.text now) s (state_of new)) (same_state was mid same)
-        (subst (λ (t : List ℕ). IsPut Stores (kept_as t now) (state_of mid) (state_of new)) text (put_whole _ mid new it))))
-      (put g has (same.stands whole))
+        (subst (λ (t : List ℕ). IsPut Stores (kept_as t now) (state_of mid) (state_of new)) text (put_whole _ mid new count it))))
+      counts (put g has (same.stands whole))
 
   -- or it is not
-  pub not_committed : {X E None_left : Type 0} (r : Result X E) → None_left
+  pub not_committed : {X E None_left : Type 0} (r : Result X E) → None_left → OnErr r (new.store.root ≡ mid.store.root)
       → ((g : Game) → mid.game ≡ Some g → IsFile mid → OnErr r (IsNotPutInFile (kept_as g.text.items now) mid new))
       → OnErr r ((IsFile new × None_left) × IsNotPut Stores (kept_as kept.text now) (state_of was) (state_of new))
-  not_committed r none left =
+  not_committed r none roots left =
       let (g, has, keeps) = its_game mid.game kept (same.kept ∙ is) in
       let text : g.text.items ≡ kept.text = ap (λ (k : Kept). k.text) keeps in
-      on_err r
-      (λ it. ((it.stands, none),
+      both_err r
+      (λ root it. ((it.stands, none),
         subst (λ (s : State). IsNotPut Stores (kept_as kept.text now) s (state_of new)) (same_state was mid same)
-        (subst (λ (t : List ℕ). IsNotPut Stores (kept_as t now) (state_of mid) (state_of new)) text (not_put_whole _ mid new it))))
-      (left g has (same.stands whole))
+        (subst (λ (t : List ℕ). IsNotPut Stores (kept_as t now) (state_of mid) (state_of new)) text (not_put_whole _ mid new root it))))
+      roots (left g has (same.stands whole))
 
   -- a table with positions of another length does not fit
   unfit : (g : Game) → IsFile mid → mid.game ≡ Some g → kept_in g ≡ kept → ¬ Fits g.packed now → (n : ℕ) → Fits n kept.table → ¬ Fits n now
@@ -113,18 +115,13 @@ module _ (was mid new : File) (kept : Kept) (now : Stored (List ℕ)) (whole : I
       (λ fault cause. subst (λ (s : State). CommitCause kept.table now s (state_of new) fault) (same_state was mid same) (commit_cause g it has keeps fault cause))
       (why g has it)
 
--- where no command had begun, the table that is kept is in its own place
-pub idly_committed : (was mid : File) (kept : Kept) (now : Stored (List ℕ)) → IsFile was → kept_of was.game ≡ Some kept → IsUnwritten was mid → now ≡ kept.table
-    → mid.store.closed ≡ false → IsPut Stores (kept_as kept.text now) (state_of was) (state_of mid)
-idly_committed was mid kept now whole is same table is_open =
-    let kept_is : kept_of mid.game ≡ Some (kept_as kept.text now) = same.kept ∙ is ∙ ap (λ (t : Stored (List ℕ)). Some (kept_as kept.text t)) (sym table) in
-    subst (λ (s : State). IsPut Stores (kept_as kept.text now) s (state_of mid)) (same_state was mid same)
-    (record {
-      text = ap text_kept kept_is;
-      kept = λ honest. kept_is;
-      is_open = is_open;
-      leaves = λ honest. leaves_now mid.store.disk (λ picture left. inl (a_file_is_kept mid (same.stands whole) honest is_open picture left));
-    })
+-- nothing is put where a draft could not be made
+pub not_begun : {X E None_left : Type 0} (r : Result X E) (was mid : File) (kept : Kept) (now : Stored (List ℕ)) → IsFile was → IsUnwritten was mid → None_left
+    → OnErr r ((IsFile mid × None_left) × IsNotPut Stores (kept_as kept.text now) (state_of was) (state_of mid))
+not_begun r was mid kept now whole same none =
+    let it = same.stands whole in
+    so_refused r
+    ((it, none), subst (λ (s : State). IsNotPut Stores (kept_as kept.text now) s (state_of mid)) (same_state was mid same) (not_put_whole _ mid mid refl (nothing_put _ mid it)))
 
 -- a first table is not loaded
 pub load_cause : (text start : List ℕ) (old new : File) → IsFile old → kept_of old.game ≡ None → old.store.closed ≡ false → (fault : FileFault)

@@ -9,6 +9,8 @@ use Rattle.game_file.specs.Kept.{Kept}
 use Rattle.flat_file.specs.Laws.{a_file_is_kept}
 use Rattle.game_file.specs.Calls.{IsPut, IsNotPut}
 use Rattle.game_file.specs.Kept.{text_kept}
+use Rattle.game_file.specs.State.{count_behind}
+use Rattle.root_slot.specs.Slot.{commits_in}
 use Rattle.game_file.specs.Stops.{LeavesEither, LeavesTable}
 use Rattle.flat_table.specs.Calls.{file_of, state_of, IsPutInFile, IsNotPutInFile}
 
@@ -50,11 +52,19 @@ put_in_place is old new game now sound same fits backed is_open either = record 
 }
 
 -- a text and a table that were put are put as a file of any layout does
-pub put_whole : (is : Kept) (old new : File) → IsPutInFile is old new → IsPut Stores is (state_of old) (state_of new)
-put_whole is old new put = record { text = ap text_kept put.kept; kept = λ honest. put.kept; is_open = put.is_open; leaves = put.leaves }
+pub put_whole : (is : Kept) (old new : File) → commits_in new.store.root ≡ count_behind (commits_in old.store.root) → IsPutInFile is old new
+    → IsPut Stores is (state_of old) (state_of new)
+put_whole is old new commits put = record {
+  commits = commits;
+  text = ap text_kept put.kept;
+  kept = λ honest. put.kept;
+  is_open = put.is_open;
+  leaves = put.leaves;
+}
 
-pub not_put_whole : (is : Kept) (old new : File) → IsNotPutInFile is old new → IsNotPut Stores is (state_of old) (state_of new)
-not_put_whole is old new left = record {
+pub not_put_whole : (is : Kept) (old new : File) → new.store.root ≡ old.store.root → IsNotPutInFile is old new → IsNotPut Stores is (state_of old) (state_of new)
+not_put_whole is old new root left = record {
+  commits = ap commits_in root;
   text = ap (λ (game : Option Game). text_kept (kept_of game)) left.game;
   kept = λ honest. ap kept_of left.game;
   leaves = left.leaves;

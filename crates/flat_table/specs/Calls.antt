@@ -1,6 +1,7 @@
 -- What the calls on a file of this layout leave, said of its pages and of what is in memory.
 use Rattle.std.specs.Prelude.{◌≡◌, ◌⊎◌, length, false, Option, Some, IsTrue}
 use Rattle.page_store.specs.Store.{Store}
+use Rattle.root_slot.specs.Slot.{commits_in}
 use Rattle.game_file.specs.Kept.{Kept}
 use Rattle.game_file.specs.State.{State}
 use Rattle.game_file.specs.Stops.{LeavesEither, LeavesTable}
@@ -19,6 +20,7 @@ state_of file = record {
   failures = file.store.failures;
   capacity = length file.store.marks;
   closed = file.store.closed;
+  commits = commits_in file.store.root;
   kept = kept_of file.game;
 }
 

@@ -1,7 +1,12 @@
 //! A table in a file.
 ghost use Rattle.std.specs.Prelude.{◌≡◌, ◌≢◌, ◌≤◌, ◌^◌, ℕ, true, None, length, OnOk, OnErr, IfOk, IfErr, IsTrue};
 ghost use Rattle.table.specs.InMemory.{stored_in};
+ghost use Rattle.root_pair.specs.Root.{HoldsRoot};
+ghost use Rattle.root_slot.specs.Slot.{commits_in};
+ghost use Rattle.game_file.specs.Calls.{IsOpenedFile, IsNotOpened};
+ghost use Rattle.game_file.specs.Causes.{OpenCause};
 ghost use Rattle.game_file.specs.Kept.{kept_as};
+ghost use Rattle.game_file.specs.State.{count_behind};
 ghost use Rattle.flat_file.specs.declared.game.Game.{Game as Loaded};
 ghost use Rattle.flat_file.specs.File.{File, IsFile, kept_of, pages_of};
 ghost use Rattle.flat_file.specs.Held.{Stores};
@@ -38,12 +43,14 @@ pub trait TableFile {
 pub struct FlatTable<D: SectorDisk> {
     alloc: Global,
     store: PageStore<D>,
+    /// Commits since the file was made, as the committed root tells them.
     commits: u64,
     /// The table of the last commit, where a game is loaded.
     pub(crate) game: Option<Game>,
     /// What the command that is going on has made of it.
     pub(crate) draft: Option<MemTable>,
     ghost there: { ArePages (length store.marks.items) (pages_of game) },
+    ghost counted: { commits ≡ commits_in store.root.bytes },
 }
 
 impl<D: SectorDisk> TableFile for FlatTable<D> {
@@ -51,11 +58,47 @@ impl<D: SectorDisk> TableFile for FlatTable<D> {
 }
 
 impl<D: SectorDisk> FlatTable<D> {
+    /// Reads the whole table that this disk stores, after a sync: E1, E2, E4, E8.
+    fn read(alloc: Global, disk: D) -> Result<Self, Refused<D>>
+        ensures whole { IfOk result (λ t. IsFile (⟦<FlatTable<D> as TableFile>⟧.file t) × (t.draft ≡ None)) }
+        ensures ok { IfOk result (λ t. IsOpenedFile Stores (D.disk disk) (D.failures disk) (state_of (⟦<FlatTable<D> as TableFile>⟧.file t))) }
+        ensures root { IfOk result (λ t. IsTrue (D.disk disk).honest
+            → HoldsRoot (⟦<FlatTable<D> as TableFile>⟧.file t).store.root (D.disk disk).now.contents) }
+        ensures refused { IfErr result (λ back. IsNotOpened (D.disk disk) (D.failures disk) (D.disk back.disk) (D.failures back.disk)) }
+        ensures cause { IfErr result (λ back. OpenCause Stores (D.disk disk) (D.failures disk) (D.failures back.disk) back.fault) }
+    {
+        let mut store = match PageStore::open(alloc, disk) {
+            Ok(store) => store,
+            Err(refused) => {
+                return Err(Refused {
+                    disk: refused.disk,
+                    fault: refused.fault.into(),
+                });
+            }
+        };
+        match read_all(alloc, &mut store) {
+            Ok(opened) => Ok(FlatTable {
+                alloc,
+                store,
+                commits: opened.commits,
+                game: opened.game,
+                draft: None,
+            }),
+            Err(fault) => Err(Refused {
+                disk: store.into_disk(),
+                fault: fault.into(),
+            }),
+        }
+    }
+
     /// Stores a table that was worked on in the place of the last commit's, if a game is loaded.
     fn keep(&mut self, table: MemTable) -> Result<(), FileFault>
         requires { (⟦<MemTable as Table>⟧.counted table).known ≤ 2 ^ 24 }
         ensures draft { self.new.draft ≡ self.old.draft }
         ensures ahead { GoesAhead (⟦<FlatTable<D> as TableFile>⟧.file self.old).store (⟦<FlatTable<D> as TableFile>⟧.file self.new).store }
+        ensures commits { OnOk result (commits_in (⟦<FlatTable<D> as TableFile>⟧.file self.new).store.root
+            ≡ count_behind (commits_in (⟦<FlatTable<D> as TableFile>⟧.file self.old).store.root)) }
+        ensures root { OnErr result ((⟦<FlatTable<D> as TableFile>⟧.file self.new).store.root ≡ (⟦<FlatTable<D> as TableFile>⟧.file self.old).store.root) }
         ensures ok { (was : Loaded) → (⟦<FlatTable<D> as TableFile>⟧.file self.old).game ≡ Some was → IsFile (⟦<FlatTable<D> as TableFile>⟧.file self.old)
             → OnOk result (IsPutInFile (kept_as was.text.items (stored_in table)) (⟦<FlatTable<D> as TableFile>⟧.file self.old) (⟦<FlatTable<D> as TableFile>⟧.file self.new)) }
         ensures err { (was : Loaded) → (⟦<FlatTable<D> as TableFile>⟧.file self.old).game ≡ Some was → IsFile (⟦<FlatTable<D> as TableFile>⟧.file self.old)
@@ -80,6 +123,9 @@ impl<D: SectorDisk> FlatTable<D> {
         requires known { (⟦<MemTable as Table>⟧.counted table).known ≤ 2 ^ 24 }
         ensures draft { self.new.draft ≡ self.old.draft }
         ensures ahead { GoesAhead (⟦<FlatTable<D> as TableFile>⟧.file self.old).store (⟦<FlatTable<D> as TableFile>⟧.file self.new).store }
+        ensures commits { OnOk result (commits_in (⟦<FlatTable<D> as TableFile>⟧.file self.new).store.root
+            ≡ count_behind (commits_in (⟦<FlatTable<D> as TableFile>⟧.file self.old).store.root)) }
+        ensures root { OnErr result ((⟦<FlatTable<D> as TableFile>⟧.file self.new).store.root ≡ (⟦<FlatTable<D> as TableFile>⟧.file self.old).store.root) }
         ensures ok { IsFile (⟦<FlatTable<D> as TableFile>⟧.file self.old)
             → OnOk result (IsPutInFile (kept_as text.items (stored_in table)) (⟦<FlatTable<D> as TableFile>⟧.file self.old) (⟦<FlatTable<D> as TableFile>⟧.file self.new)) }
         ensures err { IsFile (⟦<FlatTable<D> as TableFile>⟧.file self.old)
@@ -139,7 +185,7 @@ impl<D: SectorDisk> GameFile for FlatTable<D> {
     fn create(alloc: Global, disk: D) -> Result<Self, Refused<D>> {
         let mut disk = disk;
         match create(&mut disk, &empty_slot()) {
-            Ok(()) => FlatTable::open(alloc, disk),
+            Ok(()) => FlatTable::read(alloc, disk),
             Err(fault) => Err(Refused {
                 disk,
                 fault: fault.into(),
@@ -148,28 +194,7 @@ impl<D: SectorDisk> GameFile for FlatTable<D> {
     }
 
     fn open(alloc: Global, disk: D) -> Result<Self, Refused<D>> {
-        let mut store = match PageStore::open(alloc, disk) {
-            Ok(store) => store,
-            Err(refused) => {
-                return Err(Refused {
-                    disk: refused.disk,
-                    fault: refused.fault.into(),
-                });
-            }
-        };
-        match read_all(alloc, &mut store) {
-            Ok(opened) => Ok(FlatTable {
-                alloc,
-                store,
-                commits: opened.commits,
-                game: opened.game,
-                draft: None,
-            }),
-            Err(fault) => Err(Refused {
-                disk: store.into_disk(),
-                fault: fault.into(),
-            }),
-        }
+        FlatTable::read(alloc, disk)
     }
 
     fn text(&self) -> Option<&[u8]> {
@@ -190,10 +215,10 @@ impl<D: SectorDisk> GameFile for FlatTable<D> {
     }
 
     fn commit(&mut self) -> Result<(), FileFault> {
+        self.begin()?;
         match self.draft.take() {
             Some(table) => self.keep(table),
-            None if self.store.is_closed() => Err(FileFault::Closed),
-            None => Ok(()),
+            None => unreachable!(),
         }
     }
 

@@ -1,7 +1,8 @@
 //! A text and a table in the place of others.
-ghost use Rattle.std.specs.Prelude.{◌≡◌, ◌≢◌, ◌≤◌, ◌^◌, Some, length, IfOk, IfErr, OnOk};
+ghost use Rattle.std.specs.Prelude.{◌≡◌, ◌≢◌, ◌≤◌, ◌^◌, Some, length, IfOk, IfErr, OnOk, OnErr};
 ghost use Rattle.table.specs.Fitting.{Fits};
 ghost use Rattle.table.specs.InMemory.{stored_in};
+ghost use Rattle.root_slot.specs.Slot.{commits_in};
 ghost use Rattle.flat_file.specs.File.{IsFile, pages_of};
 ghost use Rattle.flat_write.specs.Saving.{AreBytesOf, GoesAhead};
 ghost use Rattle.game_file.specs.Kept.{kept_as};
@@ -17,9 +18,6 @@ use page_store::Pages;
 use std::alloc::Global;
 use table::{MemTable, Table};
 use table_bytes::{Written, write_table};
-
-/// No file has room for more edges.
-const MOST_EDGES: u64 = 1 << 32;
 
 /// Stores a text and a table in the place of what the pages of the old game hold: a new chain on free pages, and then
 /// the root that names it. Answers the game as it is stored. After a refusal the old one is, but that after `Disk` in a
@@ -39,6 +37,8 @@ pub fn put<P: Pages>(
     requires there { ArePages (length (P.store store.old).marks) (pages_of old.now) }
     ensures pages { IfOk result (λ game. ArePages (length (P.store store.new).marks) game.pages.items) }
     ensures ahead { GoesAhead (P.store store.old) (P.store store.new) }
+    ensures commits { OnOk result (commits_in (P.store store.new).root ≡ commits) }
+    ensures root { OnErr result ((P.store store.new).root ≡ (P.store store.old).root) }
     ensures ok { IsFile (file_of (P.store store.old) old.now)
         → IfOk result (λ game. IsPutInFile (kept_as text.items (stored_in table)) (file_of (P.store store.old) old.now) (file_of (P.store store.new) (Some game))) }
     ensures err { IsFile (file_of (P.store store.old) old.now)
@@ -69,7 +69,7 @@ fn pages_in(game: &Option<Game>) -> &[u32]
 }
 
 /// The bytes of a text and a table. `Inconsistent` where the table's parts do not fit together or its positions have
-/// not so many bytes; `TableFull` where it has more edges than any file has bytes.
+/// not so many bytes.
 fn bytes_of(
     alloc: Global,
     text: &[u8],
@@ -91,8 +91,5 @@ fn bytes_of(
     let Ok(written) = write_table(alloc, text, packed, table) else {
         return Err(FileFault::OutOfMemory);
     };
-    if written.sizes.edges > MOST_EDGES {
-        return Err(FileFault::TableFull);
-    }
     Ok(written)
 }

@@ -1,5 +1,5 @@
 -- The old table is left in its place.
-use Rattle.std.proofs.Common.{◌≡◌, ◌≢◌, inl, inr, ◌⊎◌, ℕ, ◌≤◌, Bool, true, false, List, length, Option, Contains, sym, ◌∙◌, ap, subst, arith}
+use Rattle.std.proofs.Common.{◌≡◌, ◌≢◌, inl, inr, ◌⊎◌, ℕ, Bool, true, false, List, length, Option, Contains, sym, ◌∙◌, ap, subst, arith}
 use Rattle.std.specs.Prelude.{IsTrue}
 use Rattle.sector_disk.specs.Disk.{Picture, Shown, Grew}
 use Rattle.sector_disk.specs.Moments.{leaves_more}
@@ -78,7 +78,7 @@ write_cause long old new NotATable cause = cause
 write_cause long old new Damaged cause = cause
 write_cause long old new TableFull cause = cause
 write_cause long old new OutOfMemory cause = cause
-write_cause long old new Closed cause = λ some. cause
+write_cause long old new Closed cause = cause
 
 -- the chain was not written
 pub left_writing : (pages : List ℕ) (sizes : Sizes) (bytes : List ℕ) (old new : Store) (fault : PageFault) → IsSound old → old.closed ≡ false → Works old new
@@ -110,13 +110,13 @@ module _ (root : List ℕ) (old mid new : Store) (works : Works old mid) (commit
   commit_left OutOfMemory cause same = absurd cause
   commit_left Closed cause same = inl (subst (λ (s : Store). Works old s) (sym (same (λ is. cc))) works)
 
-  commit_cause : (long : ℕ) (fault : PageFault) → (1 ≤ long → mid.closed ≡ false) → CommitCause mid new fault → SaveCause long old new fault
+  commit_cause : (long : ℕ) (fault : PageFault) → mid.closed ≡ false → CommitCause mid new fault → SaveCause long old new fault
   commit_cause long DiskFailed open_ cause = grew_since cause.0
   commit_cause long NotATable open_ cause = absurd cause
   commit_cause long Damaged open_ cause = absurd cause
   commit_cause long TableFull open_ cause = absurd cause
   commit_cause long OutOfMemory open_ cause = absurd cause
-  commit_cause long Closed open_ cause = λ some. absurd (both _ (open_ some) cause)
+  commit_cause long Closed open_ cause = absurd (both _ open_ cause)
 
 pub left_committing : (was_pages pages bytes root : List ℕ) (sizes : Sizes) (old mid new : Store) (fault : PageFault) → IsSound old → old.closed ≡ false → IsExchanged was_pages pages bytes old mid
     → IsSlotOf (first_of pages) sizes root → Commits root mid new → new.marks ≡ mid.marks → CommitCause mid new fault → (fault ≢ DiskFailed → new ≡ mid)
@@ -127,7 +127,7 @@ left_committing was_pages pages bytes root sizes old mid new fault sound was_ope
   left = commit_left root old mid new exchanged.works commits fault cause same;
   untouched = inl was_open;
   still = λ other. ap (λ (s : Store). s.closed) (same other) ∙ exchanged.closed;
-  cause = commit_cause root old mid new exchanged.works commits (length bytes) fault exchanged.is_open cause;
+  cause = commit_cause root old mid new exchanged.works commits (length bytes) fault (exchanged.closed ∙ was_open) cause;
 }
 
 -- the table is as it was

@@ -1,5 +1,5 @@
 -- Pages are let go, one by one, after a chain is written on others.
-use Rattle.std.proofs.Common.{◌≡◌, inl, inr, ℕ, ◌+◌, get_or, ◌≤◌, ◌<◌, false, List, length, Contains, refl, sym, ◌∙◌, subst, arith}
+use Rattle.std.proofs.Common.{◌≡◌, inl, inr, ℕ, ◌+◌, get_or, ◌≤◌, ◌<◌, List, length, Contains, refl, sym, ◌∙◌, subst, arith}
 use Rattle.std.specs.Prelude.{IsTrue}
 use Rattle.std.proofs.lemmas.Bool.{cases_eq, cases_lt}
 use Rattle.std.proofs.lemmas.List.{get_or_default}
@@ -90,14 +90,13 @@ still_there pages works there p here = ((there p here).0, omega (arith, (there p
 
 -- a chain is written, and the old pages are let go
 pub exchanges : (was pages bytes : List ℕ) (old mid new : Store) → Works old mid → (IsTrue old.disk.honest → IsChain (length old.marks) (first_of pages) pages bytes (reads mid))
-    → ((p : ℕ) → Contains pages p → mark mid.marks p ≡ Fresh) → ((p : ℕ) → Contains pages p → mark old.marks p ≡ Free) → (1 ≤ length bytes → mid.closed ≡ false) → mid.closed ≡ old.closed
+    → ((p : ℕ) → Contains pages p → mark mid.marks p ≡ Fresh) → ((p : ℕ) → Contains pages p → mark old.marks p ≡ Free) → mid.closed ≡ old.closed
     → LetsGo was mid new → IsExchanged was pages bytes old new
-exchanges was pages bytes old mid new works chain handed freed open_ closed gone = record {
+exchanges was pages bytes old mid new works chain handed freed closed gone = record {
   works = works_then works gone.works;
   chain = λ honest. subst (λ (d : Disk). IsChain (length old.marks) (first_of pages) pages bytes (λ p. page d.now.contents p)) (sym gone.others.disk) (chain honest);
   freed = freed;
   handed = λ p here other. gone.kept p other ∙ handed p here;
   gone = gone.gone;
-  is_open = λ some. gone.others.closed ∙ open_ some;
   closed = gone.others.closed ∙ closed;
 }

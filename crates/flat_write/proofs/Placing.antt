@@ -1,5 +1,5 @@
 -- The new table comes into the place of the old one.
-use Rattle.std.proofs.Common.{◌≡◌, ◌≢◌, inl, inr, ◌⊎◌, ℕ, zero, suc, ◌<◌, ◌≤◌, ◌^◌, Bool, false, List, length, Option, None, Some, Contains, refl, sym, ◌∙◌, ap, subst, arith}
+use Rattle.std.proofs.Common.{◌≡◌, ◌≢◌, inl, inr, ◌⊎◌, ℕ, zero, suc, ◌<◌, ◌≤◌, Bool, false, List, length, Option, None, Some, Contains, refl, sym, ◌∙◌, ap, subst, arith}
 use Rattle.std.specs.Prelude.{IsTrue}
 use Rattle.std.proofs.lemmas.Bool.{cases_lt}
 use Rattle.std.proofs.lemmas.List.{get_or_past}
@@ -62,7 +62,6 @@ keeps_game root capacity pages bytes sizes kept read slot it chain = record {
   layout = slot.layout;
   packing = slot.packing;
   limits = subst (λ (s : Sizes). AreWithinLimits s) (sym slot.sizes) it.limits;
-  edges = subst (λ (s : Sizes). s.edges ≤ 2 ^ 32) (sym slot.sizes) it.edges;
   pages = pages;
   content = bytes;
   chain = subst (λ (n : ℕ). IsChain capacity n pages bytes read) (sym slot.first) chain;
@@ -78,13 +77,14 @@ module _ (was_pages pages bytes root : List ℕ) (sizes : Sizes) (old mid new : 
   old_stands honest = backed.stands honest was_open
 
   not_old : IsTrue old.disk.honest → (p : ℕ) → Contains pages p → Contains was_pages p → ⊥
-  not_old honest p here there = not_needed _ ((old_stands honest).needed p there).1 (exchanged.freed p here)
+  not_old honest p here there = not_needed _ ((old_stands honest).needed p there).2 (exchanged.freed p here)
 
   prepared : IsTrue old.disk.honest → IsPrepared (λ p. Contains pages p) (Keeps root (length old.marks) (Some is)) mid
   prepared honest = record {
     spelled = game_rests_on_its_pages root (length old.marks) is (reads mid) (keeps_game root (length old.marks) pages bytes sizes is (reads mid) slot it (exchanged.chain honest));
     kept = λ p here.
-        ((free_page old p sound (exchanged.freed p here)).0, subst (λ (m : Mark). IsTrue (keeps m)) (sym (exchanged.handed p here (not_old honest p here))) refl);
+        let page = free_page old p sound (exchanged.freed p here) in
+        (page.0, omega (arith, page.1, exchanged.works.same_pages), subst (λ (m : Mark). IsTrue (keeps m)) (sym (exchanged.handed p here (not_old honest p here))) refl);
   }
 
   stores_one : (picture : Picture) → Spells old.root (length old.marks) (Keeps old.root (length old.marks) was) picture ⊎ Spells root (length old.marks) (Keeps root (length old.marks) (Some is)) picture

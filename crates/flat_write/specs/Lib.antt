@@ -1,4 +1,3 @@
 pub mod Saving
 pub mod Causes
 pub mod Steps
-pub mod Laws

@@ -1,5 +1,5 @@
 -- What it is to put a table in the place of another.
-use Rattle.std.specs.Prelude.{◌≡◌, ℕ, ◌≤◌, ◌^◌, false, List, length}
+use Rattle.std.specs.Prelude.{◌≡◌, ℕ, ◌≤◌, false, List, length}
 use Rattle.sector_disk.specs.Disk.{GoesOn, size}
 use Rattle.page_store.specs.Store.{Store}
 use Rattle.retrograde.specs.Stored.{IsTable}
@@ -12,7 +12,6 @@ use Rattle.game_file.specs.Kept.{Kept}
 -- these bytes and sizes are those of this text and table, whose parts fit together, and are within the limits
 pub record AreBytesOf (kept : Kept) (sizes : Sizes) (bytes : List ℕ) : Type 0 where
   pub limits : AreWithinLimits sizes
-  pub edges : sizes.edges ≤ 2 ^ 32
   pub spells : Spells sizes bytes kept.text kept.table
   pub table : IsTable kept.table
   pub counts : counts_of kept.table ≡ sizes.counts

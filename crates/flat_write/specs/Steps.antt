@@ -35,7 +35,6 @@ pub record IsExchanged (was pages bytes : List ℕ) (old new : Store) : Type 0 w
   pub freed : (p : ℕ) → Contains pages p → mark old.marks p ≡ Free
   pub handed : (p : ℕ) → Contains pages p → (Contains was p → ⊥) → mark new.marks p ≡ Fresh
   pub gone : (p : ℕ) → Contains was p → IsGone (mark new.marks p)
-  pub is_open : 1 ≤ length bytes → new.closed ≡ false
   pub closed : new.closed ≡ old.closed
 
 -- the slot says that a table of these sizes begins at this page

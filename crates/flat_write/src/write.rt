@@ -6,6 +6,7 @@ ghost use Rattle.page_chain.specs.Chain.{first_of};
 ghost use Rattle.page_store.specs.Marks.{mark as mark_of};
 ghost use Rattle.page_store.specs.Store.{Works};
 ghost use Rattle.page_store.specs.declared.marks.Mark.TheVariants.{Waiting, Free};
+ghost use Rattle.root_slot.specs.Slot.{commits_in};
 ghost use Rattle.flat_file.specs.File.{IsBacked};
 ghost use Rattle.game_file.specs.Kept.{Kept};
 ghost use Rattle.flat_write.specs.Causes.{SaveCause};
@@ -20,8 +21,8 @@ use std::alloc::Global;
 use table_bytes::{Sizes, Written};
 
 /// Writes a chain with these bytes on free pages, and commits a root that names it in the place of the one that names the
-/// old chain, whose pages are free then. Answers the pages of the new chain. After a refusal the store is as after the
-/// last commit, or closed; it is closed by `Disk` alone.
+/// old chain, whose pages are free then. The new root tells this count of commits. Answers the pages of the new chain.
+/// After a refusal the store is as after the last commit, or closed; it is closed by `Disk` alone.
 ///
 /// A stop of the power within it leaves the old table or the new one, and after `Ok` the new.
 pub fn save<P: Pages>(
@@ -33,6 +34,8 @@ pub fn save<P: Pages>(
 ) -> Result<Vec<u32>, PageFault>
     requires there { (p : ℕ) → Contains old.now p → (1 ≤ p) × (p < length (P.store store.old).marks) }
     ensures ahead { GoesAhead (P.store store.old) (P.store store.new) }
+    ensures commits { OnOk result (commits_in (P.store store.new).root ≡ commits) }
+    ensures root { OnErr result ((P.store store.new).root ≡ (P.store store.old).root) }
     ensures stop { (was : Option Kept) (is : Kept) → IsBacked (P.store store.old) old.now was → AreBytesOf is written.now.sizes written.now.bytes.items
         → IsTrue (P.store store.old).disk.honest → (P.store store.old).closed ≡ false
         → LeavesEither Stores (P.store store.old).disk (P.store store.new).disk was (Some is) }
@@ -70,6 +73,8 @@ fn replace<P: Pages>(
     ensures ok { IfOk result (λ pages.
         IsReplaced old.now pages.items written.now.sizes written.now.bytes.items (P.store store.old) (P.store store.new)) }
     ensures err { IfErr result (IsLeft old.now written.now.sizes written.now.bytes.items (P.store store.old) (P.store store.new)) }
+    ensures commits { OnOk result (commits_in (P.store store.new).root ≡ commits) }
+    ensures root { OnErr result ((P.store store.new).root ≡ (P.store store.old).root) }
 {
     if store.is_closed() {
         return Err(PageFault::Closed);
@@ -108,9 +113,10 @@ fn release_all<P: Pages>(store: &mut P, pages: &[u32])
     }
 }
 
-/// The slot that names a chain of these pages.
+/// The slot that names a chain of these pages, after so many commits.
 fn slot_of(commits: u64, pages: &[u32], sizes: Sizes) -> [u8; 512]
-    ensures { IsSlotOf (first_of pages.now) sizes result }
+    ensures commits { commits_in result ≡ commits }
+    ensures names { IsSlotOf (first_of pages.now) sizes result }
 {
     let first = pages.first().copied().unwrap_or(0);
     game_slot(commits, &GameSlot { first, sizes })

@@ -3,7 +3,7 @@ use Rattle.std.specs.Prelude.{◌≡◌, ◌⊎◌, ℕ, ◌/◌, min, false, Op
 use Rattle.sector_disk.specs.Disk.{Disk, size, LeavesOnly, MayLeave}
 use Rattle.root_pair.specs.Root.{Begins}
 use Rattle.game_file.specs.Kept.{Kept, Layout, text_kept}
-use Rattle.game_file.specs.State.{State, GoesAhead, GoesFrom}
+use Rattle.game_file.specs.State.{State, GoesAhead, GoesFrom, count_behind}
 use Rattle.game_file.specs.Stops.{LeavesNow, LeavesTable, LeavesEither, OldOrEmpty}
 
 -- the disk as a refused `open` gives it back: a stop since then leaves what it could leave before
@@ -25,6 +25,7 @@ module _ (Stores : Layout) where
     pub from : GoesFrom disk count file.disk file.failures
     pub capacity : file.capacity ≡ min (size disk / 8) 1048576
     pub is_open : file.closed ≡ false
+    pub commits : IsTrue disk.honest → file.commits ≡ 0
     pub empty : IsTrue disk.honest → file.kept ≡ None
     pub fresh : IsTrue disk.honest → ¬ Begins disk.now.contents
     pub leaves : IsTrue disk.honest → LeavesOnly disk file.disk (OldOrEmpty Stores disk.now)
@@ -35,8 +36,9 @@ module _ (Stores : Layout) where
     pub leaves : IsTrue disk.honest → LeavesOnly disk back (OldOrEmpty Stores disk.now)
     pub kept : IsTrue disk.honest → Begins disk.now.contents → LeavesOnly disk back (MayLeave disk.now)
 
-  -- this is kept now in the place of what was, and a stop meanwhile leaves the one or the other
+  -- this is kept now in the place of what was, by one commit more, and a stop meanwhile leaves the one or the other
   pub record IsPut (is : Kept) (old new : State) : Type 0 where
+    pub commits : new.commits ≡ count_behind old.commits
     pub text : text_kept new.kept ≡ Some is.text
     pub kept : IsTrue old.disk.honest → new.kept ≡ Some is
     pub is_open : new.closed ≡ false
@@ -44,6 +46,7 @@ module _ (Stores : Layout) where
 
   -- what was kept still is, and a stop leaves it; where a write or a sync failed, it leaves that or what should have been put
   pub record IsNotPut (is : Kept) (old new : State) : Type 0 where
+    pub commits : new.commits ≡ old.commits
     pub text : text_kept new.kept ≡ text_kept old.kept
     pub kept : IsTrue old.disk.honest → new.kept ≡ old.kept
     pub leaves : IsTrue old.disk.honest → new.closed ≡ false → LeavesTable Stores old.disk new.disk old.kept
@@ -52,6 +55,7 @@ module _ (Stores : Layout) where
   -- nothing is put: what was kept still is, and a stop since then leaves it
   pub record IsKept (old new : State) : Type 0 where
     pub ahead : GoesAhead old new
+    pub commits : new.commits ≡ old.commits
     pub text : text_kept new.kept ≡ text_kept old.kept
     pub kept : IsTrue old.disk.honest → new.kept ≡ old.kept
     pub leaves : IsTrue old.disk.honest → old.closed ≡ false → LeavesTable Stores old.disk new.disk old.kept
@@ -60,6 +64,7 @@ module _ (Stores : Layout) where
   -- a stop now
   pub record IsAsked (old new : State) : Type 0 where
     pub ahead : GoesAhead old new
+    pub commits : new.commits ≡ old.commits
     pub text : text_kept new.kept ≡ text_kept old.kept
     pub kept : IsTrue old.disk.honest → new.kept ≡ old.kept
     pub closed : new.closed ≡ old.closed

@@ -1,16 +1,21 @@
 -- What is stated of a table's file between commands.
-use Rattle.std.specs.Prelude.{◌≡◌, ℕ, ◌≤◌, Bool, Option}
+use Rattle.std.specs.Prelude.{◌≡◌, ℕ, ◌+◌, ◌%◌, ◌^◌, ◌≤◌, Bool, Option}
 use Rattle.sector_disk.specs.Disk.{Disk, size, GoesOn}
 use Rattle.game_file.specs.Kept.{Kept}
 
--- its disk, how often that has failed, how many pages there are, whether a write or a sync has failed since it was opened, and
--- the text and table of the last commit, if a game is loaded
+-- its disk, how often that has failed, how many pages there are, whether a write or a sync has failed since it was opened, how many
+-- commits it counts since it was made, and the text and table of the last one, if a game is loaded
 pub record State : Type 0 where
   pub disk : Disk
   pub failures : ℕ
   pub capacity : ℕ
   pub closed : Bool
+  pub commits : ℕ
   pub kept : Option Kept
+
+-- the next count: 0 follows the greatest number of 64 bits
+abbrev pub count_behind : ℕ → ℕ
+count_behind count = (count + 1) % 2 ^ 64
 
 -- a later state of the same file
 pub record GoesAhead (old new : State) : Type 0 where

@@ -15,7 +15,7 @@ use Rattle.page_store.specs.Page.{page}
 use Rattle.page_store.specs.Store.{Store, reads, Works}
 use Rattle.page_store.specs.Works.{works_refl, works_then}
 use Rattle.page_chain.specs.Chain.{next_in, LeadsThrough, payloads, IsChain}
-use Rattle.page_chain.specs.Causes.{AllWait, ReadCause, LinkCause}
+use Rattle.page_chain.specs.Causes.{AreWaiting, ReadCause, LinkCause}
 use Rattle.page_chain.specs.Links.{IsOnce, OnlyMarks, IsLinked}
 use Rattle.page_chain.proofs.Linking.{LeadsTo, leads_more, leads_end, payloads_more, once_more, none_once, none_contained, contains_before, contains_last, same_way, got_seam, got_before, contains_got}
 
@@ -187,9 +187,9 @@ chain_ends {old} {now} {first} {count} {next} {pages} {content} long read enough
 
 -- and each page before it waits
 pub chain_waits : {old now : Store} {first count next : ℕ} {pages content : List ℕ} (long : ℕ) → IsRead old now first count next pages content
-    → 4092 * count < long → IsTrue old.disk.honest → AllWait old
-    → (ps other : List ℕ) → length other ≡ long → IsChain (length old.marks) first ps other (reads old) → mark now.marks next ≡ Waiting
-chain_waits {old} {now} {first} {count} {next} {pages} {content} long read more honest wait ps other same chain =
+    → 4092 * count < long → IsTrue old.disk.honest
+    → (ps other : List ℕ) → length other ≡ long → AreWaiting ps old → IsChain (length old.marks) first ps other (reads old) → mark now.marks next ≡ Waiting
+chain_waits {old} {now} {first} {count} {next} {pages} {content} long read more honest ps other same wait chain =
     let fewer : length pages < length ps = omega (arith, same, chain.enough, more, read.many) in
     let way = same_way (reads old) first next pages ps (read.leads honest) chain.leads (omega (arith, fewer)) in
     waits way.0 (omega (arith, ap (λ (xs : List ℕ). length xs) way.1, length-append pages way.0, fewer)) way.2 way.1
@@ -198,10 +198,9 @@ chain_waits {old} {now} {first} {count} {next} {pages} {content} long read more 
     waits [] some leads is = absurd (omega (arith, some))
     waits (r ∷ rest) some leads is =
         let at_seam : slice_get ps (length pages) ≡ Some r = ap (λ (xs : List ℕ). slice_get xs (length pages)) is ∙ got_seam pages rest r in
-        let within = chain.within r (contains_got ps (length pages) r at_seam) in
         let apart : Contains pages r → ⊥ = met_twice r at_seam is in
         ap (mark now.marks) leads.0 ∙ elim (read.kept r) [
-          | inl was ↦ was ∙ wait r within.0 within.1
+          | inl was ↦ was ∙ wait r (contains_got ps (length pages) r at_seam)
           | inr contained ↦ absurd (apart contained)
         ]
       where
@@ -215,7 +214,7 @@ pub link_cause : {old mid : Store} {first count next : ℕ} {pages content : Lis
 link_cause new long Disk read more (inl grew) = inl (omega (arith, grew, read.only.works.failures))
 link_cause new long Disk read more (inr most) = inr most
 link_cause new long NotATable read more never = absurd never
-link_cause new long Damaged read more other = λ honest wait ps content same chain. other (chain_waits long read more honest wait ps content same chain)
+link_cause new long Damaged read more other = λ honest ps content same wait chain. other (chain_waits long read more honest ps content same wait chain)
 link_cause new long TableFull read more never = absurd never
 link_cause new long OutOfMemory read more given = given
 link_cause new long Closed read more closed = sym read.only.closed ∙ closed

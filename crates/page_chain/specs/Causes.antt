@@ -1,5 +1,5 @@
 -- Why a chain is not read or written.
-use Rattle.std.specs.Prelude.{◌≡◌, ℕ, ◌*◌, ◌<◌, ◌≤◌, true, List, length, IsTrue}
+use Rattle.std.specs.Prelude.{◌≡◌, ℕ, ◌*◌, ◌<◌, true, List, length, Contains, IsTrue}
 use Rattle.sector_disk.specs.Disk.{Grew}
 use Rattle.page_store.specs.declared.fault.PageFault.{PageFault}
 use Rattle.page_store.specs.declared.fault.PageFault.TheVariants.{Disk, NotATable, Damaged, TableFull, OutOfMemory, Closed}
@@ -8,18 +8,18 @@ use Rattle.page_store.specs.Marks.{mark, free_count}
 use Rattle.page_store.specs.Store.{Store, reads}
 use Rattle.page_chain.specs.Chain.{IsChain}
 
--- each page of the store waits to be marked
-abbrev pub AllWait : Store → Type 0
-AllWait store = (p : ℕ) → 1 ≤ p → p < length store.marks → mark store.marks p ≡ Waiting
+-- each of these pages waits to be marked
+abbrev pub AreWaiting : List ℕ → Store → Type 0
+AreWaiting pages store = (p : ℕ) → Contains pages p → mark store.marks p ≡ Waiting
 
--- a chain is not read: the disk failed; the pages spell no chain of this length, as far as they waited and the disk is
--- honest; the store is closed; or memory is short
+-- a chain is not read: the disk failed; on an honest disk, there is no chain of this length from this page on all of
+-- whose pages wait; the store is closed; or memory is short
 abbrev pub ReadCause : ℕ → ℕ → Store → Store → PageFault → Type 0
 ReadCause first long old new Disk = Grew old.failures new.failures
 ReadCause first long old new NotATable = ⊥
 ReadCause first long old new Damaged =
-    IsTrue old.disk.honest → AllWait old
-    → (pages content : List ℕ) → length content ≡ long → ¬ IsChain (length old.marks) first pages content (reads old)
+    IsTrue old.disk.honest → (pages content : List ℕ) → length content ≡ long → AreWaiting pages old
+    → ¬ IsChain (length old.marks) first pages content (reads old)
 ReadCause first long old new TableFull = ⊥
 ReadCause first long old new OutOfMemory = Unit {0}
 ReadCause first long old new Closed = old.closed ≡ true

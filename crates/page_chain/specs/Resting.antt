@@ -1,11 +1,17 @@
 -- What holds of every chain.
-use Rattle.std.specs.Prelude.{◌≡◌, ℕ, suc, ◌≤◌, List, [], ◌∷◌, ◌++◌, length, take, drop, Contains, IsTrue}
+use Rattle.std.specs.Prelude.{◌≡◌, ℕ, suc, ◌*◌, ◌≤◌, false, List, [], ◌∷◌, ◌++◌, length, take, drop, slice_get, Contains, Some, IsTrue}
 use Rattle.std.proofs.Common.{refl, sym, ◌∙◌, ap, subst, arith}
+use Rattle.std.specs.List.{AllByRecursion, IsDistinct}
+use Rattle.std.proofs.Math.Dec.{eqb}
+use Rattle.std.proofs.lemmas.Bool.{eqb-true, ne_eqb}
+use Rattle.std.proofs.lemmas.Map.Steps.{length-le_from_distinct_below}
+use Rattle.std.proofs.lemmas.Map.Views.{Contains-from_any}
 use Rattle.page_store.specs.declared.marks.Mark.{Mark}
 use Rattle.page_store.specs.declared.marks.Mark.TheVariants.{Committed, Fresh}
 use Rattle.page_store.specs.Marks.{mark, needs, keeps}
 use Rattle.page_store.specs.Spelling.{SpelledBy, Stands, IsPrepared}
 use Rattle.page_store.specs.Store.{Store, reads}
+use Rattle.page_store.specs.Works.{fresh_within}
 use Rattle.page_chain.specs.Chain.{next_in, LeadsThrough, payloads, IsChain}
 
 -- the first of some pages is one of them, and so are the others
@@ -71,18 +77,39 @@ a_chain_fits_more capacity more first pages content bytes greater chain = record
   is = chain.is;
 }
 
+-- one of some pages that is at no place is another
+none_again : (p : ℕ) (ps : List ℕ) → ((k q : ℕ) → slice_get ps k ≡ Some q → p ≡ q → ⊥) → AllByRecursion (λ q. eqb p q ≡ false) ps
+none_again p [] apart = tt
+none_again p (q ∷ ps) apart = (ne_eqb p q (apart 0 q refl), none_again p ps (λ k r at. apart (suc k) r at))
+
+-- pages that are named once each are all different
+all_different : (ps : List ℕ) → ((i j p : ℕ) → slice_get ps i ≡ Some p → slice_get ps j ≡ Some p → i ≡ j) → IsDistinct eqb ps
+unfolding IsDistinct
+all_different [] once = tt
+all_different (p ∷ ps) once = (
+  none_again p ps (λ k q at same. omega (arith, once 0 (suc k) q (ap Some same) at)),
+  all_different ps (λ i j q at_i at_j. omega (arith, once (suc i) (suc j) q at_i at_j)),
+)
+
+-- a chain has no more pages than lie below its capacity, and so no more content
+pub a_chain_is_not_longer : (capacity first : ℕ) (pages content : List ℕ) (bytes : ℕ → List ℕ) → IsChain capacity first pages content bytes → length content ≤ 4092 * capacity
+a_chain_is_not_longer capacity first pages content bytes chain =
+    let many : length pages ≤ capacity =
+    length-le_from_distinct_below pages capacity (all_different pages chain.once) (λ q here. (chain.within q (Contains-from_any eqb-true q pages here)).1) in
+    omega (arith, many, chain.enough)
+
 -- a chain on pages that were handed out is prepared for the next commit
 pub a_chain_is_prepared : (capacity first : ℕ) (pages content : List ℕ) (store : Store) → IsChain capacity first pages content (reads store)
     → ((p : ℕ) → Contains pages p → mark store.marks p ≡ Fresh) → IsPrepared (λ p. Contains pages p) (IsChain capacity first pages content) store
 a_chain_is_prepared capacity first pages content store chain fresh = record {
   spelled = a_chain_rests_on_its_pages capacity first pages content (reads store) chain;
-  kept = λ p here. ((chain.within p here).0, subst (λ (m : Mark). IsTrue (keeps m)) (sym (fresh p here)) refl);
+  kept = λ p here. ((chain.within p here).0, fresh_within store.marks p (fresh p here), subst (λ (m : Mark). IsTrue (keeps m)) (sym (fresh p here)) refl);
 }
 
 -- a chain on pages that are marked stands
-pub a_chain_stands : (capacity first : ℕ) (pages content : List ℕ) (store : Store) → IsChain capacity first pages content (reads store)
+pub a_chain_stands : (capacity first : ℕ) (pages content : List ℕ) (store : Store) → capacity ≤ length store.marks → IsChain capacity first pages content (reads store)
     → ((p : ℕ) → Contains pages p → mark store.marks p ≡ Committed) → Stands (λ p. Contains pages p) (IsChain capacity first pages content) store
-a_chain_stands capacity first pages content store chain marked = record {
+a_chain_stands capacity first pages content store below chain marked = record {
   spelled = a_chain_rests_on_its_pages capacity first pages content (reads store) chain;
-  needed = λ p here. ((chain.within p here).0, subst (λ (m : Mark). IsTrue (needs m)) (sym (marked p here)) refl);
+  needed = λ p here. ((chain.within p here).0, omega (arith, below, (chain.within p here).1), subst (λ (m : Mark). IsTrue (needs m)) (sym (marked p here)) refl);
 }

@@ -1,5 +1,5 @@
 //! What holds of every chain: each is a law, which proofs cite by a call, or by the lemma of the same name in specs/.
-ghost use Rattle.std.specs.Prelude.{◌≡◌, ◌≤◌, ℕ, List, length, Contains};
+ghost use Rattle.std.specs.Prelude.{◌≡◌, ◌*◌, ◌≤◌, ℕ, List, length, Contains};
 ghost use Rattle.page_store.specs.declared.marks.Mark.TheVariants.{Committed, Fresh};
 ghost use Rattle.page_store.specs.Marks.{mark};
 ghost use Rattle.page_store.specs.Spelling.{SpelledBy, Stands, IsPrepared};
@@ -25,6 +25,12 @@ pub fn a_chain_fits_more()
         → IsChain capacity first pages content bytes → IsChain more first pages content bytes }
 {}
 
+/// A chain has no more content than all pages below its capacity hold.
+pub fn a_chain_is_not_longer()
+    ensures { (capacity first : ℕ) (pages content : List ℕ) (bytes : ℕ → List ℕ) → IsChain capacity first pages content bytes
+        → length content ≤ 4092 * capacity }
+{}
+
 /// A chain on pages that were handed out is prepared for the next commit.
 pub fn a_chain_is_prepared()
     ensures { (capacity first : ℕ) (pages content : List ℕ) (store : Store) → IsChain capacity first pages content (reads store)
@@ -34,7 +40,8 @@ pub fn a_chain_is_prepared()
 
 /// A chain on pages that are marked is one that the committed root may need.
 pub fn a_chain_stands()
-    ensures { (capacity first : ℕ) (pages content : List ℕ) (store : Store) → IsChain capacity first pages content (reads store)
+    ensures { (capacity first : ℕ) (pages content : List ℕ) (store : Store) → capacity ≤ length store.marks
+        → IsChain capacity first pages content (reads store)
         → ((p : ℕ) → Contains pages p → mark store.marks p ≡ Committed)
         → Stands (λ p. Contains pages p) (IsChain capacity first pages content) store }
 {}

@@ -74,7 +74,7 @@ not_system marks p system fresh = elim (cases_eq p 0) [
 
 not_needed : (marks : List Mark) (p q : ℕ) → mark marks q ≡ Fresh → IsNeeded marks p → p ≢ q
 not_needed marks p q fresh needed same =
-    let no : IsTrue false = subst (λ (m : Mark). IsTrue (needs m)) (ap (λ (n : ℕ). mark marks n) same ∙ fresh) needed.1 in
+    let no : IsTrue false = subst (λ (m : Mark). IsTrue (needs m)) (ap (λ (n : ℕ). mark marks n) same ∙ fresh) needed.2 in
     cc
 
 -- reads of the other pages
@@ -130,8 +130,8 @@ module _ (old new : Store) (at : ℕ) (sound : IsSound old) (fresh : mark old.ma
   }
 
 -- marks change, and of each page it stays whether the committed root may need it
-fewer_needed : (old new : List Mark) → ((p : ℕ) → needs (mark new p) ≡ needs (mark old p)) → (p : ℕ) → IsNeeded new p → IsNeeded old p
-fewer_needed old new same p needed = (needed.0, subst (λ (b : Bool). IsTrue b) (same p) needed.1)
+fewer_needed : (old new : List Mark) → length new ≡ length old → ((p : ℕ) → needs (mark new p) ≡ needs (mark old p)) → (p : ℕ) → IsNeeded new p → IsNeeded old p
+fewer_needed old new long same p needed = (needed.0, omega (arith, needed.1, long), subst (λ (b : Bool). IsTrue b) (same p) needed.2)
 
 works_remarked : (old new : Store) → IsRemarked old new → length new.marks ≡ length old.marks → ((p : ℕ) → mark new.marks p ≡ Waiting → mark old.marks p ≡ Waiting)
     → ((p : ℕ) → needs (mark new.marks p) ≡ needs (mark old.marks p)) → Works old new
@@ -145,7 +145,7 @@ works_remarked old new others long waiting same = record {
   waiting = waiting;
   needed = same;
   reads = λ honest p needed. ap (λ (d : Disk). page d.now.contents p) others.disk;
-  safe = λ honest safe. safe_remarked old new others long (fewer_needed old.marks new.marks same) safe;
+  safe = λ honest safe. safe_remarked old new others long (fewer_needed old.marks new.marks long same) safe;
   leaves = λ honest safe. subst (λ (d : Disk). LeavesOnly old.disk d (Saved old)) (sym others.disk) (leaves_now old.disk (safe_saves old safe));
 }
 

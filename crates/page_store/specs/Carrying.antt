@@ -1,8 +1,7 @@
 -- How calls, a commit and a stop carry what pages spell.
-use Rattle.std.specs.Prelude.{◌≡◌, ◌⊎◌, ℕ, ◌≤◌, Bool, List, length, IsTrue}
-use Rattle.std.proofs.Common.{refl, sym, ◌∙◌, ap, subst, inl, inr}
-use Rattle.std.proofs.lemmas.Bool.{cases_lt}
-use Rattle.std.proofs.lemmas.List.{ext_get_or, get_or_past}
+use Rattle.std.specs.Prelude.{◌≡◌, ◌⊎◌, ℕ, ◌≤◌, ◌<◌, Bool, List, length, IsTrue}
+use Rattle.std.proofs.Common.{refl, sym, ◌∙◌, ap, subst, arith, inl, inr}
+use Rattle.std.proofs.lemmas.List.{ext_get_or}
 use Rattle.sector_disk.specs.Disk.{Picture, Disk}
 use Rattle.sector_disk.specs.Moments.{leaves_more, leaves_then, still_honest}
 use Rattle.page_store.specs.declared.marks.Mark.{Mark}
@@ -66,7 +65,8 @@ pub committed_stands : {named : ℕ → Type 0} {Spelt : (ℕ → List ℕ) → 
 committed_stands root old new honest done prepared = record {
   spelled = spelled_as (reads old) (reads new) (λ p here. done.reads honest p (prepared.kept p here).0) prepared.spelled;
   needed = λ p here.
-      ((prepared.kept p here).0, subst (λ (b : Bool). IsTrue b) (sym (ap needs (done.marks.each p) ∙ committed_needs (mark old.marks p))) (prepared.kept p here).1);
+      let kept = prepared.kept p here in
+      (kept.0, omega (arith, kept.1, done.marks.same_length), subst (λ (b : Bool). IsTrue b) (sym (ap needs (done.marks.each p) ∙ committed_needs (mark old.marks p))) kept.2);
 }
 
 -- work, and then a commit
@@ -87,15 +87,14 @@ commit_carries {was_named} {Was} {named} {Is} root old mid new honest safe stand
     each picture (inr saved) = inr (subst (λ (n : ℕ). Spells root n Is picture) works.same_pages (saved_as_spells root mid prepared picture saved))
 
 -- before any page is marked, whatever pages are named may be needed
-pub opened_stands : {named : ℕ → Type 0} {Spelt : (ℕ → List ℕ) → Type 0} (disk : Disk) (count : ℕ) (store : Store) → IsOpened disk count store → ((p : ℕ) → named p → 1 ≤ p)
+pub opened_stands : {named : ℕ → Type 0} {Spelt : (ℕ → List ℕ) → Type 0} (disk : Disk) (count : ℕ) (store : Store) → IsOpened disk count store → ((p : ℕ) → named p → (1 ≤ p) × (p < length store.marks))
     → SpelledBy named (reads store) Spelt → Stands named Spelt store
-opened_stands {named} disk count store opened behind spelled = record { spelled = spelled; needed = λ p here. (behind p here, needed p (behind p here)) }
-  where
-    needed : (p : ℕ) → 1 ≤ p → IsTrue (needs (mark store.marks p))
-    needed p low = elim (cases_lt p (length store.marks)) [
-      | inl within ↦ subst (λ (m : Mark). IsTrue (needs m)) (sym (opened.marks p low within)) refl
-      | inr past ↦ subst (λ (m : Mark). IsTrue (needs m)) (sym (get_or_past store.marks p Committed past)) refl
-    ]
+opened_stands disk count store opened there spelled = record {
+  spelled = spelled;
+  needed = λ p here.
+      let (low, within) = there p here in
+      (low, within, subst (λ (m : Mark). IsTrue (needs m)) (sym (opened.marks p low within)) refl);
+}
 
 -- sealing keeps what rests on marked pages alone
 pub sealed_stands : {named : ℕ → Type 0} {Spelt : (ℕ → List ℕ) → Type 0} (old new : Store) → IsRemarked old new → AreSealed old.marks new.marks → ((p : ℕ) → named p → mark old.marks p ≡ Committed)
@@ -103,7 +102,8 @@ pub sealed_stands : {named : ℕ → Type 0} {Spelt : (ℕ → List ℕ) → Typ
 sealed_stands old new others marks marked stands = record {
   spelled = spelled_as (reads old) (reads new) (λ p here. ap (λ (d : Disk). page d.now.contents p) others.disk) stands.spelled;
   needed = λ p here.
-      ((stands.needed p here).0, subst (λ (m : Mark). IsTrue (needs m)) (sym (marks.each p ∙ ap (turned Fresh Released Free) (marked p here))) refl);
+      let needed = stands.needed p here in
+      (needed.0, omega (arith, needed.1, marks.same_length), subst (λ (m : Mark). IsTrue (needs m)) (sym (marks.each p ∙ ap (turned Fresh Released Free) (marked p here))) refl);
 }
 
 -- work and then `discard` go back to where nothing was handed out or released

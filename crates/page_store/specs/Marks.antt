@@ -1,5 +1,5 @@
 -- What each page is used for.
-use Rattle.std.specs.Prelude.{◌≡◌, ◌≢◌, ℕ, ◌+◌, ◌≤◌, Bool, true, false, List, [], ◌∷◌, length, slice_index_or, IsTrue}
+use Rattle.std.specs.Prelude.{◌≡◌, ◌≢◌, ℕ, ◌+◌, ◌≤◌, ◌<◌, Bool, true, false, List, [], ◌∷◌, length, slice_index_or, IsTrue}
 use Rattle.page_store.specs.declared.marks.Mark.{Mark}
 use Rattle.page_store.specs.declared.marks.Mark.TheVariants.{Committed, Waiting, Fresh, Released, Free}
 
@@ -23,13 +23,13 @@ keeps Fresh = true
 keeps Released = false
 keeps Free = false
 
--- it is a page that the committed root may need
+-- it is a page that the committed root may need; behind the last page is none
 abbrev pub IsNeeded : List Mark → ℕ → Type 0
-IsNeeded marks p = (1 ≤ p) × IsTrue (needs (mark marks p))
+IsNeeded marks p = (1 ≤ p) × (p < length marks) × IsTrue (needs (mark marks p))
 
 -- it is a page that the next root may need
 abbrev pub IsKept : List Mark → ℕ → Type 0
-IsKept marks p = (1 ≤ p) × IsTrue (keeps (mark marks p))
+IsKept marks p = (1 ≤ p) × (p < length marks) × IsTrue (keeps (mark marks p))
 
 -- another mark for what was handed out, for what was released, and for what was not marked yet
 abbrev pub turned : Mark → Mark → Mark → Mark → Mark

@@ -1,13 +1,24 @@
 -- How the layers above tell a store from call to call.
-use Rattle.std.specs.Prelude.{◌≡◌, ◌⊎◌, ℕ, Bool, List, length, IsTrue}
+use Rattle.std.specs.Prelude.{◌≡◌, ◌⊎◌, ℕ, ◌<◌, Bool, List, length, IsTrue}
 use Rattle.std.proofs.Common.{refl, sym, ◌∙◌, ap, subst, arith, inl, inr}
+use Rattle.std.proofs.lemmas.Bool.{cases_lt}
+use Rattle.std.proofs.lemmas.List.{get_or_past}
 use Rattle.sector_disk.specs.Disk.{Picture, Disk, GoesOn, LeavesOnly}
 use Rattle.sector_disk.specs.Moments.{goes_on_refl, goes_on_trans, leaves_now, leaves_then, leaves_more, still_honest}
 use Rattle.root_pair.specs.Root.{HoldsRoot, root_of, IsAtRest}
 use Rattle.root_pair.specs.Rest.{rest_leaves}
-use Rattle.page_store.specs.Marks.{IsNeeded}
+use Rattle.page_store.specs.declared.marks.Mark.{Mark}
+use Rattle.page_store.specs.declared.marks.Mark.TheVariants.{Committed, Fresh}
+use Rattle.page_store.specs.Marks.{mark, IsNeeded}
 use Rattle.page_store.specs.Page.{page_same}
 use Rattle.page_store.specs.Store.{Store, Saved, SavedAs, StopLeaves, IsSafe, Works, IsRemarked}
+
+-- a page that was handed out lies before the end
+pub fresh_within : (marks : List Mark) (p : ℕ) → mark marks p ≡ Fresh → p < length marks
+fresh_within marks p fresh = elim (cases_lt p (length marks)) [
+  | inl within ↦ within
+  | inr past ↦ absurd (let no : Committed ≡ Fresh = sym (get_or_past marks p Committed past) ∙ fresh in cc)
+]
 
 -- a stop leaves the committed root and its pages
 pub safe_saves : (store : Store) → IsSafe store → StopLeaves store (Saved store)
@@ -35,7 +46,7 @@ works_refl store = record {
 
 -- what the earlier store needs, the later needs
 pub still_needed : {old new : Store} → Works old new → (p : ℕ) → IsNeeded old.marks p → IsNeeded new.marks p
-still_needed works p needed = (needed.0, subst (λ (b : Bool). IsTrue b) (sym (works.needed p)) needed.1)
+still_needed works p needed = (needed.0, omega (arith, needed.1, works.same_pages), subst (λ (b : Bool). IsTrue b) (sym (works.needed p)) needed.2)
 
 -- what is saved of the later store is saved of the earlier
 pub saved_before : {old new : Store} → Works old new → IsTrue old.disk.honest → (picture : Picture) → Saved new picture → Saved old picture

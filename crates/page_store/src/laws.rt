@@ -1,5 +1,5 @@
 //! What holds of every store: each is a law, which proofs cite by a call, or by the lemma of the same name in specs/.
-ghost use Rattle.std.specs.Prelude.{◌≡◌, ◌≤◌, ℕ, List, length, IsTrue};
+ghost use Rattle.std.specs.Prelude.{◌≡◌, ◌≤◌, ◌<◌, ℕ, List, length, IsTrue};
 ghost use Rattle.sector_disk.specs.Disk.{Disk};
 ghost use Rattle.page_store.specs.declared.marks.Mark.TheVariants.{Committed, Waiting};
 ghost use Rattle.page_store.specs.Marks.{mark, AreSealed, AreDiscarded};
@@ -37,7 +37,8 @@ pub fn works_stands<S: Spelling>()
 
 /// As the store is opened, each page is kept that the root may name.
 pub fn opened_stands<S: Spelling>()
-    ensures { (disk : Disk) (count : ℕ) (store : Store) → IsOpened disk count store → ((p : ℕ) → S.named p → 1 ≤ p)
+    ensures { (disk : Disk) (count : ℕ) (store : Store) → IsOpened disk count store
+        → ((p : ℕ) → S.named p → (1 ≤ p) × (p < length store.marks))
         → SpelledBy S.named (reads store) S.spelt → Stands S.named S.spelt store }
 {}
 

@@ -1,5 +1,5 @@
 -- A number that was put into a slot is read there, and the numbers before it stay.
-use Rattle.std.proofs.Common.{◌≡◌, ℕ, ◌+◌, ◌^◌, ◌≤◌, ◌<◌, ◌%◌, List, ◌++◌, length, take, drop, refl, inl, inr, sym, ◌∙◌, ap, arith}
+use Rattle.std.proofs.Common.{◌≡◌, ℕ, ◌+◌, ◌^◌, ◌≤◌, ◌<◌, List, ◌++◌, length, take, drop, refl, inl, inr, sym, ◌∙◌, ap, arith}
 use Rattle.std.proofs.Math.Nat.{mod-eq_of_lt}
 use Rattle.std.proofs.lemmas.List.{append_assoc, drop_at, length-take-le, drop-take, get_or-drop, get_or-replicate, get_or_past, length-replicate}
 use Rattle.std.proofs.lemmas.Bool.{cases_lt}
@@ -24,6 +24,19 @@ long_there a j n xs ys rest within small is =
     (drop_at (take a xs) (ys ++ drop j (drop a xs)) a (length-take-le a xs within) ∙ ap (λ (l : List ℕ). l ++ drop j (drop a xs)) is ∙ append_assoc (bytes_high_first 8 n) rest (drop j (drop a xs)))
     ∙ big_from-bytes 8 n (rest ++ drop j (drop a xs))
     ∙ mod-eq_of_lt small
+
+-- eight bytes that are as they were are the number that they were
+pub long_same : (old new : List ℕ) (at : ℕ) → ((k : ℕ) → at ≤ k → k < at + 8 → slice_index new k ≡ slice_index old k) → big_number 8 (drop at new) ≡ big_number 8 (drop at old)
+long_same old new at same =
+    let each : (i : ℕ) → i < 8 → slice_index (drop at new) i ≡ slice_index (drop at old) i =
+    λ (i : ℕ) low. get_or-drop at new i 0 ∙ same (at + i) (omega arith) (omega (arith, low)) ∙ sym (get_or-drop at old i 0) in
+    rw (each 0 (omega arith), each 1 (omega arith), each 2 (omega arith), each 3 (omega arith), each 4 (omega arith), each 5 (omega arith), each 6 (omega arith), each 7 (omega arith)) refl
+
+-- eight zero bytes are the number zero
+pub long_zero : (root : List ℕ) (at : ℕ) → ((k : ℕ) → at ≤ k → slice_index root k ≡ 0) → big_number 8 (drop at root) ≡ 0
+long_zero root at zero =
+    let each : (i : ℕ) → slice_index (drop at root) i ≡ 0 = λ (i : ℕ). get_or-drop at root i 0 ∙ zero (at + i) (omega arith) in
+    rw (each 0, each 1, each 2, each 3, each 4, each 5, each 6, each 7) refl
 
 -- four zero bytes are the number zero
 pub word_zero : (root : List ℕ) (at : ℕ) → ((k : ℕ) → at ≤ k → slice_index root k ≡ 0) → big_number 4 (drop at root) ≡ 0

@@ -1,5 +1,5 @@
 -- What the 512 bytes of a root slot say. All numbers have their highest byte first.
-use Rattle.std.specs.Prelude.{◌≡◌, ℕ, ◌≤◌, ◌<◌, ◌^◌, List, drop, slice_index, Option, None, Some}
+use Rattle.std.specs.Prelude.{◌≡◌, ℕ, ◌+◌, ◌%◌, ◌≤◌, ◌<◌, ◌^◌, List, drop, slice_index, Option, None, Some}
 use Rattle.byteorder.specs.Endian.{big_number}
 use Rattle.table_bytes.specs.declared.sizes.Sizes.{Sizes}
 use Rattle.table_bytes.specs.Numbers.{AreWithinLimits}
@@ -20,6 +20,10 @@ layout_in root = word_at root 0
 -- how positions are packed, 0 where no game is loaded
 abbrev pub packing_in : List ℕ → ℕ
 packing_in root = word_at root 4
+
+-- how many commits there were since the file was made; 0 follows the greatest number
+abbrev pub commits_in : List ℕ → ℕ
+commits_in root = long_at root 8
 
 -- the first page of the chain
 abbrev pub first_in : List ℕ → ℕ

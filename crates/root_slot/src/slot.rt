@@ -1,7 +1,7 @@
 //! The root slot of layout 1: what its 512 bytes say.
 ghost use Rattle.std.specs.Prelude.{◌≡◌, ◌↔◌, ◌+◌, ◌≤◌, ◌<◌, ℕ, true, slice_index, IfSome, IfNone};
 ghost use Rattle.table_bytes.specs.Numbers.{AreWithinLimits};
-ghost use Rattle.root_slot.specs.Slot.{word_at as word_in, long_at as long_in, layout_in, packing_in, first_in, sizes_in as sizes_of, IsEmptySlot, AreZero, Says, IsNoSlot};
+ghost use Rattle.root_slot.specs.Slot.{word_at as word_in, long_at as long_in, layout_in, packing_in, commits_in, first_in, sizes_in as sizes_of, IsEmptySlot, AreZero, Says, IsNoSlot};
 
 use byteorder::{BigEndian, ByteOrder};
 use retrograde::Counts;
@@ -55,6 +55,7 @@ fn put_word(root: &mut [u8; 512], at: usize, number: u32)
     requires { at ≤ 508 }
     ensures is { word_in root.new at ≡ number }
     ensures before { (k : ℕ) → k + 4 ≤ at → word_in root.new k ≡ word_in root.old k }
+    ensures ahead { (k : ℕ) → k < at → slice_index root.new k ≡ slice_index root.old k }
     ensures behind { (k : ℕ) → at + 4 ≤ k → slice_index root.new k ≡ slice_index root.old k }
 {
     BigEndian::write_u32(&mut root[at..at + 4], number);
@@ -65,6 +66,8 @@ fn put_long(root: &mut [u8; 512], at: usize, number: u64)
     requires { at ≤ 504 }
     ensures is { long_in root.new at ≡ number }
     ensures before { (k : ℕ) → k + 4 ≤ at → word_in root.new k ≡ word_in root.old k }
+    ensures ahead { (k : ℕ) → k < at → slice_index root.new k ≡ slice_index root.old k }
+    ensures behind { (k : ℕ) → at + 8 ≤ k → slice_index root.new k ≡ slice_index root.old k }
 {
     BigEndian::write_u64(&mut root[at..at + 8], number);
 }
@@ -126,6 +129,7 @@ fn are_zero(root: &[u8; 512], from: usize, to: usize) -> bool
 /// What the slot says; none where that is no table of this layout.
 pub fn read_slot(root: &[u8; 512]) -> Option<Slot>
     ensures says { IfSome result (λ slot. Says root.now slot.game) }
+    ensures commits { IfSome result (λ slot. slot.commits ≡ commits_in root.now) }
     ensures none { IfNone result (IsNoSlot root.now) }
 {
     if word_at(root, 0) != LAYOUT {
@@ -155,6 +159,7 @@ pub fn read_slot(root: &[u8; 512]) -> Option<Slot>
 /// The slot of a table in which no game is loaded, after no commit.
 pub fn empty_slot() -> [u8; 512]
     ensures empty { IsEmptySlot result }
+    ensures commits { commits_in result ≡ 0 }
     ensures zero { (k : ℕ) → 4 ≤ k → slice_index result k ≡ 0 }
 {
     let mut root = [0; 512];
@@ -162,12 +167,15 @@ pub fn empty_slot() -> [u8; 512]
     root
 }
 
-/// The slot of a table with a game.
+/// The slot of a table with a game, after so many commits. All bytes without a field are zero.
 pub fn game_slot(commits: u64, game: &GameSlot) -> [u8; 512]
     ensures layout { layout_in result ≡ 1 }
     ensures packing { packing_in result ≡ 1 }
+    ensures commits { commits_in result ≡ commits }
     ensures first { first_in result ≡ game.now.first }
     ensures sizes { sizes_of result ≡ game.now.sizes }
+    ensures between { AreZero 44 60 result }
+    ensures behind { AreZero 68 512 result }
 {
     let GameSlot { first, sizes } = *game;
     let mut root = empty_slot();

@@ -9,7 +9,7 @@ use Rattle.retrograde.specs.Stored.{Stored, HasRecord}
 use Rattle.retrograde.specs.Edges.{IsAfter, IsNextEdge, HasNoMoreEdges}
 use Rattle.retrograde.proofs.Adding.{none_in_empty}
 use Rattle.table.specs.Memory.{edge_cmp}
-use Rattle.table_bytes.specs.Bytes.{IsRecord, IsCell, IsEdge}
+use Rattle.table_bytes.specs.Bytes.{IsPlainRecord, IsPlainCell, IsEdge}
 use Rattle.table_bytes.specs.Items.{spelled_more}
 use Rattle.table_bytes.specs.Writing.{Writes, WritesOne, WritesCell, WritesEdges, IsBefore}
 use Rattle.table_bytes.proofs.EdgeLemmas.{ComesFirst, is_less, sorted_push, all_contained, in_front, front_or_last, at_seam}
@@ -51,17 +51,17 @@ pair_at (z ∷ xs) (w ∷ ys) zero x y a b = both a b
 pair_at (z ∷ xs) (w ∷ ys) (suc n) x y a b = pair_at xs ys n x y a b
 
 pub writes_cell : (packed n : ℕ) (stored : Stored (List ℕ)) (front old new : List ℕ) → ((x : List ℕ) (i : ℕ) → slice_get stored.positions i ≡ Some x → length x ≡ packed)
-    → Writes (IsCell packed) (take n (zip stored.positions stored.records)) front old → WritesCell stored n old new
-    → Writes (IsCell packed) (take (n + 1) (zip stored.positions stored.records)) front new
+    → Writes (IsPlainCell packed) (take n (zip stored.positions stored.records)) front old → WritesCell stored n old new
+    → Writes (IsPlainCell packed) (take (n + 1) (zip stored.positions stored.records)) front new
 writes_cell packed n stored front old new long so_far one =
     let here : length one.cell.0 ≡ packed = long one.cell.0 n one.position in
-    let written : WritesOne (IsCell packed) one.cell old new = subst (λ (k : ℕ). WritesOne (IsCell k) one.cell old new) here one.written in
-    writes_next (IsCell packed) (zip stored.positions stored.records) n one.cell front old new so_far
+    let written : WritesOne (IsPlainCell packed) one.cell old new = subst (λ (k : ℕ). WritesOne (IsPlainCell k) one.cell old new) here one.written in
+    writes_next (IsPlainCell packed) (zip stored.positions stored.records) n one.cell front old new so_far
     (pair_at stored.positions stored.records n one.cell.0 one.cell.1 one.position one.recorded) written
 
 -- a position, and behind it its record
 pub cell_written : (stored after : Stored (List ℕ)) (n : ℕ) (x slice : List ℕ) (r : Record) (old mid new : List ℕ) → slice_get stored.positions n ≡ Some x → after ≡ stored → HasRecord after n r
-    → slice ≡ x → mid ≡ old ++ slice → WritesOne IsRecord r mid new → WritesCell stored n old new
+    → slice ≡ x → mid ≡ old ++ slice → WritesOne IsPlainRecord r mid new → WritesCell stored n old new
 cell_written stored after n x slice r old mid new position same recorded slice_is mid_is one = record {
   cell = (x, r);
   position = position;

@@ -29,12 +29,25 @@ pub record IsRecord (bytes : List ℕ) (r : Record) : Type 0 where
   pub left : big_number 4 (drop 8 bytes) ≡ r.left
   pub successors : big_number 4 (drop 12 bytes) ≡ r.successors
 
+-- they are those of a record as it is written: the two bytes that are ignored are zero
+pub record IsPlainRecord (bytes : List ℕ) (r : Record) : Type 0 where
+  pub is : IsRecord bytes r
+  pub third : slice_index bytes 2 ≡ 0
+  pub fourth : slice_index bytes 3 ≡ 0
+
 -- these bytes are a position of this many bytes, and behind it its record
 pub record IsCell (packed : ℕ) (bytes : List ℕ) (cell : List ℕ × Record) : Type 0 where
   pub long : length cell.0 ≡ packed
   pub behind : List ℕ
   pub is : bytes ≡ cell.0 ++ behind
   pub is_record : IsRecord behind cell.1
+
+-- these bytes are a position of this many bytes, and behind it its record as it is written
+pub record IsPlainCell (packed : ℕ) (bytes : List ℕ) (cell : List ℕ × Record) : Type 0 where
+  pub long : length cell.0 ≡ packed
+  pub behind : List ℕ
+  pub is : bytes ≡ cell.0 ++ behind
+  pub is_record : IsPlainRecord behind cell.1
 
 -- these 8 bytes are the number that is led to and the number that leads there
 pub record IsEdge (bytes : List ℕ) (edge : ℕ × ℕ) : Type 0 where

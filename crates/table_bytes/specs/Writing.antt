@@ -4,7 +4,7 @@ use Rattle.std.specs.List.Sorted.{IsStrictlySortedBy}
 use Rattle.retrograde.specs.declared.records.Record.{Record}
 use Rattle.retrograde.specs.Stored.{Stored, HasRecord}
 use Rattle.table.specs.Memory.{edge_cmp}
-use Rattle.table_bytes.specs.Bytes.{IsCell, IsEdge}
+use Rattle.table_bytes.specs.Bytes.{IsPlainCell, IsEdge}
 use Rattle.table_bytes.specs.Spelled.{AreSpelled}
 
 -- new is old and behind it the bytes of these items
@@ -24,7 +24,7 @@ pub record WritesCell (stored : Stored (List ℕ)) (number : ℕ) (old new : Lis
   pub cell : List ℕ × Record
   pub position : slice_get stored.positions number ≡ Some cell.0
   pub recorded : HasRecord stored number cell.1
-  pub written : WritesOne (IsCell (length cell.0)) cell old new
+  pub written : WritesOne (IsPlainCell (length cell.0)) cell old new
 
 -- the edge to i from p is before those to s from first on
 abbrev pub IsBefore : ℕ → ℕ → ℕ → ℕ → Type 0

@@ -1,10 +1,11 @@
 //! The bytes of a record.
-ghost use Rattle.std.specs.Prelude.{◌≡◌, ◌++◌, Option, length, IfSome, IfNone, OnOk};
+ghost use Rattle.std.specs.Prelude.{◌≡◌, ◌++◌, Option, length, IfSome, IfNone, IfErr, OnOk};
 ghost use Rattle.byteorder.specs.Endian.{big_bytes};
 ghost use Rattle.rbg_game.specs.declared.roles.Player.{Player};
 ghost use Rattle.retrograde.specs.declared.records.State.{State};
 ghost use Rattle.retrograde.specs.declared.records.Record.{Record};
-ghost use Rattle.table_bytes.specs.Bytes.{state_byte, winner_byte, IsRecord};
+ghost use Rattle.table.specs.declared.fault.TableFault.TheVariants.{OutOfMemory};
+ghost use Rattle.table_bytes.specs.Bytes.{state_byte, winner_byte, IsRecord, IsPlainRecord};
 ghost use Rattle.table_bytes.specs.Writing.{WritesOne};
 
 use byteorder::{BigEndian, ByteOrder};
@@ -84,7 +85,8 @@ pub fn read_record(bytes: &[u8]) -> Option<Record>
 
 /// Puts the four bytes of a number behind others.
 pub fn push_number(bytes: &mut Vec<u8>, number: u32) -> Result<(), TableFault>
-    ensures { OnOk result (bytes.new.items ≡ bytes.old.items ++ big_bytes 4 number) }
+    ensures bytes { OnOk result (bytes.new.items ≡ bytes.old.items ++ big_bytes 4 number) }
+    ensures memory { IfErr result (λ fault. fault ≡ OutOfMemory) }
 {
     let mut four = [0; 4];
     BigEndian::write_u32(&mut four, number);
@@ -92,9 +94,10 @@ pub fn push_number(bytes: &mut Vec<u8>, number: u32) -> Result<(), TableFault>
     Ok(())
 }
 
-/// Puts the 16 bytes of a record behind others.
+/// Puts the 16 bytes of a record behind others. The third and the fourth are zero.
 pub fn push_record(bytes: &mut Vec<u8>, kept: &Record) -> Result<(), TableFault>
-    ensures { OnOk result (WritesOne IsRecord kept.now bytes.old.items bytes.new.items) }
+    ensures bytes { OnOk result (WritesOne IsPlainRecord kept.now bytes.old.items bytes.new.items) }
+    ensures memory { IfErr result (λ fault. fault ≡ OutOfMemory) }
 {
     let head = [state_byte(kept.state), winner_byte(kept.winner), 0, 0];
     bytes.extend_from_slice(&head)?;

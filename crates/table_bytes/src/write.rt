@@ -1,9 +1,9 @@
 //! A table becomes bytes.
-ghost use Rattle.std.specs.Prelude.{◌≡◌, ◌↔◌, ◌≤◌, ◌^◌, ℕ, List, length, slice_get, Some, IfOk, OnOk};
+ghost use Rattle.std.specs.Prelude.{◌≡◌, ◌↔◌, ◌≤◌, ◌^◌, ℕ, List, length, slice_get, Some, IfOk, IfErr, OnOk};
 ghost use Rattle.retrograde.specs.Stored.{IsTable};
 ghost use Rattle.retrograde.specs.Changes.{counts_of};
 ghost use Rattle.table_bytes.specs.Numbers.{AreWithinLimits, bytes_in};
-ghost use Rattle.table_bytes.specs.Spelled.{Spells};
+ghost use Rattle.table_bytes.specs.Spelled.{Spells, BeginsPlainly};
 
 use crate::Sizes;
 use crate::write_cells::{write_cells, write_order};
@@ -18,7 +18,7 @@ pub struct Written {
     pub bytes: Vec<u8>,
 }
 
-/// The bytes of a game's text and table, where each position has so many bytes.
+/// The bytes of a game's text and table, where each position has so many bytes. Those that readers ignore are zero.
 pub fn write_table<T: Table>(
     alloc: Global,
     text: &[u8],
@@ -29,6 +29,9 @@ pub fn write_table<T: Table>(
     ensures spelled { T.is_honest table.old → IsTable (T.stored table.old)
         → ((x : List ℕ) (i : ℕ) → slice_get (T.stored table.old).positions i ≡ Some x → length x ≡ packed)
         → IfOk result (λ written. Spells written.sizes written.bytes.items text.now (T.stored table.old)) }
+    ensures plain { T.is_honest table.old → IsTable (T.stored table.old)
+        → ((x : List ℕ) (i : ℕ) → slice_get (T.stored table.old).positions i ≡ Some x → length x ≡ packed)
+        → IfOk result (λ written. BeginsPlainly packed written.bytes.items text.now (T.stored table.old)) }
     ensures counts { T.is_honest table.old → IfOk result (λ written. written.sizes.counts ≡ counts_of (T.stored table.old)) }
     ensures packed { IfOk result (λ written. written.sizes.packed ≡ packed) }
     ensures text { IfOk result (λ written. written.sizes.text ≡ length text.now) }
@@ -40,6 +43,8 @@ pub fn write_table<T: Table>(
     ensures same { T.is_honest table.old → OnOk result (T.stored table.new ≡ T.stored table.old) }
     ensures honest { OnOk result (T.is_honest table.old ↔ T.is_honest table.new) }
     ensures still { OnOk result (T.counted table.new ≡ T.counted table.old) }
+    ensures stays { T.stays table.old table.new }
+    ensures fault { IfErr result (T.fails table.old table.new) }
 {
     let counts = table.counts();
     let mut bytes = Vec::new(alloc);

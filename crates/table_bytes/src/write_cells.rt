@@ -1,7 +1,8 @@
 //! Positions, their records and the settled order are written.
-ghost use Rattle.std.specs.Prelude.{◌≡◌, ◌↔◌, ◌<◌, ℕ, List, length, zip, slice_get, Some, OnOk};
+ghost use Rattle.std.specs.Prelude.{◌≡◌, ◌↔◌, ◌<◌, ℕ, List, length, zip, slice_get, Some, IfErr, OnOk};
 ghost use Rattle.retrograde.specs.Stored.{HasRecord};
-ghost use Rattle.table_bytes.specs.Bytes.{IsCell, IsNumber};
+ghost use Rattle.table.specs.declared.fault.TableFault.TheVariants.{OutOfMemory};
+ghost use Rattle.table_bytes.specs.Bytes.{IsPlainCell, IsNumber};
 ghost use Rattle.table_bytes.specs.Writing.{Writes, WritesOne, WritesCell};
 
 use crate::record::{push_number, push_record};
@@ -14,6 +15,8 @@ fn write_cell<T: Table>(bytes: &mut Vec<u8>, number: u32, table: &mut T) -> Resu
     ensures same { T.is_honest table.old → OnOk result (T.stored table.new ≡ T.stored table.old) }
     ensures honest { OnOk result (T.is_honest table.old ↔ T.is_honest table.new) }
     ensures counts { OnOk result (T.counted table.new ≡ T.counted table.old) }
+    ensures stays { T.stays table.old table.new }
+    ensures fault { IfErr result (T.fails table.old table.new) }
 {
     let position = table.packed(number)?;
     let kept = table.record(number)?;
@@ -25,10 +28,12 @@ fn write_cell<T: Table>(bytes: &mut Vec<u8>, number: u32, table: &mut T) -> Resu
 pub fn write_cells<T: Table>(bytes: &mut Vec<u8>, table: &mut T) -> Result<(), TableFault>
     ensures cells { T.is_honest table.old → length (T.stored table.old).records ≡ length (T.stored table.old).positions → (packed : ℕ)
         → ((x : List ℕ) (i : ℕ) → slice_get (T.stored table.old).positions i ≡ Some x → length x ≡ packed)
-        → OnOk result (Writes (IsCell packed) (zip (T.stored table.old).positions (T.stored table.old).records) bytes.old.items bytes.new.items) }
+        → OnOk result (Writes (IsPlainCell packed) (zip (T.stored table.old).positions (T.stored table.old).records) bytes.old.items bytes.new.items) }
     ensures same { T.is_honest table.old → OnOk result (T.stored table.new ≡ T.stored table.old) }
     ensures honest { OnOk result (T.is_honest table.old ↔ T.is_honest table.new) }
     ensures counts { OnOk result (T.counted table.new ≡ T.counted table.old) }
+    ensures stays { T.stays table.old table.new }
+    ensures fault { IfErr result (T.fails table.old table.new) }
 {
     for number in 0..table.counts().known {
         write_cell(bytes, number, table)?;
@@ -38,7 +43,8 @@ pub fn write_cells<T: Table>(bytes: &mut Vec<u8>, table: &mut T) -> Result<(), T
 
 /// Puts one number behind other bytes.
 fn write_number(bytes: &mut Vec<u8>, number: u32) -> Result<(), TableFault>
-    ensures { OnOk result (WritesOne IsNumber number bytes.old.items bytes.new.items) }
+    ensures bytes { OnOk result (WritesOne IsNumber number bytes.old.items bytes.new.items) }
+    ensures memory { IfErr result (λ fault. fault ≡ OutOfMemory) }
 {
     push_number(bytes, number)
 }
@@ -49,6 +55,8 @@ pub fn write_order<T: Table>(bytes: &mut Vec<u8>, table: &mut T) -> Result<(), T
     ensures same { T.is_honest table.old → OnOk result (T.stored table.new ≡ T.stored table.old) }
     ensures honest { OnOk result (T.is_honest table.old ↔ T.is_honest table.new) }
     ensures counts { OnOk result (T.counted table.new ≡ T.counted table.old) }
+    ensures stays { T.stays table.old table.new }
+    ensures fault { IfErr result (T.fails table.old table.new) }
 {
     for place in 0..table.counts().settled {
         let number = table.settled_at(place)?;

@@ -1,5 +1,6 @@
 //! Edges are written.
-ghost use Rattle.std.specs.Prelude.{◌≡◌, ◌↔◌, ◌+◌, ◌≤◌, ◌<◌, ℕ, List, length, OnOk};
+ghost use Rattle.std.specs.Prelude.{◌≡◌, ◌↔◌, ◌+◌, ◌≤◌, ◌<◌, ℕ, List, length, IfErr, OnOk};
+ghost use Rattle.table.specs.declared.fault.TableFault.TheVariants.{OutOfMemory};
 ghost use Rattle.table_bytes.specs.Bytes.{IsEdge};
 ghost use Rattle.table_bytes.specs.Writing.{WritesOne, WritesEdges};
 
@@ -8,7 +9,8 @@ use table::{Table, TableFault};
 
 /// Puts the bytes of an edge behind others.
 fn push_edge(bytes: &mut Vec<u8>, successor: u32, predecessor: u32) -> Result<(), TableFault>
-    ensures { OnOk result (WritesOne IsEdge (successor, predecessor) bytes.old.items bytes.new.items) }
+    ensures bytes { OnOk result (WritesOne IsEdge (successor, predecessor) bytes.old.items bytes.new.items) }
+    ensures memory { IfErr result (λ fault. fault ≡ OutOfMemory) }
 {
     push_number(bytes, successor)?;
     push_number(bytes, predecessor)
@@ -26,6 +28,8 @@ fn write_edges_to<T: Table>(
     ensures same { T.is_honest table.old → OnOk result (T.stored table.new ≡ T.stored table.old) }
     ensures honest { OnOk result (T.is_honest table.old ↔ T.is_honest table.new) }
     ensures counts { OnOk result (T.counted table.new ≡ T.counted table.old) }
+    ensures stays { T.stays table.old table.new }
+    ensures fault { IfErr result (T.fails table.old table.new) }
 {
     let mut after = None;
     while let Some(predecessor) = table.next_edge(successor, after)? {
@@ -43,6 +47,8 @@ pub fn write_edges<T: Table>(bytes: &mut Vec<u8>, table: &mut T) -> Result<(), T
     ensures same { T.is_honest table.old → OnOk result (T.stored table.new ≡ T.stored table.old) }
     ensures honest { OnOk result (T.is_honest table.old ↔ T.is_honest table.new) }
     ensures counts { OnOk result (T.counted table.new ≡ T.counted table.old) }
+    ensures stays { T.stays table.old table.new }
+    ensures fault { IfErr result (T.fails table.old table.new) }
 {
     for successor in 0..table.counts().known {
         write_edges_to(bytes, successor, table)?;

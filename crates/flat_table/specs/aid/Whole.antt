@@ -34,6 +34,7 @@ same_pages : (s : Store) (was is : Option Game) → IsFile (file_of s was) → k
     → IsAsked Stores (state_of (file_of s was)) (state_of (file_of s is))
 same_pages s was is stands same = record {
   ahead = record { goes_on = goes_on_refl s.disk; same_size = refl; failures = omega arith; capacity = refl };
+  commits = refl;
   text = ap text_kept same;
   kept = λ honest. same;
   closed = refl;
@@ -57,7 +58,7 @@ unwritten_asked old new it same =
 pub unwritten_kept : (old new : File) → IsFile old → IsUnwritten old new → IsKept Stores (state_of old) (state_of new)
 unwritten_kept old new it same =
     let asked = unwritten_asked old new it same in
-    record { ahead = asked.ahead; text = asked.text; kept = asked.kept; leaves = asked.since }
+    record { ahead = asked.ahead; commits = asked.commits; text = asked.text; kept = asked.kept; leaves = asked.since }
 
 -- want of memory needs no cause
 pub memory_cause : (old new : State) (fault : TableFault) → fault ≡ OutOfMemory → TableCause old new fault

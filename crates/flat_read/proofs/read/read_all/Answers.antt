@@ -1,5 +1,8 @@
-use Rattle.std.proofs.Common.{arith}
+use Rattle.std.proofs.Common.{length, subst, arith}
 use Rattle.page_store.specs.Works.{works_refl}
+use Rattle.page_store.specs.Store.{reads}
+use Rattle.root_slot.specs.Slot.{IsNoSlot}
+use Rattle.flat_read.proofs.Reading.{no_slot_keeps}
 use Rattle.flat_read.proofs.Opening.{still_leaves, sealed_backed}
 use Rattle.flat_read.proofs.read.read_all.Goals as goal
 
@@ -19,3 +22,8 @@ returns-then-capacity-lt-LEAST_PAGES-clause-leaves g c = λ honest. still_leaves
 
 pub returns-in_default-clause-leaves : goal.returns-in_default-clause-leaves
 returns-in_default-clause-leaves g c = λ honest. still_leaves (g.P.Pages.store c.args.store.now).disk
+
+pub returns-in_default-clause-cause : goal.returns-in_default-clause-cause
+returns-in_default-clause-cause g c = λ honest wait kept keeps.
+    let store = g.P.Pages.store c.args.store.now in
+    absurd (no_slot_keeps store.root (length store.marks) (reads store) (g.met.P.Pages.sound c.args.store.now).few (subst IsNoSlot c.root-root.ensures c.in_default.ensures.none) kept keeps)

@@ -20,7 +20,7 @@ returns-in_err-written-clause-err g c = λ it. so_refused_for c.from_residual.re
 pub returns-in_err-written-clause-cause : goal.returns-in_err-written-clause-cause
 returns-in_err-written-clause-cause g c = λ it.
     let cause = subst (λ (text : List ℕ). BytesCause (kept_as text (stored_in c.args.table)) c.args.packed c.in_err-written.field-0.0) c.deref.ensures.value c.in_err-written.ensures.cause in
-    passed_on _ c.from_residual.result _ c.from_residual.ensures (bytes_cause _ _ (g.P.Pages.store c.args.store.now) _ it.sound.few cause)
+    passed_on _ c.from_residual.result _ c.from_residual.ensures (bytes_cause _ _ (g.P.Pages.store c.args.store.now) _ cause)
 
 pub save-requires : goal.save-requires
 save-requires g c = record { there = subst (λ (pages : List ℕ). ArePages (length (g.P.Pages.store c.args.store.now).marks) pages) (sym c.pages_in.ensures) c.requires.there }

@@ -7,4 +7,4 @@ release_all-requires g c = record { there = still_there _ c.write_chain.ensures.
 pub returns-clause-ok : goal.returns-clause-ok
 returns-clause-ok g c =
     let wrote = c.in_ok-pages.ensures in
-    exchanges _ _ _ _ _ _ wrote.works wrote.chain wrote.fresh wrote.freed wrote.open wrote.closed c.release_all.ensures
+    exchanges _ _ _ _ _ _ wrote.works wrote.chain wrote.fresh wrote.freed wrote.closed c.release_all.ensures

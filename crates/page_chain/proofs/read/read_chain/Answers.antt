@@ -42,7 +42,7 @@ returns-then-next-ne0 g c =
       leaves = read.only.leaves;
       closed = read.only.closed;
       works = read.only.works;
-      cause = λ honest wait ps content same chain.
+      cause = λ honest ps content same wait chain.
           c.if-next-ne0.true (chain_ends _ read (omega (arith, c.pages_for-end.ensures.enough, c.loop-test.false)) (omega (arith, c.pages_for-end.ensures.no_more, c.loop.auto.counter-end)) honest ps content same chain);
     }
 

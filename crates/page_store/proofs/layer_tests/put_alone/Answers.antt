@@ -5,6 +5,7 @@ use Rattle.page_store.specs.declared.marks.Mark.TheVariants.{Fresh}
 use Rattle.page_store.specs.Marks.{mark, keeps, IsNeeded, IsKept}
 use Rattle.page_store.specs.Store.{Store, reads}
 use Rattle.page_store.specs.Spelling.{Stands, IsPrepared, Spells}
+use Rattle.page_store.specs.Works.{fresh_within}
 use Rattle.page_store.specs.Carrying.{saved_spells, saved_as_spells, commit_carries}
 use Rattle.page_store.proofs.layer_tests.put_alone.Goals as goal
 
@@ -17,7 +18,7 @@ stands_at store old needed = record {
 prepared_at : (store : Store) (page : ℕ) (from : List ℕ) → 1 ≤ page → mark store.marks page ≡ Fresh → reads store page ≡ from → IsPrepared (λ p. p ≡ page) (λ bytes. bytes page ≡ from) store
 prepared_at store page from behind fresh written = record {
   spelled = record { anywhere = λ other same. same page refl ∙ written };
-  kept = λ p is. subst (λ (q : ℕ). IsKept store.marks q) (sym is) (behind, subst (λ (m : Mark). IsTrue (keeps m)) (sym fresh) refl);
+  kept = λ p is. subst (λ (q : ℕ). IsKept store.marks q) (sym is) (behind, fresh_within store.marks page fresh, subst (λ (m : Mark). IsTrue (keeps m)) (sym fresh) refl);
 }
 
 pub returns-in_err-write_page-clause-stop : goal.returns-in_err-write_page-clause-stop

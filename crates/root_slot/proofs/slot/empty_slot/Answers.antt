@@ -1,6 +1,6 @@
 use Rattle.std.proofs.Common.{◌≡◌, ◌∙◌, ◌≤◌, ℕ, arith}
 use Rattle.std.specs.Prelude.{slice_index}
-use Rattle.root_slot.proofs.Words.{word_zero, zeros}
+use Rattle.root_slot.proofs.Words.{word_zero, long_zero, zeros}
 use Rattle.root_slot.proofs.slot.empty_slot.Goals as goal
 
 pub returns-clause-empty : goal.returns-clause-empty
@@ -12,6 +12,9 @@ returns-clause-empty c =
       fields = λ k low high. none k (omega (arith, low));
       edges = λ k low high. none k (omega (arith, low));
     }
+
+pub returns-clause-commits : goal.returns-clause-commits
+returns-clause-commits c = long_zero c.put_word.new.root 8 (λ k high. c.put_word.ensures.behind k (omega (arith, high)) ∙ zeros 512 k)
 
 pub returns-clause-zero : goal.returns-clause-zero
 returns-clause-zero c = λ k high. c.put_word.ensures.behind k high ∙ zeros 512 k

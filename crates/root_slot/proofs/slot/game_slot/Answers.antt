@@ -1,6 +1,6 @@
 use Rattle.std.proofs.Common.{◌≡◌, ◌∙◌, arith}
-use Rattle.table_bytes.specs.declared.sizes.Sizes.{Sizes}
 use Rattle.root_slot.specs.Slot.{word_at, sizes_in}
+use Rattle.root_slot.proofs.Words.{long_same}
 use Rattle.root_slot.proofs.slot.game_slot.Goals as goal
 
 pub returns-clause-layout : goal.returns-clause-layout
@@ -36,3 +36,16 @@ returns-clause-sizes c =
       edges = c.put_long-2.ensures.is i;
     } in
     same
+
+pub returns-clause-commits : goal.returns-clause-commits
+returns-clause-commits c =
+    long_same c.put_long.new.root c.put_long-2.new.root 8 (λ k low high. c.put_long-2.ensures.ahead k (omega (arith, high)) ∙ c.put_word-8.ensures.ahead k (omega (arith, high)) ∙ c.put_word-7.ensures.ahead k (omega (arith, high)) ∙ c.put_word-6.ensures.ahead k (omega (arith, high)) ∙ c.put_word-5.ensures.ahead k (omega (arith, high)) ∙ c.put_word-4.ensures.ahead k (omega (arith, high)) ∙ c.put_word-3.ensures.ahead k (omega (arith, high)) ∙ c.put_word-2.ensures.ahead k (omega (arith, high)))
+    ∙ c.put_long.ensures.is
+
+pub returns-clause-between : goal.returns-clause-between
+returns-clause-between c = λ k low high.
+    c.put_long-2.ensures.ahead k (omega (arith, high)) ∙ c.put_word-8.ensures.behind k (omega (arith, low)) ∙ c.put_word-7.ensures.behind k (omega (arith, low)) ∙ c.put_word-6.ensures.behind k (omega (arith, low)) ∙ c.put_word-5.ensures.behind k (omega (arith, low)) ∙ c.put_word-4.ensures.behind k (omega (arith, low)) ∙ c.put_word-3.ensures.behind k (omega (arith, low)) ∙ c.put_word-2.ensures.behind k (omega (arith, low)) ∙ c.put_long.ensures.behind k (omega (arith, low)) ∙ c.put_word.ensures.behind k (omega (arith, low)) ∙ c.empty_slot-root.ensures.zero k (omega (arith, low))
+
+pub returns-clause-behind : goal.returns-clause-behind
+returns-clause-behind c = λ k low high.
+    c.put_long-2.ensures.behind k (omega (arith, low)) ∙ c.put_word-8.ensures.behind k (omega (arith, low)) ∙ c.put_word-7.ensures.behind k (omega (arith, low)) ∙ c.put_word-6.ensures.behind k (omega (arith, low)) ∙ c.put_word-5.ensures.behind k (omega (arith, low)) ∙ c.put_word-4.ensures.behind k (omega (arith, low)) ∙ c.put_word-3.ensures.behind k (omega (arith, low)) ∙ c.put_word-2.ensures.behind k (omega (arith, low)) ∙ c.put_long.ensures.behind k (omega (arith, low)) ∙ c.put_word.ensures.behind k (omega (arith, low)) ∙ c.empty_slot-root.ensures.zero k (omega (arith, low))

@@ -7,7 +7,7 @@ use Rattle.table_bytes.specs.Laws.{tables_have_their_length}
 use Rattle.table_bytes.specs.Writing.{Writes}
 use Rattle.table_bytes.specs.declared.sizes.Sizes.{Sizes}
 use Rattle.table_bytes.proofs.CountLemmas.{within_limits}
-use Rattle.table_bytes.proofs.WrittenLemmas.{spells_written, edges_of}
+use Rattle.table_bytes.proofs.WrittenLemmas.{spells_written, begins_plainly, edges_of}
 use Rattle.table_bytes.proofs.write.write_table.Goals as goal
 
 pub returns-clause-spelled : goal.returns-clause-spelled
@@ -28,6 +28,15 @@ returns-clause-spelled g c = λ honest table long.
     (edges_of celled stored _ c.counts-counts.result.known c.write_cells.new.bytes.items c.write_edges.new.bytes.items same known (c.in_ok-write_edges.ensures.edges still))
     (ap₂ (λ (a b : ℕ). (a - b) / 8) (c.len.ensures ∙ c.write_edges.new.bytes.ok.0) (c.len-before.ensures ∙ c.write_cells.new.bytes.ok.0))
     (subst (λ (s : Stored (List ℕ)). Writes IsNumber s.order c.write_edges.new.bytes.items c.write_order.new.bytes.items) same_later (c.in_ok-write_order.ensures.order later))
+
+pub returns-clause-plain : goal.returns-clause-plain
+returns-clause-plain g c = λ honest table long.
+    let stored = g.T.Table.stored c.args.table.now in
+    let still = c.in_ok-write_cells.ensures.honest.0 honest in
+    let later = c.in_ok-write_edges.ensures.honest.0 still in
+    let start : c.extend_from_slice.new.self.items ≡ c.args.text.now = ◌∙◌ {A = List ℕ} (c.in_ok-extend_from_slice.ensures.items) (ap (λ (b : List ℕ). b ++ c.args.text.now) c.new-bytes.ensures.items) in
+    begins_plainly c.args.packed c.args.text.now c.extend_from_slice.new.self.items c.write_cells.new.bytes.items c.write_edges.new.bytes.items c.write_order.new.bytes.items _ _ stored start
+    (c.in_ok-write_cells.ensures.cells honest table.records c.args.packed long) (c.in_ok-write_edges.ensures.edges still).written.is (c.in_ok-write_order.ensures.order later).is
 
 pub returns-clause-long : goal.returns-clause-long
 returns-clause-long g c = λ honest table long. tables_have_their_length _ _ _ _ (returns-clause-spelled g c honest table long)

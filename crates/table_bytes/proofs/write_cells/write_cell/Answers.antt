@@ -10,4 +10,4 @@ returns-clause-cell g c = λ honest.
     c.args.bytes.now.items c.extend_from_slice.new.self.items c.push_record.new.bytes.items
     (c.in_ok-position.ensures.position honest) (c.in_ok-position.ensures.same honest) (c.in_ok-kept.ensures.record still)
     c.deref.ensures.0 c.in_ok-extend_from_slice.ensures.items)
-    c.push_record.ensures
+    c.push_record.ensures.bytes

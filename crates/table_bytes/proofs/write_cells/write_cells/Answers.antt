@@ -2,7 +2,7 @@ use Rattle.std.proofs.Common.{◌≡◌, ◌≤◌, ◌∙◌, ap, subst, List, 
 use Rattle.retrograde.specs.declared.records.Record.{Record}
 use Rattle.retrograde.specs.declared.records.Counts.{Counts}
 use Rattle.retrograde.specs.Stored.{Stored}
-use Rattle.table_bytes.specs.Bytes.{IsCell}
+use Rattle.table_bytes.specs.Bytes.{IsPlainCell}
 use Rattle.table_bytes.specs.Laws.{long_pairs}
 use Rattle.table_bytes.specs.Writing.{Writes, WritesCell}
 use Rattle.table_bytes.proofs.WritingLemmas.{writes_cell, take_all}
@@ -14,6 +14,7 @@ loop-number-preserved g c =
     let cell = c.in_ok-write_cell.ensures in
     record {
       counts = cell.counts ∙ before.counts;
+      stays = g.met.T.Table.stays_then _ _ _ before.stays cell.stays;
       honest = (λ h. cell.honest.0 (before.honest.0 h), λ h. before.honest.1 (cell.honest.1 h));
       same = λ h. cell.same (before.honest.0 h) ∙ before.same h;
       written = λ h packed long.
@@ -27,5 +28,5 @@ returns-clause-cells g c = λ honest paired packed long.
     let count = ap (λ (k : Counts). k.known) (c.counts-number-end.ensures ∙ g.met.T.Table.counts_are c.args.table.now honest) in
     let pairs : length (zip stored.positions stored.records) ≡ length stored.positions = long_pairs stored.positions stored.records paired in
     let all : length (zip stored.positions stored.records) ≤ c.loop-number.number = omega (arith, pairs, count, c.loop-number-test.false) in
-    subst (λ (zs : List (List ℕ × Record)). Writes (IsCell packed) zs c.args.bytes.now.items c.loop-number.bytes.items)
+    subst (λ (zs : List (List ℕ × Record)). Writes (IsPlainCell packed) zs c.args.bytes.now.items c.loop-number.bytes.items)
     (take_all (zip stored.positions stored.records) c.loop-number.number all) (c.loop-number.invariant.written honest packed long)

@@ -5,6 +5,7 @@ use Rattle.table_bytes.proofs.write_edges.write_edges.Goals as goal
 pub loop-successor-init : goal.loop-successor-init
 loop-successor-init g c = record {
   counts = refl;
+  stays = g.met.T.Table.stays_here _;
   honest = (λ h. h, λ h. h);
   same = λ h. refl;
   longer = omega arith;

@@ -7,6 +7,7 @@ abbrev pub invariant-loop-predecessor : goal.invariant-loop-predecessor
 invariant-loop-predecessor g l = record {
   within : bound_of l.after ≤ (g.T.Table.counted l.fn.table).known;
   counts : g.T.Table.counted l.table ≡ g.T.Table.counted l.fn.table;
+  stays : g.T.Table.stays l.fn.table l.table;
   honest : g.T.Table.is_honest l.fn.table ↔ g.T.Table.is_honest l.table;
   same : g.T.Table.is_honest l.fn.table → g.T.Table.stored l.table ≡ g.T.Table.stored l.fn.table;
   longer : length l.fn.bytes.items ≤ length l.bytes.items;

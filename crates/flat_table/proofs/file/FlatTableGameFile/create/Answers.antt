@@ -1,6 +1,6 @@
-use Rattle.std.proofs.lemmas.Result.{IfOk-weaker, IfErr-weaker}
-use Rattle.sector_disk.specs.Disk.{Disk}
-use Rattle.flat_table.proofs.Creating.{IsLaidDown, never, created, not_created, create_cause}
+use Rattle.std.proofs.lemmas.Result.{IfErr-weaker}
+use Rattle.sector_disk.specs.Moments.{still_honest}
+use Rattle.flat_table.proofs.Creating.{IsLaidDown, never, counts_none, both_ok, created, not_created, create_cause}
 use Rattle.flat_table.proofs.file.FlatTableGameFile.create.Goals as goal
 
 pub returns-in-Ok-clause-ok : goal.returns-in-Ok-clause-ok
@@ -15,7 +15,10 @@ returns-in-Ok-clause-ok g c =
       moments = made.moments;
       fresh = λ honest begins. never (made.table honest begins).0;
     } in
-    IfOk-weaker c.open.result _ _ (λ t opened. created c.empty_slot.ensures.empty _ _ _ _ made.failures laid _ opened) c.open.ensures.ok
+    both_ok c.read.result _ _ _
+    (λ t opened root. created c.empty_slot.ensures.empty _ _ _ _ made.failures laid _
+      (λ honest. counts_none _ _ laid honest (root (still_honest laid.goes_on honest)) c.empty_slot.ensures.commits) opened)
+    c.read.ensures.ok c.read.ensures.root
 
 pub returns-in-Ok-clause-refused : goal.returns-in-Ok-clause-refused
 returns-in-Ok-clause-refused g c =
@@ -29,7 +32,7 @@ returns-in-Ok-clause-refused g c =
       moments = made.moments;
       fresh = λ honest begins. never (made.table honest begins).0;
     } in
-    IfErr-weaker c.open.result _ _ (λ back refused. not_created c.empty_slot.ensures.empty _ _ _ _ made.failures laid _ _ refused) c.open.ensures.refused
+    IfErr-weaker c.read.result _ _ (λ back refused. not_created c.empty_slot.ensures.empty _ _ _ _ made.failures laid _ _ refused) c.read.ensures.refused
 
 pub returns-in-Ok-clause-cause : goal.returns-in-Ok-clause-cause
 returns-in-Ok-clause-cause g c =
@@ -43,4 +46,4 @@ returns-in-Ok-clause-cause g c =
       moments = made.moments;
       fresh = λ honest begins. never (made.table honest begins).0;
     } in
-    IfErr-weaker c.open.result _ _ (λ back cause. create_cause c.empty_slot.ensures.empty _ _ _ _ made.failures laid _ _ cause) c.open.ensures.cause
+    IfErr-weaker c.read.result _ _ (λ back cause. create_cause c.empty_slot.ensures.empty _ _ _ _ made.failures laid _ _ cause) c.read.ensures.cause

@@ -1,4 +1,4 @@
-use Rattle.std.proofs.Common.{◌≡◌, rules}
+use Rattle.std.proofs.Common.{◌≡◌, rules, refl}
 use Rattle.flat_file.specs.File.{File}
 use Rattle.flat_table.specs.declared.file.FlatTable.{FlatTable}
 use Rattle.flat_table.specs.contracts.file.FlatTableTableFile.TheImpl as it
@@ -10,10 +10,10 @@ use Rattle.flat_table.proofs.Putting.{nothing_put, not_put_whole}
 use Rattle.flat_table.proofs.file.FlatTableGameFile.load.Goals as goal
 
 pub returns-in_err-table-clause-err : goal.returns-in_err-table-clause-err
-returns-in_err-table-clause-err g c = λ whole none. so_refused c.from_residual.result (not_put_whole _ _ _ (nothing_put _ _ whole.0))
+returns-in_err-table-clause-err g c = λ whole none. so_refused c.from_residual.result (not_put_whole _ _ _ refl (nothing_put _ _ whole.0))
 
 pub returns-in_err-text-clause-err : goal.returns-in_err-text-clause-err
-returns-in_err-text-clause-err g c = λ whole none. so_refused c.from_residual-in_err-text.result (not_put_whole _ _ _ (nothing_put _ _ whole.0))
+returns-in_err-text-clause-err g c = λ whole none. so_refused c.from_residual-in_err-text.result (not_put_whole _ _ _ refl (nothing_put _ _ whole.0))
 
 pub returns-clause-cause : goal.returns-clause-cause
 returns-clause-cause g c = λ whole none is_open.

@@ -13,9 +13,10 @@ use table::{Table, TableFault};
 
 impl<D: SectorDisk> FlatTable<D> {
     /// Begins a command: the table of the last commit is copied, if it is not yet.
-    fn begin(&mut self) -> Result<(), TableFault>
+    pub(crate) fn begin(&mut self) -> Result<(), TableFault>
         ensures same { (⟦<FlatTable<D> as TableFile>⟧.file self.new) ≡ (⟦<FlatTable<D> as TableFile>⟧.file self.old) }
         ensures some { OnOk result (IsSome self.new.draft) }
+        ensures idle { OnErr result (self.new.draft ≡ None) }
         ensures stored { stored_now self.new.draft self.new.game ≡ stored_now self.old.draft self.old.game }
         ensures memory { IfErr result (λ fault. fault ≡ OutOfMemory) }
     {

@@ -1,0 +1,5 @@
+use Rattle.page_chain.specs.Resting.{a_chain_is_not_longer}
+use Rattle.page_chain.proofs.laws.a_chain_is_not_longer.Goals as goal
+
+pub returns : goal.returns
+returns c = a_chain_is_not_longer
