@@ -1,0 +1,5 @@
+pub mod Changing
+pub mod Faults
+pub mod Lists
+pub mod Placing
+pub mod Wholes

@@ -1,0 +1,4 @@
+pub mod aid
+pub mod Page
+pub mod Paged
+pub mod Places
