@@ -2,4 +2,6 @@ pub mod Changing
 pub mod Faults
 pub mod Lists
 pub mod Placing
+pub mod Standing
+pub mod Turning
 pub mod Wholes

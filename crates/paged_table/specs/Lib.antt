@@ -2,3 +2,4 @@ pub mod aid
 pub mod Page
 pub mod Paged
 pub mod Places
+pub mod Turns

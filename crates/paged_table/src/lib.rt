@@ -5,5 +5,6 @@
 mod page;
 mod paged;
 mod place;
+mod turn;
 
 pub use paged::PagedTable;

@@ -1,0 +1,101 @@
+-- Work or a commit that was refused.
+use Rattle.std.proofs.Common.{◌≡◌, ◌≢◌, ◌⊎◌, inl, inr, ℕ, ◌≤◌, Bool, true, false, List, length, Result, Ok, Err, refl, sym, ◌∙◌, ap, subst, arith}
+use Rattle.std.specs.Prelude.{IsTrue}
+use Rattle.sector_disk.specs.Disk.{Shown, Grew}
+use Rattle.sector_disk.specs.Moments.{leaves_more, goes_on_trans}
+use Rattle.root_pair.specs.Root.{root_of, IsAtRest}
+use Rattle.page_store.specs.declared.fault.PageFault.{PageFault}
+use Rattle.page_store.specs.declared.fault.PageFault.TheVariants as page
+use Rattle.page_store.specs.declared.marks.Mark.{Mark}
+use Rattle.page_store.specs.declared.marks.Mark.TheVariants.{Waiting}
+use Rattle.page_store.specs.Causes.{CommitCause}
+use Rattle.page_store.specs.Marks.{mark, needs, IsNeeded}
+use Rattle.page_store.specs.Page.{page as page_of}
+use Rattle.page_store.specs.Store.{Store, IsSafe, Works, Commits, IsUnchanged}
+use Rattle.page_store.specs.Works.{safe_saves, works_then}
+use Rattle.table.specs.declared.fault.TableFault.{TableFault}
+use Rattle.table.specs.declared.fault.TableFault.TheVariants.{Disk, Damaged, TableFull, OutOfMemory, Closed}
+use Rattle.frontier.specs.Causes.{Leaves}
+use Rattle.frontier.specs.declared.fault.StepFault.{StepFault}
+use Rattle.frontier.specs.declared.fault.StepFault.TheVariants.{TooWide, KeeperChooses, TooManyPositions, Inconsistent, OutOfMemory as OutOfMemoryThere, Table}
+use Rattle.paged_table.specs.Paged.{GoesOn, Cause, Fails}
+use Rattle.paged_table.specs.Turns.{IsLeft, DeviceCause, TurnCause}
+
+-- a commit that left the store as it was commits nothing
+unchanged_works : (root : List ℕ) (old new : Store) → Commits root old new → IsUnchanged old new → Works old new
+unchanged_works root old new commits same =
+    record {
+      goes_on = commits.goes_on;
+      same_size = commits.same_size;
+      failures = commits.failures;
+      root = same.root;
+      same_pages = ap (λ (ms : List Mark). length ms) same.marks;
+      closed = λ open_. sym same.closed ∙ open_;
+      waiting = λ p is. sym (ap (λ (ms : List Mark). mark ms p) same.marks) ∙ is;
+      needed = λ p. ap (λ (ms : List Mark). needs (mark ms p)) same.marks;
+      reads = λ honest p needed. ap (λ (s : Shown). page_of s.contents p) (same.shown honest);
+      safe = λ honest safe. still_safe honest safe;
+      leaves = λ honest safe. leaves_more (safe_saves old safe) (same.leaves honest);
+    }
+  where
+    still_safe : IsTrue old.disk.honest → IsSafe old → IsSafe new
+    still_safe honest safe =
+        let shown : new.disk.now ≡ old.disk.now = same.shown honest in
+        record {
+          rest = subst (λ (s : Shown). IsAtRest s) (sym shown) safe.rest;
+          room = omega (arith, safe.room, ap (λ (ms : List Mark). length ms) same.marks, ap (λ (s : Shown). s.lasting) shown);
+          root = ap (λ (s : Shown). root_of s.contents) shown ∙ safe.root ∙ sym same.root;
+          synced = λ p needed k within. subst (λ (s : Shown). IsTrue (s.synced k)) (sym shown) (safe.synced p (subst (λ (ms : List Mark). IsNeeded ms p) same.marks needed) k within);
+        }
+
+-- work alone
+pub left_working : (old new : Store) → Works old new → IsLeft old new
+left_working old new works = record { left = inl works; goes_on = works.goes_on; failures = works.failures; same_pages = works.same_pages; waiting = works.waiting }
+
+-- a commit
+module _ (root : List ℕ) (old mid new : Store) (works : Works old mid) (commits : Commits root mid new) (marks : new.marks ≡ mid.marks) where
+  work_or_closed : IsUnchanged mid new ⊎ (new.closed ≡ true) → Works old new ⊎ (new.closed ≡ true)
+  work_or_closed (inl same) = inl (works_then works (unchanged_works root mid new commits same))
+  work_or_closed (inr closed) = inr closed
+
+  commit_left : (fault : PageFault) → CommitCause mid new fault → (fault ≢ page.Disk → new ≡ mid) → Works old new ⊎ (new.closed ≡ true)
+  commit_left page.Disk cause same = work_or_closed cause.1
+  commit_left page.NotATable cause same = absurd cause
+  commit_left page.Damaged cause same = absurd cause
+  commit_left page.TableFull cause same = absurd cause
+  commit_left page.OutOfMemory cause same = absurd cause
+  commit_left page.Closed cause same = inl (subst (λ (s : Store). Works old s) (sym (same (λ is. cc))) works)
+
+  pub left_committing : (fault : PageFault) → CommitCause mid new fault → (fault ≢ page.Disk → new ≡ mid) → IsLeft old new
+  left_committing fault cause same = record {
+    left = commit_left fault cause same;
+    goes_on = goes_on_trans works.goes_on commits.goes_on;
+    failures = omega (arith, works.failures, commits.failures);
+    same_pages = ap (λ (ms : List Mark). length ms) marks ∙ works.same_pages;
+    waiting = λ p is. works.waiting p (sym (ap (λ (ms : List Mark). mark ms p) marks) ∙ is);
+  }
+
+-- whatever units of work answer, nothing is committed
+pub works_left : (t : Bool) (old : Store) (u : Bool) (new : Store) (fault : StepFault) → Leaves (GoesOn t old u new) (Fails t old new) fault → Works old new
+works_left t old u new TooWide left = left.works
+works_left t old u new (KeeperChooses number) left = left.works
+works_left t old u new TooManyPositions left = left.works
+works_left t old u new Inconsistent left = left.works
+works_left t old u new OutOfMemoryThere left = left.works
+works_left t old u new (Table fault) left = left.works
+
+-- why no unit of work was done
+device_cause : (t : Bool) (old new : Store) (fault : TableFault) → Fails t old new fault → DeviceCause t old new fault
+device_cause t old new Disk fails = fails.cause
+device_cause t old new Damaged fails = (fails.cause, fails.still (λ is. cc))
+device_cause t old new TableFull fails = (record { moment = new; works = fails.works; full = fails.cause }, fails.still (λ is. cc))
+device_cause t old new OutOfMemory fails = fails.still (λ is. cc)
+device_cause t old new Closed fails = (fails.cause, fails.still (λ is. cc) ∙ fails.cause)
+
+pub turn_cause : (t : Bool) (old : Store) (u : Bool) (new : Store) (fault : StepFault) → Leaves (GoesOn t old u new) (Fails t old new) fault → TurnCause t old new fault
+turn_cause t old u new TooWide left = left.still
+turn_cause t old u new (KeeperChooses number) left = left.still
+turn_cause t old u new TooManyPositions left = left.still
+turn_cause t old u new Inconsistent left = left.still
+turn_cause t old u new OutOfMemoryThere left = left.still
+turn_cause t old u new (Table fault) left = device_cause t old new fault left
