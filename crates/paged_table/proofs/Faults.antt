@@ -1,6 +1,6 @@
 -- Faults that are handed on.
 use Rattle.std.proofs.Common.{◌≡◌, ◌≢◌, ℕ, ◌<◌, Bool, List, length, Result, Ok, Err, Some, refl, sym, subst}
-use Rattle.std.specs.Prelude.{IsTrue, slice_get}
+use Rattle.std.specs.Prelude.{IsTrue, slice_get, OnErr}
 use Rattle.std.specs.Result.{IsErr, IfErr, IsErrAnd}
 use Rattle.page_store.specs.Store.{Store, reads, Works, IsUnchanged}
 use Rattle.page_store.specs.Works.{works_refl}
@@ -14,6 +14,10 @@ use Rattle.paged_table.specs.aid.Frames.{memory_fails}
 pub passed_on : {X E : Type 0} (Cause : E → Type 0) (r : Result X E) (fault : E) → IsErr r × IsErrAnd r (λ f. f ≡ fault) → Cause fault → IfErr r Cause
 passed_on Cause (Ok x) fault is cause = tt
 passed_on Cause (Err f) fault is cause = subst Cause (sym is.1) cause
+
+pub on_err : {X E : Type 0} (P : Type 0) (r : Result X E) → P → OnErr r P
+on_err P (Ok x) is = tt
+on_err P (Err f) is = is
 
 -- nothing is done
 pub goes_nowhere : (torn : Bool) (store : Store) → GoesOn torn store torn store

@@ -89,7 +89,7 @@ module _ (known far done : ℕ) (pages : List ℕ) (old : Store) (whole : IsWhol
     committed_whole = whole_same new committed_reads (λ p kept. (kept.0, subst (λ (m : Mark). IsTrue (keeps m)) (sym (committed.marks.each p)) (committed_keeps (mark old.marks p) kept.1)))
 
   -- so does work that is given up
-  module _ (mid new : Store) (calm : IsCalm old) (back : IsBack old new) (honest : IsTrue old.disk.honest) where
+  module _ (new : Store) (calm : IsCalm old) (back : IsBack old new) (honest : IsTrue old.disk.honest) where
     back_reads : (p : ℕ) → IsNamed pages p → reads new p ≡ reads old p
     back_reads p named = back.reads honest p (needed calm p named)
 
@@ -106,6 +106,11 @@ module _ (graph : Graph (List ℕ)) (IsWide : List ℕ → Type 0) (units known 
   pub stop_in_work : (mid : Store) → Works old mid → IsHonest torn old → old.closed ≡ false → IsCalm old → LeavesOnly old.disk mid.disk (IsLeftByTurn graph IsWide units old pages (stored_of memory pages old) root)
   stop_in_work mid works honest open_ calm =
       leaves_more (λ picture saved. inl (saved_spells old (stands known far done pages old (whole honest) calm) picture saved)) (works.leaves honest.disk (sound.safe honest.disk open_))
+
+  -- of work that is given up
+  pub kept_in_work : (new : Store) → Works old new → IsHonest torn old → old.closed ≡ false → IsCalm old → LeavesOnly old.disk new.disk (Holds old.root (length old.marks) pages (stored_of memory pages old))
+  kept_in_work new works honest open_ calm =
+      leaves_more (λ picture saved. saved_spells old (stands known far done pages old (whole honest) calm) picture saved) (works.leaves honest.disk (sound.safe honest.disk open_))
 
   -- of work and a commit
   pub stop_in_turn : (now_known now_far now_done : ℕ) (now_pages : List ℕ) (now_memory : Stored (List ℕ)) (units_done : ℕ) (mid new : Store) → Works old mid → Commits root mid new

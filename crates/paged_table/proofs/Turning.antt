@@ -1,7 +1,8 @@
 -- Work or a commit that was refused.
-use Rattle.std.proofs.Common.{◌≡◌, ◌≢◌, ◌⊎◌, inl, inr, ℕ, ◌≤◌, Bool, true, false, List, length, Result, Ok, Err, refl, sym, ◌∙◌, ap, subst, arith}
+use Rattle.std.proofs.Common.{◌≡◌, ◌≢◌, ◌⊎◌, inl, inr, ℕ, ◌≤◌, Bool, true, false, ◌||◌, List, length, Contains, refl, sym, ◌∙◌, ap, subst, arith}
 use Rattle.std.specs.Prelude.{IsTrue}
-use Rattle.sector_disk.specs.Disk.{Shown, Grew}
+use Rattle.sector_disk.specs.Disk.{Shown}
+use Rattle.sector_disk.specs.Disk.{Disk as Drive}
 use Rattle.sector_disk.specs.Moments.{leaves_more, goes_on_trans}
 use Rattle.root_pair.specs.Root.{root_of, IsAtRest}
 use Rattle.page_store.specs.declared.fault.PageFault.{PageFault}
@@ -9,17 +10,23 @@ use Rattle.page_store.specs.declared.fault.PageFault.TheVariants as page
 use Rattle.page_store.specs.declared.marks.Mark.{Mark}
 use Rattle.page_store.specs.declared.marks.Mark.TheVariants.{Waiting}
 use Rattle.page_store.specs.Causes.{CommitCause}
-use Rattle.page_store.specs.Marks.{mark, needs, IsNeeded}
+use Rattle.page_store.specs.Marks.{mark, needs, IsNeeded, AreDiscarded}
 use Rattle.page_store.specs.Page.{page as page_of}
-use Rattle.page_store.specs.Store.{Store, IsSafe, Works, Commits, IsUnchanged}
+use Rattle.page_store.specs.Store.{Store, IsSafe, Works, Commits, IsRemarked, IsUnchanged}
 use Rattle.page_store.specs.Works.{safe_saves, works_then}
+use Rattle.page_store.specs.Spelling.{IsCalm, IsBack}
+use Rattle.page_store.specs.Carrying.{discard_goes_back}
 use Rattle.table.specs.declared.fault.TableFault.{TableFault}
 use Rattle.table.specs.declared.fault.TableFault.TheVariants.{Disk, Damaged, TableFull, OutOfMemory, Closed}
 use Rattle.frontier.specs.Causes.{Leaves}
 use Rattle.frontier.specs.declared.fault.StepFault.{StepFault}
 use Rattle.frontier.specs.declared.fault.StepFault.TheVariants.{TooWide, KeeperChooses, TooManyPositions, Inconsistent, OutOfMemory as OutOfMemoryThere, Table}
-use Rattle.paged_table.specs.Paged.{GoesOn, Cause, Fails}
+use Rattle.retrograde.specs.declared.records.Record.{Record}
+use Rattle.retrograde.specs.Stored.{Stored}
+use Rattle.paged_table.specs.Paged.{stored_of, IsWhole, IsHonest, GoesOn, Cause, Fails}
+use Rattle.paged_table.specs.Places.{IsThere}
 use Rattle.paged_table.specs.Turns.{IsLeft, DeviceCause, TurnCause}
+use Rattle.paged_table.proofs.Standing.{back_whole, back_records}
 
 -- a commit that left the store as it was commits nothing
 unchanged_works : (root : List ℕ) (old new : Store) → Commits root old new → IsUnchanged old new → Works old new
@@ -50,10 +57,10 @@ unchanged_works root old new commits same =
 
 -- work alone
 pub left_working : (old new : Store) → Works old new → IsLeft old new
-left_working old new works = record { left = inl works; goes_on = works.goes_on; failures = works.failures; same_pages = works.same_pages; waiting = works.waiting }
+left_working old new works = record { left = inl works; goes_on = works.goes_on; failures = works.failures; root = works.root; same_pages = works.same_pages; waiting = works.waiting }
 
 -- a commit
-module _ (root : List ℕ) (old mid new : Store) (works : Works old mid) (commits : Commits root mid new) (marks : new.marks ≡ mid.marks) where
+module _ (root : List ℕ) (old mid new : Store) (works : Works old mid) (commits : Commits root mid new) (marks : new.marks ≡ mid.marks) (same_root : new.root ≡ mid.root) where
   work_or_closed : IsUnchanged mid new ⊎ (new.closed ≡ true) → Works old new ⊎ (new.closed ≡ true)
   work_or_closed (inl same) = inl (works_then works (unchanged_works root mid new commits same))
   work_or_closed (inr closed) = inr closed
@@ -71,6 +78,7 @@ module _ (root : List ℕ) (old mid new : Store) (works : Works old mid) (commit
     left = commit_left fault cause same;
     goes_on = goes_on_trans works.goes_on commits.goes_on;
     failures = omega (arith, works.failures, commits.failures);
+    root = same_root ∙ works.root;
     same_pages = ap (λ (ms : List Mark). length ms) marks ∙ works.same_pages;
     waiting = λ p is. works.waiting p (sym (ap (λ (ms : List Mark). mark ms p) marks) ∙ is);
   }
@@ -99,3 +107,40 @@ turn_cause t old u new TooManyPositions left = left.still
 turn_cause t old u new Inconsistent left = left.still
 turn_cause t old u new OutOfMemoryThere left = left.still
 turn_cause t old u new (Table fault) left = device_cause t old new fault left
+
+-- `discard` after a refusal
+module _ (old mid new : Store) (calm : IsCalm old) (left : IsLeft old mid) (marks : AreDiscarded mid.marks new.marks) (others : IsRemarked mid new) where
+  still_working : new.closed ≡ false → Works old mid
+  still_working open_ = elim left.left [ | inl works ↦ works | inr closed ↦ (let was = others.closed in absurd (cc)) ]
+
+  pub works_back : new.closed ≡ false → Works mid new → Works old new
+  works_back open_ works = works_then (still_working open_) works
+
+  pub is_back : new.closed ≡ false → IsBack old new
+  is_back open_ = discard_goes_back old mid new calm (still_working open_) marks others
+
+  pub there_back : (pages same : List ℕ) → same ≡ pages → ((p : ℕ) → Contains pages p → IsThere old p) → (p : ℕ) → Contains same p → IsThere new p
+  there_back pages same is there p here =
+      let was = there p (subst (λ (xs : List ℕ). Contains xs p) is here) in
+      (was.0, omega (arith, was.1, left.same_pages, marks.same_length))
+
+  pub was_honest : (torn b : Bool) → b ≡ new.closed → IsHonest (torn || b) new → IsHonest torn old × (new.closed ≡ false)
+  was_honest true b is honest = absurd (honest_not (honest.whole))
+    where
+      honest_not : true ≡ false → ⊥
+      honest_not e = cc
+  was_honest false b is honest =
+      (record { disk = subst (λ (x : Bool). IsTrue x) (ap (λ (d : Drive). d.honest) others.disk ∙ left.goes_on.honest) honest.disk; whole = refl }, sym is ∙ honest.whole)
+
+  pub whole_back : (known now far done : ℕ) (pages same : List ℕ) (torn b : Bool) → b ≡ new.closed → now ≡ known → same ≡ pages → (IsHonest torn old → IsWhole known far done pages old)
+      → IsHonest (torn || b) new → IsWhole now far done same new
+  whole_back known now far done pages same torn b is many pages_are whole honest =
+      let (was, open_) = was_honest torn b is honest in
+      subst (λ (xs : List ℕ). IsWhole now far done xs new) (sym pages_are)
+      (subst (λ (n : ℕ). IsWhole n far done pages new) (sym many) (back_whole known far done pages old (whole was) new calm (is_back open_) was.disk))
+
+  pub stored_back : (known far done : ℕ) (memory again : Stored (List ℕ)) (pages same : List ℕ) (torn : Bool) → again ≡ memory → same ≡ pages → (IsHonest torn old → IsWhole known far done pages old)
+      → IsHonest torn old → new.closed ≡ false → stored_of again same new ≡ stored_of memory pages old
+  stored_back known far done memory again pages same torn memory_is pages_are whole honest open_ =
+      (λ i. stored_of (memory_is i) (pages_are i) new)
+      ∙ ap (λ (rs : List Record). record memory { records = rs }) (back_records known far done pages old (whole honest) new calm (is_back open_) honest.disk)

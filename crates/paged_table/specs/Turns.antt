@@ -44,6 +44,7 @@ pub record IsLeft (old new : Store) : Type 0 where
   pub left : Works old new ⊎ (new.closed ≡ true)
   pub goes_on : GoesOn old.disk new.disk
   pub failures : old.failures ≤ new.failures
+  pub root : new.root ≡ old.root
   pub same_pages : length new.marks ≡ length old.marks
   pub waiting : (p : ℕ) → mark new.marks p ≡ Waiting → mark old.marks p ≡ Waiting
 

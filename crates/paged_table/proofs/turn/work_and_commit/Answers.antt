@@ -57,7 +57,7 @@ returns-in-Ok-clause-stop g c = λ honest open_ calm sound.
 
 pub returns-in-Err-clause-left : goal.returns-in-Err-clause-left
 returns-in-Err-clause-left g c =
-    left_committing c.args.root.now _ (g.S.Pages.store c.work.new.table.store) (g.S.Pages.store c.commit.new.self) c.in_ok-done.ensures.ahead.works c.commit.ensures.commits c.in-Err.ensures.kept_marks
+    left_committing c.args.root.now _ (g.S.Pages.store c.work.new.table.store) (g.S.Pages.store c.commit.new.self) c.in_ok-done.ensures.ahead.works c.commit.ensures.commits c.in-Err.ensures.kept_marks c.in-Err.ensures.kept_root
     c.in-Err.fault c.in-Err.ensures.cause c.in-Err.ensures.untouched
 
 pub returns-in-Err-clause-stop : goal.returns-in-Err-clause-stop
