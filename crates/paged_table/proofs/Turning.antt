@@ -1,7 +1,8 @@
 -- Work or a commit that was refused.
-use Rattle.std.proofs.Common.{◌≡◌, ◌≢◌, ◌⊎◌, inl, inr, ℕ, ◌≤◌, Bool, true, false, ◌||◌, List, length, Contains, refl, sym, ◌∙◌, ap, subst, arith}
+use Rattle.std.proofs.Common.{◌≡◌, ◌≢◌, ◌⊎◌, inl, inr, ℕ, ◌≤◌, Bool, true, false, ◌||◌, List, length, Contains, Result, Ok, Err, IfErr, refl, sym, ◌∙◌, ap, subst, arith}
 use Rattle.std.specs.Prelude.{IsTrue}
-use Rattle.sector_disk.specs.Disk.{Shown}
+use Rattle.std.specs.Result.{IsErr, IsErrAnd}
+use Rattle.sector_disk.specs.Disk.{Shown, Grew}
 use Rattle.sector_disk.specs.Disk.{Disk as Drive}
 use Rattle.sector_disk.specs.Moments.{leaves_more, goes_on_trans}
 use Rattle.root_pair.specs.Root.{root_of, IsAtRest}
@@ -24,8 +25,8 @@ use Rattle.frontier.specs.declared.fault.StepFault.TheVariants.{TooWide, KeeperC
 use Rattle.retrograde.specs.declared.records.Record.{Record}
 use Rattle.retrograde.specs.Stored.{Stored}
 use Rattle.paged_table.specs.Paged.{stored_of, IsWhole, IsHonest, GoesOn, Cause, Fails}
-use Rattle.paged_table.specs.Places.{IsThere}
-use Rattle.paged_table.specs.Turns.{IsLeft, DeviceCause, TurnCause}
+use Rattle.paged_table.specs.Places.{fault_of, IsThere, PlaceCause}
+use Rattle.paged_table.specs.Turns.{IsLeft, DeviceCause, TurnCause, StartCause, BeginCause}
 use Rattle.paged_table.proofs.Standing.{back_whole, back_records}
 
 -- a commit that left the store as it was commits nothing
@@ -107,6 +108,49 @@ turn_cause t old u new TooManyPositions left = left.still
 turn_cause t old u new Inconsistent left = left.still
 turn_cause t old u new OutOfMemoryThere left = left.still
 turn_cause t old u new (Table fault) left = device_cause t old new fault left
+
+-- no table is begun
+pub begin_memory : (old : Store) (fault : TableFault) → fault ≡ OutOfMemory → BeginCause old fault
+begin_memory old fault is = subst (λ (f : TableFault). BeginCause old f) (sym is) (record { moment = old; cause = tt })
+
+pub begin_out : {X : Type 0} (old : Store) (r : Result X TableFault) → IsErr r × IsErrAnd r (λ f. f ≡ OutOfMemory) → IfErr r (BeginCause old)
+begin_out old (Ok x) is = tt
+begin_out old (Err f) is = begin_memory old f is.1
+
+start_place : (old new : Store) (fault : TableFault) → PlaceCause old new fault → StartCause old new fault
+start_place old new Disk cause = cause
+start_place old new Damaged cause = cause
+start_place old new TableFull cause = cause
+start_place old new OutOfMemory cause = tt
+start_place old new Closed cause = cause
+
+pub begin_place : (old new : Store) (fault : TableFault) → PlaceCause old new fault → BeginCause old fault
+begin_place old new fault cause = record { moment = new; cause = start_place old new fault cause }
+
+pub begin_sealed : (old sealed : Store) (fault : TableFault) → IsRemarked old sealed → BeginCause sealed fault → BeginCause old fault
+begin_sealed old sealed fault others begin = record { moment = begin.moment; cause = start fault begin.cause }
+  where
+    start : (f : TableFault) → StartCause sealed begin.moment f → StartCause old begin.moment f
+    start Disk cause = subst (λ (n : ℕ). Grew n begin.moment.failures) others.failures cause
+    start Damaged cause = cause
+    start TableFull cause = cause
+    start OutOfMemory cause = tt
+    start Closed cause = sym others.closed ∙ cause
+
+pub begin_commit : (old mid new : Store) (fault : PageFault) → old.failures ≤ mid.failures → mid.closed ≡ old.closed → CommitCause mid new fault → BeginCause old (fault_of fault)
+begin_commit old mid new fault fewer still cause = record { moment = new; cause = start fault cause }
+  where
+    grew : Grew mid.failures new.failures → Grew old.failures new.failures
+    grew (inl less) = inl (omega (arith, fewer, less))
+    grew (inr most) = inr most
+
+    start : (f : PageFault) → CommitCause mid new f → StartCause old new (fault_of f)
+    start page.Disk why = grew why.0
+    start page.NotATable why = why
+    start page.Damaged why = why
+    start page.TableFull why = absurd why
+    start page.OutOfMemory why = tt
+    start page.Closed why = sym still ∙ why
 
 -- `discard` after a refusal
 module _ (old mid new : Store) (calm : IsCalm old) (left : IsLeft old mid) (marks : AreDiscarded mid.marks new.marks) (others : IsRemarked mid new) where

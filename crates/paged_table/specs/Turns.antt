@@ -1,7 +1,8 @@
 -- Work on a table and then a commit: what a stop leaves, and why it is refused.
-use Rattle.std.specs.Prelude.{◌≡◌, ◌⊎◌, ℕ, ◌≤◌, true, List, length, slice_get, Some, Bool}
+use Rattle.std.specs.Prelude.{◌≡◌, ◌⊎◌, ℕ, ◌≤◌, true, false, List, length, slice_get, Some, Bool, IsTrue}
 use Rattle.sector_disk.specs.Disk.{Picture, Grew, GoesOn}
-use Rattle.page_store.specs.declared.marks.Mark.TheVariants.{Waiting}
+use Rattle.page_store.specs.declared.marks.Mark.{Mark}
+use Rattle.page_store.specs.declared.marks.Mark.TheVariants.{Committed, Waiting, Fresh, Released, Free}
 use Rattle.page_store.specs.Marks.{mark, free_count}
 use Rattle.page_store.specs.Spelling.{Spells}
 use Rattle.page_store.specs.Store.{Store, Works}
@@ -15,6 +16,18 @@ use Rattle.frontier.specs.declared.fault.StepFault.TheVariants.{TooWide, KeeperC
 use Rattle.table_work.specs.Work.{AreDone}
 use Rattle.paged_table.specs.Page.{IsRecordPage}
 use Rattle.paged_table.specs.Paged.{records_in, IsHonest}
+
+-- a page with this mark is needed or free, and neither handed out nor released
+abbrev pub rests : Mark → Bool
+rests Committed = true
+rests Waiting = false
+rests Fresh = false
+rests Released = false
+rests Free = true
+
+-- so it is with each page, as after a commit
+abbrev pub AtRest : List Mark → Type 0
+AtRest marks = (p : ℕ) → IsTrue (rests (mark marks p))
 
 -- these pages, where pages have these bytes, spell these records
 pub record AreSpelled (pages : List ℕ) (records : List Record) (bytes : ℕ → List ℕ) : Type 0 where
@@ -70,3 +83,16 @@ TurnCause torn old new TooManyPositions = new.closed ≡ old.closed
 TurnCause torn old new Inconsistent = new.closed ≡ old.closed
 TurnCause torn old new OutOfMemory = new.closed ≡ old.closed
 TurnCause torn old new (Table fault) = DeviceCause torn old new fault
+
+-- why no table is begun: the disk failed, no page was free at the later moment, memory was short, or the store was closed
+abbrev pub StartCause : Store → Store → TableFault → Type 0
+StartCause old moment table.Disk = Grew old.failures moment.failures
+StartCause old moment table.Damaged = ⊥
+StartCause old moment table.TableFull = free_count moment.marks ≡ 0
+StartCause old moment table.OutOfMemory = Unit {0}
+StartCause old moment table.Closed = old.closed ≡ true
+
+-- at some later moment there was such a cause
+pub record BeginCause (old : Store) (fault : TableFault) : Type 0 where
+  pub moment : Store
+  pub cause : StartCause old moment fault

@@ -2,9 +2,11 @@
 //! meets the trait `Table`, and what a commit of such a table needs.
 #![tactic(auto)]
 
+mod committed;
 mod page;
 mod paged;
 mod place;
 mod turn;
 
+pub use committed::CommittedTable;
 pub use paged::PagedTable;
