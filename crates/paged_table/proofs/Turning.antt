@@ -155,7 +155,7 @@ begin_commit old mid new fault fewer still cause = record { moment = new; cause 
 -- `discard` after a refusal
 module _ (old mid new : Store) (calm : IsCalm old) (left : IsLeft old mid) (marks : AreDiscarded mid.marks new.marks) (others : IsRemarked mid new) where
   still_working : new.closed ≡ false → Works old mid
-  still_working open_ = elim left.left [ | inl works ↦ works | inr closed ↦ (let was = others.closed in absurd (cc)) ]
+  still_working open_ = elim left.left [ inl works ↦ works | inr closed ↦ (let was = others.closed in absurd (cc)) ]
 
   pub works_back : new.closed ≡ false → Works mid new → Works old new
   works_back open_ works = works_then (still_working open_) works

@@ -20,7 +20,12 @@ stored_of memory pages store = record memory { records = records_in (reads store
 
 -- how many positions are known, expanded, settled and processed: memory counts the first and the third of these
 abbrev pub counted_of : Stored (List ℕ) → ℕ → ℕ → Counts
-counted_of memory expanded processed = record { known = length memory.positions; expanded = expanded; settled = length memory.order; processed = processed }
+counted_of memory expanded processed = record {
+  known = length memory.positions;
+  expanded = expanded;
+  settled = length memory.order;
+  processed = processed;
+}
 
 -- the pages, one for each known position, spell records that are counted right, `far` of them expanded and `done` processed,
 -- and the next commit keeps them

@@ -39,8 +39,8 @@ abbrev pub Holds : List ℕ → ℕ → List ℕ → Stored (List ℕ) → Pictu
 Holds root capacity pages stored = Spells root capacity (AreSpelled pages stored.records)
 
 -- the picture has this root, and pages of it spell the records of a table that some of the units lead to
-pub record HoldsReached (graph : Graph (List ℕ)) (IsWide : List ℕ → Type 0) (units : ℕ) (was : Stored (List ℕ)) (root : List ℕ) (capacity : ℕ)
-    (picture : Picture) : Type 0 where
+pub record HoldsReached (graph : Graph (List ℕ)) (IsWide : List ℕ → Type 0) (units : ℕ) (was : Stored (List ℕ)) (root : List ℕ)
+    (capacity : ℕ) (picture : Picture) : Type 0 where
   pub done : ℕ
   pub now : Stored (List ℕ)
   pub reached : AreDone graph IsWide units was done now

@@ -28,8 +28,13 @@ pub struct CommittedTable<S: Pages> {
 }
 
 /// The table of a game that was just loaded, on a store none of whose pages waits.
-fn loaded<S: Pages + Drop>(alloc: Global, store: S, start: &Packed) -> Result<PagedTable<S>, TableFault>
-    ensures loaded { IsTrue (S.store store).disk.honest → IfOk result (λ t. ⟦<PagedTable<S> as Table>⟧.stored t ≡ loaded_with start.now.items) }
+fn loaded<S: Pages + Drop>(
+    alloc: Global,
+    store: S,
+    start: &Packed,
+) -> Result<PagedTable<S>, TableFault>
+    ensures loaded { IsTrue (S.store store).disk.honest
+        → IfOk result (λ t. ⟦<PagedTable<S> as Table>⟧.stored t ≡ loaded_with start.now.items) }
     ensures honest { IfOk result (λ t. t.torn ≡ false) }
     ensures works { IfOk result (λ t. Works (S.store store) (S.store t.store)) }
     ensures still { IfOk result (λ t. (S.store t.store).closed ≡ (S.store store).closed) }
@@ -52,8 +57,14 @@ fn loaded<S: Pages + Drop>(alloc: Global, store: S, start: &Packed) -> Result<Pa
 
 impl<S: Pages + Drop> CommittedTable<S> {
     /// Makes the table of a game that was just loaded, and commits it under this root. Pages that are not marked are free.
-    pub fn begin(alloc: Global, store: S, start: &Packed, root: &[u8; 512]) -> Result<Self, TableFault>
-        ensures loaded { IsTrue (S.store store).disk.honest → IfOk result (λ t. ⟦<PagedTable<S> as Table>⟧.stored t.table ≡ loaded_with start.now.items) }
+    pub fn begin(
+        alloc: Global,
+        store: S,
+        start: &Packed,
+        root: &[u8; 512],
+    ) -> Result<Self, TableFault>
+        ensures loaded { IsTrue (S.store store).disk.honest
+            → IfOk result (λ t. ⟦<PagedTable<S> as Table>⟧.stored t.table ≡ loaded_with start.now.items) }
         ensures honest { IfOk result (λ t. IsTrue (S.store store).disk.honest ↔ ⟦<PagedTable<S> as Table>⟧.is_honest t.table) }
         ensures root { IfOk result (λ t. (S.store t.table.store).root ≡ root.now) }
         ensures open { IfOk result (λ t. (S.store t.table.store).closed ≡ false) }
@@ -86,17 +97,28 @@ impl<S: Pages> CommittedTable<S> {
         requires { number < (⟦<PagedTable<S> as Table>⟧.counted self.old.table).known }
         ensures record { ⟦<PagedTable<S> as Table>⟧.is_honest self.old.table
             → IfOk result (λ r. HasRecord (⟦<PagedTable<S> as Table>⟧.stored self.old.table) number r) }
+        ensures same { ⟦<PagedTable<S> as Table>⟧.is_honest self.old.table
+            → ⟦<PagedTable<S> as Table>⟧.stored self.new.table ≡ ⟦<PagedTable<S> as Table>⟧.stored self.old.table }
+        ensures honest { ⟦<PagedTable<S> as Table>⟧.is_honest self.old.table ↔ ⟦<PagedTable<S> as Table>⟧.is_honest self.new.table }
+        ensures counts { ⟦<PagedTable<S> as Table>⟧.counted self.new.table ≡ ⟦<PagedTable<S> as Table>⟧.counted self.old.table }
         ensures stays { ⟦<PagedTable<S> as Table>⟧.stays self.old.table self.new.table }
         ensures fault { IfErr result (⟦<PagedTable<S> as Table>⟧.fails self.old.table self.new.table) }
     {
         self.table.record(number)
     }
 
+    /// Whether a write or a sync has failed: then no call that uses the disk is answered.
+    pub fn is_closed(&self) -> bool
+        ensures { result ≡ (S.store self.now.table.store).closed }
+    {
+        self.table.store.is_closed()
+    }
+
     /// A stop of the power now leaves the table that is stored.
     pub fn rests(&self)
         ensures { ⟦<PagedTable<S> as Table>⟧.is_honest self.now.table → (S.store self.now.table.store).closed ≡ false
             → StopLeaves (S.store self.now.table.store) (Holds (S.store self.now.table.store).root
-                (length (S.store self.now.table.store).marks) self.now.table.pages.items (⟦<PagedTable<S> as Table>⟧.stored self.now.table)) }
+            (length (S.store self.now.table.store).marks) self.now.table.pages.items (⟦<PagedTable<S> as Table>⟧.stored self.now.table)) }
     {}
 
     /// Does so many units of work, or fewer where the table is finished by then, and commits this root. A stop of the power
@@ -112,11 +134,12 @@ impl<S: Pages> CommittedTable<S> {
         requires source { M.is_sound source.now }
         requires limit { (⟦<PagedTable<S> as Table>⟧.counted self.old.table).known ≤ 2 ^ 24 }
         ensures limit { (⟦<PagedTable<S> as Table>⟧.counted self.new.table).known ≤ 2 ^ 24 }
-        ensures honest { OnOk result (⟦<PagedTable<S> as Table>⟧.is_honest self.old.table ↔ ⟦<PagedTable<S> as Table>⟧.is_honest self.new.table) }
+        ensures honest { OnOk result
+            (⟦<PagedTable<S> as Table>⟧.is_honest self.old.table ↔ ⟦<PagedTable<S> as Table>⟧.is_honest self.new.table) }
         ensures done { ⟦<PagedTable<S> as Table>⟧.is_honest self.old.table
             → IsLocallySound (M.graph source.now) (M.is_wide source.now) (⟦<PagedTable<S> as Table>⟧.stored self.old.table)
             → IfOk result (λ done. AreDone (M.graph source.now) (M.is_wide source.now) units
-                (⟦<PagedTable<S> as Table>⟧.stored self.old.table) done (⟦<PagedTable<S> as Table>⟧.stored self.new.table)) }
+            (⟦<PagedTable<S> as Table>⟧.stored self.old.table) done (⟦<PagedTable<S> as Table>⟧.stored self.new.table)) }
         ensures root { OnOk result ((S.store self.new.table.store).root ≡ root.now) }
         ensures kept_root { OnErr result ((S.store self.new.table.store).root ≡ (S.store self.old.table.store).root) }
         ensures kept_honest { OnErr result ((S.store self.new.table.store).closed ≡ false
@@ -126,17 +149,18 @@ impl<S: Pages> CommittedTable<S> {
         ensures stop { ⟦<PagedTable<S> as Table>⟧.is_honest self.old.table → (S.store self.old.table.store).closed ≡ false
             → IsLocallySound (M.graph source.now) (M.is_wide source.now) (⟦<PagedTable<S> as Table>⟧.stored self.old.table)
             → LeavesOnly (S.store self.old.table.store).disk (S.store self.new.table.store).disk
-                (IsLeftByTurn (M.graph source.now) (M.is_wide source.now) units (S.store self.old.table.store) self.old.table.pages.items
-                    (⟦<PagedTable<S> as Table>⟧.stored self.old.table) root.now) }
-        ensures kept_stop { ⟦<PagedTable<S> as Table>⟧.is_honest self.old.table → OnErr result ((S.store self.new.table.store).closed ≡ false
+            (IsLeftByTurn (M.graph source.now) (M.is_wide source.now) units (S.store self.old.table.store) self.old.table.pages.items
+            (⟦<PagedTable<S> as Table>⟧.stored self.old.table) root.now) }
+        ensures kept_stop { ⟦<PagedTable<S> as Table>⟧.is_honest self.old.table
+            → OnErr result ((S.store self.new.table.store).closed ≡ false
             → LeavesOnly (S.store self.old.table.store).disk (S.store self.new.table.store).disk
-                (Holds (S.store self.old.table.store).root (length (S.store self.old.table.store).marks) self.old.table.pages.items
-                    (⟦<PagedTable<S> as Table>⟧.stored self.old.table))) }
+            (Holds (S.store self.old.table.store).root (length (S.store self.old.table.store).marks) self.old.table.pages.items
+            (⟦<PagedTable<S> as Table>⟧.stored self.old.table))) }
         ensures cause { IfErr result (TurnCause self.old.table.torn (S.store self.old.table.store) (S.store self.new.table.store)) }
         ensures refusal { ⟦<PagedTable<S> as Table>⟧.is_honest self.old.table
             → IsLocallySound (M.graph source.now) (M.is_wide source.now) (⟦<PagedTable<S> as Table>⟧.stored self.old.table)
             → IfErr result (λ fault. IsRefusal fault
-                → StopsWith (M.graph source.now) (M.is_wide source.now) (⟦<PagedTable<S> as Table>⟧.stored self.old.table) units fault) }
+            → StopsWith (M.graph source.now) (M.is_wide source.now) (⟦<PagedTable<S> as Table>⟧.stored self.old.table) units fault) }
         ensures consistent { ⟦<PagedTable<S> as Table>⟧.is_honest self.old.table
             → IsLocallySound (M.graph source.now) (M.is_wide source.now) (⟦<PagedTable<S> as Table>⟧.stored self.old.table)
             → result ≡ Err Inconsistent → ⊥ }

@@ -26,7 +26,8 @@ pub struct PagedTable<S: Pages> {
     /// A call that writes has stopped half way.
     pub(crate) torn: bool,
     ghost there: { (p : ℕ) → Contains pages.items p → IsThere (S.store store) p },
-    ghost whole: { IsHonest torn (S.store store) → IsWhole (length (stored_in memory).positions) expanded processed pages.items (S.store store) },
+    ghost whole: { IsHonest torn (S.store store)
+        → IsWhole (length (stored_in memory).positions) expanded processed pages.items (S.store store) },
 }
 
 /// The record of a position that is known and no more.
@@ -44,7 +45,8 @@ pub fn fresh() -> Record
 
 /// How many there are, once one that was counted or not is counted or not.
 fn recounted(count: u32, was: bool, is: bool) -> u32
-    ensures { (was ≡ true → 0 < count) → (was ≡ false → count < 2 ^ 32 - 1) → result + (if was then 1 else 0) ≡ count + (if is then 1 else 0) }
+    ensures { (was ≡ true → 0 < count) → (was ≡ false → count < 2 ^ 32 - 1)
+        → result + (if was then 1 else 0) ≡ count + (if is then 1 else 0) }
 {
     match (was, is) {
         (true, false) => count.saturating_sub(1),
@@ -73,19 +75,26 @@ impl<S: Pages> Table for PagedTable<S> {
 
     ghost fails = { λ was is fault. Fails was.torn (S.store was.store) (S.store is.store) fault };
 
-    ghost counts_are = { λ t honest. frames.counts_are (stored_in t.memory) t.expanded t.processed t.pages.items (S.store t.store) (t.whole honest) };
+    ghost counts_are = { λ t honest.
+        frames.counts_are (stored_in t.memory) t.expanded t.processed t.pages.items (S.store t.store) (t.whole honest) };
 
     ghost stays_here = { λ t. frames.stays_here t.torn t.pages.items (S.store t.store) };
 
-    ghost stays_then = { λ a b c first second. frames.stays_then a.torn a.pages.items (S.store a.store) b.torn b.pages.items (S.store b.store) c.torn c.pages.items (S.store c.store) first second };
+    ghost stays_then = { λ a b c first second.
+        frames.stays_then a.torn a.pages.items (S.store a.store) b.torn b.pages.items (S.store b.store)
+        c.torn c.pages.items (S.store c.store) first second };
 
-    ghost stays_goes_on = { λ a b it. frames.stays_goes_on a.torn a.pages.items (S.store a.store) b.torn b.pages.items (S.store b.store) it };
+    ghost stays_goes_on = { λ a b it.
+        frames.stays_goes_on a.torn a.pages.items (S.store a.store) b.torn b.pages.items (S.store b.store) it };
 
-    ghost goes_on_then = { λ a b c first second. frames.goes_on_then a.torn (S.store a.store) b.torn (S.store b.store) c.torn (S.store c.store) first second };
+    ghost goes_on_then = { λ a b c first second.
+        frames.goes_on_then a.torn (S.store a.store) b.torn (S.store b.store) c.torn (S.store c.store) first second };
 
-    ghost fails_since = { λ a b c fault first it. frames.fails_since a.torn (S.store a.store) b.torn (S.store b.store) (S.store c.store) fault first it };
+    ghost fails_since = { λ a b c fault first it.
+        frames.fails_since a.torn (S.store a.store) b.torn (S.store b.store) (S.store c.store) fault first it };
 
-    ghost memory_fails = { λ a b ahead. frames.memory_fails a.torn (S.store a.store) b.torn (S.store b.store) ahead };
+    ghost memory_fails = { λ a b ahead.
+        frames.memory_fails a.torn (S.store a.store) b.torn (S.store b.store) ahead };
 
     fn counts(&self) -> Counts {
         let counts = self.memory.counts();

@@ -41,20 +41,21 @@ fn work_and_commit<M: MoveSource, S: Pages>(
     ensures done { ⟦<PagedTable<S> as Table>⟧.is_honest table.old
         → IsLocallySound (M.graph source.now) (M.is_wide source.now) (⟦<PagedTable<S> as Table>⟧.stored table.old)
         → IfOk result (λ done. AreDone (M.graph source.now) (M.is_wide source.now) units
-            (⟦<PagedTable<S> as Table>⟧.stored table.old) done (⟦<PagedTable<S> as Table>⟧.stored table.new)) }
+        (⟦<PagedTable<S> as Table>⟧.stored table.old) done (⟦<PagedTable<S> as Table>⟧.stored table.new)) }
     ensures calm { IsCalm (S.store table.old.store) → OnOk result (IsCalm (S.store table.new.store)) }
     ensures root { OnOk result ((S.store table.new.store).root ≡ root.now) }
     ensures left { OnErr result (IsLeft (S.store table.old.store) (S.store table.new.store)) }
-    ensures stop { ⟦<PagedTable<S> as Table>⟧.is_honest table.old → (S.store table.old.store).closed ≡ false → IsCalm (S.store table.old.store)
+    ensures stop { ⟦<PagedTable<S> as Table>⟧.is_honest table.old → (S.store table.old.store).closed ≡ false
+        → IsCalm (S.store table.old.store)
         → IsLocallySound (M.graph source.now) (M.is_wide source.now) (⟦<PagedTable<S> as Table>⟧.stored table.old)
         → LeavesOnly (S.store table.old.store).disk (S.store table.new.store).disk
-            (IsLeftByTurn (M.graph source.now) (M.is_wide source.now) units (S.store table.old.store) table.old.pages.items
-                (⟦<PagedTable<S> as Table>⟧.stored table.old) root.now) }
+        (IsLeftByTurn (M.graph source.now) (M.is_wide source.now) units (S.store table.old.store) table.old.pages.items
+        (⟦<PagedTable<S> as Table>⟧.stored table.old) root.now) }
     ensures cause { IfErr result (TurnCause table.old.torn (S.store table.old.store) (S.store table.new.store)) }
     ensures refusal { ⟦<PagedTable<S> as Table>⟧.is_honest table.old
         → IsLocallySound (M.graph source.now) (M.is_wide source.now) (⟦<PagedTable<S> as Table>⟧.stored table.old)
         → IfErr result (λ fault. IsRefusal fault
-            → StopsWith (M.graph source.now) (M.is_wide source.now) (⟦<PagedTable<S> as Table>⟧.stored table.old) units fault) }
+        → StopsWith (M.graph source.now) (M.is_wide source.now) (⟦<PagedTable<S> as Table>⟧.stored table.old) units fault) }
     ensures consistent { ⟦<PagedTable<S> as Table>⟧.is_honest table.old
         → IsLocallySound (M.graph source.now) (M.is_wide source.now) (⟦<PagedTable<S> as Table>⟧.stored table.old)
         → result ≡ Err Inconsistent → ⊥ }
@@ -90,7 +91,7 @@ impl<S: Pages> PagedTable<S> {
         ensures done { ⟦<PagedTable<S> as Table>⟧.is_honest self.old
             → IsLocallySound (M.graph source.now) (M.is_wide source.now) (⟦<PagedTable<S> as Table>⟧.stored self.old)
             → IfOk result (λ done. AreDone (M.graph source.now) (M.is_wide source.now) units
-                (⟦<PagedTable<S> as Table>⟧.stored self.old) done (⟦<PagedTable<S> as Table>⟧.stored self.new)) }
+            (⟦<PagedTable<S> as Table>⟧.stored self.old) done (⟦<PagedTable<S> as Table>⟧.stored self.new)) }
         ensures root { OnOk result ((S.store self.new.store).root ≡ root.now) }
         ensures kept_root { OnErr result ((S.store self.new.store).root ≡ (S.store self.old.store).root) }
         ensures kept_honest { OnErr result ((S.store self.new.store).closed ≡ false
@@ -100,17 +101,17 @@ impl<S: Pages> PagedTable<S> {
         ensures stop { ⟦<PagedTable<S> as Table>⟧.is_honest self.old → (S.store self.old.store).closed ≡ false
             → IsLocallySound (M.graph source.now) (M.is_wide source.now) (⟦<PagedTable<S> as Table>⟧.stored self.old)
             → LeavesOnly (S.store self.old.store).disk (S.store self.new.store).disk
-                (IsLeftByTurn (M.graph source.now) (M.is_wide source.now) units (S.store self.old.store) self.old.pages.items
-                    (⟦<PagedTable<S> as Table>⟧.stored self.old) root.now) }
+            (IsLeftByTurn (M.graph source.now) (M.is_wide source.now) units (S.store self.old.store) self.old.pages.items
+            (⟦<PagedTable<S> as Table>⟧.stored self.old) root.now) }
         ensures kept_stop { ⟦<PagedTable<S> as Table>⟧.is_honest self.old → OnErr result ((S.store self.new.store).closed ≡ false
             → LeavesOnly (S.store self.old.store).disk (S.store self.new.store).disk
-                (Holds (S.store self.old.store).root (length (S.store self.old.store).marks) self.old.pages.items
-                    (⟦<PagedTable<S> as Table>⟧.stored self.old))) }
+            (Holds (S.store self.old.store).root (length (S.store self.old.store).marks) self.old.pages.items
+            (⟦<PagedTable<S> as Table>⟧.stored self.old))) }
         ensures cause { IfErr result (TurnCause self.old.torn (S.store self.old.store) (S.store self.new.store)) }
         ensures refusal { ⟦<PagedTable<S> as Table>⟧.is_honest self.old
             → IsLocallySound (M.graph source.now) (M.is_wide source.now) (⟦<PagedTable<S> as Table>⟧.stored self.old)
             → IfErr result (λ fault. IsRefusal fault
-                → StopsWith (M.graph source.now) (M.is_wide source.now) (⟦<PagedTable<S> as Table>⟧.stored self.old) units fault) }
+            → StopsWith (M.graph source.now) (M.is_wide source.now) (⟦<PagedTable<S> as Table>⟧.stored self.old) units fault) }
         ensures consistent { ⟦<PagedTable<S> as Table>⟧.is_honest self.old
             → IsLocallySound (M.graph source.now) (M.is_wide source.now) (⟦<PagedTable<S> as Table>⟧.stored self.old)
             → result ≡ Err Inconsistent → ⊥ }

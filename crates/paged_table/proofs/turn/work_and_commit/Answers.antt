@@ -29,8 +29,8 @@ pub invariant_of-table : goal.invariant_of-table
 invariant_of-table g c = record {
   there = λ p here. let was = c.work.new.table.there p here in (was.0, omega (arith, was.1, c.in-Ok.ensures.ok.marks.same_length));
   whole = λ honest.
-    let was : IsTrue (g.S.Pages.store c.work.new.table.store).disk.honest = subst (λ (b : Bool). IsTrue b) c.commit.ensures.commits.goes_on.honest honest.disk in
-    committed_whole _ _ _ _ _ (c.work.new.table.whole (record { disk = was; whole = honest.whole })) c.args.root.now (g.S.Pages.store c.commit.new.self) c.in-Ok.ensures.ok was;
+      let was : IsTrue (g.S.Pages.store c.work.new.table.store).disk.honest = subst (λ (b : Bool). IsTrue b) c.commit.ensures.commits.goes_on.honest honest.disk in
+      committed_whole _ _ _ _ _ (c.work.new.table.whole (record { disk = was; whole = honest.whole })) c.args.root.now (g.S.Pages.store c.commit.new.self) c.in-Ok.ensures.ok was;
 }
 
 pub invariant_of-table-in-Err-1 : goal.invariant_of-table-in-Err-1
@@ -44,7 +44,7 @@ returns-in-Ok-clause-done g c = λ honest sound.
     let here : IsHonest c.work.new.table.torn (g.S.Pages.store c.work.new.table.store) = honest_on _ _ _ _ c.in_ok-done.ensures.ahead honest in
     let same = committed_records _ _ _ _ _ (c.work.new.table.whole here) c.args.root.now (g.S.Pages.store c.commit.new.self) c.in-Ok.ensures.ok here.disk in
     subst (λ (rs : List Record). AreDone (g.M.GameGraph.graph c.args.source.now) (g.M.GameGraph.is_wide c.args.source.now) c.args.units
-      (stored_of (stored_in c.args.table.now.memory) c.args.table.now.pages.items (g.S.Pages.store c.args.table.now.store)) c.in_ok-done.done (record (stored_in c.work.new.table.memory) { records = rs }))
+    (stored_of (stored_in c.args.table.now.memory) c.args.table.now.pages.items (g.S.Pages.store c.args.table.now.store)) c.in_ok-done.done (record (stored_in c.work.new.table.memory) { records = rs }))
     (sym same) (c.in_ok-done.ensures.done honest sound)
 
 pub returns-in-Ok-clause-stop : goal.returns-in-Ok-clause-stop

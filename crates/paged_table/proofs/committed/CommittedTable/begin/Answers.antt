@@ -17,8 +17,8 @@ pub invariant_of-table : goal.invariant_of-table
 invariant_of-table g c = record {
   there = λ p here. let was = c.in_ok-table.table.there p here in (was.0, omega (arith, was.1, c.in-Ok.ensures.ok.marks.same_length));
   whole = λ honest.
-    let was : IsTrue (g.S.Pages.store c.in_ok-table.table.store).disk.honest = subst (λ (b : Bool). IsTrue b) c.commit.ensures.commits.goes_on.honest honest.disk in
-    committed_whole _ _ _ _ _ (c.in_ok-table.table.whole (record { disk = was; whole = c.in_ok-table.ensures.honest })) c.args.root.now (g.S.Pages.store c.commit.new.self) c.in-Ok.ensures.ok was;
+      let was : IsTrue (g.S.Pages.store c.in_ok-table.table.store).disk.honest = subst (λ (b : Bool). IsTrue b) c.commit.ensures.commits.goes_on.honest honest.disk in
+      committed_whole _ _ _ _ _ (c.in_ok-table.table.whole (record { disk = was; whole = c.in_ok-table.ensures.honest })) c.args.root.now (g.S.Pages.store c.commit.new.self) c.in-Ok.ensures.ok was;
 }
 
 pub returns-in-Ok-clause-loaded : goal.returns-in-Ok-clause-loaded
