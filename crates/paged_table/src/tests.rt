@@ -46,23 +46,23 @@ fn table_disk(alloc: Global) -> Result<MemDisk, Fail> {
     Ok(disk)
 }
 
-/// The table of a game that was just loaded, on this disk.
+/// The table of a game that was just loaded, on this disk, where so many pages are taken for nothing.
 fn begun<D: SectorDisk + Drop>(
     alloc: Global,
     source: &Compiled,
     disk: D,
+    taken: u32,
 ) -> Result<CommittedTable<PageStore<D>>, Fail>
     requires { IsCompiled source.now }
 {
-    match PageStore::open(alloc, disk) {
-        Ok(store) => Ok(CommittedTable::begin(
-            alloc,
-            store,
-            &MoveSource::start(source),
-            &[1; 512],
-        )?),
-        Err(_) => Err("the store cannot be opened".into()),
+    let Ok(mut store) = PageStore::open(alloc, disk) else {
+        return Err("the store cannot be opened".into());
+    };
+    store.seal();
+    for _ in 0..taken {
+        store.new_page()?;
     }
+    Ok(CommittedTable::begin(alloc, store, &MoveSource::start(source), &[1; 512])?)
 }
 
 /// How many units of so many were done and committed.
@@ -115,7 +115,7 @@ fn expected(alloc: Global, source: &Compiled, units: u32) -> Result<Vec<Record>,
 fn takes_come_to_the_records_of_the_table_in_memory(rt: HostRuntime) -> Result<(), Fail> {
     let alloc = rt.alloc();
     let source = takes(alloc)?;
-    let mut table = begun(alloc, &source, table_disk(alloc)?)?;
+    let mut table = begun(alloc, &source, table_disk(alloc)?, 0)?;
     for done in 0..=14 {
         let found = records(alloc, &mut table)?;
         let wanted = expected(alloc, &source, done)?;
@@ -134,7 +134,7 @@ fn after_a_fault_all_is_as_committed(rt: HostRuntime) -> Result<(), Fail> {
     let first = expected(alloc, &source, 0)?;
     for calls in [0, 9, 30, 100, 200] {
         let disk = FlakyDisk::new(table_disk(alloc)?, OPENING + BEGINNING + calls, false);
-        let mut table = begun(alloc, &source, disk)?;
+        let mut table = begun(alloc, &source, disk, 0)?;
         let told = turned(alloc, &source, &mut table, u32::MAX);
         assert_eq!(rt;
             told,
@@ -142,7 +142,12 @@ fn after_a_fault_all_is_as_committed(rt: HostRuntime) -> Result<(), Fail> {
             "call {calls}"
         );
         if table.is_closed() {
-            assert_eq!(rt; table.record(0), Err(TableFault::Closed));
+            let told = turned(alloc, &source, &mut table, 1);
+            assert_eq!(rt;
+                told,
+                Err(StepFault::Table(TableFault::Closed)),
+                "call {calls}"
+            );
         } else {
             let found = records(alloc, &mut table)?;
             assert_eq!(rt; found.as_slice(), first.as_slice(), "call {calls}");
@@ -158,9 +163,7 @@ fn after_a_fault_all_is_as_committed(rt: HostRuntime) -> Result<(), Fail> {
 fn a_full_store_is_told_and_nothing_changes(rt: HostRuntime) -> Result<(), Fail> {
     let alloc = rt.alloc();
     let source = takes(alloc)?;
-    let mut disk = MemDisk::new(alloc, 64)?;
-    create(&mut disk, &[7; 512])?;
-    let mut table = begun(alloc, &source, disk)?;
+    let mut table = begun(alloc, &source, table_disk(alloc)?, 12)?;
     let told = turned(alloc, &source, &mut table, u32::MAX);
     assert_eq!(rt; told, Err(StepFault::Table(TableFault::TableFull)));
     let found = records(alloc, &mut table)?;
