@@ -1,13 +1,13 @@
 -- Faults that are handed on.
-use Rattle.std.proofs.Common.{◌≡◌, ◌≢◌, ℕ, ◌<◌, Bool, List, length, Result, Ok, Err, Some, refl, sym, subst}
-use Rattle.std.specs.Prelude.{IsTrue, slice_get, OnErr}
+use Rattle.std.proofs.Common.{◌≡◌, ◌≢◌, ℕ, Bool, Result, Ok, Err, refl, sym, subst}
+use Rattle.std.specs.Prelude.{OnErr}
 use Rattle.std.specs.Result.{IsErr, IfErr, IsErrAnd}
 use Rattle.page_store.specs.Store.{Store, reads, Works, IsUnchanged}
 use Rattle.page_store.specs.Works.{works_refl}
 use Rattle.table.specs.declared.fault.TableFault.{TableFault}
 use Rattle.table.specs.declared.fault.TableFault.TheVariants.{Disk, Damaged, TableFull, OutOfMemory, Closed}
 use Rattle.paged_table.specs.Page.{IsRecordPage}
-use Rattle.paged_table.specs.Paged.{IsWhole, IsHonest, GoesOn, Cause, Fails}
+use Rattle.paged_table.specs.Paged.{IsHonest, GoesOn, Cause, Fails}
 use Rattle.paged_table.specs.Places.{IsThere, ReadCause, PlaceCause}
 use Rattle.paged_table.specs.aid.Frames.{memory_fails}
 

@@ -1,7 +1,6 @@
 -- A record is put on a new page, and its old page is let go.
-use Rattle.std.proofs.Common.{◌≡◌, ◌⊎◌, inl, inr, ℕ, ◌≤◌, ◌<◌, Bool, true, false, List, length, refl, sym, ◌∙◌, ap, subst, arith}
+use Rattle.std.proofs.Common.{◌≡◌, inr, ℕ, List, refl, sym, ◌∙◌, ap, subst, arith}
 use Rattle.std.specs.Prelude.{IsTrue}
-use Rattle.std.proofs.lemmas.Bool.{cases_eq}
 use Rattle.sector_disk.specs.Disk.{Disk}
 use Rattle.page_store.specs.declared.marks.Mark.{Mark}
 use Rattle.page_store.specs.declared.marks.Mark.TheVariants.{Committed, Waiting, Fresh, Released, Free}
@@ -10,7 +9,7 @@ use Rattle.page_store.specs.Page.{page}
 use Rattle.page_store.specs.Store.{Store, reads, IsRemarked}
 use Rattle.retrograde.specs.declared.records.Record.{Record}
 use Rattle.paged_table.specs.Page.{record_in, IsRecordPage}
-use Rattle.paged_table.specs.Places.{IsThere, IsAdded, IsRenewed}
+use Rattle.paged_table.specs.Places.{IsAdded, IsRenewed}
 
 -- a page that is kept is not free
 pub kept_not_free : (m : Mark) → IsTrue (keeps m) → m ≡ Free → ⊥

@@ -1,22 +1,21 @@
 -- What the pages of a table spell stands, is prepared, and is carried by a commit.
-use Rattle.std.proofs.Common.{◌≡◌, ◌⊎◌, inl, inr, ⊎_elim, ℕ, ◌≤◌, Bool, true, false, List, length, Some, Contains, refl, sym, ◌∙◌, ap, subst, arith}
+use Rattle.std.proofs.Common.{◌≡◌, ◌⊎◌, inl, inr, ℕ, Bool, false, List, length, Some, refl, sym, ◌∙◌, ap, subst}
 use Rattle.std.specs.Prelude.{IsTrue, slice_get, count_by}
-use Rattle.sector_disk.specs.Disk.{Picture, Disk, LeavesOnly}
+use Rattle.sector_disk.specs.Disk.{Picture, LeavesOnly}
 use Rattle.sector_disk.specs.Moments.{leaves_more, still_honest}
 use Rattle.page_store.specs.declared.marks.Mark.{Mark}
 use Rattle.page_store.specs.declared.marks.Mark.TheVariants.{Committed, Waiting, Fresh, Released, Free}
-use Rattle.page_store.specs.Marks.{mark, needs, keeps, turned, IsNeeded, IsKept, AreDiscarded}
-use Rattle.page_store.specs.Store.{Store, reads, Saved, IsSound, IsSafe, Works, Commits, IsCommitted, IsRemarked}
+use Rattle.page_store.specs.Marks.{mark, needs, keeps, turned, IsNeeded, IsKept}
+use Rattle.page_store.specs.Store.{Store, reads, IsSound, Works, Commits, IsCommitted}
 use Rattle.page_store.specs.Spelling.{SpelledBy, Stands, IsPrepared, Spells, IsCalm, IsBack}
-use Rattle.page_store.specs.Carrying.{saved_spells, commit_carries, discard_goes_back}
+use Rattle.page_store.specs.Carrying.{saved_spells, commit_carries}
 use Rattle.retrograde.specs.declared.records.Record.{Record}
 use Rattle.retrograde.specs.Graph.{Graph}
 use Rattle.retrograde.specs.Stored.{Stored, is_expanded, is_processed}
 use Rattle.table_work.specs.Work.{AreDone}
 use Rattle.paged_table.specs.Page.{record_in, IsRecordPage}
 use Rattle.paged_table.specs.Paged.{records_in, stored_of, IsWhole, IsHonest}
-use Rattle.paged_table.specs.Places.{IsThere}
-use Rattle.paged_table.specs.Turns.{AreSpelled, Holds, HoldsReached, IsLeftByTurn}
+use Rattle.paged_table.specs.Turns.{AreSpelled, Holds, IsLeftByTurn}
 use Rattle.paged_table.proofs.Lists.{map_same}
 
 -- the pages of the table

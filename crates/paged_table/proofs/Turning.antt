@@ -9,7 +9,6 @@ use Rattle.root_pair.specs.Root.{root_of, IsAtRest}
 use Rattle.page_store.specs.declared.fault.PageFault.{PageFault}
 use Rattle.page_store.specs.declared.fault.PageFault.TheVariants as page
 use Rattle.page_store.specs.declared.marks.Mark.{Mark}
-use Rattle.page_store.specs.declared.marks.Mark.TheVariants.{Waiting}
 use Rattle.page_store.specs.Causes.{CommitCause}
 use Rattle.page_store.specs.Marks.{mark, needs, IsNeeded, AreDiscarded}
 use Rattle.page_store.specs.Page.{page as page_of}
@@ -24,7 +23,7 @@ use Rattle.frontier.specs.declared.fault.StepFault.{StepFault}
 use Rattle.frontier.specs.declared.fault.StepFault.TheVariants.{TooWide, KeeperChooses, TooManyPositions, Inconsistent, OutOfMemory as OutOfMemoryThere, Table}
 use Rattle.retrograde.specs.declared.records.Record.{Record}
 use Rattle.retrograde.specs.Stored.{Stored}
-use Rattle.paged_table.specs.Paged.{stored_of, IsWhole, IsHonest, GoesOn, Cause, Fails}
+use Rattle.paged_table.specs.Paged.{stored_of, IsWhole, IsHonest, GoesOn, Fails}
 use Rattle.paged_table.specs.Places.{fault_of, IsThere, PlaceCause}
 use Rattle.paged_table.specs.Turns.{IsLeft, DeviceCause, TurnCause, StartCause, BeginCause}
 use Rattle.paged_table.proofs.Standing.{back_whole, back_records}

@@ -1,24 +1,22 @@
 -- What keeps a table whole.
-use Rattle.std.proofs.Common.{◌≡◌, ◌⊎◌, inl, inr, ⊎_elim, ℕ, zero, suc, ◌+◌, ◌^◌, ◌<◌, ◌≤◌, Bool, true, false, cond, List, [], ◌∷◌, ◌++◌, length, set, map, Some, None, Result, Ok, Err, IfOk, length-append, Contains, refl, sym, ◌∙◌, ap, subst, arith}
+use Rattle.std.proofs.Common.{◌≡◌, ◌⊎◌, inl, inr, ℕ, zero, suc, ◌+◌, ◌<◌, Bool, true, false, cond, List, [], ◌∷◌, ◌++◌, length, set, Some, None, Result, Ok, Err, IfOk, length-append, Contains, refl, sym, ◌∙◌, ap, subst, arith}
 use Rattle.std.specs.Prelude.{IsTrue, slice_get, count_by, option_map}
 use Rattle.std.proofs.lemmas.List.{length-set, map-set, map-append, length-map}
-use Rattle.std.proofs.lemmas.Option.{slice_get_within, slice_get-map}
+use Rattle.std.proofs.lemmas.Option.{slice_get-map}
 use Rattle.sector_disk.specs.Disk.{Shown}
-use Rattle.sector_disk.specs.Moments.{still_honest}
 use Rattle.page_store.specs.declared.marks.Mark.{Mark}
-use Rattle.page_store.specs.declared.marks.Mark.TheVariants.{Free, Fresh}
 use Rattle.page_store.specs.Marks.{mark, keeps, IsKept}
 use Rattle.page_store.specs.Page.{page}
 use Rattle.page_store.specs.Store.{Store, reads, Works, IsUnchanged}
 use Rattle.retrograde.specs.declared.records.Record.{Record}
 use Rattle.retrograde.specs.declared.records.State.TheVariants.{Processed}
-use Rattle.retrograde.specs.Stored.{Stored, is_expanded, is_processed}
-use Rattle.retrograde.specs.Changes.{fresh_record, with_position, with_record}
+use Rattle.retrograde.specs.Stored.{is_expanded, is_processed}
+use Rattle.retrograde.specs.Changes.{fresh_record}
 use Rattle.table.specs.declared.fault.TableFault.{TableFault}
 use Rattle.paged_table.specs.Page.{record_in, IsRecordPage}
-use Rattle.paged_table.specs.Paged.{records_in, stored_of, IsWhole, IsHonest}
+use Rattle.paged_table.specs.Paged.{records_in, IsWhole, IsHonest}
 use Rattle.paged_table.specs.Places.{IsThere, IsAdded, IsRenewed}
-use Rattle.paged_table.proofs.Lists.{contains_got, set_cases, push_cases, map_same, map_set_same, count_set, some_pass, some_fail, count_push}
+use Rattle.paged_table.proofs.Lists.{set_cases, push_cases, map_same, map_set_same, count_set, some_pass, some_fail, count_push}
 use Rattle.paged_table.proofs.Placing.{kept_not_free}
 
 -- pages stay where they are

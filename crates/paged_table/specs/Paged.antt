@@ -1,5 +1,5 @@
 -- What a table stores whose records are on pages, and what its calls leave.
-use Rattle.std.specs.Prelude.{◌≡◌, ◌≢◌, ℕ, ◌<◌, ◌≤◌, Bool, true, false, List, length, map, slice_get, Some, count_by, IsTrue}
+use Rattle.std.specs.Prelude.{◌≡◌, ◌≢◌, ℕ, Bool, true, false, List, length, map, slice_get, Some, count_by, IsTrue}
 use Rattle.sector_disk.specs.Disk.{Grew}
 use Rattle.page_store.specs.Marks.{IsKept, free_count}
 use Rattle.page_store.specs.Store.{Store, reads, Works}

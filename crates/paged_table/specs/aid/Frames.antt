@@ -1,13 +1,12 @@
 -- One call after another.
-use Rattle.std.proofs.Common.{◌≡◌, inl, inr, ℕ, ◌≤◌, Bool, List, length, refl, sym, ◌∙◌, ap, subst, arith}
+use Rattle.std.proofs.Common.{◌≡◌, inl, inr, ℕ, ◌≤◌, Bool, List, length, refl, sym, ◌∙◌, subst, arith}
 use Rattle.std.specs.Prelude.{IsTrue}
-use Rattle.sector_disk.specs.Disk.{Shown, Grew}
+use Rattle.sector_disk.specs.Disk.{Grew}
 use Rattle.sector_disk.specs.Moments.{still_honest}
 use Rattle.page_store.specs.Store.{Store}
 use Rattle.page_store.specs.Works.{works_refl, works_then}
 use Rattle.table.specs.declared.fault.TableFault.{TableFault}
 use Rattle.table.specs.declared.fault.TableFault.TheVariants.{Disk, Damaged, TableFull, OutOfMemory, Closed}
-use Rattle.retrograde.specs.declared.records.Counts.{Counts}
 use Rattle.retrograde.specs.Stored.{Stored}
 use Rattle.retrograde.specs.Changes.{counts_of}
 use Rattle.paged_table.specs.Paged.{stored_of, counted_of, IsWhole, IsHonest, Stays, GoesOn, Cause, Fails}

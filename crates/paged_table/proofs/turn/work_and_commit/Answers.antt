@@ -1,11 +1,9 @@
-use Rattle.std.proofs.Common.{◌∙◌, sym, subst, ℕ, List, true, Bool, ap, length, arith}
+use Rattle.std.proofs.Common.{◌∙◌, sym, subst, List, Bool, ap, length, arith}
 use Rattle.std.specs.Prelude.{IsTrue}
 use Rattle.retrograde.specs.declared.records.Record.{Record}
-use Rattle.retrograde.specs.Stored.{Stored}
 use Rattle.table.specs.InMemory.{stored_in}
 use Rattle.table_work.specs.Work.{AreDone}
 use Rattle.page_store.specs.declared.marks.Mark.{Mark}
-use Rattle.page_store.specs.Store.{Works}
 use Rattle.paged_table.specs.Paged.{stored_of, IsHonest}
 use Rattle.paged_table.specs.aid.Frames.{honest_on}
 use Rattle.paged_table.proofs.Faults.{passed_on}

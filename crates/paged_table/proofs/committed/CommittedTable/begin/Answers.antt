@@ -1,4 +1,4 @@
-use Rattle.std.proofs.Common.{◌∙◌, sym, subst, ap, Bool, List, length, arith}
+use Rattle.std.proofs.Common.{◌∙◌, sym, subst, ap, Bool, List, arith}
 use Rattle.std.specs.Prelude.{IsTrue}
 use Rattle.retrograde.specs.declared.records.Record.{Record}
 use Rattle.sector_disk.specs.Disk.{Disk}

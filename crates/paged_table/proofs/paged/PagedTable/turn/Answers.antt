@@ -1,4 +1,4 @@
-use Rattle.std.proofs.Common.{◌∙◌, ℕ, List, ap, length}
+use Rattle.std.proofs.Common.{ℕ, List, ap, length}
 use Rattle.page_store.specs.Works.{works_refl}
 use Rattle.retrograde.specs.Stored.{Stored}
 use Rattle.table.specs.InMemory.{stored_in}

@@ -1,4 +1,4 @@
-use Rattle.std.proofs.Common.{◌≡◌, ◌∙◌, ℕ, ◌+◌, ap, length, Some, None, List, Option, true, sym}
+use Rattle.std.proofs.Common.{◌≡◌, ◌∙◌, ℕ, ◌+◌, ap, length, Some, None, List, Option, true}
 use Rattle.std.specs.Result.{is_ok}
 use Rattle.std.specs.Option.{is_some, IfSome}
 use Rattle.retrograde.specs.Stored.{Stored}

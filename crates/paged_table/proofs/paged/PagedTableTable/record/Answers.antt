@@ -1,4 +1,4 @@
-use Rattle.std.proofs.Common.{◌≡◌, ◌∙◌, sym, Some, None, slice_get}
+use Rattle.std.proofs.Common.{◌≡◌, Some, None, slice_get}
 use Rattle.paged_table.specs.aid.Frames.{stays_here}
 use Rattle.paged_table.proofs.Faults.{damaged_here, read_faults}
 use Rattle.paged_table.proofs.Wholes.{there_on, whole_after_read, read_back, page_there}
