@@ -1,6 +1,5 @@
 -- One call after another.
-use Rattle.std.proofs.Common.{◌≡◌, inl, inr, ℕ, ◌≤◌, Bool, List, length, refl, sym, ◌∙◌, subst, arith}
-use Rattle.std.specs.Prelude.{IsTrue}
+use Rattle.std.proofs.Common.{◌≡◌, inl, inr, ℕ, ◌≤◌, Bool, List, length, refl, sym, ◌∙◌, arith}
 use Rattle.sector_disk.specs.Disk.{Grew}
 use Rattle.sector_disk.specs.Moments.{still_honest}
 use Rattle.page_store.specs.Store.{Store}
@@ -58,12 +57,6 @@ goes_on_then s a t b u c first second = record {
 -- what goes on is as honest as it was
 pub honest_on : (s : Bool) (a : Store) (t : Bool) (b : Store) → GoesOn s a t b → IsHonest s a → IsHonest t b
 honest_on s a t b it honest = record { disk = still_honest it.works.goes_on honest.disk; whole = it.torn ∙ honest.whole }
-
-pub honest_before : (s : Bool) (a : Store) (t : Bool) (b : Store) → GoesOn s a t b → IsHonest t b → IsHonest s a
-honest_before s a t b it honest = record {
-  disk = subst (λ (h : Bool). IsTrue h) it.works.goes_on.honest honest.disk;
-  whole = sym it.torn ∙ honest.whole;
-}
 
 grew_since : (i j k : ℕ) → i ≤ j → Grew j k → Grew i k
 grew_since i j k le (inl less) = inl (omega (arith, le, less))
