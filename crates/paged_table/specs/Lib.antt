@@ -1,0 +1,5 @@
+pub mod aid
+pub mod Page
+pub mod Paged
+pub mod Places
+pub mod Turns
