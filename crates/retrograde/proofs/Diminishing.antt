@@ -14,11 +14,14 @@ use Rattle.retrograde.specs.Graph.{Graph, Moves, HasMove, IsEnded}
 use Rattle.retrograde.specs.View.{HasNumber, IsProcessed}
 use Rattle.retrograde.specs.Local.{end_value, IsMoveValue, IsLocalValue, at_end, by_moves, own_win, all_lead, still_open}
 use Rattle.retrograde.specs.Stored.{Stored, HasRecord, FitsState, IsTable, is_expanded, is_processed, is_settled, processed_in, value_of, view_of, expanded_count, processed_count, count_below}
-use Rattle.retrograde.specs.Sound.{IsReached, MovesAreEdges, IsLocallySoundAt, IsLocallySound}
+use Rattle.retrograde.specs.Audit.{IsReached}
+use Rattle.retrograde.specs.Sound.{IsLocallySound}
+use Rattle.retrograde.specs.aid.ByEdges.{CountsItsEdges, IsSoundByEdgesAt}
 use Rattle.retrograde.specs.Steps.{IsLocallyRight, IsDue, ProcessesNext}
 use Rattle.retrograde.specs.Processing.{has_turn, is_open, is_due, lowered, processed_record, with_processed_alone, with_processed, IsNextSettled}
 use Rattle.retrograde.proofs.Finished.{none_or_some, is_some_at, element}
 use Rattle.retrograde.proofs.Local.{full_from_some, end_value_some}
+use Rattle.retrograde.proofs.ByEdges.{by_edges, sound_from_edges}
 use Rattle.retrograde.proofs.Counting.{true_or_false, only_one}
 use Rattle.retrograde.proofs.Lowering.{get_set_same, get_set_other, count_set, AreLowered, below_keeps}
 use Rattle.retrograde.proofs.Sound.{coherent, knows, forced, order, local, known_record, valued_known, risen, map_some}
@@ -409,8 +412,8 @@ module _ {P : Type 0} (graph : Graph P) (IsWide : P → Type 0) (stored : Stored
     abbrev left_now : ℕ → ℕ → Bool
     left_now i j = stored.has_edge j i && not ((view_of new).processed j)
 
-    edges_of : (i : ℕ) (x : P) → HasNumber (view_of stored) i x → MovesAreEdges graph stored i x
-    edges_of i x at = (sound.each i x at).moves_are_edges (let lt : i < size = slice_get_within stored.positions i x at in let all : expanded_count stored ≡ size = full in omega arith)
+    edges_of : (i : ℕ) (x : P) → HasNumber (view_of stored) i x → CountsItsEdges graph stored i x
+    edges_of i x at = (by_edges graph IsWide stored sound i x at).moves_are_edges (let lt : i < size = slice_get_within stored.positions i x at in let all : expanded_count stored ≡ size = full in omega arith)
 
     left_counts : (i : ℕ) → count_below (length new.positions) (λ j. new.has_edge j i && not ((view_of new).processed j)) ≡ count_below size (left_now i)
     left_counts i =
@@ -469,7 +472,7 @@ module _ {P : Type 0} (graph : Graph P) (IsWide : P → Type 0) (stored : Stored
         only_s j is =
             let (j_edge, none) = passed (stored.has_edge j i) ((view_of stored).processed j) is in
             let (y, j_at) = element stored.positions j ((sound.table.edges j i j_edge).0) in
-            let (z, z_at, _, move) = (sound.each j y j_at).edges_are_moves i j_edge in
+            let (z, z_at, _, move) = (by_edges graph IsWide stored sound j y j_at).edges_are_moves i j_edge in
             let z_is : z ≡ x = same_Some z x (sym z_at ∙ at) in
             let (k, k_at, done) = all y (subst (λ (u : P). graph.Successor u y) z_is move) in
             let same : k ≡ j = sound.table.distinct k j y (number_before k y k_at) j_at in
@@ -502,7 +505,7 @@ module _ {P : Type 0} (graph : Graph P) (IsWide : P → Type 0) (stored : Stored
         leads : stored.has_edge s i ≡ true → (z : P) × HasNumber (view_of new) s z × graph.Successor x z
         leads edge =
             let (z, z_at) = element stored.positions s s_within in
-            let (u, u_at, _, move) = (sound.each s z z_at).edges_are_moves i edge in
+            let (u, u_at, _, move) = (by_edges graph IsWide stored sound s z z_at).edges_are_moves i edge in
             let same : u ≡ x = same_Some u x (sym u_at ∙ at) in
             (z, number_after s z z_at, subst (λ (v : P). graph.Successor v z) same move)
 
@@ -731,7 +734,7 @@ module _ {P : Type 0} (graph : Graph P) (IsWide : P → Type 0) (stored : Stored
         let within' : p < expanded_count new = omega arith in
         inr (p, lt, within', edge_is i p ∙ edge)
 
-    moves_are_edges : (i : ℕ) (x : P) → HasNumber (view_of stored) i x → MovesAreEdges graph new i x
+    moves_are_edges : (i : ℕ) (x : P) → HasNumber (view_of stored) i x → CountsItsEdges graph new i x
     moves_are_edges i x at = record {
       each = λ y move. let (j, j_at, edge) = edges.each y move in (j, number_after j y j_at, edge_is j i ∙ edge);
       successors = λ o o_has. sym (ap (λ (u : Record). u.successors) (is_now o o_has)) ∙ (it.successors ∙ (edges.successors q has ∙ sym (edge_counts i)));
@@ -742,7 +745,7 @@ module _ {P : Type 0} (graph : Graph P) (IsWide : P → Type 0) (stored : Stored
           omega arith;
     }
       where
-        edges : MovesAreEdges graph stored i x
+        edges : CountsItsEdges graph stored i x
         edges = edges_of i x at
 
         q : Record
@@ -765,7 +768,7 @@ module _ {P : Type 0} (graph : Graph P) (IsWide : P → Type 0) (stored : Stored
             omega arith
         left false off = it.left_same off ∙ (edges.left q has ∙ sym (no_less i off))
 
-    each : (i : ℕ) (x : P) → HasNumber (view_of new) i x → IsLocallySoundAt graph new i x
+    each : (i : ℕ) (x : P) → HasNumber (view_of new) i x → IsSoundByEdgesAt graph new i x
     each i x number = record {
       reached = reached i x was.reached;
       edges_are_moves = λ p edge.
@@ -805,8 +808,8 @@ module _ {P : Type 0} (graph : Graph P) (IsWide : P → Type 0) (stored : Stored
         at : HasNumber (view_of stored) i x
         at = number_before i x number
 
-        was : IsLocallySoundAt graph stored i x
-        was = sound.each i x at
+        was : IsSoundByEdgesAt graph stored i x
+        was = by_edges graph IsWide stored sound i x at
 
         at_its_end : IsEnded graph x → IsLocalValue graph (view_of new) x ((view_of new).value i) → (view_of new).value i ≡ end_value (graph.ahead x)
         at_its_end ended (at_end _ value) = value
@@ -819,7 +822,7 @@ module _ {P : Type 0} (graph : Graph P) (IsWide : P → Type 0) (stored : Stored
     pub lowered_sound : IsLocallySound graph IsWide new
     lowered_sound = record {
       table = table;
-      each = each;
+      each = sound_from_edges graph new table each;
       narrow = λ i x at lt. let same : expanded_count new ≡ expanded_count stored = expanded_same in sound.narrow i x (number_before i x at) (omega arith);
     }
 

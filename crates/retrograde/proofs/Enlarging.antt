@@ -15,12 +15,15 @@ use Rattle.retrograde.specs.Graph.{Graph, HasMove, IsEnded}
 use Rattle.retrograde.specs.View.{HasNumber}
 use Rattle.retrograde.specs.Local.{end_value, IsMoveValue, IsLocalValue, at_end, by_moves, own_win, all_lead, still_open}
 use Rattle.retrograde.specs.Stored.{Stored, HasRecord, FitsState, IsTable, is_expanded, is_processed, is_settled, processed_in, value_of, view_of, expanded_count, processed_count, settled_count, count_below}
-use Rattle.retrograde.specs.Sound.{IsReached, EdgesAreMoves, MovesAreEdges, IsLocallySoundAt, IsLocallySound}
+use Rattle.retrograde.specs.Audit.{IsReached, EdgesAreMoves}
+use Rattle.retrograde.specs.Sound.{IsLocallySound}
+use Rattle.retrograde.specs.aid.ByEdges.{CountsItsEdges, IsSoundByEdgesAt}
 use Rattle.retrograde.specs.Successors.{IsSuccessorList}
 use Rattle.retrograde.specs.Changes.{fresh_record, with_record}
 use Rattle.retrograde.specs.Expansion.{AreNoted, expanded_record, won_record, with_ended, with_expanded}
 use Rattle.retrograde.proofs.Finished.{none_or_some, is_some_at, element}
 use Rattle.retrograde.proofs.Local.{end_value_some}
+use Rattle.retrograde.proofs.ByEdges.{by_edges, sound_from_edges}
 use Rattle.retrograde.proofs.Counting.{true_or_false}
 use Rattle.retrograde.proofs.Lowering.{get_set_same, get_set_other, count_set}
 use Rattle.retrograde.proofs.Sound.{coherent, known_record, local, order}
@@ -177,7 +180,7 @@ module _ {P : Type 0} (cmp : P → P → Ordering) (laws : IsTotalOrder cmp) (gr
       ⊎_elim
       (λ is.
       let (y, at) = element stored.positions j ((sound.table.edges j e is).0) in
-      let (z, _, within, _) = (sound.each j y at).edges_are_moves e is in
+      let (z, _, within, _) = (by_edges graph IsWide stored sound j y at).edges_are_moves e is in
       absurd (omega arith))
       (λ is. is)
       (true_or_false (stored.has_edge j e))
@@ -540,7 +543,7 @@ module _ {P : Type 0} (cmp : P → P → Ordering) (laws : IsTotalOrder cmp) (gr
   reached i y at =
       let more : expanded_count new ≡ suc e = expanded_new in
       ⊎_elim
-      (λ before. go (sound.each i y before).reached)
+      (λ before. go (by_edges graph IsWide stored sound i y before).reached)
       (λ (le, here).
       let (j, at', edge) = adds.all y here in
       let same : j ≡ i = apart j i y (to_new j y at') at in
@@ -562,7 +565,7 @@ module _ {P : Type 0} (cmp : P → P → Ordering) (laws : IsTotalOrder cmp) (gr
       let more : expanded_count new ≡ suc e = expanded_new in
       ⊎_elim
       (λ before.
-      let (z, z_at, within, move) = (sound.each i y (number_before i y at ((sound.table.edges i p before).0))).edges_are_moves p before in
+      let (z, z_at, within, move) = (by_edges graph IsWide stored sound i y (number_before i y at ((sound.table.edges i p before).0))).edges_are_moves p before in
       let within' : p < expanded_count new = omega arith in
       (z, still p z z_at, within', move))
       (λ (from, (z, here, z_at)).
@@ -585,7 +588,7 @@ module _ {P : Type 0} (cmp : P → P → Ordering) (laws : IsTotalOrder cmp) (gr
       count_same (length stored.positions) (λ j. stored.has_edge j i && not ((view_of stored).processed j)) (λ j. stored.has_edge j i)
       (λ j lt. and_waits (stored.has_edge j i) ((view_of stored).processed j) (idle_old j))
 
-  edges_at_e : MovesAreEdges graph new e x
+  edges_at_e : CountsItsEdges graph new e x
   edges_at_e = record {
     each = λ y move. let (j, at, edge) = adds.all y ((list.each y).1 move) in (j, to_new j y at, edge_is j e ∙ edge);
     successors = λ r has. sym (ap (λ (q : Record). q.successors) (is_written r has)) ∙ (closing.successors ∙ sym from_e);
@@ -596,7 +599,7 @@ module _ {P : Type 0} (cmp : P → P → Ordering) (laws : IsTotalOrder cmp) (gr
         omega arith;
   }
 
-  edges_below : (i : ℕ) (y : P) → i < e → HasNumber (view_of stored) i y → MovesAreEdges graph new i y
+  edges_below : (i : ℕ) (y : P) → i < e → HasNumber (view_of stored) i y → CountsItsEdges graph new i y
   edges_below i y lt at = record {
     each = λ z move. let (j, z_at, edge) = edges.each z move in (j, still j z z_at, edge_kept j i edge);
     successors = λ r has. edges.successors r (before r has) ∙ sym (from_other i other);
@@ -607,8 +610,8 @@ module _ {P : Type 0} (cmp : P → P → Ordering) (laws : IsTotalOrder cmp) (gr
       other : i ≡ e → ⊥
       other same = omega arith
 
-      edges : MovesAreEdges graph stored i y
-      edges = (sound.each i y at).moves_are_edges lt
+      edges : CountsItsEdges graph stored i y
+      edges = (by_edges graph IsWide stored sound i y at).moves_are_edges lt
 
       before : (r : Record) → HasRecord new i r → HasRecord stored i r
       before r has =
@@ -650,20 +653,20 @@ module _ {P : Type 0} (cmp : P → P → Ordering) (laws : IsTotalOrder cmp) (gr
       let (k, within, _) = (list.each y).1 move in
       value_at_e ∙ closing.moving (λ none. omega arith)
 
-  each : (i : ℕ) (y : P) → HasNumber (view_of new) i y → IsLocallySoundAt graph new i y
+  each : (i : ℕ) (y : P) → HasNumber (view_of new) i y → IsSoundByEdgesAt graph new i y
   each i y at = record {
     reached = reached i y at;
     edges_are_moves = edges_are_moves i y at;
     moves_are_edges = λ within.
         ⊎_elim
         (λ (lt, before). edges_below i y lt before)
-        (λ (i_is, y_is). at_e_of (λ k u. MovesAreEdges graph new k u) edges_at_e i y i_is y_is)
+        (λ (i_is, y_is). at_e_of (λ k u. CountsItsEdges graph new k u) edges_at_e i y i_is y_is)
         (expanded_before i y at within);
     late = λ is. absurd (idle_new i is);
     no_nearer = λ k j v w m n here there' a b. let zero_is : m ≡ 0 = near_now j v m a in omega arith;
     ended = λ within ended.
         ⊎_elim
-        (λ (lt, before). value_elsewhere i (below_other i lt) ∙ (sound.each i y before).ended lt ended)
+        (λ (lt, before). value_elsewhere i (below_other i lt) ∙ (by_edges graph IsWide stored sound i y before).ended lt ended)
         (λ (i_is, y_is).
         at_e_of (λ k u. (view_of new).value k ≡ end_value (graph.ahead u))
         (ended_x (subst (λ (u : P). IsEnded graph u) y_is ended)) i y i_is y_is)
@@ -672,7 +675,7 @@ module _ {P : Type 0} (cmp : P → P → Ordering) (laws : IsTotalOrder cmp) (gr
         ⊎_elim
         (λ (lt, before).
         is_open y ((view_of new).value i) has
-        (value_elsewhere i (below_other i lt) ∙ open_before y ((view_of stored).value i) ((sound.each i y before).moving lt has)))
+        (value_elsewhere i (below_other i lt) ∙ open_before y ((view_of stored).value i) ((by_edges graph IsWide stored sound i y before).moving lt has)))
         (λ (i_is, y_is).
         is_open y ((view_of new).value i) has
         (ap (λ (k : ℕ). (view_of new).value k) i_is ∙ moving_x (subst (λ (u : P). HasMove graph u) y_is has)))
@@ -690,7 +693,7 @@ module _ {P : Type 0} (cmp : P → P → Ordering) (laws : IsTotalOrder cmp) (gr
   pub closed_sound : (IsWide x → ⊥) → IsLocallySound graph IsWide new
   closed_sound narrow = record {
     table = table;
-    each = each;
+    each = sound_from_edges graph new table each;
     narrow = λ i y at within.
         ⊎_elim
         (λ (lt, before). sound.narrow i y before lt)

@@ -2,6 +2,8 @@ pub mod Values
 pub mod Finished
 pub mod Local
 pub mod Counting
+pub mod Listing
+pub mod ByEdges
 pub mod Sound
 pub mod Process
 pub mod Expanding
@@ -19,3 +21,4 @@ pub mod Working
 pub mod Finding
 pub mod Expands
 pub mod Settles
+pub mod Auditing

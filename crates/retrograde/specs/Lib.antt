@@ -4,7 +4,10 @@ pub mod View
 pub mod Right
 pub mod Local
 pub mod Stored
+pub mod Audit
 pub mod Sound
+pub mod Verdicts
+pub mod aid
 pub mod Successors
 pub mod Edges
 pub mod Changes

@@ -1,5 +1,5 @@
 //! What holds of every game and every table: each is a law, which proofs cite by a call.
-ghost use Rattle.std.specs.Prelude.{◌≡◌, ◌↔◌, ◌+◌, ◌≤◌, ℕ, suc, List, length, None};
+ghost use Rattle.std.specs.Prelude.{◌≡◌, ◌↔◌, ◌+◌, ◌≤◌, ◌<◌, ℕ, suc, true, List, length, Option, None};
 ghost use Rattle.retrograde.specs.Graph.{Graph, IsReachable};
 ghost use Rattle.rbg_game.specs.declared.roles.Player.{Player};
 ghost use Rattle.rbg_game.specs.declared.roles.Role.{Role};
@@ -10,8 +10,11 @@ ghost use Rattle.retrograde.specs.Values.{WinsWithin, Drawn, WonIn};
 ghost use Rattle.retrograde.specs.View.{View, IsKnown, HasNumber, IsFinished, HasValue};
 ghost use Rattle.retrograde.specs.Right.{IsRight, IsCoherent, KnowsMoves, KeeperIsForced, ProcessesInOrder};
 ghost use Rattle.retrograde.specs.Local.{HasLocalValues};
-ghost use Rattle.retrograde.specs.Stored.{Stored, view_of, loaded, expanded_count};
-ghost use Rattle.retrograde.specs.Sound.{IsLocallySound};
+ghost use Rattle.retrograde.specs.Stored.{Stored, IsTable, view_of, loaded, expanded_count};
+ghost use Rattle.retrograde.specs.Audit.{HasItsMoves, HasItsEdges};
+ghost use Rattle.retrograde.specs.Sound.{IsLocallySoundAt, IsLocallySound};
+ghost use Rattle.retrograde.specs.Verdicts.{Verdict, right, IsVerdict, IsVerdictOf};
+ghost use Rattle.retrograde.specs.aid.ByEdges.{IsSoundByEdgesAt};
 ghost use Rattle.retrograde.specs.Play.{IsPlay};
 ghost use Rattle.retrograde.specs.Units.{UnitsOfWork};
 ghost use Rattle.retrograde.specs.Successors.{packed_cmp, IsSuccessorList};
@@ -63,6 +66,38 @@ pub fn local_values_are_right<M: GameGraph>()
 /// A table that agrees with itself at each number is right.
 pub fn sound_is_right<M: GameGraph>()
     ensures { (game : M) (stored : Stored (List ℕ)) → IsLocallySound (M.graph game) (M.is_wide game) stored → IsRight (M.graph game) (view_of stored) }
+{}
+
+/// Over the whole of a table whose parts fit together the edges from a number may be counted in place of its successors.
+pub fn sound_by_edges<M: GameGraph>()
+    ensures { (game : M) (stored : Stored (List ℕ)) → IsTable stored
+        → ((i : ℕ) (x : List ℕ) → HasNumber (view_of stored) i x → IsLocallySoundAt (M.graph game) stored i x)
+        ↔ ((i : ℕ) (x : List ℕ) → HasNumber (view_of stored) i x → IsSoundByEdgesAt (M.graph game) stored i x) }
+{}
+
+/// An edge to i from p that is no move fails at i, and does not matter at p.
+pub fn stray_edges_fail_where_they_lead<M: GameGraph>()
+    ensures leads { (game : M) (stored : Stored (List ℕ)) (i p : ℕ) (x y : List ℕ)
+        → HasNumber (view_of stored) p x → stored.has_edge i p ≡ true → ((M.graph game).Successor x y → ⊥)
+        → HasItsEdges (M.graph game) stored i y → ⊥ }
+    ensures begins { (game : M) (a b : Stored (List ℕ)) (p : ℕ) (x : List ℕ)
+        → b.positions ≡ a.positions → b.records ≡ a.records
+        → ((j : ℕ) (y : List ℕ) → HasNumber (view_of a) j y → (M.graph game).Successor x y → b.has_edge j p ≡ a.has_edge j p)
+        → HasItsMoves (M.graph game) a p x ↔ HasItsMoves (M.graph game) b p x }
+{}
+
+/// A table has one verdict at most.
+pub fn one_verdict<M: GameGraph>()
+    ensures { (game : M) (table : Option (Stored (List ℕ))) (v w : Verdict)
+        → IsVerdictOf (M.graph game) table v → IsVerdictOf (M.graph game) table w → v ≡ w }
+{}
+
+/// A table is locally sound exactly where its parts fit together, its verdict is right, and no expanded position is too wide.
+pub fn right_is_sound<M: GameGraph>()
+    ensures { (game : M) (stored : Stored (List ℕ))
+        → IsLocallySound (M.graph game) (M.is_wide game) stored
+        ↔ (IsTable stored × IsVerdict (M.graph game) stored right
+        × ((i : ℕ) (x : List ℕ) → HasNumber (view_of stored) i x → i < expanded_count stored → M.is_wide game x → ⊥)) }
 {}
 
 /// To expand the next position keeps a table locally right.

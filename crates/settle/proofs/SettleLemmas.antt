@@ -14,6 +14,7 @@ use Rattle.retrograde.specs.Successors.{packed_cmp}
 use Rattle.retrograde.specs.Processing.{is_open, lowered_below, processed_record, with_processed, with_processed_alone, IsNextSettled}
 use Rattle.retrograde.specs.Settles.{Settles}
 use Rattle.retrograde.specs.Units.{UnitsOfWork}
+use Rattle.retrograde.proofs.ByEdges.{by_edges}
 use Rattle.retrograde.proofs.Counting.{counted}
 use Rattle.retrograde.proofs.Diminishing.{processed_sound}
 use Rattle.retrograde.proofs.Finished.{element}
@@ -72,8 +73,8 @@ module _ (graph : Graph (List ℕ)) (IsWide : List ℕ → Type 0) (old : Stored
         let within' = s_known graph IsWide old agrees s r w next r.distance refl in
         let (o, had, same) = record_before p q has in
         let (x, number) = element old.positions s within' in
-        let (z, z_at, within, move) = (agrees.each s x number).edges_are_moves p there in
-        let count : o.left ≡ count_below (length old.positions) (λ j. old.has_edge j p && not ((view_of old).processed j)) = ((agrees.each p z z_at).moves_are_edges within).left o had in
+        let (z, z_at, within, move) = (agrees.each s x number).edges.to_it p there in
+        let count : o.left ≡ count_below (length old.positions) (λ j. old.has_edge j p && not ((view_of old).processed j)) = ((by_edges graph IsWide old agrees p z z_at).moves_are_edges within).left o had in
         let passes : (old.has_edge s p && not ((view_of old).processed s)) ≡ true = rw (there, s_waits graph IsWide old agrees s r w next r.distance refl) refl in
         let some : 0 < count_below (length old.positions) (λ j. old.has_edge j p && not ((view_of old).processed j)) = counted (λ j. old.has_edge j p && not ((view_of old).processed j)) (length old.positions) s within' passes in
         omega arith
