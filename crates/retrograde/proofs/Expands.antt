@@ -7,6 +7,7 @@ use Rattle.std.specs.Cmp.{IsTotalOrder}
 use Rattle.std.proofs.lemmas.Cmp.{tied_itself}
 use Rattle.std.proofs.lemmas.Option.{slice_get_within}
 use Rattle.std.proofs.lemmas.Bool.Decides.{eqb_tells}
+use Rattle.std.proofs.lemmas.List.{length-set}
 use Rattle.std.proofs.lemmas.List.Elements.{All-contains}
 use Rattle.std.proofs.lemmas.Map.Views.{All-after_first}
 use Rattle.rbg_game.specs.declared.roles.Player.{Player}
@@ -77,6 +78,7 @@ module _ {P : Type 0} (cmp : P → P → Ordering) (laws : IsTotalOrder cmp) (gr
     known =
         let (found, fresh, more) = new_found cmp laws graph IsWide (length next.positions) stored sound x number ys list forced next noted narrow in
         (found, fresh, closing.positions ∙ more);
+    records = ap (λ (rs : List Record). length rs) closing.records ∙ (length-set next.records e closing.written ∙ (even ∙ sym (ap (λ (ks : List P). length ks) closing.positions)));
     edges = λ i p. (edge_cases cmp laws graph IsWide stored sound x number ys list forced next noted new closing i p, edge_from i p);
     kept = λ i r other has.
         elsewhere cmp laws graph IsWide stored sound x number ys list forced next noted new closing i other

@@ -22,3 +22,5 @@ pub mod Finding
 pub mod Expands
 pub mod Settles
 pub mod Auditing
+pub mod Pinning
+pub mod Leading

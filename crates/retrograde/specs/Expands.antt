@@ -18,6 +18,7 @@ pub record Expands {P : Type 0} (cmp : P → P → Ordering) (graph : Graph P) (
   pub expanded : expanded_count new ≡ suc (expanded_count old)
   -- behind the known positions stand, in order, those of them that were not known
   pub known : (found : List P) × IsNewFrom cmp graph old.positions x found × (new.positions ≡ old.positions ++ found)
+  pub records : length new.records ≡ length new.positions
   -- there is an edge more to each of them, and no other
   pub edges : (i p : ℕ) → (new.has_edge i p ≡ true)
       ↔ ((old.has_edge i p ≡ true) ⊎ ((p ≡ expanded_count old) × ((y : P) × Contains ys y × (slice_get new.positions i ≡ Some y))))

@@ -2,10 +2,9 @@
 ghost use Rattle.std.specs.Prelude.{◌≡◌, ◌↔◌, ◌+◌, ◌≤◌, ◌<◌, ℕ, suc, true, List, length, Option, None};
 ghost use Rattle.retrograde.specs.Graph.{Graph, IsReachable};
 ghost use Rattle.rbg_game.specs.declared.roles.Player.{Player};
-ghost use Rattle.rbg_game.specs.declared.roles.Role.{Role};
 ghost use Rattle.retrograde.specs.declared.records.Record.{Record};
-ghost use Rattle.retrograde.specs.Processing.{with_processed, IsNextSettled};
-ghost use Rattle.retrograde.specs.Expansion.{AreNoted, with_expanded};
+ghost use Rattle.retrograde.specs.Expands.{Expands, IsChoice};
+ghost use Rattle.retrograde.specs.Settles.{Settles};
 ghost use Rattle.retrograde.specs.Values.{WinsWithin, Drawn, WonIn};
 ghost use Rattle.retrograde.specs.View.{View, IsKnown, HasNumber, IsFinished, HasValue};
 ghost use Rattle.retrograde.specs.Right.{IsRight, IsCoherent, KnowsMoves, KeeperIsForced, ProcessesInOrder};
@@ -17,7 +16,7 @@ ghost use Rattle.retrograde.specs.Verdicts.{Verdict, right, IsVerdict, IsVerdict
 ghost use Rattle.retrograde.specs.aid.ByEdges.{IsSoundByEdgesAt};
 ghost use Rattle.retrograde.specs.Play.{IsPlay};
 ghost use Rattle.retrograde.specs.Units.{UnitsOfWork};
-ghost use Rattle.retrograde.specs.Successors.{packed_cmp, IsSuccessorList};
+ghost use Rattle.retrograde.specs.Successors.{packed_cmp};
 ghost use Rattle.retrograde.specs.Steps.{IsLocallyRight, ExpandsNext, ProcessesNext};
 
 use crate::graph::GameGraph;
@@ -65,7 +64,8 @@ pub fn local_values_are_right<M: GameGraph>()
 
 /// A table that agrees with itself at each number is right.
 pub fn sound_is_right<M: GameGraph>()
-    ensures { (game : M) (stored : Stored (List ℕ)) → IsLocallySound (M.graph game) (M.is_wide game) stored → IsRight (M.graph game) (view_of stored) }
+    ensures { (game : M) (stored : Stored (List ℕ))
+        → IsLocallySound (M.graph game) (M.is_wide game) stored → IsRight (M.graph game) (view_of stored) }
 {}
 
 /// Over the whole of a table whose parts fit together the edges from a number may be counted in place of its successors.
@@ -147,40 +147,41 @@ pub fn loaded_is_sound<M: GameGraph>()
     ensures { (game : M) → IsLocallySound (M.graph game) (M.is_wide game) (loaded (M.graph game).start) }
 {}
 
-/// To expand the next position keeps what is stored so: x, which has these successors, no more than one where the keeper
-/// has the turn.
+/// Each of the two units leads to one table.
+pub fn units_lead_to_one_table<M: GameGraph>()
+    ensures expands { (game : M) (old a b : Stored (List ℕ)) (x : List ℕ) (ys : List (List ℕ)) → IsTable old
+        → Expands packed_cmp (M.graph game) old a x ys → Expands packed_cmp (M.graph game) old b x ys → a ≡ b }
+    ensures settles { (game : M) (old a b : Stored (List ℕ)) (s : ℕ) (r : Record) (w : Player) → IsTable old
+        → Settles (M.graph game) old a s r w → Settles (M.graph game) old b s r w → a ≡ b }
+{}
+
+/// To expand the next position keeps what is stored so, if the keeper has no choice there and it is not too wide.
 pub fn expanding_keeps_sound<M: GameGraph>()
-    ensures { (game : M) (stored next : Stored (List ℕ)) (x : List ℕ) (ys : List (List ℕ))
-        → IsLocallySound (M.graph game) (M.is_wide game) stored → HasNumber (view_of stored) (expanded_count stored) x
-        → IsSuccessorList packed_cmp (M.graph game) x ys
-        → ((M.graph game).mover x ≡ Role.Keeper → length ys ≤ 1)
-        → AreNoted (expanded_count stored) ys stored next → (M.is_wide game x → ⊥)
-        → IsLocallySound (M.graph game) (M.is_wide game) (with_expanded (expanded_count stored) (length ys) ((M.graph game).ahead x) next) }
+    ensures { (game : M) (old new : Stored (List ℕ)) (x : List ℕ) (ys : List (List ℕ))
+        → IsLocallySound (M.graph game) (M.is_wide game) old → Expands packed_cmp (M.graph game) old new x ys
+        → (IsChoice (M.graph game) x → ⊥) → (M.is_wide game x → ⊥)
+        → IsLocallySound (M.graph game) (M.is_wide game) new }
 {}
 
 /// To process the next settled number of what is all expanded keeps what is stored so.
 pub fn processing_keeps_sound<M: GameGraph>()
-    ensures { (game : M) (stored : Stored (List ℕ)) (s : ℕ) (r : Record) (w : Player)
-        → IsLocallySound (M.graph game) (M.is_wide game) stored → expanded_count stored ≡ length stored.positions
-        → IsNextSettled stored s r w → IsLocallySound (M.graph game) (M.is_wide game) (with_processed (M.graph game) s r w stored) }
+    ensures { (game : M) (old new : Stored (List ℕ)) (s : ℕ) (r : Record) (w : Player)
+        → IsLocallySound (M.graph game) (M.is_wide game) old → expanded_count old ≡ length old.positions
+        → Settles (M.graph game) old new s r w → IsLocallySound (M.graph game) (M.is_wide game) new }
 {}
 
 /// To expand the next position is one unit of work, where the limit of positions is kept.
 pub fn expanding_is_one_unit<M: GameGraph>()
-    ensures { (game : M) (limit : ℕ) (stored next : Stored (List ℕ)) (x : List ℕ) (ys : List (List ℕ))
-        → IsLocallySound (M.graph game) (M.is_wide game) stored → HasNumber (view_of stored) (expanded_count stored) x
-        → IsSuccessorList packed_cmp (M.graph game) x ys
-        → ((M.graph game).mover x ≡ Role.Keeper → length ys ≤ 1)
-        → AreNoted (expanded_count stored) ys stored next → (M.is_wide game x → ⊥) → length next.positions ≤ limit
-        → UnitsOfWork packed_cmp (M.graph game) (M.is_wide game) limit (view_of stored) 1
-        (view_of (with_expanded (expanded_count stored) (length ys) ((M.graph game).ahead x) next)) }
+    ensures { (game : M) (limit : ℕ) (old new : Stored (List ℕ)) (x : List ℕ) (ys : List (List ℕ))
+        → IsLocallySound (M.graph game) (M.is_wide game) old → Expands packed_cmp (M.graph game) old new x ys
+        → (IsChoice (M.graph game) x → ⊥) → (M.is_wide game x → ⊥) → length new.positions ≤ limit
+        → UnitsOfWork packed_cmp (M.graph game) (M.is_wide game) limit (view_of old) 1 (view_of new) }
 {}
 
 /// To process the next settled number is one unit of work.
 pub fn processing_is_one_unit<M: GameGraph>()
-    ensures { (game : M) (limit : ℕ) (stored : Stored (List ℕ)) (s : ℕ) (r : Record) (w : Player)
-        → IsLocallySound (M.graph game) (M.is_wide game) stored → expanded_count stored ≡ length stored.positions
-        → length stored.positions ≤ limit → IsNextSettled stored s r w
-        → UnitsOfWork packed_cmp (M.graph game) (M.is_wide game) limit (view_of stored) 1
-        (view_of (with_processed (M.graph game) s r w stored)) }
+    ensures { (game : M) (limit : ℕ) (old new : Stored (List ℕ)) (s : ℕ) (r : Record) (w : Player)
+        → IsLocallySound (M.graph game) (M.is_wide game) old → expanded_count old ≡ length old.positions
+        → length old.positions ≤ limit → Settles (M.graph game) old new s r w
+        → UnitsOfWork packed_cmp (M.graph game) (M.is_wide game) limit (view_of old) 1 (view_of new) }
 {}

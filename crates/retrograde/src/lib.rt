@@ -12,6 +12,7 @@ pub use laws::{
     finished_leaves_draws, loaded_is_sound, local_values_are_right, one_verdict, one_winner,
     play_goes_on, play_has_its_length, processing_is_one_unit, processing_keeps,
     processing_keeps_sound, right_is_sound, settled_stays, sound_by_edges, sound_is_right,
-    stray_edges_fail_where_they_lead, units_add_up, values_are_decided, values_are_won,
+    stray_edges_fail_where_they_lead, units_add_up, units_lead_to_one_table, values_are_decided,
+    values_are_won,
 };
 pub use records::{Counts, Record, State};
