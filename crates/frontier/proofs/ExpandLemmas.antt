@@ -1,5 +1,5 @@
 -- What is so once a position is expanded.
-use Rattle.std.proofs.Common.{◌≡◌, ◌∙◌, ◌↔◌, sym, ap, subst, ℕ, suc, ◌^◌, ◌≤◌, ◌<◌, ⊎_elim, IsSome, None, false, List, [], ◌∷◌, length, arith, slice_get, Option}
+use Rattle.std.proofs.Common.{◌≡◌, ◌∙◌, sym, ap, subst, ℕ, suc, ◌^◌, ◌≤◌, ◌<◌, ⊎_elim, IsSome, None, false, List, [], ◌∷◌, length, arith, slice_get, Option}
 use Rattle.std.specs.Prelude.{AllPairs}
 use Rattle.std.specs.declared.cmp.Ordering.{Ordering}
 use Rattle.std.specs.declared.cmp.Ordering.TheVariants.{Less}
@@ -16,7 +16,7 @@ use Rattle.retrograde.specs.declared.records.Record.{Record}
 use Rattle.retrograde.specs.Stored.{Stored, view_of, is_settled, expanded_count, settled_count}
 use Rattle.retrograde.specs.Sound.{IsLocallySound}
 use Rattle.retrograde.specs.Successors.{packed_cmp, IsSuccessorList}
-use Rattle.retrograde.specs.Expansion.{AreNoted, with_expanded}
+use Rattle.retrograde.specs.aid.Expansion.{AreNoted, with_expanded}
 use Rattle.retrograde.specs.Expands.{Expands}
 use Rattle.retrograde.specs.Units.{UnitsOfWork}
 use Rattle.legal_moves.specs.Listed.{ListsExactly}

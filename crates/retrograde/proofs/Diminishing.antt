@@ -18,7 +18,8 @@ use Rattle.retrograde.specs.Audit.{IsReached}
 use Rattle.retrograde.specs.Sound.{IsLocallySound}
 use Rattle.retrograde.specs.aid.ByEdges.{CountsItsEdges, IsSoundByEdgesAt}
 use Rattle.retrograde.specs.Steps.{IsLocallyRight, IsDue, ProcessesNext}
-use Rattle.retrograde.specs.Processing.{has_turn, is_open, is_due, lowered, processed_record, with_processed_alone, with_processed, IsNextSettled}
+use Rattle.retrograde.specs.Processing.{has_turn, is_open, is_due, lowered, processed_record, with_processed_alone, IsNextSettled}
+use Rattle.retrograde.specs.aid.Processing.{with_processed}
 use Rattle.retrograde.proofs.Finished.{none_or_some, is_some_at, element}
 use Rattle.retrograde.proofs.Local.{full_from_some, end_value_some}
 use Rattle.retrograde.proofs.ByEdges.{by_edges, sound_from_edges}

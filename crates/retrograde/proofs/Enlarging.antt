@@ -20,7 +20,8 @@ use Rattle.retrograde.specs.Sound.{IsLocallySound}
 use Rattle.retrograde.specs.aid.ByEdges.{CountsItsEdges, IsSoundByEdgesAt}
 use Rattle.retrograde.specs.Successors.{IsSuccessorList}
 use Rattle.retrograde.specs.Changes.{fresh_record, with_record}
-use Rattle.retrograde.specs.Expansion.{AreNoted, expanded_record, won_record, with_ended, with_expanded}
+use Rattle.retrograde.specs.Expands.{expanded_record, won_record}
+use Rattle.retrograde.specs.aid.Expansion.{AreNoted, with_ended, with_expanded}
 use Rattle.retrograde.proofs.Finished.{none_or_some, is_some_at, element}
 use Rattle.retrograde.proofs.Local.{end_value_some}
 use Rattle.retrograde.proofs.ByEdges.{by_edges, sound_from_edges}

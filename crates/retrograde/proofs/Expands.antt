@@ -19,8 +19,8 @@ use Rattle.retrograde.specs.Stored.{Stored, HasRecord, view_of, expanded_count}
 use Rattle.retrograde.specs.Sound.{IsLocallySound}
 use Rattle.retrograde.specs.Successors.{IsSuccessorList}
 use Rattle.retrograde.specs.Changes.{fresh_record, with_record}
-use Rattle.retrograde.specs.Expansion.{AreNoted, expanded_record, won_record, with_ended, with_expanded}
-use Rattle.retrograde.specs.Expands.{Expands, IsChoice}
+use Rattle.retrograde.specs.Expands.{Expands, IsChoice, expanded_record, won_record}
+use Rattle.retrograde.specs.aid.Expansion.{AreNoted, with_ended, with_expanded}
 use Rattle.retrograde.proofs.Finished.{element}
 use Rattle.retrograde.proofs.Lowering.{get_set_same}
 use Rattle.retrograde.proofs.Noting.{are_noted_grew}

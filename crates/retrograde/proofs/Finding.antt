@@ -18,7 +18,7 @@ use Rattle.retrograde.specs.View.{HasNumber}
 use Rattle.retrograde.specs.Stored.{Stored, view_of, expanded_count, count_below}
 use Rattle.retrograde.specs.Sound.{IsLocallySound}
 use Rattle.retrograde.specs.Successors.{IsSuccessorList}
-use Rattle.retrograde.specs.Expansion.{IsNoted, AreNoted, with_expanded}
+use Rattle.retrograde.specs.aid.Expansion.{IsNoted, AreNoted, with_expanded}
 use Rattle.retrograde.specs.Units.{IsNewFrom, UnitsOfWork, processed_in_view}
 use Rattle.retrograde.proofs.Counting.{true_or_false}
 use Rattle.retrograde.proofs.Sound.{sound_right}

@@ -1,5 +1,5 @@
 -- What a unit of work leads to is sound, and is one unit away, whatever table the relation leads to.
-use Rattle.std.proofs.Common.{◌≡◌, sym, ap, subst, ℕ, ◌≤◌, ◌<◌, ◌⊎◌, inl, inr, ⊎_elim, true, false, List, length, refl, arith}
+use Rattle.std.proofs.Common.{◌≡◌, sym, subst, ℕ, ◌≤◌, ◌⊎◌, ⊎_elim, List, length}
 use Rattle.std.specs.declared.cmp.Ordering.{Ordering}
 use Rattle.std.specs.Cmp.{IsTotalOrder}
 use Rattle.std.proofs.lemmas.Bool.{cases_lt}
@@ -10,9 +10,9 @@ use Rattle.retrograde.specs.Graph.{Graph}
 use Rattle.retrograde.specs.Stored.{Stored, view_of, expanded_count}
 use Rattle.retrograde.specs.Sound.{IsLocallySound}
 use Rattle.retrograde.specs.Units.{UnitsOfWork}
-use Rattle.retrograde.specs.Expansion.{AreNoted, with_expanded}
+use Rattle.retrograde.specs.aid.Expansion.{AreNoted, with_expanded}
 use Rattle.retrograde.specs.Expands.{Expands, IsChoice}
-use Rattle.retrograde.specs.Processing.{with_processed}
+use Rattle.retrograde.specs.aid.Processing.{with_processed}
 use Rattle.retrograde.specs.Settles.{Settles}
 use Rattle.retrograde.proofs.Enlarging.{expanded_sound}
 use Rattle.retrograde.proofs.Expands.{choice, expands}

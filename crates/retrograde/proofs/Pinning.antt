@@ -1,14 +1,14 @@
 -- What is said of a table after a unit of work leaves one table.
-use Rattle.std.proofs.Common.{◌≡◌, ◌∙◌, ◌↔◌, sym, ap, subst, ℕ, zero, suc, ◌≤◌, ◌<◌, ◌⊎◌, inl, inr, ⊎_elim, Bool, true, false, Option, Some, None, List, [], ◌∷◌, ◌++◌, length, refl, arith, slice_get}
+use Rattle.std.proofs.Common.{◌≡◌, ◌∙◌, ◌↔◌, sym, ap, subst, ℕ, zero, suc, ◌<◌, ◌⊎◌, inl, inr, ⊎_elim, true, Option, Some, None, List, [], ◌∷◌, ◌++◌, length, refl, arith, slice_get}
 use Rattle.std.specs.Prelude.{AllPairs, Contains}
 use Rattle.std.specs.Str.{bytes_eq}
 use Rattle.std.specs.Cmp.{IsTotalOrder, both_ways}
 use Rattle.std.specs.List.Sorted.{IsStrictlySortedBy}
 use Rattle.std.specs.Ordering.{ordering_reverse}
 use Rattle.std.specs.declared.cmp.Ordering.{Ordering}
-use Rattle.std.specs.declared.cmp.Ordering.TheVariants.{Less, Equal, Greater}
+use Rattle.std.specs.declared.cmp.Ordering.TheVariants.{Less, Greater}
 use Rattle.std.proofs.Math.Path.{fun_ext}
-use Rattle.std.proofs.lemmas.Option.{same_Some, slice_get_within}
+use Rattle.std.proofs.lemmas.Option.{same_Some}
 use Rattle.std.proofs.lemmas.Bool.{cases_lt, cases_eq}
 use Rattle.std.proofs.lemmas.List.{length-set}
 use Rattle.std.proofs.lemmas.List.Kept.{AllPairs-cons}
@@ -20,8 +20,8 @@ use Rattle.retrograde.specs.declared.records.Record.{Record}
 use Rattle.retrograde.specs.Graph.{Graph}
 use Rattle.retrograde.specs.Stored.{Stored, HasRecord, IsTable, expanded_count}
 use Rattle.retrograde.specs.Changes.{fresh_record, with_position, with_edge}
-use Rattle.retrograde.specs.Expansion.{IsNoted, AreNoted, expanded_record, won_record}
-use Rattle.retrograde.specs.Expands.{Expands}
+use Rattle.retrograde.specs.Expands.{Expands, expanded_record, won_record}
+use Rattle.retrograde.specs.aid.Expansion.{IsNoted, AreNoted}
 use Rattle.retrograde.specs.Settles.{Settles}
 use Rattle.retrograde.specs.Processing.{lowered, processed_record, with_processed_alone}
 use Rattle.retrograde.proofs.Finished.{element}

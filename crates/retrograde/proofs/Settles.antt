@@ -11,7 +11,8 @@ use Rattle.retrograde.specs.declared.records.Record.{Record}
 use Rattle.retrograde.specs.Graph.{Graph}
 use Rattle.retrograde.specs.Stored.{Stored, expanded_count}
 use Rattle.retrograde.specs.Sound.{IsLocallySound}
-use Rattle.retrograde.specs.Processing.{is_due, lower_with, lower_at, lowered_below, processed_record, with_processed, with_processed_alone, IsNextSettled}
+use Rattle.retrograde.specs.Processing.{is_due, processed_record, with_processed_alone, IsNextSettled}
+use Rattle.retrograde.specs.aid.Processing.{lower_with, lower_at, lowered_below, with_processed}
 use Rattle.retrograde.specs.Settles.{IsSettledBy, Settles}
 use Rattle.retrograde.proofs.Adding.{none_in_empty}
 use Rattle.retrograde.proofs.Lowering.{AreLowered, below_keeps}

@@ -11,7 +11,8 @@ use Rattle.retrograde.specs.declared.records.Record.{Record}
 use Rattle.retrograde.specs.Graph.{Graph}
 use Rattle.retrograde.specs.Stored.{Stored, FitsState, value_of, view_of, is_settled, settled_count, processed_count}
 use Rattle.retrograde.specs.Sound.{IsLocallySound}
-use Rattle.retrograde.specs.Processing.{has_turn, is_open, is_due, lower_with, lower_at, lowered_below, processed_record, with_processed_alone, IsNextSettled}
+use Rattle.retrograde.specs.Processing.{has_turn, is_open, is_due, processed_record, with_processed_alone, IsNextSettled}
+use Rattle.retrograde.specs.aid.Processing.{lower_with, lower_at, lowered_below}
 use Rattle.retrograde.proofs.Counting.{true_or_false}
 use Rattle.retrograde.proofs.Lowering.{count_set}
 

@@ -9,7 +9,8 @@ use Rattle.retrograde.specs.Right.{IsRight}
 use Rattle.retrograde.specs.Stored.{Stored, view_of, expanded_count, count_below}
 use Rattle.retrograde.specs.Sound.{IsLocallySound}
 use Rattle.retrograde.specs.Steps.{ProcessesNext}
-use Rattle.retrograde.specs.Processing.{with_processed, IsNextSettled}
+use Rattle.retrograde.specs.Processing.{IsNextSettled}
+use Rattle.retrograde.specs.aid.Processing.{with_processed}
 use Rattle.retrograde.specs.Units.{UnitsOfWork, processed_in_view}
 use Rattle.retrograde.proofs.Counting.{true_or_false}
 use Rattle.retrograde.proofs.Sound.{sound_right}

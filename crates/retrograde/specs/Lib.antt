@@ -12,7 +12,6 @@ pub mod Successors
 pub mod Edges
 pub mod Changes
 pub mod Steps
-pub mod Expansion
 pub mod Processing
 pub mod Units
 pub mod Expands

@@ -21,6 +21,7 @@ pub record Settles {P : Type 0} (graph : Graph P) (old new : Stored P) (s : ℕ)
   pub next : IsNextSettled old s r w
   pub positions : new.positions ≡ old.positions
   pub has_edge : new.has_edge ≡ old.has_edge
+  -- there are as many records as there were
   pub records : length new.records ≡ length old.records
   -- one less is left of each predecessor, and one that is due is settled for w, one farther; other records stay
   pub lowers : (i : ℕ) (x : P) (q : Record) → slice_get old.positions i ≡ Some x → HasRecord (with_processed_alone s r old) i q

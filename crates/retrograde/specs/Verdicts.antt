@@ -57,7 +57,7 @@ abbrev pub IsVerdict : {P : Type 0} → Graph P → Stored P → Verdict → Typ
 IsVerdict {P} graph stored right = (i : ℕ) (x : P) → HasNumber (view_of stored) i x → IsLocallySoundAt graph stored i x
 IsVerdict graph stored (wrong n c) = IsWrong graph stored n c
 
--- the verdict where no game may be loaded: the empty table is right
+-- the verdict of a table or of none: where no game is loaded it is right
 abbrev pub IsVerdictOf : {P : Type 0} → Graph P → Option (Stored P) → Verdict → Type 0
 IsVerdictOf graph None verdict = verdict ≡ right
 IsVerdictOf graph (Some stored) verdict = IsVerdict graph stored verdict

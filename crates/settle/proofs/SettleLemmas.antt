@@ -1,5 +1,5 @@
 -- What is so once a settled position is processed, and why a sound table never stops that.
-use Rattle.std.proofs.Common.{◌≡◌, ◌∙◌, ◌↔◌, sym, ap, subst, ℕ, ◌+◌, ◌^◌, ◌≤◌, ◌<◌, ⊎_elim, true, not, ◌&&◌, Some, None, List, length, refl, arith, slice_get}
+use Rattle.std.proofs.Common.{◌≡◌, ◌∙◌, sym, ap, subst, ℕ, ◌+◌, ◌^◌, ◌≤◌, ◌<◌, ⊎_elim, true, not, ◌&&◌, Some, List, length, refl, arith, slice_get}
 use Rattle.std.specs.Prelude.{count_by}
 use Rattle.std.proofs.lemmas.Bool.{cases_eq}
 use Rattle.std.proofs.lemmas.Option.{same_Some, slice_get_within}
@@ -11,7 +11,8 @@ use Rattle.retrograde.specs.Graph.{Graph}
 use Rattle.retrograde.specs.Stored.{Stored, HasRecord, IsTable, view_of, is_processed, is_settled, expanded_count, processed_count, count_below}
 use Rattle.retrograde.specs.Sound.{IsLocallySound}
 use Rattle.retrograde.specs.Successors.{packed_cmp}
-use Rattle.retrograde.specs.Processing.{is_open, lowered_below, processed_record, with_processed, with_processed_alone, IsNextSettled}
+use Rattle.retrograde.specs.Processing.{is_open, processed_record, with_processed_alone, IsNextSettled}
+use Rattle.retrograde.specs.aid.Processing.{lowered_below, with_processed}
 use Rattle.retrograde.specs.Settles.{Settles}
 use Rattle.retrograde.specs.Units.{UnitsOfWork}
 use Rattle.retrograde.proofs.ByEdges.{by_edges}

@@ -8,7 +8,7 @@ use Rattle.retrograde.specs.declared.records.Counts.{Counts}
 use Rattle.retrograde.specs.Stored.{Stored, expanded_count}
 use Rattle.retrograde.specs.Sound.{IsLocallySound}
 use Rattle.retrograde.specs.Successors.{packed_cmp, IsSuccessorList}
-use Rattle.retrograde.specs.Expansion.{AreNoted}
+use Rattle.retrograde.specs.aid.Expansion.{AreNoted}
 use Rattle.retrograde.specs.Expands.{IsTooMany}
 use Rattle.retrograde.proofs.Expands.{choice, no_choice}
 use Rattle.frontier.specs.Numbering.{AreNumbersOf}
