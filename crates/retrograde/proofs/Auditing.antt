@@ -8,7 +8,7 @@ use Rattle.retrograde.specs.declared.records.Record.{Record}
 use Rattle.retrograde.specs.Graph.{Graph}
 use Rattle.retrograde.specs.View.{HasNumber}
 use Rattle.retrograde.specs.Stored.{Stored, processed_in, view_of}
-use Rattle.retrograde.specs.Audit.{HasItsMoves, HasItsEdges}
+use Rattle.retrograde.specs.Audit.{AreItsMoves, HasItsMoves, HasItsEdges}
 use Rattle.retrograde.specs.Sound.{IsLocallySoundAt}
 use Rattle.retrograde.specs.Verdicts.{Reason, A1, A2, A3, A4, A5, A6, A7, number_of, condition_of, Verdict, right, wrong, IsWrong, IsVerdict, IsVerdictOf}
 use Rattle.retrograde.proofs.Listing.{AreNumbers, position_in, all_from_contains}
@@ -72,25 +72,26 @@ one_verdict_of graph (Some stored) v w a b = one_verdict graph stored v w a b
 module _ {P : Type 0} (graph : Graph P) (a b : Stored P) (p : ℕ) (x : P) (positions : b.positions ≡ a.positions) (records : b.records ≡ a.records)
     (edges : (j : ℕ) (y : P) → slice_get a.positions j ≡ Some y → graph.Successor x y → b.has_edge j p ≡ a.has_edge j p) where
   -- of the edges from a number only those to its successors matter
-  pub moves_kept : HasItsMoves graph a p x → HasItsMoves graph b p x
-  moves_kept it = record {
-    successors = it.successors;
-    numbers = it.numbers;
+  list_kept : (ys : List P) (js : List ℕ) → AreItsMoves graph a p x ys js → AreItsMoves graph b p x ys js
+  list_kept ys js it = record {
     are = record {
       each = it.are.each;
       once = it.are.once;
-      numbers = subst (λ (known : List P). AreNumbers known it.successors it.numbers) (sym positions) it.are.numbers;
+      numbers = subst (λ (known : List P). AreNumbers known ys js) (sym positions) it.are.numbers;
     };
-    edges = all_from_contains (λ j. b.has_edge j p ≡ true) it.numbers (λ j here.
-        let (y, is, at) = position_in a.positions it.successors it.numbers it.are.numbers j here in
-        edges j y at ((it.are.each y).0 is) ∙ All-contains (λ k. a.has_edge k p ≡ true) it.numbers j it.edges here);
+    edges = all_from_contains (λ j. b.has_edge j p ≡ true) js (λ j here.
+        let (y, is, at) = position_in a.positions ys js it.are.numbers j here in
+        edges j y at ((it.are.each y).0 is) ∙ All-contains (λ k. a.has_edge k p ≡ true) js j it.edges here);
     counted = λ r has. it.counted r (had r has);
-    left = λ r has. it.left r (had r has) ∙ ap (λ (rs : List Record). count_by (λ (j : ℕ). not (processed_in (slice_get rs j))) it.numbers) (sym records);
+    left = λ r has. it.left r (had r has) ∙ ap (λ (rs : List Record). count_by (λ (j : ℕ). not (processed_in (slice_get rs j))) js) (sym records);
     keeper = it.keeper;
   }
     where
       had : (r : Record) → slice_get b.records p ≡ Some r → slice_get a.records p ≡ Some r
       had r has = ap (λ (rs : List Record). slice_get rs p) (sym records) ∙ has
+
+  pub moves_kept : HasItsMoves graph a p x → HasItsMoves graph b p x
+  moves_kept (ys, js, it) = (ys, js, list_kept ys js it)
 
 -- and they matter alike in both tables
 pub moves_alike : {P : Type 0} (graph : Graph P) (a b : Stored P) (p : ℕ) (x : P) → b.positions ≡ a.positions → b.records ≡ a.records

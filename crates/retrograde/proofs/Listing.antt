@@ -1,5 +1,5 @@
 -- Lists of different numbers and of their positions, and how many they are.
-use Rattle.std.proofs.Common.{◌≡◌, ◌∙◌, ◌↔◌, sym, ap, subst, ℕ, zero, suc, ◌+◌, ◌≤◌, ◌<◌, ◌⊎◌, inl, inr, ⊎_elim, Bool, true, false, not, eqb, ◌&&◌, cond, Some, List, [], ◌∷◌, length, refl, arith, slice_get}
+use Rattle.std.proofs.Common.{◌≡◌, ◌∙◌, ◌↔◌, sym, ap, subst, ℕ, zero, suc, ◌+◌, ◌≤◌, ◌<◌, ◌⊎◌, inl, inr, ⊎_elim, Bool, true, false, not, eqb, ◌&&◌, ◌||◌, cond, Some, List, [], ◌∷◌, length, refl, arith, slice_get}
 use Rattle.std.specs.Prelude.{◌≢◌, count_by, All, AllPairs, Contains}
 use Rattle.std.specs.List.{AllZip}
 use Rattle.std.proofs.lemmas.Option.{same_Some}
@@ -147,6 +147,39 @@ length_listed n test js once each =
     go : (b : Bool) → b ≡ (b && true)
     go true = refl
     go false = refl
+
+-- whether a number is in the list
+abbrev member : List ℕ → ℕ → Bool
+member [] j = false
+member (k ∷ ks) j = eqb j k || member ks j
+
+member_is : (ks : List ℕ) (j : ℕ) → Contains ks j ↔ (member ks j ≡ true)
+member_is [] j = ((λ here. absurd (none_in_empty j here)), (λ is. cc))
+member_is (k ∷ ks) j = ⊎_elim at (other (member_is ks j)) (eqb_tells j k)
+  where
+    at : (eqb j k ≡ true) × (j ≡ k) → Contains (k ∷ ks) j ↔ ((eqb j k || member ks j) ≡ true)
+    at (is, same) = ((λ here. rw is refl), (λ _. subst (λ (l : ℕ). Contains (k ∷ ks) l) (sym same) (is_first k ks)))
+
+    other : Contains ks j ↔ (member ks j ≡ true) → (eqb j k ≡ false) × (j ≡ k → ⊥) → Contains (k ∷ ks) j ↔ ((eqb j k || member ks j) ≡ true)
+    other rest (is, apart) = (
+      λ here. ⊎_elim (λ same. absurd (apart (sym same))) (λ later. rw is (rest.0 later)) (first_or_later k j ks here),
+      λ found. is_later k j ks (rest.1 (rw is at found)),
+    )
+
+-- two lists of different numbers with the same elements are as long, and have as many of a kind
+module _ (n : ℕ) where
+  pub count_alike : (kind : ℕ → Bool) (js ks : List ℕ) → IsOnce js → IsOnce ks → ((j : ℕ) → Contains js j → j < n) → ((j : ℕ) → Contains js j ↔ Contains ks j)
+      → count_by kind js ≡ count_by kind ks
+  count_alike kind js ks once once' below alike =
+      sym (count_listed n (member js) kind js once (λ j. ((λ here. (below j here, (member_is js j).0 here)), (λ (_, is). (member_is js j).1 is))))
+      ∙ count_listed n (member js) kind ks once' (λ j. (
+        (λ there. let here : Contains js j = (alike j).1 there in (below j here, (member_is js j).0 here)),
+        (λ (_, is). (alike j).0 ((member_is js j).1 is)),
+      ))
+
+  pub length_alike : (js ks : List ℕ) → IsOnce js → IsOnce ks → ((j : ℕ) → Contains js j → j < n) → ((j : ℕ) → Contains js j ↔ Contains ks j)
+      → length js ≡ length ks
+  length_alike js ks once once' below alike = sym (all_counted js) ∙ (count_alike (λ j. true) js ks once once' below alike ∙ all_counted ks)
 
 -- positions and their numbers, one by one
 module _ {P : Type 0} (known : List P) where

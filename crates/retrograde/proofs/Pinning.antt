@@ -1,8 +1,9 @@
 -- What is said of a table after a unit of work leaves one table.
-use Rattle.std.proofs.Common.{◌≡◌, ◌∙◌, ◌↔◌, sym, ap, subst, ℕ, zero, suc, ◌<◌, ◌⊎◌, inl, inr, ⊎_elim, true, Option, Some, None, List, [], ◌∷◌, ◌++◌, length, refl, arith, slice_get}
+use Rattle.std.proofs.Common.{◌≡◌, ◌∙◌, ◌↔◌, sym, ap, subst, ℕ, zero, suc, ◌<◌, ◌⊎◌, inl, inr, ⊎_elim, true, Option, Some, None, List, [], ◌∷◌, ◌++◌, length, get_or, refl, arith, slice_get}
 use Rattle.std.specs.Prelude.{AllPairs, Contains}
 use Rattle.std.specs.Str.{bytes_eq}
 use Rattle.std.specs.Cmp.{IsTotalOrder, both_ways}
+use Rattle.std.specs.List.{AllZip}
 use Rattle.std.specs.List.Sorted.{IsStrictlySortedBy}
 use Rattle.std.specs.Ordering.{ordering_reverse}
 use Rattle.std.specs.declared.cmp.Ordering.{Ordering}
@@ -18,6 +19,9 @@ use Rattle.std.proofs.lemmas.Map.Views.{All-after_first}
 use Rattle.rbg_game.specs.declared.roles.Player.{Player}
 use Rattle.retrograde.specs.declared.records.Record.{Record}
 use Rattle.retrograde.specs.Graph.{Graph}
+use Rattle.retrograde.specs.View.{View, HasNumber}
+use Rattle.retrograde.specs.Audit.{AreSuccessors}
+use Rattle.retrograde.specs.Successors.{IsSuccessorList}
 use Rattle.retrograde.specs.Stored.{Stored, HasRecord, IsTable, expanded_count}
 use Rattle.retrograde.specs.Changes.{fresh_record, with_position, with_edge}
 use Rattle.retrograde.specs.Expands.{Expands, expanded_record, won_record}
@@ -96,6 +100,18 @@ module _ {P : Type 0} (cmp : P → P → Ordering) (laws : IsTotalOrder cmp) whe
 
   pub same_sorted : (xs ys : List P) → IsStrictlySortedBy cmp xs → IsStrictlySortedBy cmp ys → ((z : P) → Contains xs z ↔ Contains ys z) → xs ≡ ys
   same_sorted xs ys p q all = same_ordered (λ x y. cmp x y ≡ Less) less_one_way xs ys (pairs_from_sorted xs p) (pairs_from_sorted ys q) all
+
+  -- the successors in order are the successors, each once
+  pub successors_from_sorted : (graph : Graph P) (view : View P) (x : P) (ys : List P) (js : List ℕ)
+      → IsSuccessorList cmp graph x ys → AllZip (λ y j. HasNumber view j y) ys js → AreSuccessors graph view x ys js
+  successors_from_sorted graph view x ys js list numbers = record {
+    each = list.each;
+    once = λ i j d lt within same.
+        let less : cmp (get_or ys i d) (get_or ys j d) ≡ Less = pairs_from_sorted ys list.ascending i j d lt within in
+        let less' : cmp (get_or ys j d) (get_or ys j d) ≡ Less = subst (λ (u : P). cmp u (get_or ys j d) ≡ Less) same less in
+        less_one_way (get_or ys j d) (get_or ys j d) less' less';
+    numbers = numbers;
+  }
 
 -- bytes can be told apart
 pub bytes_decided : (x y : List ℕ) → (x ≡ y) ⊎ (x ≡ y → ⊥)

@@ -23,16 +23,18 @@ pub record AreSuccessors {P : Type 0} (graph : Graph P) (view : View P) (x : P) 
   pub once : AllPairs ◌≢◌ ys
   pub numbers : AllZip (λ y j. HasNumber view j y) ys js
 
--- each successor of x has its edge from i; the record has the count of successors, and of those that are not processed;
--- the keeper has one successor at most
-pub record HasItsMoves {P : Type 0} (graph : Graph P) (stored : Stored P) (i : ℕ) (x : P) : Type 0 where
-  pub successors : List P
-  pub numbers : List ℕ
-  pub are : AreSuccessors graph (view_of stored) x successors numbers
-  pub edges : All (λ j. stored.has_edge j i ≡ true) numbers
-  pub counted : (r : Record) → HasRecord stored i r → r.successors ≡ length successors
-  pub left : (r : Record) → HasRecord stored i r → r.left ≡ count_by (λ j. not ((view_of stored).processed j)) numbers
-  pub keeper : graph.mover x ≡ Role.Keeper → length successors ≤ 1
+-- ys with the numbers js are the successors of x, and each has its edge from i; the record of i has their count, and that of
+-- those that are not processed; where the keeper has the turn there is one at most
+pub record AreItsMoves {P : Type 0} (graph : Graph P) (stored : Stored P) (i : ℕ) (x : P) (ys : List P) (js : List ℕ) : Type 0 where
+  pub are : AreSuccessors graph (view_of stored) x ys js
+  pub edges : All (λ j. stored.has_edge j i ≡ true) js
+  pub counted : (r : Record) → HasRecord stored i r → r.successors ≡ length ys
+  pub left : (r : Record) → HasRecord stored i r → r.left ≡ count_by (λ j. not ((view_of stored).processed j)) js
+  pub keeper : graph.mover x ≡ Role.Keeper → length ys ≤ 1
+
+-- the moves from i have their edges, and are counted right
+abbrev pub HasItsMoves : {P : Type 0} → Graph P → Stored P → ℕ → P → Type 0
+HasItsMoves {P} graph stored i x = (ys : List P) × (js : List ℕ) × AreItsMoves graph stored i x ys js
 
 -- each edge to i comes from an expanded position of which x is a successor
 abbrev pub EdgesAreMoves : {P : Type 0} → Graph P → Stored P → ℕ → P → Type 0

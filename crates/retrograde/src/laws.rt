@@ -10,7 +10,7 @@ ghost use Rattle.retrograde.specs.View.{View, IsKnown, HasNumber, IsFinished, Ha
 ghost use Rattle.retrograde.specs.Right.{IsRight, IsCoherent, KnowsMoves, KeeperIsForced, ProcessesInOrder};
 ghost use Rattle.retrograde.specs.Local.{HasLocalValues};
 ghost use Rattle.retrograde.specs.Stored.{Stored, IsTable, view_of, loaded, expanded_count};
-ghost use Rattle.retrograde.specs.Audit.{HasItsMoves, HasItsEdges};
+ghost use Rattle.retrograde.specs.Audit.{AreSuccessors, AreItsMoves, HasItsMoves, HasItsEdges};
 ghost use Rattle.retrograde.specs.Sound.{IsLocallySoundAt, IsLocallySound};
 ghost use Rattle.retrograde.specs.Verdicts.{Verdict, right, IsVerdict, IsVerdictOf};
 ghost use Rattle.retrograde.specs.aid.ByEdges.{IsSoundByEdgesAt};
@@ -73,6 +73,13 @@ pub fn sound_by_edges<M: GameGraph>()
     ensures { (game : M) (stored : Stored (List ℕ)) → IsTable stored
         → ((i : ℕ) (x : List ℕ) → HasNumber (view_of stored) i x → IsLocallySoundAt (M.graph game) stored i x)
         ↔ ((i : ℕ) (x : List ℕ) → HasNumber (view_of stored) i x → IsSoundByEdgesAt (M.graph game) stored i x) }
+{}
+
+/// Whichever list of the successors of a number is taken, the second condition says the same of it.
+pub fn moves_by_any_list<M: GameGraph>()
+    ensures { (game : M) (stored : Stored (List ℕ)) (i : ℕ) (x : List ℕ) (ys : List (List ℕ)) (js : List ℕ)
+        → IsTable stored → AreSuccessors (M.graph game) (view_of stored) x ys js
+        → HasItsMoves (M.graph game) stored i x ↔ AreItsMoves (M.graph game) stored i x ys js }
 {}
 
 /// An edge to i from p that is no move fails at i, and does not matter at p.
