@@ -5,6 +5,7 @@ pub mod Counting
 pub mod Listing
 pub mod ByEdges
 pub mod Sound
+pub mod Tables
 pub mod Process
 pub mod Expanding
 pub mod Units

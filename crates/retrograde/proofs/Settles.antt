@@ -123,7 +123,7 @@ module _ {P : Type 0} (graph : Graph P) (IsWide : P → Type 0) (old : Stored P)
 
   pub settles : Settles graph old (with_processed graph s r w old) s r w
   settles =
-      let all = (falls_all graph IsWide old sound full s r w next).0 in
+      let all = (falls_all graph old sound.table full s r w next).0 in
       let order = newly_below graph s w r.distance base size in
       record {
         next = next;

@@ -35,7 +35,7 @@ pub map_some : (winner : Option Player) (d : ℕ) → IsSome winner → IsSome {
 map_some None d some = cc
 map_some (Some w) d some = refl
 
-processed_has_value : (o : Option Record) → processed_in o ≡ true → ((r : Record) → o ≡ Some r → FitsState r.state r)
+pub processed_has_value : (o : Option Record) → processed_in o ≡ true → ((r : Record) → o ≡ Some r → FitsState r.state r)
     → IsSome (option_and_then value_of o)
 processed_has_value None is fits = cc
 processed_has_value (Some r) is fits = map_some r.winner r.distance (processed_has_winner r.state r is (fits r refl))

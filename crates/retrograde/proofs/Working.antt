@@ -58,5 +58,5 @@ module _ {P : Type 0} (cmp : P → P → Ordering) (graph : Graph P) (IsWide : P
         (processed_next graph IsWide stored sound full s r w next)
         (sound_right graph IsWide stored sound)
         (sound_right graph IsWide (with_processed graph s r w stored) (processed_sound graph IsWide stored sound full s r w next))
-        (s_known graph IsWide stored sound s r w next r.distance refl)
+        (s_known stored sound.table s r w next r.distance refl)
         room
