@@ -1,5 +1,5 @@
 -- What is so once a position is expanded.
-use Rattle.std.proofs.Common.{◌≡◌, ◌∙◌, ◌↔◌, sym, ap, subst, ℕ, suc, ◌^◌, ◌≤◌, ◌<◌, ⊎_elim, IsSome, None, false, List, [], ◌∷◌, length, arith, slice_get, Option}
+use Rattle.std.proofs.Common.{◌≡◌, ◌∙◌, sym, ap, subst, ℕ, suc, ◌^◌, ◌≤◌, ◌<◌, ⊎_elim, IsSome, None, false, List, [], ◌∷◌, length, arith, slice_get, Option}
 use Rattle.std.specs.Prelude.{AllPairs}
 use Rattle.std.specs.declared.cmp.Ordering.{Ordering}
 use Rattle.std.specs.declared.cmp.Ordering.TheVariants.{Less}
@@ -13,14 +13,14 @@ use Rattle.retrograde.specs.Values.{Drawn}
 use Rattle.retrograde.specs.View.{IsFinished}
 use Rattle.retrograde.specs.Right.{IsRight}
 use Rattle.retrograde.specs.declared.records.Record.{Record}
-use Rattle.retrograde.specs.Stored.{Stored, view_of, is_settled, expanded_count, settled_count}
+use Rattle.retrograde.specs.Stored.{Stored, IsTable, view_of, is_settled, expanded_count, settled_count}
 use Rattle.retrograde.specs.Sound.{IsLocallySound}
 use Rattle.retrograde.specs.Successors.{packed_cmp, IsSuccessorList}
-use Rattle.retrograde.specs.Expansion.{AreNoted, with_expanded}
+use Rattle.retrograde.specs.aid.Expansion.{AreNoted, with_expanded}
 use Rattle.retrograde.specs.Expands.{Expands}
 use Rattle.retrograde.specs.Units.{UnitsOfWork}
 use Rattle.legal_moves.specs.Listed.{ListsExactly}
-use Rattle.retrograde.proofs.Enlarging.{expanded_sound}
+use Rattle.retrograde.proofs.Enlarging.{expanded_sound, an_expanded_table_fits}
 use Rattle.retrograde.proofs.Expands.{expands}
 use Rattle.retrograde.proofs.Finding.{sorted_of, sorted_none, expanded_works}
 use Rattle.retrograde.proofs.Finished.{draws, reach_is_known, element, none_or_some, is_some_at}
@@ -29,6 +29,24 @@ use Rattle.retrograde.proofs.Settling.{count_less}
 use Rattle.retrograde.proofs.Sound.{sound_right}
 use Rattle.frontier.specs.Done.{IsUnitDone}
 use Rattle.frontier.proofs.DoneLemmas.{unit_done}
+
+-- the table with the number e expanded is that with the next number expanded, as the lemmas say it
+as_expanded : (graph : Graph (List ℕ)) (old new next : Stored (List ℕ)) (x : List ℕ) (ys : List (List ℕ)) (e n : ℕ) (ahead : Option Player) → e ≡ expanded_count old
+    → n ≡ length ys → ahead ≡ graph.ahead x → new ≡ with_expanded e n ahead next → new ≡ with_expanded (expanded_count old) (length ys) (graph.ahead x) next
+as_expanded graph old new next x ys e n ahead e_is n_is ahead_is is =
+    is
+    ∙ (ap (λ (k : ℕ). with_expanded k n ahead next) e_is
+    ∙ (ap (λ (k : ℕ). with_expanded (expanded_count old) k ahead next) n_is
+    ∙ ap (λ (o : Option Player). with_expanded (expanded_count old) (length ys) o next) ahead_is))
+
+-- the parts of a table that is expanded fit together, sound or not
+pub fits : (graph : Graph (List ℕ)) (old new next : Stored (List ℕ)) → IsTable old → (x : List ℕ) (ys : List (List ℕ)) (e n : ℕ) (ahead : Option Player)
+    → e ≡ expanded_count old → slice_get old.positions e ≡ Option.Some x → AreNoted e ys old next
+    → n ≡ length ys → ahead ≡ graph.ahead x → new ≡ with_expanded e n ahead next → IsTable new
+fits graph old new next table x ys e n ahead e_is number noted n_is ahead_is is =
+    subst (λ (t : Stored (List ℕ)). IsTable t) (sym (as_expanded graph old new next x ys e n ahead e_is n_is ahead_is is))
+    (an_expanded_table_fits graph old table x (subst (λ (k : ℕ). slice_get old.positions k ≡ Option.Some x) e_is number) ys next
+    (subst (λ (k : ℕ). AreNoted k ys old next) e_is noted))
 
 sorted_pairs : {P : Type 0} (cmp : P → P → Ordering) (xs : List P) → AllPairs (λ x y. cmp x y ≡ Less) xs → IsStrictlySortedBy cmp xs
 sorted_pairs cmp [] pairs = sorted_none cmp
@@ -85,11 +103,7 @@ module _ (graph : Graph (List ℕ)) (IsWide : List ℕ → Type 0) (old new : St
   done sound x ys next e n ahead e_is number list forced narrow noted n_is ahead_is is room =
       let number' = subst (λ (k : ℕ). slice_get old.positions k ≡ Option.Some x) e_is number in
       let noted' = subst (λ (k : ℕ). AreNoted k ys old next) e_is noted in
-      let is' : new ≡ with_expanded (expanded_count old) (length ys) (graph.ahead x) next =
-      is
-      ∙ (ap (λ (k : ℕ). with_expanded k n ahead next) e_is
-      ∙ (ap (λ (k : ℕ). with_expanded (expanded_count old) k ahead next) n_is
-      ∙ ap (λ (o : Option Player). with_expanded (expanded_count old) (length ys) o next) ahead_is)) in
+      let is' : new ≡ with_expanded (expanded_count old) (length ys) (graph.ahead x) next = as_expanded graph old new next x ys e n ahead e_is n_is ahead_is is in
       let back = sym is' in
       let now_sound : IsLocallySound graph IsWide new =
       subst (λ (t : Stored (List ℕ)). IsLocallySound graph IsWide t) back

@@ -5,7 +5,7 @@ use Rattle.std.specs.Cmp.{IsTotalOrder}
 use Rattle.std.proofs.lemmas.List.{drop_more, get_or-map, length-map, map_more, take-map}
 use Rattle.retrograde.specs.Stored.{Stored}
 use Rattle.retrograde.specs.Changes.{with_position, with_edge}
-use Rattle.retrograde.specs.Expansion.{IsNoted, AreNoted}
+use Rattle.retrograde.specs.aid.Expansion.{IsNoted, AreNoted}
 use Rattle.frontier.proofs.NumberLemmas.{IsReady, ready_next, still_unknown}
 
 noted_push : {P : Type 0} (e : ℕ) (ys : List P) (y : P) (a b c : Stored P) → AreNoted e ys a b → IsNoted e y b c → AreNoted e (ys ++ y ∷ []) a c

@@ -16,7 +16,7 @@ use Rattle.retrograde.specs.Graph.{Graph}
 use Rattle.retrograde.specs.Stored.{Stored}
 use Rattle.retrograde.specs.Successors.{IsSuccessorList}
 use Rattle.retrograde.specs.Changes.{with_position, with_edge}
-use Rattle.retrograde.specs.Expansion.{IsNoted, AreNoted}
+use Rattle.retrograde.specs.aid.Expansion.{IsNoted, AreNoted}
 use Rattle.retrograde.specs.Expands.{IsTooMany}
 use Rattle.retrograde.proofs.Adding.{push_before, push_cases, is_first, is_later}
 use Rattle.retrograde.proofs.Finding.{finds}

@@ -5,7 +5,7 @@ ghost use Rattle.legal_moves.specs.Listed.{ListsExactly};
 ghost use Rattle.retrograde.specs.Graph.{IsReachable};
 ghost use Rattle.retrograde.specs.Values.{Drawn};
 ghost use Rattle.retrograde.specs.View.{IsFinished};
-ghost use Rattle.retrograde.specs.Stored.{view_of, expanded_count};
+ghost use Rattle.retrograde.specs.Stored.{IsTable, view_of, expanded_count};
 ghost use Rattle.retrograde.specs.Sound.{IsLocallySound};
 ghost use Rattle.retrograde.specs.Successors.{packed_cmp};
 ghost use Rattle.retrograde.specs.Expands.{Expands};
@@ -71,6 +71,7 @@ pub fn expand_one<M: MoveSource, T: Table>(
     ensures expands { T.is_honest table.old → IsLocallySound (M.graph source.now) (M.is_wide source.now) (T.stored table.old)
         → OnOk result ((x : List ℕ) × (ys : List (List ℕ))
         × Expands packed_cmp (M.graph source.now) (T.stored table.old) (T.stored table.new) x ys) }
+    ensures fits { T.is_honest table.old → IsTable (T.stored table.old) → OnOk result (IsTable (T.stored table.new)) }
     ensures more { T.is_honest table.old → IfOk result (λ more.
         length (T.stored table.new).positions ≡ length (T.stored table.old).positions + more) }
     ensures done { T.is_honest table.old → IsLocallySound (M.graph source.now) (M.is_wide source.now) (T.stored table.old)

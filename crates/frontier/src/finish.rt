@@ -1,6 +1,6 @@
 //! The record of an expanded position.
 ghost use Rattle.std.specs.Prelude.{◌≡◌, ◌↔◌, ◌<◌, ◌≤◌, OnOk, IfErr, Err, Some, length};
-ghost use Rattle.retrograde.specs.Expansion.{with_ended, with_expanded};
+ghost use Rattle.retrograde.specs.aid.Expansion.{with_ended, with_expanded};
 ghost use Rattle.frontier.specs.Causes.{IsRefusal, Leaves};
 ghost use Rattle.frontier.specs.declared.fault.StepFault.TheVariants.{Inconsistent};
 

@@ -3,7 +3,7 @@ ghost use Rattle.std.specs.Prelude.{◌≡◌, ◌↔◌, ◌^◌, ◌<◌, ◌�
 ghost use Rattle.std.specs.List.Sorted.{IsStrictlySortedBy};
 ghost use Rattle.table.specs.Memory.{bytes_of_each};
 ghost use Rattle.retrograde.specs.Changes.{with_position, with_edge};
-ghost use Rattle.retrograde.specs.Expansion.{AreNoted};
+ghost use Rattle.retrograde.specs.aid.Expansion.{AreNoted};
 ghost use Rattle.retrograde.specs.Successors.{packed_cmp};
 ghost use Rattle.frontier.specs.Causes.{IsRefusal, Leaves};
 ghost use Rattle.frontier.specs.declared.fault.StepFault.TheVariants.{Inconsistent};

@@ -8,6 +8,7 @@ ghost use Rattle.rbg_read.specs.Reading.{Reads, Fault};
 ghost use Rattle.legal_moves.specs.Moves.{start_of};
 ghost use Rattle.legal_moves.specs.Sources.{IsPositionBytes, IsWideAt, graph_of};
 ghost use Rattle.legal_moves.specs.Compiled.{compiled_game};
+ghost use Rattle.retrograde.specs.Stored.{IsTable};
 ghost use Rattle.retrograde.specs.Sound.{IsLocallySound};
 ghost use Rattle.table.specs.InMemory.{stored_in};
 ghost use Rattle.frontier.specs.Causes.{Leaves};
@@ -114,8 +115,8 @@ impl Source {
     /// Does so many units of work on a table of the game, or fewer where the table is finished by then, and answers how
     /// many. It is asked of a table within the limit of 16,777,216 positions. After an error the caller gives the table up.
     ///
-    /// Of a table that does not agree with itself nothing is said but that it stays within the limit, and what is left of a
-    /// device under it; `Inconsistent` comes of such a table alone.
+    /// Of a table that does not agree with itself nothing is said but that it stays within the limit, that its parts still
+    /// fit together if they did, and what is left of a device under it; `Inconsistent` comes of such a table alone.
     pub fn work<T: Table>(&self, alloc: Global, table: &mut T, units: u32) -> Result<u32, StepFault>
         requires { (T.counted table.old).known ≤ 2 ^ 24 }
         ensures limit { OnOk result ((T.counted table.new).known ≤ 2 ^ 24) }
@@ -123,6 +124,7 @@ impl Source {
         ensures idle { IfOk result (λ done. done ≡ 0 → table.new ≡ table.old) }
         ensures works { T.is_honest table.old → IsLocallySound (graph_of (compiled_game self.now)) (IsWideAt (compiled_game self.now)) (T.stored table.old)
             → IfOk result (λ done. IsWorkOf (compiled_game self.now) units (T.stored table.old) done (T.stored table.new)) }
+        ensures fits { T.is_honest table.old → IsTable (T.stored table.old) → OnOk result (IsTable (T.stored table.new)) }
         ensures cause { T.is_honest table.old → IsLocallySound (graph_of (compiled_game self.now)) (IsWideAt (compiled_game self.now)) (T.stored table.old)
             → IfErr result (StopsWith (graph_of (compiled_game self.now)) (IsWideAt (compiled_game self.now)) (T.stored table.old) units) }
         ensures consistent { T.is_honest table.old → IsLocallySound (graph_of (compiled_game self.now)) (IsWideAt (compiled_game self.now)) (T.stored table.old)

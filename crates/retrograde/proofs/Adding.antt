@@ -17,7 +17,7 @@ use Rattle.std.proofs.lemmas.Map.Views.{All-after_first}
 use Rattle.retrograde.specs.declared.records.Record.{Record}
 use Rattle.retrograde.specs.Stored.{Stored, count_below}
 use Rattle.retrograde.specs.Changes.{fresh_record, with_position, with_edge}
-use Rattle.retrograde.specs.Expansion.{IsNoted, AreNoted}
+use Rattle.retrograde.specs.aid.Expansion.{IsNoted, AreNoted}
 use Rattle.retrograde.proofs.Counting.{true_or_false, counts_one, counts_none}
 
 pub is_first : {P : Type 0} (y : P) (ys : List P) → Contains (y ∷ ys) y

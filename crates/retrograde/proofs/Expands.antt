@@ -7,6 +7,7 @@ use Rattle.std.specs.Cmp.{IsTotalOrder}
 use Rattle.std.proofs.lemmas.Cmp.{tied_itself}
 use Rattle.std.proofs.lemmas.Option.{slice_get_within}
 use Rattle.std.proofs.lemmas.Bool.Decides.{eqb_tells}
+use Rattle.std.proofs.lemmas.List.{length-set}
 use Rattle.std.proofs.lemmas.List.Elements.{All-contains}
 use Rattle.std.proofs.lemmas.Map.Views.{All-after_first}
 use Rattle.rbg_game.specs.declared.roles.Player.{Player}
@@ -18,8 +19,8 @@ use Rattle.retrograde.specs.Stored.{Stored, HasRecord, view_of, expanded_count}
 use Rattle.retrograde.specs.Sound.{IsLocallySound}
 use Rattle.retrograde.specs.Successors.{IsSuccessorList}
 use Rattle.retrograde.specs.Changes.{fresh_record, with_record}
-use Rattle.retrograde.specs.Expansion.{AreNoted, expanded_record, won_record, with_ended, with_expanded}
-use Rattle.retrograde.specs.Expands.{Expands, IsChoice}
+use Rattle.retrograde.specs.Expands.{Expands, IsChoice, expanded_record, won_record}
+use Rattle.retrograde.specs.aid.Expansion.{AreNoted, with_ended, with_expanded}
 use Rattle.retrograde.proofs.Finished.{element}
 use Rattle.retrograde.proofs.Lowering.{get_set_same}
 use Rattle.retrograde.proofs.Noting.{are_noted_grew}
@@ -73,14 +74,15 @@ module _ {P : Type 0} (cmp : P → P → Ordering) (laws : IsTotalOrder cmp) (gr
   expands = record {
     number = number;
     successors = list;
-    expanded = expanded_new cmp laws graph IsWide stored sound x number ys list forced next noted new closing;
+    expanded = expanded_new graph stored sound.table x number ys next noted new closing;
     known =
         let (found, fresh, more) = new_found cmp laws graph IsWide (length next.positions) stored sound x number ys list forced next noted narrow in
         (found, fresh, closing.positions ∙ more);
-    edges = λ i p. (edge_cases cmp laws graph IsWide stored sound x number ys list forced next noted new closing i p, edge_from i p);
+    records = ap (λ (rs : List Record). length rs) closing.records ∙ (length-set next.records e closing.written ∙ (even ∙ sym (ap (λ (ks : List P). length ks) closing.positions)));
+    edges = λ i p. (edge_cases graph stored sound.table x number ys next noted new closing i p, edge_from i p);
     kept = λ i r other has.
-        elsewhere cmp laws graph IsWide stored sound x number ys list forced next noted new closing i other
-        ∙ (adds cmp laws graph IsWide stored sound x number ys list forced next noted new closing).records i r has;
+        elsewhere graph stored sound.table x number ys next noted new closing i other
+        ∙ (adds graph stored sound.table x number ys next noted new closing).records i r has;
     fresh = fresh_at;
     moving = λ some. moves (with_record next e (expanded_record (length ys))) (expanded_record (length ys)) stored.order (expanded_moving e (length ys) (graph.ahead x) next some) (written_at (expanded_record (length ys))) same_order;
     level = λ none nobody.
@@ -93,14 +95,14 @@ module _ {P : Type 0} (cmp : P → P → Ordering) (laws : IsTotalOrder cmp) (gr
   }
     where
       all_edges : Adds e ys stored next
-      all_edges = adds cmp laws graph IsWide stored sound x number ys list forced next noted new closing
+      all_edges = adds graph stored sound.table x number ys next noted new closing
 
       edge_from : (i p : ℕ) → ((stored.has_edge i p ≡ true) ⊎ ((p ≡ e) × ((y : P) × Contains ys y × (slice_get new.positions i ≡ Some y)))) → new.has_edge i p ≡ true
-      edge_from i p (inl before) = edge_kept cmp laws graph IsWide stored sound x number ys list forced next noted new closing i p before
+      edge_from i p (inl before) = edge_kept graph stored sound.table x number ys next noted new closing i p before
       edge_from i p (inr (from, (y, here, at))) =
           let (j, at_j, edge) = all_edges.all y here in
-          let same : i ≡ j = apart cmp laws graph IsWide stored sound x number ys list forced next noted new closing i j y at (to_new cmp laws graph IsWide stored sound x number ys list forced next noted new closing j y at_j) in
-          edge_is cmp laws graph IsWide stored sound x number ys list forced next noted new closing i p
+          let same : i ≡ j = apart graph stored sound.table x number ys next noted new closing i j y at (to_new graph stored sound.table x number ys next noted new closing j y at_j) in
+          edge_is graph stored sound.table x number ys next noted new closing i p
           ∙ subst (λ (k : ℕ). next.has_edge k p ≡ true) (sym same) (subst (λ (k : ℕ). next.has_edge j k ≡ true) (sym from) edge)
 
       fresh_at : (i : ℕ) → length stored.positions ≤ i → i < length new.positions → HasRecord new i fresh_record
@@ -111,7 +113,7 @@ module _ {P : Type 0} (cmp : P → P → Ordering) (laws : IsTotalOrder cmp) (gr
           let records : length stored.records ≡ length stored.positions = sound.table.records in
           let (r, has) = element next.records i (omega arith) in
           let other : i ≡ e → ⊥ = λ is. omega arith in
-          elsewhere cmp laws graph IsWide stored sound x number ys list forced next noted new closing i other
+          elsewhere graph stored sound.table x number ys next noted new closing i other
           ∙ ⊎_elim
           (λ before. let wrong : i < length stored.records = slice_get_within stored.records i r before in absurd (omega arith))
           (λ (_, is). has ∙ ap (λ (q : Record). Some q) (sym is))

@@ -9,7 +9,8 @@ use Rattle.rbg_game.specs.declared.roles.Role.{Role}
 use Rattle.retrograde.specs.declared.records.Record.{Record}
 use Rattle.retrograde.specs.Graph.{Graph}
 use Rattle.retrograde.specs.Stored.{Stored, HasRecord}
-use Rattle.retrograde.specs.Processing.{is_due, lowered, lower_with, lowered_below}
+use Rattle.retrograde.specs.Processing.{is_due, lowered}
+use Rattle.retrograde.specs.aid.Processing.{lower_with, lowered_below}
 use Rattle.retrograde.proofs.Lowering.{get_set_same, get_set_other, count_set, AreLowered, below_keeps}
 use Rattle.retrograde.proofs.Adding.{push_before, push_at, push_cases}
 

@@ -18,7 +18,7 @@ use Rattle.retrograde.specs.View.{HasNumber}
 use Rattle.retrograde.specs.Stored.{Stored, view_of, expanded_count, count_below}
 use Rattle.retrograde.specs.Sound.{IsLocallySound}
 use Rattle.retrograde.specs.Successors.{IsSuccessorList}
-use Rattle.retrograde.specs.Expansion.{IsNoted, AreNoted, with_expanded}
+use Rattle.retrograde.specs.aid.Expansion.{IsNoted, AreNoted, with_expanded}
 use Rattle.retrograde.specs.Units.{IsNewFrom, UnitsOfWork, processed_in_view}
 use Rattle.retrograde.proofs.Counting.{true_or_false}
 use Rattle.retrograde.proofs.Sound.{sound_right}
@@ -158,17 +158,17 @@ module _ {P : Type 0} (cmp : P → P → Ordering) (laws : IsTotalOrder cmp) whe
     }
       where
         expands : expanded_count new ≡ suc e
-        expands = expanded_new cmp laws graph IsWide stored sound x number ys list forced next noted new closing
+        expands = expanded_new graph stored sound.table x number ys next noted new closing
 
         was_idle : (i : ℕ) → (view_of stored).processed i ≡ true → ⊥
-        was_idle = idle cmp laws graph IsWide stored sound x number ys list forced next noted new closing
+        was_idle = idle graph stored sound.table x number ys next noted new closing cmp laws IsWide sound list forced
 
         now_idle : (i : ℕ) → (view_of new).processed i ≡ true → ⊥
-        now_idle = idle_new cmp laws graph IsWide stored sound x number ys list forced next noted new closing
+        now_idle = idle_new graph stored sound.table x number ys next noted new closing cmp laws IsWide sound list forced
 
         is_x : (i : ℕ) (y : P) → i ≡ e → HasNumber (view_of new) i y → y ≡ x
         is_x i y same at =
-            same_Some y x (sym (subst (λ (k : ℕ). slice_get new.positions k ≡ Some y) same at) ∙ still cmp laws graph IsWide stored sound x number ys list forced next noted new closing e x number)
+            same_Some y x (sym (subst (λ (k : ℕ). slice_get new.positions k ≡ Some y) same at) ∙ still graph stored sound.table x number ys next noted new closing e x number)
 
         none : (n : ℕ) (test : ℕ → Bool) → ((i : ℕ) → test i ≡ true → ⊥) → count_below n test ≡ 0
         none n test idle' =

@@ -2,7 +2,10 @@ pub mod Values
 pub mod Finished
 pub mod Local
 pub mod Counting
+pub mod Listing
+pub mod ByEdges
 pub mod Sound
+pub mod Tables
 pub mod Process
 pub mod Expanding
 pub mod Units
@@ -19,3 +22,6 @@ pub mod Working
 pub mod Finding
 pub mod Expands
 pub mod Settles
+pub mod Auditing
+pub mod Pinning
+pub mod Leading

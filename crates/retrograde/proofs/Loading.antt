@@ -53,8 +53,7 @@ module _ {P : Type 0} (graph : Graph P) (IsWide : P → Type 0) where
     table = table;
     each = λ i x number. record {
       reached = inl (only_zero i x number);
-      edges_are_moves = λ p is. cc;
-      moves_are_edges = λ lt. absurd (omega arith);
+      edges = record { from_it = λ lt. absurd (omega arith); to_it = λ p is. cc };
       late = λ is. let no_way : true ≡ false = sym is ∙ not_processed i in cc;
       no_nearer = λ k j v w m n here there a b. cc;
       ended = λ lt is. absurd (omega arith);

@@ -8,7 +8,8 @@ use Rattle.rbg_game.specs.declared.roles.Player.{Player}
 use Rattle.retrograde.specs.declared.records.Record.{Record}
 use Rattle.retrograde.specs.Graph.{Graph}
 use Rattle.retrograde.specs.Stored.{Stored, HasRecord}
-use Rattle.retrograde.specs.Processing.{lowered, with_lowered, lower_with, lower_at, lowered_below}
+use Rattle.retrograde.specs.Processing.{lowered}
+use Rattle.retrograde.specs.aid.Processing.{with_lowered, lower_with, lower_at, lowered_below}
 
 pub get_set_same : {A : Type 0} (xs : List A) (i : ℕ) (y : A) → i < length xs → slice_get (set xs i y) i ≡ Some y
 get_set_same [] i y lt = absurd (omega arith)

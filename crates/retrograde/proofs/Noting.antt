@@ -5,7 +5,7 @@ use Rattle.retrograde.specs.declared.records.State.{State}
 use Rattle.retrograde.specs.declared.records.State.TheVariants.{Known, Expanded, Settled, Processed}
 use Rattle.retrograde.specs.Stored.{Stored, is_expanded, is_settled}
 use Rattle.retrograde.specs.Changes.{fresh_record}
-use Rattle.retrograde.specs.Expansion.{IsNoted, AreNoted}
+use Rattle.retrograde.specs.aid.Expansion.{IsNoted, AreNoted}
 
 module _ {P : Type 0} (e : ℕ) where
   pub record Grew (old new : Stored P) : Type 0 where

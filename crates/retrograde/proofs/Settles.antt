@@ -2,7 +2,7 @@
 use Rattle.std.proofs.Common.{◌≡◌, ◌∙◌, ◌↔◌, sym, ap, subst, ℕ, zero, suc, ◌<◌, ⊎_elim, Bool, true, false, cond, Option, Some, None, List, [], ◌∷◌, ◌++◌, length, get_or, refl, arith, slice_get, append_assoc}
 use Rattle.std.specs.Prelude.{Contains, AllPairs}
 use Rattle.std.proofs.lemmas.Option.{same_Some, slice_get_within}
-use Rattle.std.proofs.lemmas.List.{append-nil, get_or_default}
+use Rattle.std.proofs.lemmas.List.{append-nil, get_or_default, length-set}
 use Rattle.std.proofs.lemmas.Bool.{cases_eq}
 use Rattle.std.proofs.lemmas.List.Elements.{Contains-append_left, Contains-push, Contains-push_cases}
 use Rattle.std.proofs.lemmas.List.Quantifiers.{all_pairs_push}
@@ -11,7 +11,8 @@ use Rattle.retrograde.specs.declared.records.Record.{Record}
 use Rattle.retrograde.specs.Graph.{Graph}
 use Rattle.retrograde.specs.Stored.{Stored, expanded_count}
 use Rattle.retrograde.specs.Sound.{IsLocallySound}
-use Rattle.retrograde.specs.Processing.{is_due, lower_with, lower_at, lowered_below, with_processed, with_processed_alone, IsNextSettled}
+use Rattle.retrograde.specs.Processing.{is_due, processed_record, with_processed_alone, IsNextSettled}
+use Rattle.retrograde.specs.aid.Processing.{lower_with, lower_at, lowered_below, with_processed}
 use Rattle.retrograde.specs.Settles.{IsSettledBy, Settles}
 use Rattle.retrograde.proofs.Adding.{none_in_empty}
 use Rattle.retrograde.proofs.Lowering.{AreLowered, below_keeps}
@@ -122,12 +123,13 @@ module _ {P : Type 0} (graph : Graph P) (IsWide : P → Type 0) (old : Stored P)
 
   pub settles : Settles graph old (with_processed graph s r w old) s r w
   settles =
-      let all = (falls_all graph IsWide old sound full s r w next).0 in
+      let all = (falls_all graph old sound.table full s r w next).0 in
       let order = newly_below graph s w r.distance base size in
       record {
         next = next;
         positions = leaves.positions;
         has_edge = leaves.has_edge;
+        records = leaves.lengths ∙ length-set old.records s (processed_record r);
         lowers = λ i x q at has edge. all.lowers i x q (slice_get_within old.positions i x at) at has edge;
         others = λ i q has fails. all.stays i q has fails;
         newly = order.newly;

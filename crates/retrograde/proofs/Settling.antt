@@ -9,9 +9,9 @@ use Rattle.retrograde.specs.declared.records.State.{State}
 use Rattle.retrograde.specs.declared.records.State.TheVariants.{Known, Expanded, Settled, Processed}
 use Rattle.retrograde.specs.declared.records.Record.{Record}
 use Rattle.retrograde.specs.Graph.{Graph}
-use Rattle.retrograde.specs.Stored.{Stored, FitsState, value_of, view_of, is_settled, settled_count, processed_count}
-use Rattle.retrograde.specs.Sound.{IsLocallySound}
-use Rattle.retrograde.specs.Processing.{has_turn, is_open, is_due, lower_with, lower_at, lowered_below, processed_record, with_processed_alone, IsNextSettled}
+use Rattle.retrograde.specs.Stored.{Stored, FitsState, IsTable, value_of, view_of, is_settled, settled_count, processed_count}
+use Rattle.retrograde.specs.Processing.{has_turn, is_open, is_due, processed_record, with_processed_alone, IsNextSettled}
+use Rattle.retrograde.specs.aid.Processing.{lower_with, lower_at, lowered_below}
 use Rattle.retrograde.proofs.Counting.{true_or_false}
 use Rattle.retrograde.proofs.Lowering.{count_set}
 
@@ -91,7 +91,7 @@ module _ {P : Type 0} (graph : Graph P) (w : Player) (d : ℕ) where
   counted_below s zero stored is = is
   counted_below s (suc n) stored is = counted_if (stored.has_edge s n) n (lowered_below graph s w d n stored) (counted_below s n stored is)
 
-module _ {P : Type 0} (graph : Graph P) (IsWide : P → Type 0) (stored : Stored P) (sound : IsLocallySound graph IsWide stored)
+module _ {P : Type 0} (stored : Stored P) (table : IsTable stored)
     (s : ℕ) (r : Record) (w : Player) (next : IsNextSettled stored s r w) (d : ℕ) (distance : r.distance ≡ d) where
   abbrev pub base : Stored P
   base = with_processed_alone s r stored
@@ -100,25 +100,25 @@ module _ {P : Type 0} (graph : Graph P) (IsWide : P → Type 0) (stored : Stored
   s_in = slice_get_within stored.records s r next.has
 
   pub s_known : s < length stored.positions
-  s_known = let same : length stored.records ≡ length stored.positions = sound.table.records in let within : s < length stored.records = s_in in omega arith
+  s_known = let same : length stored.records ≡ length stored.positions = table.records in let within : s < length stored.records = s_in in omega arith
 
   pub base_records : length base.records ≡ length stored.positions
-  base_records = length-set stored.records s (processed_record r) ∙ sound.table.records
+  base_records = length-set stored.records s (processed_record r) ∙ table.records
 
   pub base_counted : IsCounted base
   base_counted =
-      let settled : is_settled r.state ≡ true = won_settled r.state r w (sound.table.states s r next.has) next.won in
+      let settled : is_settled r.state ≡ true = won_settled r.state r w (table.states s r next.has) next.won in
       let total : count_by (λ (q : Record). is_settled q.state) (set stored.records s (processed_record r)) + cond (is_settled r.state) 1 0
       ≡ count_by (λ (q : Record). is_settled q.state) stored.records + 1 = count_set (λ (q : Record). is_settled q.state) stored.records s r (processed_record r) next.has in
       let total' : count_by (λ (q : Record). is_settled q.state) (set stored.records s (processed_record r)) + 1
       ≡ count_by (λ (q : Record). is_settled q.state) stored.records + 1 = subst (λ (b : Bool). count_by (λ (q : Record). is_settled q.state) (set stored.records s (processed_record r)) + cond b 1 0 ≡ count_by (λ (q : Record). is_settled q.state) stored.records + 1) settled total in
-      let before : length stored.order ≡ count_by (λ (q : Record). is_settled q.state) stored.records = sound.table.counted in
+      let before : length stored.order ≡ count_by (λ (q : Record). is_settled q.state) stored.records = table.counted in
       omega arith
 
   pub s_waits : (view_of stored).processed s ≡ false
   s_waits =
       ⊎_elim
-      (λ is. let lt : processed_count stored < processed_count stored = (sound.table.processed (processed_count stored) s next.place).0 is in absurd (omega arith))
+      (λ is. let lt : processed_count stored < processed_count stored = (table.processed (processed_count stored) s next.place).0 is in absurd (omega arith))
       (λ is. is)
       (true_or_false ((view_of stored).processed s))
 

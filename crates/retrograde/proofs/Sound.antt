@@ -12,10 +12,13 @@ use Rattle.retrograde.specs.View.{View, HasNumber, IsExpanded}
 use Rattle.retrograde.specs.Right.{IsCoherent, KnowsMoves, KeeperIsForced, ProcessesInOrder, IsRight}
 use Rattle.retrograde.specs.Local.{IsLocalValue, at_end, by_moves, HasLocalValues, own_win, all_lead, still_open}
 use Rattle.retrograde.specs.Stored.{Stored, HasRecord, FitsState, is_expanded, is_processed, processed_in, value_of, view_of, expanded_count, processed_count, count_below}
-use Rattle.retrograde.specs.Sound.{IsReached, MovesAreEdges, IsLocallySoundAt, IsLocallySound}
+use Rattle.retrograde.specs.Audit.{IsReached}
+use Rattle.retrograde.specs.Sound.{IsLocallySound}
+use Rattle.retrograde.specs.aid.ByEdges.{CountsItsEdges, IsSoundByEdgesAt}
 use Rattle.retrograde.proofs.Finished.{is_some_at, element}
 use Rattle.retrograde.proofs.Local.{right, full_from_some, end_value_some}
 use Rattle.retrograde.proofs.Counting.{counted, some_counted, only_one}
+use Rattle.retrograde.proofs.ByEdges.{by_edges}
 
 -- a processed record has a winner
 processed_has_winner : (s : State) (r : Record) → is_processed s ≡ true → FitsState s r → IsSome r.winner
@@ -32,7 +35,7 @@ pub map_some : (winner : Option Player) (d : ℕ) → IsSome winner → IsSome {
 map_some None d some = cc
 map_some (Some w) d some = refl
 
-processed_has_value : (o : Option Record) → processed_in o ≡ true → ((r : Record) → o ≡ Some r → FitsState r.state r)
+pub processed_has_value : (o : Option Record) → processed_in o ≡ true → ((r : Record) → o ≡ Some r → FitsState r.state r)
     → IsSome (option_and_then value_of o)
 processed_has_value None is fits = cc
 processed_has_value (Some r) is fits = map_some r.winner r.distance (processed_has_winner r.state r is (fits r refl))
@@ -57,8 +60,8 @@ module _ {P : Type 0} (graph : Graph P) (IsWide : P → Type 0) (stored : Stored
       let same : length stored.records ≡ length stored.positions = sound.table.records in
       omega arith
 
-  pub at_number : (i : ℕ) → i < length stored.positions → (x : P) × HasNumber view i x × IsLocallySoundAt graph stored i x
-  at_number i within = let (x, number) = known_number i within in (x, number, sound.each i x number)
+  pub at_number : (i : ℕ) → i < length stored.positions → (x : P) × HasNumber view i x × IsSoundByEdgesAt graph stored i x
+  at_number i within = let (x, number) = known_number i within in (x, number, by_edges graph IsWide stored sound i x number)
 
   pub coherent : IsCoherent view
   coherent = record {
@@ -75,7 +78,7 @@ module _ {P : Type 0} (graph : Graph P) (IsWide : P → Type 0) (stored : Stored
 
   -- by one way or another a known position is reached
   reached_to : (b i : ℕ) (x : P) → i ≤ b → HasNumber view i x → IsReachable graph x
-  reached_to b i x le number = go b i x le number (sound.each i x number).reached
+  reached_to b i x le number = go b i x le number (by_edges graph IsWide stored sound i x number).reached
     where
       start : (x : P) → x ≡ graph.start → IsReachable graph x
       start x same = subst (λ (y : P). IsReachable graph y) (sym same) at_start
@@ -84,13 +87,13 @@ module _ {P : Type 0} (graph : Graph P) (IsWide : P → Type 0) (stored : Stored
       go b i x le number (inl (_, same)) = start x same
       go zero i x le number (inr (p, lt, within, edge)) = absurd (omega arith)
       go (suc b) i x le number (inr (p, lt, within, edge)) =
-          let (z, there, _, move) = (sound.each i x number).edges_are_moves p edge in
+          let (z, there, _, move) = (by_edges graph IsWide stored sound i x number).edges_are_moves p edge in
           let less : p ≤ b = omega arith in
-          by_move (go b p z less there (sound.each p z there).reached) move
+          by_move (go b p z less there (by_edges graph IsWide stored sound p z there).reached) move
 
   -- the start has number 0
   first : HasNumber view 0 graph.start
-  first = go (sound.each 0 x number).reached
+  first = go (by_edges graph IsWide stored sound 0 x number).reached
     where
       there : (x : P) × HasNumber view 0 x
       there = known_number 0 sound.table.started
@@ -106,12 +109,12 @@ module _ {P : Type 0} (graph : Graph P) (IsWide : P → Type 0) (stored : Stored
       go (inr (p, lt, within, edge)) = absurd (omega arith)
 
   later : (i : ℕ) (x : P) → HasNumber view (suc i) x → (y : P) × IsExpanded view y × graph.Successor y x
-  later i x number = go (sound.each (suc i) x number).reached
+  later i x number = go (by_edges graph IsWide stored sound (suc i) x number).reached
     where
       go : IsReached graph stored (suc i) x → (y : P) × IsExpanded view y × graph.Successor y x
       go (inl (zero_is, _)) = absurd (omega arith)
       go (inr (p, lt, within, edge)) =
-          let (z, there, expanded, move) = (sound.each (suc i) x number).edges_are_moves p edge in
+          let (z, there, expanded, move) = (by_edges graph IsWide stored sound (suc i) x number).edges_are_moves p edge in
           (z, (p, there, expanded), move)
 
   pub knows : KnowsMoves graph view
@@ -119,13 +122,13 @@ module _ {P : Type 0} (graph : Graph P) (IsWide : P → Type 0) (stored : Stored
     first = first;
     later = later;
     closed = λ x y (i, number, within) move.
-        let (j, there, edge) = ((sound.each i x number).moves_are_edges within).each y move in (j, there);
+        let (j, there, edge) = ((by_edges graph IsWide stored sound i x number).moves_are_edges within).each y move in (j, there);
     reached = λ x (i, number). let le : i ≤ i = omega arith in reached_to i i x le number;
   }
 
   pub forced : KeeperIsForced graph view
   forced x y z (i, number, within) keeper to_y to_z =
-      let edges : MovesAreEdges graph stored i x = (sound.each i x number).moves_are_edges within in
+      let edges : CountsItsEdges graph stored i x = (by_edges graph IsWide stored sound i x number).moves_are_edges within in
       let (j, y_at, y_edge) = edges.each y to_y in
       let (k, z_at, z_edge) = edges.each z to_z in
       let j_in : j < length stored.positions = slice_get_within stored.positions j y y_at in
@@ -181,22 +184,22 @@ module _ {P : Type 0} (graph : Graph P) (IsWide : P → Type 0) (stored : Stored
 
   pub local : HasLocalValues graph view
   local i x number within =
-      let edges : MovesAreEdges graph stored i x = (sound.each i x number).moves_are_edges within in
+      let edges : CountsItsEdges graph stored i x = (by_edges graph IsWide stored sound i x number).moves_are_edges within in
       ⊎_elim
       (λ some.
       let (j, j_in, edge) = some_counted (λ l. stored.has_edge l i) (length stored.positions) some in
       let (y, y_at) = known_number j j_in in
-      let (z, z_at, _, move) = (sound.each j y y_at).edges_are_moves i edge in
+      let (z, z_at, _, move) = (by_edges graph IsWide stored sound j y y_at).edges_are_moves i edge in
       let same : z ≡ x = same_Some z x (sym z_at ∙ number) in
       let has : HasMove graph x = (y, subst (λ (u : P). graph.Successor u y) same move) in
-      by_moves has ((sound.each i x number).moving within has))
+      by_moves has ((by_edges graph IsWide stored sound i x number).moving within has))
       (λ none.
       let ended : IsEnded graph x = λ y move.
       let (j, y_at, edge) = edges.each y move in
       let j_in : j < length stored.positions = slice_get_within stored.positions j y y_at in
       let some : 0 < count_below (length stored.positions) (λ l. stored.has_edge l i) = counted (λ l. stored.has_edge l i) (length stored.positions) j j_in edge in
       omega arith in
-      at_end ended ((sound.each i x number).ended within ended))
+      at_end ended ((by_edges graph IsWide stored sound i x number).ended within ended))
       (cases_lt 0 (count_below (length stored.positions) (λ l. stored.has_edge l i)))
 
   pub sound_right : IsRight graph view

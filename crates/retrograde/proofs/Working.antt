@@ -9,7 +9,8 @@ use Rattle.retrograde.specs.Right.{IsRight}
 use Rattle.retrograde.specs.Stored.{Stored, view_of, expanded_count, count_below}
 use Rattle.retrograde.specs.Sound.{IsLocallySound}
 use Rattle.retrograde.specs.Steps.{ProcessesNext}
-use Rattle.retrograde.specs.Processing.{with_processed, IsNextSettled}
+use Rattle.retrograde.specs.Processing.{IsNextSettled}
+use Rattle.retrograde.specs.aid.Processing.{with_processed}
 use Rattle.retrograde.specs.Units.{UnitsOfWork, processed_in_view}
 use Rattle.retrograde.proofs.Counting.{true_or_false}
 use Rattle.retrograde.proofs.Sound.{sound_right}
@@ -57,5 +58,5 @@ module _ {P : Type 0} (cmp : P → P → Ordering) (graph : Graph P) (IsWide : P
         (processed_next graph IsWide stored sound full s r w next)
         (sound_right graph IsWide stored sound)
         (sound_right graph IsWide (with_processed graph s r w stored) (processed_sound graph IsWide stored sound full s r w next))
-        (s_known graph IsWide stored sound s r w next r.distance refl)
+        (s_known stored sound.table s r w next r.distance refl)
         room

@@ -3,13 +3,21 @@ use Rattle.std.specs.Prelude.{◌≡◌, ◌↔◌, ◌⊎◌, ℕ, suc, ◌≤�
 use Rattle.std.specs.declared.cmp.Ordering.{Ordering}
 use Rattle.rbg_game.specs.declared.roles.Player.{Player}
 use Rattle.rbg_game.specs.declared.roles.Role.{Role}
+use Rattle.retrograde.specs.declared.records.State.TheVariants.{Expanded, Settled}
 use Rattle.retrograde.specs.declared.records.Record.{Record}
 use Rattle.retrograde.specs.Graph.{Graph}
 use Rattle.retrograde.specs.Stored.{Stored, HasRecord, expanded_count}
 use Rattle.retrograde.specs.Successors.{IsSuccessorList}
 use Rattle.retrograde.specs.Changes.{fresh_record}
-use Rattle.retrograde.specs.Expansion.{expanded_record, won_record}
 use Rattle.retrograde.specs.Units.{IsNewFrom}
+
+-- the record of an expanded position with so many successors
+abbrev pub expanded_record : ℕ → Record
+expanded_record n = record { state = Expanded; winner = None; distance = 0; left = n; successors = n }
+
+-- the record of a position that has no successor, where w is ahead
+abbrev pub won_record : Player → Record
+won_record w = record { state = Settled; winner = Some w; distance = 0; left = 0; successors = 0 }
 
 -- x, which has the least number that is not expanded, is expanded, and a move from it leads to each of these
 pub record Expands {P : Type 0} (cmp : P → P → Ordering) (graph : Graph P) (old new : Stored P) (x : P) (ys : List P) : Type 0 where
@@ -18,6 +26,8 @@ pub record Expands {P : Type 0} (cmp : P → P → Ordering) (graph : Graph P) (
   pub expanded : expanded_count new ≡ suc (expanded_count old)
   -- behind the known positions stand, in order, those of them that were not known
   pub known : (found : List P) × IsNewFrom cmp graph old.positions x found × (new.positions ≡ old.positions ++ found)
+  -- each known position has a record, and no other is kept
+  pub records : length new.records ≡ length new.positions
   -- there is an edge more to each of them, and no other
   pub edges : (i p : ℕ) → (new.has_edge i p ≡ true)
       ↔ ((old.has_edge i p ≡ true) ⊎ ((p ≡ expanded_count old) × ((y : P) × Contains ys y × (slice_get new.positions i ≡ Some y))))

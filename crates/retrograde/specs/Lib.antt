@@ -4,12 +4,14 @@ pub mod View
 pub mod Right
 pub mod Local
 pub mod Stored
+pub mod Audit
 pub mod Sound
+pub mod Verdicts
+pub mod aid
 pub mod Successors
 pub mod Edges
 pub mod Changes
 pub mod Steps
-pub mod Expansion
 pub mod Processing
 pub mod Units
 pub mod Expands

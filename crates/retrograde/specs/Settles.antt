@@ -1,5 +1,5 @@
 -- What is stored before and after a settled position is processed.
-use Rattle.std.specs.Prelude.{◌≡◌, ◌↔◌, ◌<◌, ℕ, true, false, Some, List, ◌++◌, slice_get, Contains, AllPairs}
+use Rattle.std.specs.Prelude.{◌≡◌, ◌↔◌, ◌<◌, ℕ, true, false, Some, List, ◌++◌, length, slice_get, Contains, AllPairs}
 use Rattle.rbg_game.specs.declared.roles.Player.{Player}
 use Rattle.retrograde.specs.declared.records.Record.{Record}
 use Rattle.retrograde.specs.Graph.{Graph}
@@ -21,6 +21,8 @@ pub record Settles {P : Type 0} (graph : Graph P) (old new : Stored P) (s : ℕ)
   pub next : IsNextSettled old s r w
   pub positions : new.positions ≡ old.positions
   pub has_edge : new.has_edge ≡ old.has_edge
+  -- there are as many records as there were
+  pub records : length new.records ≡ length old.records
   -- one less is left of each predecessor, and one that is due is settled for w, one farther; other records stay
   pub lowers : (i : ℕ) (x : P) (q : Record) → slice_get old.positions i ≡ Some x → HasRecord (with_processed_alone s r old) i q
       → old.has_edge s i ≡ true → HasRecord new i (lowered (graph.mover x) w r.distance q)

@@ -1,20 +1,22 @@
 //! What holds of every game and every table: each is a law, which proofs cite by a call.
-ghost use Rattle.std.specs.Prelude.{◌≡◌, ◌↔◌, ◌+◌, ◌≤◌, ℕ, suc, List, length, None};
+ghost use Rattle.std.specs.Prelude.{◌≡◌, ◌↔◌, ◌+◌, ◌≤◌, ◌<◌, ℕ, suc, true, List, length, Option, None};
 ghost use Rattle.retrograde.specs.Graph.{Graph, IsReachable};
 ghost use Rattle.rbg_game.specs.declared.roles.Player.{Player};
-ghost use Rattle.rbg_game.specs.declared.roles.Role.{Role};
 ghost use Rattle.retrograde.specs.declared.records.Record.{Record};
-ghost use Rattle.retrograde.specs.Processing.{with_processed, IsNextSettled};
-ghost use Rattle.retrograde.specs.Expansion.{AreNoted, with_expanded};
+ghost use Rattle.retrograde.specs.Expands.{Expands, IsChoice};
+ghost use Rattle.retrograde.specs.Settles.{Settles};
 ghost use Rattle.retrograde.specs.Values.{WinsWithin, Drawn, WonIn};
 ghost use Rattle.retrograde.specs.View.{View, IsKnown, HasNumber, IsFinished, HasValue};
 ghost use Rattle.retrograde.specs.Right.{IsRight, IsCoherent, KnowsMoves, KeeperIsForced, ProcessesInOrder};
 ghost use Rattle.retrograde.specs.Local.{HasLocalValues};
-ghost use Rattle.retrograde.specs.Stored.{Stored, view_of, loaded, expanded_count};
-ghost use Rattle.retrograde.specs.Sound.{IsLocallySound};
+ghost use Rattle.retrograde.specs.Stored.{Stored, IsTable, view_of, loaded, expanded_count};
+ghost use Rattle.retrograde.specs.Audit.{AreSuccessors, AreItsMoves, HasItsMoves, HasItsEdges};
+ghost use Rattle.retrograde.specs.Sound.{IsLocallySoundAt, IsLocallySound};
+ghost use Rattle.retrograde.specs.Verdicts.{Verdict, right, IsVerdict, IsVerdictOf};
+ghost use Rattle.retrograde.specs.aid.ByEdges.{IsSoundByEdgesAt};
 ghost use Rattle.retrograde.specs.Play.{IsPlay};
 ghost use Rattle.retrograde.specs.Units.{UnitsOfWork};
-ghost use Rattle.retrograde.specs.Successors.{packed_cmp, IsSuccessorList};
+ghost use Rattle.retrograde.specs.Successors.{packed_cmp};
 ghost use Rattle.retrograde.specs.Steps.{IsLocallyRight, ExpandsNext, ProcessesNext};
 
 use crate::graph::GameGraph;
@@ -62,7 +64,47 @@ pub fn local_values_are_right<M: GameGraph>()
 
 /// A table that agrees with itself at each number is right.
 pub fn sound_is_right<M: GameGraph>()
-    ensures { (game : M) (stored : Stored (List ℕ)) → IsLocallySound (M.graph game) (M.is_wide game) stored → IsRight (M.graph game) (view_of stored) }
+    ensures { (game : M) (stored : Stored (List ℕ))
+        → IsLocallySound (M.graph game) (M.is_wide game) stored → IsRight (M.graph game) (view_of stored) }
+{}
+
+/// Over the whole of a table whose parts fit together the edges from a number may be counted in place of its successors.
+pub fn sound_by_edges<M: GameGraph>()
+    ensures { (game : M) (stored : Stored (List ℕ)) → IsTable stored
+        → ((i : ℕ) (x : List ℕ) → HasNumber (view_of stored) i x → IsLocallySoundAt (M.graph game) stored i x)
+        ↔ ((i : ℕ) (x : List ℕ) → HasNumber (view_of stored) i x → IsSoundByEdgesAt (M.graph game) stored i x) }
+{}
+
+/// Whichever list of the successors of a number is taken, the second condition says the same of it.
+pub fn moves_by_any_list<M: GameGraph>()
+    ensures { (game : M) (stored : Stored (List ℕ)) (i : ℕ) (x : List ℕ) (ys : List (List ℕ)) (js : List ℕ)
+        → IsTable stored → AreSuccessors (M.graph game) (view_of stored) x ys js
+        → HasItsMoves (M.graph game) stored i x ↔ AreItsMoves (M.graph game) stored i x ys js }
+{}
+
+/// An edge to i from p that is no move fails at i, and does not matter at p.
+pub fn stray_edges_fail_where_they_lead<M: GameGraph>()
+    ensures leads { (game : M) (stored : Stored (List ℕ)) (i p : ℕ) (x y : List ℕ)
+        → HasNumber (view_of stored) p x → stored.has_edge i p ≡ true → ((M.graph game).Successor x y → ⊥)
+        → HasItsEdges (M.graph game) stored i y → ⊥ }
+    ensures begins { (game : M) (a b : Stored (List ℕ)) (p : ℕ) (x : List ℕ)
+        → b.positions ≡ a.positions → b.records ≡ a.records
+        → ((j : ℕ) (y : List ℕ) → HasNumber (view_of a) j y → (M.graph game).Successor x y → b.has_edge j p ≡ a.has_edge j p)
+        → HasItsMoves (M.graph game) a p x ↔ HasItsMoves (M.graph game) b p x }
+{}
+
+/// A table has one verdict at most.
+pub fn one_verdict<M: GameGraph>()
+    ensures { (game : M) (table : Option (Stored (List ℕ))) (v w : Verdict)
+        → IsVerdictOf (M.graph game) table v → IsVerdictOf (M.graph game) table w → v ≡ w }
+{}
+
+/// A table is locally sound exactly where its parts fit together, its verdict is right, and no expanded position is too wide.
+pub fn right_is_sound<M: GameGraph>()
+    ensures { (game : M) (stored : Stored (List ℕ))
+        → IsLocallySound (M.graph game) (M.is_wide game) stored
+        ↔ (IsTable stored × IsVerdict (M.graph game) stored right
+        × ((i : ℕ) (x : List ℕ) → HasNumber (view_of stored) i x → i < expanded_count stored → M.is_wide game x → ⊥)) }
 {}
 
 /// To expand the next position keeps a table locally right.
@@ -112,40 +154,41 @@ pub fn loaded_is_sound<M: GameGraph>()
     ensures { (game : M) → IsLocallySound (M.graph game) (M.is_wide game) (loaded (M.graph game).start) }
 {}
 
-/// To expand the next position keeps what is stored so: x, which has these successors, no more than one where the keeper
-/// has the turn.
+/// Each of the two units leads to one table.
+pub fn units_lead_to_one_table<M: GameGraph>()
+    ensures expands { (game : M) (old a b : Stored (List ℕ)) (x : List ℕ) (ys : List (List ℕ)) → IsTable old
+        → Expands packed_cmp (M.graph game) old a x ys → Expands packed_cmp (M.graph game) old b x ys → a ≡ b }
+    ensures settles { (game : M) (old a b : Stored (List ℕ)) (s : ℕ) (r : Record) (w : Player) → IsTable old
+        → Settles (M.graph game) old a s r w → Settles (M.graph game) old b s r w → a ≡ b }
+{}
+
+/// To expand the next position keeps what is stored so, if the keeper has no choice there and it is not too wide.
 pub fn expanding_keeps_sound<M: GameGraph>()
-    ensures { (game : M) (stored next : Stored (List ℕ)) (x : List ℕ) (ys : List (List ℕ))
-        → IsLocallySound (M.graph game) (M.is_wide game) stored → HasNumber (view_of stored) (expanded_count stored) x
-        → IsSuccessorList packed_cmp (M.graph game) x ys
-        → ((M.graph game).mover x ≡ Role.Keeper → length ys ≤ 1)
-        → AreNoted (expanded_count stored) ys stored next → (M.is_wide game x → ⊥)
-        → IsLocallySound (M.graph game) (M.is_wide game) (with_expanded (expanded_count stored) (length ys) ((M.graph game).ahead x) next) }
+    ensures { (game : M) (old new : Stored (List ℕ)) (x : List ℕ) (ys : List (List ℕ))
+        → IsLocallySound (M.graph game) (M.is_wide game) old → Expands packed_cmp (M.graph game) old new x ys
+        → (IsChoice (M.graph game) x → ⊥) → (M.is_wide game x → ⊥)
+        → IsLocallySound (M.graph game) (M.is_wide game) new }
 {}
 
 /// To process the next settled number of what is all expanded keeps what is stored so.
 pub fn processing_keeps_sound<M: GameGraph>()
-    ensures { (game : M) (stored : Stored (List ℕ)) (s : ℕ) (r : Record) (w : Player)
-        → IsLocallySound (M.graph game) (M.is_wide game) stored → expanded_count stored ≡ length stored.positions
-        → IsNextSettled stored s r w → IsLocallySound (M.graph game) (M.is_wide game) (with_processed (M.graph game) s r w stored) }
+    ensures { (game : M) (old new : Stored (List ℕ)) (s : ℕ) (r : Record) (w : Player)
+        → IsLocallySound (M.graph game) (M.is_wide game) old → expanded_count old ≡ length old.positions
+        → Settles (M.graph game) old new s r w → IsLocallySound (M.graph game) (M.is_wide game) new }
 {}
 
 /// To expand the next position is one unit of work, where the limit of positions is kept.
 pub fn expanding_is_one_unit<M: GameGraph>()
-    ensures { (game : M) (limit : ℕ) (stored next : Stored (List ℕ)) (x : List ℕ) (ys : List (List ℕ))
-        → IsLocallySound (M.graph game) (M.is_wide game) stored → HasNumber (view_of stored) (expanded_count stored) x
-        → IsSuccessorList packed_cmp (M.graph game) x ys
-        → ((M.graph game).mover x ≡ Role.Keeper → length ys ≤ 1)
-        → AreNoted (expanded_count stored) ys stored next → (M.is_wide game x → ⊥) → length next.positions ≤ limit
-        → UnitsOfWork packed_cmp (M.graph game) (M.is_wide game) limit (view_of stored) 1
-        (view_of (with_expanded (expanded_count stored) (length ys) ((M.graph game).ahead x) next)) }
+    ensures { (game : M) (limit : ℕ) (old new : Stored (List ℕ)) (x : List ℕ) (ys : List (List ℕ))
+        → IsLocallySound (M.graph game) (M.is_wide game) old → Expands packed_cmp (M.graph game) old new x ys
+        → (IsChoice (M.graph game) x → ⊥) → (M.is_wide game x → ⊥) → length new.positions ≤ limit
+        → UnitsOfWork packed_cmp (M.graph game) (M.is_wide game) limit (view_of old) 1 (view_of new) }
 {}
 
 /// To process the next settled number is one unit of work.
 pub fn processing_is_one_unit<M: GameGraph>()
-    ensures { (game : M) (limit : ℕ) (stored : Stored (List ℕ)) (s : ℕ) (r : Record) (w : Player)
-        → IsLocallySound (M.graph game) (M.is_wide game) stored → expanded_count stored ≡ length stored.positions
-        → length stored.positions ≤ limit → IsNextSettled stored s r w
-        → UnitsOfWork packed_cmp (M.graph game) (M.is_wide game) limit (view_of stored) 1
-        (view_of (with_processed (M.graph game) s r w stored)) }
+    ensures { (game : M) (limit : ℕ) (old new : Stored (List ℕ)) (s : ℕ) (r : Record) (w : Player)
+        → IsLocallySound (M.graph game) (M.is_wide game) old → expanded_count old ≡ length old.positions
+        → length old.positions ≤ limit → Settles (M.graph game) old new s r w
+        → UnitsOfWork packed_cmp (M.graph game) (M.is_wide game) limit (view_of old) 1 (view_of new) }
 {}

@@ -5,7 +5,7 @@ use Rattle.retrograde.specs.declared.records.Record.{Record}
 use Rattle.retrograde.specs.Graph.{Graph}
 use Rattle.retrograde.specs.Stored.{Stored, HasRecord}
 use Rattle.retrograde.specs.Edges.{IsAfter, IsNextEdge, HasNoMoreEdges}
-use Rattle.retrograde.specs.Processing.{lower_at, lowered_below}
+use Rattle.retrograde.specs.aid.Processing.{lower_at, lowered_below}
 use Rattle.retrograde.proofs.Counting.{true_or_false}
 use Rattle.retrograde.proofs.Lowering.{AreLowered, below_keeps}
 use Rattle.settle.specs.Stuck.{IsStuck, IsStuckAt}

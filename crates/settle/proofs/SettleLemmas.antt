@@ -1,5 +1,5 @@
 -- What is so once a settled position is processed, and why a sound table never stops that.
-use Rattle.std.proofs.Common.{◌≡◌, ◌∙◌, ◌↔◌, sym, ap, subst, ℕ, ◌+◌, ◌^◌, ◌≤◌, ◌<◌, ⊎_elim, true, not, ◌&&◌, Some, None, List, length, refl, arith, slice_get}
+use Rattle.std.proofs.Common.{◌≡◌, ◌∙◌, sym, ap, subst, ℕ, ◌+◌, ◌^◌, ◌≤◌, ◌<◌, ⊎_elim, true, not, ◌&&◌, Some, List, length, refl, arith, slice_get}
 use Rattle.std.specs.Prelude.{count_by}
 use Rattle.std.proofs.lemmas.Bool.{cases_eq}
 use Rattle.std.proofs.lemmas.Option.{same_Some, slice_get_within}
@@ -11,11 +11,13 @@ use Rattle.retrograde.specs.Graph.{Graph}
 use Rattle.retrograde.specs.Stored.{Stored, HasRecord, IsTable, view_of, is_processed, is_settled, expanded_count, processed_count, count_below}
 use Rattle.retrograde.specs.Sound.{IsLocallySound}
 use Rattle.retrograde.specs.Successors.{packed_cmp}
-use Rattle.retrograde.specs.Processing.{is_open, lowered_below, processed_record, with_processed, with_processed_alone, IsNextSettled}
+use Rattle.retrograde.specs.Processing.{is_open, processed_record, with_processed_alone, IsNextSettled}
+use Rattle.retrograde.specs.aid.Processing.{lowered_below, with_processed}
 use Rattle.retrograde.specs.Settles.{Settles}
 use Rattle.retrograde.specs.Units.{UnitsOfWork}
+use Rattle.retrograde.proofs.ByEdges.{by_edges}
 use Rattle.retrograde.proofs.Counting.{counted}
-use Rattle.retrograde.proofs.Diminishing.{processed_sound}
+use Rattle.retrograde.proofs.Diminishing.{processed_sound, a_processed_table_fits}
 use Rattle.retrograde.proofs.Finished.{element}
 use Rattle.retrograde.proofs.Lowering.{get_set_same, get_set_other}
 use Rattle.retrograde.proofs.Settles.{settles}
@@ -35,6 +37,15 @@ settled_known stored table k s at =
     let same : length stored.records ≡ length stored.positions = table.records in
     omega arith
 
+-- the parts of a table of which s is processed fit together, sound or not: what the code has at hand is the table once s
+-- is marked, and once its predecessors are seen to
+pub fits_from : (graph : Graph (List ℕ)) (old : Stored (List ℕ)) → IsTable old → expanded_count old ≡ length old.positions
+    → (s : ℕ) (r : Record) (w : Player) → IsNextSettled old s r w → (marked new : Stored (List ℕ)) → marked ≡ with_processed_alone s r old
+    → new ≡ lowered_below graph s w r.distance (length marked.positions) marked → IsTable new
+fits_from graph old table full s r w next marked new is made =
+    let made' : new ≡ with_processed graph s r w old = subst (λ (t : Stored (List ℕ)). new ≡ lowered_below graph s w r.distance (length t.positions) t) is made in
+    subst (λ (t : Stored (List ℕ)). IsTable t) (sym made') (a_processed_table_fits graph old table full s r w next)
+
 module _ (graph : Graph (List ℕ)) (IsWide : List ℕ → Type 0) (old : Stored (List ℕ)) (agrees : IsLocallySound graph IsWide old) where
   module _ (s : ℕ) (r : Record) (w : Player) (next : IsNextSettled old s r w) where
     abbrev base : Stored (List ℕ)
@@ -46,11 +57,11 @@ module _ (graph : Graph (List ℕ)) (IsWide : List ℕ → Type 0) (old : Stored
     lengths : (b : ℕ) → length (now b).records ≡ length (now b).positions
     lengths b =
         (keeps graph s w r.distance base b).lengths
-        ∙ (base_records graph IsWide old agrees s r w next r.distance refl ∙ ap (λ (xs : List (List ℕ)). length xs) (sym (keeps graph s w r.distance base b).positions))
+        ∙ (base_records old agrees.table s r w next r.distance refl ∙ ap (λ (xs : List (List ℕ)). length xs) (sym (keeps graph s w r.distance base b).positions))
 
     room : (b p : ℕ) (q : Record) → HasRecord (now b) p q → is_open q.state ≡ true → length (now b).order < length (now b).positions
     room b p q has is =
-        let counts : length (now b).order ≡ count_by (λ (o : Record). is_settled o.state) (now b).records = counted_below graph w r.distance s b base (base_counted graph IsWide old agrees s r w next r.distance refl) in
+        let counts : length (now b).order ≡ count_by (λ (o : Record). is_settled o.state) (now b).records = counted_below graph w r.distance s b base (base_counted old agrees.table s r w next r.distance refl) in
         let less : count_by (λ (o : Record). is_settled o.state) (now b).records < length (now b).records = count_less (λ (o : Record). is_settled o.state) (now b).records p q has (open_unsettled q.state is) in
         let same : length (now b).records ≡ length (now b).positions = lengths b in
         omega arith
@@ -60,7 +71,7 @@ module _ (graph : Graph (List ℕ)) (IsWide : List ℕ → Type 0) (old : Stored
         let had : HasRecord base p q = sym ((keeps graph s w r.distance base p).later p (omega arith)) ∙ has in
         ⊎_elim
         (λ same.
-        let here : slice_get base.records s ≡ Some (processed_record r) = get_set_same old.records s (processed_record r) (s_in graph IsWide old agrees s r w next r.distance refl) in
+        let here : slice_get base.records s ≡ Some (processed_record r) = get_set_same old.records s (processed_record r) (s_in old agrees.table s r w next r.distance refl) in
         let had' : slice_get base.records s ≡ Some q = subst (λ (k : ℕ). slice_get base.records k ≡ Some q) (sym same) had in
         let is : processed_record r ≡ q = same_Some (processed_record r) q (sym here ∙ had') in
         (r, subst (λ (k : ℕ). HasRecord old k r) same next.has, ap (λ (o : Record). o.left) is))
@@ -69,18 +80,18 @@ module _ (graph : Graph (List ℕ)) (IsWide : List ℕ → Type 0) (old : Stored
 
     left : (p : ℕ) (q : Record) → old.has_edge s p ≡ true → HasRecord (now p) p q → 0 < q.left
     left p q there has =
-        let within' = s_known graph IsWide old agrees s r w next r.distance refl in
+        let within' = s_known old agrees.table s r w next r.distance refl in
         let (o, had, same) = record_before p q has in
         let (x, number) = element old.positions s within' in
-        let (z, z_at, within, move) = (agrees.each s x number).edges_are_moves p there in
-        let count : o.left ≡ count_below (length old.positions) (λ j. old.has_edge j p && not ((view_of old).processed j)) = ((agrees.each p z z_at).moves_are_edges within).left o had in
-        let passes : (old.has_edge s p && not ((view_of old).processed s)) ≡ true = rw (there, s_waits graph IsWide old agrees s r w next r.distance refl) refl in
+        let (z, z_at, within, move) = (agrees.each s x number).edges.to_it p there in
+        let count : o.left ≡ count_below (length old.positions) (λ j. old.has_edge j p && not ((view_of old).processed j)) = ((by_edges graph IsWide old agrees p z z_at).moves_are_edges within).left o had in
+        let passes : (old.has_edge s p && not ((view_of old).processed s)) ≡ true = rw (there, s_waits old agrees.table s r w next r.distance refl) refl in
         let some : 0 < count_below (length old.positions) (λ j. old.has_edge j p && not ((view_of old).processed j)) = counted (λ j. old.has_edge j p && not ((view_of old).processed j)) (length old.positions) s within' passes in
         omega arith
 
     near : length old.positions ≤ 2 ^ 24 → r.distance + 1 < 2 ^ 32
     near limit =
-        let le : r.distance ≤ processed_count old = distance_within_place graph IsWide old agrees r.distance s (processed_count old) w next.place (value_is graph IsWide old agrees s r w next r.distance refl) in
+        let le : r.distance ≤ processed_count old = distance_within_place graph IsWide old agrees r.distance s (processed_count old) w next.place (value_is old agrees.table s r w next r.distance refl) in
         let few : processed_count old ≤ length old.records = count_by-le-length (λ (q : Record). is_processed q.state) old.records in
         let same : length old.records ≡ length old.positions = agrees.table.records in
         omega arith

@@ -4,7 +4,8 @@ use Rattle.rbg_game.specs.declared.roles.Player.{Player}
 use Rattle.retrograde.specs.declared.records.Record.{Record}
 use Rattle.retrograde.specs.Graph.{Graph}
 use Rattle.retrograde.specs.Stored.{Stored, HasRecord}
-use Rattle.retrograde.specs.Processing.{is_open, lowered_below}
+use Rattle.retrograde.specs.Processing.{is_open}
+use Rattle.retrograde.specs.aid.Processing.{lowered_below}
 
 -- a predecessor with this record has nothing left to be counted down; or it waits, and is to be settled at one more than
 -- d, but that is too far, or the settled order is full

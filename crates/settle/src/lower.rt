@@ -3,7 +3,7 @@ ghost use Rattle.std.specs.Prelude.{◌≡◌, ◌↔◌, ◌+◌, ◌^◌, ◌<
 ghost use Rattle.retrograde.specs.declared.records.Record.{Record};
 ghost use Rattle.retrograde.specs.Stored.{HasRecord};
 ghost use Rattle.retrograde.specs.Changes.{with_record, with_settled};
-ghost use Rattle.retrograde.specs.Processing.{lower_at, lowered_below};
+ghost use Rattle.retrograde.specs.aid.Processing.{lower_at, lowered_below};
 ghost use Rattle.frontier.specs.Causes.{IsRefusal, Leaves};
 ghost use Rattle.frontier.specs.declared.fault.StepFault.TheVariants.{Inconsistent};
 ghost use Rattle.settle.specs.Stuck.{IsStuck, IsStuckAt};

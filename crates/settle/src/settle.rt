@@ -2,6 +2,7 @@
 ghost use Rattle.std.specs.Prelude.{◌≡◌, ◌↔◌, ◌+◌, ◌^◌, ◌<◌, ◌≤◌, ℕ, IfOk, OnOk, IfErr, Err, length};
 ghost use Rattle.rbg_game.specs.declared.roles.Player.{Player};
 ghost use Rattle.retrograde.specs.declared.records.Record.{Record};
+ghost use Rattle.retrograde.specs.Stored.{IsTable};
 ghost use Rattle.retrograde.specs.Sound.{IsLocallySound};
 ghost use Rattle.retrograde.specs.Settles.{Settles};
 ghost use Rattle.frontier.specs.Causes.{IsRefusal, Leaves};
@@ -29,6 +30,7 @@ pub fn settle_one<M: MoveSource, T: Table>(source: &M, table: &mut T) -> Result<
     ensures honest { OnOk result (T.is_honest table.old ↔ T.is_honest table.new) }
     ensures settles { T.is_honest table.old → IsLocallySound (M.graph source.now) (M.is_wide source.now) (T.stored table.old)
         → OnOk result ((s : ℕ) × (r : Record) × (w : Player) × Settles (M.graph source.now) (T.stored table.old) (T.stored table.new) s r w) }
+    ensures fits { T.is_honest table.old → IsTable (T.stored table.old) → OnOk result (IsTable (T.stored table.new)) }
     ensures known { OnOk result ((T.counted table.new).known ≡ (T.counted table.old).known) }
     ensures newly { T.is_honest table.old → IfOk result (λ newly.
         length (T.stored table.new).order ≡ length (T.stored table.old).order + newly) }

@@ -1,7 +1,7 @@
 //! Units of work, one after another.
 ghost use Rattle.std.specs.Prelude.{◌≡◌, ◌↔◌, ◌⊎◌, ◌^◌, ◌<◌, ◌≤◌, true, false, IfOk, OnOk, IfErr, Err};
 ghost use Rattle.retrograde.specs.View.{IsFinished};
-ghost use Rattle.retrograde.specs.Stored.{view_of};
+ghost use Rattle.retrograde.specs.Stored.{IsTable, view_of};
 ghost use Rattle.retrograde.specs.Sound.{IsLocallySound};
 ghost use Rattle.frontier.specs.Causes.{HasCause, Leaves};
 ghost use Rattle.frontier.specs.declared.fault.StepFault.TheVariants.{Inconsistent};
@@ -26,6 +26,7 @@ fn unit<M: MoveSource, T: Table>(
     ensures idle { IfOk result (λ done. done ≡ false → table.new ≡ table.old) }
     ensures sound { T.is_honest table.old → IsLocallySound (M.graph source.now) (M.is_wide source.now) (T.stored table.old)
         → OnOk result (IsLocallySound (M.graph source.now) (M.is_wide source.now) (T.stored table.new)) }
+    ensures fits { T.is_honest table.old → IsTable (T.stored table.old) → OnOk result (IsTable (T.stored table.new)) }
     ensures one { T.is_honest table.old → IsLocallySound (M.graph source.now) (M.is_wide source.now) (T.stored table.old)
         → IfOk result (λ done. done ≡ true → Works (M.graph source.now) (M.is_wide source.now) (T.stored table.old) 1 (T.stored table.new)) }
     ensures finished { T.is_honest table.old → IsLocallySound (M.graph source.now) (M.is_wide source.now) (T.stored table.old)
@@ -69,6 +70,7 @@ pub fn work<M: MoveSource, T: Table>(
     ensures honest { OnOk result (T.is_honest table.old ↔ T.is_honest table.new) }
     ensures done { T.is_honest table.old → IsLocallySound (M.graph source.now) (M.is_wide source.now) (T.stored table.old)
         → IfOk result (λ done. AreDone (M.graph source.now) (M.is_wide source.now) units (T.stored table.old) done (T.stored table.new)) }
+    ensures fits { T.is_honest table.old → IsTable (T.stored table.old) → OnOk result (IsTable (T.stored table.new)) }
     ensures idle { IfOk result (λ done. done ≡ 0 → table.new ≡ table.old) }
     ensures cause { T.is_honest table.old → IsLocallySound (M.graph source.now) (M.is_wide source.now) (T.stored table.old)
         → IfErr result (StopsWith (M.graph source.now) (M.is_wide source.now) (T.stored table.old) units) }

@@ -8,12 +8,12 @@ use Rattle.retrograde.specs.declared.records.Counts.{Counts}
 use Rattle.retrograde.specs.Stored.{Stored, expanded_count}
 use Rattle.retrograde.specs.Sound.{IsLocallySound}
 use Rattle.retrograde.specs.Successors.{packed_cmp, IsSuccessorList}
-use Rattle.retrograde.specs.Expansion.{AreNoted}
+use Rattle.retrograde.specs.aid.Expansion.{AreNoted}
 use Rattle.retrograde.specs.Expands.{IsTooMany}
 use Rattle.retrograde.proofs.Expands.{choice, no_choice}
 use Rattle.frontier.specs.Numbering.{AreNumbersOf}
 use Rattle.frontier.proofs.NumberLemmas.{too_many}
-use Rattle.frontier.proofs.ExpandLemmas.{IsDone, successor_list, done, room}
+use Rattle.frontier.proofs.ExpandLemmas.{IsDone, successor_list, done, fits, room}
 use Rattle.frontier.proofs.expand.expand_one.Given
 use Rattle.frontier.proofs.expand.expand_one.Goals as goal
 
@@ -103,3 +103,17 @@ returns-clause-last g c = λ honest sound. (is_done g c honest sound).last
 
 pub returns-clause-done : goal.returns-clause-done
 returns-clause-done g c = λ honest sound. (is_done g c honest sound).done
+
+pub returns-clause-fits : goal.returns-clause-fits
+returns-clause-fits g c = λ honest table.
+    let h1 = c.in_ok-packed.ensures.honest.0 honest in
+    let h2 = c.in_ok-numbers.ensures.honest.0 h1 in
+    let h3 = c.in_ok-note_all.ensures.honest.0 h2 in
+    let ys = bytes_of_each c.in_ok-found.found.items in
+    let few = length-map c.in_ok-found.found.items (λ (p : ArrayVec ℕ). p.items) in
+    let same = c.in_ok-numbers.ensures.same h1 ∙ c.in_ok-packed.ensures.same honest in
+    let noted = subst (λ (t : Stored (List ℕ)). AreNoted c.counts-before.result.expanded ys t (g.T.Table.stored c.note_all.new.table)) same (rw c.deref-3.ensures.value at c.in_ok-note_all.ensures.noted h2) in
+    fits (g.M.GameGraph.graph c.args.source.now) (g.T.Table.stored c.args.table.now) (g.T.Table.stored c.finish.new.table) (g.T.Table.stored c.note_all.new.table) table
+    c.in_ok-packed.packed.items ys c.counts-before.result.expanded _ c.ahead.result
+    (ap (λ (k : Counts). k.expanded) (c.counts-before.ensures ∙ g.met.T.Table.counts_are _ honest)) (c.in_ok-packed.ensures.position honest)
+    noted (omega (arith, few, c.len-2.ensures, c.in_ok-found.found.ok.0)) c.ahead.ensures (c.in_ok-finish.ensures.expanded h3)

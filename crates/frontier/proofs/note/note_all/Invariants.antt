@@ -1,7 +1,7 @@
 use Rattle.std.proofs.Common.{◌↔◌, ◌≤◌, ◌^◌, take, drop}
 use Rattle.std.proofs.lemmas.Cmp.{nat_list_cmp_total}
 use Rattle.table.specs.Memory.{bytes_of_each}
-use Rattle.retrograde.specs.Expansion.{AreNoted}
+use Rattle.retrograde.specs.aid.Expansion.{AreNoted}
 use Rattle.retrograde.specs.Successors.{packed_cmp}
 use Rattle.frontier.proofs.NumberLemmas.{IsReady}
 use Rattle.frontier.proofs.note.note_all.Given as goal

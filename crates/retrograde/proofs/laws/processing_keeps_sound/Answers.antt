@@ -1,5 +1,5 @@
-use Rattle.retrograde.proofs.Diminishing.{processed_sound}
+use Rattle.retrograde.proofs.Leading.{settles_sound}
 use Rattle.retrograde.proofs.laws.processing_keeps_sound.Goals as goal
 
 pub returns : goal.returns
-returns g c = λ game stored s r w sound full next. processed_sound (g.M.GameGraph.graph game) (g.M.GameGraph.is_wide game) stored sound full s r w next
+returns g c = λ game old new s r w sound full leads. settles_sound (g.M.GameGraph.graph game) (g.M.GameGraph.is_wide game) old new sound full s r w leads

@@ -1,5 +1,5 @@
 use Rattle.std.proofs.Common.{◌≡◌, ◌↔◌, ◌-◌, ◌≤◌}
-use Rattle.retrograde.specs.Processing.{lowered_below}
+use Rattle.retrograde.specs.aid.Processing.{lowered_below}
 use Rattle.settle.proofs.Bounds.{bound_of}
 use Rattle.settle.proofs.lower.lower_all.Given as goal
 

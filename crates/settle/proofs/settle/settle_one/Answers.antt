@@ -2,7 +2,7 @@ use Rattle.std.proofs.Common.{◌≡◌, ◌∙◌, ◌≤◌, ◌^◌, rules, a
 use Rattle.retrograde.specs.declared.records.Counts.{Counts}
 use Rattle.retrograde.specs.Stored.{expanded_count}
 use Rattle.retrograde.specs.Sound.{IsLocallySound}
-use Rattle.settle.proofs.SettleLemmas.{IsDone, done_from, never_stuck_from}
+use Rattle.settle.proofs.SettleLemmas.{IsDone, done_from, fits_from, never_stuck_from}
 use Rattle.settle.proofs.settle.settle_one.Goals as goal
 
 pub returns-in_err-lower_all-clause-consistent : goal.returns-in_err-lower_all-clause-consistent
@@ -60,3 +60,13 @@ returns-clause-done g c =
     (g.T.Table.stored c.process_next.new.table) (g.T.Table.stored c.lower_all.new.table) (c.in_ok-next.ensures.marked honest)
     (c.in_ok-lower_all.ensures.lowered (c.in_ok-next.ensures.honest.0 honest)) in
     λ honest sound. (it honest sound).unit
+
+pub returns-clause-fits : goal.returns-clause-fits
+returns-clause-fits g c = λ honest table.
+    let counts = g.met.T.Table.counts_are c.args.table.now honest in
+    let full : expanded_count (g.T.Table.stored c.args.table.now) ≡ length (g.T.Table.stored c.args.table.now).positions =
+    omega (arith, ap (λ (k : Counts). k.expanded) counts, ap (λ (k : Counts). k.known) counts, c.requires.expanded) in
+    fits_from (g.M.GameGraph.graph c.args.source.now) (g.T.Table.stored c.args.table.now) table full
+    c.in_ok-next.next.number c.in_ok-next.next.kept c.in_ok-next.next.winner (c.in_ok-next.ensures.next honest)
+    (g.T.Table.stored c.process_next.new.table) (g.T.Table.stored c.lower_all.new.table) (c.in_ok-next.ensures.marked honest)
+    (c.in_ok-lower_all.ensures.lowered (c.in_ok-next.ensures.honest.0 honest))

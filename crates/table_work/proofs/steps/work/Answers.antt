@@ -13,6 +13,7 @@ loop-done-init g c = record {
   works = λ honest sound.
       let few : length (g.T.Table.stored c.args.table.now).positions ≤ 2 ^ 24 = omega (arith, ap (λ (k : Counts). k.known) (g.met.T.Table.counts_are c.args.table.now honest), c.requires.limit) in
       none_done (g.M.GameGraph.graph c.args.source.now) (g.M.GameGraph.is_wide c.args.source.now) (g.T.Table.stored c.args.table.now) sound few;
+  fits = λ honest fits. fits;
   idle = λ is. refl;
 }
 
@@ -28,5 +29,6 @@ loop-done-preserved g c = record {
       let now = c.loop-done.invariant.sound honest sound in
       one_more (g.M.GameGraph.graph c.args.source.now) (g.M.GameGraph.is_wide c.args.source.now) (g.T.Table.stored c.args.table.now) (g.T.Table.stored c.loop-done.table) (g.T.Table.stored c.unit.new.table)
       c.loop-done.done (c.loop-done.invariant.works honest sound) (c.in_ok-unit.ensures.one h now (search rules));
+  fits = search rules;
   idle = λ is. absurd (omega (arith, is));
 }

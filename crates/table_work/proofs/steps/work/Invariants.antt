@@ -1,4 +1,5 @@
 use Rattle.std.proofs.Common.{◌≡◌, ◌↔◌, ◌^◌, ◌≤◌}
+use Rattle.retrograde.specs.Stored.{IsTable}
 use Rattle.retrograde.specs.Sound.{IsLocallySound}
 use Rattle.table_work.specs.Work.{Works}
 use Rattle.table_work.proofs.steps.work.Given as goal
@@ -13,5 +14,6 @@ invariant-loop-done g l = record {
       → IsLocallySound (g.M.GameGraph.graph l.fn.source) (g.M.GameGraph.is_wide l.fn.source) (g.T.Table.stored l.table);
   works : g.T.Table.is_honest l.fn.table → IsLocallySound (g.M.GameGraph.graph l.fn.source) (g.M.GameGraph.is_wide l.fn.source) (g.T.Table.stored l.fn.table)
       → Works (g.M.GameGraph.graph l.fn.source) (g.M.GameGraph.is_wide l.fn.source) (g.T.Table.stored l.fn.table) l.done (g.T.Table.stored l.table);
+  fits : g.T.Table.is_honest l.fn.table → IsTable (g.T.Table.stored l.fn.table) → IsTable (g.T.Table.stored l.table);
   idle : l.done ≡ 0 → l.table ≡ l.fn.table;
 }

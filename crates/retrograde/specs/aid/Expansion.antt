@@ -1,10 +1,9 @@
--- What expanding a position does to what is stored.
+-- The steps by which a position is expanded: its successors are added one by one, and then its record is written.
 use Rattle.std.specs.Prelude.{◌≡◌, ℕ, ◌⊎◌, Option, Some, None, List, [], ◌∷◌, length, slice_get, ◌==◌, if◌then◌else◌}
 use Rattle.rbg_game.specs.declared.roles.Player.{Player}
-use Rattle.retrograde.specs.declared.records.State.TheVariants.{Expanded, Settled}
-use Rattle.retrograde.specs.declared.records.Record.{Record}
 use Rattle.retrograde.specs.Stored.{Stored}
 use Rattle.retrograde.specs.Changes.{with_position, with_record, with_edge, with_settled}
+use Rattle.retrograde.specs.Expands.{expanded_record, won_record}
 
 -- y is added if it was not known, and gets its edge from number e
 abbrev pub IsNoted : {P : Type 0} → ℕ → P → Stored P → Stored P → Type 0
@@ -16,14 +15,6 @@ IsNoted e y old new =
 abbrev pub AreNoted : {P : Type 0} → ℕ → List P → Stored P → Stored P → Type 0
 AreNoted e [] old new = new ≡ old
 AreNoted {P} e (y ∷ ys) old new = (next : Stored P) × IsNoted e y old next × AreNoted e ys next new
-
--- the record of an expanded position with so many successors
-abbrev pub expanded_record : ℕ → Record
-expanded_record n = record { state = Expanded; winner = None; distance = 0; left = n; successors = n }
-
--- the record of a position that has no successor, where w is ahead
-abbrev pub won_record : Player → Record
-won_record w = record { state = Settled; winner = Some w; distance = 0; left = 0; successors = 0 }
 
 -- number e has no successor: it is settled where a player is ahead
 abbrev pub with_ended : {P : Type 0} → ℕ → Option Player → Stored P → Stored P

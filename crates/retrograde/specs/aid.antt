@@ -1,0 +1,3 @@
+pub mod ByEdges
+pub mod Expansion
+pub mod Processing
