@@ -80,8 +80,10 @@ pub trait GameFile: Table {
     fn commit(&mut self) -> Result<(), FileFault>
         ensures ahead { GoesAhead (state self.old) (state self.new) }
         ensures ok { (was : Self) (kept : Kept) → is_whole was → (state was).kept ≡ Some kept → Self.goes_on was self.old
+            → (IsTrue (state was).disk.honest → IsTable (Self.stored self.old))
             → OnOk result (is_whole self.new × IsPut stores (kept_as kept.text (Self.stored self.old)) (state was) (state self.new)) }
         ensures err { (was : Self) (kept : Kept) → is_whole was → (state was).kept ≡ Some kept → Self.goes_on was self.old
+            → (IsTrue (state was).disk.honest → IsTable (Self.stored self.old))
             → OnErr result (is_whole self.new × IsNotPut stores (kept_as kept.text (Self.stored self.old)) (state was) (state self.new)) }
         ensures cause { (was : Self) (kept : Kept) → is_whole was → (state was).kept ≡ Some kept → Self.goes_on was self.old
             → IfErr result (CommitCause kept.table (Self.stored self.old) (state was) (state self.new)) }

@@ -9,7 +9,7 @@ use Rattle.flat_table.proofs.Drafting.{committed, not_committed, why_not_committ
 use Rattle.flat_table.proofs.file.FlatTableGameFile.commit.Goals as goal
 
 pub returns-in_err-begin-clause-err : goal.returns-in_err-begin-clause-err
-returns-in_err-begin-clause-err g c = λ was kept whole is goes_on.
+returns-in_err-begin-clause-err g c = λ was kept whole is goes_on table.
     let unwritten = subst (λ (f : File). IsUnwritten ((it.ghosts g.row.D g.D.SectorDisk g.D.SectorDisk-dict).file was) f) (sym c.begin.ensures.same) goes_on in
     not_begun c.from_residual.result _ _ kept _ whole.0 unwritten c.in_err-begin.ensures.idle
 
@@ -18,13 +18,13 @@ returns-in_err-begin-clause-cause g c = λ was kept whole is goes_on.
     passed_on _ c.from_residual.result _ c.from_residual.ensures (rw c.in_err-begin.ensures.memory tt)
 
 pub returns-clause-ok : goal.returns-clause-ok
-returns-clause-ok g c = λ was kept whole is goes_on.
+returns-clause-ok g c = λ was kept whole is goes_on table.
     let stored = rw (sym c.take.ensures.value ∙ c.in-Some.is) at c.begin.ensures.stored in
     let unwritten = subst (λ (f : File). IsUnwritten ((it.ghosts g.row.D g.D.SectorDisk g.D.SectorDisk-dict).file was) f) (sym c.begin.ensures.same) goes_on in
     rw (sym stored) (committed _ _ _ kept _ whole.0 is unwritten c.keep.result (c.keep.ensures.draft ∙ c.take.ensures.after) c.keep.ensures.commits c.keep.ensures.ok)
 
 pub returns-clause-err : goal.returns-clause-err
-returns-clause-err g c = λ was kept whole is goes_on.
+returns-clause-err g c = λ was kept whole is goes_on table.
     let stored = rw (sym c.take.ensures.value ∙ c.in-Some.is) at c.begin.ensures.stored in
     let unwritten = subst (λ (f : File). IsUnwritten ((it.ghosts g.row.D g.D.SectorDisk g.D.SectorDisk-dict).file was) f) (sym c.begin.ensures.same) goes_on in
     rw (sym stored) (not_committed _ _ _ kept _ whole.0 is unwritten c.keep.result (c.keep.ensures.draft ∙ c.take.ensures.after) c.keep.ensures.root c.keep.ensures.err)

@@ -33,20 +33,22 @@ returns-in_err-commit-clause-refused g c = λ ready.
     passed_on _ c.from_residual.result _ c.from_residual.ensures
     (not_kept _ _ _ c.in-Some.source k is_read is _ c.in-Ok.done _
     (λ honest. let stored = g.met.F.GameFile.whole_stored file k ready.0 honest is in works_on c.in-Some.source k _ stored.1 _ _ _ _ c.count.ensures.is (c.in-Ok.ensures.works stored.0))
-    _ (refused.err file k ready.0 is c.in-Ok.ensures.ahead).1 (refused.cause file k ready.0 is c.in-Ok.ensures.ahead) (refused.still file c.in-Ok.ensures.ahead))
+    _ (refused.err file k ready.0 is c.in-Ok.ensures.ahead (λ honest. let stored = g.met.F.GameFile.whole_stored file k ready.0 honest is in c.in-Ok.ensures.fits stored.0 (rw stored.1 stored.2))).1 (refused.cause file k ready.0 is c.in-Ok.ensures.ahead) (refused.still file c.in-Ok.ensures.ahead))
 
 pub returns-in_err-commit-clause-ready : goal.returns-in_err-commit-clause-ready
 returns-in_err-commit-clause-ready g c = λ ready.
     let file = c.args.self.now.file in
     let (k, is, is_read) = kept_there c.in-Some.source _ (subst (λ (o : Option Compiled). IsSourceOf o (g.F.GameFile.state file).kept) c.in-Some.is ready.1) in
-    let left = c.in_err-commit.ensures.err file k ready.0 is c.in-Ok.ensures.ahead in
+    let left = c.in_err-commit.ensures.err file k ready.0 is c.in-Ok.ensures.ahead
+    (λ honest. let stored = g.met.F.GameFile.whole_stored file k ready.0 honest is in c.in-Ok.ensures.fits stored.0 (rw stored.1 stored.2)) in
     (left.0, same_source _ _ _ left.1.text ready.1)
 
 pub returns-in_err-commit-clause-sound : goal.returns-in_err-commit-clause-sound
 returns-in_err-commit-clause-sound g c = λ ready honest sound.
     let file = c.args.self.now.file in
     let (k, is, is_read) = kept_there c.in-Some.source _ (subst (λ (o : Option Compiled). IsSourceOf o (g.F.GameFile.state file).kept) c.in-Some.is ready.1) in
-    let left = c.in_err-commit.ensures.err file k ready.0 is c.in-Ok.ensures.ahead in
+    let left = c.in_err-commit.ensures.err file k ready.0 is c.in-Ok.ensures.ahead
+    (λ honest. let stored = g.met.F.GameFile.whole_stored file k ready.0 honest is in c.in-Ok.ensures.fits stored.0 (rw stored.1 stored.2)) in
     rw (left.1.kept honest) sound
 
 pub returns-in_ok-commit-clause-ready : goal.returns-in_ok-commit-clause-ready
@@ -54,14 +56,16 @@ returns-in_ok-commit-clause-ready g c = λ ready.
     let file = c.args.self.now.file in
     let source = subst (λ (o : Option Compiled). IsSourceOf o (g.F.GameFile.state file).kept) c.in-Some.is ready.1 in
     let (k, is, is_read) = kept_there c.in-Some.source _ source in
-    let put = c.in_ok-commit.ensures.ok file k ready.0 is c.in-Ok.ensures.ahead in
+    let put = c.in_ok-commit.ensures.ok file k ready.0 is c.in-Ok.ensures.ahead
+    (λ honest. let stored = g.met.F.GameFile.whole_stored file k ready.0 honest is in c.in-Ok.ensures.fits stored.0 (rw stored.1 stored.2)) in
     (put.0, rw c.in-Some.is (source_of_text c.in-Some.source _ k.text put.1.text is_read))
 
 pub returns-in_ok-commit-clause-done : goal.returns-in_ok-commit-clause-done
 returns-in_ok-commit-clause-done g c = λ ready.
     let file = c.args.self.now.file in
     let (k, is, is_read) = kept_there c.in-Some.source _ (subst (λ (o : Option Compiled). IsSourceOf o (g.F.GameFile.state file).kept) c.in-Some.is ready.1) in
-    let put = c.in_ok-commit.ensures.ok file k ready.0 is c.in-Ok.ensures.ahead in
+    let put = c.in_ok-commit.ensures.ok file k ready.0 is c.in-Ok.ensures.ahead
+    (λ honest. let stored = g.met.F.GameFile.whole_stored file k ready.0 honest is in c.in-Ok.ensures.fits stored.0 (rw stored.1 stored.2)) in
     worked_done _ _ _ c.in-Some.source k is_read is _ c.in-Ok.done _
     (λ honest. let stored = g.met.F.GameFile.whole_stored file k ready.0 honest is in works_on c.in-Some.source k _ stored.1 _ _ _ _ c.count.ensures.is (c.in-Ok.ensures.works stored.0))
     _ (λ honest. c.counts-counts.ensures ∙ g.met.F.Table.counts_are c.work.new.table (c.in-Ok.ensures.honest.0 (g.met.F.GameFile.whole_stored file k ready.0 honest is).0))
@@ -72,7 +76,8 @@ pub returns-in_ok-commit-clause-sound : goal.returns-in_ok-commit-clause-sound
 returns-in_ok-commit-clause-sound g c = λ ready honest sound.
     let file = c.args.self.now.file in
     let (k, is, is_read) = kept_there c.in-Some.source _ (subst (λ (o : Option Compiled). IsSourceOf o (g.F.GameFile.state file).kept) c.in-Some.is ready.1) in
-    let put = c.in_ok-commit.ensures.ok file k ready.0 is c.in-Ok.ensures.ahead in
+    let put = c.in_ok-commit.ensures.ok file k ready.0 is c.in-Ok.ensures.ahead
+    (λ honest. let stored = g.met.F.GameFile.whole_stored file k ready.0 honest is in c.in-Ok.ensures.fits stored.0 (rw stored.1 stored.2)) in
     kept_sound _ _ _ c.in-Some.source k is_read is _ c.in-Ok.done _
     (λ honest. let stored = g.met.F.GameFile.whole_stored file k ready.0 honest is in works_on c.in-Some.source k _ stored.1 _ _ _ _ c.count.ensures.is (c.in-Ok.ensures.works stored.0))
     honest sound put.1
