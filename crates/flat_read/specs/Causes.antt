@@ -2,7 +2,7 @@
 use Rattle.std.specs.Prelude.{◌≡◌, ℕ, ◌≤◌, ◌<◌, true, length, Option, IsTrue}
 use Rattle.sector_disk.specs.Disk.{Grew}
 use Rattle.page_store.specs.declared.fault.PageFault.{PageFault}
-use Rattle.page_store.specs.declared.fault.PageFault.TheVariants.{Disk, NotATable, Damaged, TableFull, OutOfMemory, Closed}
+use Rattle.page_store.specs.declared.fault.PageFault.TheVariants.{Disk, Damaged, OutOfMemory, Closed}
 use Rattle.page_store.specs.declared.marks.Mark.TheVariants.{Waiting}
 use Rattle.page_store.specs.Marks.{mark}
 use Rattle.page_store.specs.Store.{Store, reads}
@@ -17,9 +17,8 @@ AllWait store = (p : ℕ) → 1 ≤ p → p < length store.marks → mark store.
 -- are fewer than 16 pages; the store is closed; or memory is short
 abbrev pub ReadCause : Store → Store → PageFault → Type 0
 ReadCause old new Disk = Grew old.failures new.failures
-ReadCause old new NotATable = ⊥
 ReadCause old new Damaged =
     IsTrue old.disk.honest → AllWait old → (kept : Option Kept) → Keeps old.root (length old.marks) kept (reads old) → length old.marks < 16
-ReadCause old new TableFull = ⊥
 ReadCause old new OutOfMemory = Unit {0}
 ReadCause old new Closed = old.closed ≡ true
+ReadCause old new _ = ⊥

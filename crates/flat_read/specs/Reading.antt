@@ -1,7 +1,7 @@
 -- What is read of a file, part by part.
 use Rattle.std.specs.Prelude.{◌≡◌, ℕ, List, length, take, Option, None, Contains, IsTrue}
 use Rattle.page_store.specs.declared.fault.PageFault.{PageFault}
-use Rattle.page_store.specs.declared.fault.PageFault.TheVariants.{Disk, NotATable, Damaged, TableFull, OutOfMemory, Closed}
+use Rattle.page_store.specs.declared.fault.PageFault.TheVariants.{Damaged, OutOfMemory}
 use Rattle.page_store.specs.declared.marks.Mark.TheVariants.{Committed, Waiting}
 use Rattle.page_store.specs.Marks.{mark}
 use Rattle.page_store.specs.Spelling.{SpelledBy}
@@ -35,12 +35,9 @@ pub record IsGameOf (sizes : Sizes) (pages content : List ℕ) (game : Game) : T
 
 -- bytes give no table: they spell none whose parts fit together and are counted right; or memory is short
 abbrev pub TableCause : Sizes → List ℕ → PageFault → Type 0
-TableCause sizes bytes Disk = ⊥
-TableCause sizes bytes NotATable = ⊥
 TableCause sizes bytes Damaged = (text : List ℕ) (stored : Stored (List ℕ)) → IsTable stored → counts_of stored ≡ sizes.counts → ¬ Spells sizes bytes text stored
-TableCause sizes bytes TableFull = ⊥
 TableCause sizes bytes OutOfMemory = Unit {0}
-TableCause sizes bytes Closed = ⊥
+TableCause sizes bytes _ = ⊥
 
 -- from pages that waited and are marked now this was read; none is marked where there is no table
 pub record IsRead (pages : List ℕ) (kept : Option Kept) (old new : Store) : Type 0 where

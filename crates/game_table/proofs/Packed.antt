@@ -27,32 +27,6 @@ pub positions_if_packed : {E : Type 0} (game : Game) (shape : Shape) (stored : S
 positions_if_packed game shape stored (Ok are) same h = positions_by_packed game shape stored stored.positions are same refl h
 positions_if_packed game shape stored (Err fault) same h = tt
 
-module _ (shape : Shape) (positions : List (ArrayVec ℕ)) (index : ℕ) (d at : ArrayVec ℕ) (within : index < length positions) (is : at ≡ get_or positions index d) where
-  -- the bytes of the position with this number
-  number_is : slice_get (bytes_of_each positions) index ≡ Some at.items
-  number_is =
-      slice_get-map (λ p. p.items) positions index ∙ ap (λ (o : Option (ArrayVec ℕ)). option_map (λ p. p.items) o) (slice_get-get_or positions index d within ∙ ap Some (sym is))
-
-  pub packed_here : ArePacked shape (bytes_of_each positions) → IsPackedBytes shape at.items
-  packed_here are = are index at.items number_is
-
-  -- one more is packed
-  pub packed_so_far : ((i : ℕ) (x : List ℕ) → i < index → slice_get (bytes_of_each positions) i ≡ Some x → IsPackedBytes shape x) → IsPackedBytes shape at.items
-      → (i : ℕ) (x : List ℕ) → i < index + 1 → slice_get (bytes_of_each positions) i ≡ Some x → IsPackedBytes shape x
-  packed_so_far before here i x less number = elim (cases_lt i index) [
-    | inl below ↦ before i x below number
-    | inr past ↦
-        let same : i ≡ index = omega (arith, past, less) in
-        let found : Some at.items ≡ Some x = sym number_is ∙ ap (λ (k : ℕ). slice_get (bytes_of_each positions) k) (sym same) ∙ number in
-        subst (λ (bytes : List ℕ). IsPackedBytes shape bytes) (ap (λ (o : Option (List ℕ)). unwrap_or o []) found) here
-  ]
-
--- all are packed
-pub packed_all : (shape : Shape) (positions : List (ArrayVec ℕ)) (index : ℕ) → length positions ≤ index
-    → ((i : ℕ) (x : List ℕ) → i < index → slice_get (bytes_of_each positions) i ≡ Some x → IsPackedBytes shape x) → ArePacked shape (bytes_of_each positions)
-packed_all shape positions index past before = λ i x number.
-    before i x (omega (arith, past, slice_get_within (bytes_of_each positions) i x number, length-map positions (λ (p : ArrayVec ℕ). p.items))) number
-
 -- one more of a table's positions is packed
 pub packed_next : (shape : Shape) (positions : List (List ℕ)) (index : ℕ) (at : List ℕ) → slice_get positions index ≡ Some at → IsPackedBytes shape at
     → ((i : ℕ) (x : List ℕ) → i < index → slice_get positions i ≡ Some x → IsPackedBytes shape x)

@@ -1,26 +1,13 @@
 //! Whether what a table stores are positions.
 ghost use Rattle.std.specs.Prelude.{◌≡◌, ◌↔◌, true, IfOk, IfErr};
-ghost use Rattle.table.specs.Memory.{bytes_of_each};
 ghost use Rattle.game_table.specs.Tables.{IsPackedBytes, ArePacked};
 ghost use Rattle.table.specs.Faults.{NeedsNoPage};
 
 use position_pack::{Packed, Packing};
 use table::{Table, TableFault};
 
-/// Whether each of these is a position of this packing.
-pub fn are_packed(packing: &Packing, positions: &[Packed]) -> bool
-    ensures { (result ≡ true) ↔ ArePacked packing.now (bytes_of_each positions.now) }
-{
-    for position in positions {
-        if !is_packed(packing, position) {
-            return false;
-        }
-    }
-    true
-}
-
 /// Whether each position of a table is one of this packing. The table stays as it was.
-pub fn are_packed_in<T: Table>(packing: &Packing, table: &mut T) -> Result<bool, TableFault>
+pub fn are_packed<T: Table>(packing: &Packing, table: &mut T) -> Result<bool, TableFault>
     ensures are { T.is_honest table.old → IfOk result (λ are. (are ≡ true) ↔ ArePacked packing.now (T.stored table.old).positions) }
     ensures same { T.is_honest table.old → T.stored table.new ≡ T.stored table.old }
     ensures honest { T.is_honest table.old ↔ T.is_honest table.new }

@@ -10,13 +10,12 @@ ghost use Rattle.legal_moves.specs.Sources.{IsPositionBytes, IsWideAt, graph_of}
 ghost use Rattle.legal_moves.specs.Compiled.{compiled_game};
 ghost use Rattle.retrograde.specs.Stored.{IsTable};
 ghost use Rattle.retrograde.specs.Sound.{IsLocallySound};
-ghost use Rattle.table.specs.InMemory.{stored_in};
 ghost use Rattle.frontier.specs.Causes.{Leaves};
 ghost use Rattle.table_work.specs.Work.{StopsWith};
 ghost use Rattle.game_table.specs.Tables.{ArePositions, packed_length, IsWorkOf};
 ghost use Rattle.table.specs.Faults.{NeedsNoPage};
 
-use crate::packings::{are_packed, are_packed_in};
+use crate::packings::are_packed;
 use legal_moves::{Compiled, MoveSource};
 use position_pack::{Packed, Packing};
 use rbg_game::game::Game;
@@ -24,7 +23,7 @@ use rbg_read::fault::GameFault;
 use rbg_read::read::read_game;
 use std::alloc::Global;
 use std::marker::Model;
-use table::{MemTable, Table, TableFault};
+use table::{Table, TableFault};
 use table_work::StepFault;
 
 /// A game made ready for the search for moves.
@@ -90,16 +89,8 @@ impl Source {
         MoveSource::start(&self.compiled)
     }
 
-    /// Whether each position of a table is one of the game. It takes no memory and always answers.
-    pub fn are_positions(&self, table: &MemTable) -> bool
-        ensures { (result ≡ true) ↔ ArePositions (compiled_game self.now) (stored_in table.now) }
-    {
-        let packing = Packing::new(self.compiled.game());
-        are_packed(&packing, table.positions())
-    }
-
     /// Whether each position of a table is one of the game, read one by one. The table stays as it was.
-    pub fn are_all_positions<T: Table>(&self, table: &mut T) -> Result<bool, TableFault>
+    pub fn are_positions<T: Table>(&self, table: &mut T) -> Result<bool, TableFault>
         ensures are { T.is_honest table.old → IfOk result (λ are. (are ≡ true) ↔ ArePositions (compiled_game self.now) (T.stored table.old)) }
         ensures same { T.is_honest table.old → T.stored table.new ≡ T.stored table.old }
         ensures honest { T.is_honest table.old ↔ T.is_honest table.new }
@@ -109,7 +100,7 @@ impl Source {
         ensures fault { IfErr result (T.fails table.old table.new) }
     {
         let packing = Packing::new(self.compiled.game());
-        are_packed_in(&packing, table)
+        are_packed(&packing, table)
     }
 
     /// Does so many units of work on a table of the game, or fewer where the table is finished by then, and answers how

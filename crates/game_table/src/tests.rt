@@ -17,7 +17,7 @@ fn takes_are_worked_to_their_end(rt: HostRuntime) -> Result<(), Fail> {
     assert_eq!(rt; source.work(alloc, &mut table, 256), Ok(14));
     assert_eq!(rt; table.counts().known, 7);
     assert_eq!(rt; table.counts().processed, 7);
-    assert!(rt; source.are_positions(&table));
+    assert_eq!(rt; source.are_positions(&mut table), Ok(true));
     Ok(())
 }
 
@@ -27,7 +27,7 @@ fn positions_of_another_game_are_told(rt: HostRuntime) -> Result<(), Fail> {
     let source = Source::read(alloc, TAKE)?;
     let mut start = source.start();
     start[0] = 1;
-    let table = MemTable::new(alloc, &start)?;
-    assert!(rt; !source.are_positions(&table));
+    let mut table = MemTable::new(alloc, &start)?;
+    assert_eq!(rt; source.are_positions(&mut table), Ok(false));
     Ok(())
 }

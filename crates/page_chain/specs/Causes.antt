@@ -2,7 +2,7 @@
 use Rattle.std.specs.Prelude.{◌≡◌, ℕ, ◌*◌, ◌<◌, true, List, length, Contains, IsTrue}
 use Rattle.sector_disk.specs.Disk.{Grew}
 use Rattle.page_store.specs.declared.fault.PageFault.{PageFault}
-use Rattle.page_store.specs.declared.fault.PageFault.TheVariants.{Disk, NotATable, Damaged, TableFull, OutOfMemory, Closed}
+use Rattle.page_store.specs.declared.fault.PageFault.TheVariants.{Disk, Damaged, TableFull, OutOfMemory, Closed}
 use Rattle.page_store.specs.declared.marks.Mark.TheVariants.{Waiting}
 use Rattle.page_store.specs.Marks.{mark, free_count}
 use Rattle.page_store.specs.Store.{Store, reads}
@@ -16,47 +16,38 @@ AreWaiting pages store = (p : ℕ) → Contains pages p → mark store.marks p �
 -- whose pages wait; the store is closed; or memory is short
 abbrev pub ReadCause : ℕ → ℕ → Store → Store → PageFault → Type 0
 ReadCause first long old new Disk = Grew old.failures new.failures
-ReadCause first long old new NotATable = ⊥
 ReadCause first long old new Damaged =
     IsTrue old.disk.honest → (pages content : List ℕ) → length content ≡ long → AreWaiting pages old
     → ¬ IsChain (length old.marks) first pages content (reads old)
-ReadCause first long old new TableFull = ⊥
 ReadCause first long old new OutOfMemory = Unit {0}
 ReadCause first long old new Closed = old.closed ≡ true
+ReadCause first long old new _ = ⊥
 
 -- a chain is not written: the disk failed, and the store is closed; there are fewer free pages than it takes; the
 -- store was closed; or memory is short
 abbrev pub WriteCause : ℕ → Store → Store → PageFault → Type 0
 WriteCause long old new Disk = Grew old.failures new.failures × (new.closed ≡ true)
-WriteCause long old new NotATable = ⊥
-WriteCause long old new Damaged = ⊥
 WriteCause long old new TableFull = 4092 * free_count old.marks < long
 WriteCause long old new OutOfMemory = Unit {0}
 WriteCause long old new Closed = old.closed ≡ true
+WriteCause long old new _ = ⊥
 
 -- a page is not joined to a chain: the disk failed; it does not wait; the store is closed; or memory is short
 abbrev pub LinkCause : ℕ → Store → Store → PageFault → Type 0
 LinkCause page old new Disk = Grew old.failures new.failures
-LinkCause page old new NotATable = ⊥
 LinkCause page old new Damaged = mark old.marks page ≡ Waiting → ⊥
-LinkCause page old new TableFull = ⊥
 LinkCause page old new OutOfMemory = Unit {0}
 LinkCause page old new Closed = old.closed ≡ true
+LinkCause page old new _ = ⊥
 
 -- pages that are free are not handed out: the store is closed, or memory is short
 abbrev pub TakeCause : Store → PageFault → Type 0
-TakeCause old Disk = ⊥
-TakeCause old NotATable = ⊥
-TakeCause old Damaged = ⊥
-TakeCause old TableFull = ⊥
 TakeCause old OutOfMemory = Unit {0}
 TakeCause old Closed = old.closed ≡ true
+TakeCause old _ = ⊥
 
 -- pages that were handed out are not written: the disk failed, and the store is closed; or it was closed
 abbrev pub PutCause : Store → Store → PageFault → Type 0
 PutCause old new Disk = Grew old.failures new.failures × (new.closed ≡ true)
-PutCause old new NotATable = ⊥
-PutCause old new Damaged = ⊥
-PutCause old new TableFull = ⊥
-PutCause old new OutOfMemory = ⊥
 PutCause old new Closed = old.closed ≡ true
+PutCause old new _ = ⊥

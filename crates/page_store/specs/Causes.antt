@@ -12,52 +12,36 @@ use Rattle.page_store.specs.Store.{Store, IsUnchanged}
 abbrev pub OpenCause : Disk → ℕ → ℕ → PageFault → Type 0
 OpenCause disk before now DiskFailed = Grew before now
 OpenCause disk before now NotATable = IsTrue disk.honest → ¬ IsTable disk.now.contents
-OpenCause disk before now Damaged = ⊥
-OpenCause disk before now TableFull = ⊥
 OpenCause disk before now OutOfMemory = Unit {0}
-OpenCause disk before now Closed = ⊥
+OpenCause disk before now _ = ⊥
 
 -- `mark`: the page does not wait, or the store is closed
 abbrev pub MarkCause : Store → ℕ → PageFault → Type 0
-MarkCause old p DiskFailed = ⊥
-MarkCause old p NotATable = ⊥
 MarkCause old p Damaged = mark old.marks p ≡ Waiting → ⊥
-MarkCause old p TableFull = ⊥
-MarkCause old p OutOfMemory = ⊥
 MarkCause old p Closed = old.closed ≡ true
+MarkCause old p _ = ⊥
 
 -- `read_page`: the disk failed, there is no such page, or the store is closed
 abbrev pub ReadCause : Store → ℕ → Store → PageFault → Type 0
 ReadCause old p new DiskFailed = Grew old.failures new.failures
-ReadCause old p new NotATable = ⊥
 ReadCause old p new Damaged = (p ≡ 0) ⊎ (length old.marks ≤ p)
-ReadCause old p new TableFull = ⊥
-ReadCause old p new OutOfMemory = ⊥
 ReadCause old p new Closed = old.closed ≡ true
+ReadCause old p new _ = ⊥
 
 -- `new_page`: no page is free, or the store is closed
 abbrev pub NewCause : Store → PageFault → Type 0
-NewCause old DiskFailed = ⊥
-NewCause old NotATable = ⊥
-NewCause old Damaged = ⊥
 NewCause old TableFull = free_count old.marks ≡ 0
-NewCause old OutOfMemory = ⊥
 NewCause old Closed = old.closed ≡ true
+NewCause old _ = ⊥
 
 -- `write_page`: the disk failed, and the store is now closed; or it was closed
 abbrev pub WriteCause : Store → Store → PageFault → Type 0
 WriteCause old new DiskFailed = Grew old.failures new.failures × (new.closed ≡ true)
-WriteCause old new NotATable = ⊥
-WriteCause old new Damaged = ⊥
-WriteCause old new TableFull = ⊥
-WriteCause old new OutOfMemory = ⊥
 WriteCause old new Closed = old.closed ≡ true
+WriteCause old new _ = ⊥
 
 -- `commit`: the disk failed, and the store is as it was, or closed; or it was closed
 abbrev pub CommitCause : Store → Store → PageFault → Type 0
 CommitCause old new DiskFailed = Grew old.failures new.failures × (IsUnchanged old new ⊎ (new.closed ≡ true))
-CommitCause old new NotATable = ⊥
-CommitCause old new Damaged = ⊥
-CommitCause old new TableFull = ⊥
-CommitCause old new OutOfMemory = ⊥
 CommitCause old new Closed = old.closed ≡ true
+CommitCause old new _ = ⊥

@@ -29,7 +29,7 @@ fn source_in<F: GameFile>(alloc: Global, file: &mut F) -> Result<Option<Source>,
         Err(GameFault::OutOfMemory) => return Err(SolverFault::OutOfMemory),
         Err(_) => return Err(SolverFault::Damaged),
     };
-    if !source.are_all_positions(file)? {
+    if !source.are_positions(file)? {
         return Err(SolverFault::Damaged);
     }
     Ok(Some(source))

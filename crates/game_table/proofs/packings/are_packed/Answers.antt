@@ -1,18 +1,30 @@
-use Rattle.std.proofs.Common.{refl, sym, ◌∙◌}
-use Rattle.game_table.proofs.Packed.{packed_here, packed_so_far, packed_all}
+use Rattle.std.proofs.Common.{◌≡◌, ◌∙◌, rules, ap, subst, refl, ◌<◌, ℕ, List, Some, length, slice_get, arith}
+use Rattle.std.proofs.lemmas.Option.{slice_get_within}
+use Rattle.retrograde.specs.declared.records.Counts.{Counts}
+use Rattle.retrograde.specs.Stored.{Stored}
+use Rattle.game_table.proofs.Packed.{packed_next}
 use Rattle.game_table.proofs.packings.are_packed.Goals as goal
 
-pub returns-then-not-is_packed : goal.returns-then-not-is_packed
-returns-then-not-is_packed c = (
-  (λ is. cc),
-  (λ are. sym c.if-not-is_packed.true ∙ c.is_packed.ensures.1 (packed_here _ _ _ _ _ c.loop-position-test.true c.position-item.is are)),
-)
-
-pub loop-position-preserved : goal.loop-position-preserved
-loop-position-preserved c = record {
+pub loop-number-preserved : goal.loop-number-preserved
+loop-number-preserved g c = record {
   packing = refl;
-  packed = packed_so_far _ _ _ _ _ c.loop-position-test.true c.position-item.is c.loop-position.invariant.packed (c.is_packed.ensures.0 c.if-not-is_packed.false);
+  counts = search rules;
+  stays = g.met.T.Table.stays_then _ _ _ c.loop-number.invariant.stays c.in_ok-position.ensures.stays;
+  honest = search rules;
+  same = search rules;
+  packed = λ honest.
+      let h = c.loop-number.invariant.honest.0 honest in
+      let at = subst (λ (t : Stored (List ℕ)). slice_get t.positions c.loop-number.number ≡ Some c.in_ok-position.position.items)
+      (c.loop-number.invariant.same honest) (c.in_ok-position.ensures.position h) in
+      packed_next c.args.packing.now (g.T.Table.stored c.args.table.now).positions c.loop-number.number c.in_ok-position.position.items at
+      (c.is_packed.ensures.0 c.if-not-is_packed.false) (c.loop-number.invariant.packed honest);
 }
 
-pub returns : goal.returns
-returns c = ((λ is. packed_all _ _ _ c.loop-position-test.false c.loop-position.invariant.packed), (λ are. refl))
+pub returns-clause-are : goal.returns-clause-are
+returns-clause-are g c = λ honest.
+    let count = ap (λ (k : Counts). k.known) (c.counts-number-end.ensures ∙ g.met.T.Table.counts_are c.args.table.now honest) in (
+      (λ is i x number.
+          let within : i < length (g.T.Table.stored c.args.table.now).positions = slice_get_within _ _ _ number in
+          c.loop-number.invariant.packed honest i x (omega (arith, count, within, c.loop-number-test.false)) number),
+      (λ are. refl),
+    )
