@@ -36,8 +36,8 @@ answer_of text game moves written listing says = elim says [
 ]
 
 pub listing_of : (text : Text) (game read : Game) (at : Position) (moves : List ShownMove) → game ≡ read → at ≡ start_of game → Reads text read → AreMoves game at moves → All (IsShortestMove game at) moves → IsListing text game moves
-listing_of text game read at moves same start reads are shortest = record {
-  reads = subst (Reads text) (sym same) reads;
+listing_of text game read at moves same start is_read are shortest = record {
+  reads = subst (Reads text) (sym same) is_read;
   moves_are = subst (λ p. AreMoves game p moves) start are;
   shortest = subst (λ p. All (IsShortestMove game p) moves) start shortest;
 }
