@@ -64,9 +64,11 @@ module _ (was mid new : File) (kept : Kept) (now : Stored (List ℕ)) (whole : I
       let (g, has, keeps) = its_game mid.game kept (same.kept ∙ is) in
       let text : g.text.items ≡ kept.text = ap (λ (k : Kept). k.text) keeps in
       both_ok r
-      (λ count it. ((it.stands, none),
+      (λ count it. (
+        (it.stands, none),
         subst (λ (s : State). IsPut Stores (kept_as kept.text now) s (state_of new)) (same_state was mid same)
-        (subst (λ (t : List ℕ). IsPut Stores (kept_as t now) (state_of mid) (state_of new)) text (put_whole _ mid new count it))))
+            (subst (λ (t : List ℕ). IsPut Stores (kept_as t now) (state_of mid) (state_of new)) text (put_whole _ mid new count it)),
+      ))
       counts (put g has (same.stands whole))
 
   -- or it is not
@@ -77,9 +79,11 @@ module _ (was mid new : File) (kept : Kept) (now : Stored (List ℕ)) (whole : I
       let (g, has, keeps) = its_game mid.game kept (same.kept ∙ is) in
       let text : g.text.items ≡ kept.text = ap (λ (k : Kept). k.text) keeps in
       both_err r
-      (λ root it. ((it.stands, none),
+      (λ root it. (
+        (it.stands, none),
         subst (λ (s : State). IsNotPut Stores (kept_as kept.text now) s (state_of new)) (same_state was mid same)
-        (subst (λ (t : List ℕ). IsNotPut Stores (kept_as t now) (state_of mid) (state_of new)) text (not_put_whole _ mid new root it))))
+            (subst (λ (t : List ℕ). IsNotPut Stores (kept_as t now) (state_of mid) (state_of new)) text (not_put_whole _ mid new root it)),
+      ))
       roots (left g has (same.stands whole))
 
   -- a table with positions of another length does not fit

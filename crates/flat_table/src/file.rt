@@ -167,9 +167,10 @@ impl<D: SectorDisk> GameFile for FlatTable<D> {
     ghost whole_stored = { λ t kept whole honest is.
         let both = the_table_is_kept (⟦<PageStore<D> as Pages>⟧.store t.store) t.draft t.game kept whole.0 whole.1 is in (tt, both.0, both.1) };
 
-    ghost whole_stays = { λ old new whole stays.
-        ((stays.unwritten.stands whole.0, stays.idle whole.1),
-        unwritten_asked (⟦<FlatTable<D> as TableFile>⟧.file old) (⟦<FlatTable<D> as TableFile>⟧.file new) whole.0 stays.unwritten) };
+    ghost whole_stays = { λ old new whole stays. (
+      (stays.unwritten.stands whole.0, stays.idle whole.1),
+      unwritten_asked (⟦<FlatTable<D> as TableFile>⟧.file old) (⟦<FlatTable<D> as TableFile>⟧.file new) whole.0 stays.unwritten,
+    ) };
 
     ghost goes_ahead = { λ old new goes_on.
         unwritten_ahead (⟦<FlatTable<D> as TableFile>⟧.file old) (⟦<FlatTable<D> as TableFile>⟧.file new) goes_on };

@@ -69,14 +69,20 @@ module _ (k : Kept) (stored : Stored (List ℕ)) (same : stored ≡ k.table) (fi
     -- the position with this number has this text
     pub text_found : (number : ℕ) (bytes text : List ℕ) → IsText (compiled_game compiled) bytes text → slice_get stored.positions number ≡ Some bytes → HasText number text k
     text_found number bytes text it at = record {
-      game = compiled_game compiled; reads = is_read; bytes = bytes; text_is = it;
+      game = compiled_game compiled;
+      reads = is_read;
+      bytes = bytes;
+      text_is = it;
       number_is = subst (λ (t : Stored (List ℕ)). slice_get t.positions number ≡ Some bytes) same at;
     }
 
     -- no position that is known has this text
     pub text_unknown : (bytes text : List ℕ) → IsText (compiled_game compiled) bytes text → ((i : ℕ) → slice_get stored.positions i ≡ Some bytes → ⊥) → IsOfUnknown text k
     text_unknown bytes text it unknown = record {
-      game = compiled_game compiled; reads = is_read; bytes = bytes; text_is = it;
+      game = compiled_game compiled;
+      reads = is_read;
+      bytes = bytes;
+      text_is = it;
       unknown = subst (λ (t : Stored (List ℕ)). (i : ℕ) → slice_get t.positions i ≡ Some bytes → ⊥) same unknown;
     }
 

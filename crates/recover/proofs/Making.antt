@@ -37,4 +37,4 @@ module _ (text : List ℕ) (compiled : Compiled) (is_read : Reads text (compiled
       let is_game : compiled_game compiled ≡ game = one game (subst (λ (t : List ℕ). Reads t game) (same_Some k.text text has) of.reads) in
       apart are no_
       (tells.1 (subst (λ (s : Stored (List ℕ)). ArePositions (compiled_game compiled) s) (sym (same k refl))
-        (subst (λ (g : Game). ArePositions g k.table) (sym is_game) of.positions)))
+      (subst (λ (g : Game). ArePositions g k.table) (sym is_game) of.positions)))

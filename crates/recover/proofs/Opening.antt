@@ -60,7 +60,7 @@ module _ (Stores : Layout) (disk : Disk) (count : ℕ) (file : State) where
       since found asked honest =
           leaves_then asked.ahead.goes_on (found.leaves honest)
           (leaves_more (λ picture left. (found.leaves honest).each file.disk.clock picture found.from.goes_on.later (omega arith)
-            (subst (λ shown. MayLeave shown picture) (sym file.disk.was_now) left))
+          (subst (λ shown. MayLeave shown picture) (sym file.disk.was_now) left))
           (asked.leaves (still_honest found.from.goes_on honest)))
 
   -- the disk as it comes back, because the text is no game or a position is not one of its positions
@@ -73,7 +73,7 @@ module _ (Stores : Layout) (disk : Disk) (count : ℕ) (file : State) where
         leaves = λ honest.
             leaves_then it.asked.ahead.goes_on (found.leaves honest)
             (leaves_more (λ picture left. (found.leaves honest).each file.disk.clock picture found.from.goes_on.later (omega arith)
-              (subst (λ shown. MayLeave shown picture) (sym file.disk.was_now) left))
+            (subst (λ shown. MayLeave shown picture) (sym file.disk.was_now) left))
             (it.asked.leaves (still_honest found.from.goes_on honest)));
       }))
 
@@ -104,7 +104,7 @@ module _ (Stores : Layout) (disk : Disk) (count : ℕ) (file : State) where
   created_since made asked honest =
       leaves_then asked.ahead.goes_on (made.leaves honest)
       (leaves_more (λ picture left. (made.leaves honest).each file.disk.clock picture made.from.goes_on.later (omega arith)
-        (subst (λ shown. MayLeave shown picture) (sym file.disk.was_now) left))
+      (subst (λ shown. MayLeave shown picture) (sym file.disk.was_now) left))
       (asked.leaves (still_honest made.from.goes_on honest)))
 
   pub created : IsCreatedFile Stores disk count file → (later : State) → IsAsked Stores file later → Leaves Stores later → IsCreated Stores disk count later

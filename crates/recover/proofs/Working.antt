@@ -95,7 +95,12 @@ module _ (Stores : Layout) (old new : State) (source : Compiled) (k : Kept) (is_
     (works : IsTrue old.disk.honest → IsLocallySound (graph_of (compiled_game source)) (IsWideAt (compiled_game source)) k.table → IsWorkOf (compiled_game source) units k.table done now) where
   works_of : (counts : Counts) → counts ≡ counts_of now → IsTrue old.disk.honest → Works units old.kept done counts (Some (kept_as k.text now))
   works_of counts counted honest = record {
-    was = k; loaded = loaded; is = kept_as k.text now; worked = refl; works = works_to source k is_read units done now (works honest); counted = counted;
+    was = k;
+    loaded = loaded;
+    is = kept_as k.text now;
+    worked = refl;
+    works = works_to source k is_read units done now (works honest);
+    counted = counted;
   }
 
   -- units are done and kept
@@ -144,8 +149,12 @@ pub idle_done : (Stores : Layout) (state : State) (source : Compiled) (k : Kept)
     → IsDone Stores (work units) (worked done counts) state state
 idle_done Stores state source k is_read loaded units done now counts works same counted leaves is_open = record {
   step = λ honest. record {
-    was = k; loaded = loaded; is = kept_as k.text now; worked = loaded ∙ ap (λ (t : Stored (List ℕ)). Some (kept_as k.text t)) (sym (same honest));
-    works = works_to source k is_read units done now (works honest); counted = counted honest;
+    was = k;
+    loaded = loaded;
+    is = kept_as k.text now;
+    worked = loaded ∙ ap (λ (t : Stored (List ℕ)). Some (kept_as k.text t)) (sym (same honest));
+    works = works_to source k is_read units done now (works honest);
+    counted = counted honest;
   };
   stops = record {
     is_open = is_open;
@@ -170,8 +179,8 @@ module _ (Stores : Layout) (old new : State) (source : Compiled) (k : Kept) (is_
   stops_at fault cause honest =
       subst (λ (kept : Option Kept). StopsAt units kept fault) (sym loaded)
       (λ game read sound.
-          of_any source k is_read (λ g. StopsWith (graph_of g) (IsWideAt g) k.table units fault) game read
-          (cause honest (to_source source k is_read (λ g. IsLocallySound (graph_of g) (IsWideAt g) k.table) game read sound)))
+      of_any source k is_read (λ g. StopsWith (graph_of g) (IsWideAt g) k.table units fault) game read
+      (cause honest (to_source source k is_read (λ g. IsLocallySound (graph_of g) (IsWideAt g) k.table) game read sound)))
 
   other_origin : (IsTrue old.disk.honest → IsLocallySound (graph_of (compiled_game source)) (IsWideAt (compiled_game source)) k.table → ⊥) → IsTrue old.disk.honest → IsSound old.kept → ⊥
   other_origin consistent honest sound = consistent honest (sound_here source k is_read (subst (λ (kept : Option Kept). IsSound kept) loaded sound))

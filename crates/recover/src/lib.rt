@@ -19,9 +19,8 @@ mod stop_tests;
 mod tests;
 mod with_game;
 
-use flat_table::FlatTable;
-
 pub use fault::{Refused, SolverFault};
+use flat_table::FlatTable;
 pub use replies::{Command, Reply, Units, Worked};
 pub use solver::{FileSolver, Solving};
 

@@ -8,8 +8,8 @@ ghost use Rattle.recover.specs.Units.{units_in};
 
 use crate::{FileSolver, SolverFault, Solving, Units};
 use best_line::{Row, Value};
-use rbg_game::game::Game;
 use game_file::GameFile;
+use rbg_game::game::Game;
 use table::Table;
 
 /// A question changes nothing, neither in memory nor of what a stop leaves. E9 comes first, then S1, then the others; E1 and

@@ -17,7 +17,7 @@ returns-in-Ok-clause-ok g c =
     } in
     both_ok c.read.result _ _ _
     (λ t opened root. created c.empty_slot.ensures.empty _ _ _ _ made.failures laid _
-      (λ honest. counts_none _ _ laid honest (root (still_honest laid.goes_on honest)) c.empty_slot.ensures.commits) opened)
+    (λ honest. counts_none _ _ laid honest (root (still_honest laid.goes_on honest)) c.empty_slot.ensures.commits) opened)
     c.read.ensures.ok c.read.ensures.root
 
 pub returns-in-Ok-clause-refused : goal.returns-in-Ok-clause-refused

@@ -17,17 +17,18 @@ returns-in_err-line-clause-cause g c = λ ready.
     passed_on _ c.from_residual-in_err-line.result _ c.from_residual-in_err-line.ensures
     (line_cause (g.F.GameFile.state file) (g.F.GameFile.state c.line.new.table) c.args.number c.in_err-line.field-0.0
     (λ none honest.
-        let stored = g.met.F.GameFile.whole_stored file k ready.0 honest is in
-        rw is
-        (unsettled k _ stored.1 stored.2 _ (g.met.F.Table.counts_are file stored.0) c.in-Some.source is_read c.args.number c.in_ok-check.ensures.there
-        (λ fits. c.in_err-line.ensures.settled stored.0 fits (ap (λ (f : LineFault). Err f) none))))
+    let stored = g.met.F.GameFile.whole_stored file k ready.0 honest is in
+    rw is
+    (unsettled k _ stored.1 stored.2 _ (g.met.F.Table.counts_are file stored.0) c.in-Some.source is_read c.args.number c.in_ok-check.ensures.there
+    (λ fits. c.in_err-line.ensures.settled stored.0 fits (ap (λ (f : LineFault). Err f) none))))
     (λ honest sound.
-        let stored = g.met.F.GameFile.whole_stored file k ready.0 honest is in
-        let cause = never k _ stored.1 stored.2 _ (g.met.F.Table.counts_are file stored.0) c.in-Some.source is_read
-        (IsCause (view_of (g.F.Table.stored file)) c.args.number c.in_err-line.field-0.0) (rw is at sound)
-        (λ here. rw c.moves.ensures.is at c.in_err-line.ensures.cause stored.0 here) in
-        ((λ i. subst (λ (f : LineFault). IsCause (view_of (g.F.Table.stored file)) c.args.number f) i cause),
-          (λ i. subst (λ (f : LineFault). IsCause (view_of (g.F.Table.stored file)) c.args.number f) i cause)))
+    let stored = g.met.F.GameFile.whole_stored file k ready.0 honest is in
+    let cause = never k _ stored.1 stored.2 _ (g.met.F.Table.counts_are file stored.0) c.in-Some.source is_read
+    (IsCause (view_of (g.F.Table.stored file)) c.args.number c.in_err-line.field-0.0) (rw is at sound)
+    (λ here. rw c.moves.ensures.is at c.in_err-line.ensures.cause stored.0 here) in (
+      (λ i. subst (λ (f : LineFault). IsCause (view_of (g.F.Table.stored file)) c.args.number f) i cause),
+      (λ i. subst (λ (f : LineFault). IsCause (view_of (g.F.Table.stored file)) c.args.number f) i cause),
+    ))
     c.in_err-line.ensures.room c.in_err-line.ensures.fault (λ f fails. g.met.F.GameFile.fails_for file c.line.new.table f ready.0 fails))
 
 pub returns-clause-line : goal.returns-clause-line

@@ -20,8 +20,8 @@ returns-in-Err-clause-refused g c = λ ready.
     (work_refused _ _ _ c.in-Some.source k is_read is _ _ (g.F.Table.fails file c.work.new.table) (λ f fails. (c.discard.ensures.failed file f ready.0 fails).2) c.in-Err.fault
     (λ honest. let stored = g.met.F.GameFile.whole_stored file k ready.0 honest is in stops_on c.in-Some.source k _ stored.1 _ _ _ c.count.ensures.is (c.in-Err.ensures.cause stored.0))
     (λ honest sound inconsistent.
-        let stored = g.met.F.GameFile.whole_stored file k ready.0 honest is in
-        c.in-Err.ensures.consistent stored.0 (rw stored.1 sound) (ap (λ (f : StepFault). Err f) inconsistent))
+    let stored = g.met.F.GameFile.whole_stored file k ready.0 honest is in
+    c.in-Err.ensures.consistent stored.0 (rw stored.1 sound) (ap (λ (f : StepFault). Err f) inconsistent))
     c.in-Err.ensures.left (sym c.is_closed.ensures ∙ c.if-is_closed.false) given.1
     (λ ahead. (c.discard.ensures.back file ready.0 ahead).2) (λ f fails other. c.discard.ensures.still file f ready.0 fails other))
 
