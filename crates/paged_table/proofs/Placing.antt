@@ -24,21 +24,21 @@ module _ (p q : ℕ) (kept : Record) (old mid new : Store) (added : IsAdded q ke
   same_reads r = ap (λ (d : Disk). page d.now.contents r) others.disk
 
   not_let_go : (r : ℕ) → (r ≡ p → ⊥) → IsKept mid.marks r → IsKept new.marks r
-  not_let_go r other is = (is.0, subst (λ (m : Mark). IsTrue (keeps m)) (sym (marked.others r other)) is.1)
+  not_let_go r other is = (is.0, omega (arith, is.1, marked.same_length), subst (λ (m : Mark). IsTrue (keeps m)) (sym (marked.others r other)) is.2)
 
   q_kept : IsKept mid.marks q
-  q_kept = (added.there.0, subst (λ (m : Mark). IsTrue (keeps m)) (sym added.fresh) refl)
+  q_kept = (added.there.0, added.there.1, subst (λ (m : Mark). IsTrue (keeps m)) (sym added.fresh) refl)
 
   -- what was kept is not the new page
   not_new : (r : ℕ) → IsKept old.marks r → r ≡ q → ⊥
-  not_new r is same = kept_not_free (mark old.marks r) is.1 (subst (λ (n : ℕ). mark old.marks n ≡ Free) (sym same) added.free)
+  not_new r is same = kept_not_free (mark old.marks r) is.2 (subst (λ (n : ℕ). mark old.marks n ≡ Free) (sym same) added.free)
 
   pub renewed_elsewhere : IsRenewed p q kept old new
   renewed_elsewhere = record {
     there = (added.there.0, omega (arith, added.there.1, marked.same_length));
     place = inr added.free;
     is_kept = λ was. not_let_go q (λ same. not_new p was (sym same)) q_kept;
-    still_kept = λ r other was. not_let_go r other (was.0, subst (λ (m : Mark). IsTrue (keeps m)) (sym (added.marks r (not_new r was))) was.1);
+    still_kept = λ r other was. not_let_go r other (was.0, omega (arith, was.1, added.same_pages), subst (λ (m : Mark). IsTrue (keeps m)) (sym (added.marks r (not_new r was))) was.2);
     still = others.closed ∙ added.still;
     page = λ honest. subst (λ (bytes : List ℕ). IsRecordPage bytes) (sym (same_reads q)) (added.page honest);
     is = λ honest. ap (λ (bytes : List ℕ). record_in bytes) (same_reads q) ∙ added.is honest;

@@ -1,5 +1,5 @@
 -- What the pages of a table spell stands, is prepared, and is carried by a commit.
-use Rattle.std.proofs.Common.{◌≡◌, ◌⊎◌, inl, inr, ℕ, Bool, false, List, length, Some, refl, sym, ◌∙◌, ap, subst}
+use Rattle.std.proofs.Common.{◌≡◌, ◌⊎◌, inl, inr, ℕ, Bool, false, List, length, Some, refl, sym, ◌∙◌, ap, subst, arith}
 use Rattle.std.specs.Prelude.{IsTrue, slice_get, count_by}
 use Rattle.sector_disk.specs.Disk.{Picture, LeavesOnly}
 use Rattle.sector_disk.specs.Moments.{leaves_more, still_honest}
@@ -63,7 +63,7 @@ module _ (known far done : ℕ) (pages : List ℕ) (old : Store) (whole : IsWhol
   needed_mark Free calm kept = absurd (cc)
 
   pub needed : IsCalm old → (p : ℕ) → IsNamed pages p → IsNeeded old.marks p
-  needed calm p (i, is) = ((whole.kept i p is).0, needed_mark (mark old.marks p) (calm.each p) (whole.kept i p is).1)
+  needed calm p (i, is) = ((whole.kept i p is).0, (whole.kept i p is).1, needed_mark (mark old.marks p) (calm.each p) (whole.kept i p is).2)
 
   -- as after a commit
   pub stands : IsCalm old → Stands (IsNamed pages) (AreSpelled pages (records_in (reads old) pages)) old
@@ -85,7 +85,7 @@ module _ (known far done : ℕ) (pages : List ℕ) (old : Store) (whole : IsWhol
     committed_records = records_same pages (reads old) (reads new) committed_reads
 
     pub committed_whole : IsWhole known far done pages new
-    committed_whole = whole_same new committed_reads (λ p kept. (kept.0, subst (λ (m : Mark). IsTrue (keeps m)) (sym (committed.marks.each p)) (committed_keeps (mark old.marks p) kept.1)))
+    committed_whole = whole_same new committed_reads (λ p kept. (kept.0, omega (arith, kept.1, committed.marks.same_length), subst (λ (m : Mark). IsTrue (keeps m)) (sym (committed.marks.each p)) (committed_keeps (mark old.marks p) kept.2)))
 
   -- so does work that is given up
   module _ (new : Store) (calm : IsCalm old) (back : IsBack old new) (honest : IsTrue old.disk.honest) where

@@ -65,7 +65,7 @@ read_back pages i p old is_at (Err fault) is = tt
 -- one record more, on a new page
 module _ (known far done : ℕ) (pages : List ℕ) (q : ℕ) (old new : Store) (added : IsAdded q fresh_record old new) (honest : IsTrue old.disk.honest) (whole : IsWhole known far done pages old) where
   not_new : (i p : ℕ) → slice_get pages i ≡ Some p → p ≡ q → ⊥
-  not_new i p is same = kept_not_free (mark old.marks p) (whole.kept i p is).1 (ap (λ (n : ℕ). mark old.marks n) same ∙ added.free)
+  not_new i p is same = kept_not_free (mark old.marks p) (whole.kept i p is).2 (ap (λ (n : ℕ). mark old.marks n) same ∙ added.free)
 
   pub added_records : records_in (reads new) (pages ++ q ∷ []) ≡ records_in (reads old) pages ++ fresh_record ∷ []
   added_records =
@@ -82,10 +82,13 @@ module _ (known far done : ℕ) (pages : List ℕ) (q : ℕ) (old new : Store) (
     processed = whole.processed ∙ sym (ap (λ rs. count_by (λ r. is_processed r.state) rs) added_records ∙ count_push (λ r. is_processed r.state) (records_in (reads old) pages) fresh_record refl);
   }
     where
+      still : {p : ℕ} → IsKept old.marks p → (p ≡ q → ⊥) → IsKept new.marks p
+      still {p} was other = (was.0, omega (arith, was.1, added.same_pages), subst (λ (m : Mark). IsTrue (keeps m)) (sym (added.marks p other)) was.2)
+
       kept : (i p : ℕ) → slice_get (pages ++ q ∷ []) i ≡ Some p → IsKept new.marks p
       kept i p is = elim (push_cases pages q i p is) [
-        | inl was ↦ ((whole.kept i p was).0, subst (λ (m : Mark). IsTrue (keeps m)) (sym (added.marks p (not_new i p was))) (whole.kept i p was).1)
-        | inr last ↦ subst (λ (n : ℕ). IsKept new.marks n) last.1 (added.there.0, subst (λ (m : Mark). IsTrue (keeps m)) (sym added.fresh) refl)
+        | inl was ↦ still (whole.kept i p was) (not_new i p was)
+        | inr last ↦ subst (λ (n : ℕ). IsKept new.marks n) last.1 (added.there.0, added.there.1, subst (λ (m : Mark). IsTrue (keeps m)) (sym added.fresh) refl)
       ]
 
       spelt : (i p : ℕ) → slice_get (pages ++ q ∷ []) i ≡ Some p → IsRecordPage (reads new p)
@@ -116,7 +119,7 @@ module _ (known far done : ℕ) (pages : List ℕ) (at p q : ℕ) (kept : Record
   not_next : (i r : ℕ) → slice_get pages i ≡ Some r → (i ≡ at → ⊥) → r ≡ q → ⊥
   not_next i r is other same = elim renewed.place [
     | inl old_page ↦ not_old i r is other (same ∙ old_page)
-    | inr free ↦ kept_not_free (mark old.marks r) (whole.kept i r is).1 (ap (λ (n : ℕ). mark old.marks n) same ∙ free)
+    | inr free ↦ kept_not_free (mark old.marks r) (whole.kept i r is).2 (ap (λ (n : ℕ). mark old.marks n) same ∙ free)
   ]
 
   pub renewed_records : records_in (reads new) (set pages at q) ≡ set (records_in (reads old) pages) at kept

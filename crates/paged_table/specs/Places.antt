@@ -44,6 +44,7 @@ PlaceCause old new Closed = old.closed ≡ true
 pub record IsAdded (p : ℕ) (kept : Record) (old new : Store) : Type 0 where
   pub there : IsThere new p
   pub free : mark old.marks p ≡ Free
+  pub same_pages : length new.marks ≡ length old.marks
   pub fresh : mark new.marks p ≡ Fresh
   pub marks : (q : ℕ) → q ≢ p → mark new.marks q ≡ mark old.marks q
   pub still : new.closed ≡ old.closed

@@ -11,11 +11,7 @@ use std::alloc::Global;
 
 /// The reply to one command, done as a run of its own: what it says and does is the command's turn. Where there is no room for the
 /// reply, E8 is answered and nothing is done.
-pub fn reply_to<F: GameFile>(
-    alloc: Global,
-    solver: &mut FileSolver<F>,
-    command: Command,
-) -> Reply
+pub fn reply_to<F: GameFile>(alloc: Global, solver: &mut FileSolver<F>, command: Command) -> Reply
     ensures ready { ⟦<FileSolver<F> as Solving>⟧.is_ready solver.old → ⟦<FileSolver<F> as Solving>⟧.is_ready solver.new }
     ensures turn { ⟦<FileSolver<F> as Solving>⟧.is_ready solver.old
         → IsTurn F.stores (⟦<FileSolver<F> as Solving>⟧.state solver.new).disk (command_of command) (reply_of result) (⟦<FileSolver<F> as Solving>⟧.state solver.old) (⟦<FileSolver<F> as Solving>⟧.state solver.new)
