@@ -1,16 +1,14 @@
 -- A draft is committed, or a first table is loaded.
-use Rattle.std.proofs.Common.{◌≡◌, ◌<◌, ◌≤◌, ℕ, Bool, true, false, List, [], ◌∷◌, length, Option, None, Some, slice_get, Result, Ok, Err, refl, sym, ◌∙◌, ap, subst, inl, arith}
-use Rattle.std.specs.Prelude.{IsTrue}
+use Rattle.std.proofs.Common.{◌≡◌, ◌<◌, ℕ, false, List, [], ◌∷◌, length, Option, None, Some, slice_get, Result, Ok, Err, refl, sym, ◌∙◌, ap, subst, arith}
 use Rattle.std.specs.Result.{OnOk, OnErr, IfErr}
 use Rattle.std.proofs.lemmas.Option.{same_Some}
 use Rattle.std.proofs.lemmas.Result.{IfErr-weaker}
-use Rattle.sector_disk.specs.Moments.{leaves_now}
 use Rattle.page_store.specs.Store.{Store}
-use Rattle.retrograde.specs.Stored.{Stored, IsTable, loaded}
+use Rattle.retrograde.specs.Stored.{Stored, loaded}
 use Rattle.table.specs.Fitting.{Fits}
 use Rattle.game_file.specs.Calls.{IsPut, IsNotPut}
 use Rattle.game_file.specs.Causes.{LoadCause, CommitCause}
-use Rattle.game_file.specs.Kept.{Kept, kept_as, text_kept}
+use Rattle.game_file.specs.Kept.{Kept, kept_as}
 use Rattle.game_file.specs.State.{State, count_behind}
 use Rattle.root_slot.specs.Slot.{commits_in}
 use Rattle.game_file.specs.declared.fault.FileFault.{FileFault}
@@ -18,8 +16,7 @@ use Rattle.game_file.specs.declared.fault.FileFault.TheVariants.{Disk, NotATable
 use Rattle.flat_file.specs.declared.game.Game.{Game}
 use Rattle.flat_file.specs.File.{File, IsFile, AreGames, kept_in, kept_of}
 use Rattle.flat_file.specs.Held.{Stores}
-use Rattle.flat_file.specs.Laws.{a_file_is_kept}
-use Rattle.flat_table.specs.Calls.{file_of, state_of, IsPutInFile, IsNotPutInFile}
+use Rattle.flat_table.specs.Calls.{state_of, IsPutInFile, IsNotPutInFile}
 use Rattle.flat_table.specs.Causes.{PutCause}
 use Rattle.flat_table.specs.Drafts.{IsUnwritten}
 use Rattle.flat_table.proofs.Passing.{so_refused}

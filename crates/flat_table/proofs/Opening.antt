@@ -6,9 +6,9 @@ use Rattle.root_pair.specs.Root.{HoldsRoot}
 use Rattle.page_store.specs.declared.fault.PageFault.{PageFault}
 use Rattle.page_store.specs.declared.fault.PageFault.TheVariants as page
 use Rattle.page_store.specs.Page.{page as bytes_of}
-use Rattle.page_store.specs.Store.{Store, IsSound, IsOpened as IsFound, reads}
+use Rattle.page_store.specs.Store.{Store, IsOpened as IsFound, reads}
 use Rattle.flat_file.specs.declared.game.Game.{Game}
-use Rattle.flat_file.specs.File.{AreGames, IsBacked, kept_of, pages_of}
+use Rattle.flat_file.specs.File.{IsBacked, kept_of, pages_of}
 use Rattle.flat_file.specs.Held.{Keeps, capacity_of, Stores}
 use Rattle.game_file.specs.Kept.{Kept}
 use Rattle.flat_read.specs.Causes.{ReadCause}

@@ -1,5 +1,5 @@
 -- What the calls on a table's file leave.
-use Rattle.std.specs.Prelude.{◌≡◌, ◌⊎◌, ℕ, ◌/◌, min, false, Option, None, Some, IsTrue}
+use Rattle.std.specs.Prelude.{◌≡◌, ℕ, ◌/◌, min, false, None, Some, IsTrue}
 use Rattle.sector_disk.specs.Disk.{Disk, size, LeavesOnly, MayLeave}
 use Rattle.root_pair.specs.Root.{Begins}
 use Rattle.game_file.specs.Kept.{Kept, Layout, text_kept}

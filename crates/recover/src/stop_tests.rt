@@ -208,39 +208,28 @@ fn a_stop_in_a_run_leaves_a_table_after_some_of_its_commands(rt: HostRuntime) ->
     Err("no call was made in full")?
 }
 
-/// How many calls of a session fail in turn, each told, with the one table or the other left; `done` if they are carried out first.
-fn failing_calls(rt: &HostRuntime, done: bool) -> Result<u64, Fail> {
-    let mut failed = 0;
-    for call in 0..MOST_CALLS {
-        let flaky = FlakyDisk::new(take_disk(rt.alloc())?, call, done);
-        let (disk, answer) = work_on(rt.alloc(), flaky);
-        let disk = disk.into_inner();
-        if answer == Ok(()) {
-            assert!(rt; all_are(rt.alloc(), &disk, &[Found::Expanded(7)])?);
-            break;
-        }
-        failed = call + 1;
-        assert_eq!(rt; answer, Err(SolverFault::Disk), "call {call}");
-        let allowed = [Found::Expanded(0), Found::Expanded(7)];
-        assert!(rt; all_are(rt.alloc(), &disk, &allowed)?, "call {call}");
-    }
-    Ok(failed)
-}
-
-// a sync, the header, the gate, the slot and eight sectors to open; eight sectors and five calls to commit
 #[test]
 fn one_call_that_fails_is_told_and_leaves_one_table_or_the_other(
     rt: HostRuntime,
 ) -> Result<(), Fail> {
-    assert_eq!(rt; failing_calls(&rt, false)?, 25);
-    Ok(())
-}
-
-#[test]
-fn a_call_that_fails_when_it_is_done_leaves_one_table_or_the_other(
-    rt: HostRuntime,
-) -> Result<(), Fail> {
-    assert_eq!(rt; failing_calls(&rt, true)?, 25);
+    for done in [false, true] {
+        let mut failed = 0;
+        for call in 0..MOST_CALLS {
+            let flaky = FlakyDisk::new(take_disk(rt.alloc())?, call, done);
+            let (disk, answer) = work_on(rt.alloc(), flaky);
+            let disk = disk.into_inner();
+            if answer == Ok(()) {
+                assert!(rt; all_are(rt.alloc(), &disk, &[Found::Expanded(7)])?);
+                break;
+            }
+            failed = call + 1;
+            assert_eq!(rt; answer, Err(SolverFault::Disk), "call {call}");
+            let allowed = [Found::Expanded(0), Found::Expanded(7)];
+            assert!(rt; all_are(rt.alloc(), &disk, &allowed)?, "call {call}");
+        }
+        // a sync, the header, the gate, the slot and eight sectors to open; eight sectors and five calls to commit
+        assert_eq!(rt; failed, 25);
+    }
     Ok(())
 }
 

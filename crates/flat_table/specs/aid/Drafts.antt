@@ -1,5 +1,5 @@
 -- What is so of a file that is only read, or whose draft alone is written.
-use Rattle.std.specs.Prelude.{◌≡◌, ℕ, ◌≤◌, ◌^◌, List, length, Option, None, Some, refl}
+use Rattle.std.specs.Prelude.{◌≤◌, ◌^◌, length, Option, None, Some, refl}
 use Rattle.std.proofs.Common.{◌∙◌, arith}
 use Rattle.std.proofs.lemmas.List.{length-map}
 use Rattle.table.specs.declared.memory.MemTable.{MemTable}

@@ -1,11 +1,10 @@
 -- What a whole file promises as a table's file of any layout does.
-use Rattle.std.specs.Prelude.{◌≡◌, ◌≢◌, ◌<◌, ◌≤◌, ℕ, List, length, false, true, Option, None, Some, IsTrue, refl, slice_get, unwrap_or}
-use Rattle.std.proofs.Common.{sym, ◌∙◌, ap, subst, inl, arith}
+use Rattle.std.specs.Prelude.{◌≡◌, Option, None, Some, refl}
+use Rattle.std.proofs.Common.{sym, ap, subst, arith}
 use Rattle.std.proofs.lemmas.Option.{same_Some}
 use Rattle.sector_disk.specs.Moments.{goes_on_refl, leaves_now}
 use Rattle.page_store.specs.Store.{Store}
-use Rattle.retrograde.specs.Stored.{Stored, IsTable}
-use Rattle.table.specs.InMemory.{stored_in}
+use Rattle.retrograde.specs.Stored.{IsTable}
 use Rattle.table.specs.declared.memory.MemTable.{MemTable}
 use Rattle.table.specs.declared.fault.TableFault.{TableFault}
 use Rattle.table.specs.declared.fault.TableFault.TheVariants.{OutOfMemory}
@@ -18,7 +17,7 @@ use Rattle.flat_file.specs.File.{File, IsFile, kept_in, kept_of}
 use Rattle.flat_file.specs.Held.{Stores}
 use Rattle.flat_file.specs.Laws.{a_file_is_kept}
 use Rattle.flat_table.specs.Calls.{file_of, state_of}
-use Rattle.flat_table.specs.Drafts.{stored_now, IsUnwritten, IsOnlyRead}
+use Rattle.flat_table.specs.Drafts.{stored_now, IsUnwritten}
 
 -- between commands the table is the one that is kept
 pub the_table_is_kept : (s : Store) (draft : Option MemTable) (game : Option Game) (kept : Kept) → IsFile (file_of s game) → draft ≡ None
