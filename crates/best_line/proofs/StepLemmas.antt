@@ -17,7 +17,7 @@ use Rattle.retrograde.proofs.Sound.{coherent, sound_right}
 use Rattle.legal_moves.specs.Listed.{ListsExactly}
 use Rattle.best_line.specs.declared.fault.LineFault.{LineFault}
 use Rattle.best_line.specs.declared.fault.LineFault.TheVariants.{NotSettled, Inconsistent, TooWide, OutOfMemory, Table}
-use Rattle.best_line.specs.Causes.{IsCause}
+use Rattle.best_line.specs.Causes.{IsLineCause}
 use Rattle.best_line.specs.Lines.{IsFirstWon, IsBestStep, HasNoStep}
 
 module _ (graph : Graph (List ℕ)) (view : View (List ℕ)) (x : List ℕ) (ys : List (List ℕ)) (lists : ListsExactly (graph.Successor x) ys)
@@ -69,7 +69,7 @@ module _ (graph : Graph (List ℕ)) (IsWide : List ℕ → Type 0) (stored : Sto
   pub step_cause : (number i n : ℕ) → IsSome ((view_of stored).value number) → (view_of stored).value i ≡ Some (w, suc n) → (fault : LineFault)
       → (fault ≡ Inconsistent → HasNoStep graph (view_of stored) i w n)
       → (fault ≡ TooWide → (x : List ℕ) × HasNumber (view_of stored) i x × IsWide x)
-      → (fault ≡ NotSettled → ⊥) → IsCause (view_of stored) number fault
+      → (fault ≡ NotSettled → ⊥) → IsLineCause (view_of stored) number fault
   step_cause number i n some value NotSettled none wide settled = absurd (settled refl)
   step_cause number i n some value Inconsistent none wide settled = step_there i n value (none refl)
   step_cause number i n some value TooWide none wide settled = let (x, at, is) = wide refl in settled_narrow i (suc n) value x at is

@@ -13,12 +13,12 @@ search_fault search.TooWide = TooWide
 search_fault search.OutOfMemory = OutOfMemory
 
 -- why a table that agrees with itself has no line from this number: it has no value, or memory or the table gave out
-abbrev pub IsCause : {P : Type 0} → View P → ℕ → LineFault → Type 0
-IsCause view number NotSettled = view.value number ≡ None
-IsCause view number Inconsistent = ⊥
-IsCause view number TooWide = ⊥
-IsCause view number OutOfMemory = IsSome (view.value number)
-IsCause view number (Table fault) = Unit {0}
+abbrev pub IsLineCause : {P : Type 0} → View P → ℕ → LineFault → Type 0
+IsLineCause view number NotSettled = view.value number ≡ None
+IsLineCause view number Inconsistent = ⊥
+IsLineCause view number TooWide = ⊥
+IsLineCause view number OutOfMemory = IsSome (view.value number)
+IsLineCause view number (Table fault) = Unit {0}
 
 -- where the fault is the table's, this is said of it
 abbrev pub OfTable : (TableFault → Type 0) → LineFault → Type 0

@@ -3,14 +3,10 @@
 
 mod answers;
 mod fault;
-#[cfg(test)]
-mod game_texts;
 mod laws;
 mod lines;
 mod rows;
 mod steps;
-#[cfg(test)]
-mod tests;
 mod values;
 
 pub use answers::{Row, Value};

@@ -3,7 +3,7 @@ ghost use Rattle.std.specs.Prelude.{◌≡◌, ◌↔◌, ◌<◌, IfOk, OnOk, I
 ghost use Rattle.retrograde.specs.Stored.{IsTable, view_of};
 ghost use Rattle.retrograde.specs.Sound.{IsLocallySound};
 ghost use Rattle.best_line.specs.Lines.{IsBestLine, IsBestPlay};
-ghost use Rattle.best_line.specs.Causes.{IsCause, OfTable};
+ghost use Rattle.best_line.specs.Causes.{IsLineCause, OfTable};
 ghost use Rattle.best_line.specs.declared.fault.LineFault.TheVariants.{NotSettled};
 ghost use Rattle.table.specs.Faults.{NeedsNoPage};
 
@@ -27,12 +27,13 @@ fn follow<M: MoveSource, T: Table>(
 ) -> Result<Vec<u32>, LineFault>
     requires source { M.is_sound source.now }
     requires known { number < (T.counted table.old).known }
-    ensures line { T.is_honest table.old → IsTable (T.stored table.old) → (view_of (T.stored table.old)).value number ≡ Some (winner, distance)
+    ensures line { T.is_honest table.old → IsTable (T.stored table.old)
+        → (view_of (T.stored table.old)).value number ≡ Some (winner, distance)
         → IfOk result (λ numbers. IsBestLine (M.graph source.now) (view_of (T.stored table.old)) winner distance numbers.items) }
     ensures begins { IfOk result (λ numbers. slice_get numbers.items 0 ≡ Some number) }
     ensures cause { T.is_honest table.old → IsLocallySound (M.graph source.now) (M.is_wide source.now) (T.stored table.old)
         → (view_of (T.stored table.old)).value number ≡ Some (winner, distance)
-        → IfErr result (IsCause (view_of (T.stored table.old)) number) }
+        → IfErr result (IsLineCause (view_of (T.stored table.old)) number) }
     ensures settled { IfErr result (λ fault. ¬ (fault ≡ NotSettled)) }
     ensures same { T.is_honest table.old → T.stored table.new ≡ T.stored table.old }
     ensures honest { T.is_honest table.old ↔ T.is_honest table.new }
@@ -69,8 +70,9 @@ pub fn line<M: MoveSource, T: Table>(
         → IfOk result (λ numbers. IsBestPlay (M.graph source.now) (view_of (T.stored table.old)) number numbers.items) }
     ensures begins { IfOk result (λ numbers. slice_get numbers.items 0 ≡ Some number) }
     ensures cause { T.is_honest table.old → IsLocallySound (M.graph source.now) (M.is_wide source.now) (T.stored table.old)
-        → IfErr result (IsCause (view_of (T.stored table.old)) number) }
-    ensures settled { T.is_honest table.old → IsTable (T.stored table.old) → result ≡ Err NotSettled → (view_of (T.stored table.old)).value number ≡ None }
+        → IfErr result (IsLineCause (view_of (T.stored table.old)) number) }
+    ensures settled { T.is_honest table.old → IsTable (T.stored table.old) → result ≡ Err NotSettled
+        → (view_of (T.stored table.old)).value number ≡ None }
     ensures same { T.is_honest table.old → T.stored table.new ≡ T.stored table.old }
     ensures honest { T.is_honest table.old ↔ T.is_honest table.new }
     ensures counts { T.counted table.new ≡ T.counted table.old }

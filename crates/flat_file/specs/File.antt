@@ -4,11 +4,11 @@ use Rattle.sector_disk.specs.Disk.{Picture, Disk}
 use Rattle.page_store.specs.declared.marks.Mark.TheVariants.{Free}
 use Rattle.page_store.specs.Marks.{mark}
 use Rattle.page_store.specs.Spelling.{Stands, IsCalm}
-use Rattle.page_store.specs.Store.{Store, IsSound}
+use Rattle.page_store.specs.Store.{Store, IsSoundStore}
 use Rattle.table.specs.InMemory.{stored_in}
-use Rattle.table.specs.Fitting.{Fits}
+use Rattle.table.specs.Fitting.{FitsTogether}
 use Rattle.flat_file.specs.declared.game.Game.{Game}
-use Rattle.flat_file.specs.Held.{Keeps}
+use Rattle.flat_file.specs.Held.{KeepsTable}
 use Rattle.game_file.specs.Kept.{Kept}
 
 -- a table's file: its pages, and in memory the game of the last commit, if one is loaded
@@ -32,7 +32,7 @@ pages_of (Some game) = game.pages.items
 
 -- the parts of a table in memory fit together, and its numbers are within the limits
 pub record IsGame (game : Game) : Type 0 where
-  pub fits : Fits game.packed (stored_in game.table)
+  pub fits : FitsTogether game.packed (stored_in game.table)
   pub known : length (stored_in game.table).positions ≤ 2 ^ 24
   pub text : length game.text.items ≤ 65536
   pub packed : game.packed ≤ 240
@@ -48,10 +48,11 @@ pub record IsBacked (store : Store) (pages : List ℕ) (kept : Option Kept) : Ty
   pub there : (p : ℕ) → Contains pages p → (1 ≤ p) × (p < length store.marks)
   pub calm : store.closed ≡ false → IsCalm store
   pub free : store.closed ≡ false → kept ≡ None → (p : ℕ) → 1 ≤ p → p < length store.marks → mark store.marks p ≡ Free
-  pub stands : IsTrue store.disk.honest → store.closed ≡ false → Stands (λ p. Contains pages p) (Keeps store.root (length store.marks) kept) store
+  pub stands : IsTrue store.disk.honest → store.closed ≡ false
+      → Stands (λ p. Contains pages p) (KeepsTable store.root (length store.marks) kept) store
 
 -- the file as it is between commands
 pub record IsFile (file : File) : Type 0 where
-  pub sound : IsSound file.store
+  pub sound : IsSoundStore file.store
   pub games : AreGames file.game
   pub backed : IsBacked file.store (pages_of file.game) (kept_of file.game)

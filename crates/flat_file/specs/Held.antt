@@ -7,7 +7,7 @@ use Rattle.page_chain.specs.Chain.{IsChain}
 use Rattle.retrograde.specs.Stored.{IsTable}
 use Rattle.retrograde.specs.Changes.{counts_of}
 use Rattle.table_bytes.specs.Numbers.{AreWithinLimits, bytes_in}
-use Rattle.table_bytes.specs.Spelled.{Spells}
+use Rattle.table_bytes.specs.Spelled.{SpellsTable}
 use Rattle.game_file.specs.Kept.{Kept}
 use Rattle.root_slot.specs.Slot.{layout_in, packing_in, first_in, sizes_in, IsEmptySlot}
 
@@ -19,14 +19,14 @@ pub record KeepsGame (root : List ℕ) (capacity : ℕ) (kept : Kept) (bytes : �
   pub pages : List ℕ
   pub content : List ℕ
   pub chain : IsChain capacity (first_in root) pages content bytes
-  pub spells : Spells (sizes_in root) content kept.text kept.table
+  pub spells : SpellsTable (sizes_in root) content kept.text kept.table
   pub table : IsTable kept.table
   pub counts : counts_of kept.table ≡ (sizes_in root).counts
 
 -- the slot and the pages spell this table, or an empty one
-abbrev pub Keeps : List ℕ → ℕ → Option Kept → (ℕ → List ℕ) → Type 0
-Keeps root capacity None bytes = IsEmptySlot root
-Keeps root capacity (Some kept) bytes = KeepsGame root capacity kept bytes
+abbrev pub KeepsTable : List ℕ → ℕ → Option Kept → (ℕ → List ℕ) → Type 0
+KeepsTable root capacity None bytes = IsEmptySlot root
+KeepsTable root capacity (Some kept) bytes = KeepsGame root capacity kept bytes
 
 -- so many pages are used of a picture: those that it has room for, 1,048,576 at most
 abbrev pub capacity_of : Picture → ℕ
@@ -38,4 +38,4 @@ pub record Stores (picture : Picture) (kept : Option Kept) : Type 0 where
   pub root : List ℕ
   pub holds : HoldsRoot root picture
   pub room : 16 ≤ capacity_of picture
-  pub keeps : Keeps root (capacity_of picture) kept (page picture)
+  pub keeps : KeepsTable root (capacity_of picture) kept (page picture)

@@ -11,12 +11,12 @@ use Rattle.page_chain.specs.Resting.{a_chain_rests_on_its_pages, a_chain_fits_mo
 use Rattle.table_bytes.specs.Laws.{tables_have_their_length}
 use Rattle.root_slot.specs.Slot.{sizes_in}
 use Rattle.flat_file.specs.File.{File, IsFile, kept_of}
-use Rattle.flat_file.specs.Held.{KeepsGame, Keeps, capacity_of, Stores}
+use Rattle.flat_file.specs.Held.{KeepsGame, KeepsTable, capacity_of, Stores}
 use Rattle.game_file.specs.Kept.{Kept}
 
 -- what is kept of a game rests on the pages of its chain alone
 pub game_rests_on_its_pages : (root : List ℕ) (capacity : ℕ) (kept : Kept) (bytes : ℕ → List ℕ) (it : KeepsGame root capacity kept bytes)
-    → SpelledBy (λ p. Contains it.pages p) bytes (Keeps root capacity (Some kept))
+    → SpelledBy (λ p. Contains it.pages p) bytes (KeepsTable root capacity (Some kept))
 game_rests_on_its_pages root capacity kept bytes it = record {
   anywhere = λ other same. record {
     layout = it.layout;
@@ -32,12 +32,21 @@ game_rests_on_its_pages root capacity kept bytes it = record {
 }
 
 -- the pages have room for fewer edges than a slot may tell of
-pub few_edges : (root : List ℕ) (capacity : ℕ) (kept : Kept) (bytes : ℕ → List ℕ) → capacity ≤ 1048576 → KeepsGame root capacity kept bytes → (sizes_in root).edges ≤ 2 ^ 32
+pub few_edges : (root : List ℕ) (capacity : ℕ) (kept : Kept) (bytes : ℕ → List ℕ) → capacity ≤ 1048576 → KeepsGame root capacity kept bytes
+    → (sizes_in root).edges ≤ 2 ^ 32
 few_edges root capacity kept bytes few it =
-    omega (arith, few, a_chain_is_not_longer capacity _ it.pages it.content bytes it.chain, tables_have_their_length (sizes_in root) it.content kept.text kept.table it.spells)
+    omega (
+      arith,
+      few,
+      a_chain_is_not_longer capacity _ it.pages it.content bytes it.chain,
+      tables_have_their_length
+          (sizes_in root) it.content kept.text kept.table it.spells,
+    )
 
 -- what is kept in fewer pages is kept in more
-pub keeps_in_more : (root : List ℕ) (fewer more : ℕ) (kept : Option Kept) (bytes : ℕ → List ℕ) → fewer ≤ more → Keeps root fewer kept bytes → Keeps root more kept bytes
+pub keeps_in_more : (root : List ℕ) (fewer more : ℕ) (kept : Option Kept) (bytes : ℕ → List ℕ) → fewer ≤ more
+    → KeepsTable root fewer kept bytes
+    → KeepsTable root more kept bytes
 keeps_in_more root fewer more None bytes le it = it
 keeps_in_more root fewer more (Some kept) bytes le it = record {
   layout = it.layout;
@@ -56,7 +65,8 @@ within_capacity : (picture : Picture) (c : ℕ) → 8 * c ≤ length picture →
 within_capacity picture c room few = le-min ((le-div_iff_mul-le (omega arith)).1 (omega (arith, room))) few
 
 -- a picture with this root whose pages spell this stores it
-pub spells_stores : (root : List ℕ) (c : ℕ) (kept : Option Kept) (picture : Picture) → 16 ≤ c → c ≤ 1048576 → Spells root c (Keeps root c kept) picture → Stores picture kept
+pub spells_stores : (root : List ℕ) (c : ℕ) (kept : Option Kept) (picture : Picture) → 16 ≤ c → c ≤ 1048576
+    → Spells root c (KeepsTable root c kept) picture → Stores picture kept
 spells_stores root c kept picture enough few it =
     let fits = within_capacity picture c it.room few in
     record {
@@ -67,7 +77,8 @@ spells_stores root c kept picture enough few it =
     }
 
 -- between commands a stop leaves what is kept
-pub a_file_is_kept : (file : File) → IsFile file → IsTrue file.store.disk.honest → file.store.closed ≡ false → StopLeaves file.store (λ picture. Stores picture (kept_of file.game))
+pub a_file_is_kept : (file : File) → IsFile file → IsTrue file.store.disk.honest → file.store.closed ≡ false
+    → StopLeaves file.store (λ picture. Stores picture (kept_of file.game))
 a_file_is_kept file it honest is_open picture left =
     spells_stores file.store.root (length file.store.marks) (kept_of file.game) picture it.backed.room it.sound.few
     (stop_leaves file.store (it.backed.stands honest is_open) (it.sound.safe honest is_open) picture left)

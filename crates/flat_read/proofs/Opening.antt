@@ -10,12 +10,12 @@ use Rattle.page_store.specs.Carrying.{sealed_stands}
 use Rattle.page_store.specs.Marks.{mark, needs, turned, AreSealed}
 use Rattle.page_store.specs.Page.{page}
 use Rattle.page_store.specs.Spelling.{SpelledBy, Stands}
-use Rattle.page_store.specs.Store.{Store, IsSound, IsRemarked}
+use Rattle.page_store.specs.Store.{Store, IsSoundStore, IsRemarked}
 use Rattle.page_store.specs.Works.{works_refl}
 use Rattle.page_chain.specs.Links.{OnlyMarks}
 use Rattle.flat_file.specs.File.{IsBacked}
 use Rattle.game_file.specs.Kept.{Kept}
-use Rattle.flat_file.specs.Held.{Keeps}
+use Rattle.flat_file.specs.Held.{KeepsTable}
 use Rattle.flat_read.specs.Causes.{AllWait}
 use Rattle.flat_read.specs.Reading.{IsRead}
 
@@ -36,7 +36,7 @@ nothing_marked store = record {
 waits_apart : (m : Mark) → m ≡ Committed → m ≡ Waiting → ⊥
 waits_apart m one other = cc
 
-module _ (old mid new : Store) (pages : List ℕ) (kept : Option Kept) (sound : IsSound old) (only : OnlyMarks old mid) (read : IsRead pages kept old mid)
+module _ (old mid new : Store) (pages : List ℕ) (kept : Option Kept) (sound : IsSoundStore old) (only : OnlyMarks old mid) (read : IsRead pages kept old mid)
     (sealed : AreSealed mid.marks new.marks) (others : IsRemarked mid new) where
   long : length new.marks ≡ length old.marks
   long = sealed.same_length ∙ only.works.same_pages
@@ -78,19 +78,19 @@ module _ (old mid new : Store) (pages : List ℕ) (kept : Option Kept) (sound : 
   ]
 
   -- before the seal it stands
-  mid_stands : IsTrue old.disk.honest → Stands (λ p. Contains pages p) (Keeps old.root (length old.marks) kept) mid
+  mid_stands : IsTrue old.disk.honest → Stands (λ p. Contains pages p) (KeepsTable old.root (length old.marks) kept) mid
   mid_stands honest = record {
-    spelled = subst (λ (shown : Shown). SpelledBy (λ p. Contains pages p) (λ p. page shown.contents p) (Keeps old.root (length old.marks) kept)) (sym (only.shown honest)) (read.held honest);
+    spelled = subst (λ (shown : Shown). SpelledBy (λ p. Contains pages p) (λ p. page shown.contents p) (KeepsTable old.root (length old.marks) kept)) (sym (only.shown honest)) (read.held honest);
     needed = λ p here. ((there p here).0, omega (arith, (there p here).1, sealed.same_length), subst (λ (m : Mark). IsTrue (needs m)) (sym (read.marked p here)) refl);
   }
 
   -- and after it
-  new_stands : IsTrue old.disk.honest → Stands (λ p. Contains pages p) (Keeps new.root (length new.marks) kept) new
+  new_stands : IsTrue old.disk.honest → Stands (λ p. Contains pages p) (KeepsTable new.root (length new.marks) kept) new
   new_stands honest =
-      let stands : Stands (λ p. Contains pages p) (Keeps old.root (length old.marks) kept) new = sealed_stands mid new others sealed read.marked (mid_stands honest) in
+      let stands : Stands (λ p. Contains pages p) (KeepsTable old.root (length old.marks) kept) new = sealed_stands mid new others sealed read.marked (mid_stands honest) in
       let same_root : old.root ≡ new.root = sym (others.root ∙ only.works.root) in
-      subst (λ (n : ℕ). Stands (λ p. Contains pages p) (Keeps new.root n kept) new) (sym long)
-      (subst (λ (root : List ℕ). Stands (λ p. Contains pages p) (Keeps root (length old.marks) kept) new) same_root stands)
+      subst (λ (n : ℕ). Stands (λ p. Contains pages p) (KeepsTable new.root n kept) new) (sym long)
+      (subst (λ (root : List ℕ). Stands (λ p. Contains pages p) (KeepsTable root (length old.marks) kept) new) same_root stands)
 
   was_honest : IsTrue new.disk.honest → IsTrue old.disk.honest
   was_honest honest = subst (λ b. IsTrue b) (ap (λ (d : Disk). d.honest) others.disk ∙ only.works.goes_on.honest) honest

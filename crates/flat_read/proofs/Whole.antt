@@ -7,9 +7,9 @@ use Rattle.retrograde.specs.Stored.{Stored}
 use Rattle.page_store.specs.declared.fault.PageFault.TheVariants.{Damaged}
 use Rattle.table_bytes.specs.declared.sizes.Sizes.{Sizes}
 use Rattle.table_bytes.specs.Bytes.{IsCell}
-use Rattle.table_bytes.specs.Spelled.{AreSpelled, Spells}
+use Rattle.table_bytes.specs.Spelled.{AreSpelled, SpellsTable}
 use Rattle.table_bytes.specs.Laws.{bytes_spell_one_table}
-use Rattle.flat_read.specs.Reading.{IsWhole, TableCause}
+use Rattle.flat_read.specs.Reading.{IsWhole, SpellingCause}
 
 -- positions that were spelled have their length
 cells_long : (packed : ℕ) (bytes : List ℕ) (xs : List (List ℕ)) (rs : List Record) → length rs ≡ length xs → AreSpelled (IsCell packed) bytes (zip xs rs)
@@ -22,7 +22,7 @@ cells_long packed bytes (y ∷ xs) (r ∷ rs) same (one, rest, is, of, more) zer
 cells_long packed bytes (y ∷ xs) (r ∷ rs) same (one, rest, is, of, more) (suc i) x found = cells_long packed rest xs rs (omega (arith, same)) more i x found
 
 -- the bytes spell no table whose parts fit together and are counted right
-pub not_whole : (sizes : Sizes) (bytes text : List ℕ) (stored : Stored (List ℕ)) → Spells sizes bytes text stored → (IsWhole sizes stored → ⊥) → TableCause sizes bytes Damaged
+pub not_whole : (sizes : Sizes) (bytes text : List ℕ) (stored : Stored (List ℕ)) → SpellsTable sizes bytes text stored → (IsWhole sizes stored → ⊥) → SpellingCause sizes bytes Damaged
 not_whole sizes bytes text stored is none = λ other table is_table counts spelled.
     let (texts, same) = bytes_spell_one_table sizes bytes other text table stored spelled is in
     none (subst (λ (t : Stored (List ℕ)). IsWhole sizes t) same (record {

@@ -6,7 +6,7 @@ use Rattle.page_store.specs.declared.fault.PageFault.TheVariants.{Disk, Damaged,
 use Rattle.page_store.specs.declared.marks.Mark.TheVariants.{Waiting}
 use Rattle.page_store.specs.Marks.{mark}
 use Rattle.page_store.specs.Store.{Store, reads}
-use Rattle.flat_file.specs.Held.{Keeps}
+use Rattle.flat_file.specs.Held.{KeepsTable}
 use Rattle.game_file.specs.Kept.{Kept}
 
 -- each page of the store waits to be marked, as in a store that was just opened
@@ -15,10 +15,11 @@ AllWait store = (p : ℕ) → 1 ≤ p → p < length store.marks → mark store.
 
 -- the disk failed; with a root and pages that all wait, on an honest disk, the slot and the pages spell no table, or there
 -- are fewer than 16 pages; the store is closed; or memory is short
-abbrev pub ReadCause : Store → Store → PageFault → Type 0
-ReadCause old new Disk = Grew old.failures new.failures
-ReadCause old new Damaged =
-    IsTrue old.disk.honest → AllWait old → (kept : Option Kept) → Keeps old.root (length old.marks) kept (reads old) → length old.marks < 16
-ReadCause old new OutOfMemory = Unit {0}
-ReadCause old new Closed = old.closed ≡ true
-ReadCause old new _ = ⊥
+abbrev pub GameReadCause : Store → Store → PageFault → Type 0
+GameReadCause old new Disk = Grew old.failures new.failures
+GameReadCause old new Damaged =
+    IsTrue old.disk.honest → AllWait old → (kept : Option Kept) → KeepsTable old.root (length old.marks) kept (reads old)
+    → length old.marks < 16
+GameReadCause old new OutOfMemory = Unit {0}
+GameReadCause old new Closed = old.closed ≡ true
+GameReadCause old new _ = ⊥

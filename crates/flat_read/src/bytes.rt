@@ -2,7 +2,7 @@
 ghost use Rattle.std.specs.Prelude.{◌≡◌, ◌↔◌, ◌≤◌, ◌^◌, true, length, IfOk, IfErr};
 ghost use Rattle.table.specs.InMemory.{stored_in};
 ghost use Rattle.table_bytes.specs.Numbers.{AreWithinLimits, bytes_in};
-ghost use Rattle.flat_read.specs.Reading.{IsWhole, IsTableOf, IsGameOf, TableCause};
+ghost use Rattle.flat_read.specs.Reading.{IsWhole, IsTableOf, IsGameIn, SpellingCause};
 
 use flat_file::Game;
 use page_chain::Chain;
@@ -27,8 +27,8 @@ pub fn length_of(sizes: &Sizes) -> usize
 pub fn game_of(alloc: Global, sizes: &Sizes, chain: Chain) -> Result<Game, PageFault>
     requires limits { AreWithinLimits sizes.now }
     requires long { length chain.content.items ≡ bytes_in sizes.now }
-    ensures game { IfOk result (IsGameOf sizes.now chain.pages.items chain.content.items) }
-    ensures cause { IfErr result (TableCause sizes.now chain.content.items) }
+    ensures game { IfOk result (IsGameIn sizes.now chain.pages.items chain.content.items) }
+    ensures cause { IfErr result (SpellingCause sizes.now chain.content.items) }
 {
     let table = table_of(alloc, sizes, &chain.content)?;
     let mut text = chain.content;
@@ -46,7 +46,7 @@ fn table_of(alloc: Global, sizes: &Sizes, bytes: &[u8]) -> Result<MemTable, Page
     requires limits { AreWithinLimits sizes.now }
     requires long { length bytes.now ≡ bytes_in sizes.now }
     ensures table { IfOk result (λ table. IsTableOf sizes.now bytes.now (stored_in table)) }
-    ensures cause { IfErr result (TableCause sizes.now bytes.now) }
+    ensures cause { IfErr result (SpellingCause sizes.now bytes.now) }
 {
     let table = match read_table(alloc, sizes, bytes) {
         Ok(table) => table,

@@ -2,10 +2,10 @@
 ghost use Rattle.std.specs.Prelude.{◌≡◌, ◌≤◌, false, Some, length, IfOk, IfErr, IsTrue};
 ghost use Rattle.sector_disk.specs.Disk.{size, GoesOn, LeavesOnly, MayLeave};
 ghost use Rattle.page_chain.specs.Links.{OnlyMarks};
-ghost use Rattle.page_store.specs.Store.{Works};
+ghost use Rattle.page_store.specs.Store.{StoreWorks};
 ghost use Rattle.root_slot.specs.Slot.{commits_in, Says, SaysGame};
 ghost use Rattle.flat_file.specs.File.{IsGame, AreGames, IsBacked, kept_of, pages_of};
-ghost use Rattle.flat_read.specs.Causes.{AllWait, ReadCause};
+ghost use Rattle.flat_read.specs.Causes.{AllWait, GameReadCause};
 ghost use Rattle.flat_read.specs.Reading.{IsRead};
 
 use crate::bytes::{game_of, length_of};
@@ -34,8 +34,8 @@ pub fn read_all<P: Pages>(alloc: Global, store: &mut P) -> Result<Opened, PageFa
     ensures leaves { IsTrue (P.store store.old).disk.honest
         → LeavesOnly (P.store store.old).disk (P.store store.new).disk (MayLeave (P.store store.old).disk.now) }
     ensures closed { (P.store store.new).closed ≡ (P.store store.old).closed }
-    ensures works { IfErr result (λ _. Works (P.store store.old) (P.store store.new)) }
-    ensures cause { IfErr result (ReadCause (P.store store.old) (P.store store.new)) }
+    ensures works { IfErr result (λ _. StoreWorks (P.store store.old) (P.store store.new)) }
+    ensures cause { IfErr result (GameReadCause (P.store store.old) (P.store store.new)) }
 {
     if store.capacity() < LEAST_PAGES {
         return Err(PageFault::Damaged);
@@ -59,7 +59,7 @@ fn read_named<P: Pages>(
     ensures games { IfOk result AreGames }
     ensures only { OnlyMarks (P.store store.old) (P.store store.new) }
     ensures read { IfOk result (λ game. IsRead (pages_of game) (kept_of game) (P.store store.old) (P.store store.new)) }
-    ensures cause { IfErr result (ReadCause (P.store store.old) (P.store store.new)) }
+    ensures cause { IfErr result (GameReadCause (P.store store.old) (P.store store.new)) }
 {
     match slot {
         None => Ok(None),
@@ -73,7 +73,7 @@ fn read_game<P: Pages>(alloc: Global, store: &mut P, slot: &GameSlot) -> Result<
     ensures game { IfOk result IsGame }
     ensures only { OnlyMarks (P.store store.old) (P.store store.new) }
     ensures read { IfOk result (λ game. IsRead (pages_of (Some game)) (kept_of (Some game)) (P.store store.old) (P.store store.new)) }
-    ensures cause { IfErr result (ReadCause (P.store store.old) (P.store store.new)) }
+    ensures cause { IfErr result (GameReadCause (P.store store.old) (P.store store.new)) }
 {
     let sizes = slot.sizes;
     let chain = read_chain(alloc, store, slot.first, length_of(&sizes))?;

@@ -13,7 +13,7 @@ use Rattle.flat_read.specs.Laws.{a_picture_stores_one_table}
 use Rattle.game_file.specs.declared.fault.FileFault.{FileFault}
 use Rattle.game_file.specs.declared.fault.FileFault.TheVariants.{Disk as DiskFailed, NotATable, AlreadyATable, Damaged, TooSmall, TableFull, OutOfMemory, Closed, Inconsistent}
 use Rattle.game_file.specs.Calls.{IsOpenedFile, IsNotOpened, IsCreatedFile, IsNotCreated}
-use Rattle.game_file.specs.Causes.{OpenCause, CreateCause}
+use Rattle.game_file.specs.Causes.{FileOpenCause, FileCreateCause}
 use Rattle.game_file.specs.State.{State, GoesFrom}
 use Rattle.game_file.specs.Stops.{OldOrEmpty}
 use Rattle.flat_table.proofs.Opening.{grew_from}
@@ -99,7 +99,7 @@ module _ {root : List ℕ} (empty : IsEmptySlot root) (disk mid : Disk) (count m
     kept = λ honest begins. absurd (laid.fresh honest begins);
   }
 
-  pub create_cause : (now : ℕ) (fault : FileFault) → OpenCause Stores mid middle now fault → CreateCause disk count now fault
+  pub create_cause : (now : ℕ) (fault : FileFault) → FileOpenCause Stores mid middle now fault → FileCreateCause disk count now fault
   create_cause now DiskFailed cause = grew_from more cause
   create_cause now NotATable cause = λ honest. cause (still_honest laid.goes_on honest) (laid.holds honest).table
   create_cause now AlreadyATable cause = absurd cause

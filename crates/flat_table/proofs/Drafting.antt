@@ -5,9 +5,9 @@ use Rattle.std.proofs.lemmas.Option.{same_Some}
 use Rattle.std.proofs.lemmas.Result.{IfErr-weaker}
 use Rattle.page_store.specs.Store.{Store}
 use Rattle.retrograde.specs.Stored.{Stored, loaded}
-use Rattle.table.specs.Fitting.{Fits}
+use Rattle.table.specs.Fitting.{FitsTogether}
 use Rattle.game_file.specs.Calls.{IsPut, IsNotPut}
-use Rattle.game_file.specs.Causes.{LoadCause, CommitCause}
+use Rattle.game_file.specs.Causes.{FileLoadCause, FileCommitCause}
 use Rattle.game_file.specs.Kept.{Kept, kept_as}
 use Rattle.game_file.specs.State.{State, count_behind}
 use Rattle.root_slot.specs.Slot.{commits_in}
@@ -18,7 +18,7 @@ use Rattle.flat_file.specs.File.{File, IsFile, AreGames, kept_in, kept_of}
 use Rattle.flat_file.specs.Held.{Stores}
 use Rattle.flat_table.specs.Calls.{state_of, IsPutInFile, IsNotPutInFile}
 use Rattle.flat_table.specs.Causes.{PutCause}
-use Rattle.flat_table.specs.Drafts.{IsUnwritten}
+use Rattle.flat_table.specs.Drafts.{IsUnwrittenFile}
 use Rattle.flat_table.proofs.Passing.{so_refused}
 use Rattle.flat_table.proofs.Putting.{nothing_put, put_whole, not_put_whole}
 use Rattle.flat_table.proofs.Room.{loading_room}
@@ -42,7 +42,7 @@ abbrev with_kept : Store → Option Kept → State
 with_kept s k = record { disk = s.disk; failures = s.failures; capacity = length s.marks; closed = s.closed; commits = commits_in s.root; kept = k }
 
 -- a file that was not written is in the same state
-same_state : (was mid : File) → IsUnwritten was mid → state_of mid ≡ state_of was
+same_state : (was mid : File) → IsUnwrittenFile was mid → state_of mid ≡ state_of was
 same_state was mid same =
     ap (λ (s : Store). with_kept s (kept_of mid.game)) same.store ∙ ap (λ (k : Option Kept). with_kept was.store k) same.kept
 
@@ -52,7 +52,7 @@ its_game None kept none = absurd (cc)
 its_game (Some was) kept some = (was, refl, same_Some (kept_in was) kept some)
 
 -- the file was only worked on since it was whole
-module _ (was mid new : File) (kept : Kept) (now : Stored (List ℕ)) (whole : IsFile was) (is : kept_of was.game ≡ Some kept) (same : IsUnwritten was mid) where
+module _ (was mid new : File) (kept : Kept) (now : Stored (List ℕ)) (whole : IsFile was) (is : kept_of was.game ≡ Some kept) (same : IsUnwrittenFile was mid) where
   -- the draft is put in the place of what was kept
   pub committed : {X E None_left : Type 0} (r : Result X E) → None_left → OnOk r (commits_in new.store.root ≡ count_behind (commits_in mid.store.root))
       → ((g : Game) → mid.game ≡ Some g → IsFile mid → OnOk r (IsPutInFile (kept_as g.text.items now) mid new))
@@ -84,18 +84,18 @@ module _ (was mid new : File) (kept : Kept) (now : Stored (List ℕ)) (whole : I
       roots (left g has (same.stands whole))
 
   -- a table with positions of another length does not fit
-  unfit : (g : Game) → IsFile mid → mid.game ≡ Some g → kept_in g ≡ kept → ¬ Fits g.packed now → (n : ℕ) → Fits n kept.table → ¬ Fits n now
+  unfit : (g : Game) → IsFile mid → mid.game ≡ Some g → kept_in g ≡ kept → ¬ FitsTogether g.packed now → (n : ℕ) → FitsTogether n kept.table → ¬ FitsTogether n now
   unfit g it has keeps cause n fits =
-      let fits_packed : Fits g.packed kept.table = subst (λ (k : Kept). Fits g.packed k.table) keeps (fits_of mid.game it.games has) in
+      let fits_packed : FitsTogether g.packed kept.table = subst (λ (k : Kept). FitsTogether g.packed k.table) keeps (fits_of mid.game it.games has) in
       let long = one_length kept.table.positions n g.packed fits.table.started fits.long fits_packed.long in
-      λ other. cause (subst (λ (m : ℕ). Fits m now) long other)
+      λ other. cause (subst (λ (m : ℕ). FitsTogether m now) long other)
     where
-      fits_of : (game : Option Game) → AreGames game → game ≡ Some g → Fits g.packed (kept_in g).table
+      fits_of : (game : Option Game) → AreGames game → game ≡ Some g → FitsTogether g.packed (kept_in g).table
       fits_of None games none = absurd (cc)
-      fits_of (Some h) games some = subst (λ (x : Game). Fits x.packed (kept_in x).table) (same_Some h g some) games.fits
+      fits_of (Some h) games some = subst (λ (x : Game). FitsTogether x.packed (kept_in x).table) (same_Some h g some) games.fits
 
   commit_cause : (g : Game) → IsFile mid → mid.game ≡ Some g → kept_in g ≡ kept → (fault : FileFault)
-      → PutCause (kept_as g.text.items now) g.packed mid.store new.store fault → CommitCause kept.table now (state_of mid) (state_of new) fault
+      → PutCause (kept_as g.text.items now) g.packed mid.store new.store fault → FileCommitCause kept.table now (state_of mid) (state_of new) fault
   commit_cause g it has keeps Disk cause = cause
   commit_cause g it has keeps NotATable cause = cause
   commit_cause g it has keeps AlreadyATable cause = cause
@@ -108,16 +108,16 @@ module _ (was mid new : File) (kept : Kept) (now : Stored (List ℕ)) (whole : I
 
   pub why_not_committed : {X : Type 0} (r : Result X FileFault)
       → ((g : Game) → mid.game ≡ Some g → IsFile mid → IfErr r (PutCause (kept_as g.text.items now) g.packed mid.store new.store))
-      → IfErr r (CommitCause kept.table now (state_of was) (state_of new))
+      → IfErr r (FileCommitCause kept.table now (state_of was) (state_of new))
   why_not_committed r why =
       let (g, has, keeps) = its_game mid.game kept (same.kept ∙ is) in
       let it = same.stands whole in
       IfErr-weaker r _ _
-      (λ fault cause. subst (λ (s : State). CommitCause kept.table now s (state_of new) fault) (same_state was mid same) (commit_cause g it has keeps fault cause))
+      (λ fault cause. subst (λ (s : State). FileCommitCause kept.table now s (state_of new) fault) (same_state was mid same) (commit_cause g it has keeps fault cause))
       (why g has it)
 
 -- nothing is put where a draft could not be made
-pub not_begun : {X E None_left : Type 0} (r : Result X E) (was mid : File) (kept : Kept) (now : Stored (List ℕ)) → IsFile was → IsUnwritten was mid → None_left
+pub not_begun : {X E None_left : Type 0} (r : Result X E) (was mid : File) (kept : Kept) (now : Stored (List ℕ)) → IsFile was → IsUnwrittenFile was mid → None_left
     → OnErr r ((IsFile mid × None_left) × IsNotPut Stores (kept_as kept.text now) (state_of was) (state_of mid))
 not_begun r was mid kept now whole same none =
     let it = same.stands whole in
@@ -126,7 +126,7 @@ not_begun r was mid kept now whole same none =
 
 -- a first table is not loaded
 pub load_cause : (text start : List ℕ) (old new : File) → IsFile old → kept_of old.game ≡ None → old.store.closed ≡ false → (fault : FileFault)
-    → PutCause (kept_as text (loaded start)) (length start) old.store new.store fault → LoadCause start (state_of old) (state_of new) fault
+    → PutCause (kept_as text (loaded start)) (length start) old.store new.store fault → FileLoadCause start (state_of old) (state_of new) fault
 load_cause text start old new it none is_open Disk cause = cause
 load_cause text start old new it none is_open NotATable cause = cause
 load_cause text start old new it none is_open AlreadyATable cause = cause

@@ -9,11 +9,11 @@ use Rattle.page_store.specs.Page.{page as bytes_of}
 use Rattle.page_store.specs.Store.{Store, IsOpened as IsFound, reads}
 use Rattle.flat_file.specs.declared.game.Game.{Game}
 use Rattle.flat_file.specs.File.{IsBacked, kept_of, pages_of}
-use Rattle.flat_file.specs.Held.{Keeps, capacity_of, Stores}
+use Rattle.flat_file.specs.Held.{KeepsTable, capacity_of, Stores}
 use Rattle.game_file.specs.Kept.{Kept}
-use Rattle.flat_read.specs.Causes.{ReadCause}
+use Rattle.flat_read.specs.Causes.{GameReadCause}
 use Rattle.game_file.specs.Calls.{IsOpenedFile}
-use Rattle.game_file.specs.Causes.{OpenCause}
+use Rattle.game_file.specs.Causes.{FileOpenCause}
 use Rattle.game_file.specs.Faults.{of_pages}
 use Rattle.game_file.specs.State.{GoesFrom}
 use Rattle.flat_table.specs.Calls.{file_of, state_of}
@@ -66,7 +66,7 @@ module _ (disk : Disk) (count : ℕ) (found now : Store) (at_first : IsFound dis
         root = now.root;
         holds = subst (λ (root : List ℕ). HoldsRoot root disk.now.contents) (sym read.root) (at_first.root honest);
         room = omega (arith, capacity, backed.room);
-        keeps = subst (λ (n : ℕ). Keeps now.root n (kept_of game) (bytes_of disk.now.contents)) capacity
+        keeps = subst (λ (n : ℕ). KeepsTable now.root n (kept_of game) (bytes_of disk.now.contents)) capacity
             (stands.spelled.anywhere (bytes_of disk.now.contents) (λ p here. ap (λ (picture : Picture). bytes_of picture p) (sym same)));
       }
 
@@ -80,16 +80,16 @@ module _ (disk : Disk) (count : ℕ) (found now : Store) (at_first : IsFound dis
   }
 
   -- what the disk stores is what its slot and pages keep
-  kept_there : (kept : Option Kept) → IsTrue disk.honest → Stores disk.now.contents kept → Keeps found.root (length found.marks) kept (reads found)
+  kept_there : (kept : Option Kept) → IsTrue disk.honest → Stores disk.now.contents kept → KeepsTable found.root (length found.marks) kept (reads found)
   kept_there kept honest stores =
       let same_root : stores.root ≡ found.root = sym stores.holds.is ∙ (at_first.root honest).is in
       let same : disk.now.contents ≡ found.disk.now.contents = sym (at_first.same honest).contents in
-      subst (λ (picture : Picture). Keeps found.root (length found.marks) kept (bytes_of picture)) same
-      (subst (λ (n : ℕ). Keeps found.root n kept (bytes_of disk.now.contents)) (sym at_first.capacity)
-      (subst (λ (root : List ℕ). Keeps root (capacity_of disk.now.contents) kept (bytes_of disk.now.contents)) same_root stores.keeps))
+      subst (λ (picture : Picture). KeepsTable found.root (length found.marks) kept (bytes_of picture)) same
+      (subst (λ (n : ℕ). KeepsTable found.root n kept (bytes_of disk.now.contents)) (sym at_first.capacity)
+      (subst (λ (root : List ℕ). KeepsTable root (capacity_of disk.now.contents) kept (bytes_of disk.now.contents)) same_root stores.keeps))
 
   -- why it is not opened
-  pub open_cause : (fault : PageFault) → ReadCause found now fault → OpenCause Stores disk count now.failures (of_pages fault)
+  pub open_cause : (fault : PageFault) → GameReadCause found now fault → FileOpenCause Stores disk count now.failures (of_pages fault)
   open_cause page.Disk cause = grew_from at_first.failures cause
   open_cause page.NotATable cause = absurd cause
   open_cause page.Damaged cause = λ honest kept stores.

@@ -1,7 +1,7 @@
 -- A text and a table in the place of others, or not.
 use Rattle.std.proofs.Common.{◌≡◌, ◌⊎◌, inl, inr, false, Option, Some, IsTrue, refl, sym, ap, subst}
 use Rattle.sector_disk.specs.Moments.{leaves_now}
-use Rattle.page_store.specs.Store.{Store, IsSound}
+use Rattle.page_store.specs.Store.{Store, IsSoundStore}
 use Rattle.flat_file.specs.declared.game.Game.{Game}
 use Rattle.flat_file.specs.Held.{Stores}
 use Rattle.flat_file.specs.File.{File, IsFile, IsGame, IsBacked, kept_in, kept_of, pages_of}
@@ -25,7 +25,7 @@ nothing_put is file it = record {
 }
 
 -- a refused save keeps it
-pub left_in_place : (is : Kept) (old new : Store) (game : Option Game) → IsFile (file_of old game) → IsSound new → IsBacked new (pages_of game) (kept_of game)
+pub left_in_place : (is : Kept) (old new : Store) (game : Option Game) → IsFile (file_of old game) → IsSoundStore new → IsBacked new (pages_of game) (kept_of game)
     → (IsTrue old.disk.honest → new.closed ≡ false → LeavesTable Stores old.disk new.disk (kept_of game))
     → (IsTrue old.disk.honest → old.closed ≡ false → LeavesEither Stores old.disk new.disk (kept_of game) (Some is))
     → (old.closed ≡ false) ⊎ (new.disk ≡ old.disk) → IsNotPutInFile is (file_of old game) (file_of new game)
@@ -38,7 +38,7 @@ left_in_place is old new game it sound backed kept either untouched = record {
 }
 
 -- a save that is done puts the other there
-pub put_in_place : (is : Kept) (old new : Store) (game : Option Game) (now : Game) → IsSound new → kept_in now ≡ is → IsGame now → IsBacked new now.pages.items (Some is)
+pub put_in_place : (is : Kept) (old new : Store) (game : Option Game) (now : Game) → IsSoundStore new → kept_in now ≡ is → IsGame now → IsBacked new now.pages.items (Some is)
     → new.closed ≡ false → (IsTrue old.disk.honest → LeavesEither Stores old.disk new.disk (kept_of game) (Some is)) → IsPutInFile is (file_of old game) (file_of new (Some now))
 put_in_place is old new game now sound same fits backed is_open either = record {
   stands = record {

@@ -3,10 +3,10 @@ use Rattle.std.specs.Prelude.{◌≡◌, ◌<◌, ◌*◌, ℕ, true, List, leng
 use Rattle.page_store.specs.declared.marks.Mark.{Mark}
 use Rattle.page_store.specs.Marks.{free_count}
 use Rattle.page_store.specs.Store.{Store}
-use Rattle.table.specs.Fitting.{Fits}
+use Rattle.table.specs.Fitting.{FitsTogether}
 use Rattle.table_bytes.specs.declared.sizes.Sizes.{Sizes}
 use Rattle.table_bytes.specs.Numbers.{AreWithinLimits}
-use Rattle.table_bytes.specs.Spelled.{Spells}
+use Rattle.table_bytes.specs.Spelled.{SpellsTable}
 use Rattle.sector_disk.specs.Disk.{Grew}
 use Rattle.game_file.specs.Kept.{Kept}
 use Rattle.game_file.specs.declared.fault.FileFault.{FileFault}
@@ -17,7 +17,7 @@ pub record IsTooLong (kept : Kept) (marks : List Mark) : Type 0 where
   pub sizes : Sizes
   pub bytes : List ℕ
   pub limits : AreWithinLimits sizes
-  pub spells : Spells sizes bytes kept.text kept.table
+  pub spells : SpellsTable sizes bytes kept.text kept.table
   pub long : 4092 * free_count marks < length bytes
 
 -- the disk failed; too few pages are free; memory ran out; the file was closed; or the table's parts do not fit together
@@ -26,5 +26,5 @@ PutCause is packed old new Disk = Grew old.failures new.failures
 PutCause is packed old new TableFull = IsTooLong is old.marks
 PutCause is packed old new OutOfMemory = Unit {0}
 PutCause is packed old new Closed = old.closed ≡ true
-PutCause is packed old new Inconsistent = ¬ Fits packed is.table
+PutCause is packed old new Inconsistent = ¬ FitsTogether packed is.table
 PutCause is packed old new _ = ⊥

@@ -17,12 +17,12 @@ stored_now None (Some game) = stored_in game.table
 stored_now None None = nothing
 
 -- nothing was written: the pages and what is kept are as they were
-pub record IsUnwritten (old new : File) : Type 0 where
+pub record IsUnwrittenFile (old new : File) : Type 0 where
   pub store : new.store ≡ old.store
   pub kept : kept_of new.game ≡ kept_of old.game
   pub stands : IsFile old → IsFile new
 
 -- and no command has begun
 pub record IsOnlyRead (old : File) (draft : Option MemTable) (new : File) (now : Option MemTable) : Type 0 where
-  pub unwritten : IsUnwritten old new
+  pub unwritten : IsUnwrittenFile old new
   pub idle : draft ≡ None → now ≡ None

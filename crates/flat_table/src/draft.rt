@@ -2,7 +2,7 @@
 ghost use Rattle.std.specs.Prelude.{◌≡◌, None, refl, OnOk, OnErr, IfErr, IsSome};
 ghost use Rattle.retrograde.specs.Changes.{counts_of};
 ghost use Rattle.table.specs.declared.fault.TableFault.TheVariants.{OutOfMemory};
-ghost use Rattle.flat_table.specs.Drafts.{stored_now, IsUnwritten, IsOnlyRead};
+ghost use Rattle.flat_table.specs.Drafts.{stored_now, IsUnwrittenFile, IsOnlyRead};
 ghost use Rattle.flat_table.specs.aid.Drafts.{unwritten_here, unwritten_then, only_read_here, only_read_then};
 
 use crate::file::{FlatTable, TableFile};
@@ -38,11 +38,13 @@ impl<D: SectorDisk> Table for FlatTable<D> {
 
     ghost counted = { λ t. counts_of (stored_now t.draft t.game) };
 
-    ghost stays = { λ was is. IsOnlyRead (⟦<FlatTable<D> as TableFile>⟧.file was) was.draft (⟦<FlatTable<D> as TableFile>⟧.file is) is.draft };
+    ghost stays = { λ was is. IsOnlyRead (⟦<FlatTable<D> as TableFile>⟧.file was) was.draft
+        (⟦<FlatTable<D> as TableFile>⟧.file is) is.draft };
 
-    ghost goes_on = { λ was is. IsUnwritten (⟦<FlatTable<D> as TableFile>⟧.file was) (⟦<FlatTable<D> as TableFile>⟧.file is) };
+    ghost goes_on = { λ was is. IsUnwrittenFile (⟦<FlatTable<D> as TableFile>⟧.file was) (⟦<FlatTable<D> as TableFile>⟧.file is) };
 
-    ghost fails = { λ was is fault. IsUnwritten (⟦<FlatTable<D> as TableFile>⟧.file was) (⟦<FlatTable<D> as TableFile>⟧.file is) × (fault ≡ OutOfMemory) };
+    ghost fails = { λ was is fault. IsUnwrittenFile (⟦<FlatTable<D> as TableFile>⟧.file was) (⟦<FlatTable<D> as TableFile>⟧.file is)
+        × (fault ≡ OutOfMemory) };
 
     ghost counts_are = { λ t honest. refl };
 

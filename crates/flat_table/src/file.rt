@@ -4,7 +4,7 @@ ghost use Rattle.table.specs.InMemory.{stored_in};
 ghost use Rattle.root_pair.specs.Root.{HoldsRoot};
 ghost use Rattle.root_slot.specs.Slot.{commits_in};
 ghost use Rattle.game_file.specs.Calls.{IsOpenedFile, IsNotOpened};
-ghost use Rattle.game_file.specs.Causes.{OpenCause};
+ghost use Rattle.game_file.specs.Causes.{FileOpenCause};
 ghost use Rattle.game_file.specs.Kept.{kept_as};
 ghost use Rattle.game_file.specs.State.{count_behind};
 ghost use Rattle.flat_file.specs.declared.game.Game.{Game as Loaded};
@@ -12,7 +12,7 @@ ghost use Rattle.flat_file.specs.File.{File, IsFile, kept_of, pages_of};
 ghost use Rattle.flat_file.specs.Held.{Stores};
 ghost use Rattle.flat_file.specs.Laws.{a_file_is_kept};
 ghost use Rattle.flat_read.specs.Laws.{a_picture_stores_one_table};
-ghost use Rattle.flat_write.specs.Saving.{GoesAhead};
+ghost use Rattle.flat_write.specs.Saving.{StoreGoesAhead};
 ghost use Rattle.flat_table.specs.Calls.{file_of, state_of, IsPutInFile, IsNotPutInFile};
 ghost use Rattle.flat_table.specs.Causes.{PutCause};
 ghost use Rattle.flat_table.specs.Pages.{ArePages};
@@ -61,11 +61,12 @@ impl<D: SectorDisk> FlatTable<D> {
     /// Reads the whole table that this disk stores, after a sync: E1, E2, E4, E8.
     fn read(alloc: Global, disk: D) -> Result<Self, Refused<D>>
         ensures whole { IfOk result (λ t. IsFile (⟦<FlatTable<D> as TableFile>⟧.file t) × (t.draft ≡ None)) }
-        ensures ok { IfOk result (λ t. IsOpenedFile Stores (D.disk disk) (D.failures disk) (state_of (⟦<FlatTable<D> as TableFile>⟧.file t))) }
+        ensures ok { IfOk result (λ t. IsOpenedFile Stores (D.disk disk) (D.failures disk) (state_of
+            (⟦<FlatTable<D> as TableFile>⟧.file t))) }
         ensures root { IfOk result (λ t. IsTrue (D.disk disk).honest
             → HoldsRoot (⟦<FlatTable<D> as TableFile>⟧.file t).store.root (D.disk disk).now.contents) }
         ensures refused { IfErr result (λ back. IsNotOpened (D.disk disk) (D.failures disk) (D.disk back.disk) (D.failures back.disk)) }
-        ensures cause { IfErr result (λ back. OpenCause Stores (D.disk disk) (D.failures disk) (D.failures back.disk) back.fault) }
+        ensures cause { IfErr result (λ back. FileOpenCause Stores (D.disk disk) (D.failures disk) (D.failures back.disk) back.fault) }
     {
         let mut store = match PageStore::open(alloc, disk) {
             Ok(store) => store,
@@ -95,16 +96,24 @@ impl<D: SectorDisk> FlatTable<D> {
     fn keep(&mut self, table: MemTable) -> Result<(), FileFault>
         requires { (⟦<MemTable as Table>⟧.counted table).known ≤ 2 ^ 24 }
         ensures draft { self.new.draft ≡ self.old.draft }
-        ensures ahead { GoesAhead (⟦<FlatTable<D> as TableFile>⟧.file self.old).store (⟦<FlatTable<D> as TableFile>⟧.file self.new).store }
+        ensures ahead { StoreGoesAhead (⟦<FlatTable<D> as TableFile>⟧.file self.old).store
+            (⟦<FlatTable<D> as TableFile>⟧.file self.new).store }
         ensures commits { OnOk result (commits_in (⟦<FlatTable<D> as TableFile>⟧.file self.new).store.root
             ≡ count_behind (commits_in (⟦<FlatTable<D> as TableFile>⟧.file self.old).store.root)) }
-        ensures root { OnErr result ((⟦<FlatTable<D> as TableFile>⟧.file self.new).store.root ≡ (⟦<FlatTable<D> as TableFile>⟧.file self.old).store.root) }
-        ensures ok { (was : Loaded) → (⟦<FlatTable<D> as TableFile>⟧.file self.old).game ≡ Some was → IsFile (⟦<FlatTable<D> as TableFile>⟧.file self.old)
-            → OnOk result (IsPutInFile (kept_as was.text.items (stored_in table)) (⟦<FlatTable<D> as TableFile>⟧.file self.old) (⟦<FlatTable<D> as TableFile>⟧.file self.new)) }
-        ensures err { (was : Loaded) → (⟦<FlatTable<D> as TableFile>⟧.file self.old).game ≡ Some was → IsFile (⟦<FlatTable<D> as TableFile>⟧.file self.old)
-            → OnErr result (IsNotPutInFile (kept_as was.text.items (stored_in table)) (⟦<FlatTable<D> as TableFile>⟧.file self.old) (⟦<FlatTable<D> as TableFile>⟧.file self.new)) }
-        ensures cause { (was : Loaded) → (⟦<FlatTable<D> as TableFile>⟧.file self.old).game ≡ Some was → IsFile (⟦<FlatTable<D> as TableFile>⟧.file self.old)
-            → IfErr result (PutCause (kept_as was.text.items (stored_in table)) was.packed (⟦<FlatTable<D> as TableFile>⟧.file self.old).store (⟦<FlatTable<D> as TableFile>⟧.file self.new).store) }
+        ensures root { OnErr result ((⟦<FlatTable<D> as TableFile>⟧.file self.new).store.root ≡
+            (⟦<FlatTable<D> as TableFile>⟧.file self.old).store.root) }
+        ensures ok { (was : Loaded) → (⟦<FlatTable<D> as TableFile>⟧.file self.old).game ≡ Some was
+            → IsFile (⟦<FlatTable<D> as TableFile>⟧.file self.old)
+            → OnOk result (IsPutInFile (kept_as was.text.items (stored_in table)) (⟦<FlatTable<D> as TableFile>⟧.file self.old)
+            (⟦<FlatTable<D> as TableFile>⟧.file self.new)) }
+        ensures err { (was : Loaded) → (⟦<FlatTable<D> as TableFile>⟧.file self.old).game ≡ Some was
+            → IsFile (⟦<FlatTable<D> as TableFile>⟧.file self.old)
+            → OnErr result (IsNotPutInFile (kept_as was.text.items (stored_in table)) (⟦<FlatTable<D> as TableFile>⟧.file self.old)
+            (⟦<FlatTable<D> as TableFile>⟧.file self.new)) }
+        ensures cause { (was : Loaded) → (⟦<FlatTable<D> as TableFile>⟧.file self.old).game ≡ Some was
+            → IsFile (⟦<FlatTable<D> as TableFile>⟧.file self.old)
+            → IfErr result (PutCause (kept_as was.text.items (stored_in table)) was.packed
+            (⟦<FlatTable<D> as TableFile>⟧.file self.old).store (⟦<FlatTable<D> as TableFile>⟧.file self.new).store) }
         ensures still { IfErr result (λ fault. fault ≢ FileFault.Disk
             → (⟦<FlatTable<D> as TableFile>⟧.file self.new).store.closed ≡ (⟦<FlatTable<D> as TableFile>⟧.file self.old).store.closed) }
     {
@@ -122,16 +131,21 @@ impl<D: SectorDisk> FlatTable<D> {
         requires packed { packed ≤ 240 }
         requires known { (⟦<MemTable as Table>⟧.counted table).known ≤ 2 ^ 24 }
         ensures draft { self.new.draft ≡ self.old.draft }
-        ensures ahead { GoesAhead (⟦<FlatTable<D> as TableFile>⟧.file self.old).store (⟦<FlatTable<D> as TableFile>⟧.file self.new).store }
+        ensures ahead { StoreGoesAhead (⟦<FlatTable<D> as TableFile>⟧.file self.old).store
+            (⟦<FlatTable<D> as TableFile>⟧.file self.new).store }
         ensures commits { OnOk result (commits_in (⟦<FlatTable<D> as TableFile>⟧.file self.new).store.root
             ≡ count_behind (commits_in (⟦<FlatTable<D> as TableFile>⟧.file self.old).store.root)) }
-        ensures root { OnErr result ((⟦<FlatTable<D> as TableFile>⟧.file self.new).store.root ≡ (⟦<FlatTable<D> as TableFile>⟧.file self.old).store.root) }
+        ensures root { OnErr result ((⟦<FlatTable<D> as TableFile>⟧.file self.new).store.root ≡
+            (⟦<FlatTable<D> as TableFile>⟧.file self.old).store.root) }
         ensures ok { IsFile (⟦<FlatTable<D> as TableFile>⟧.file self.old)
-            → OnOk result (IsPutInFile (kept_as text.items (stored_in table)) (⟦<FlatTable<D> as TableFile>⟧.file self.old) (⟦<FlatTable<D> as TableFile>⟧.file self.new)) }
+            → OnOk result (IsPutInFile (kept_as text.items (stored_in table)) (⟦<FlatTable<D> as TableFile>⟧.file self.old)
+            (⟦<FlatTable<D> as TableFile>⟧.file self.new)) }
         ensures err { IsFile (⟦<FlatTable<D> as TableFile>⟧.file self.old)
-            → OnErr result (IsNotPutInFile (kept_as text.items (stored_in table)) (⟦<FlatTable<D> as TableFile>⟧.file self.old) (⟦<FlatTable<D> as TableFile>⟧.file self.new)) }
+            → OnErr result (IsNotPutInFile (kept_as text.items (stored_in table)) (⟦<FlatTable<D> as TableFile>⟧.file self.old)
+            (⟦<FlatTable<D> as TableFile>⟧.file self.new)) }
         ensures cause { IsFile (⟦<FlatTable<D> as TableFile>⟧.file self.old)
-            → IfErr result (PutCause (kept_as text.items (stored_in table)) packed (⟦<FlatTable<D> as TableFile>⟧.file self.old).store (⟦<FlatTable<D> as TableFile>⟧.file self.new).store) }
+            → IfErr result (PutCause (kept_as text.items (stored_in table)) packed (⟦<FlatTable<D> as TableFile>⟧.file self.old).store
+            (⟦<FlatTable<D> as TableFile>⟧.file self.new).store) }
         ensures still { IfErr result (λ fault. fault ≢ FileFault.Disk
             → (⟦<FlatTable<D> as TableFile>⟧.file self.new).store.closed ≡ (⟦<FlatTable<D> as TableFile>⟧.file self.old).store.closed) }
     {
@@ -165,7 +179,8 @@ impl<D: SectorDisk> GameFile for FlatTable<D> {
     ghost whole_leaves = { λ t whole honest is_open. a_file_is_kept (⟦<FlatTable<D> as TableFile>⟧.file t) whole.0 honest is_open };
 
     ghost whole_stored = { λ t kept whole honest is.
-        let both = the_table_is_kept (⟦<PageStore<D> as Pages>⟧.store t.store) t.draft t.game kept whole.0 whole.1 is in (tt, both.0, both.1) };
+        let both = the_table_is_kept (⟦<PageStore<D> as Pages>⟧.store t.store) t.draft t.game kept whole.0 whole.1 is in
+        (tt, both.0, both.1) };
 
     ghost whole_stays = { λ old new whole stays. (
       (stays.unwritten.stands whole.0, stays.idle whole.1),
@@ -179,7 +194,8 @@ impl<D: SectorDisk> GameFile for FlatTable<D> {
         unwritten_ahead (⟦<FlatTable<D> as TableFile>⟧.file old) (⟦<FlatTable<D> as TableFile>⟧.file new) cause.0 };
 
     ghost fails_for = { λ old new fault whole cause.
-        memory_cause (state_of (⟦<FlatTable<D> as TableFile>⟧.file old)) (state_of (⟦<FlatTable<D> as TableFile>⟧.file new)) fault cause.1 };
+        memory_cause (state_of (⟦<FlatTable<D> as TableFile>⟧.file old))
+        (state_of (⟦<FlatTable<D> as TableFile>⟧.file new)) fault cause.1 };
 
     ghost few = { λ t. few_stored t.draft t.game };
 

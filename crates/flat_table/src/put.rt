@@ -1,10 +1,10 @@
 //! A text and a table in the place of others.
 ghost use Rattle.std.specs.Prelude.{◌≡◌, ◌≢◌, ◌≤◌, ◌^◌, Some, length, IfOk, IfErr, OnOk, OnErr};
-ghost use Rattle.table.specs.Fitting.{Fits};
+ghost use Rattle.table.specs.Fitting.{FitsTogether};
 ghost use Rattle.table.specs.InMemory.{stored_in};
 ghost use Rattle.root_slot.specs.Slot.{commits_in};
 ghost use Rattle.flat_file.specs.File.{IsFile, pages_of};
-ghost use Rattle.flat_write.specs.Saving.{AreBytesOf, GoesAhead};
+ghost use Rattle.flat_write.specs.Saving.{AreBytesOf, StoreGoesAhead};
 ghost use Rattle.game_file.specs.Kept.{kept_as};
 ghost use Rattle.flat_table.specs.Calls.{file_of, IsPutInFile, IsNotPutInFile};
 ghost use Rattle.flat_table.specs.Causes.{PutCause};
@@ -36,13 +36,15 @@ pub fn put<P: Pages>(
     requires known { (⟦<MemTable as Table>⟧.counted table).known ≤ 2 ^ 24 }
     requires there { ArePages (length (P.store store.old).marks) (pages_of old.now) }
     ensures pages { IfOk result (λ game. ArePages (length (P.store store.new).marks) game.pages.items) }
-    ensures ahead { GoesAhead (P.store store.old) (P.store store.new) }
+    ensures ahead { StoreGoesAhead (P.store store.old) (P.store store.new) }
     ensures commits { OnOk result (commits_in (P.store store.new).root ≡ commits) }
     ensures root { OnErr result ((P.store store.new).root ≡ (P.store store.old).root) }
     ensures ok { IsFile (file_of (P.store store.old) old.now)
-        → IfOk result (λ game. IsPutInFile (kept_as text.items (stored_in table)) (file_of (P.store store.old) old.now) (file_of (P.store store.new) (Some game))) }
+        → IfOk result (λ game. IsPutInFile (kept_as text.items (stored_in table)) (file_of (P.store store.old) old.now)
+        (file_of (P.store store.new) (Some game))) }
     ensures err { IsFile (file_of (P.store store.old) old.now)
-        → IfErr result (λ _. IsNotPutInFile (kept_as text.items (stored_in table)) (file_of (P.store store.old) old.now) (file_of (P.store store.new) old.now)) }
+        → IfErr result (λ _. IsNotPutInFile (kept_as text.items (stored_in table)) (file_of (P.store store.old) old.now)
+        (file_of (P.store store.new) old.now)) }
     ensures cause { IsFile (file_of (P.store store.old) old.now)
         → IfErr result (PutCause (kept_as text.items (stored_in table)) packed (P.store store.old) (P.store store.new)) }
     ensures still { IfErr result (λ fault. fault ≢ FileFault.Disk → (P.store store.new).closed ≡ (P.store store.old).closed) }
@@ -80,7 +82,7 @@ fn bytes_of(
     requires packed { packed ≤ 240 }
     requires known { (⟦<MemTable as Table>⟧.counted table.old).known ≤ 2 ^ 24 }
     ensures same { OnOk result (stored_in table.new ≡ stored_in table.old) }
-    ensures fits { OnOk result (Fits packed (stored_in table.new)) }
+    ensures fits { OnOk result (FitsTogether packed (stored_in table.new)) }
     ensures bytes { IfOk result (λ written. AreBytesOf (kept_as text.now (stored_in table.old)) written.sizes written.bytes.items) }
     ensures cause { IfErr result (BytesCause (kept_as text.now (stored_in table.old)) packed) }
 {

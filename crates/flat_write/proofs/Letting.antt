@@ -9,14 +9,14 @@ use Rattle.page_store.specs.declared.marks.Mark.{Mark}
 use Rattle.page_store.specs.declared.marks.Mark.TheVariants.{Committed, Waiting, Fresh, Released, Free}
 use Rattle.page_store.specs.Marks.{mark, let_go, IsMarked}
 use Rattle.page_store.specs.Page.{page}
-use Rattle.page_store.specs.Store.{Store, reads, Works, IsRemarked}
+use Rattle.page_store.specs.Store.{Store, reads, StoreWorks, IsRemarked}
 use Rattle.page_store.specs.Works.{works_refl, works_then}
 use Rattle.page_chain.specs.Chain.{IsChain, first_of}
 use Rattle.flat_write.specs.Steps.{IsGone, LetsGo, IsExchanged}
 
 -- the pages before this place are let go
 pub record AreLetGo (pages : List ℕ) (place : ℕ) (old new : Store) : Type 0 where
-  pub works : Works old new
+  pub works : StoreWorks old new
   pub others : IsRemarked old new
   pub kept : (p : ℕ) → (Contains pages p → ⊥) → mark new.marks p ≡ mark old.marks p
   pub gone : (k p : ℕ) → k < place → get_or pages k p ≡ p → IsGone (mark new.marks p)
@@ -40,7 +40,7 @@ let_go_gone Free = record { not_committed = λ is. cc; not_fresh = λ is. cc }
 
 -- one more of them
 module _ (pages : List ℕ) (place : ℕ) (old mid new : Store) (so_far : AreLetGo pages place old mid) (within : place < length pages)
-    (marks : IsMarked (get_or pages place 0) (let_go (mark mid.marks (get_or pages place 0))) mid.marks new.marks) (others : IsRemarked mid new) (works : Works mid new) where
+    (marks : IsMarked (get_or pages place 0) (let_go (mark mid.marks (get_or pages place 0))) mid.marks new.marks) (others : IsRemarked mid new) (works : StoreWorks mid new) where
   here : Contains pages (get_or pages place 0)
   here = Contains-get_or pages place 0 within
 
@@ -84,12 +84,12 @@ all_let_go pages place old new all so_far = record {
 }
 
 -- pages that are there stay there
-pub still_there : (pages : List ℕ) {old new : Store} → Works old new → ((p : ℕ) → Contains pages p → (1 ≤ p) × (p < length old.marks)) → (p : ℕ) → Contains pages p
+pub still_there : (pages : List ℕ) {old new : Store} → StoreWorks old new → ((p : ℕ) → Contains pages p → (1 ≤ p) × (p < length old.marks)) → (p : ℕ) → Contains pages p
     → (1 ≤ p) × (p < length new.marks)
 still_there pages works there p here = ((there p here).0, omega (arith, (there p here).1, works.same_pages))
 
 -- a chain is written, and the old pages are let go
-pub exchanges : (was pages bytes : List ℕ) (old mid new : Store) → Works old mid → (IsTrue old.disk.honest → IsChain (length old.marks) (first_of pages) pages bytes (reads mid))
+pub exchanges : (was pages bytes : List ℕ) (old mid new : Store) → StoreWorks old mid → (IsTrue old.disk.honest → IsChain (length old.marks) (first_of pages) pages bytes (reads mid))
     → ((p : ℕ) → Contains pages p → mark mid.marks p ≡ Fresh) → ((p : ℕ) → Contains pages p → mark old.marks p ≡ Free) → mid.closed ≡ old.closed
     → LetsGo was mid new → IsExchanged was pages bytes old new
 exchanges was pages bytes old mid new works chain handed freed closed gone = record {

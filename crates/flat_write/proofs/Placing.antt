@@ -9,17 +9,17 @@ use Rattle.page_store.specs.declared.marks.Mark.{Mark}
 use Rattle.page_store.specs.declared.marks.Mark.TheVariants.{Committed, Waiting, Fresh, Released, Free}
 use Rattle.page_store.specs.Marks.{mark, needs, keeps, turned}
 use Rattle.page_store.specs.Spelling.{Stands, IsPrepared, Spells}
-use Rattle.page_store.specs.Store.{Store, reads, IsSound, Works, Commits, IsCommitted}
+use Rattle.page_store.specs.Store.{Store, reads, IsSoundStore, StoreWorks, Commits, IsCommitted}
 use Rattle.page_store.specs.Carrying.{commit_carries, committed_stands, committed_calm}
 use Rattle.page_chain.specs.Chain.{IsChain, first_of}
 use Rattle.table_bytes.specs.declared.sizes.Sizes.{Sizes}
 use Rattle.table_bytes.specs.Numbers.{AreWithinLimits}
-use Rattle.table_bytes.specs.Spelled.{Spells as SpellsTable}
-use Rattle.flat_file.specs.Held.{KeepsGame, Keeps, Stores}
+use Rattle.table_bytes.specs.Spelled.{SpellsTable}
+use Rattle.flat_file.specs.Held.{KeepsGame, KeepsTable, Stores}
 use Rattle.game_file.specs.Kept.{Kept}
 use Rattle.flat_file.specs.File.{IsBacked}
 use Rattle.flat_file.specs.Laws.{game_rests_on_its_pages, spells_stores}
-use Rattle.flat_write.specs.Saving.{AreBytesOf, GoesAhead}
+use Rattle.flat_write.specs.Saving.{AreBytesOf, StoreGoesAhead}
 use Rattle.game_file.specs.Stops.{LeavesEither}
 use Rattle.flat_write.specs.Steps.{IsGone, IsExchanged, IsSlotOf, IsReplaced}
 
@@ -42,7 +42,7 @@ some_apart : {X : Type 0} (x : X) → Some x ≡ None → ⊥
 some_apart x is = cc
 
 -- a free page is one of the pages, and not the system page
-free_page : (store : Store) (p : ℕ) → IsSound store → mark store.marks p ≡ Free → (1 ≤ p) × (p < length store.marks)
+free_page : (store : Store) (p : ℕ) → IsSoundStore store → mark store.marks p ≡ Free → (1 ≤ p) × (p < length store.marks)
 free_page store p sound free = (low p free, within)
   where
     low : (p : ℕ) → mark store.marks p ≡ Free → 1 ≤ p
@@ -71,15 +71,15 @@ keeps_game root capacity pages bytes sizes kept read slot it chain = record {
 }
 
 -- the new table is prepared, and a commit carries it
-module _ (was_pages pages bytes root : List ℕ) (sizes : Sizes) (old mid new : Store) (was : Option Kept) (is : Kept) (sound : IsSound old) (was_open : old.closed ≡ false)
+module _ (was_pages pages bytes root : List ℕ) (sizes : Sizes) (old mid new : Store) (was : Option Kept) (is : Kept) (sound : IsSoundStore old) (was_open : old.closed ≡ false)
     (exchanged : IsExchanged was_pages pages bytes old mid) (slot : IsSlotOf (first_of pages) sizes root) (backed : IsBacked old was_pages was) (it : AreBytesOf is sizes bytes) where
-  old_stands : IsTrue old.disk.honest → Stands (λ p. Contains was_pages p) (Keeps old.root (length old.marks) was) old
+  old_stands : IsTrue old.disk.honest → Stands (λ p. Contains was_pages p) (KeepsTable old.root (length old.marks) was) old
   old_stands honest = backed.stands honest was_open
 
   not_old : IsTrue old.disk.honest → (p : ℕ) → Contains pages p → Contains was_pages p → ⊥
   not_old honest p here there = not_needed _ ((old_stands honest).needed p there).2 (exchanged.freed p here)
 
-  prepared : IsTrue old.disk.honest → IsPrepared (λ p. Contains pages p) (Keeps root (length old.marks) (Some is)) mid
+  prepared : IsTrue old.disk.honest → IsPrepared (λ p. Contains pages p) (KeepsTable root (length old.marks) (Some is)) mid
   prepared honest = record {
     spelled = game_rests_on_its_pages root (length old.marks) is (reads mid) (keeps_game root (length old.marks) pages bytes sizes is (reads mid) slot it (exchanged.chain honest));
     kept = λ p here.
@@ -87,7 +87,7 @@ module _ (was_pages pages bytes root : List ℕ) (sizes : Sizes) (old mid new : 
         (page.0, omega (arith, page.1, exchanged.works.same_pages), subst (λ (m : Mark). IsTrue (keeps m)) (sym (exchanged.handed p here (not_old honest p here))) refl);
   }
 
-  stores_one : (picture : Picture) → Spells old.root (length old.marks) (Keeps old.root (length old.marks) was) picture ⊎ Spells root (length old.marks) (Keeps root (length old.marks) (Some is)) picture
+  stores_one : (picture : Picture) → Spells old.root (length old.marks) (KeepsTable old.root (length old.marks) was) picture ⊎ Spells root (length old.marks) (KeepsTable root (length old.marks) (Some is)) picture
       → Stores picture was ⊎ Stores picture (Some is)
   stores_one picture (inl spells) = inl (spells_stores old.root (length old.marks) was picture backed.room sound.few spells)
   stores_one picture (inr spells) = inr (spells_stores root (length old.marks) (Some is) picture backed.room sound.few spells)
@@ -102,10 +102,10 @@ module _ (was_pages pages bytes root : List ℕ) (sizes : Sizes) (old mid new : 
   was_honest : Commits root mid new → IsTrue new.disk.honest → IsTrue old.disk.honest
   was_honest commits honest = subst (λ (b : Bool). IsTrue b) (commits.goes_on.honest ∙ exchanged.works.goes_on.honest) honest
 
-  new_stands : IsCommitted root mid new → IsTrue old.disk.honest → Stands (λ p. Contains pages p) (Keeps new.root (length new.marks) (Some is)) new
+  new_stands : IsCommitted root mid new → IsTrue old.disk.honest → Stands (λ p. Contains pages p) (KeepsTable new.root (length new.marks) (Some is)) new
   new_stands done honest =
-      subst (λ (n : ℕ). Stands (λ p. Contains pages p) (Keeps new.root n (Some is)) new) (sym (same_pages done))
-      (subst (λ (r : List ℕ). Stands (λ p. Contains pages p) (Keeps r (length old.marks) (Some is)) new) (sym done.is)
+      subst (λ (n : ℕ). Stands (λ p. Contains pages p) (KeepsTable new.root n (Some is)) new) (sym (same_pages done))
+      (subst (λ (r : List ℕ). Stands (λ p. Contains pages p) (KeepsTable r (length old.marks) (Some is)) new) (sym done.is)
       (committed_stands root mid new (still_honest exchanged.works.goes_on honest) done (prepared honest)))
 
   none_waits : (p : ℕ) → mark mid.marks p ≡ Waiting → ⊥
@@ -123,7 +123,7 @@ module _ (was_pages pages bytes root : List ℕ) (sizes : Sizes) (old mid new : 
   }
 
 -- what is so of a commit, whatever it answers
-pub commit_ahead : (root : List ℕ) (old mid new : Store) → old.closed ≡ false → Works old mid → Commits root mid new → length new.marks ≡ length mid.marks → GoesAhead old new
+pub commit_ahead : (root : List ℕ) (old mid new : Store) → old.closed ≡ false → StoreWorks old mid → Commits root mid new → length new.marks ≡ length mid.marks → StoreGoesAhead old new
 commit_ahead root old mid new was_open works commits same = record {
   goes_on = goes_on_trans works.goes_on commits.goes_on;
   same_size = commits.same_size ∙ works.same_size;
@@ -141,7 +141,7 @@ turned_free Released gone not = refl
 turned_free Free gone not = refl
 
 -- the new table is in the place of the old one
-pub replaces : (was_pages pages bytes root : List ℕ) (sizes : Sizes) (old mid new : Store) → IsSound old → old.closed ≡ false → IsExchanged was_pages pages bytes old mid
+pub replaces : (was_pages pages bytes root : List ℕ) (sizes : Sizes) (old mid new : Store) → IsSoundStore old → old.closed ≡ false → IsExchanged was_pages pages bytes old mid
     → IsSlotOf (first_of pages) sizes root → Commits root mid new → IsCommitted root mid new → IsReplaced was_pages pages sizes bytes old new
 replaces was_pages pages bytes root sizes old mid new sound was_open exchanged slot commits done = record {
   was_open = was_open;

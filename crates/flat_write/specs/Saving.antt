@@ -6,18 +6,18 @@ use Rattle.retrograde.specs.Stored.{IsTable}
 use Rattle.retrograde.specs.Changes.{counts_of}
 use Rattle.table_bytes.specs.declared.sizes.Sizes.{Sizes}
 use Rattle.table_bytes.specs.Numbers.{AreWithinLimits}
-use Rattle.table_bytes.specs.Spelled.{Spells}
+use Rattle.table_bytes.specs.Spelled.{SpellsTable}
 use Rattle.game_file.specs.Kept.{Kept}
 
 -- these bytes and sizes are those of this text and table, whose parts fit together, and are within the limits
 pub record AreBytesOf (kept : Kept) (sizes : Sizes) (bytes : List ℕ) : Type 0 where
   pub limits : AreWithinLimits sizes
-  pub spells : Spells sizes bytes kept.text kept.table
+  pub spells : SpellsTable sizes bytes kept.text kept.table
   pub table : IsTable kept.table
   pub counts : counts_of kept.table ≡ sizes.counts
 
 -- what is so of any call that writes, on any disk
-pub record GoesAhead (old new : Store) : Type 0 where
+pub record StoreGoesAhead (old new : Store) : Type 0 where
   pub goes_on : GoesOn old.disk new.disk
   pub same_size : size new.disk ≡ size old.disk
   pub failures : old.failures ≤ new.failures

@@ -6,14 +6,14 @@ use Rattle.page_store.specs.declared.fault.PageFault.TheVariants.{Disk as DiskFa
 use Rattle.page_store.specs.declared.marks.Mark.{Mark}
 use Rattle.page_store.specs.declared.marks.Mark.TheVariants.{Committed, Waiting, Fresh, Free}
 use Rattle.page_store.specs.Marks.{mark}
-use Rattle.page_store.specs.Store.{Store, reads, Works, IsRemarked}
+use Rattle.page_store.specs.Store.{Store, reads, StoreWorks, IsRemarked}
 use Rattle.page_chain.specs.Chain.{IsChain, first_of}
 use Rattle.table_bytes.specs.declared.sizes.Sizes.{Sizes}
 use Rattle.root_slot.specs.Slot.{layout_in, packing_in, first_in, sizes_in}
 use Rattle.game_file.specs.Kept.{Kept}
 use Rattle.flat_file.specs.File.{IsBacked}
 use Rattle.flat_write.specs.Causes.{SaveCause}
-use Rattle.flat_write.specs.Saving.{AreBytesOf, GoesAhead}
+use Rattle.flat_write.specs.Saving.{AreBytesOf, StoreGoesAhead}
 use Rattle.game_file.specs.Stops.{LeavesEither}
 
 -- a page of this mark was let go: the next commit does not keep it, unless it waits
@@ -23,14 +23,14 @@ pub record IsGone (m : Mark) : Type 0 where
 
 -- these pages are let go, and else the store is as it was
 pub record LetsGo (pages : List ℕ) (old new : Store) : Type 0 where
-  pub works : Works old new
+  pub works : StoreWorks old new
   pub others : IsRemarked old new
   pub kept : (p : ℕ) → (Contains pages p → ⊥) → mark new.marks p ≡ mark old.marks p
   pub gone : (p : ℕ) → Contains pages p → IsGone (mark new.marks p)
 
 -- these bytes are written as a chain on pages that were free, and the pages of the old chain are let go
 pub record IsExchanged (was pages bytes : List ℕ) (old new : Store) : Type 0 where
-  pub works : Works old new
+  pub works : StoreWorks old new
   pub chain : IsTrue old.disk.honest → IsChain (length old.marks) (first_of pages) pages bytes (reads new)
   pub freed : (p : ℕ) → Contains pages p → mark old.marks p ≡ Free
   pub handed : (p : ℕ) → Contains pages p → (Contains was p → ⊥) → mark new.marks p ≡ Fresh
@@ -56,16 +56,16 @@ pub record IsReplaced (was_pages pages : List ℕ) (sizes : Sizes) (bytes : List
   pub is_open : new.closed ≡ false
   pub there : (p : ℕ) → Contains pages p → (1 ≤ p) × (p < length new.marks)
   pub freed : (p : ℕ) → Contains was_pages p → mark old.marks p ≢ Waiting → mark new.marks p ≡ Free
-  pub ahead : GoesAhead old new
+  pub ahead : StoreGoesAhead old new
   pub stop : LeavesOne was_pages sizes bytes old new
   pub done : (was : Option Kept) (is : Kept) → IsBacked old was_pages was → AreBytesOf is sizes bytes → IsBacked new pages (Some is)
 
 -- the table of the old pages is left in its place for this fault, or the store is closed, and that for a fault of the
 -- disk alone
 pub record IsLeft (was_pages : List ℕ) (sizes : Sizes) (bytes : List ℕ) (old new : Store) (fault : PageFault) : Type 0 where
-  pub ahead : GoesAhead old new
+  pub ahead : StoreGoesAhead old new
   pub stop : LeavesOne was_pages sizes bytes old new
-  pub left : Works old new ⊎ (new.closed ≡ true)
+  pub left : StoreWorks old new ⊎ (new.closed ≡ true)
   pub untouched : (old.closed ≡ false) ⊎ (new.disk ≡ old.disk)
   pub still : fault ≢ DiskFailed → new.closed ≡ old.closed
   pub cause : SaveCause (length bytes) old new fault

@@ -1,16 +1,17 @@
 //! One table in the place of another.
 ghost use Rattle.flat_file.specs.Held.{Stores};
-ghost use Rattle.std.specs.Prelude.{◌≡◌, ◌≢◌, ◌⊎◌, ◌≤◌, ◌<◌, ℕ, List, false, Option, Some, length, Contains, OnOk, OnErr, IfOk, IfErr, IsTrue};
-ghost use Rattle.page_chain.specs.Causes.{WriteCause};
+ghost use Rattle.std.specs.Prelude.{◌≡◌, ◌≢◌, ◌⊎◌, ◌≤◌, ◌<◌, ℕ, List, false, Option, Some, length, Contains, OnOk, OnErr, IfOk, IfErr};
+ghost use Rattle.std.specs.Prelude.{IsTrue};
+ghost use Rattle.page_chain.specs.Causes.{ChainWriteCause};
 ghost use Rattle.page_chain.specs.Chain.{first_of};
 ghost use Rattle.page_store.specs.Marks.{mark as mark_of};
-ghost use Rattle.page_store.specs.Store.{Works};
+ghost use Rattle.page_store.specs.Store.{StoreWorks};
 ghost use Rattle.page_store.specs.declared.marks.Mark.TheVariants.{Waiting, Free};
 ghost use Rattle.root_slot.specs.Slot.{commits_in};
 ghost use Rattle.flat_file.specs.File.{IsBacked};
 ghost use Rattle.game_file.specs.Kept.{Kept};
 ghost use Rattle.flat_write.specs.Causes.{SaveCause};
-ghost use Rattle.flat_write.specs.Saving.{AreBytesOf, GoesAhead};
+ghost use Rattle.flat_write.specs.Saving.{AreBytesOf, StoreGoesAhead};
 ghost use Rattle.game_file.specs.Stops.{LeavesEither, LeavesTable};
 ghost use Rattle.flat_write.specs.Steps.{LetsGo, IsExchanged, IsSlotOf, IsReplaced, IsLeft};
 
@@ -33,18 +34,22 @@ pub fn save<P: Pages>(
     written: &Written,
 ) -> Result<Vec<u32>, PageFault>
     requires there { (p : ℕ) → Contains old.now p → (1 ≤ p) × (p < length (P.store store.old).marks) }
-    ensures ahead { GoesAhead (P.store store.old) (P.store store.new) }
+    ensures ahead { StoreGoesAhead (P.store store.old) (P.store store.new) }
     ensures commits { OnOk result (commits_in (P.store store.new).root ≡ commits) }
     ensures root { OnErr result ((P.store store.new).root ≡ (P.store store.old).root) }
-    ensures stop { (was : Option Kept) (is : Kept) → IsBacked (P.store store.old) old.now was → AreBytesOf is written.now.sizes written.now.bytes.items
+    ensures stop { (was : Option Kept) (is : Kept) → IsBacked (P.store store.old) old.now was
+        → AreBytesOf is written.now.sizes written.now.bytes.items
         → IsTrue (P.store store.old).disk.honest → (P.store store.old).closed ≡ false
         → LeavesEither Stores (P.store store.old).disk (P.store store.new).disk was (Some is) }
-    ensures done { (was : Option Kept) (is : Kept) → IsBacked (P.store store.old) old.now was → AreBytesOf is written.now.sizes written.now.bytes.items
+    ensures done { (was : Option Kept) (is : Kept) → IsBacked (P.store store.old) old.now was
+        → AreBytesOf is written.now.sizes written.now.bytes.items
         → IfOk result (λ pages. IsBacked (P.store store.new) pages.items (Some is)) }
     ensures pages { IfOk result (λ pages. (p : ℕ) → Contains pages.items p → (1 ≤ p) × (p < length (P.store store.new).marks)) }
-    ensures freed { OnOk result ((p : ℕ) → Contains old.now p → mark_of (P.store store.old).marks p ≢ Waiting → mark_of (P.store store.new).marks p ≡ Free) }
+    ensures freed { OnOk result ((p : ℕ) → Contains old.now p → mark_of (P.store store.old).marks p ≢ Waiting
+        → mark_of (P.store store.new).marks p ≡ Free) }
     ensures open { OnOk result ((P.store store.new).closed ≡ false) }
-    ensures back { (was : Option Kept) → IsBacked (P.store store.old) old.now was → OnErr result (IsBacked (P.store store.new) old.now was) }
+    ensures back { (was : Option Kept) → IsBacked (P.store store.old) old.now was
+        → OnErr result (IsBacked (P.store store.new) old.now was) }
     ensures kept { (was : Option Kept) → IsBacked (P.store store.old) old.now was
         → IsTrue (P.store store.old).disk.honest → OnErr result ((P.store store.new).closed ≡ false
         → LeavesTable Stores (P.store store.old).disk (P.store store.new).disk was) }
@@ -94,9 +99,9 @@ fn exchange<P: Pages>(
 ) -> Result<Vec<u32>, PageFault>
     requires there { (p : ℕ) → Contains old.now p → (1 ≤ p) × (p < length (P.store store.old).marks) }
     ensures ok { IfOk result (λ pages. IsExchanged old.now pages.items bytes.now (P.store store.old) (P.store store.new)) }
-    ensures works { Works (P.store store.old) (P.store store.new) }
+    ensures works { StoreWorks (P.store store.old) (P.store store.new) }
     ensures still { IfErr result (λ fault. fault ≢ PageFault.Disk → (P.store store.new).closed ≡ (P.store store.old).closed) }
-    ensures cause { IfErr result (WriteCause (length bytes.now) (P.store store.old) (P.store store.new)) }
+    ensures cause { IfErr result (ChainWriteCause (length bytes.now) (P.store store.old) (P.store store.new)) }
 {
     let pages = write_chain(alloc, store, bytes)?;
     release_all(store, old);

@@ -38,12 +38,14 @@ Leaves ahead fails (Table fault) = fails fault
 abbrev pub IsCause : Graph (List ℕ) → (List ℕ → Type 0) → Stored (List ℕ) → ℕ → List ℕ → StepFault → Type 0
 IsCause graph IsWide stored e x TooWide = IsWide x
 IsCause graph IsWide stored e x (KeeperChooses number) = (number ≡ e) × (¬ IsWide x) × IsChoice graph x
-IsCause graph IsWide stored e x TooManyPositions = (¬ IsWide x) × (¬ IsChoice graph x) × IsTooMany packed_cmp graph (2 ^ 24) stored.positions x
+IsCause graph IsWide stored e x TooManyPositions = (¬ IsWide x) × (¬ IsChoice graph x)
+    × IsTooMany packed_cmp graph (2 ^ 24) stored.positions x
 IsCause graph IsWide stored e x Inconsistent = Unit {0}
 IsCause graph IsWide stored e x OutOfMemory = Unit {0}
 IsCause graph IsWide stored e x (Table fault) = Unit {0}
 
 -- a refusal comes of the next position to be expanded, and has its cause
-abbrev pub HasCause : Graph (List ℕ) → (List ℕ → Type 0) → Stored (List ℕ) → StepFault → Type 0
-HasCause graph IsWide stored fault =
-    IsRefusal fault → (x : List ℕ) × (slice_get stored.positions (expanded_count stored) ≡ Some x) × IsCause graph IsWide stored (expanded_count stored) x fault
+abbrev pub HasUnitCause : Graph (List ℕ) → (List ℕ → Type 0) → Stored (List ℕ) → StepFault → Type 0
+HasUnitCause graph IsWide stored fault =
+    IsRefusal fault → (x : List ℕ) × (slice_get stored.positions (expanded_count stored) ≡ Some x)
+    × IsCause graph IsWide stored (expanded_count stored) x fault

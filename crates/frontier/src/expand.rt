@@ -1,5 +1,6 @@
 //! One position is expanded.
-ghost use Rattle.std.specs.Prelude.{◌≡◌, ◌↔◌, ◌⊎◌, ◌+◌, ◌^◌, ◌<◌, ◌≤◌, ℕ, List, [], true, false, map, vec_len, IsOk, IfOk, OnOk, IfErr, Err, None, length};
+ghost use Rattle.std.specs.Prelude.{◌≡◌, ◌↔◌, ◌⊎◌, ◌+◌, ◌^◌, ◌<◌, ◌≤◌, ℕ, List, [], true, false, map, vec_len, IsOk, IfOk, OnOk, IfErr};
+ghost use Rattle.std.specs.Prelude.{Err, None, length};
 ghost use Rattle.rbg_game.specs.declared.roles.Role.{Role};
 ghost use Rattle.legal_moves.specs.Listed.{ListsExactly};
 ghost use Rattle.retrograde.specs.Graph.{IsReachable};
@@ -9,7 +10,7 @@ ghost use Rattle.retrograde.specs.Stored.{IsTable, view_of, expanded_count};
 ghost use Rattle.retrograde.specs.Sound.{IsLocallySound};
 ghost use Rattle.retrograde.specs.Successors.{packed_cmp};
 ghost use Rattle.retrograde.specs.Expands.{Expands};
-ghost use Rattle.frontier.specs.Causes.{HasCause, IsRefusal, Leaves};
+ghost use Rattle.frontier.specs.Causes.{HasUnitCause, IsRefusal, Leaves};
 ghost use Rattle.frontier.specs.Done.{IsUnitDone};
 ghost use Rattle.frontier.specs.declared.fault.StepFault.TheVariants.{TooWide, Inconsistent, OutOfMemory};
 
@@ -79,7 +80,7 @@ pub fn expand_one<M: MoveSource, T: Table>(
     ensures last { T.is_honest table.old → IsLocallySound (M.graph source.now) (M.is_wide source.now) (T.stored table.old)
         → OnOk result (expanded_count (T.stored table.new) ≡ length (T.stored table.new).positions → (T.stored table.new).order ≡ []
         → IsFinished (view_of (T.stored table.new)) × ((x : List ℕ) → IsReachable (M.graph source.now) x → Drawn (M.graph source.now) x)) }
-    ensures cause { T.is_honest table.old → IfErr result (HasCause (M.graph source.now) (M.is_wide source.now) (T.stored table.old)) }
+    ensures cause { T.is_honest table.old → IfErr result (HasUnitCause (M.graph source.now) (M.is_wide source.now) (T.stored table.old)) }
     ensures unchanged { T.is_honest table.old → IfErr result (λ fault. IsRefusal fault
         → T.is_honest table.new × (T.stored table.new ≡ T.stored table.old)) }
     ensures consistent { T.is_honest table.old → IsLocallySound (M.graph source.now) (M.is_wide source.now) (T.stored table.old)

@@ -3,8 +3,8 @@ use legal_moves::MoveFault;
 use table::TableFault;
 use thiserror::Error;
 
-/// Why a unit of work was not done. After the first three the table is as it was; after the others
-/// nothing is said of it.
+/// Why a unit of work was not done. After the first three the table has only gone on as after an
+/// answer; after the others it is as the table's own `fails` says.
 #[derive(Clone, Copy, PartialEq, Eq, Debug, Drop, Error)]
 pub enum StepFault {
     /// The search for the moves of a position reaches too many configurations.

@@ -15,7 +15,8 @@ fn end<T: Table>(table: &mut T, number: u32, winner: Player) -> Result<(), StepF
     ensures ended { T.is_honest table.old → OnOk result (T.stored table.new ≡ with_ended number (Some winner) (T.stored table.old)) }
     ensures honest { OnOk result (T.is_honest table.old ↔ T.is_honest table.new) }
     ensures known { OnOk result ((T.counted table.new).known ≡ (T.counted table.old).known) }
-    ensures full { T.is_honest table.old → result ≡ Err Inconsistent → length (T.stored table.old).positions ≤ length (T.stored table.old).order }
+    ensures full { T.is_honest table.old → result ≡ Err Inconsistent
+        → length (T.stored table.old).positions ≤ length (T.stored table.old).order }
     ensures goes_on { IfErr result (λ fault. ¬ IsRefusal fault) }
     ensures ahead { OnOk result (T.goes_on table.old table.new) }
     ensures left { IfErr result (Leaves (T.goes_on table.old table.new) (T.fails table.old table.new)) }
@@ -44,10 +45,12 @@ pub fn finish<T: Table>(
     ahead: Option<Player>,
 ) -> Result<(), StepFault>
     requires { number < (T.counted table.old).known }
-    ensures expanded { T.is_honest table.old → OnOk result (T.stored table.new ≡ with_expanded number successors ahead (T.stored table.old)) }
+    ensures expanded { T.is_honest table.old → OnOk result
+        (T.stored table.new ≡ with_expanded number successors ahead (T.stored table.old)) }
     ensures honest { OnOk result (T.is_honest table.old ↔ T.is_honest table.new) }
     ensures known { OnOk result ((T.counted table.new).known ≡ (T.counted table.old).known) }
-    ensures full { T.is_honest table.old → result ≡ Err Inconsistent → length (T.stored table.old).positions ≤ length (T.stored table.old).order }
+    ensures full { T.is_honest table.old → result ≡ Err Inconsistent
+        → length (T.stored table.old).positions ≤ length (T.stored table.old).order }
     ensures goes_on { IfErr result (λ fault. ¬ IsRefusal fault) }
     ensures ahead { OnOk result (T.goes_on table.old table.new) }
     ensures left { IfErr result (Leaves (T.goes_on table.old table.new) (T.fails table.old table.new)) }

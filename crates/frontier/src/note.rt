@@ -57,7 +57,8 @@ pub fn note_all<T: Table>(
     requires numbers { T.is_honest table.old → (n : ℕ)
         × AreNumbersOf (T.stored table.old).positions (length (T.stored table.old).positions) (bytes_of_each successors.now) numbers.now n }
     requires ascending { IsStrictlySortedBy packed_cmp (bytes_of_each successors.now) }
-    ensures noted { T.is_honest table.old → OnOk result (AreNoted predecessor (bytes_of_each successors.now) (T.stored table.old) (T.stored table.new)) }
+    ensures noted { T.is_honest table.old → OnOk result
+        (AreNoted predecessor (bytes_of_each successors.now) (T.stored table.old) (T.stored table.new)) }
     ensures honest { OnOk result (T.is_honest table.old ↔ T.is_honest table.new) }
     ensures more { OnOk result ((T.counted table.old).known ≤ (T.counted table.new).known) }
     ensures room { OnOk result ((T.counted table.old).known ≤ 2 ^ 24 → (T.counted table.new).known ≤ 2 ^ 24) }

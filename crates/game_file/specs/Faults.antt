@@ -6,7 +6,8 @@ use Rattle.root_pair.specs.declared.fault.RootFault.TheVariants as root
 use Rattle.table.specs.declared.fault.TableFault.{TableFault}
 use Rattle.table.specs.declared.fault.TableFault.TheVariants as table
 use Rattle.game_file.specs.declared.fault.FileFault.{FileFault}
-use Rattle.game_file.specs.declared.fault.FileFault.TheVariants.{Disk, NotATable, AlreadyATable, Damaged, TooSmall, TableFull, OutOfMemory, Closed}
+use Rattle.game_file.specs.declared.fault.FileFault.TheVariants.{Disk, NotATable, AlreadyATable, Damaged, TooSmall, TableFull, OutOfMemory}
+use Rattle.game_file.specs.declared.fault.FileFault.TheVariants.{Closed}
 
 -- what a fault of a table is
 abbrev pub of_table : TableFault → FileFault

@@ -1,7 +1,7 @@
 -- What a power failure leaves.
 use Rattle.std.specs.Prelude.{◌⊎◌, Option, None}
 use Rattle.sector_disk.specs.Disk.{Picture, Shown, Disk, LeavesOnly, MayLeave}
-use Rattle.root_pair.specs.Root.{IsTable}
+use Rattle.root_pair.specs.Root.{IsTablePicture}
 use Rattle.game_file.specs.Kept.{Kept, Layout}
 
 module _ (Stores : Layout) where
@@ -19,4 +19,4 @@ module _ (Stores : Layout) where
 
   -- no table, or what a stop could leave before, or the empty table
   abbrev pub OldOrEmpty : Shown → Picture → Type 0
-  OldOrEmpty old picture = IsTable picture → MayLeave old picture ⊎ Stores picture None
+  OldOrEmpty old picture = IsTablePicture picture → MayLeave old picture ⊎ Stores picture None

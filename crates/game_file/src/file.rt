@@ -1,5 +1,6 @@
 //! What a game's table in a file promises.
-ghost use Rattle.std.specs.Prelude.{◌≡◌, ◌≢◌, ◌≤◌, ◌^◌, ℕ, true, false, Option, None, Some, length, OnOk, OnErr, IfOk, IfErr, IfSome, IfNone, IsTrue};
+ghost use Rattle.std.specs.Prelude.{◌≡◌, ◌≢◌, ◌≤◌, ◌^◌, ℕ, true, false, Option, None, Some, length, OnOk, OnErr, IfOk, IfErr, IfSome};
+ghost use Rattle.std.specs.Prelude.{IfNone, IsTrue};
 ghost use Rattle.sector_disk.specs.Disk.{Picture};
 ghost use Rattle.retrograde.specs.Stored.{IsTable, loaded};
 ghost use Rattle.table.specs.declared.fault.TableFault.{TableFault};
@@ -7,7 +8,7 @@ ghost use Rattle.game_file.specs.Kept.{Kept, Layout, kept_as, text_kept};
 ghost use Rattle.game_file.specs.State.{State, GoesAhead};
 ghost use Rattle.game_file.specs.Stops.{LeavesNow};
 ghost use Rattle.game_file.specs.Calls.{IsOpenedFile, IsNotOpened, IsCreatedFile, IsNotCreated, IsPut, IsNotPut, IsKept, IsAsked};
-ghost use Rattle.game_file.specs.Causes.{OpenCause, CreateCause, LoadCause, CommitCause, TableCause};
+ghost use Rattle.game_file.specs.Causes.{FileOpenCause, FileCreateCause, FileLoadCause, FileCommitCause, FileTableCause};
 
 use crate::{FileFault, Refused};
 use position_pack::Packed;
@@ -39,7 +40,7 @@ pub trait GameFile: Table {
         ensures ok { IfOk result (λ file. IsCreatedFile stores (Self.Device.disk disk) (Self.Device.failures disk) (state file)) }
         ensures refused { IfErr result (λ back. IsNotCreated stores (Self.Device.disk disk) (Self.Device.failures disk)
             (Self.Device.disk back.disk) (Self.Device.failures back.disk)) }
-        ensures cause { IfErr result (λ back. CreateCause (Self.Device.disk disk) (Self.Device.failures disk)
+        ensures cause { IfErr result (λ back. FileCreateCause (Self.Device.disk disk) (Self.Device.failures disk)
             (Self.Device.failures back.disk) back.fault) };
 
     /// Opens the table that this disk stores, after a sync: E1, E2, E4, E8.
@@ -48,7 +49,7 @@ pub trait GameFile: Table {
         ensures ok { IfOk result (λ file. IsOpenedFile stores (Self.Device.disk disk) (Self.Device.failures disk) (state file)) }
         ensures refused { IfErr result (λ back. IsNotOpened (Self.Device.disk disk) (Self.Device.failures disk)
             (Self.Device.disk back.disk) (Self.Device.failures back.disk)) }
-        ensures cause { IfErr result (λ back. OpenCause stores (Self.Device.disk disk) (Self.Device.failures disk)
+        ensures cause { IfErr result (λ back. FileOpenCause stores (Self.Device.disk disk) (Self.Device.failures disk)
             (Self.Device.failures back.disk) back.fault) };
 
     /// The text of the game, if one is loaded. It takes no memory and always answers.
@@ -71,7 +72,7 @@ pub trait GameFile: Table {
         ensures err { is_whole self.old → (state self.old).kept ≡ None
             → OnErr result (IsNotPut stores (kept_as text.now (loaded start.now.items)) (state self.old) (state self.new)) }
         ensures cause { is_whole self.old → (state self.old).kept ≡ None → (state self.old).closed ≡ false
-            → IfErr result (LoadCause start.now.items (state self.old) (state self.new)) }
+            → IfErr result (FileLoadCause start.now.items (state self.old) (state self.new)) }
         ensures still { IfErr result (λ fault. fault ≢ FileFault.Disk → (state self.new).closed ≡ (state self.old).closed) };
 
     /// Commits the table that a command has come to since the file was whole: S6 if its parts do not fit together, and E9, E1, E7, E8.
@@ -86,7 +87,7 @@ pub trait GameFile: Table {
             → (IsTrue (state was).disk.honest → IsTable (Self.stored self.old))
             → OnErr result (is_whole self.new × IsNotPut stores (kept_as kept.text (Self.stored self.old)) (state was) (state self.new)) }
         ensures cause { (was : Self) (kept : Kept) → is_whole was → (state was).kept ≡ Some kept → Self.goes_on was self.old
-            → IfErr result (CommitCause kept.table (Self.stored self.old) (state was) (state self.new)) }
+            → IfErr result (FileCommitCause kept.table (Self.stored self.old) (state was) (state self.new)) }
         ensures still { (was : Self) → Self.goes_on was self.old
             → IfErr result (λ fault. fault ≢ FileFault.Disk → (state self.new).closed ≡ (state was).closed) };
 
@@ -96,7 +97,7 @@ pub trait GameFile: Table {
         ensures back { (was : Self) → is_whole was → Self.goes_on was self.old
             → is_whole self.new × IsKept stores (state was) (state self.new) × ((state self.new).closed ≡ (state was).closed) }
         ensures failed { (was : Self) (fault : TableFault) → is_whole was → Self.fails was self.old fault
-            → is_whole self.new × IsKept stores (state was) (state self.new) × TableCause (state was) (state self.new) fault }
+            → is_whole self.new × IsKept stores (state was) (state self.new) × FileTableCause (state was) (state self.new) fault }
         ensures still { (was : Self) (fault : TableFault) → is_whole was → Self.fails was self.old fault → fault ≢ TableFault.Disk
             → (state self.new).closed ≡ (state was).closed };
 
@@ -127,7 +128,7 @@ pub trait GameFile: Table {
 
     /// A fault of the table has its cause.
     ghost fails_for: { (old new : Self) (fault : TableFault) → is_whole old → Self.fails old new fault
-        → TableCause (state old) (state new) fault };
+        → FileTableCause (state old) (state new) fault };
 
     /// No file has more than 16,777,216 positions.
     ghost few: { (file : Self) → (Self.counted file).known ≤ 2 ^ 24 };

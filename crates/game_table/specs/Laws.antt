@@ -18,7 +18,7 @@ use Rattle.legal_moves.specs.Moves.{start_of}
 use Rattle.legal_moves.specs.Sources.{IsPositionBytes, IsWideAt, graph_of}
 use Rattle.legal_moves.proofs.SourceLemmas.{packed_by_at}
 use Rattle.legal_moves.proofs.CompiledLemmas.{start_position}
-use Rattle.table.specs.Fitting.{Fits}
+use Rattle.table.specs.Fitting.{FitsTogether}
 use Rattle.game_table.specs.Tables.{ArePositions, packed_length}
 
 -- a text that reads to a game has at most 65,536 bytes
@@ -36,13 +36,15 @@ positions_have_one_length game x (at, here) =
     ∙ ap (λ n. length game.vertices + 3 * n + 4) (length-map game.variables (λ v. v.bound))
 
 -- play comes to positions of the game alone
-pub reachable_is_position : (game : Game) (x : List ℕ) → IsPositionOf game (start_of game) → IsReachable (graph_of game) x → IsPositionBytes game x
+pub reachable_is_position : (game : Game) (x : List ℕ) → IsPositionOf game (start_of game) → IsReachable (graph_of game) x
+    → IsPositionBytes game x
 reachable_is_position game x start at_start = (start_of game, record { position_is = start; bytes_are = refl })
 reachable_is_position game x start (by_move before (at, next, from, to, leads)) = (next, to)
 
 -- a table that agrees with itself at each number stores positions of the game, and its parts fit together
-pub sound_tables_fit : (game : Game) (stored : Stored (List ℕ)) → IsPositionOf game (start_of game) → IsLocallySound (graph_of game) (IsWideAt game) stored
-    → ArePositions game stored × Fits (packed_length game) stored
+pub sound_tables_fit : (game : Game) (stored : Stored (List ℕ)) → IsPositionOf game (start_of game)
+    → IsLocallySound (graph_of game) (IsWideAt game) stored
+    → ArePositions game stored × FitsTogether (packed_length game) stored
 sound_tables_fit game stored start sound =
     let right = sound_right (graph_of game) (IsWideAt game) stored sound in
     let are : ArePositions game stored = λ i x number. reachable_is_position game x start (right.moves.reached x (i, number)) in

@@ -8,7 +8,7 @@ ghost use Rattle.legal_moves.specs.Moves.{start_of};
 ghost use Rattle.legal_moves.specs.Sources.{IsPositionBytes, IsWideAt, graph_of};
 ghost use Rattle.retrograde.specs.Stored.{Stored, loaded};
 ghost use Rattle.retrograde.specs.Sound.{IsLocallySound};
-ghost use Rattle.table.specs.Fitting.{Fits};
+ghost use Rattle.table.specs.Fitting.{FitsTogether};
 ghost use Rattle.game_table.specs.Tables.{ArePositions, packed_length};
 
 /// A text that reads to a game has at most 65,536 bytes.
@@ -29,8 +29,9 @@ pub fn positions_have_one_length()
 /// A table that agrees with itself at each number stores positions of the game alone, so its parts fit together and its
 /// positions have their length.
 pub fn sound_tables_fit()
-    ensures { (game : Game) (stored : Stored (List ℕ)) → IsPositionOf game (start_of game) → IsLocallySound (graph_of game) (IsWideAt game) stored
-        → ArePositions game stored × Fits (packed_length game) stored }
+    ensures { (game : Game) (stored : Stored (List ℕ)) → IsPositionOf game (start_of game)
+        → IsLocallySound (graph_of game) (IsWideAt game) stored
+        → ArePositions game stored × FitsTogether (packed_length game) stored }
 {}
 
 /// The table of a game that was just loaded agrees with itself at each number.

@@ -5,8 +5,6 @@
 pub mod laws;
 mod packings;
 mod source;
-#[cfg(test)]
-mod tests;
 mod texts;
 
 pub use source::Source;

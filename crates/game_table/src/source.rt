@@ -91,7 +91,8 @@ impl Source {
 
     /// Whether each position of a table is one of the game, read one by one. The table stays as it was.
     pub fn are_positions<T: Table>(&self, table: &mut T) -> Result<bool, TableFault>
-        ensures are { T.is_honest table.old → IfOk result (λ are. (are ≡ true) ↔ ArePositions (compiled_game self.now) (T.stored table.old)) }
+        ensures are { T.is_honest table.old → IfOk result
+            (λ are. (are ≡ true) ↔ ArePositions (compiled_game self.now) (T.stored table.old)) }
         ensures same { T.is_honest table.old → T.stored table.new ≡ T.stored table.old }
         ensures honest { T.is_honest table.old ↔ T.is_honest table.new }
         ensures counts { T.counted table.new ≡ T.counted table.old }
@@ -113,12 +114,15 @@ impl Source {
         ensures limit { OnOk result ((T.counted table.new).known ≤ 2 ^ 24) }
         ensures honest { OnOk result (T.is_honest table.old ↔ T.is_honest table.new) }
         ensures idle { IfOk result (λ done. done ≡ 0 → table.new ≡ table.old) }
-        ensures works { T.is_honest table.old → IsLocallySound (graph_of (compiled_game self.now)) (IsWideAt (compiled_game self.now)) (T.stored table.old)
+        ensures works { T.is_honest table.old → IsLocallySound (graph_of (compiled_game self.now)) (IsWideAt (compiled_game self.now))
+            (T.stored table.old)
             → IfOk result (λ done. IsWorkOf (compiled_game self.now) units (T.stored table.old) done (T.stored table.new)) }
         ensures fits { T.is_honest table.old → IsTable (T.stored table.old) → OnOk result (IsTable (T.stored table.new)) }
-        ensures cause { T.is_honest table.old → IsLocallySound (graph_of (compiled_game self.now)) (IsWideAt (compiled_game self.now)) (T.stored table.old)
+        ensures cause { T.is_honest table.old → IsLocallySound (graph_of (compiled_game self.now)) (IsWideAt (compiled_game self.now))
+            (T.stored table.old)
             → IfErr result (StopsWith (graph_of (compiled_game self.now)) (IsWideAt (compiled_game self.now)) (T.stored table.old) units) }
-        ensures consistent { T.is_honest table.old → IsLocallySound (graph_of (compiled_game self.now)) (IsWideAt (compiled_game self.now)) (T.stored table.old)
+        ensures consistent { T.is_honest table.old
+            → IsLocallySound (graph_of (compiled_game self.now)) (IsWideAt (compiled_game self.now)) (T.stored table.old)
             → result ≡ Err StepFault.Inconsistent → ⊥ }
         ensures ahead { OnOk result (T.goes_on table.old table.new) }
         ensures left { IfErr result (Leaves (T.goes_on table.old table.new) (T.fails table.old table.new)) }

@@ -23,7 +23,8 @@ impl Source {
     /// The bytes of the position with this text: none where it is the text of no position of the game. A position has one
     /// text, without a zero or a blank too many. It takes no memory and always answers.
     pub fn position(&self, text: &[u8]) -> Option<Packed>
-        ensures { MatchOption result ((bytes : List ℕ) → ¬ IsText (compiled_game self.now) bytes text.now) (λ packed. IsText (compiled_game self.now) packed.items text.now) }
+        ensures { MatchOption result ((bytes : List ℕ)
+            → ¬ IsText (compiled_game self.now) bytes text.now) (λ packed. IsText (compiled_game self.now) packed.items text.now) }
     {
         let game = self.compiled.game();
         let at = read_position(game, text)?;

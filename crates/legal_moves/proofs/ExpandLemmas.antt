@@ -10,7 +10,7 @@ use Rattle.legal_moves.specs.Effects.{EffectAt}
 use Rattle.legal_moves.specs.Glushkov.{IsNextAt}
 use Rattle.legal_moves.specs.Relations.{row_of}
 use Rattle.legal_moves.specs.Searches.{place_at, IsWideFrom}
-use Rattle.legal_moves.specs.Configurations.{expression_at, IsReady, AsksTooMuch, LeadsTo, opening, AreFound, IsMet, IsExpanded, IsSeen, IsNew, IsGrown}
+use Rattle.legal_moves.specs.Configurations.{expression_at, IsReady, AsksTooMuch, OccurrenceLeads, opening, AreFound, IsMet, IsFollowed, IsSeen, IsNew, IsGrown}
 use Rattle.legal_moves.specs.Going.{IsGoing}
 use Rattle.legal_moves.specs.declared.table.Table.{Table}
 use Rattle.legal_moves.specs.declared.configuration.Configuration.{Configuration}
@@ -18,7 +18,7 @@ use Rattle.legal_moves.specs.declared.found.Found.{Found}
 use Rattle.legal_moves.proofs.EffectLemmas.{EffectAt-functional}
 use Rattle.legal_moves.proofs.SearchLemmas.{next_in_range, no_switch_at_0}
 use Rattle.legal_moves.proofs.StepLemmas.{EffectAt-keeps}
-use Rattle.legal_moves.proofs.FoundLemmas.{same_at, count_whole, IsExpanded-more}
+use Rattle.legal_moves.proofs.FoundLemmas.{same_at, count_whole, IsFollowed-more}
 use Rattle.legal_moves.proofs.WidthLemmas.{wide_by_pattern}
 use Rattle.legal_moves.proofs.GoingLemmas.{taken, too_wide}
 use Rattle.legal_moves.proofs.ReadyLemmas.{next_by_mark, mark_by_next}
@@ -69,7 +69,7 @@ number_small game tables index ready p k next =
     omega (arith, count_whole (expression_at game index), ready.small)
 
 -- on to the next configuration
-pub going_next : (game : Game) (e : Regex) (place : ℕ) (S : SemiState) (found : Found) (at : ℕ) → IsGoing game e place S found at → at < length found.configurations.items → ((n : ℕ) → IsExpanded game e place found.configurations.items at n) → IsGoing game e place S found (at + 1)
+pub going_next : (game : Game) (e : Regex) (place : ℕ) (S : SemiState) (found : Found) (at : ℕ) → IsGoing game e place S found at → at < length found.configurations.items → ((n : ℕ) → IsFollowed game e place found.configurations.items at n) → IsGoing game e place S found (at + 1)
 going_next game e place S found at h inside here = record {
   found_are = h.found_are;
   seen_is = h.seen_is;
@@ -78,31 +78,31 @@ going_next game e place S found at h inside here = record {
   within = omega arith;
 }
   where
-    go : (j n : ℕ) → (j < at) ⊎ (at ≤ j) → j < at + 1 → IsExpanded game e place found.configurations.items j n
+    go : (j n : ℕ) → (j < at) ⊎ (at ≤ j) → j < at + 1 → IsFollowed game e place found.configurations.items j n
     go j n (inl less) le = h.expanded j n less
     go j n (inr past) le =
         let same : j ≡ at = omega arith in
-        subst (λ k. IsExpanded game e place found.configurations.items k n) (sym same) (here n)
+        subst (λ k. IsFollowed game e place found.configurations.items k n) (sym same) (here n)
 
-module _ (game : Game) (tables : List Table) (index : ℕ) (ready : IsReady game tables index) (place : ℕ) (S : SemiState) (found : Found) (at n : ℕ) (b : Configuration) (going : IsGoing game (expression_at game index) place S found at) (here : IsExpanded game (expression_at game index) place found.configurations.items at n) (at_b : slice_get found.configurations.items at ≡ Some b) (plain : is_switch (action_at (expression_at game index) 1 b.at.place) ≡ false) where
+module _ (game : Game) (tables : List Table) (index : ℕ) (ready : IsReady game tables index) (place : ℕ) (S : SemiState) (found : Found) (at n : ℕ) (b : Configuration) (going : IsGoing game (expression_at game index) place S found at) (here : IsFollowed game (expression_at game index) place found.configurations.items at n) (at_b : slice_get found.configurations.items at ≡ Some b) (plain : is_switch (action_at (expression_at game index) 1 b.at.place) ≡ false) where
   e : Regex
   e = expression_at game index
 
-  pub more_skipped : ¬ IsNextAt (expression_at game index) (place_at place b.at.place) n → IsExpanded game (expression_at game index) place found.configurations.items at (n + 1)
-  more_skipped none = IsExpanded-more game (expression_at game index) place S found.configurations.items at n b at_b here (λ U next step. absurd (none next)) (λ next. absurd (none next))
+  pub more_skipped : ¬ IsNextAt (expression_at game index) (place_at place b.at.place) n → IsFollowed game (expression_at game index) place found.configurations.items at (n + 1)
+  more_skipped none = IsFollowed-more game (expression_at game index) place S found.configurations.items at n b at_b here (λ U next step. absurd (none next)) (λ next. absurd (none next))
 
-  pub more_invalid : ((U : SemiState) → ¬ EffectAt game (expression_at game index) 1 n b.at.state U) → ¬ AsksTooMuch game (expression_at game index) n b.at.state → IsExpanded game (expression_at game index) place found.configurations.items at (n + 1)
-  more_invalid none narrow = IsExpanded-more game (expression_at game index) place S found.configurations.items at n b at_b here (λ U next step. absurd (none U step)) (λ next. narrow)
+  pub more_invalid : ((U : SemiState) → ¬ EffectAt game (expression_at game index) 1 n b.at.state U) → ¬ AsksTooMuch game (expression_at game index) n b.at.state → IsFollowed game (expression_at game index) place found.configurations.items at (n + 1)
+  more_invalid none narrow = IsFollowed-more game (expression_at game index) place S found.configurations.items at n b at_b here (λ U next step. absurd (none U step)) (λ next. narrow)
 
   pub asked : IsNextAt (expression_at game index) (place_at place b.at.place) n → AsksTooMuch game (expression_at game index) n b.at.state → IsWideFrom game (expression_at game index) place S
   asked next asks = wide_by_pattern game (expression_at game index) place S found.configurations.items b at n going.found_are at_b plain next asks
 
-  module _ (c : Configuration) (next : IsNextAt (expression_at game index) (place_at place b.at.place) n) (leads : LeadsTo game (expression_at game index) n b.at.state c) (parent : c.parent ≡ at) where
+  module _ (c : Configuration) (next : IsNextAt (expression_at game index) (place_at place b.at.place) n) (leads : OccurrenceLeads game (expression_at game index) n b.at.state c) (parent : c.parent ≡ at) where
     next_c : IsNextAt (expression_at game index) (place_at place b.at.place) c.at.place
     next_c = subst (IsNextAt (expression_at game index) (place_at place b.at.place)) (sym leads.place_is) next
 
-    leads_c : LeadsTo game (expression_at game index) c.at.place b.at.state c
-    leads_c = subst (λ k. LeadsTo game (expression_at game index) k b.at.state c) (sym leads.place_is) leads
+    leads_c : OccurrenceLeads game (expression_at game index) c.at.place b.at.state c
+    leads_c = subst (λ k. OccurrenceLeads game (expression_at game index) k b.at.state c) (sym leads.place_is) leads
 
     state_c : IsStateOf game c.at.state
     state_c = EffectAt-keeps game (expression_at game index) n b.at.state c.at.state ready.sound ready.expression_is (going.found_are.states_are at b at_b) leads.step
@@ -110,7 +110,7 @@ module _ (game : Game) (tables : List Table) (index : ℕ) (ready : IsReady game
     -- after the turn
     pub record HasTurned (found' : Found) : Type 0 where
       pub goes : IsGoing game (expression_at game index) place S found' at
-      pub expands : IsExpanded game (expression_at game index) place found'.configurations.items at (n + 1)
+      pub expands : IsFollowed game (expression_at game index) place found'.configurations.items at (n + 1)
       pub b_at : slice_get found'.configurations.items at ≡ Some b
 
     pub turned : (found' : Found) → ¬ AsksTooMuch game (expression_at game index) n b.at.state → IsGrown found.configurations.items c found'.configurations.items → IsSeen found'.configurations.items found'.seen → HasTurned found'
@@ -118,7 +118,7 @@ module _ (game : Game) (tables : List Table) (index : ℕ) (ready : IsReady game
         let t = taken game (expression_at game index) place S ready.sound ready.small found at b c going at_b plain next_c leads_c parent state_c found' grown seen in
         record {
           goes = t.goes;
-          expands = IsExpanded-more game (expression_at game index) place S found'.configurations.items at n b t.b_at (t.kept n here) (λ U next step. met found' U t.met step) (λ next. narrow);
+          expands = IsFollowed-more game (expression_at game index) place S found'.configurations.items at n b t.b_at (t.kept n here) (λ U next step. met found' U t.met step) (λ next. narrow);
           b_at = t.b_at;
         }
       where

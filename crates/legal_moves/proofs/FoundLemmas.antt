@@ -9,7 +9,7 @@ use Rattle.rbg_game.specs.declared.position.SemiState.{SemiState}
 use Rattle.legal_moves.specs.Effects.{EffectAt}
 use Rattle.legal_moves.specs.Glushkov.{IsNextAt}
 use Rattle.legal_moves.specs.Searches.{place_at}
-use Rattle.legal_moves.specs.Configurations.{AsksTooMuch, IsLinked, opening, AreFound, IsMet, IsExpanded}
+use Rattle.legal_moves.specs.Configurations.{AsksTooMuch, IsLinked, opening, AreFound, IsMet, IsFollowed}
 use Rattle.legal_moves.specs.Going.{began}
 use Rattle.legal_moves.specs.declared.configuration.Configuration.{Configuration}
 use Rattle.legal_moves.proofs.GetLemmas.{slice_get-append, slice_get-push, slice_get-within}
@@ -57,8 +57,8 @@ module _ (game : Game) (e : Regex) (place : ℕ) (S : SemiState) where
   IsMet-more cs more j U k h = (h.0, h.1, slice_get-append cs more h.0 h.1 h.2, h.3, h.4)
 
   -- what is expanded stays so
-  pub IsExpanded-push : (cs : List Configuration) (c : Configuration) (j n : ℕ) → j < length cs → IsExpanded game e place cs j n → IsExpanded game e place (cs ++ c ∷ []) j n
-  IsExpanded-push cs c j n within h = record {
+  pub IsFollowed-push : (cs : List Configuration) (c : Configuration) (j n : ℕ) → j < length cs → IsFollowed game e place cs j n → IsFollowed game e place (cs ++ c ∷ []) j n
+  IsFollowed-push cs c j n within h = record {
     met = λ d k U at plain less next step. IsMet-more cs (c ∷ []) j U k (h.met d k U (old d (slice_get-push cs c j d at)) plain less next step);
     narrow = λ d k at plain less next. h.narrow d k (old d (slice_get-push cs c j d at)) plain less next;
   }
@@ -99,15 +99,15 @@ module _ (game : Game) (e : Regex) (place : ℕ) (S : SemiState) where
       states i d (inr at) = subst (λ z. IsStateOf game z.at.state) (sym at.1) state
 
   -- nothing below 0
-  pub IsExpanded-none : (cs : List Configuration) (j : ℕ) → IsExpanded game e place cs j 0
-  IsExpanded-none cs j = record {
+  pub IsFollowed-none : (cs : List Configuration) (j : ℕ) → IsFollowed game e place cs j 0
+  IsFollowed-none cs j = record {
     met = λ c k U at plain less next step. absurd (omega (arith, less));
     narrow = λ c k at plain less next. absurd (omega (arith, less));
   }
 
   -- an end is not expanded
-  pub IsExpanded-end : (cs : List Configuration) (j n : ℕ) (b : Configuration) → slice_get cs j ≡ Some b → is_switch (action_at e 1 b.at.place) ≡ true → IsExpanded game e place cs j n
-  IsExpanded-end cs j n b at_b ends = record {
+  pub IsFollowed-end : (cs : List Configuration) (j n : ℕ) (b : Configuration) → slice_get cs j ≡ Some b → is_switch (action_at e 1 b.at.place) ≡ true → IsFollowed game e place cs j n
+  IsFollowed-end cs j n b at_b ends = record {
     met = λ c k U at plain less next step. absurd (never c at plain);
     narrow = λ c k at plain less next. absurd (never c at plain);
   }
@@ -120,8 +120,8 @@ module _ (game : Game) (e : Regex) (place : ℕ) (S : SemiState) where
           cc
 
   -- one number more
-  pub IsExpanded-more : (cs : List Configuration) (j n : ℕ) (b : Configuration) → slice_get cs j ≡ Some b → IsExpanded game e place cs j n → ((U : SemiState) → IsNextAt e (place_at place b.at.place) n → EffectAt game e 1 n b.at.state U → IsMet cs j U n) → (IsNextAt e (place_at place b.at.place) n → ¬ AsksTooMuch game e n b.at.state) → IsExpanded game e place cs j (n + 1)
-  IsExpanded-more cs j n b at_b h here narrow = record {
+  pub IsFollowed-more : (cs : List Configuration) (j n : ℕ) (b : Configuration) → slice_get cs j ≡ Some b → IsFollowed game e place cs j n → ((U : SemiState) → IsNextAt e (place_at place b.at.place) n → EffectAt game e 1 n b.at.state U → IsMet cs j U n) → (IsNextAt e (place_at place b.at.place) n → ¬ AsksTooMuch game e n b.at.state) → IsFollowed game e place cs j (n + 1)
+  IsFollowed-more cs j n b at_b h here narrow = record {
     met = λ c k U at plain less next step. go c k U at plain next step (cases_lt k n) less;
     narrow = λ c k at plain less next. ask c k at plain next (cases_lt k n) less;
   }
@@ -141,8 +141,8 @@ module _ (game : Game) (e : Regex) (place : ℕ) (S : SemiState) where
           λ asks. narrow (subst (λ m. IsNextAt e (place_at place b.at.place) m) is (subst (λ z. IsNextAt e (place_at place z.at.place) k) same next)) (subst (λ m. AsksTooMuch game e m b.at.state) is (subst (λ z. AsksTooMuch game e k z.at.state) same asks))
 
   -- beyond all numbers
-  pub IsExpanded-all : (cs : List Configuration) (j n m : ℕ) (b : Configuration) → slice_get cs j ≡ Some b → IsExpanded game e place cs j n → ((k : ℕ) → n ≤ k → ¬ IsNextAt e (place_at place b.at.place) k) → IsExpanded game e place cs j m
-  IsExpanded-all cs j n m b at_b h none = record {
+  pub IsFollowed-all : (cs : List Configuration) (j n m : ℕ) (b : Configuration) → slice_get cs j ≡ Some b → IsFollowed game e place cs j n → ((k : ℕ) → n ≤ k → ¬ IsNextAt e (place_at place b.at.place) k) → IsFollowed game e place cs j m
+  IsFollowed-all cs j n m b at_b h none = record {
     met = λ c k U at plain less next step. go c k U at plain next step (cases_lt k n);
     narrow = λ c k at plain less next. ask c k at plain next (cases_lt k n);
   }

@@ -8,17 +8,17 @@ use Rattle.rbg_game.specs.declared.position.SemiState.{SemiState}
 use Rattle.position_pack.specs.Bytes.{bytes_of}
 use Rattle.legal_moves.specs.Glushkov.{IsNextAt}
 use Rattle.legal_moves.specs.Searches.{place_at, IsWideFrom}
-use Rattle.legal_moves.specs.Configurations.{LeadsTo, IsLinked, AreFound, IsMet, IsExpanded, IsSeen, IsNew, IsGrown}
+use Rattle.legal_moves.specs.Configurations.{OccurrenceLeads, IsLinked, AreFound, IsMet, IsFollowed, IsSeen, IsNew, IsGrown}
 use Rattle.legal_moves.specs.Going.{IsGoing}
 use Rattle.legal_moves.specs.declared.configuration.Configuration.{Configuration}
 use Rattle.legal_moves.specs.declared.found.Found.{Found}
 use Rattle.legal_moves.proofs.GetLemmas.{slice_get-append, slice_get-push, slice_get-end, slice_get-within}
-use Rattle.legal_moves.proofs.FoundLemmas.{count_whole, AreFound-push, IsExpanded-push, places_few}
+use Rattle.legal_moves.proofs.FoundLemmas.{count_whole, AreFound-push, IsFollowed-push, places_few}
 use Rattle.legal_moves.proofs.SearchLemmas.{next_in_range}
 use Rattle.legal_moves.proofs.PackLemmas.{bytes_tell}
 use Rattle.legal_moves.proofs.WidthLemmas.{wide_by_one_more}
 
-module _ (game : Game) (e : Regex) (place : ℕ) (S : SemiState) (sound : IsSoundGame game) (small : whole_count e ≤ 4096) (found : Found) (at : ℕ) (b c : Configuration) (going : IsGoing game e place S found at) (at_b : slice_get found.configurations.items at ≡ Some b) (plain : is_switch (action_at e 1 b.at.place) ≡ false) (next : IsNextAt e (place_at place b.at.place) c.at.place) (leads : LeadsTo game e c.at.place b.at.state c) (parent : c.parent ≡ at) (state : IsStateOf game c.at.state) where
+module _ (game : Game) (e : Regex) (place : ℕ) (S : SemiState) (sound : IsSoundGame game) (small : whole_count e ≤ 4096) (found : Found) (at : ℕ) (b c : Configuration) (going : IsGoing game e place S found at) (at_b : slice_get found.configurations.items at ≡ Some b) (plain : is_switch (action_at e 1 b.at.place) ≡ false) (next : IsNextAt e (place_at place b.at.place) c.at.place) (leads : OccurrenceLeads game e c.at.place b.at.state c) (parent : c.parent ≡ at) (state : IsStateOf game c.at.state) where
   cs : List Configuration
   cs = found.configurations.items
 
@@ -48,7 +48,7 @@ module _ (game : Game) (e : Regex) (place : ℕ) (S : SemiState) (sound : IsSoun
   -- what is known once it was added, or one like it was there
   pub record HasTaken (found' : Found) : Type 0 where
     pub goes : IsGoing game e place S found' at
-    pub kept : (n : ℕ) → IsExpanded game e place found.configurations.items at n → IsExpanded game e place found'.configurations.items at n
+    pub kept : (n : ℕ) → IsFollowed game e place found.configurations.items at n → IsFollowed game e place found'.configurations.items at n
     pub met : IsMet found'.configurations.items at c.at.state c.at.place
     pub b_at : slice_get found'.configurations.items at ≡ Some b
 
@@ -58,10 +58,10 @@ module _ (game : Game) (e : Regex) (place : ℕ) (S : SemiState) (sound : IsSoun
       found_are = subst (AreFound game e place S) (sym same) going.found_are;
       seen_is = seen;
       parents_are = subst (λ xs. (j : ℕ) (x : Configuration) → slice_get xs j ≡ Some x → x.parent ≤ at) (sym same) going.parents_are;
-      expanded = subst (λ xs. (j n : ℕ) → j < at → IsExpanded game e place xs j n) (sym same) going.expanded;
+      expanded = subst (λ xs. (j n : ℕ) → j < at → IsFollowed game e place xs j n) (sym same) going.expanded;
       within = subst (λ xs. at ≤ length xs) (sym same) going.within;
     };
-    kept = λ n h. subst (λ xs. IsExpanded game e place xs at n) (sym same) h;
+    kept = λ n h. subst (λ xs. IsFollowed game e place xs at n) (sym same) h;
     met = subst (λ xs. IsMet xs at c.at.state c.at.place) (sym same) (i, d, at_d, same_bytes i d at_d bytes, going.parents_are i d at_d);
     b_at = subst (λ xs. slice_get xs at ≡ Some b) (sym same) at_b;
   }
@@ -72,10 +72,10 @@ module _ (game : Game) (e : Regex) (place : ℕ) (S : SemiState) (sound : IsSoun
       found_are = subst (AreFound game e place S) (sym same) (AreFound-push game e place S found.configurations.items c going.found_are room (omega (arith, inside)) link state (λ i d at_d. let p = going.parents_are i d at_d in omega (arith, p, parent)) (new_positions new));
       seen_is = seen;
       parents_are = subst (λ xs. (j : ℕ) (x : Configuration) → slice_get xs j ≡ Some x → x.parent ≤ at) (sym same) (λ j x at_x. parents j x (slice_get-push found.configurations.items c j x at_x));
-      expanded = subst (λ xs. (j n : ℕ) → j < at → IsExpanded game e place xs j n) (sym same) (λ j n less. IsExpanded-push game e place S found.configurations.items c j n (omega (arith, inside, less)) (going.expanded j n less));
+      expanded = subst (λ xs. (j n : ℕ) → j < at → IsFollowed game e place xs j n) (sym same) (λ j n less. IsFollowed-push game e place S found.configurations.items c j n (omega (arith, inside, less)) (going.expanded j n less));
       within = subst (λ xs. at ≤ length xs) (sym same) (omega (arith, length-append found.configurations.items (c ∷ []), going.within));
     };
-    kept = λ n h. subst (λ xs. IsExpanded game e place xs at n) (sym same) (IsExpanded-push game e place S found.configurations.items c at n inside h);
+    kept = λ n h. subst (λ xs. IsFollowed game e place xs at n) (sym same) (IsFollowed-push game e place S found.configurations.items c at n inside h);
     met = subst (λ xs. IsMet xs at c.at.state c.at.place) (sym same) (length found.configurations.items, c, slice_get-end found.configurations.items c, refl, omega (arith, parent));
     b_at = subst (λ xs. slice_get xs at ≡ Some b) (sym same) (slice_get-append found.configurations.items (c ∷ []) at b at_b);
   }

@@ -6,7 +6,7 @@ use Rattle.rbg_game.specs.declared.position.SemiState.{SemiState}
 use Rattle.legal_moves.specs.Effects.{EffectAt}
 use Rattle.legal_moves.specs.Glushkov.{IsNextAt}
 use Rattle.legal_moves.specs.Searches.{place_at, Searched, begun, gone}
-use Rattle.legal_moves.specs.Configurations.{opening, AreFound, IsExpanded}
+use Rattle.legal_moves.specs.Configurations.{opening, AreFound, IsFollowed}
 use Rattle.legal_moves.specs.declared.configuration.Configuration.{Configuration}
 use Rattle.legal_moves.proofs.GetLemmas.{slice_get-within}
 use Rattle.legal_moves.proofs.FoundLemmas.{same_at}
@@ -74,7 +74,7 @@ module _ (game : Game) (e : Regex) (place : ℕ) (S : SemiState) (cs : List Conf
     pub stands : Level cs index level
     pub upto : level ≤ n
 
-  module _ (expanded : (j n : ℕ) → j < length cs → IsExpanded game e place cs j n) where
+  module _ (expanded : (j n : ℕ) → j < length cs → IsFollowed game e place cs j n) where
     -- from one that was found one comes to one that was found, at most a level higher
     onward : (T : SemiState) (k : ℕ) (U : SemiState) (l n : ℕ) → IsFoundBy T k n → is_switch (action_at e 1 k) ≡ false → IsNextAt e (place_at place k) l → EffectAt game e 1 l T U → IsFoundBy U l (suc n)
     onward T k U l n f plain next step =

@@ -23,7 +23,7 @@ use Rattle.arrayvec.specs.ArrayVec.{ArrayVec}
 use Rattle.position_pack.specs.Bytes.{bytes_of}
 use Rattle.legal_moves.specs.Moves.{ShowsFrom}
 use Rattle.legal_moves.specs.Shown.{ends_in, shown_to, shown_of, moves_of}
-use Rattle.legal_moves.specs.Listed.{IsSuccessorBytes, ShownMove, IsShown, IsShownMove, IsShortestMove, AreMoves}
+use Rattle.legal_moves.specs.Listed.{IsSuccessorBytes, ShownMove, IsShownWord, IsShownMove, IsShortestMove, AreMoves}
 use Rattle.legal_moves.specs.Configurations.{packed_cmp, IsSearch, IsSeen}
 use Rattle.legal_moves.specs.declared.configuration.Configuration.{Configuration}
 use Rattle.legal_moves.proofs.Distinct.{distinct-le}
@@ -134,7 +134,7 @@ module _ (game : Game) (at : Position) (cs : List Configuration) (seen : BTreeMa
         shown_is = ap (λ x. x.shown) from.same;
       }
 
-  shown : (m : ShownMove) (h : HasEnd m) → IsShown game at m h.configuration.at (its_word game at.place at.state cs search h.place h.configuration h.is_at h.ends).word
+  shown : (m : ShownMove) (h : HasEnd m) → IsShownWord game at m h.configuration.at (its_word game at.place at.state cs search h.place h.configuration h.is_at h.ends).word
   shown m h = record {
     bytes_are = h.next_is;
     leads = is_move game at.place at.state cs search h.place h.configuration h.is_at h.ends at refl refl;

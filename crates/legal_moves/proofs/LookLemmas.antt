@@ -3,7 +3,7 @@ use Rattle.std.proofs.Common.{◌≡◌, ℕ, inl, inr, Bool, true, false, List,
 use Rattle.rbg_game.specs.declared.position.SemiState.{SemiState}
 use Rattle.legal_moves.specs.Words.{IsWord, CanFollow}
 use Rattle.legal_moves.specs.Effects.{Path, Leads, EffectAt}
-use Rattle.legal_moves.specs.Moves.{IsMove, IsEnded, start_of}
+use Rattle.legal_moves.specs.Moves.{IsMove, HasNoMove, start_of}
 use Rattle.legal_moves.specs.Glushkov.{IsFirst}
 use Rattle.legal_moves.specs.Look.{inner, look, after_look}
 use Rattle.legal_moves.proofs.Lists.{cons_end}
@@ -41,5 +41,5 @@ no_word (x ∷ w) T follows some leads =
     let one = first_is x (IsFirst-by_next (look false).rules x walk.0) in
     no_step leads.0 (subst (λ j. EffectAt (look false) (look false).rules 1 j (start_of (look false)).state leads.0) one leads.1)
 
-pub ended : IsEnded (look false) (start_of (look false))
+pub ended : HasNoMove (look false) (start_of (look false))
 ended next move = no_word move.0 next.state move.1.follows (move.1.ends.0, next.place, move.1.ends.1) move.1.leads

@@ -12,10 +12,10 @@ use Rattle.rbg_game.specs.declared.position.SemiState.{SemiState}
 use Rattle.legal_moves.specs.Plain.{IsPlain}
 use Rattle.legal_moves.specs.Effects.{Effect, EffectAt}
 use Rattle.legal_moves.specs.Glushkov.{IsNextAt, IsLast}
-use Rattle.legal_moves.specs.Marks.{IsMarked}
+use Rattle.legal_moves.specs.Marks.{IsMarkSet}
 use Rattle.legal_moves.specs.Relations.{row_of}
 use Rattle.legal_moves.specs.Searches.{IsWideFrom, IsLegal}
-use Rattle.legal_moves.specs.Tables.{is_pattern, switches, modifies, actions_of, IsStep, IsTable}
+use Rattle.legal_moves.specs.Tables.{is_pattern, switches, modifies, actions_of, IsStep, IsExpressionTable}
 use Rattle.legal_moves.specs.Configurations.{expressions_of, expression_at, IsReady, AsksTooMuch}
 use Rattle.rbg_game.specs.declared.rules.Action.{Action as ProgramAction}
 use Rattle.legal_moves.specs.declared.table.Step.{Step}
@@ -62,17 +62,17 @@ module _ (game : Game) (tables : List Table) (index : ℕ) (ready : IsReady game
   expression_there = get_within (expressions_of game) index (omega (arith, ready.within, ready.tables_are.as_many))
 
   module _ (table : Table) (table_at : slice_get tables index ≡ Some table) where
-    pub is_table : IsTable (take index (expressions_of game)) table (expression_at game index)
+    pub is_table : IsExpressionTable (take index (expressions_of game)) table (expression_at game index)
     is_table = ready.tables_are.each index table (expression_at game index) table_at expression_there
 
     pub count_steps : length table.steps.items ≡ count (expression_at game index)
     count_steps = length_steps _ table.steps.items (actions_of (expression_at game index)) is_table.steps_are ∙ length_actions (expression_at game index)
 
     -- a mark in a row
-    pub next_by_mark : (p k : ℕ) → IsMarked (row_of table.follows p) k → IsNextAt (expression_at game index) p k
+    pub next_by_mark : (p k : ℕ) → IsMarkSet (row_of table.follows p) k → IsNextAt (expression_at game index) p k
     next_by_mark p k h = (is_table.follows_is p k).0 h
 
-    pub mark_by_next : (p k : ℕ) → IsNextAt (expression_at game index) p k → IsMarked (row_of table.follows p) k
+    pub mark_by_next : (p k : ℕ) → IsNextAt (expression_at game index) p k → IsMarkSet (row_of table.follows p) k
     mark_by_next p k h = (is_table.follows_is p k).1 h
 
     pub contains_ends : (k : ℕ) → (Contains table.ends.last.items k → IsLast (expression_at game index) 1 k) × (IsLast (expression_at game index) 1 k → Contains table.ends.last.items k)

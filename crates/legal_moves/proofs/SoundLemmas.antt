@@ -7,7 +7,7 @@ use Rattle.std.proofs.lemmas.Int.{int_wrap_fits}
 use Rattle.std.proofs.Math.Nat.{mul-le-mul}
 use Rattle.rbg_game.proofs.ValueLemmas.{value_fits}
 use Rattle.legal_moves.specs.Machine.{wrapping_value_of}
-use Rattle.rbg_game.specs.Expressions.{Expression, number, variable, negation, sum, product, value_of, size_of, IsSmall, NamesBelow}
+use Rattle.rbg_game.specs.Expressions.{Expression, number, variable, negation, sum, product, value_of, size_of, HasSmallParts, NamesBelow}
 use Rattle.rbg_game.specs.Rules.{Regex, Action, shift, on, off, assignment, comparison, switch, pattern}
 use Rattle.rbg_game.specs.Games.{Game, Variable}
 use Rattle.rbg_game.specs.Sound.{bounds, IsSoundExpression, IsSoundAction}
@@ -25,7 +25,7 @@ module _ (values bounds : List ℕ) (below : (v : ℕ) → slice_index values v 
   size_below (sum a b) = omega (arith, size_below a, size_below b)
   size_below (product a b) = mul-le-mul (size_below a) (size_below b)
 
-  pub small_below : (e : Expression) → IsSmall bounds e → IsSmall values e
+  pub small_below : (e : Expression) → HasSmallParts bounds e → HasSmallParts values e
   small_below (number n) h = h
   small_below (variable v) h = omega (arith, below v, h)
   small_below (negation a) h = small_below a h
@@ -51,7 +51,7 @@ module _ (game : Game) (S : SemiState) (state : IsStateOf game S) where
     | inr past ↦ omega (arith, index_past S.values.items v past)
   ]
 
-  pub sound_here : (e : Expression) → IsSoundExpression game e → NamesBelow (length S.values.items) e × IsSmall S.values.items e
+  pub sound_here : (e : Expression) → IsSoundExpression game e → NamesBelow (length S.values.items) e × HasSmallParts S.values.items e
   sound_here e h = (
     subst (λ n. NamesBelow n e) (sym state.values_fit) h.0,
     small_below S.values.items (bounds game) values_below e h.1,
@@ -68,10 +68,10 @@ module _ (game : Game) (S : SemiState) (state : IsStateOf game S) where
 
 -- ---- no step of a small expression wraps around
 
-fits_machine : (values : List ℕ) (e : Expression) (z : ℤ) → IsSmall values e → z ≡ value_of values e → int_wrap w64 z ≡ value_of values e
+fits_machine : (values : List ℕ) (e : Expression) (z : ℤ) → HasSmallParts values e → z ≡ value_of values e → int_wrap w64 z ≡ value_of values e
 fits_machine values e z small same = ap (int_wrap w64) same ∙ int_wrap_fits w64 (value_of values e) (value_fits values e small)
 
-pub machine_value : (values : List ℕ) (e : Expression) → IsSmall values e → wrapping_value_of values e ≡ value_of values e
+pub machine_value : (values : List ℕ) (e : Expression) → HasSmallParts values e → wrapping_value_of values e ≡ value_of values e
 machine_value values (number n) h = fits_machine values (number n) _ h refl
 machine_value values (variable v) h = fits_machine values (variable v) _ h refl
 machine_value values (negation a) h = fits_machine values (negation a) _ h (ap neg_ℤ (machine_value values a h))

@@ -4,7 +4,7 @@ use Rattle.std.specs.List.{AllZip}
 use Rattle.rbg_game.specs.Rules.{Regex, one, empty, cat, alt, star, count, Action, pattern}
 use Rattle.legal_moves.specs.Glushkov.{is_nullable, IsFirst, IsLast, IsNext, IsNextAt}
 use Rattle.legal_moves.specs.Relations.{IsRelated}
-use Rattle.legal_moves.specs.Tables.{actions_of, inner_of, inner_in, first_of, last_of, IsStep, IsTable, AreTables, IsAdded}
+use Rattle.legal_moves.specs.Tables.{actions_of, inner_of, inner_in, first_of, last_of, IsStep, IsExpressionTable, AreTables, IsAdded}
 use Rattle.legal_moves.specs.declared.relation.Relation.{Relation}
 use Rattle.legal_moves.specs.declared.table.Step.{Step}
 use Rattle.legal_moves.specs.declared.table.Step.TheVariants.{Act, Ask}
@@ -25,16 +25,16 @@ steps_more es more = all_zip-weaker (IsStep es) (IsStep (es ++ more)) (IsStep-mo
 
 -- ---- tables
 
-pub AreTables-push : (es : List Regex) (e : Regex) (tables : List Table) (table : Table) → AreTables es tables → IsTable es table e → AreTables (es ++ e ∷ []) (tables ++ table ∷ [])
+pub AreTables-push : (es : List Regex) (e : Regex) (tables : List Table) (table : Table) → AreTables es tables → IsExpressionTable es table e → AreTables (es ++ e ∷ []) (tables ++ table ∷ [])
 AreTables-push es e tables table h new = record {
   as_many = omega (arith, h.as_many, length-append tables (table ∷ []), length-append es (e ∷ []));
   each = λ i t x at_t at_x. go i t x (slice_get-push tables table i t at_t) (slice_get-push es e i x at_x);
 }
   where
-    go : (i : ℕ) (t : Table) (x : Regex) → (slice_get tables i ≡ Some t) ⊎ (i ≡ length tables) × (t ≡ table) → (slice_get es i ≡ Some x) ⊎ (i ≡ length es) × (x ≡ e) → IsTable (take i (es ++ e ∷ [])) t x
+    go : (i : ℕ) (t : Table) (x : Regex) → (slice_get tables i ≡ Some t) ⊎ (i ≡ length tables) × (t ≡ table) → (slice_get es i ≡ Some x) ⊎ (i ≡ length es) × (x ≡ e) → IsExpressionTable (take i (es ++ e ∷ [])) t x
     go i t x (inl p) (inl q) =
         let within = slice_get-within es i x q in
-        subst (λ zs. IsTable zs t x) (sym (take-push es e i (omega arith))) (h.each i t x p q)
+        subst (λ zs. IsExpressionTable zs t x) (sym (take-push es e i (omega arith))) (h.each i t x p q)
     go i t x (inl p) (inr q) =
         let within = slice_get-within tables i t p in
         absurd (omega (arith, h.as_many, q.0))
@@ -42,8 +42,8 @@ AreTables-push es e tables table h new = record {
         let within = slice_get-within es i x q in
         absurd (omega (arith, h.as_many, p.0))
     go i t x (inr p) (inr q) =
-        subst (λ zs. IsTable zs t x) (sym (ap (λ k. take k (es ++ e ∷ [])) q.0 ∙ take-all es e))
-        (subst (λ z. IsTable es z x) (sym p.1) (subst (λ z. IsTable es table z) (sym q.1) new))
+        subst (λ zs. IsExpressionTable zs t x) (sym (ap (λ k. take k (es ++ e ∷ [])) q.0 ∙ take-all es e))
+        (subst (λ z. IsExpressionTable es z x) (sym p.1) (subst (λ z. IsExpressionTable es table z) (sym q.1) new))
 
 -- ---- one part behind another
 
@@ -220,8 +220,8 @@ IsAdded-one a tables0 tables1 draft0 D step E made pushed same f l = record {
 
 -- ---- a whole table
 
-pub IsTable-made : (es : List Regex) (e : Regex) (T T' : List Table) (draft0 D : Draft) (E : Ends) (table : Table) → AreTables es T → IsAdded e T T' draft0 D E → E.nullable ≡ is_nullable e → draft0.steps.items ≡ [] → ((i j : ℕ) → ¬ IsRelated draft0.follows i j) → table.steps ≡ D.steps → table.ends ≡ E → ((i j : ℕ) → IsRelated table.follows i j ↔ (IsRelated D.follows i j ⊎ Contains (0 ∷ []) i × Contains E.first.items j)) → IsTable (es ++ inner_of e) table e
-IsTable-made es e T T' draft0 D E table t h null none bare steps ends related = record {
+pub IsExpressionTable-made : (es : List Regex) (e : Regex) (T T' : List Table) (draft0 D : Draft) (E : Ends) (table : Table) → AreTables es T → IsAdded e T T' draft0 D E → E.nullable ≡ is_nullable e → draft0.steps.items ≡ [] → ((i j : ℕ) → ¬ IsRelated draft0.follows i j) → table.steps ≡ D.steps → table.ends ≡ E → ((i j : ℕ) → IsRelated table.follows i j ↔ (IsRelated D.follows i j ⊎ Contains (0 ∷ []) i × Contains E.first.items j)) → IsExpressionTable (es ++ inner_of e) table e
+IsExpressionTable-made es e T T' draft0 D E table t h null none bare steps ends related = record {
   steps_are = subst (λ ss. AllZip (IsStep (es ++ inner_of e)) ss.items (actions_of e)) (sym steps) (h.steps_are es [] t (subst (λ ss. AllZip (IsStep es) ss []) (sym none) tt));
   follows_is = λ i j. ((λ k. there i j ((related i j).0 k)), (λ k. (related i j).1 (back i j k)));
   ends_are = record {
@@ -268,6 +268,6 @@ asked es e positive index tables a is at made =
       (e, subst (λ zs. slice_get zs index ≡ Some e) whole found, refl),
     )
 
-pub AreTables-pushed : (es : List Regex) (e : Regex) (tables tables' : List Table) (table : Table) → AreTables es tables → IsTable es table e → tables' ≡ tables ++ table ∷ [] → AreTables (es ++ e ∷ []) tables'
+pub AreTables-pushed : (es : List Regex) (e : Regex) (tables tables' : List Table) (table : Table) → AreTables es tables → IsExpressionTable es table e → tables' ≡ tables ++ table ∷ [] → AreTables (es ++ e ∷ []) tables'
 AreTables-pushed es e tables tables' table h new same =
     subst (AreTables (es ++ e ∷ [])) (sym same) (AreTables-push es e tables table h new)

@@ -39,7 +39,7 @@ AsksTooMuch game e k S =
     (positive : Bool) × (inner : Regex) × (action_at e 1 k ≡ Some (pattern positive inner)) × IsWideFrom game inner 0 S
 
 -- the occurrence k leads from S to the configuration
-pub record LeadsTo (game : Game) (e : Regex) (k : ℕ) (S : SemiState) (c : Configuration) : Type 0 where
+pub record OccurrenceLeads (game : Game) (e : Regex) (k : ℕ) (S : SemiState) (c : Configuration) : Type 0 where
   pub place_is : c.at.place ≡ k
   pub step : EffectAt game e 1 k S c.at.state
   pub shows_is : c.shows ≡ is_modifier (action_at e 1 k)
@@ -52,7 +52,7 @@ pub record IsLinked (game : Game) (e : Regex) (place : ℕ) (cs : List Configura
   pub earlier : c.parent < i
   pub plain : is_switch (action_at e 1 before.at.place) ≡ false
   pub next : IsNextAt e (place_at place before.at.place) c.at.place
-  pub leads : LeadsTo game e c.at.place before.at.state c
+  pub leads : OccurrenceLeads game e c.at.place before.at.state c
 
 -- the configuration in which a search begins
 abbrev pub opening : SemiState → Configuration
@@ -78,9 +78,11 @@ IsMet cs j U k =
     (i : ℕ) × (c : Configuration) × (slice_get cs i ≡ Some c) × (c.at ≡ record { state = U; place = k }) × (c.parent ≤ j)
 
 -- all that the occurrences below n lead to from the configuration at j is found, and no search of a pattern is too wide
-pub record IsExpanded (game : Game) (e : Regex) (place : ℕ) (cs : List Configuration) (j n : ℕ) : Type 0 where
-  pub met : (c : Configuration) (k : ℕ) (U : SemiState) → slice_get cs j ≡ Some c → is_switch (action_at e 1 c.at.place) ≡ false → k < n → IsNextAt e (place_at place c.at.place) k → EffectAt game e 1 k c.at.state U → IsMet cs j U k
-  pub narrow : (c : Configuration) (k : ℕ) → slice_get cs j ≡ Some c → is_switch (action_at e 1 c.at.place) ≡ false → k < n → IsNextAt e (place_at place c.at.place) k → ¬ AsksTooMuch game e k c.at.state
+pub record IsFollowed (game : Game) (e : Regex) (place : ℕ) (cs : List Configuration) (j n : ℕ) : Type 0 where
+  pub met : (c : Configuration) (k : ℕ) (U : SemiState) → slice_get cs j ≡ Some c → is_switch (action_at e 1 c.at.place) ≡ false → k < n
+      → IsNextAt e (place_at place c.at.place) k → EffectAt game e 1 k c.at.state U → IsMet cs j U k
+  pub narrow : (c : Configuration) (k : ℕ) → slice_get cs j ≡ Some c → is_switch (action_at e 1 c.at.place) ≡ false → k < n
+      → IsNextAt e (place_at place c.at.place) k → ¬ AsksTooMuch game e k c.at.state
 
 -- the bytes in their order
 abbrev pub packed_cmp : ArrayVec ℕ → ArrayVec ℕ → Ordering
@@ -89,7 +91,8 @@ packed_cmp x y = slice_cmp nat_cmp x.items y.items
 -- the map has the index of each configuration at its bytes, and nothing else
 pub record IsSeen (cs : List Configuration) (seen : BTreeMap (ArrayVec ℕ) ℕ) : Type 0 where
   pub all : (i : ℕ) (c : Configuration) → slice_get cs i ≡ Some c → get packed_cmp seen (record { items = bytes_of c.at }) ≡ Some i
-  pub only : (x : ArrayVec ℕ) (i : ℕ) → get packed_cmp seen x ≡ Some i → (c : Configuration) × (slice_get cs i ≡ Some c) × (x.items ≡ bytes_of c.at)
+  pub only : (x : ArrayVec ℕ) (i : ℕ) → get packed_cmp seen x ≡ Some i → (c : Configuration) × (slice_get cs i ≡ Some c)
+      × (x.items ≡ bytes_of c.at)
   pub ordered : IsOrdered packed_cmp seen
 
 -- none has the same bytes
@@ -106,4 +109,4 @@ IsGrown cs c cs' =
 -- a whole search
 pub record IsSearch (game : Game) (e : Regex) (place : ℕ) (S : SemiState) (cs : List Configuration) : Type 0 where
   pub found : AreFound game e place S cs
-  pub expanded : (j n : ℕ) → j < length cs → IsExpanded game e place cs j n
+  pub expanded : (j n : ℕ) → j < length cs → IsFollowed game e place cs j n

@@ -14,7 +14,8 @@ one_more = one (assignment 2 (sum (variable 2) (number 1)))
 abbrev pub counting : ℕ → Game
 counting bound = record {
   pieces = codes "e" ∷ [];
-  variables = record { name = codes "white"; bound = 1 } ∷ record { name = codes "black"; bound = 1 } ∷ record { name = codes "n"; bound = bound } ∷ [];
+  variables = record { name = codes "white"; bound = 1 } ∷ record { name = codes "black"; bound = 1 } ∷ record
+      { name = codes "n"; bound = bound } ∷ [];
   labels = [];
   vertices = record { name = codes "v"; piece = 0; arrows = [] } ∷ [];
   rules = cat (star one_more) (one (switch (Player First)));

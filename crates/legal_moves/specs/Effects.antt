@@ -1,5 +1,6 @@
 -- What actions do to a semi-state, and where words lead.
-use Rattle.std.specs.Prelude.{◌≡◌, ◌≢◌, ℕ, ◌+◌, ◌≤◌, ◌⊎◌, List, [], ◌∷◌, Some, Contains, MatchBool, ℤ, pos, ◌<ℤ◌, ◌≤ℤ◌, slice_index, slice_set}
+use Rattle.std.specs.Prelude.{◌≡◌, ◌≢◌, ℕ, ◌+◌, ◌≤◌, ◌⊎◌, List, [], ◌∷◌, Some, Contains, MatchBool, ℤ, pos, ◌<ℤ◌, ◌≤ℤ◌, slice_index}
+use Rattle.std.specs.Prelude.{slice_set}
 use Rattle.rbg_game.specs.Expressions.{value_of}
 use Rattle.rbg_game.specs.Rules.{Regex, one, empty, cat, alt, star, count, Action, shift, on, off, assignment, comparison, switch, pattern}
 use Rattle.rbg_game.specs.Games.{Game, neighbour, bound_of}
@@ -32,7 +33,8 @@ module _ (game : Game) where
     Effect (off x) S T =
         T ≡ record S { pieces = record { items = slice_set S.pieces.items S.vertex x } }
     Effect (assignment v r) S T =
-        (n : ℕ) × (value_of S.values.items r ≡ pos n) × (n ≤ bound_of game v) × (T ≡ record S { values = record { items = slice_set S.values.items v n } })
+        (n : ℕ) × (value_of S.values.items r ≡ pos n) × (n ≤ bound_of game v)
+        × (T ≡ record S { values = record { items = slice_set S.values.items v n } })
     Effect (comparison a op b) S T =
         (T ≡ S) × Compares op (value_of S.values.items a) (value_of S.values.items b)
     Effect (switch role) S T = T ≡ record S { mover = role }

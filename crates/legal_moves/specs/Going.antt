@@ -4,7 +4,7 @@ use Rattle.rbg_game.specs.Rules.{Regex}
 use Rattle.rbg_game.specs.Games.{Game}
 use Rattle.rbg_game.specs.declared.roles.Role.TheVariants.{Keeper}
 use Rattle.rbg_game.specs.declared.position.SemiState.{SemiState}
-use Rattle.legal_moves.specs.Configurations.{AreFound, IsExpanded, IsSeen}
+use Rattle.legal_moves.specs.Configurations.{AreFound, IsFollowed, IsSeen}
 use Rattle.legal_moves.specs.declared.configuration.Configuration.{Configuration}
 use Rattle.legal_moves.specs.declared.found.Found.{Found}
 
@@ -23,5 +23,5 @@ pub record IsGoing (game : Game) (e : Regex) (place : ℕ) (S : SemiState) (foun
   pub found_are : AreFound game e place S found.configurations.items
   pub seen_is : IsSeen found.configurations.items found.seen
   pub parents_are : (i : ℕ) (c : Configuration) → slice_get found.configurations.items i ≡ Some c → c.parent ≤ at
-  pub expanded : (j n : ℕ) → j < at → IsExpanded game e place found.configurations.items j n
+  pub expanded : (j n : ℕ) → j < at → IsFollowed game e place found.configurations.items j n
   pub within : at ≤ length found.configurations.items

@@ -24,18 +24,18 @@ pub record ShownMove : Type 0 where
   pub shown : List (ℕ × ℕ)
 
 -- w is a word to the successor, and its modifiers are shown
-pub record IsShown (game : Game) (at : Position) (move : ShownMove) (next : Position) (w : List ℕ) : Type 0 where
+pub record IsShownWord (game : Game) (at : Position) (move : ShownMove) (next : Position) (w : List ℕ) : Type 0 where
   pub bytes_are : move.next ≡ bytes_of next
   pub leads : IsMove game at w next
   pub shows : ShowsFrom game w at.state next.state move.shown
 
 abbrev pub IsShownMove : Game → Position → ShownMove → Type 0
-IsShownMove game at move = (next : Position) × (w : List ℕ) × IsShown game at move next w
+IsShownMove game at move = (next : Position) × (w : List ℕ) × IsShownWord game at move next w
 
 -- the word that is shown is a shortest one
 abbrev pub IsShortestMove : Game → Position → ShownMove → Type 0
 IsShortestMove game at move =
-    (next : Position) × (w : List ℕ) × IsShown game at move next w × IsShortest game at w next
+    (next : Position) × (w : List ℕ) × IsShownWord game at move next w × IsShortest game at w next
 
 -- all moves of a position: each successor once, ascending, each with a word
 pub record AreMoves (game : Game) (at : Position) (moves : List ShownMove) : Type 0 where

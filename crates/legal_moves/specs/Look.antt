@@ -15,7 +15,8 @@ look positive = record {
   pieces = codes "e" ∷ codes "x" ∷ [];
   variables = record { name = codes "white"; bound = 1 } ∷ record { name = codes "black"; bound = 1 } ∷ [];
   labels = codes "right" ∷ [];
-  vertices = record { name = codes "a"; piece = 0; arrows = record { label = 0; to = 1 } ∷ [] } ∷ record { name = codes "b"; piece = 0; arrows = [] } ∷ [];
+  vertices = record { name = codes "a"; piece = 0; arrows = record { label = 0; to = 1 } ∷ [] } ∷ record
+      { name = codes "b"; piece = 0; arrows = [] } ∷ [];
   rules = cat (one (pattern positive inner)) (one (switch (Player First)));
 }
 

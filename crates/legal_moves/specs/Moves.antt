@@ -24,8 +24,8 @@ pub record IsMove (game : Game) (at : Position) (w : List ℕ) (next : Position)
 abbrev pub IsSuccessor : Game → Position → Position → Type 0
 IsSuccessor game at next = (w : List ℕ) × IsMove game at w next
 
-abbrev pub IsEnded : Game → Position → Type 0
-IsEnded game at = (next : Position) → ¬ IsSuccessor game at next
+abbrev pub HasNoMove : Game → Position → Type 0
+HasNoMove game at = (next : Position) → ¬ IsSuccessor game at next
 
 -- the keeper to move, all values 0, the pieces of the board, the first vertex, place 0
 abbrev pub start_of : Game → Position
@@ -63,4 +63,5 @@ IsShortest game at w next = (other : List ℕ) → IsMove game at other next →
 abbrev pub ShowsFrom : Game → List ℕ → SemiState → SemiState → List (ℕ × ℕ) → Type 0
 ShowsFrom game [] S T shown = (T ≡ S) × (shown ≡ [])
 ShowsFrom game (k ∷ w) S T shown =
-    (U : SemiState) × (rest : List (ℕ × ℕ)) × EffectAt game game.rules 1 k S U × ShowsFrom game w U T rest × (shown ≡ (if is_modifier (action_at game.rules 1 k) then (k, S.vertex) ∷ rest else rest))
+    (U : SemiState) × (rest : List (ℕ × ℕ)) × EffectAt game game.rules 1 k S U × ShowsFrom game w U T rest
+    × (shown ≡ (if is_modifier (action_at game.rules 1 k) then (k, S.vertex) ∷ rest else rest))

@@ -1,5 +1,6 @@
 -- What is shown of the configurations at which a search for moves ended.
-use Rattle.std.specs.Prelude.{◌≡◌, ℕ, zero, suc, ◌≤◌, Bool, false, List, [], ◌∷◌, ◌++◌, Some, slice_get, option_map, unwrap_or, if◌then◌else◌}
+use Rattle.std.specs.Prelude.{◌≡◌, ℕ, zero, suc, ◌≤◌, Bool, false, List, [], ◌∷◌, ◌++◌, Some, slice_get, option_map, unwrap_or}
+use Rattle.std.specs.Prelude.{if◌then◌else◌}
 use Rattle.arrayvec.specs.ArrayVec.{ArrayVec}
 use Rattle.legal_moves.specs.Listed.{ShownMove}
 use Rattle.legal_moves.specs.declared.configuration.Configuration.{Configuration}
@@ -18,7 +19,8 @@ abbrev pub shown_to : List Configuration → ℕ → ℕ → List (ℕ × ℕ)
 shown_to cs zero i = []
 shown_to cs (suc n) zero = []
 shown_to cs (suc n) (suc i) =
-    unwrap_or (option_map (λ c. shown_to cs n c.parent ++ (if c.shows then (c.at.place, vertex_at cs c.parent) ∷ [] else [])) (slice_get cs (suc i))) []
+    unwrap_or (option_map (λ c. shown_to cs n c.parent ++ (if c.shows then (c.at.place, vertex_at cs c.parent) ∷ [] else []))
+    (slice_get cs (suc i))) []
 
 -- what is shown of a successor
 abbrev pub shown_of : List Configuration → Successor → ShownMove

@@ -1,5 +1,6 @@
 -- Expressions as tables.
-use Rattle.std.specs.Prelude.{◌≡◌, ℕ, suc, ◌+◌, ◌⊎◌, ◌↔◌, Bool, true, false, List, [], ◌∷◌, ◌++◌, length, take, Some, slice_get, if◌then◌else◌}
+use Rattle.std.specs.Prelude.{◌≡◌, ℕ, suc, ◌+◌, ◌⊎◌, ◌↔◌, Bool, true, false, List, [], ◌∷◌, ◌++◌, length, take, Some, slice_get}
+use Rattle.std.specs.Prelude.{if◌then◌else◌}
 use Rattle.std.specs.List.{AllZip}
 use Rattle.rbg_game.specs.Rules.{Regex, one, empty, cat, alt, star, count, Action, pattern, is_switch, is_modifier}
 use Rattle.rbg_game.specs.Meaning.{action_of}
@@ -76,7 +77,7 @@ pub record IsEnds (ends : Ends) (e : Regex) (n : ℕ) : Type 0 where
   pub last_is : ends.last.items ≡ last_of e n
 
 -- the table of an expression; those of its patterns are among es
-pub record IsTable (es : List Regex) (table : Table) (e : Regex) : Type 0 where
+pub record IsExpressionTable (es : List Regex) (table : Table) (e : Regex) : Type 0 where
   pub steps_are : AllZip (IsStep es) table.steps.items (actions_of e)
   pub follows_is : (i j : ℕ) → IsRelated table.follows i j ↔ IsNextAt e i j
   pub ends_are : IsEnds table.ends e 1
@@ -85,12 +86,14 @@ pub record IsTable (es : List Regex) (table : Table) (e : Regex) : Type 0 where
 -- a table for each expression, which asks about earlier ones alone
 pub record AreTables (es : List Regex) (tables : List Table) : Type 0 where
   pub as_many : length tables ≡ length es
-  pub each : (i : ℕ) (table : Table) (e : Regex) → slice_get tables i ≡ Some table → slice_get es i ≡ Some e → IsTable (take i es) table e
+  pub each : (i : ℕ) (table : Table) (e : Regex) → slice_get tables i ≡ Some table → slice_get es i ≡ Some e
+      → IsExpressionTable (take i es) table e
 
 -- the expression is added to a draft, and the tables of its patterns to the tables
 pub record IsAdded (e : Regex) (tables tables' : List Table) (draft draft' : Draft) (ends : Ends) : Type 0 where
   pub tables_are : (es : List Regex) → AreTables es tables → AreTables (es ++ inner_of e) tables'
-  pub steps_are : (es : List Regex) (actions : List Action) → AreTables es tables → AllZip (IsStep es) draft.steps.items actions → AllZip (IsStep (es ++ inner_of e)) draft'.steps.items (actions ++ actions_of e)
+  pub steps_are : (es : List Regex) (actions : List Action) → AreTables es tables → AllZip (IsStep es) draft.steps.items actions
+      → AllZip (IsStep (es ++ inner_of e)) draft'.steps.items (actions ++ actions_of e)
   pub count_is : length draft'.steps.items ≡ length draft.steps.items + count e
   pub follows_is : (i j : ℕ) → IsRelated draft'.follows i j ↔ (IsRelated draft.follows i j ⊎ IsNext e (suc (length draft.steps.items)) i j)
   pub ends_are : IsEnds ends e (suc (length draft.steps.items))

@@ -78,7 +78,8 @@ fn add_parts(
     draft: &mut Draft,
     parts: &[Rules],
 ) -> Result<Ends, AllocError>
-    ensures added { IfOk result (λ ends. IsAdded (cat_all (map regex_of parts.now)) tables.old.items tables.new.items draft.old draft.new ends) }
+    ensures added { IfOk result (λ ends. IsAdded (cat_all
+        (map regex_of parts.now)) tables.old.items tables.new.items draft.old draft.new ends) }
     ensures nullable { IfOk result (λ ends. ends.nullable ≡ is_nullable (cat_all (map regex_of parts.now))) }
 {
     let mut ends = Ends::none(alloc, true);
@@ -98,7 +99,8 @@ fn add_branches(
     draft: &mut Draft,
     branches: &[Rules],
 ) -> Result<Ends, AllocError>
-    ensures added { IfOk result (λ ends. IsAdded (alt_all (map regex_of branches.now)) tables.old.items tables.new.items draft.old draft.new ends) }
+    ensures added { IfOk result (λ ends. IsAdded (alt_all
+        (map regex_of branches.now)) tables.old.items tables.new.items draft.old draft.new ends) }
     ensures nullable { IfOk result (λ ends. ends.nullable ≡ is_nullable (alt_all (map regex_of branches.now))) }
 {
     let mut ends = Ends::none(alloc, branches.is_empty());

@@ -47,7 +47,8 @@ impl Found {
         requires { IsSeen self.old.configurations.items self.old.seen }
         ensures seen { OnOk result (IsSeen self.new.configurations.items self.new.seen) }
         ensures grown { OnOk result (IsGrown self.old.configurations.items configuration self.new.configurations.items) }
-        ensures wide { result ≡ Err MoveFault.TooWide → 65536 ≤ length self.old.configurations.items × IsNew self.old.configurations.items configuration }
+        ensures wide { result ≡ Err MoveFault.TooWide → 65536 ≤ length self.old.configurations.items
+            × IsNew self.old.configurations.items configuration }
     {
         let key = packing.pack(&configuration.at);
         if self.seen.contains_key(&key) {

@@ -1,5 +1,6 @@
 //! Laws of the definitions, for readers: each function's contract is one.
-ghost use Rattle.legal_moves.specs.Laws.{BytesAreOfOnePosition, BytesSayMoverAndLeader, FollowsByWalks, MovesAreSearched, SoundActionsArePlain, SoundExpressionsAreSmall, SuccessorsArePositions, ValuesFitTheMachine};
+ghost use Rattle.legal_moves.specs.Laws.{BytesAreOfOnePosition, BytesSayMoverAndLeader, EndsAgree, FollowsByWalks, MovesAreSearched, PlaysAgree};
+ghost use Rattle.legal_moves.specs.Laws.{SoundActionsArePlain, SoundExpressionsAreSmall, SuccessorsArePositions, ValuesFitTheMachine};
 ghost use Rattle.legal_moves.specs.Moves.{IsSuccessor, start_of};
 ghost use Rattle.rbg_game.specs.Take.{take};
 ghost use Rattle.legal_moves.specs.Take.{after_first_move};
@@ -32,6 +33,12 @@ pub fn successors_are_positions()
 pub fn bytes_say()
     ensures mover_and_leader { BytesSayMoverAndLeader }
     ensures one_position { BytesAreOfOnePosition }
+{}
+
+/// What is said of positions and what is said of their bytes as a graph is the same: where a play ends, and where plays come to.
+pub fn graph_is_the_game()
+    ensures ends { EndsAgree }
+    ensures plays { PlaysAgree }
 {}
 
 /// The start of the small game has one successor.

@@ -1,12 +1,12 @@
 //! Rows of marks.
 ghost use Rattle.std.specs.Prelude.{◌≡◌, ℕ, ◌⊎◌, ◌↔◌, OnOk};
-ghost use Rattle.legal_moves.specs.Marks.{IsMarked};
+ghost use Rattle.legal_moves.specs.Marks.{IsMarkSet};
 
 use std::alloc::AllocError;
 
 /// Marks one place of a row, which grows to have it.
 pub fn mark(row: &mut Vec<bool>, at: usize) -> Result<(), AllocError>
-    ensures { OnOk result ((j : ℕ) → IsMarked row.new.items j ↔ (IsMarked row.old.items j ⊎ (j ≡ at))) }
+    ensures { OnOk result ((j : ℕ) → IsMarkSet row.new.items j ↔ (IsMarkSet row.old.items j ⊎ (j ≡ at))) }
 {
     while row.len() <= at {
         row.push(false)?;

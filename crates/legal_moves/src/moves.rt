@@ -35,7 +35,8 @@ impl Model for Moves {
 
     ghost view = { λ m. map (shown_of m.configurations.items) m.successors.items };
 
-    ghost invariant = { λ m. ComeFromBefore m.configurations.items × All (λ s. s.index < length m.configurations.items) m.successors.items };
+    ghost invariant = { λ m. ComeFromBefore m.configurations.items
+        × All (λ s. s.index < length m.configurations.items) m.successors.items };
 }
 
 impl Moves {

@@ -57,7 +57,8 @@ impl Relation {
         lefts: &[usize],
         rights: &[usize],
     ) -> Result<(), AllocError>
-        ensures { OnOk result ((i j : ℕ) → IsRelated self.new i j ↔ (IsRelated self.old i j ⊎ Contains lefts.now i × Contains rights.now j)) }
+        ensures { OnOk result ((i j : ℕ) → IsRelated self.new i j
+            ↔ (IsRelated self.old i j ⊎ Contains lefts.now i × Contains rights.now j)) }
     {
         for left in lefts {
             self.relate_each(alloc, *left, rights)?;

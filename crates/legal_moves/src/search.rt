@@ -10,7 +10,7 @@ ghost use Rattle.rbg_game.specs.Positions.{IsStateOf};
 ghost use Rattle.rbg_game.specs.declared.position.SemiState.{SemiState};
 ghost use Rattle.legal_moves.specs.Effects.{EffectAt};
 ghost use Rattle.legal_moves.specs.Searches.{IsWideFrom, IsLegal};
-ghost use Rattle.legal_moves.specs.Configurations.{expression_at, IsReady, AsksTooMuch, LeadsTo, IsSeen, IsSearch};
+ghost use Rattle.legal_moves.specs.Configurations.{expression_at, IsReady, AsksTooMuch, OccurrenceLeads, IsSeen, IsSearch};
 ghost use Rattle.legal_moves.specs.Going.{began, IsGoing};
 
 use crate::configuration::Configuration;
@@ -39,9 +39,11 @@ impl Searcher<'_> {
     pub fn search(&self, index: usize, place: u16, state: SemiState) -> Result<Found, MoveFault>
         requires ready { IsReady (game_of self.now.game.now) self.now.tables.now index }
         requires state { IsStateOf (game_of self.now.game.now) state }
-        ensures found { let game = game_of self.now.game.now in let e = expression_at game index in IfOk result (λ f. IsSearch game e place state f.configurations.items) }
+        ensures found { let game = game_of self.now.game.now in let e = expression_at game index in IfOk result
+            (λ f. IsSearch game e place state f.configurations.items) }
         ensures seen { IfOk result (λ f. IsSeen f.configurations.items f.seen) }
-        ensures wide { let game = game_of self.now.game.now in let e = expression_at game index in result ≡ Err MoveFault.TooWide → IsWideFrom game e place state }
+        ensures wide { let game = game_of self.now.game.now in let e = expression_at game index in result ≡ Err MoveFault.TooWide
+            → IsWideFrom game e place state }
     {
         let mut found = Found::begun(self.alloc, self.packing, state)?;
         let mut at = 0;
@@ -63,9 +65,12 @@ impl Searcher<'_> {
     ) -> Result<(), MoveFault>
         requires ready { IsReady (game_of self.now.game.now) self.now.tables.now index }
         requires at { at < length found.old.configurations.items }
-        requires going { let game = game_of self.now.game.now in let e = expression_at game index in IsGoing game e place (began found.old.configurations.items) found.old at }
-        ensures going { let game = game_of self.now.game.now in let e = expression_at game index in OnOk result (IsGoing game e place (began found.old.configurations.items) found.new (at + 1)) }
-        ensures wide { let game = game_of self.now.game.now in let e = expression_at game index in result ≡ Err MoveFault.TooWide → IsWideFrom game e place (began found.old.configurations.items) }
+        requires going { let game = game_of self.now.game.now in let e = expression_at game index in IsGoing game e place
+            (began found.old.configurations.items) found.old at }
+        ensures going { let game = game_of self.now.game.now in let e = expression_at game index in OnOk result
+            (IsGoing game e place (began found.old.configurations.items) found.new (at + 1)) }
+        ensures wide { let game = game_of self.now.game.now in let e = expression_at game index in result ≡ Err MoveFault.TooWide
+            → IsWideFrom game e place (began found.old.configurations.items) }
     {
         let before = &found.configurations[at];
         if before.ends {
@@ -104,10 +109,14 @@ impl Searcher<'_> {
         requires state { IsStateOf (game_of self.now.game.now) state.now }
         requires from { 1 ≤ number }
         requires upto { number ≤ count (expression_at (game_of self.now.game.now) index) }
-        ensures some { let game = game_of self.now.game.now in let e = expression_at game index in IfOk result (λ o. IfSome o (λ c. LeadsTo game e number state.now c × (c.parent ≡ parent))) }
-        ensures none { let game = game_of self.now.game.now in let e = expression_at game index in IfOk result (λ o. IfNone o ((U : SemiState) → ¬ EffectAt game e 1 number state.now U)) }
-        ensures narrow { let game = game_of self.now.game.now in let e = expression_at game index in IsOk result → ¬ AsksTooMuch game e number state.now }
-        ensures wide { let game = game_of self.now.game.now in let e = expression_at game index in result ≡ Err MoveFault.TooWide → AsksTooMuch game e number state.now }
+        ensures some { let game = game_of self.now.game.now in let e = expression_at game index in IfOk result
+            (λ o. IfSome o (λ c. OccurrenceLeads game e number state.now c × (c.parent ≡ parent))) }
+        ensures none { let game = game_of self.now.game.now in let e = expression_at game index in IfOk result
+            (λ o. IfNone o ((U : SemiState) → ¬ EffectAt game e 1 number state.now U)) }
+        ensures narrow { let game = game_of self.now.game.now in let e = expression_at game index in IsOk result
+            → ¬ AsksTooMuch game e number state.now }
+        ensures wide { let game = game_of self.now.game.now in let e = expression_at game index in result ≡ Err MoveFault.TooWide
+            → AsksTooMuch game e number state.now }
     {
         let mut state = copied_state(state)?;
         if !self.passes(index, number, &mut state)? {
@@ -132,10 +141,14 @@ impl Searcher<'_> {
         requires state { IsStateOf (game_of self.now.game.now) state.old }
         requires from { 1 ≤ number }
         requires upto { number ≤ count (expression_at (game_of self.now.game.now) index) }
-        ensures valid { let game = game_of self.now.game.now in let e = expression_at game index in IfOk result (λ b. OnTrue b (EffectAt game e 1 number state.old state.new)) }
-        ensures refused { let game = game_of self.now.game.now in let e = expression_at game index in IfOk result (λ b. OnFalse b ((U : SemiState) → ¬ EffectAt game e 1 number state.old U)) }
-        ensures narrow { let game = game_of self.now.game.now in let e = expression_at game index in IsOk result → ¬ AsksTooMuch game e number state.old }
-        ensures wide { let game = game_of self.now.game.now in let e = expression_at game index in result ≡ Err MoveFault.TooWide → AsksTooMuch game e number state.old }
+        ensures valid { let game = game_of self.now.game.now in let e = expression_at game index in IfOk result
+            (λ b. OnTrue b (EffectAt game e 1 number state.old state.new)) }
+        ensures refused { let game = game_of self.now.game.now in let e = expression_at game index in IfOk result
+            (λ b. OnFalse b ((U : SemiState) → ¬ EffectAt game e 1 number state.old U)) }
+        ensures narrow { let game = game_of self.now.game.now in let e = expression_at game index in IsOk result
+            → ¬ AsksTooMuch game e number state.old }
+        ensures wide { let game = game_of self.now.game.now in let e = expression_at game index in result ≡ Err MoveFault.TooWide
+            → AsksTooMuch game e number state.old }
     {
         match self.tables[index].step(number) {
             Step::Act(action) => Ok(act(self.game, action, state)),
@@ -152,9 +165,12 @@ impl Searcher<'_> {
         requires ready { IsReady (game_of self.now.game.now) self.now.tables.now index }
         requires state { IsStateOf (game_of self.now.game.now) state.now }
         requires lacks { LacksSwitch (expression_at (game_of self.now.game.now) index) }
-        ensures answer { let game = game_of self.now.game.now in let e = expression_at game index in IfOk result (λ b. MatchBool b (IsLegal game e state.now) (¬ IsLegal game e state.now)) }
-        ensures narrow { let game = game_of self.now.game.now in let e = expression_at game index in IsOk result → ¬ IsWideFrom game e 0 state.now }
-        ensures wide { let game = game_of self.now.game.now in let e = expression_at game index in result ≡ Err MoveFault.TooWide → IsWideFrom game e 0 state.now }
+        ensures answer { let game = game_of self.now.game.now in let e = expression_at game index in IfOk result
+            (λ b. MatchBool b (IsLegal game e state.now) (¬ IsLegal game e state.now)) }
+        ensures narrow { let game = game_of self.now.game.now in let e = expression_at game index in IsOk result
+            → ¬ IsWideFrom game e 0 state.now }
+        ensures wide { let game = game_of self.now.game.now in let e = expression_at game index in result ≡ Err MoveFault.TooWide
+            → IsWideFrom game e 0 state.now }
     {
         let found = self.search(index, 0, copied_state(state)?)?;
         let ends = &self.tables[index].ends;

@@ -39,7 +39,8 @@ pub trait MoveSource: GameGraph {
     /// other error come.
     fn successors(&self, alloc: Global, at: &Packed) -> Result<Vec<Packed>, MoveFault>
         requires { is_sound self.now }
-        ensures exact { IfOk result (λ found. ListsExactly ((Self.graph self.now).Successor at.now.items) (map (λ p. p.items) found.items)) }
+        ensures exact { IfOk result (λ found. ListsExactly ((Self.graph self.now).Successor at.now.items) (map
+            (λ p. p.items) found.items)) }
         ensures few { IfOk result (λ found. vec_len found ≤ 65536) }
         ensures wide { result ≡ Err MoveFault.TooWide → Self.is_wide self.now at.now.items }
         ensures narrow { IsOk result → ¬ Self.is_wide self.now at.now.items };
@@ -48,5 +49,6 @@ pub trait MoveSource: GameGraph {
     ghost start_is_position: { (s : Self) → is_sound s → is_position s (Self.graph s).start };
 
     /// Moves lead from positions to positions.
-    ghost moves_are_between_positions: { (s : Self) (x y : List ℕ) → is_sound s → (Self.graph s).Successor x y → is_position s x × is_position s y };
+    ghost moves_are_between_positions: { (s : Self) (x y : List ℕ) → is_sound s → (Self.graph s).Successor x y → is_position s x
+        × is_position s y };
 }

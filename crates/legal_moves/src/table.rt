@@ -76,8 +76,10 @@ impl Ends {
     /// Those of words with words of the next behind.
     pub fn then(self, next: Ends) -> Result<Ends, AllocError>
         ensures nullable { IfOk result (λ ends. ends.nullable ≡ self.nullable && next.nullable) }
-        ensures first { IfOk result (λ ends. ends.first.items ≡ (if self.nullable then self.first.items ++ next.first.items else self.first.items)) }
-        ensures last { IfOk result (λ ends. ends.last.items ≡ (if next.nullable then self.last.items ++ next.last.items else next.last.items)) }
+        ensures first { IfOk result (λ ends. ends.first.items ≡
+            (if self.nullable then self.first.items ++ next.first.items else self.first.items)) }
+        ensures last { IfOk result (λ ends. ends.last.items ≡
+            (if next.nullable then self.last.items ++ next.last.items else next.last.items)) }
     {
         let Ends {
             nullable,

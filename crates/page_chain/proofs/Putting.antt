@@ -8,11 +8,11 @@ use Rattle.std.specs.Prelude.{slice_get, slice_index}
 use Rattle.sector_disk.specs.Moments.{still_honest}
 use Rattle.page_store.specs.declared.fault.PageFault.{PageFault}
 use Rattle.page_store.specs.declared.fault.PageFault.TheVariants.{Disk, NotATable, Damaged, TableFull, OutOfMemory, Closed}
-use Rattle.page_store.specs.Causes.{WriteCause as PageCause}
-use Rattle.page_store.specs.Store.{Store, reads, Works}
+use Rattle.page_store.specs.Causes.{PageWriteCause as PageCause}
+use Rattle.page_store.specs.Store.{Store, reads, StoreWorks}
 use Rattle.page_store.specs.Works.{works_refl, works_then}
 use Rattle.page_chain.specs.Chain.{next_in, LeadsThrough, payloads, first_of}
-use Rattle.page_chain.specs.Causes.{PutCause}
+use Rattle.page_chain.specs.Causes.{ChainPutCause}
 use Rattle.page_chain.specs.Links.{IsOnce}
 use Rattle.page_chain.specs.Resting.{payloads_same}
 use Rattle.page_chain.proofs.Linking.{LeadsTo, leads_more, leads_end, leads_to_same, payloads_more, got_before}
@@ -44,7 +44,7 @@ cut_more content xs ys n long within before full is =
 
 -- the pages before this place are written
 pub record IsPut (old now : Store) (pages content : List ℕ) (place : ℕ) : Type 0 where
-  pub works : Works old now
+  pub works : StoreWorks old now
   pub marks : now.marks ≡ old.marks
   pub closed : now.closed ≡ old.closed
   pub gone : 1 ≤ place → now.closed ≡ false
@@ -77,7 +77,7 @@ module _ (old mid new : Store) (pages content bytes part : List ℕ) (place : �
     (part_is : part ≡ take 4092 (drop (4092 * place) content)) (filled_with : take (length part) (drop 4 bytes) ≡ part)
     (written : IsTrue mid.disk.honest → reads new (slice_index pages place) ≡ bytes)
     (others : IsTrue mid.disk.honest → (p : ℕ) → (p ≡ slice_index pages place → ⊥) → reads new p ≡ reads mid p)
-    (marks : new.marks ≡ mid.marks) (gone : new.closed ≡ false) (works : Works mid new) where
+    (marks : new.marks ≡ mid.marks) (gone : new.closed ≡ false) (works : StoreWorks mid new) where
   is_here : IsTrue old.disk.honest → reads new (slice_index pages place) ≡ bytes
   is_here honest = written (still_honest put.works.goes_on honest)
 
@@ -135,7 +135,7 @@ all_hold {old} {now} {pages} {content} place put end honest =
     ∙ ap (λ (m : ℕ). take (4092 * m) content) end
 
 -- why a page is not written is why the chain is not
-pub put_cause : {old mid : Store} {pages content : List ℕ} {place : ℕ} (new : Store) (fault : PageFault) → IsPut old mid pages content place → PageCause mid new fault → PutCause old new fault
+pub put_cause : {old mid : Store} {pages content : List ℕ} {place : ℕ} (new : Store) (fault : PageFault) → IsPut old mid pages content place → PageCause mid new fault → ChainPutCause old new fault
 put_cause new Disk put (inl grew, closed) = (inl (omega (arith, grew, put.works.failures)), closed)
 put_cause new Disk put (inr most, closed) = (inr most, closed)
 put_cause new NotATable put never = never

@@ -12,11 +12,11 @@ use Rattle.page_store.specs.declared.marks.Mark.{Mark}
 use Rattle.page_store.specs.declared.marks.Mark.TheVariants.{Committed, Waiting}
 use Rattle.page_store.specs.Marks.{mark, IsMarked}
 use Rattle.page_store.specs.Page.{page}
-use Rattle.page_store.specs.Store.{Store, reads, Works}
+use Rattle.page_store.specs.Store.{Store, reads, StoreWorks}
 use Rattle.page_store.specs.Works.{works_refl, works_then}
 use Rattle.page_chain.specs.Chain.{next_in, LeadsThrough, payloads, IsChain}
-use Rattle.page_chain.specs.Causes.{AreWaiting, ReadCause, LinkCause}
-use Rattle.page_chain.specs.Links.{IsOnce, OnlyMarks, IsLinked}
+use Rattle.page_chain.specs.Causes.{AreWaiting, ChainReadCause, LinkCause}
+use Rattle.page_chain.specs.Links.{IsOnce, OnlyMarks, IsJoined}
 use Rattle.page_chain.proofs.Linking.{LeadsTo, leads_more, leads_end, payloads_more, once_more, none_once, none_contained, contains_before, contains_last, same_way, got_seam, got_before, contains_got}
 
 pub only_marks_refl : (store : Store) → OnlyMarks store store
@@ -53,7 +53,7 @@ pub leaves_same : (old mid new : DiskStated) → mid ≡ old → (IsTrue mid.hon
 leaves_same old mid new same leaves honest = subst (λ (d : DiskStated). LeavesOnly d new (MayLeave d.now)) same (leaves (subst (λ (d : DiskStated). IsTrue d.honest) (sym same) honest))
 
 -- one page is marked, and then read
-pub one_marked : (at : ℕ) (old new : Store) → Works old new → (IsTrue old.disk.honest → new.disk.now ≡ old.disk.now)
+pub one_marked : (at : ℕ) (old new : Store) → StoreWorks old new → (IsTrue old.disk.honest → new.disk.now ≡ old.disk.now)
     → (IsTrue old.disk.honest → LeavesOnly old.disk new.disk (MayLeave old.disk.now)) → new.closed ≡ old.closed → IsMarked at Committed old.marks new.marks → OnlyMarks old new
 one_marked at old new works shown leaves closed marked = record { works = works; shown = shown; leaves = leaves; closed = closed; others = each }
   where
@@ -99,7 +99,7 @@ waits_apart m one other = cc
 
 -- one page more
 module _ (old mid new : Store) (first count here next : ℕ) (pages more content longer : List ℕ) (read : IsRead old mid first count here pages content)
-    (link : IsLinked here next mid new pages more content longer) (only : OnlyMarks mid new) where
+    (link : IsJoined here next mid new pages more content longer) (only : OnlyMarks mid new) where
   stays : IsTrue old.disk.honest → reads mid here ≡ reads old here
   stays honest = ap (λ (s : Shown). page s.contents here) (read.only.shown honest)
 
@@ -210,7 +210,7 @@ chain_waits {old} {now} {first} {count} {next} {pages} {content} long read more 
 
 -- why a page is not joined is why the chain is not read
 pub link_cause : {old mid : Store} {first count next : ℕ} {pages content : List ℕ} (new : Store) (long : ℕ) (fault : PageFault) → IsRead old mid first count next pages content
-    → 4092 * count < long → LinkCause next mid new fault → ReadCause first long old new fault
+    → 4092 * count < long → LinkCause next mid new fault → ChainReadCause first long old new fault
 link_cause new long Disk read more (inl grew) = inl (omega (arith, grew, read.only.works.failures))
 link_cause new long Disk read more (inr most) = inr most
 link_cause new long NotATable read more never = absurd never

@@ -9,7 +9,7 @@ use Rattle.page_store.specs.declared.fault.PageFault.{PageFault}
 use Rattle.page_store.specs.declared.fault.PageFault.TheVariants.{Disk, NotATable, Damaged, TableFull, OutOfMemory, Closed}
 use Rattle.page_store.specs.Causes.{NewCause}
 use Rattle.page_store.specs.Marks.{mark, free_one, free_count, IsMarked}
-use Rattle.page_store.specs.Store.{Store, Works, IsRemarked}
+use Rattle.page_store.specs.Store.{Store, StoreWorks, IsRemarked}
 use Rattle.page_store.specs.Works.{works_refl, works_then}
 use Rattle.page_chain.specs.Causes.{TakeCause}
 use Rattle.page_chain.specs.Links.{HandsOut, AreTaken}
@@ -61,7 +61,7 @@ none_taken store pages no_page = subst (λ (ps : List ℕ). IsTaken store store 
 
 -- one page more
 module _ (old mid new : Store) (count here : ℕ) (pages : List ℕ) (taken : IsTaken old mid count pages) (marks : IsMarked here Fresh mid.marks new.marks) (free : mark mid.marks here ≡ Free)
-    (is_page : 1 ≤ here) (within : here < length mid.marks) (gone : new.closed ≡ false) (others : IsRemarked mid new) (works : Works mid new) where
+    (is_page : 1 ≤ here) (within : here < length mid.marks) (gone : new.closed ≡ false) (others : IsRemarked mid new) (works : StoreWorks mid new) where
   was_free : mark old.marks here ≡ Free
   was_free = elim (taken.out.others here) [
     | inl same ↦ sym same ∙ free

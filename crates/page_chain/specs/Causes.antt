@@ -14,23 +14,23 @@ AreWaiting pages store = (p : ℕ) → Contains pages p → mark store.marks p �
 
 -- a chain is not read: the disk failed; on an honest disk, there is no chain of this length from this page on all of
 -- whose pages wait; the store is closed; or memory is short
-abbrev pub ReadCause : ℕ → ℕ → Store → Store → PageFault → Type 0
-ReadCause first long old new Disk = Grew old.failures new.failures
-ReadCause first long old new Damaged =
+abbrev pub ChainReadCause : ℕ → ℕ → Store → Store → PageFault → Type 0
+ChainReadCause first long old new Disk = Grew old.failures new.failures
+ChainReadCause first long old new Damaged =
     IsTrue old.disk.honest → (pages content : List ℕ) → length content ≡ long → AreWaiting pages old
     → ¬ IsChain (length old.marks) first pages content (reads old)
-ReadCause first long old new OutOfMemory = Unit {0}
-ReadCause first long old new Closed = old.closed ≡ true
-ReadCause first long old new _ = ⊥
+ChainReadCause first long old new OutOfMemory = Unit {0}
+ChainReadCause first long old new Closed = old.closed ≡ true
+ChainReadCause first long old new _ = ⊥
 
 -- a chain is not written: the disk failed, and the store is closed; there are fewer free pages than it takes; the
 -- store was closed; or memory is short
-abbrev pub WriteCause : ℕ → Store → Store → PageFault → Type 0
-WriteCause long old new Disk = Grew old.failures new.failures × (new.closed ≡ true)
-WriteCause long old new TableFull = 4092 * free_count old.marks < long
-WriteCause long old new OutOfMemory = Unit {0}
-WriteCause long old new Closed = old.closed ≡ true
-WriteCause long old new _ = ⊥
+abbrev pub ChainWriteCause : ℕ → Store → Store → PageFault → Type 0
+ChainWriteCause long old new Disk = Grew old.failures new.failures × (new.closed ≡ true)
+ChainWriteCause long old new TableFull = 4092 * free_count old.marks < long
+ChainWriteCause long old new OutOfMemory = Unit {0}
+ChainWriteCause long old new Closed = old.closed ≡ true
+ChainWriteCause long old new _ = ⊥
 
 -- a page is not joined to a chain: the disk failed; it does not wait; the store is closed; or memory is short
 abbrev pub LinkCause : ℕ → Store → Store → PageFault → Type 0
@@ -47,7 +47,7 @@ TakeCause old Closed = old.closed ≡ true
 TakeCause old _ = ⊥
 
 -- pages that were handed out are not written: the disk failed, and the store is closed; or it was closed
-abbrev pub PutCause : Store → Store → PageFault → Type 0
-PutCause old new Disk = Grew old.failures new.failures × (new.closed ≡ true)
-PutCause old new Closed = old.closed ≡ true
-PutCause old new _ = ⊥
+abbrev pub ChainPutCause : Store → Store → PageFault → Type 0
+ChainPutCause old new Disk = Grew old.failures new.failures × (new.closed ≡ true)
+ChainPutCause old new Closed = old.closed ≡ true
+ChainPutCause old new _ = ⊥

@@ -3,7 +3,7 @@ use Rattle.std.specs.Prelude.{◌≡◌, ◌⊎◌, ℕ, ◌+◌, ◌<◌, ◌�
 use Rattle.sector_disk.specs.Disk.{LeavesOnly, MayLeave}
 use Rattle.page_store.specs.declared.marks.Mark.TheVariants.{Committed, Waiting, Fresh, Free}
 use Rattle.page_store.specs.Marks.{mark, IsMarked}
-use Rattle.page_store.specs.Store.{Store, reads, Works}
+use Rattle.page_store.specs.Store.{Store, reads, StoreWorks}
 use Rattle.page_chain.specs.Chain.{next_in}
 
 -- no page is named twice
@@ -12,14 +12,14 @@ IsOnce pages = (i j p : ℕ) → slice_get pages i ≡ Some p → slice_get page
 
 -- some pages are marked, and else the store is as it was; a stop meanwhile leaves what it could leave before
 pub record OnlyMarks (old new : Store) : Type 0 where
-  pub works : Works old new
+  pub works : StoreWorks old new
   pub shown : IsTrue old.disk.honest → new.disk.now ≡ old.disk.now
   pub leaves : IsTrue old.disk.honest → LeavesOnly old.disk new.disk (MayLeave old.disk.now)
   pub closed : new.closed ≡ old.closed
   pub others : (p : ℕ) → (mark new.marks p ≡ mark old.marks p) ⊎ (mark new.marks p ≡ Committed)
 
 -- a page that waited is marked, and what it holds is joined to what was read
-pub record IsLinked (page next : ℕ) (old new : Store) (pages more content longer : List ℕ) : Type 0 where
+pub record IsJoined (page next : ℕ) (old new : Store) (pages more content longer : List ℕ) : Type 0 where
   pub waited : mark old.marks page ≡ Waiting
   pub is_page : 1 ≤ page
   pub within : page < length old.marks
@@ -31,7 +31,7 @@ pub record IsLinked (page next : ℕ) (old new : Store) (pages more content long
 
 -- some free pages are handed out, and else the store is as it was
 pub record HandsOut (old new : Store) : Type 0 where
-  pub works : Works old new
+  pub works : StoreWorks old new
   pub disk : new.disk ≡ old.disk
   pub failures : new.failures ≡ old.failures
   pub closed : new.closed ≡ old.closed

@@ -3,10 +3,10 @@ ghost use Rattle.std.specs.Prelude.{◌≡◌, ◌⊎◌, ◌++◌, ◌∷◌, [
 ghost use Rattle.sector_disk.specs.Disk.{LeavesOnly, MayLeave};
 ghost use Rattle.page_store.specs.declared.marks.Mark.TheVariants.{Committed, Waiting};
 ghost use Rattle.page_store.specs.Marks.{mark as mark_of};
-ghost use Rattle.page_store.specs.Store.{reads, Works};
+ghost use Rattle.page_store.specs.Store.{reads, StoreWorks};
 ghost use Rattle.page_chain.specs.Chain.{IsChain};
-ghost use Rattle.page_chain.specs.Causes.{ReadCause, LinkCause};
-ghost use Rattle.page_chain.specs.Links.{OnlyMarks, IsLinked};
+ghost use Rattle.page_chain.specs.Causes.{ChainReadCause, LinkCause};
+ghost use Rattle.page_chain.specs.Links.{OnlyMarks, IsJoined};
 
 use crate::page::{next_of, pages_for, payload_of};
 use page_store::{PageFault, Pages};
@@ -43,8 +43,8 @@ pub fn read_chain<P: Pages>(
     ensures leaves { IsTrue (P.store store.old).disk.honest
         → LeavesOnly (P.store store.old).disk (P.store store.new).disk (MayLeave (P.store store.old).disk.now) }
     ensures closed { (P.store store.new).closed ≡ (P.store store.old).closed }
-    ensures works { Works (P.store store.old) (P.store store.new) }
-    ensures cause { IfErr result (ReadCause first size (P.store store.old) (P.store store.new)) }
+    ensures works { StoreWorks (P.store store.old) (P.store store.new) }
+    ensures cause { IfErr result (ChainReadCause first size (P.store store.old) (P.store store.new)) }
 {
     let mut pages = Vec::new(alloc);
     let mut content = Vec::new(alloc);
@@ -66,7 +66,7 @@ fn read_link<P: Pages>(
     pages: &mut Vec<u32>,
     content: &mut Vec<u8>,
 ) -> Result<u32, PageFault>
-    ensures linked { IfOk result (λ next. IsLinked page next (P.store store.old) (P.store store.new)
+    ensures linked { IfOk result (λ next. IsJoined page next (P.store store.old) (P.store store.new)
         pages.old.items pages.new.items content.old.items content.new.items) }
     ensures marks { OnlyMarks (P.store store.old) (P.store store.new) }
     ensures cause { IfErr result (LinkCause page (P.store store.old) (P.store store.new)) }

@@ -1,10 +1,11 @@
 //! A chain is written: its pages are taken first, and then each is written with the number of the next one.
-ghost use Rattle.std.specs.Prelude.{◌≡◌, ◌≢◌, ◌⊎◌, ◌+◌, ◌*◌, ◌<◌, ◌≤◌, ℕ, false, length, take, drop, slice_index, Contains, OnOk, IfOk, IfErr, IsTrue};
+ghost use Rattle.std.specs.Prelude.{◌≡◌, ◌≢◌, ◌⊎◌, ◌+◌, ◌*◌, ◌<◌, ◌≤◌, ℕ, false, length, take, drop, slice_index, Contains, OnOk, IfOk};
+ghost use Rattle.std.specs.Prelude.{IfErr, IsTrue};
 ghost use Rattle.page_store.specs.declared.marks.Mark.TheVariants.{Fresh, Free};
 ghost use Rattle.page_store.specs.Marks.{mark as mark_of, free_count};
-ghost use Rattle.page_store.specs.Store.{reads, Works};
+ghost use Rattle.page_store.specs.Store.{reads, StoreWorks};
 ghost use Rattle.page_chain.specs.Chain.{IsChain, LeadsThrough, payloads, first_of};
-ghost use Rattle.page_chain.specs.Causes.{WriteCause, TakeCause, PutCause};
+ghost use Rattle.page_chain.specs.Causes.{ChainWriteCause, TakeCause, ChainPutCause};
 ghost use Rattle.page_chain.specs.Links.{HandsOut, AreTaken, IsOnce};
 
 use crate::page::{page_with, pages_for, part_of};
@@ -30,10 +31,10 @@ pub fn write_chain<P: Pages>(
         ⊎ ((mark_of (P.store store.old).marks p ≡ Free) × (mark_of (P.store store.new).marks p ≡ Fresh)) }
     ensures open { OnOk result (1 ≤ length content.now → (P.store store.new).closed ≡ false) }
     ensures closed { OnOk result ((P.store store.new).closed ≡ (P.store store.old).closed) }
-    ensures works { Works (P.store store.old) (P.store store.new) }
+    ensures works { StoreWorks (P.store store.old) (P.store store.new) }
     ensures refused { IfErr result (λ fault. fault ≡ PageFault.TableFull → P.store store.new ≡ P.store store.old) }
     ensures still { IfErr result (λ fault. fault ≢ PageFault.Disk → (P.store store.new).closed ≡ (P.store store.old).closed) }
-    ensures cause { IfErr result (WriteCause (length content.now) (P.store store.old) (P.store store.new)) }
+    ensures cause { IfErr result (ChainWriteCause (length content.now) (P.store store.old) (P.store store.new)) }
 {
     let count = pages_for(content.len());
     if (store.free_pages() as usize) < count {
@@ -64,15 +65,16 @@ fn write_pages<P: Pages>(store: &mut P, pages: &[u32], content: &[u8]) -> Result
     requires fresh { (p : ℕ) → Contains pages.now p → mark_of (P.store store.old).marks p ≡ Fresh }
     requires once { IsOnce pages.now }
     requires no_more { 4092 * length pages.now < length content.now + 4092 }
-    ensures leads { IsTrue (P.store store.old).disk.honest → OnOk result (LeadsThrough (reads (P.store store.new)) (first_of pages.now) pages.now) }
+    ensures leads { IsTrue (P.store store.old).disk.honest
+        → OnOk result (LeadsThrough (reads (P.store store.new)) (first_of pages.now) pages.now) }
     ensures holds { IsTrue (P.store store.old).disk.honest → OnOk result
         (take (length content.now) (payloads (reads (P.store store.new)) pages.now) ≡ take (4092 * length pages.now) content.now) }
     ensures open { OnOk result (1 ≤ length pages.now → (P.store store.new).closed ≡ false) }
     ensures closed { OnOk result ((P.store store.new).closed ≡ (P.store store.old).closed) }
     ensures marks { (P.store store.new).marks ≡ (P.store store.old).marks }
-    ensures works { Works (P.store store.old) (P.store store.new) }
+    ensures works { StoreWorks (P.store store.old) (P.store store.new) }
     ensures still { IfErr result (λ fault. fault ≢ PageFault.Disk → (P.store store.new).closed ≡ (P.store store.old).closed) }
-    ensures cause { IfErr result (PutCause (P.store store.old) (P.store store.new)) }
+    ensures cause { IfErr result (ChainPutCause (P.store store.old) (P.store store.new)) }
 {
     for place in 0..pages.len() {
         let bytes = page_with(next_after(pages, place), part_of(content, place));

@@ -11,7 +11,7 @@ use Rattle.page_store.specs.declared.marks.Mark.{Mark}
 use Rattle.page_store.specs.declared.marks.Mark.TheVariants.{Committed, Waiting, Fresh, Released, Free}
 use Rattle.page_store.specs.Marks.{mark, needs, IsNeeded, turned, let_go, AreDiscarded, IsMarked}
 use Rattle.page_store.specs.Page.{page, page_same, IsWithin, IsOutside}
-use Rattle.page_store.specs.Store.{Store, Saved, SavedAs, IsSafe, IsSound, Works, IsUnchanged, IsRemarked}
+use Rattle.page_store.specs.Store.{Store, Saved, SavedAs, IsSafe, IsSoundStore, StoreWorks, IsUnchanged, IsRemarked}
 use Rattle.page_store.specs.Works.{safe_saves, safe_remarked}
 
 -- the disk as it reads is the same: safe as before
@@ -28,7 +28,7 @@ safe_unchanged old new same shown safe =
     }
 
 -- a read
-pub works_read : (old new : Store) → GoesOn old.disk new.disk → size new.disk ≡ size old.disk → old.failures ≤ new.failures → IsUnchanged old new → Works old new
+pub works_read : (old new : Store) → GoesOn old.disk new.disk → size new.disk ≡ size old.disk → old.failures ≤ new.failures → IsUnchanged old new → StoreWorks old new
 works_read old new goes_on size_ failures same = record {
   goes_on = goes_on;
   same_size = size_;
@@ -47,7 +47,7 @@ pub was_honest : {old new : Disk} → GoesOn old new → IsTrue new.honest → I
 was_honest goes_on honest = subst (λ (b : Bool). IsTrue b) goes_on.honest honest
 
 -- a call that commits nothing leaves the store sound
-pub sound_works : (old new : Store) → IsSound old → Works old new → mark new.marks 0 ≡ Committed → IsSound new
+pub sound_works : (old new : Store) → IsSoundStore old → StoreWorks old new → mark new.marks 0 ≡ Committed → IsSoundStore new
 sound_works old new sound works system = record {
   least = omega (arith, sound.least, works.same_size);
   fits = omega (arith, sound.fits, works.same_size, works.same_pages);
@@ -82,7 +82,7 @@ pub reads_else : (at : ℕ) (old new : Disk) → (IsTrue old.honest → KeepsThr
 reads_else at old new kept honest p other = page_same new.now.contents old.now.contents p (λ k within. (kept honest).keeps.contents k (apart p at k other within))
 
 -- a write of a handed out page
-module _ (old new : Store) (at : ℕ) (sound : IsSound old) (fresh : mark old.marks at ≡ Fresh) (root : new.root ≡ old.root) (marks : new.marks ≡ old.marks)
+module _ (old new : Store) (at : ℕ) (sound : IsSoundStore old) (fresh : mark old.marks at ≡ Fresh) (root : new.root ≡ old.root) (marks : new.marks ≡ old.marks)
     (kept : IsTrue old.disk.honest → KeepsThroughout (IsOutside at) old.disk new.disk) where
   low : (k : ℕ) → k < 4 → IsOutside at k
   low k below = inl (omega (arith, below, not_system old.marks at sound.system fresh))
@@ -114,7 +114,7 @@ module _ (old new : Store) (at : ℕ) (sound : IsSound old) (fresh : mark old.ma
       first : (k : ℕ) → k < 4 → sector picture k ≡ sector old.disk.now.contents k
       first k below = left.same k (low k below, safe.rest.synced k below)
 
-  pub works_write : GoesOn old.disk new.disk → size new.disk ≡ size old.disk → old.failures ≤ new.failures → (new.closed ≡ false → old.closed ≡ false) → Works old new
+  pub works_write : GoesOn old.disk new.disk → size new.disk ≡ size old.disk → old.failures ≤ new.failures → (new.closed ≡ false → old.closed ≡ false) → StoreWorks old new
   works_write goes_on size_ failures closed = record {
     goes_on = goes_on;
     same_size = size_;
@@ -134,7 +134,7 @@ fewer_needed : (old new : List Mark) → length new ≡ length old → ((p : ℕ
 fewer_needed old new long same p needed = (needed.0, omega (arith, needed.1, long), subst (λ (b : Bool). IsTrue b) (same p) needed.2)
 
 works_remarked : (old new : Store) → IsRemarked old new → length new.marks ≡ length old.marks → ((p : ℕ) → mark new.marks p ≡ Waiting → mark old.marks p ≡ Waiting)
-    → ((p : ℕ) → needs (mark new.marks p) ≡ needs (mark old.marks p)) → Works old new
+    → ((p : ℕ) → needs (mark new.marks p) ≡ needs (mark old.marks p)) → StoreWorks old new
 works_remarked old new others long waiting same = record {
   goes_on = subst (λ (d : Disk). GoesOn old.disk d) (sym others.disk) (goes_on_refl old.disk);
   same_size = ap (λ (d : Disk). size d) others.disk;
@@ -164,10 +164,10 @@ module _ (old new : Store) (p : ℕ) (now : Mark) (others : IsRemarked old new) 
     | inr other ↦ sym (marks.others q other) ∙ waiting
   ]
 
-  pub marked_works : Works old new
+  pub marked_works : StoreWorks old new
   marked_works = works_remarked old new others marks.same_length marked_waits marked_needs
 
-  pub marked_sound : IsSound old → 0 ≢ p → IsSound new
+  pub marked_sound : IsSoundStore old → 0 ≢ p → IsSoundStore new
   marked_sound sound behind = sound_works old new sound marked_works (marks.others 0 behind ∙ sound.system)
 
 -- `discard`
@@ -186,11 +186,11 @@ module _ (old new : Store) (others : IsRemarked old new) (marks : AreDiscarded o
   discard_waits Released is = cc
   discard_waits Free is = cc
 
-  pub discarded_works : Works old new
+  pub discarded_works : StoreWorks old new
   discarded_works =
       works_remarked old new others marks.same_length (λ q is. discard_waits (mark old.marks q) (sym (marks.each q) ∙ is)) (λ q. ap needs (marks.each q) ∙ discard_needs (mark old.marks q))
 
-  pub discarded_sound : IsSound old → IsSound new
+  pub discarded_sound : IsSoundStore old → IsSoundStore new
   discarded_sound sound = sound_works old new sound discarded_works (marks.each 0 ∙ ap (turned Free Committed Waiting) sound.system)
 
 pub let_go_needs : (m : Mark) → needs (let_go m) ≡ needs m

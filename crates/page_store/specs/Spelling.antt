@@ -30,8 +30,10 @@ pub record Spells (root : List ℕ) (capacity : ℕ) (Spelt : (ℕ → List ℕ)
 
 -- work from `old` to `mid` and a commit of this root from there to `new`: a stop since `old` leaves what stood there or
 -- what was prepared in `mid`; after Ok that stands, and after a refusal that left the store as it was the old still does
-pub record IsCarried (root : List ℕ) (was_named : ℕ → Type 0) (Was : (ℕ → List ℕ) → Type 0) (named : ℕ → Type 0) (Is : (ℕ → List ℕ) → Type 0) (old mid new : Store) : Type 0 where
-  pub stop : LeavesOnly old.disk new.disk (λ picture. Spells old.root (length old.marks) Was picture ⊎ Spells root (length old.marks) Is picture)
+pub record IsCarried (root : List ℕ) (was_named : ℕ → Type 0) (Was : (ℕ → List ℕ) → Type 0) (named : ℕ → Type 0) (Is : (ℕ → List ℕ)
+    → Type 0) (old mid new : Store) : Type 0 where
+  pub stop : LeavesOnly old.disk new.disk (λ picture. Spells old.root (length old.marks) Was picture
+      ⊎ Spells root (length old.marks) Is picture)
   pub done : IsCommitted root mid new → Stands named Is new
   pub left : IsUnchanged mid new → Stands was_named Was new
   pub left_stop : IsUnchanged mid new → LeavesOnly old.disk new.disk (Spells old.root (length old.marks) Was)

@@ -54,7 +54,7 @@ pub record IsSafe (store : Store) : Type 0 where
   pub synced : (p : ℕ) → IsNeeded store.marks p → (k : ℕ) → IsWithin p k → IsTrue (store.disk.now.synced k)
 
 -- what is true of each store, closed or not
-pub record IsSound (store : Store) : Type 0 where
+pub record IsSoundStore (store : Store) : Type 0 where
   pub least : 4 ≤ size store.disk
   pub fits : 8 * length store.marks ≤ size store.disk
   pub few : length store.marks ≤ 1048576
@@ -62,7 +62,7 @@ pub record IsSound (store : Store) : Type 0 where
   pub safe : IsTrue store.disk.honest → store.closed ≡ false → IsSafe store
 
 -- a call that commits nothing: the committed root and the pages that it may need stay, for reads and for stops
-pub record Works (old new : Store) : Type 0 where
+pub record StoreWorks (old new : Store) : Type 0 where
   pub goes_on : GoesOn old.disk new.disk
   pub same_size : size new.disk ≡ size old.disk
   pub failures : old.failures ≤ new.failures
@@ -117,7 +117,7 @@ pub record IsOpened (disk : Disk) (count : ℕ) (store : Store) : Type 0 where
   pub leaves : IsTrue disk.honest → LeavesOnly disk store.disk (MayLeave disk.now)
 
 -- a disk as a refused `open` gives it back
-pub record IsRefused (disk : Disk) (count : ℕ) (back : Disk) (now : ℕ) : Type 0 where
+pub record IsRefusedStore (disk : Disk) (count : ℕ) (back : Disk) (now : ℕ) : Type 0 where
   pub goes_on : GoesOn disk back
   pub failures : count ≤ now
   pub same_size : size back ≡ size disk

@@ -11,7 +11,7 @@ use Rattle.page_store.specs.declared.marks.Mark.{Mark}
 use Rattle.page_store.specs.declared.marks.Mark.TheVariants.{Committed, Fresh}
 use Rattle.page_store.specs.Marks.{mark, IsNeeded}
 use Rattle.page_store.specs.Page.{page_same}
-use Rattle.page_store.specs.Store.{Store, Saved, SavedAs, StopLeaves, IsSafe, Works, IsRemarked}
+use Rattle.page_store.specs.Store.{Store, Saved, SavedAs, StopLeaves, IsSafe, StoreWorks, IsRemarked}
 
 -- a page that was handed out lies before the end
 pub fresh_within : (marks : List Mark) (p : ℕ) → mark marks p ≡ Fresh → p < length marks
@@ -29,7 +29,7 @@ safe_saves store safe picture left = record {
 }
 
 -- nothing has happened
-pub works_refl : (store : Store) → Works store store
+pub works_refl : (store : Store) → StoreWorks store store
 works_refl store = record {
   goes_on = goes_on_refl store.disk;
   same_size = refl;
@@ -45,11 +45,17 @@ works_refl store = record {
 }
 
 -- what the earlier store needs, the later needs
-pub still_needed : {old new : Store} → Works old new → (p : ℕ) → IsNeeded old.marks p → IsNeeded new.marks p
-still_needed works p needed = (needed.0, omega (arith, needed.1, works.same_pages), subst (λ (b : Bool). IsTrue b) (sym (works.needed p)) needed.2)
+pub still_needed : {old new : Store} → StoreWorks old new → (p : ℕ) → IsNeeded old.marks p → IsNeeded new.marks p
+still_needed works p needed = (
+  needed.0,
+  omega (arith, needed.1, works.same_pages),
+  subst (λ (b : Bool). IsTrue b) (sym
+      (works.needed p)) needed.2,
+)
 
 -- what is saved of the later store is saved of the earlier
-pub saved_before : {old new : Store} → Works old new → IsTrue old.disk.honest → (picture : Picture) → Saved new picture → Saved old picture
+pub saved_before : {old new : Store} → StoreWorks old new → IsTrue old.disk.honest → (picture : Picture) → Saved new picture
+    → Saved old picture
 saved_before works honest picture saved = record {
   holds = subst (λ (r : List ℕ). HoldsRoot r picture) works.root saved.holds;
   room = omega (arith, saved.room, works.same_pages);
@@ -57,7 +63,7 @@ saved_before works honest picture saved = record {
 }
 
 -- one part after another
-pub works_then : {old mid new : Store} → Works old mid → Works mid new → Works old new
+pub works_then : {old mid new : Store} → StoreWorks old mid → StoreWorks mid new → StoreWorks old new
 works_then first second = record {
   goes_on = goes_on_trans first.goes_on second.goes_on;
   same_size = second.same_size ∙ first.same_size;
@@ -70,22 +76,25 @@ works_then first second = record {
   reads = λ honest p needed. second.reads (still_honest first.goes_on honest) p (still_needed first p needed) ∙ first.reads honest p needed;
   safe = λ honest safe. second.safe (still_honest first.goes_on honest) (first.safe honest safe);
   leaves = λ honest safe.
-      leaves_then second.goes_on (first.leaves honest safe) (leaves_more (saved_before first honest) (second.leaves (still_honest first.goes_on honest) (first.safe honest safe)));
+      leaves_then second.goes_on (first.leaves honest safe)
+      (leaves_more (saved_before first honest) (second.leaves (still_honest first.goes_on honest) (first.safe honest safe)));
 }
 
 -- only marks change, and no page becomes needed that was not
-pub safe_remarked : (old new : Store) → IsRemarked old new → length new.marks ≡ length old.marks → ((p : ℕ) → IsNeeded new.marks p → IsNeeded old.marks p) → IsSafe old → IsSafe new
+pub safe_remarked : (old new : Store) → IsRemarked old new → length new.marks ≡ length old.marks
+    → ((p : ℕ) → IsNeeded new.marks p → IsNeeded old.marks p) → IsSafe old → IsSafe new
 safe_remarked old new others long fewer safe =
     let lasts : new.disk.now.lasting ≡ old.disk.now.lasting = ap (λ (d : Disk). d.now.lasting) others.disk in
     record {
       rest = subst (λ (d : Disk). IsAtRest d.now) (sym others.disk) safe.rest;
       room = omega (arith, safe.room, long, lasts);
       root = ap (λ (d : Disk). root_of d.now.contents) others.disk ∙ safe.root ∙ sym others.root;
-      synced = λ p needed k within. subst (λ (d : Disk). IsTrue (d.now.synced k)) (sym others.disk) (safe.synced p (fewer p needed) k within);
+      synced = λ p needed k within. subst (λ (d : Disk). IsTrue (d.now.synced k)) (sym others.disk)
+          (safe.synced p (fewer p needed) k within);
     }
 
 -- work, and then a commit: a stop leaves what was saved at first, or the new root and all pages as they read at the commit
-pub commit_after : {old mid : Store} (new : Disk) (root : List ℕ) → Works old mid → GoesOn mid.disk new
+pub commit_after : {old mid : Store} (new : Disk) (root : List ℕ) → StoreWorks old mid → GoesOn mid.disk new
     → (IsTrue mid.disk.honest → IsSafe mid → LeavesOnly mid.disk new (λ picture. Saved mid picture ⊎ SavedAs root mid picture))
     → IsTrue old.disk.honest → IsSafe old → LeavesOnly old.disk new (λ picture. Saved old picture ⊎ SavedAs root mid picture)
 commit_after {old} {mid} new root works goes_on commit honest safe =

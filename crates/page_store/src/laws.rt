@@ -3,7 +3,7 @@ ghost use Rattle.std.specs.Prelude.{◌≡◌, ◌≤◌, ◌<◌, ℕ, List, le
 ghost use Rattle.sector_disk.specs.Disk.{Disk};
 ghost use Rattle.page_store.specs.declared.marks.Mark.TheVariants.{Committed, Waiting};
 ghost use Rattle.page_store.specs.Marks.{mark, AreSealed, AreDiscarded};
-ghost use Rattle.page_store.specs.Store.{Store, reads, StopLeaves, IsSafe, Works, Commits, IsRemarked, IsCommitted, IsOpened};
+ghost use Rattle.page_store.specs.Store.{Store, reads, StopLeaves, IsSafe, StoreWorks, Commits, IsRemarked, IsCommitted, IsOpened};
 ghost use Rattle.page_store.specs.Spelling.{SpelledBy, Stands, IsPrepared, Spells, IsCarried, IsCalm, IsBack};
 
 /// What the pages of a root spell for a layer above: a chain, a tree, a whole table. Only proofs speak of it.
@@ -19,7 +19,7 @@ pub trait Spelling {
 /// was prepared under it. After `Ok` the new stands, and after a refusal that left the store as it was the old.
 pub fn commit_carries<Was: Spelling, Is: Spelling>()
     ensures { (root : List ℕ) (old mid new : Store) → IsTrue old.disk.honest → IsSafe old
-        → Stands Was.named Was.spelt old → Works old mid → IsPrepared Is.named Is.spelt mid → Commits root mid new
+        → Stands Was.named Was.spelt old → StoreWorks old mid → IsPrepared Is.named Is.spelt mid → Commits root mid new
         → IsCarried root Was.named Was.spelt Is.named Is.spelt old mid new }
 {}
 
@@ -31,7 +31,7 @@ pub fn stop_leaves<S: Spelling>()
 
 /// A call that commits nothing keeps what the pages of the committed root spell.
 pub fn works_stands<S: Spelling>()
-    ensures { (old new : Store) → IsTrue old.disk.honest → Works old new
+    ensures { (old new : Store) → IsTrue old.disk.honest → StoreWorks old new
         → Stands S.named S.spelt old → Stands S.named S.spelt new }
 {}
 
@@ -50,7 +50,7 @@ pub fn sealed_stands<S: Spelling>()
 
 /// Work and then `discard` go back to the last commit: the root, the marks and the bytes of each needed page.
 pub fn discard_goes_back()
-    ensures { (old mid new : Store) → IsCalm old → Works old mid → AreDiscarded mid.marks new.marks → IsRemarked mid new
+    ensures { (old mid new : Store) → IsCalm old → StoreWorks old mid → AreDiscarded mid.marks new.marks → IsRemarked mid new
         → IsBack old new }
 {}
 

@@ -1,6 +1,7 @@
 //! What each page is used for.
 ghost use Rattle.std.specs.Prelude.{◌≡◌, ◌≢◌, ◌≤◌, ◌<◌, ℕ, length, IfSome, IfNone};
-ghost use Rattle.page_store.specs.Marks.{mark as mark_of, turned as turned_of, let_go as let_go_of, free_one as free_one_of, Turned, IsMarked, free_count};
+ghost use Rattle.page_store.specs.Marks.{mark as mark_of, turned as turned_of, let_go as let_go_of, free_one as free_one_of, Turned};
+ghost use Rattle.page_store.specs.Marks.{IsMarked, free_count};
 
 /// What a page is used for.
 #[derive(Clone, Copy, Debug, PartialEq, Eq)]

@@ -1,9 +1,10 @@
 //! What a store of pages promises.
 ghost use Rattle.std.specs.Prelude.{◌≡◌, ◌≢◌, ◌↔◌, ◌≤◌, ◌<◌, ℕ, length, true, false, OnOk, OnErr, IfOk, IfErr, IsErrOf, IsTrue};
 ghost use Rattle.page_store.specs.declared.marks.Mark.TheVariants.{Committed, Waiting, Fresh, Free};
-ghost use Rattle.page_store.specs.Causes.{MarkCause, ReadCause, NewCause, WriteCause, CommitCause};
+ghost use Rattle.page_store.specs.Causes.{MarkCause, PageReadCause, NewCause, PageWriteCause, StoreCommitCause};
 ghost use Rattle.page_store.specs.Marks.{mark as mark_of, AreSealed, AreDiscarded, IsMarked, let_go, free_count};
-ghost use Rattle.page_store.specs.Store.{Store, reads, SavedAs, StopLeaves, IsSound, Works, IsUnchanged, IsRemarked, Commits, IsCommitted};
+ghost use Rattle.page_store.specs.Store.{Store, reads, SavedAs, StopLeaves, IsSoundStore, StoreWorks, IsUnchanged, IsRemarked, Commits};
+ghost use Rattle.page_store.specs.Store.{IsCommitted};
 
 use crate::PageFault;
 use root_pair::Root;
@@ -27,7 +28,7 @@ pub trait Pages {
         ensures cause { IfErr result (MarkCause (store self.old) page) }
         ensures closed { (store self.old).closed ≡ true → IsErrOf result PageFault.Closed }
         ensures others { IsRemarked (store self.old) (store self.new) }
-        ensures works { Works (store self.old) (store self.new) };
+        ensures works { StoreWorks (store self.old) (store self.new) };
 
     /// Ends the opening: all pages that are not marked are free.
     fn seal(&mut self)
@@ -43,9 +44,9 @@ pub trait Pages {
         ensures open { OnOk result ((store self.new).closed ≡ false) }
         ensures unchanged { IsUnchanged (store self.old) (store self.new) }
         ensures untouched { IfErr result (λ fault. fault ≢ PageFault.Disk → store self.new ≡ store self.old) }
-        ensures cause { IfErr result (ReadCause (store self.old) page (store self.new)) }
+        ensures cause { IfErr result (PageReadCause (store self.old) page (store self.new)) }
         ensures closed { (store self.old).closed ≡ true → IsErrOf result PageFault.Closed }
-        ensures works { Works (store self.old) (store self.new) };
+        ensures works { StoreWorks (store self.old) (store self.new) };
 
     /// Hands out a free page. `TableFull` only where none is free.
     fn new_page(&mut self) -> Result<u32, PageFault>
@@ -58,7 +59,7 @@ pub trait Pages {
         ensures cause { IfErr result (NewCause (store self.old)) }
         ensures closed { (store self.old).closed ≡ true → IsErrOf result PageFault.Closed }
         ensures others { IsRemarked (store self.old) (store self.new) }
-        ensures works { Works (store self.old) (store self.new) };
+        ensures works { StoreWorks (store self.old) (store self.new) };
 
     /// Whether the page was handed out since the last commit.
     fn is_fresh(&self, page: u32) -> bool
@@ -72,9 +73,9 @@ pub trait Pages {
         ensures marks { (store self.new).marks ≡ (store self.old).marks }
         ensures open { OnOk result ((store self.new).closed ≡ false) }
         ensures untouched { IfErr result (λ fault. fault ≢ PageFault.Disk → store self.new ≡ store self.old) }
-        ensures cause { IfErr result (WriteCause (store self.old) (store self.new)) }
+        ensures cause { IfErr result (PageWriteCause (store self.old) (store self.new)) }
         ensures closed { (store self.old).closed ≡ true → IsErrOf result PageFault.Closed }
-        ensures works { Works (store self.old) (store self.new) };
+        ensures works { StoreWorks (store self.old) (store self.new) };
 
     /// The page is not needed any more: free at once where it was handed out since the last commit, and else after the
     /// next.
@@ -83,25 +84,26 @@ pub trait Pages {
         requires within { page < length (store self.old).marks }
         ensures marks { IsMarked page (let_go (mark_of (store self.old).marks page)) (store self.old).marks (store self.new).marks }
         ensures others { IsRemarked (store self.old) (store self.new) }
-        ensures works { Works (store self.old) (store self.new) };
+        ensures works { StoreWorks (store self.old) (store self.new) };
 
     /// Puts this root in the place of the present one, by one write of the gate sector. A stop within it leaves the
     /// present root and its pages or the new root and all pages as they read, and after `Ok` the new.
     fn commit(&mut self, root: &[u8; 512]) -> Result<(), PageFault>
         ensures commits { Commits root.now (store self.old) (store self.new) }
-        ensures after { IsTrue (store self.old).disk.honest → OnOk result (StopLeaves (store self.new) (SavedAs root.now (store self.old))) }
+        ensures after { IsTrue (store self.old).disk.honest
+            → OnOk result (StopLeaves (store self.new) (SavedAs root.now (store self.old))) }
         ensures ok { OnOk result (IsCommitted root.now (store self.old) (store self.new)) }
         ensures kept_root { OnErr result ((store self.new).root ≡ (store self.old).root) }
         ensures kept_marks { OnErr result ((store self.new).marks ≡ (store self.old).marks) }
         ensures untouched { IfErr result (λ fault. fault ≢ PageFault.Disk → store self.new ≡ store self.old) }
-        ensures cause { IfErr result (CommitCause (store self.old) (store self.new)) }
+        ensures cause { IfErr result (StoreCommitCause (store self.old) (store self.new)) }
         ensures closed { (store self.old).closed ≡ true → IsErrOf result PageFault.Closed };
 
     /// Goes back to the last commit. It takes no memory and always answers, of a closed store too.
     fn discard(&mut self)
         ensures marks { AreDiscarded (store self.old).marks (store self.new).marks }
         ensures others { IsRemarked (store self.old) (store self.new) }
-        ensures works { Works (store self.old) (store self.new) };
+        ensures works { StoreWorks (store self.old) (store self.new) };
 
     /// How many pages are free. It takes no memory and always answers, of a closed store too.
     fn free_pages(&self) -> u32
@@ -120,5 +122,5 @@ pub trait Pages {
         ensures { result.bytes ≡ (store self.now).root };
 
     /// What is true of each store.
-    ghost sound: { (s : Self) → IsSound (store s) };
+    ghost sound: { (s : Self) → IsSoundStore (store s) };
 }

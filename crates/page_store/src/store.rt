@@ -1,9 +1,9 @@
 //! A store of pages on a disk, with a mark for each page in memory.
 ghost use Rattle.std.specs.Prelude.{◌≡◌, ◌≤◌, ◌<◌, ◌*◌, ℕ, length, IfOk, IfErr};
 ghost use Rattle.page_store.specs.declared.marks.Mark.TheVariants.{Committed, Waiting};
-ghost use Rattle.page_store.specs.Causes.{OpenCause};
+ghost use Rattle.page_store.specs.Causes.{StoreOpenCause};
 ghost use Rattle.page_store.specs.Marks.{mark as mark_of};
-ghost use Rattle.page_store.specs.Store.{store_of, IsSound, IsOpened, IsRefused};
+ghost use Rattle.page_store.specs.Store.{store_of, IsSoundStore, IsOpened, IsRefusedStore};
 
 use crate::marks::{count_free, find_any, let_go, put_mark, turn};
 use crate::page::{get_page, put_page};
@@ -25,7 +25,7 @@ pub struct PageStore<D: SectorDisk> {
     next: u32,
     /// A write or a sync has failed.
     closed: bool,
-    ghost sound: { IsSound (store_of (D.disk disk) (D.failures disk) root.bytes marks.items closed) },
+    ghost sound: { IsSoundStore (store_of (D.disk disk) (D.failures disk) root.bytes marks.items closed) },
 }
 
 /// A disk that comes back with a refusal.
@@ -40,8 +40,8 @@ impl<D: SectorDisk> PageStore<D> {
     /// the disk. The room that later calls take is reserved here.
     pub fn open(alloc: Global, disk: D) -> Result<Self, Refused<D>>
         ensures ok { IfOk result (λ store. IsOpened (D.disk disk) (D.failures disk) (⟦<PageStore<D> as Pages>⟧.store store)) }
-        ensures refused { IfErr result (λ back. IsRefused (D.disk disk) (D.failures disk) (D.disk back.disk) (D.failures back.disk)) }
-        ensures cause { IfErr result (λ back. OpenCause (D.disk disk) (D.failures disk) (D.failures back.disk) back.fault) }
+        ensures refused { IfErr result (λ back. IsRefusedStore (D.disk disk) (D.failures disk) (D.disk back.disk) (D.failures back.disk)) }
+        ensures cause { IfErr result (λ back. StoreOpenCause (D.disk disk) (D.failures disk) (D.failures back.disk) back.fault) }
     {
         let mut disk = disk;
         let root = match root_pair::open(&mut disk) {

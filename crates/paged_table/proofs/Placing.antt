@@ -9,7 +9,7 @@ use Rattle.page_store.specs.Page.{page}
 use Rattle.page_store.specs.Store.{Store, reads, IsRemarked}
 use Rattle.retrograde.specs.declared.records.Record.{Record}
 use Rattle.paged_table.specs.Page.{record_in, IsRecordPage}
-use Rattle.paged_table.specs.Places.{IsAdded, IsRenewed}
+use Rattle.paged_table.specs.Places.{IsRecordAdded, IsRenewed}
 
 -- a page that is kept is not free
 pub kept_not_free : (m : Mark) → IsTrue (keeps m) → m ≡ Free → ⊥
@@ -19,7 +19,7 @@ kept_not_free Fresh kept is = cc
 kept_not_free Released kept is = absurd (cc)
 kept_not_free Free kept is = absurd (cc)
 
-module _ (p q : ℕ) (kept : Record) (old mid new : Store) (added : IsAdded q kept old mid) (marked : IsMarked p (let_go (mark mid.marks p)) mid.marks new.marks) (others : IsRemarked mid new) where
+module _ (p q : ℕ) (kept : Record) (old mid new : Store) (added : IsRecordAdded q kept old mid) (marked : IsMarked p (let_go (mark mid.marks p)) mid.marks new.marks) (others : IsRemarked mid new) where
   same_reads : (r : ℕ) → reads new r ≡ reads mid r
   same_reads r = ap (λ (d : Disk). page d.now.contents r) others.disk
 

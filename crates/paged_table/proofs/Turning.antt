@@ -9,10 +9,10 @@ use Rattle.root_pair.specs.Root.{root_of, IsAtRest}
 use Rattle.page_store.specs.declared.fault.PageFault.{PageFault}
 use Rattle.page_store.specs.declared.fault.PageFault.TheVariants as page
 use Rattle.page_store.specs.declared.marks.Mark.{Mark}
-use Rattle.page_store.specs.Causes.{CommitCause}
+use Rattle.page_store.specs.Causes.{StoreCommitCause}
 use Rattle.page_store.specs.Marks.{mark, needs, IsNeeded, AreDiscarded}
 use Rattle.page_store.specs.Page.{page as page_of}
-use Rattle.page_store.specs.Store.{Store, IsSafe, Works, Commits, IsRemarked, IsUnchanged}
+use Rattle.page_store.specs.Store.{Store, IsSafe, StoreWorks, Commits, IsRemarked, IsUnchanged}
 use Rattle.page_store.specs.Works.{safe_saves, works_then}
 use Rattle.page_store.specs.Spelling.{IsCalm, IsBack}
 use Rattle.page_store.specs.Carrying.{discard_goes_back}
@@ -23,13 +23,13 @@ use Rattle.frontier.specs.declared.fault.StepFault.{StepFault}
 use Rattle.frontier.specs.declared.fault.StepFault.TheVariants.{TooWide, KeeperChooses, TooManyPositions, Inconsistent, OutOfMemory as OutOfMemoryThere, Table}
 use Rattle.retrograde.specs.declared.records.Record.{Record}
 use Rattle.retrograde.specs.Stored.{Stored}
-use Rattle.paged_table.specs.Paged.{stored_of, IsWhole, IsHonest, GoesOn, Fails}
-use Rattle.paged_table.specs.Places.{fault_of, IsThere, PlaceCause}
-use Rattle.paged_table.specs.Turns.{IsLeft, DeviceCause, TurnCause, StartCause, BeginCause}
+use Rattle.paged_table.specs.Paged.{stored_of, StaysWhole, IsHonest, PagedGoesOn, Fails}
+use Rattle.paged_table.specs.Places.{fault_of, IsPageThere, PlaceCause}
+use Rattle.paged_table.specs.Turns.{IsGivenUp, DeviceCause, TurnCause, StartCause, BeginCause}
 use Rattle.paged_table.proofs.Standing.{back_whole, back_records}
 
 -- a commit that left the store as it was commits nothing
-unchanged_works : (root : List ℕ) (old new : Store) → Commits root old new → IsUnchanged old new → Works old new
+unchanged_works : (root : List ℕ) (old new : Store) → Commits root old new → IsUnchanged old new → StoreWorks old new
 unchanged_works root old new commits same =
     record {
       goes_on = commits.goes_on;
@@ -56,24 +56,24 @@ unchanged_works root old new commits same =
         }
 
 -- work alone
-pub left_working : (old new : Store) → Works old new → IsLeft old new
+pub left_working : (old new : Store) → StoreWorks old new → IsGivenUp old new
 left_working old new works = record { left = inl works; goes_on = works.goes_on; failures = works.failures; root = works.root; same_pages = works.same_pages; waiting = works.waiting }
 
 -- a commit
-module _ (root : List ℕ) (old mid new : Store) (works : Works old mid) (commits : Commits root mid new) (marks : new.marks ≡ mid.marks) (same_root : new.root ≡ mid.root) where
-  work_or_closed : IsUnchanged mid new ⊎ (new.closed ≡ true) → Works old new ⊎ (new.closed ≡ true)
+module _ (root : List ℕ) (old mid new : Store) (works : StoreWorks old mid) (commits : Commits root mid new) (marks : new.marks ≡ mid.marks) (same_root : new.root ≡ mid.root) where
+  work_or_closed : IsUnchanged mid new ⊎ (new.closed ≡ true) → StoreWorks old new ⊎ (new.closed ≡ true)
   work_or_closed (inl same) = inl (works_then works (unchanged_works root mid new commits same))
   work_or_closed (inr closed) = inr closed
 
-  commit_left : (fault : PageFault) → CommitCause mid new fault → (fault ≢ page.Disk → new ≡ mid) → Works old new ⊎ (new.closed ≡ true)
+  commit_left : (fault : PageFault) → StoreCommitCause mid new fault → (fault ≢ page.Disk → new ≡ mid) → StoreWorks old new ⊎ (new.closed ≡ true)
   commit_left page.Disk cause same = work_or_closed cause.1
   commit_left page.NotATable cause same = absurd cause
   commit_left page.Damaged cause same = absurd cause
   commit_left page.TableFull cause same = absurd cause
   commit_left page.OutOfMemory cause same = absurd cause
-  commit_left page.Closed cause same = inl (subst (λ (s : Store). Works old s) (sym (same (λ is. cc))) works)
+  commit_left page.Closed cause same = inl (subst (λ (s : Store). StoreWorks old s) (sym (same (λ is. cc))) works)
 
-  pub left_committing : (fault : PageFault) → CommitCause mid new fault → (fault ≢ page.Disk → new ≡ mid) → IsLeft old new
+  pub left_committing : (fault : PageFault) → StoreCommitCause mid new fault → (fault ≢ page.Disk → new ≡ mid) → IsGivenUp old new
   left_committing fault cause same = record {
     left = commit_left fault cause same;
     goes_on = goes_on_trans works.goes_on commits.goes_on;
@@ -84,7 +84,7 @@ module _ (root : List ℕ) (old mid new : Store) (works : Works old mid) (commit
   }
 
 -- whatever units of work answer, nothing is committed
-pub works_left : (t : Bool) (old : Store) (u : Bool) (new : Store) (fault : StepFault) → Leaves (GoesOn t old u new) (Fails t old new) fault → Works old new
+pub works_left : (t : Bool) (old : Store) (u : Bool) (new : Store) (fault : StepFault) → Leaves (PagedGoesOn t old u new) (Fails t old new) fault → StoreWorks old new
 works_left t old u new TooWide left = left.works
 works_left t old u new (KeeperChooses number) left = left.works
 works_left t old u new TooManyPositions left = left.works
@@ -100,7 +100,7 @@ device_cause t old new TableFull fails = (record { moment = new; works = fails.w
 device_cause t old new OutOfMemory fails = fails.still (λ is. cc)
 device_cause t old new Closed fails = (fails.cause, fails.still (λ is. cc) ∙ fails.cause)
 
-pub turn_cause : (t : Bool) (old : Store) (u : Bool) (new : Store) (fault : StepFault) → Leaves (GoesOn t old u new) (Fails t old new) fault → TurnCause t old new fault
+pub turn_cause : (t : Bool) (old : Store) (u : Bool) (new : Store) (fault : StepFault) → Leaves (PagedGoesOn t old u new) (Fails t old new) fault → TurnCause t old new fault
 turn_cause t old u new TooWide left = left.still
 turn_cause t old u new (KeeperChooses number) left = left.still
 turn_cause t old u new TooManyPositions left = left.still
@@ -136,14 +136,14 @@ begin_sealed old sealed fault others begin = record { moment = begin.moment; cau
     start OutOfMemory cause = tt
     start Closed cause = sym others.closed ∙ cause
 
-pub begin_commit : (old mid new : Store) (fault : PageFault) → old.failures ≤ mid.failures → mid.closed ≡ old.closed → CommitCause mid new fault → BeginCause old (fault_of fault)
+pub begin_commit : (old mid new : Store) (fault : PageFault) → old.failures ≤ mid.failures → mid.closed ≡ old.closed → StoreCommitCause mid new fault → BeginCause old (fault_of fault)
 begin_commit old mid new fault fewer still cause = record { moment = new; cause = start fault cause }
   where
     grew : Grew mid.failures new.failures → Grew old.failures new.failures
     grew (inl less) = inl (omega (arith, fewer, less))
     grew (inr most) = inr most
 
-    start : (f : PageFault) → CommitCause mid new f → StartCause old new (fault_of f)
+    start : (f : PageFault) → StoreCommitCause mid new f → StartCause old new (fault_of f)
     start page.Disk why = grew why.0
     start page.NotATable why = why
     start page.Damaged why = why
@@ -152,17 +152,17 @@ begin_commit old mid new fault fewer still cause = record { moment = new; cause 
     start page.Closed why = sym still ∙ why
 
 -- `discard` after a refusal
-module _ (old mid new : Store) (calm : IsCalm old) (left : IsLeft old mid) (marks : AreDiscarded mid.marks new.marks) (others : IsRemarked mid new) where
-  still_working : new.closed ≡ false → Works old mid
+module _ (old mid new : Store) (calm : IsCalm old) (left : IsGivenUp old mid) (marks : AreDiscarded mid.marks new.marks) (others : IsRemarked mid new) where
+  still_working : new.closed ≡ false → StoreWorks old mid
   still_working open_ = elim left.left [ inl works ↦ works | inr closed ↦ (let was = others.closed in absurd (cc)) ]
 
-  pub works_back : new.closed ≡ false → Works mid new → Works old new
+  pub works_back : new.closed ≡ false → StoreWorks mid new → StoreWorks old new
   works_back open_ works = works_then (still_working open_) works
 
   pub is_back : new.closed ≡ false → IsBack old new
   is_back open_ = discard_goes_back old mid new calm (still_working open_) marks others
 
-  pub there_back : (pages same : List ℕ) → same ≡ pages → ((p : ℕ) → Contains pages p → IsThere old p) → (p : ℕ) → Contains same p → IsThere new p
+  pub there_back : (pages same : List ℕ) → same ≡ pages → ((p : ℕ) → Contains pages p → IsPageThere old p) → (p : ℕ) → Contains same p → IsPageThere new p
   there_back pages same is there p here =
       let was = there p (subst (λ (xs : List ℕ). Contains xs p) is here) in
       (was.0, omega (arith, was.1, left.same_pages, marks.same_length))
@@ -175,14 +175,14 @@ module _ (old mid new : Store) (calm : IsCalm old) (left : IsLeft old mid) (mark
   was_honest false b is honest =
       (record { disk = subst (λ (x : Bool). IsTrue x) (ap (λ (d : Drive). d.honest) others.disk ∙ left.goes_on.honest) honest.disk; whole = refl }, sym is ∙ honest.whole)
 
-  pub whole_back : (known now far done : ℕ) (pages same : List ℕ) (torn b : Bool) → b ≡ new.closed → now ≡ known → same ≡ pages → (IsHonest torn old → IsWhole known far done pages old)
-      → IsHonest (torn || b) new → IsWhole now far done same new
+  pub whole_back : (known now far done : ℕ) (pages same : List ℕ) (torn b : Bool) → b ≡ new.closed → now ≡ known → same ≡ pages → (IsHonest torn old → StaysWhole known far done pages old)
+      → IsHonest (torn || b) new → StaysWhole now far done same new
   whole_back known now far done pages same torn b is many pages_are whole honest =
       let (was, open_) = was_honest torn b is honest in
-      subst (λ (xs : List ℕ). IsWhole now far done xs new) (sym pages_are)
-      (subst (λ (n : ℕ). IsWhole n far done pages new) (sym many) (back_whole known far done pages old (whole was) new calm (is_back open_) was.disk))
+      subst (λ (xs : List ℕ). StaysWhole now far done xs new) (sym pages_are)
+      (subst (λ (n : ℕ). StaysWhole n far done pages new) (sym many) (back_whole known far done pages old (whole was) new calm (is_back open_) was.disk))
 
-  pub stored_back : (known far done : ℕ) (memory again : Stored (List ℕ)) (pages same : List ℕ) (torn : Bool) → again ≡ memory → same ≡ pages → (IsHonest torn old → IsWhole known far done pages old)
+  pub stored_back : (known far done : ℕ) (memory again : Stored (List ℕ)) (pages same : List ℕ) (torn : Bool) → again ≡ memory → same ≡ pages → (IsHonest torn old → StaysWhole known far done pages old)
       → IsHonest torn old → new.closed ≡ false → stored_of again same new ≡ stored_of memory pages old
   stored_back known far done memory again pages same torn memory_is pages_are whole honest open_ =
       (λ i. stored_of (memory_is i) (pages_are i) new)

@@ -7,20 +7,20 @@ use Rattle.sector_disk.specs.Disk.{Shown}
 use Rattle.page_store.specs.declared.marks.Mark.{Mark}
 use Rattle.page_store.specs.Marks.{mark, keeps, IsKept}
 use Rattle.page_store.specs.Page.{page}
-use Rattle.page_store.specs.Store.{Store, reads, Works, IsUnchanged}
+use Rattle.page_store.specs.Store.{Store, reads, StoreWorks, IsUnchanged}
 use Rattle.retrograde.specs.declared.records.Record.{Record}
 use Rattle.retrograde.specs.declared.records.State.TheVariants.{Processed}
 use Rattle.retrograde.specs.Stored.{is_expanded, is_processed}
 use Rattle.retrograde.specs.Changes.{fresh_record}
 use Rattle.table.specs.declared.fault.TableFault.{TableFault}
 use Rattle.paged_table.specs.Page.{record_in, IsRecordPage}
-use Rattle.paged_table.specs.Paged.{records_in, IsWhole, IsHonest}
-use Rattle.paged_table.specs.Places.{IsThere, IsAdded, IsRenewed}
+use Rattle.paged_table.specs.Paged.{records_in, StaysWhole, IsHonest}
+use Rattle.paged_table.specs.Places.{IsPageThere, IsRecordAdded, IsRenewed}
 use Rattle.paged_table.proofs.Lists.{set_cases, push_cases, map_same, map_set_same, count_set, some_pass, some_fail, count_push}
 use Rattle.paged_table.proofs.Placing.{kept_not_free}
 
 -- pages stay where they are
-pub there_on : (pages : List ℕ) (old new : Store) → Works old new → ((p : ℕ) → Contains pages p → IsThere old p) → (p : ℕ) → Contains pages p → IsThere new p
+pub there_on : (pages : List ℕ) (old new : Store) → StoreWorks old new → ((p : ℕ) → Contains pages p → IsPageThere old p) → (p : ℕ) → Contains pages p → IsPageThere new p
 there_on pages old new works there p here = ((there p here).0, omega (arith, (there p here).1, works.same_pages))
 
 -- the record of a number is on its page
@@ -28,7 +28,7 @@ pub record_at : (bytes : ℕ → List ℕ) (pages : List ℕ) (i p : ℕ) → sl
 record_at bytes pages i p is = slice_get-map (λ q. record_in (bytes q)) pages i ∙ ap (λ o. option_map (λ q. record_in (bytes q)) o) is
 
 -- there is a page for each number
-pub page_there : (known far done : ℕ) (pages : List ℕ) (store : Store) → IsWhole known far done pages store → (i : ℕ) → i < known → slice_get pages i ≡ None → ⊥
+pub page_there : (known far done : ℕ) (pages : List ℕ) (store : Store) → StaysWhole known far done pages store → (i : ℕ) → i < known → slice_get pages i ≡ None → ⊥
 page_there known far done pages store whole i within none = past pages i (omega (arith, whole.as_many, within)) none
   where
     past : (ps : List ℕ) (k : ℕ) → k < length ps → slice_get ps k ≡ None → ⊥
@@ -40,7 +40,7 @@ page_there known far done pages store whole i within none = past pages i (omega 
 pub records_still : (pages : List ℕ) (old new : Store) → new.disk.now ≡ old.disk.now → records_in (reads new) pages ≡ records_in (reads old) pages
 records_still pages old new shown = ap (λ (s : Shown). records_in (λ p. page s.contents p) pages) shown
 
-pub whole_still : (known far done : ℕ) (pages : List ℕ) (old new : Store) → IsUnchanged old new → IsTrue old.disk.honest → IsWhole known far done pages old → IsWhole known far done pages new
+pub whole_still : (known far done : ℕ) (pages : List ℕ) (old new : Store) → IsUnchanged old new → IsTrue old.disk.honest → StaysWhole known far done pages old → StaysWhole known far done pages new
 whole_still known far done pages old new same honest whole = record {
   as_many = whole.as_many;
   kept = λ i p is. subst (λ (ms : List Mark). IsKept ms p) (sym same.marks) (whole.kept i p is);
@@ -50,8 +50,8 @@ whole_still known far done pages old new same honest whole = record {
   processed = whole.processed ∙ ap (λ rs. count_by (λ r. is_processed r.state) rs) (sym (records_still pages old new (same.shown honest)));
 }
 
-pub whole_after_read : (torn : Bool) (known far done : ℕ) (pages : List ℕ) (old new : Store) → Works old new → IsUnchanged old new → (IsHonest torn old → IsWhole known far done pages old)
-    → IsHonest torn new → IsWhole known far done pages new
+pub whole_after_read : (torn : Bool) (known far done : ℕ) (pages : List ℕ) (old new : Store) → StoreWorks old new → IsUnchanged old new → (IsHonest torn old → StaysWhole known far done pages old)
+    → IsHonest torn new → StaysWhole known far done pages new
 whole_after_read torn known far done pages old new works same whole honest =
     let was : IsTrue old.disk.honest = subst (λ (b : Bool). IsTrue b) works.goes_on.honest honest.disk in
     whole_still known far done pages old new same was (whole (record { disk = was; whole = honest.whole }))
@@ -63,7 +63,7 @@ read_back pages i p old is_at (Ok kept) is = record_at (reads old) pages i p is_
 read_back pages i p old is_at (Err fault) is = tt
 
 -- one record more, on a new page
-module _ (known far done : ℕ) (pages : List ℕ) (q : ℕ) (old new : Store) (added : IsAdded q fresh_record old new) (honest : IsTrue old.disk.honest) (whole : IsWhole known far done pages old) where
+module _ (known far done : ℕ) (pages : List ℕ) (q : ℕ) (old new : Store) (added : IsRecordAdded q fresh_record old new) (honest : IsTrue old.disk.honest) (whole : StaysWhole known far done pages old) where
   not_new : (i p : ℕ) → slice_get pages i ≡ Some p → p ≡ q → ⊥
   not_new i p is same = kept_not_free (mark old.marks p) (whole.kept i p is).2 (ap (λ (n : ℕ). mark old.marks n) same ∙ added.free)
 
@@ -72,7 +72,7 @@ module _ (known far done : ℕ) (pages : List ℕ) (q : ℕ) (old new : Store) (
       map-append (λ p. record_in (reads new p)) pages (q ∷ [])
       ∙ (λ i. map_same (λ p. record_in (reads new p)) (λ p. record_in (reads old p)) pages (λ k p is. ap record_in (added.others honest p (not_new k p is))) i ++ added.is honest i ∷ [])
 
-  pub added_whole : IsWhole (known + 1) far done (pages ++ q ∷ []) new
+  pub added_whole : StaysWhole (known + 1) far done (pages ++ q ∷ []) new
   added_whole = record {
     as_many = omega (arith, length-append pages (q ∷ []), whole.as_many);
     kept = kept;
@@ -111,7 +111,7 @@ module _ (known far done : ℕ) (pages : List ℕ) (q : ℕ) (old new : Store) (
 
 -- one record in the place of another
 module _ (known far done : ℕ) (pages : List ℕ) (at p q : ℕ) (kept : Record) (old new : Store) (renewed : IsRenewed p q kept old new) (honest : IsTrue old.disk.honest)
-    (whole : IsWhole known far done pages old) (is_at : slice_get pages at ≡ Some p) where
+    (whole : StaysWhole known far done pages old) (is_at : slice_get pages at ≡ Some p) where
   -- no other number has the old page or the new
   not_old : (i r : ℕ) → slice_get pages i ≡ Some r → (i ≡ at → ⊥) → r ≡ p → ⊥
   not_old i r is other same = other (whole.once i at p (subst (λ (n : ℕ). slice_get pages i ≡ Some n) same is) is_at)
@@ -134,7 +134,7 @@ module _ (known far done : ℕ) (pages : List ℕ) (at p q : ℕ) (kept : Record
   pub renewed_whole : (far_now done_now : ℕ)
       → far_now + cond (is_expanded (record_in (reads old p)).state) 1 0 ≡ far + cond (is_expanded kept.state) 1 0
       → done_now + cond (is_processed (record_in (reads old p)).state) 1 0 ≡ done + cond (is_processed kept.state) 1 0
-      → IsWhole known far_now done_now (set pages at q) new
+      → StaysWhole known far_now done_now (set pages at q) new
   renewed_whole far_now done_now far_is done_is = record {
     as_many = length-set pages at q ∙ whole.as_many;
     kept = λ i r is. kept_now i r (set_cases pages at q i r is);
@@ -167,7 +167,7 @@ module _ (known far done : ℕ) (pages : List ℕ) (at p q : ℕ) (kept : Record
       once_now i j r (inr there) (inr too) = whole.once i j r there.1 too.1
 
 -- the counts that are kept have room for one more or less
-pub far_within : (known far done : ℕ) (pages : List ℕ) (store : Store) → IsWhole known far done pages store → (i p : ℕ) → slice_get pages i ≡ Some p
+pub far_within : (known far done : ℕ) (pages : List ℕ) (store : Store) → StaysWhole known far done pages store → (i p : ℕ) → slice_get pages i ≡ Some p
     → (is_expanded (record_in (reads store p)).state ≡ true → 0 < far) × (is_expanded (record_in (reads store p)).state ≡ false → far < known)
 far_within known far done pages store whole i p is =
     let records = records_in (reads store) pages in
@@ -181,7 +181,7 @@ far_within known far done pages store whole i p is =
           omega (arith, some, counted, long, whole.as_many),
     )
 
-pub done_within : (known far done : ℕ) (pages : List ℕ) (store : Store) → IsWhole known far done pages store → (i p : ℕ) → slice_get pages i ≡ Some p
+pub done_within : (known far done : ℕ) (pages : List ℕ) (store : Store) → StaysWhole known far done pages store → (i p : ℕ) → slice_get pages i ≡ Some p
     → (is_processed (record_in (reads store p)).state ≡ true → 0 < done) × (is_processed (record_in (reads store p)).state ≡ false → done < known)
 done_within known far done pages store whole i p is =
     let records = records_in (reads store) pages in

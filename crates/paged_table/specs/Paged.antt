@@ -2,7 +2,7 @@
 use Rattle.std.specs.Prelude.{◌≡◌, ◌≢◌, ℕ, Bool, true, false, List, length, map, slice_get, Some, count_by, IsTrue}
 use Rattle.sector_disk.specs.Disk.{Grew}
 use Rattle.page_store.specs.Marks.{IsKept, free_count}
-use Rattle.page_store.specs.Store.{Store, reads, Works}
+use Rattle.page_store.specs.Store.{Store, reads, StoreWorks}
 use Rattle.retrograde.specs.declared.records.Record.{Record}
 use Rattle.retrograde.specs.declared.records.Counts.{Counts}
 use Rattle.retrograde.specs.Stored.{Stored, is_expanded, is_processed}
@@ -29,7 +29,7 @@ counted_of memory expanded processed = record {
 
 -- the pages, one for each known position, spell records that are counted right, `far` of them expanded and `done` processed,
 -- and the next commit keeps them
-pub record IsWhole (known far done : ℕ) (pages : List ℕ) (store : Store) : Type 0 where
+pub record StaysWhole (known far done : ℕ) (pages : List ℕ) (store : Store) : Type 0 where
   pub as_many : length pages ≡ known
   pub kept : (i p : ℕ) → slice_get pages i ≡ Some p → IsKept store.marks p
   pub once : (i j p : ℕ) → slice_get pages i ≡ Some p → slice_get pages j ≡ Some p → i ≡ j
@@ -44,7 +44,7 @@ pub record IsHonest (torn : Bool) (store : Store) : Type 0 where
 
 -- after calls that only read: on an honest disk all reads as it did, and but for the disk's clock and failures nothing has changed
 pub record Stays (was : Bool) (before : List ℕ) (old : Store) (is : Bool) (after : List ℕ) (new : Store) : Type 0 where
-  pub works : Works old new
+  pub works : StoreWorks old new
   pub root : new.root ≡ old.root
   pub marks : new.marks ≡ old.marks
   pub closed : new.closed ≡ old.closed
@@ -53,21 +53,21 @@ pub record Stays (was : Bool) (before : List ℕ) (old : Store) (is : Bool) (aft
   pub torn : is ≡ was
 
 -- after calls that were answered: nothing is committed, and the store is as open as it was
-pub record GoesOn (was : Bool) (old : Store) (is : Bool) (new : Store) : Type 0 where
-  pub works : Works old new
+pub record PagedGoesOn (was : Bool) (old : Store) (is : Bool) (new : Store) : Type 0 where
+  pub works : StoreWorks old new
   pub still : new.closed ≡ old.closed
   pub torn : is ≡ was
 
 -- why a call gives no answer: the disk failed; what was there is no honest table; no page is free; memory is short; the store was closed
-abbrev pub Cause : Bool → Store → Store → TableFault → Type 0
-Cause torn old new Disk = Grew old.failures new.failures
-Cause torn old new Damaged = ¬ IsHonest torn old
-Cause torn old new TableFull = free_count new.marks ≡ 0
-Cause torn old new OutOfMemory = Unit {0}
-Cause torn old new Closed = old.closed ≡ true
+abbrev pub PagedCause : Bool → Store → Store → TableFault → Type 0
+PagedCause torn old new Disk = Grew old.failures new.failures
+PagedCause torn old new Damaged = ¬ IsHonest torn old
+PagedCause torn old new TableFull = free_count new.marks ≡ 0
+PagedCause torn old new OutOfMemory = Unit {0}
+PagedCause torn old new Closed = old.closed ≡ true
 
 -- then nothing is committed either, and only a disk that failed closes the store
 pub record Fails (torn : Bool) (old new : Store) (fault : TableFault) : Type 0 where
-  pub works : Works old new
+  pub works : StoreWorks old new
   pub still : fault ≢ Disk → new.closed ≡ old.closed
-  pub cause : Cause torn old new fault
+  pub cause : PagedCause torn old new fault

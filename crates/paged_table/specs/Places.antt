@@ -21,16 +21,16 @@ fault_of page.OutOfMemory = OutOfMemory
 fault_of page.Closed = Closed
 
 -- the page is there
-abbrev pub IsThere : Store → ℕ → Type 0
-IsThere store p = (1 ≤ p) × (p < length store.marks)
+abbrev pub IsPageThere : Store → ℕ → Type 0
+IsPageThere store p = (1 ≤ p) × (p < length store.marks)
 
 -- why no record is read: the disk failed, the page is not there or not that of a record, or the store was closed
-abbrev pub ReadCause : Store → ℕ → Store → TableFault → Type 0
-ReadCause old p new Disk = Grew old.failures new.failures
-ReadCause old p new Damaged = IsTrue old.disk.honest → IsThere old p → IsRecordPage (reads old p) → ⊥
-ReadCause old p new TableFull = ⊥
-ReadCause old p new OutOfMemory = ⊥
-ReadCause old p new Closed = old.closed ≡ true
+abbrev pub RecordReadCause : Store → ℕ → Store → TableFault → Type 0
+RecordReadCause old p new Disk = Grew old.failures new.failures
+RecordReadCause old p new Damaged = IsTrue old.disk.honest → IsPageThere old p → IsRecordPage (reads old p) → ⊥
+RecordReadCause old p new TableFull = ⊥
+RecordReadCause old p new OutOfMemory = ⊥
+RecordReadCause old p new Closed = old.closed ≡ true
 
 -- why no record is put on a page: the disk failed, no page is free, or the store was closed
 abbrev pub PlaceCause : Store → Store → TableFault → Type 0
@@ -41,8 +41,8 @@ PlaceCause old new OutOfMemory = ⊥
 PlaceCause old new Closed = old.closed ≡ true
 
 -- the record is on a page that was free, and all else is as it was
-pub record IsAdded (p : ℕ) (kept : Record) (old new : Store) : Type 0 where
-  pub there : IsThere new p
+pub record IsRecordAdded (p : ℕ) (kept : Record) (old new : Store) : Type 0 where
+  pub there : IsPageThere new p
   pub free : mark old.marks p ≡ Free
   pub same_pages : length new.marks ≡ length old.marks
   pub fresh : mark new.marks p ≡ Fresh
@@ -55,7 +55,7 @@ pub record IsAdded (p : ℕ) (kept : Record) (old new : Store) : Type 0 where
 -- the record of page p is now on page q, which is p itself or was free, and is kept where p was; other pages read as they
 -- did, and are kept where they were
 pub record IsRenewed (p q : ℕ) (kept : Record) (old new : Store) : Type 0 where
-  pub there : IsThere new q
+  pub there : IsPageThere new q
   pub place : (q ≡ p) ⊎ (mark old.marks q ≡ Free)
   pub is_kept : IsKept old.marks p → IsKept new.marks q
   pub still_kept : (r : ℕ) → r ≢ p → IsKept old.marks r → IsKept new.marks r

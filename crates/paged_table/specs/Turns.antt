@@ -5,7 +5,7 @@ use Rattle.page_store.specs.declared.marks.Mark.{Mark}
 use Rattle.page_store.specs.declared.marks.Mark.TheVariants.{Committed, Waiting, Fresh, Released, Free}
 use Rattle.page_store.specs.Marks.{mark, free_count}
 use Rattle.page_store.specs.Spelling.{Spells}
-use Rattle.page_store.specs.Store.{Store, Works}
+use Rattle.page_store.specs.Store.{Store, StoreWorks}
 use Rattle.retrograde.specs.declared.records.Record.{Record}
 use Rattle.retrograde.specs.Graph.{Graph}
 use Rattle.retrograde.specs.Stored.{Stored}
@@ -30,13 +30,13 @@ abbrev pub AtRest : List Mark → Type 0
 AtRest marks = (p : ℕ) → IsTrue (rests (mark marks p))
 
 -- these pages, where pages have these bytes, spell these records
-pub record AreSpelled (pages : List ℕ) (records : List Record) (bytes : ℕ → List ℕ) : Type 0 where
+pub record AreRecordsSpelled (pages : List ℕ) (records : List Record) (bytes : ℕ → List ℕ) : Type 0 where
   pub records_are : records_in bytes pages ≡ records
   pub each : (i p : ℕ) → slice_get pages i ≡ Some p → IsRecordPage (bytes p)
 
 -- the picture has this root, and these pages of it spell the records of the table
 abbrev pub Holds : List ℕ → ℕ → List ℕ → Stored (List ℕ) → Picture → Type 0
-Holds root capacity pages stored = Spells root capacity (AreSpelled pages stored.records)
+Holds root capacity pages stored = Spells root capacity (AreRecordsSpelled pages stored.records)
 
 -- the picture has this root, and pages of it spell the records of a table that some of the units lead to
 pub record HoldsReached (graph : Graph (List ℕ)) (IsWide : List ℕ → Type 0) (units : ℕ) (was : Stored (List ℕ)) (root : List ℕ)
@@ -53,8 +53,8 @@ IsLeftByTurn graph IsWide units old pages was root picture =
     Holds old.root (length old.marks) pages was picture ⊎ HoldsReached graph IsWide units was root (length old.marks) picture
 
 -- work or a commit was refused: nothing is committed, or the store is closed
-pub record IsLeft (old new : Store) : Type 0 where
-  pub left : Works old new ⊎ (new.closed ≡ true)
+pub record IsGivenUp (old new : Store) : Type 0 where
+  pub left : StoreWorks old new ⊎ (new.closed ≡ true)
   pub goes_on : GoesOn old.disk new.disk
   pub failures : old.failures ≤ new.failures
   pub root : new.root ≡ old.root
@@ -64,7 +64,7 @@ pub record IsLeft (old new : Store) : Type 0 where
 -- no page was free at some moment
 pub record WasFull (old : Store) : Type 0 where
   pub moment : Store
-  pub works : Works old moment
+  pub works : StoreWorks old moment
   pub full : free_count moment.marks ≡ 0
 
 -- why the device did not do the work or the commit; but for the first of these the store is as open as it was

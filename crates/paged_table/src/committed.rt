@@ -1,7 +1,7 @@
 //! A table as of a commit.
 ghost use Rattle.std.specs.Prelude.{◌≡◌, ◌↔◌, ◌^◌, ◌<◌, ◌≤◌, false, length, Err, OnOk, OnErr, IfOk, IfErr, IsTrue};
 ghost use Rattle.sector_disk.specs.Disk.{LeavesOnly};
-ghost use Rattle.page_store.specs.Store.{StopLeaves, Works};
+ghost use Rattle.page_store.specs.Store.{StopLeaves, StoreWorks};
 ghost use Rattle.retrograde.specs.Sound.{IsLocallySound};
 ghost use Rattle.retrograde.specs.Stored.{HasRecord, loaded as loaded_with};
 ghost use Rattle.frontier.specs.Causes.{IsRefusal};
@@ -36,7 +36,7 @@ fn loaded<S: Pages + Drop>(
     ensures loaded { IsTrue (S.store store).disk.honest
         → IfOk result (λ t. ⟦<PagedTable<S> as Table>⟧.stored t ≡ loaded_with start.now.items) }
     ensures honest { IfOk result (λ t. t.torn ≡ false) }
-    ensures works { IfOk result (λ t. Works (S.store store) (S.store t.store)) }
+    ensures works { IfOk result (λ t. StoreWorks (S.store store) (S.store t.store)) }
     ensures still { IfOk result (λ t. (S.store t.store).closed ≡ (S.store store).closed) }
     ensures cause { IfErr result (BeginCause (S.store store)) }
 {

@@ -6,8 +6,6 @@ mod committed;
 mod page;
 mod paged;
 mod place;
-#[cfg(test)]
-mod tests;
 mod turn;
 
 pub use committed::CommittedTable;

@@ -2,8 +2,8 @@
 ghost use Rattle.std.specs.Prelude.{◌≡◌, ◌+◌, ◌-◌, ◌<◌, ◌≤◌, ◌^◌, ℕ, false, true, if◌then◌else◌, length, slice_get, Contains};
 ghost use Rattle.retrograde.specs.Changes.{fresh_record};
 ghost use Rattle.table.specs.InMemory.{stored_in};
-ghost use Rattle.paged_table.specs.Places.{IsThere};
-ghost use Rattle.paged_table.specs.Paged.{stored_of, counted_of, IsWhole, IsHonest, Stays, GoesOn, Fails};
+ghost use Rattle.paged_table.specs.Places.{IsPageThere};
+ghost use Rattle.paged_table.specs.Paged.{stored_of, counted_of, StaysWhole, IsHonest, Stays, PagedGoesOn, Fails};
 ghost use Rattle.paged_table.specs.aid.Frames as frames;
 
 use crate::place::{fetch, put_again, put_new};
@@ -25,9 +25,9 @@ pub struct PagedTable<S: Pages> {
     pub(crate) processed: u32,
     /// A call that writes has stopped half way.
     pub(crate) torn: bool,
-    ghost there: { (p : ℕ) → Contains pages.items p → IsThere (S.store store) p },
+    ghost there: { (p : ℕ) → Contains pages.items p → IsPageThere (S.store store) p },
     ghost whole: { IsHonest torn (S.store store)
-        → IsWhole (length (stored_in memory).positions) expanded processed pages.items (S.store store) },
+        → StaysWhole (length (stored_in memory).positions) expanded processed pages.items (S.store store) },
 }
 
 /// The record of a position that is known and no more.
@@ -71,7 +71,7 @@ impl<S: Pages> Table for PagedTable<S> {
 
     ghost stays = { λ was is. Stays was.torn was.pages.items (S.store was.store) is.torn is.pages.items (S.store is.store) };
 
-    ghost goes_on = { λ was is. GoesOn was.torn (S.store was.store) is.torn (S.store is.store) };
+    ghost goes_on = { λ was is. PagedGoesOn was.torn (S.store was.store) is.torn (S.store is.store) };
 
     ghost fails = { λ was is fault. Fails was.torn (S.store was.store) (S.store is.store) fault };
 

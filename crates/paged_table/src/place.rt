@@ -1,9 +1,9 @@
 //! Records on pages of a store: read, put on a new page, and put in the place of another.
 ghost use Rattle.std.specs.Prelude.{◌≡◌, ◌≢◌, ◌≤◌, ◌<◌, length, OnOk, IfOk, IfErr, IsTrue};
-ghost use Rattle.page_store.specs.Store.{reads, Works, IsUnchanged};
+ghost use Rattle.page_store.specs.Store.{reads, StoreWorks, IsUnchanged};
 ghost use Rattle.table.specs.declared.fault.TableFault.TheVariants.{Disk};
 ghost use Rattle.paged_table.specs.Page.{record_in};
-ghost use Rattle.paged_table.specs.Places.{fault_of, ReadCause, PlaceCause, IsAdded, IsRenewed};
+ghost use Rattle.paged_table.specs.Places.{fault_of, RecordReadCause, PlaceCause, IsRecordAdded, IsRenewed};
 
 use crate::page::{page_of, record_of};
 use page_store::{PageFault, Pages};
@@ -27,8 +27,8 @@ pub fn table_fault(fault: PageFault) -> TableFault
 pub fn fetch<S: Pages>(store: &mut S, page: u32) -> Result<Record, TableFault>
     ensures record { IsTrue (S.store store.old).disk.honest → IfOk result (λ kept. kept ≡ record_in (reads (S.store store.old) page)) }
     ensures unchanged { IsUnchanged (S.store store.old) (S.store store.new) }
-    ensures works { Works (S.store store.old) (S.store store.new) }
-    ensures cause { IfErr result (ReadCause (S.store store.old) page (S.store store.new)) }
+    ensures works { StoreWorks (S.store store.old) (S.store store.new) }
+    ensures cause { IfErr result (RecordReadCause (S.store store.old) page (S.store store.new)) }
 {
     let mut bytes = [0; 4096];
     match store.read_page(page, &mut bytes) {
@@ -39,8 +39,8 @@ pub fn fetch<S: Pages>(store: &mut S, page: u32) -> Result<Record, TableFault>
 
 /// Puts a record on a new page, and answers that.
 pub fn put_new<S: Pages>(store: &mut S, kept: Record) -> Result<u32, TableFault>
-    ensures added { IfOk result (λ page. IsAdded page kept (S.store store.old) (S.store store.new)) }
-    ensures works { Works (S.store store.old) (S.store store.new) }
+    ensures added { IfOk result (λ page. IsRecordAdded page kept (S.store store.old) (S.store store.new)) }
+    ensures works { StoreWorks (S.store store.old) (S.store store.new) }
     ensures still { IfErr result (λ fault. fault ≢ Disk → (S.store store.new).closed ≡ (S.store store.old).closed) }
     ensures cause { IfErr result (PlaceCause (S.store store.old) (S.store store.new)) }
 {
@@ -60,7 +60,7 @@ pub fn put_again<S: Pages>(store: &mut S, page: u32, kept: Record) -> Result<u32
     requires is_page { 1 ≤ page }
     requires within { page < length (S.store store.old).marks }
     ensures renewed { IfOk result (λ next. IsRenewed page next kept (S.store store.old) (S.store store.new)) }
-    ensures works { Works (S.store store.old) (S.store store.new) }
+    ensures works { StoreWorks (S.store store.old) (S.store store.new) }
     ensures still { IfErr result (λ fault. fault ≢ Disk → (S.store store.new).closed ≡ (S.store store.old).closed) }
     ensures cause { IfErr result (PlaceCause (S.store store.old) (S.store store.new)) }
 {

@@ -8,7 +8,7 @@ ghost use Rattle.frontier.specs.declared.fault.StepFault.TheVariants.{Inconsiste
 ghost use Rattle.table_work.specs.Work.{AreDone, StopsWith};
 ghost use Rattle.table.specs.InMemory.{stored_in};
 ghost use Rattle.paged_table.specs.Paged.{IsHonest, stored_of};
-ghost use Rattle.paged_table.specs.Turns.{Holds, IsLeft, TurnCause, IsLeftByTurn};
+ghost use Rattle.paged_table.specs.Turns.{Holds, IsGivenUp, TurnCause, IsLeftByTurn};
 
 use crate::paged::PagedTable;
 use crate::place::table_fault;
@@ -44,7 +44,7 @@ fn work_and_commit<M: MoveSource, S: Pages>(
         (⟦<PagedTable<S> as Table>⟧.stored table.old) done (⟦<PagedTable<S> as Table>⟧.stored table.new)) }
     ensures calm { IsCalm (S.store table.old.store) → OnOk result (IsCalm (S.store table.new.store)) }
     ensures root { OnOk result ((S.store table.new.store).root ≡ root.now) }
-    ensures left { OnErr result (IsLeft (S.store table.old.store) (S.store table.new.store)) }
+    ensures left { OnErr result (IsGivenUp (S.store table.old.store) (S.store table.new.store)) }
     ensures stop { ⟦<PagedTable<S> as Table>⟧.is_honest table.old → (S.store table.old.store).closed ≡ false
         → IsCalm (S.store table.old.store)
         → IsLocallySound (M.graph source.now) (M.is_wide source.now) (⟦<PagedTable<S> as Table>⟧.stored table.old)

@@ -10,14 +10,14 @@ use Rattle.rbg_game.specs.Sound.{IsSoundGame}
 use Rattle.rbg_game.specs.Names.{HasProperNames}
 use Rattle.rbg_game.specs.declared.position.Position.{Position}
 use Rattle.position_pack.specs.Texts.{piece_name, vertex_name, role_text, with_commas}
-use Rattle.position_pack.specs.Spelled.{IsSpelled, AreWords, IsNumber, IsVertex, ArePieces, AreNumbers}
+use Rattle.position_pack.specs.Spelled.{IsSpelled, AreWords, IsDecimal, IsVertex, ArePieces, AreNumbers}
 use Rattle.position_pack.proofs.ShapeLemmas.{small_shape, bound_is}
 use Rattle.position_pack.proofs.TellLemmas.{Lacks, lacks, before, digits_lack, role_lacks, vertex_lacks, pieces_space, place_low, nested}
 
 -- each of the five words spells its part of the position
 pub record SpellWords (game : Game) (at : Position) (a b c d e : List ℕ) : Type 0 where
   pub role_is : a ≡ role_text game at.state.mover
-  pub place_is : IsNumber (count game.rules) b at.place
+  pub place_is : IsDecimal (count game.rules) b at.place
   pub vertex_is : IsVertex game c at.state.vertex
   pub pieces_are : ArePieces game d at.state.pieces.items
   pub values_are : AreNumbers game e at.state.values.items

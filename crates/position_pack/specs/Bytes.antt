@@ -9,7 +9,8 @@ use Rattle.position_pack.specs.Fields.{role_code}
 -- a byte for each piece, three for each value, one for the vertex and the role, two for the place
 abbrev pub bytes_of : Position → List ℕ
 bytes_of at =
-    at.state.pieces.items ++ flat_map (bytes_high_first 3) at.state.values.items ++ at.state.vertex ∷ role_code at.state.mover ∷ bytes_high_first 2 at.place
+    at.state.pieces.items ++ flat_map
+    (bytes_high_first 3) at.state.values.items ++ at.state.vertex ∷ role_code at.state.mover ∷ bytes_high_first 2 at.place
 
 -- the bytes are three for each value, and each value is within its bound
 pub record AreValues (bytes bounds values : List ℕ) : Type 0 where

@@ -30,8 +30,8 @@ pub record IsWritten (f : ℕ → List ℕ) (Allowed : ℕ → Type 0) (text : L
   pub text_is : text ≡ f n
 
 -- the decimal of a number that is at most so much
-abbrev pub IsNumber : ℕ → List ℕ → ℕ → Type 0
-IsNumber most = IsWritten decimal (λ n. n ≤ most)
+abbrev pub IsDecimal : ℕ → List ℕ → ℕ → Type 0
+IsDecimal most = IsWritten decimal (λ n. n ≤ most)
 
 -- the name of a vertex of the game
 abbrev pub IsVertex : Game → List ℕ → ℕ → Type 0

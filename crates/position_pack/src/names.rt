@@ -13,7 +13,8 @@ use rbg_game::roles::{Player, Role};
 /// The role with this text, `>>` or the name of a player: none where no role has it.
 pub fn read_role(game: &Game, bytes: &[u8]) -> Option<Role>
     requires { IsSoundGame (game_of game.now) }
-    ensures { MatchOption result ((role : Role) → bytes.now ≢ role_text (game_of game.now) role) (λ role. bytes.now ≡ role_text (game_of game.now) role) }
+    ensures { MatchOption result ((role : Role) → bytes.now ≢ role_text (game_of game.now) role)
+        (λ role. bytes.now ≡ role_text (game_of game.now) role) }
 {
     if bytes == b">>".as_slice() {
         Some(Role::Keeper)

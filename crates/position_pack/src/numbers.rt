@@ -7,7 +7,7 @@ ghost use Rattle.rbg_game.specs.Meaning.{game_of};
 ghost use Rattle.rbg_game.specs.Sound.{IsSoundGame};
 ghost use Rattle.rbg_game.specs.Games.{bound_of};
 ghost use Rattle.rbg_game.specs.Rules as rules;
-ghost use Rattle.position_pack.specs.Spelled.{IsNumber};
+ghost use Rattle.position_pack.specs.Spelled.{IsDecimal};
 
 use rbg_game::count::action_count;
 use rbg_game::game::Game;
@@ -40,7 +40,7 @@ fn digits_of(bytes: &[u8]) -> Option<u32>
 /// The number from 0 to `most` whose decimal the bytes are: none where it is over that, or where
 /// they are no decimal, as with a zero too many or a sign.
 pub fn read_number(bytes: &[u8], most: u32) -> Option<u32>
-    ensures { MatchOption result ((n : ℕ) → ¬ IsNumber most bytes.now n) (IsNumber most bytes.now) }
+    ensures { MatchOption result ((n : ℕ) → ¬ IsDecimal most bytes.now n) (IsDecimal most bytes.now) }
 {
     if !begins_plainly(bytes) {
         return None;
@@ -56,7 +56,8 @@ pub fn read_number(bytes: &[u8], most: u32) -> Option<u32>
 /// are that of no such place.
 pub fn read_place(game: &Game, bytes: &[u8]) -> Option<u16>
     requires { IsSoundGame (game_of game.now) }
-    ensures { MatchOption result ((n : ℕ) → ¬ IsNumber (rules.count (game_of game.now).rules) bytes.now n) (IsNumber (rules.count (game_of game.now).rules) bytes.now) }
+    ensures { MatchOption result ((n : ℕ) → ¬ IsDecimal (rules.count (game_of game.now).rules) bytes.now n)
+        (IsDecimal (rules.count (game_of game.now).rules) bytes.now) }
 {
     let place = read_number(bytes, action_count(&game.rules) as u32)?;
     Some(place as u16)
@@ -66,7 +67,8 @@ pub fn read_place(game: &Game, bytes: &[u8]) -> Option<u16>
 /// where they are that of no such value.
 pub fn read_value(game: &Game, variable: usize, bytes: &[u8]) -> Option<u32>
     requires { variable < length (game_of game.now).variables }
-    ensures { MatchOption result ((n : ℕ) → ¬ IsNumber (bound_of (game_of game.now) variable) bytes.now n) (IsNumber (bound_of (game_of game.now) variable) bytes.now) }
+    ensures { MatchOption result ((n : ℕ) → ¬ IsDecimal (bound_of (game_of game.now) variable) bytes.now n)
+        (IsDecimal (bound_of (game_of game.now) variable) bytes.now) }
 {
     read_number(bytes, game.variables[variable].bound)
 }

@@ -98,7 +98,8 @@ fn value_at(bytes: &[u8], place: usize) -> u32
 /// The values with these bytes, three for each, where none is over its bound.
 pub fn values_of(bytes: &[u8], bounds: &ArrayVec<u32, 34>) -> Option<ArrayVec<u32, 34>>
     requires { length bytes.now ≡ 3 * length bounds.now.items }
-    ensures { MatchOption result ((values : List ℕ) → ¬ AreValues bytes.now bounds.now.items values) (λ values. AreValues bytes.now bounds.now.items values.items) }
+    ensures { MatchOption result ((values : List ℕ)
+        → ¬ AreValues bytes.now bounds.now.items values) (λ values. AreValues bytes.now bounds.now.items values.items) }
 {
     let mut values = ArrayVec::new();
     for (index, bound) in bounds.iter().enumerate() {

@@ -21,7 +21,8 @@ use rbg_game::position::{Position, SemiState};
 pub fn read_position(game: &Game, text: &[u8]) -> Option<Position>
     requires sound { IsSoundGame (game_of game.now) }
     requires names { HasProperNames (game_of game.now) }
-    ensures { MatchOption result ((at : Position) → ¬ IsSpelled (game_of game.now) at text.now) (λ at. IsSpelled (game_of game.now) at text.now) }
+    ensures { MatchOption result ((at : Position) → ¬ IsSpelled (game_of game.now) at text.now)
+        (λ at. IsSpelled (game_of game.now) at text.now) }
 {
     let words = words_of(text)?;
     let mover = read_role(game, words.role)?;
@@ -45,7 +46,8 @@ pub fn read_position(game: &Game, text: &[u8]) -> Option<Position>
 fn read_pieces(game: &Game, bytes: &[u8]) -> Option<ArrayVec<u8, 128>>
     requires sound { IsSoundGame (game_of game.now) }
     requires names { HasProperNames (game_of game.now) }
-    ensures { MatchOption result ((pieces : List ℕ) → ¬ ArePieces (game_of game.now) bytes.now pieces) (λ pieces. ArePieces (game_of game.now) bytes.now pieces.items) }
+    ensures { MatchOption result ((pieces : List ℕ)
+        → ¬ ArePieces (game_of game.now) bytes.now pieces) (λ pieces. ArePieces (game_of game.now) bytes.now pieces.items) }
 {
     let mut pieces = ArrayVec::new();
     let mut rest = bytes;
@@ -62,7 +64,8 @@ fn read_pieces(game: &Game, bytes: &[u8]) -> Option<ArrayVec<u8, 128>>
 /// variables, or one is no decimal up to its bound.
 fn read_values(game: &Game, bytes: &[u8]) -> Option<ArrayVec<u32, 34>>
     requires { IsSoundGame (game_of game.now) }
-    ensures { MatchOption result ((values : List ℕ) → ¬ AreNumbers (game_of game.now) bytes.now values) (λ values. AreNumbers (game_of game.now) bytes.now values.items) }
+    ensures { MatchOption result ((values : List ℕ)
+        → ¬ AreNumbers (game_of game.now) bytes.now values) (λ values. AreNumbers (game_of game.now) bytes.now values.items) }
 {
     let mut values = ArrayVec::new();
     let mut rest = bytes;

@@ -7,7 +7,7 @@ use Rattle.rbg_game.specs.Meaning.{expression_of}
 use Rattle.rbg_game.specs.declared.rules.Expr.{Expr}
 use Rattle.std.proofs.lemmas.List.Sums.{fold_more}
 use Rattle.std.specs.Prelude.{unsigned_abs}
-use Rattle.rbg_game.specs.Expressions.{Expression, number, variable, negation, sum, product, sum_all, product_all, value_of, size_of, IsSmall, NamesBelow}
+use Rattle.rbg_game.specs.Expressions.{Expression, number, variable, negation, sum, product, sum_all, product_all, value_of, size_of, HasSmallParts, NamesBelow}
 
 abs_neg : (x : ℤ) → unsigned_abs (neg_ℤ x) ≡ unsigned_abs x
 abs_neg (pos zero) = refl
@@ -32,7 +32,7 @@ value_within values (sum a b) = omega (arith, abs_add (value_of values a) (value
 value_within values (product a b) =
     omega (arith, unsigned_abs-mul (value_of values a) (value_of values b), mul-le-mul (value_within values a) (value_within values b))
 
-pub size_small : (values : List ℕ) (e : Expression) → IsSmall values e → size_of values e ≤ 2 ^ 62
+pub size_small : (values : List ℕ) (e : Expression) → HasSmallParts values e → size_of values e ≤ 2 ^ 62
 size_small values (number n) h = h
 size_small values (variable v) h = h
 size_small values (negation a) h = size_small values a h
@@ -40,7 +40,7 @@ size_small values (sum a b) h = h.0
 size_small values (product a b) h = h.0
 
 -- a small expression's value fits
-pub value_fits : (values : List ℕ) (e : Expression) → IsSmall values e → FitsSigned w64 (value_of values e)
+pub value_fits : (values : List ℕ) (e : Expression) → HasSmallParts values e → FitsSigned w64 (value_of values e)
 value_fits values e h = fits_signed_from_abs w64 (value_of values e) (omega (arith, value_within values e, size_small values e h))
 
 -- what holds of a fold and passes to first parts holds where the fold began
@@ -72,11 +72,11 @@ item_more f a items i x h e =
     fold_more f a (map expression_of items) i (expression_of x) (omega (arith, length-map items expression_of)) ∙ ap (f (fold f a (take i (map expression_of items)))) same
 
 -- one turn of a loop that folds the values of the parts by an operation of ℤ
-module _ (values : List ℕ) (f : Expression → Expression → Expression) (op : ℤ → ℤ → ℤ) (is : (a b : Expression) → value_of values (f a b) ≡ op (value_of values a) (value_of values b)) (first : (a b : Expression) → IsSmall values (f a b) → IsSmall values a) (second : (a b : Expression) → IsSmall values (f a b) → IsSmall values b) (start : Expression) (items : List Expr) (i : ℕ) (x : Expr) (total r : ℤ) (within : i < length items) (item : x ≡ get_or items i x) (small : IsSmall values (fold f start (map expression_of items))) (invariant : total ≡ value_of values (fold f start (take i (map expression_of items)))) (part_is : r ≡ value_of values (expression_of x)) where
-  part : IsSmall values (f (fold f start (take i (map expression_of items))) (expression_of x))
-  part = item_part (IsSmall values) f first start items i x within item small
+module _ (values : List ℕ) (f : Expression → Expression → Expression) (op : ℤ → ℤ → ℤ) (is : (a b : Expression) → value_of values (f a b) ≡ op (value_of values a) (value_of values b)) (first : (a b : Expression) → HasSmallParts values (f a b) → HasSmallParts values a) (second : (a b : Expression) → HasSmallParts values (f a b) → HasSmallParts values b) (start : Expression) (items : List Expr) (i : ℕ) (x : Expr) (total r : ℤ) (within : i < length items) (item : x ≡ get_or items i x) (small : HasSmallParts values (fold f start (map expression_of items))) (invariant : total ≡ value_of values (fold f start (take i (map expression_of items)))) (part_is : r ≡ value_of values (expression_of x)) where
+  part : HasSmallParts values (f (fold f start (take i (map expression_of items))) (expression_of x))
+  part = item_part (HasSmallParts values) f first start items i x within item small
 
-  pub part_small : IsSmall values (expression_of x)
+  pub part_small : HasSmallParts values (expression_of x)
   part_small = second _ _ part
 
   -- the sum or product before it is stored
@@ -97,7 +97,7 @@ neg_is (pos zero) = refl
 neg_is (pos (suc n)) = omega (arith, ints)
 neg_is (negsuc n) = omega (arith, ints)
 
-module _ (values : List ℕ) (e : Expression) (x : ℤ) (small : IsSmall values e) (x_is : x ≡ value_of values e) where
+module _ (values : List ℕ) (e : Expression) (x : ℤ) (small : HasSmallParts values e) (x_is : x ≡ value_of values e) where
   fits_x : FitsSigned w64 x
   fits_x = subst (FitsSigned w64) (sym x_is) (value_fits values e small)
 
@@ -134,19 +134,19 @@ product_value values (a ∷ xs) = along (product (number 1) a) a xs (one_by (val
     along b a [] e = e
     along b a (x ∷ xs) e = along (product b x) (product a x) xs (ap (λ z. z *ℤ value_of values x) e)
 
-pub sum_small : (values : List ℕ) (xs : List Expression) → IsSmall values (sum_all xs) → IsSmall values (fold sum (number 0) xs)
+pub sum_small : (values : List ℕ) (xs : List Expression) → HasSmallParts values (sum_all xs) → HasSmallParts values (fold sum (number 0) xs)
 sum_small values [] h = h
 sum_small values (a ∷ xs) h = along (sum (number 0) a) a xs (omega arith) (λ p. (omega (arith, size_small values a p), omega arith, p)) h
   where
-    along : (b a : Expression) (xs : List Expression) → size_of values b ≡ size_of values a → (IsSmall values a → IsSmall values b) → IsSmall values (fold sum a xs) → IsSmall values (fold sum b xs)
+    along : (b a : Expression) (xs : List Expression) → size_of values b ≡ size_of values a → (HasSmallParts values a → HasSmallParts values b) → HasSmallParts values (fold sum a xs) → HasSmallParts values (fold sum b xs)
     along b a [] e f h = f h
     along b a (x ∷ xs) e f h = along (sum b x) (sum a x) xs (ap (λ n. n + size_of values x) e) (λ p. (subst (λ n. n + size_of values x ≤ 2 ^ 62) (sym e) p.0, f p.1, p.2)) h
 
-pub product_small : (values : List ℕ) (xs : List Expression) → IsSmall values (product_all xs) → IsSmall values (fold product (number 1) xs)
+pub product_small : (values : List ℕ) (xs : List Expression) → HasSmallParts values (product_all xs) → HasSmallParts values (fold product (number 1) xs)
 product_small values [] h = h
 product_small values (a ∷ xs) h = along (product (number 1) a) a xs (omega arith) (λ p. (omega (arith, size_small values a p), omega arith, p)) h
   where
-    along : (b a : Expression) (xs : List Expression) → size_of values b ≡ size_of values a → (IsSmall values a → IsSmall values b) → IsSmall values (fold product a xs) → IsSmall values (fold product b xs)
+    along : (b a : Expression) (xs : List Expression) → size_of values b ≡ size_of values a → (HasSmallParts values a → HasSmallParts values b) → HasSmallParts values (fold product a xs) → HasSmallParts values (fold product b xs)
     along b a [] e f h = f h
     along b a (x ∷ xs) e f h = along (product b x) (product a x) xs (ap (λ n. n * size_of values x) e) (λ p. (subst (λ n. n * size_of values x ≤ 2 ^ 62) (sym e) p.0, f p.1, p.2)) h
 

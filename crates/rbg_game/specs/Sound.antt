@@ -1,6 +1,6 @@
 -- What holds of each game that a text reads to.
 use Rattle.std.specs.Prelude.{ℕ, ◌+◌, ◌≤◌, ◌<◌, ⊤, List, length, map, All}
-use Rattle.rbg_game.specs.Expressions.{Expression, IsSmall, NamesBelow}
+use Rattle.rbg_game.specs.Expressions.{Expression, HasSmallParts, NamesBelow}
 use Rattle.rbg_game.specs.Rules.{Regex, one, empty, cat, alt, star, Action, shift, on, off, assignment, comparison, switch, pattern}
 use Rattle.rbg_game.specs.Games.{Game, Vertex, Arrow}
 
@@ -38,7 +38,7 @@ bounds game = map (λ v. v.bound) game.variables
 
 -- it names variables of the game, and cannot become too large
 abbrev pub IsSoundExpression : Game → Expression → Type 0
-IsSoundExpression game e = NamesBelow (length game.variables) e × IsSmall (bounds game) e
+IsSoundExpression game e = NamesBelow (length game.variables) e × HasSmallParts (bounds game) e
 
 -- each action names what the game has, its expressions are sound, and no pattern has a switch in it
 abbrev mutual

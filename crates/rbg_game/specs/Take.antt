@@ -28,7 +28,8 @@ round = cat_all (
 abbrev pub take : Game
 take = record {
   pieces = codes "e" ∷ [];
-  variables = record { name = codes "white"; bound = 1 } ∷ record { name = codes "black"; bound = 1 } ∷ record { name = codes "heap"; bound = 3 } ∷ [];
+  variables = record { name = codes "white"; bound = 1 } ∷ record { name = codes "black"; bound = 1 } ∷ record
+      { name = codes "heap"; bound = 3 } ∷ [];
   labels = [];
   vertices = record { name = codes "v"; piece = 0; arrows = [] } ∷ [];
   rules = cat (sets 2 3) (star round);

@@ -1,6 +1,6 @@
 //! The value of an expression.
 ghost use Rattle.std.specs.Prelude.{◌≡◌, ℕ, ◌≤◌, List, slice_index, length};
-ghost use Rattle.rbg_game.specs.Expressions.{value_of, IsSmall, NamesBelow};
+ghost use Rattle.rbg_game.specs.Expressions.{value_of, HasSmallParts, NamesBelow};
 ghost use Rattle.rbg_game.specs.Meaning.{expression_of};
 
 use crate::rules::Expr;
@@ -8,7 +8,7 @@ use crate::rules::Expr;
 /// Exact, since no part is too large.
 pub fn value(expr: &Expr, values: &[u32]) -> i64
     requires names { NamesBelow (length values.now) (expression_of expr.now) }
-    requires small { IsSmall values.now (expression_of expr.now) }
+    requires small { HasSmallParts values.now (expression_of expr.now) }
     ensures { result ≡ value_of values.now (expression_of expr.now) }
 {
     match expr {

@@ -119,11 +119,11 @@ declaration_behind : (d : Declaration) (rest : Tokens) → Fine (g.declaration d
 unfolding Fine
 declaration_behind d rest h = (h.0, h.1.1.1.1)
 
-arrow_behind : (a : g.Arrow) (rest : Tokens) → Fine (g.arrow a rest) → Named a.label × Fine rest
+arrow_behind : (a : g.WrittenArrow) (rest : Tokens) → Fine (g.arrow a rest) → Named a.label × Fine rest
 unfolding Fine
 arrow_behind a rest h = (h.0, h.1.1.1)
 
-vertex_behind : (v : g.Vertex) (rest : Tokens) → Fine (g.vertex v rest) → Named v.name × Fine rest
+vertex_behind : (v : g.WrittenVertex) (rest : Tokens) → Fine (g.vertex v rest) → Named v.name × Fine rest
 unfolding Fine
 vertex_behind v rest h = (h.0, (commas_behind g.arrow (λ a. Named a.label) arrow_behind v.arrows (g.mark CloseBrace rest) h.1.1.1.1.1).1.1)
 
@@ -139,7 +139,7 @@ vertices_behind (at_once v ∷ more) rest h =
     let rest2 = vertices_behind more rest one.1 in
     (All-cons (λ x. Named x.name) v (map further_vertex more) one.0 rest2.0, rest2.1)
 
-record AreNamed (players : List Declaration) (pieces : List Text) (variables : List Declaration) (vertices : List g.Vertex) : Type 0 where
+record AreNamed (players : List Declaration) (pieces : List Text) (variables : List Declaration) (vertices : List g.WrittenVertex) : Type 0 where
   players_are : All (λ d. Named d.name) players
   pieces_are : All Named pieces
   variables_are : All (λ d. Named d.name) variables
@@ -154,8 +154,8 @@ no_declarations = All-nil (λ (d : Declaration). Named d.name)
 no_names : All Named []
 no_names = All-nil Named
 
-no_vertices : All (λ (v : g.Vertex). Named v.name) []
-no_vertices = All-nil (λ (v : g.Vertex). Named v.name)
+no_vertices : All (λ (v : g.WrittenVertex). Named v.name) []
+no_vertices = All-nil (λ (v : g.WrittenVertex). Named v.name)
 
 section_behind : (s : Section) (rest : Tokens) → Fine (g.section s rest) → SectionNamed s × Fine rest
 unfolding Fine
@@ -220,7 +220,7 @@ differ (x ∷ names) h (suc i) (suc j) d lt within same =
 
 -- ---- the whole
 
-vertex_names : (names : Names) (vs : List g.Vertex) → map (λ v. v.name) (map (vertex names) vs) ≡ map (λ v. v.name) vs
+vertex_names : (names : Names) (vs : List g.WrittenVertex) → map (λ v. v.name) (map (vertex names) vs) ≡ map (λ v. v.name) vs
 vertex_names names [] = refl
 vertex_names names (v ∷ vs) = ap (λ ws. v.name ∷ ws) (vertex_names names vs)
 

@@ -7,7 +7,7 @@ use Rattle.std.proofs.lemmas.Bool.{cases_Bool, or_parts, ltb-true, ltb-false, no
 use Rattle.std.proofs.lemmas.List.Folds.{list_any-append}
 use Rattle.rbg_text.specs.Token.{Text}
 use Rattle.rbg_text.specs.Syntax.{Expr, sum_of, plus, minus, Term, product_of, times, Factor, positive, negative, Atom, literal, parenthesized}
-use Rattle.rbg_game.specs.Expressions.{size_of, IsSmall, NamesBelow}
+use Rattle.rbg_game.specs.Expressions.{size_of, HasSmallParts, NamesBelow}
 use Rattle.rbg_read.specs.Means.{Names, values_of, index_of, expression, product_expression, factor_expression, atom_expression}
 use Rattle.rbg_read.specs.Causes.{max_size, names_in, names_in_term, names_in_factor, names_in_atom, is_unknown, size, term_size, factor_size, atom_size, is_large, is_large_term, is_large_factor, is_large_atom}
 
@@ -58,7 +58,7 @@ module _ (names : Names) (bounds : List ℕ) where
     atom_size_is (parenthesized e) = size_is e
 
   mutual
-    pub small : (e : Expr) → is_large (values_of names) bounds e ≡ false → IsSmall bounds (expression names e)
+    pub small : (e : Expr) → is_large (values_of names) bounds e ≡ false → HasSmallParts bounds (expression names e)
     small (sum_of t) h = term_small t h
     small (plus e t) h =
         let p = or_parts _ _ h in
@@ -69,18 +69,18 @@ module _ (names : Names) (bounds : List ℕ) where
         let q = or_parts _ _ p.0 in
         (omega (arith, size_is e, term_size_is t, within _ p.1), small e q.0, term_small t q.1)
 
-    term_small : (t : Term) → is_large_term (values_of names) bounds t ≡ false → IsSmall bounds (product_expression names t)
+    term_small : (t : Term) → is_large_term (values_of names) bounds t ≡ false → HasSmallParts bounds (product_expression names t)
     term_small (product_of f) h = factor_small f h
     term_small (times t f) h =
         let p = or_parts _ _ h in
         let q = or_parts _ _ p.0 in
         (subst (λ n. n ≤ 2 ^ 62) (sym (term_size_is (times t f))) (within _ p.1), term_small t q.0, factor_small f q.1)
 
-    factor_small : (f : Factor) → is_large_factor (values_of names) bounds f ≡ false → IsSmall bounds (factor_expression names f)
+    factor_small : (f : Factor) → is_large_factor (values_of names) bounds f ≡ false → HasSmallParts bounds (factor_expression names f)
     factor_small (positive a) h = atom_small a h
     factor_small (negative a) h = atom_small a h
 
-    atom_small : (a : Atom) → is_large_atom (values_of names) bounds a ≡ false → IsSmall bounds (atom_expression names a)
+    atom_small : (a : Atom) → is_large_atom (values_of names) bounds a ≡ false → HasSmallParts bounds (atom_expression names a)
     atom_small (literal n) h = within _ h
     atom_small (Atom.variable v) h = within _ h
     atom_small (parenthesized e) h = small e h

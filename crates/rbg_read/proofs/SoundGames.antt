@@ -71,7 +71,7 @@ all_known ls =
 -- ---- the board
 
 module _ (names : Names) (game : Game) (labels_are : length game.labels ≡ length names.labels) (pieces_are : length game.pieces ≡ length names.pieces) (vertices_are : length game.vertices ≡ length names.vertices) where
-  arrows_sound : (arrows : List g.Arrow) → list_any (λ a. is_unknown names.vertices a.to) arrows ≡ false → AllByRecursion (Known names.labels) (map (λ a. a.label) arrows) → All (IsSoundArrow game) (map (arrow names) arrows)
+  arrows_sound : (arrows : List g.WrittenArrow) → list_any (λ a. is_unknown names.vertices a.to) arrows ≡ false → AllByRecursion (Known names.labels) (map (λ a. a.label) arrows) → All (IsSoundArrow game) (map (arrow names) arrows)
   unfolding Known
   arrows_sound [] h known = All-nil (IsSoundArrow game)
   arrows_sound (a ∷ more) h known =
@@ -80,7 +80,7 @@ module _ (names : Names) (game : Game) (labels_are : length game.labels ≡ leng
       (omega (arith, index_below names.labels a.label known.0, labels_are), omega (arith, index_below names.vertices a.to p.0, vertices_are))
       (arrows_sound more p.1 known.1)
 
-  vertices_sound : (vs : List g.Vertex) → list_any (vertex_uses_unknown names) vs ≡ false → AllByRecursion (Known names.labels) (flat_map (λ v. map (λ a. a.label) v.arrows) vs) → All (IsSoundVertex game) (map (vertex names) vs)
+  vertices_sound : (vs : List g.WrittenVertex) → list_any (vertex_uses_unknown names) vs ≡ false → AllByRecursion (Known names.labels) (flat_map (λ v. map (λ a. a.label) v.arrows) vs) → All (IsSoundVertex game) (map (vertex names) vs)
   vertices_sound [] h known = All-nil (IsSoundVertex game)
   vertices_sound (v ∷ vs) h known =
       let p = or_parts (vertex_uses_unknown names v) (list_any (vertex_uses_unknown names) vs) h in

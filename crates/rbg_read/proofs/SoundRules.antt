@@ -9,7 +9,7 @@ use Rattle.rbg_text.specs.Syntax as g
 use Rattle.rbg_text.specs.Syntax.{Expr, Assignment, Sum, Concat, Element, Base}
 use Rattle.rbg_game.specs.Rules.{Regex, count}
 use Rattle.rbg_game.specs.Games.{Game}
-use Rattle.rbg_game.specs.Expressions.{IsSmall, NamesBelow}
+use Rattle.rbg_game.specs.Expressions.{HasSmallParts, NamesBelow}
 use Rattle.rbg_game.specs.Sound.{whole_count, LacksSwitch, bounds, IsSoundExpression, IsSoundRegex}
 use Rattle.rbg_read.specs.Means.{Names, values_of, index_of, expression, assignment, sum_rules, concat_rules, element_rules, base_rules}
 use Rattle.rbg_read.specs.Causes.{actions_in, actions_in_concat, actions_in_element, actions_in_base, expressions_of, is_unknown, uses_unknown_value, action_uses_unknown, is_large, is_switch, has_switch_inside, action_count}
@@ -121,7 +121,7 @@ module _ (names : Names) (limits : List ℕ) (game : Game) (labels_are : length 
   sound_expression : (e : Expr) → uses_unknown_value names e ≡ false → is_large (values_of names) limits e ≡ false → IsSoundExpression game (expression names e)
   sound_expression e known fits = (
     subst (λ n. NamesBelow n (expression names e)) (sym values_are) (named names limits e known),
-    subst (λ bs. IsSmall bs (expression names e)) (sym bounds_are) (small names limits e fits),
+    subst (λ bs. HasSmallParts bs (expression names e)) (sym bounds_are) (small names limits e fits),
   )
 
   sound_assignment : (a : Assignment) → is_unknown (values_of names) a.target || uses_unknown_value names a.value ≡ false → is_large (values_of names) limits a.value ≡ false → IsSoundRegex game (assignment names a)

@@ -6,7 +6,7 @@ use Rattle.std.proofs.lemmas.List.Folds.{list_any-append}
 use Rattle.rbg_text.specs.Token.{Text}
 use Rattle.rbg_text.specs.Syntax as g
 use Rattle.rbg_text.specs.Syntax.{Expr, Assignment, Sum, Concat, Element, Base}
-use Rattle.rbg_text.specs.Parse.{Step}
+use Rattle.rbg_text.specs.Parse.{ParseStep}
 use Rattle.rbg_text.specs.Postfix.{expr_onto, term_onto, factor_onto, atom_onto, among_onto, assignment_onto, assignments_onto, sum_onto, concat_onto, element_onto, base_onto}
 use Rattle.rbg_read.specs.Causes.{actions_in, actions_in_concat, actions_in_element, actions_in_base, is_switch, has_switch_inside}
 use Rattle.rbg_read.specs.Switches.{next_flags, has_inner_switch}
@@ -23,26 +23,26 @@ stays : (o : Flags) → option_and_then (λ s. Some s) o ≡ o
 stays (Some s) = refl
 stays None = refl
 
-joined : (f h a b : Bool) (o : Flags) → next_flags (marked h b (marked f a o)) Step.join ≡ marked (f || h) (a || b) o
+joined : (f h a b : Bool) (o : Flags) → next_flags (marked h b (marked f a o)) ParseStep.join ≡ marked (f || h) (a || b) o
 joined true h a b (Some s) = refl
 joined false true a b (Some s) = refl
 joined false false a b (Some s) = refl
 joined f h a b None = refl
 
-chosen : (f h a b : Bool) (o : Flags) → next_flags (marked h b (marked f a o)) Step.either ≡ marked (f || h) (a || b) o
+chosen : (f h a b : Bool) (o : Flags) → next_flags (marked h b (marked f a o)) ParseStep.either ≡ marked (f || h) (a || b) o
 chosen true h a b (Some s) = refl
 chosen false true a b (Some s) = refl
 chosen false false a b (Some s) = refl
 chosen f h a b None = refl
 
-some_closed : (f b : Bool) (o : Flags) → next_flags (marked f b o) Step.some_word ≡ marked (b || f) b o
+some_closed : (f b : Bool) (o : Flags) → next_flags (marked f b o) ParseStep.some_word ≡ marked (b || f) b o
 some_closed true true (Some s) = refl
 some_closed true false (Some s) = refl
 some_closed false true (Some s) = refl
 some_closed false false (Some s) = refl
 some_closed f b None = refl
 
-none_closed : (f b : Bool) (o : Flags) → next_flags (marked f b o) Step.no_word ≡ marked (b || f) b o
+none_closed : (f b : Bool) (o : Flags) → next_flags (marked f b o) ParseStep.no_word ≡ marked (b || f) b o
 none_closed true true (Some s) = refl
 none_closed true false (Some s) = refl
 none_closed false true (Some s) = refl
@@ -54,47 +54,47 @@ or_false true = refl
 or_false false = refl
 
 module _ (start : Flags) where
-  abbrev run : List Step → Flags
+  abbrev run : List ParseStep → Flags
   run steps = fold next_flags start steps
 
-  push : (xs : List Step) (x : Step) → run (xs ++ x ∷ []) ≡ next_flags (run xs) x
+  push : (xs : List ParseStep) (x : ParseStep) → run (xs ++ x ∷ []) ≡ next_flags (run xs) x
   push xs x = fold_push next_flags start xs x
 
-  past : (xs : List Step) (x : Step) (o : Flags) → next_flags (run xs) x ≡ option_and_then (λ s. Some s) (run xs) → run xs ≡ o → run (xs ++ x ∷ []) ≡ o
+  past : (xs : List ParseStep) (x : ParseStep) (o : Flags) → next_flags (run xs) x ≡ option_and_then (λ s. Some s) (run xs) → run xs ≡ o → run (xs ++ x ∷ []) ≡ o
   past xs x o same is = push xs x ∙ same ∙ stays (run xs) ∙ is
 
   mutual
-    in_expr : (e : Expr) (out : List Step) → run (expr_onto e out) ≡ run out
+    in_expr : (e : Expr) (out : List ParseStep) → run (expr_onto e out) ≡ run out
     in_expr (g.sum_of t) out = in_term t out
-    in_expr (g.plus e t) out = past (term_onto t (expr_onto e out)) Step.add _ refl (in_term t (expr_onto e out) ∙ in_expr e out)
-    in_expr (g.minus e t) out = past (term_onto t (expr_onto e out)) Step.subtract _ refl (in_term t (expr_onto e out) ∙ in_expr e out)
+    in_expr (g.plus e t) out = past (term_onto t (expr_onto e out)) ParseStep.add _ refl (in_term t (expr_onto e out) ∙ in_expr e out)
+    in_expr (g.minus e t) out = past (term_onto t (expr_onto e out)) ParseStep.subtract _ refl (in_term t (expr_onto e out) ∙ in_expr e out)
 
-    in_term : (t : g.Term) (out : List Step) → run (term_onto t out) ≡ run out
+    in_term : (t : g.Term) (out : List ParseStep) → run (term_onto t out) ≡ run out
     in_term (g.product_of f) out = in_factor f out
-    in_term (g.times t f) out = past (factor_onto f (term_onto t out)) Step.multiply _ refl (in_factor f (term_onto t out) ∙ in_term t out)
+    in_term (g.times t f) out = past (factor_onto f (term_onto t out)) ParseStep.multiply _ refl (in_factor f (term_onto t out) ∙ in_term t out)
 
-    in_factor : (f : g.Factor) (out : List Step) → run (factor_onto f out) ≡ run out
+    in_factor : (f : g.Factor) (out : List ParseStep) → run (factor_onto f out) ≡ run out
     in_factor (g.positive a) out = in_atom a out
-    in_factor (g.negative a) out = past (atom_onto a out) Step.negate _ refl (in_atom a out)
+    in_factor (g.negative a) out = past (atom_onto a out) ParseStep.negate _ refl (in_atom a out)
 
-    in_atom : (a : g.Atom) (out : List Step) → run (atom_onto a out) ≡ run out
-    in_atom (g.literal n) out = past out (Step.number n) _ refl refl
-    in_atom (g.Atom.variable v) out = past out (Step.variable v) _ refl refl
+    in_atom : (a : g.Atom) (out : List ParseStep) → run (atom_onto a out) ≡ run out
+    in_atom (g.literal n) out = past out (ParseStep.number n) _ refl refl
+    in_atom (g.Atom.variable v) out = past out (ParseStep.variable v) _ refl refl
     in_atom (g.parenthesized e) out = in_expr e out
 
-  amongs : (ws : List Text) (out : List Step) → run (among_onto ws out) ≡ run out
+  amongs : (ws : List Text) (out : List ParseStep) → run (among_onto ws out) ≡ run out
   amongs [] out = refl
-  amongs (w ∷ ws) out = amongs ws (out ++ Step.among w ∷ []) ∙ past out (Step.among w) (run out) refl refl
+  amongs (w ∷ ws) out = amongs ws (out ++ ParseStep.among w ∷ []) ∙ past out (ParseStep.among w) (run out) refl refl
 
-  assignment : (a : Assignment) (out : List Step) → run (assignment_onto a out) ≡ marked false false (run out)
-  assignment a out = push (expr_onto a.value out) (Step.assign a.target) ∙ ap (λ o. next_flags o (Step.assign a.target)) (in_expr a.value out)
+  assignment : (a : Assignment) (out : List ParseStep) → run (assignment_onto a out) ≡ marked false false (run out)
+  assignment a out = push (expr_onto a.value out) (ParseStep.assign a.target) ∙ ap (λ o. next_flags o (ParseStep.assign a.target)) (in_expr a.value out)
 
-  assignments : (more : List Assignment) (out : List Step) (o : Flags) → run out ≡ marked false false o → run (assignments_onto more out) ≡ marked false false o
+  assignments : (more : List Assignment) (out : List ParseStep) (o : Flags) → run out ≡ marked false false o → run (assignments_onto more out) ≡ marked false false o
   assignments [] out o is = is
   assignments (a ∷ more) out o is =
-      assignments more (assignment_onto a out ++ Step.join ∷ []) o
-      (push (assignment_onto a out) Step.join
-      ∙ ap (λ o. next_flags o Step.join) (assignment a out ∙ ap (marked false false) is)
+      assignments more (assignment_onto a out ++ ParseStep.join ∷ []) o
+      (push (assignment_onto a out) ParseStep.join
+      ∙ ap (λ o. next_flags o ParseStep.join) (assignment a out ∙ ap (marked false false) is)
       ∙ joined false false false false o)
 
   abbrev bad : List Base → Bool
@@ -108,42 +108,42 @@ module _ (start : Flags) where
   both bs cs o = ap (λ f. marked f (some_switch bs || some_switch cs) o) (sym (list_any-append has_switch_inside bs cs)) ∙ ap (λ b. marked (bad (bs ++ cs)) b o) (sym (list_any-append is_switch bs cs))
 
   mutual
-    pub in_sum : (s : Sum) (out : List Step) → run (sum_onto s out) ≡ marked (bad (actions_in s)) (some_switch (actions_in s)) (run out)
+    pub in_sum : (s : Sum) (out : List ParseStep) → run (sum_onto s out) ≡ marked (bad (actions_in s)) (some_switch (actions_in s)) (run out)
     in_sum (g.branch c) out = in_concat c out
     in_sum (g.either s c) out =
-        push (concat_onto c (sum_onto s out)) Step.either
-        ∙ ap (λ o. next_flags o Step.either) (in_concat c (sum_onto s out) ∙ ap (marked (bad (actions_in_concat c)) (some_switch (actions_in_concat c))) (in_sum s out))
+        push (concat_onto c (sum_onto s out)) ParseStep.either
+        ∙ ap (λ o. next_flags o ParseStep.either) (in_concat c (sum_onto s out) ∙ ap (marked (bad (actions_in_concat c)) (some_switch (actions_in_concat c))) (in_sum s out))
         ∙ chosen (bad (actions_in s)) (bad (actions_in_concat c)) (some_switch (actions_in s)) (some_switch (actions_in_concat c)) (run out)
         ∙ both (actions_in s) (actions_in_concat c) (run out)
 
-    in_concat : (c : Concat) (out : List Step) → run (concat_onto c out) ≡ marked (bad (actions_in_concat c)) (some_switch (actions_in_concat c)) (run out)
+    in_concat : (c : Concat) (out : List ParseStep) → run (concat_onto c out) ≡ marked (bad (actions_in_concat c)) (some_switch (actions_in_concat c)) (run out)
     in_concat (g.single e) out = in_element e out
     in_concat (g.followed c e) out =
-        push (element_onto e (concat_onto c out)) Step.join
-        ∙ ap (λ o. next_flags o Step.join) (in_element e (concat_onto c out) ∙ ap (marked (bad (actions_in_element e)) (some_switch (actions_in_element e))) (in_concat c out))
+        push (element_onto e (concat_onto c out)) ParseStep.join
+        ∙ ap (λ o. next_flags o ParseStep.join) (in_element e (concat_onto c out) ∙ ap (marked (bad (actions_in_element e)) (some_switch (actions_in_element e))) (in_concat c out))
         ∙ joined (bad (actions_in_concat c)) (bad (actions_in_element e)) (some_switch (actions_in_concat c)) (some_switch (actions_in_element e)) (run out)
         ∙ both (actions_in_concat c) (actions_in_element e) (run out)
 
-    in_element : (e : Element) (out : List Step) → run (element_onto e out) ≡ marked (bad (actions_in_element e)) (some_switch (actions_in_element e)) (run out)
+    in_element : (e : Element) (out : List ParseStep) → run (element_onto e out) ≡ marked (bad (actions_in_element e)) (some_switch (actions_in_element e)) (run out)
     in_element (g.once b) out = in_base b out
-    in_element (g.star b) out = past (base_onto b out) Step.star _ refl (in_base b out)
+    in_element (g.star b) out = past (base_onto b out) ParseStep.star _ refl (in_base b out)
 
-    in_base : (b : Base) (out : List Step) → run (base_onto b out) ≡ marked (bad (actions_in_base b)) (some_switch (actions_in_base b)) (run out)
-    in_base (g.shift w) out = push out (Step.shift w)
-    in_base (g.on ws) out = amongs ws (out ++ Step.on ∷ []) ∙ push out Step.on
-    in_base (g.off w) out = push out (Step.off w)
+    in_base : (b : Base) (out : List ParseStep) → run (base_onto b out) ≡ marked (bad (actions_in_base b)) (some_switch (actions_in_base b)) (run out)
+    in_base (g.shift w) out = push out (ParseStep.shift w)
+    in_base (g.on ws) out = amongs ws (out ++ ParseStep.on ∷ []) ∙ push out ParseStep.on
+    in_base (g.off w) out = push out (ParseStep.off w)
     in_base (g.assign a more) out = assignments more (assignment_onto a out) (run out) (assignment a out)
     in_base (g.compare a t b) out =
-        push (expr_onto b (expr_onto a out)) (Step.compare t) ∙ ap (λ o. next_flags o (Step.compare t)) (in_expr b (expr_onto a out) ∙ in_expr a out)
-    in_base (g.switch w) out = push out (Step.switch w)
-    in_base g.keeper out = push out Step.keeper
+        push (expr_onto b (expr_onto a out)) (ParseStep.compare t) ∙ ap (λ o. next_flags o (ParseStep.compare t)) (in_expr b (expr_onto a out) ∙ in_expr a out)
+    in_base (g.switch w) out = push out (ParseStep.switch w)
+    in_base g.keeper out = push out ParseStep.keeper
     in_base (g.some_word s) out =
-        push (sum_onto s out) Step.some_word
-        ∙ ap (λ o. next_flags o Step.some_word) (in_sum s out)
+        push (sum_onto s out) ParseStep.some_word
+        ∙ ap (λ o. next_flags o ParseStep.some_word) (in_sum s out)
         ∙ some_closed (bad (actions_in s)) (some_switch (actions_in s)) (run out)
     in_base (g.no_word s) out =
-        push (sum_onto s out) Step.no_word
-        ∙ ap (λ o. next_flags o Step.no_word) (in_sum s out)
+        push (sum_onto s out) ParseStep.no_word
+        ∙ ap (λ o. next_flags o ParseStep.no_word) (in_sum s out)
         ∙ none_closed (bad (actions_in s)) (some_switch (actions_in s)) (run out)
     in_base (g.group s) out = in_sum s out
 

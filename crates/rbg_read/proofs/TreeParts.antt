@@ -9,7 +9,7 @@ use Rattle.std.proofs.lemmas.List.Sums.{sum_by-cons}
 use Rattle.rbg_text.specs.Syntax as g
 use Rattle.rbg_text.specs.Syntax.{Declaration, Section, Sum, Base}
 use Rattle.rbg_text.specs.Said.{Said, said_of}
-use Rattle.rbg_text.specs.Parse.{Step}
+use Rattle.rbg_text.specs.Parse.{ParseStep}
 use Rattle.rbg_text.specs.Postfix.{sum_onto}
 use Rattle.rbg_read.specs.Means.{Names, names_of, values_of, players_of, pieces_of, variables_of, vertices_of, rules_of, sum_rules, Means}
 use Rattle.rbg_read.specs.Causes.{actions_in, expressions_of, all_actions, all_expressions, is_players, is_pieces, is_variables, is_board, is_rules, has_wrong_sections, has_not_two_players, vertex_uses_unknown, has_repeated_name, is_large, is_too_large, literals_in, action_uses_unknown, has_switch_inside, action_count, bounds_of, first_cause}
@@ -121,8 +121,8 @@ wrong_is all =
     let a = counted is_players (List Declaration) players_said one_players all in
     let b = counted is_pieces _ pieces_said one_pieces all in
     let c = counted is_variables (List Declaration) variables_said one_variables all in
-    let d = counted is_board (List g.Vertex) board_said one_board all in
-    let e = counted is_rules (List Step) rules_said one_rules all in
+    let d = counted is_board (List g.WrittenVertex) board_said one_board all in
+    let e = counted is_rules (List ParseStep) rules_said one_rules all in
     λ i. not (eqb (a i) 1 && eqb (b i) 1 && nat_le (c i) 1 && eqb (d i) 1 && eqb (e i) 1)
 
 data Gathered (k : Kinds) : Type 0 where
@@ -135,7 +135,7 @@ many n = ne_eqb (suc (suc n)) 1 (λ e. absurd (omega arith))
 more_than_one : (n : ℕ) → nat_le (suc (suc n)) 1 ≡ false
 more_than_one n = lt-leb (suc (suc n)) 1 (omega arith)
 
-gathered : (players : List (List Declaration)) (pieces : _) (variables : List (List Declaration)) (boards : List (List g.Vertex)) (rules : List (List Step)) → Gathered (record { players = players; pieces = pieces; variables = variables; boards = boards; rules = rules })
+gathered : (players : List (List Declaration)) (pieces : _) (variables : List (List Declaration)) (boards : List (List g.WrittenVertex)) (rules : List (List ParseStep)) → Gathered (record { players = players; pieces = pieces; variables = variables; boards = boards; rules = rules })
 gathered [] ws vs bs rs = wrong refl refl
 gathered (p ∷ q ∷ more) ws vs bs rs =
     wrong refl (ap (λ t. not (t && eqb (length ws) 1 && nat_le (length vs) 1 && eqb (length bs) 1 && eqb (length rs) 1)) (many (length more)))
@@ -174,7 +174,7 @@ pub record IsTree (all : List Section) (p : Parts) : Type 0 where
   pub rules : flat_map rules_of all ≡ sum ∷ []
   pub parts : p ≡ tree_parts all sum
 
-only_sum : (sums : List Sum) (steps : List Step) → map (λ s. sum_onto s []) sums ≡ steps ∷ [] → (s : Sum) × (sums ≡ s ∷ []) × (steps ≡ sum_onto s [])
+only_sum : (sums : List Sum) (steps : List ParseStep) → map (λ s. sum_onto s []) sums ≡ steps ∷ [] → (s : Sum) × (sums ≡ s ∷ []) × (steps ≡ sum_onto s [])
 only_sum [] steps h = absurd (cc)
 only_sum (s ∷ []) steps h = (s, refl, cc)
 only_sum (s ∷ t ∷ more) steps h = absurd (cc)

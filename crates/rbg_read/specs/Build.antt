@@ -7,11 +7,11 @@ use Rattle.rbg_read.specs.Parts.{Parts, Known}
 use Rattle.rbg_read.specs.Resolve.{resolved}
 
 -- an arrow with its names by their places
-abbrev pub placed_arrow : Known → syntax.Arrow → Arrow
+abbrev pub placed_arrow : Known → syntax.WrittenArrow → Arrow
 placed_arrow known a = record { label = index_of known.labels a.label; to = index_of known.vertices a.to }
 
 -- a vertex with its names by their places
-abbrev pub placed_vertex : Known → syntax.Vertex → Vertex
+abbrev pub placed_vertex : Known → syntax.WrittenVertex → Vertex
 placed_vertex known v = record { name = v.name; piece = index_of known.pieces v.piece; arrows = map (placed_arrow known) v.arrows }
 
 -- with names in their places

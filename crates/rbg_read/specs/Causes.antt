@@ -1,5 +1,6 @@
 -- Why a syntax tree is no game, and the limits. The causes have the codes that the program prints.
-use Rattle.std.specs.Prelude.{ℕ, ◌+◌, ◌*◌, Bool, true, false, not, ◌&&◌, ◌||◌, if◌then◌else◌, ◌==◌, nat_lt, nat_le, List, [], ◌∷◌, ◌++◌, length, map, sum_by, count_by, slice_index, Option, Some, None}
+use Rattle.std.specs.Prelude.{ℕ, ◌+◌, ◌*◌, Bool, true, false, not, ◌&&◌, ◌||◌, if◌then◌else◌, ◌==◌, nat_lt, nat_le, List, [], ◌∷◌, ◌++◌}
+use Rattle.std.specs.Prelude.{length, map, sum_by, count_by, slice_index, Option, Some, None}
 use Rattle.std.specs.List.{flat_map, list_any}
 use Rattle.std.specs.Str.{bytes_eq}
 use Rattle.rbg_text.specs.Token.{Text}
@@ -159,7 +160,7 @@ action_uses_unknown names (syntax.switch player) = is_unknown names.players play
 action_uses_unknown names _ = false
 
 -- the vertex names a piece or a vertex that is not declared
-abbrev pub vertex_uses_unknown : Names → syntax.Vertex → Bool
+abbrev pub vertex_uses_unknown : Names → syntax.WrittenVertex → Bool
 vertex_uses_unknown names v = is_unknown names.pieces v.piece || list_any (λ a. is_unknown names.vertices a.to) v.arrows
 
 -- a vertex or an action names what is not declared

@@ -1,8 +1,9 @@
 -- The causes against a game, over its parts with the rules as steps.
-use Rattle.std.specs.Prelude.{ℕ, Bool, true, false, not, ◌||◌, if◌then◌else◌, ◌==◌, nat_lt, List, ◌++◌, length, map, count_by, Option, Some, None}
+use Rattle.std.specs.Prelude.{ℕ, Bool, true, false, not, ◌||◌, if◌then◌else◌, ◌==◌, nat_lt, List, ◌++◌, length, map, count_by, Option, Some}
+use Rattle.std.specs.Prelude.{None}
 use Rattle.std.specs.List.{list_any}
-use Rattle.rbg_text.specs.Syntax.{Declaration, Vertex}
-use Rattle.rbg_text.specs.Parse.{Step}
+use Rattle.rbg_text.specs.Syntax.{Declaration, WrittenVertex}
+use Rattle.rbg_text.specs.Parse.{ParseStep}
 use Rattle.rbg_read.specs.Means.{decimal}
 use Rattle.rbg_read.specs.Causes.{is_unknown, has_repeat, is_too_large}
 use Rattle.rbg_read.specs.Parts.{Parts, Known}
@@ -14,17 +15,17 @@ use Rattle.rbg_read.specs.declared.fault.GameFault.TheVariants as cause
 -- ---- names
 
 -- the step names what is not declared
-abbrev pub step_uses_unknown : Known → Step → Bool
-step_uses_unknown known (Step.variable w) = is_unknown known.values w
-step_uses_unknown known (Step.shift w) = is_unknown known.labels w
-step_uses_unknown known (Step.among w) = is_unknown known.pieces w
-step_uses_unknown known (Step.off w) = is_unknown known.pieces w
-step_uses_unknown known (Step.assign w) = is_unknown known.values w
-step_uses_unknown known (Step.switch w) = is_unknown known.players w
+abbrev pub step_uses_unknown : Known → ParseStep → Bool
+step_uses_unknown known (ParseStep.variable w) = is_unknown known.values w
+step_uses_unknown known (ParseStep.shift w) = is_unknown known.labels w
+step_uses_unknown known (ParseStep.among w) = is_unknown known.pieces w
+step_uses_unknown known (ParseStep.off w) = is_unknown known.pieces w
+step_uses_unknown known (ParseStep.assign w) = is_unknown known.values w
+step_uses_unknown known (ParseStep.switch w) = is_unknown known.players w
 step_uses_unknown known _ = false
 
 -- the vertex names a piece or a vertex that is not declared
-abbrev pub vertex_uses_unknown : Known → Vertex → Bool
+abbrev pub vertex_uses_unknown : Known → WrittenVertex → Bool
 vertex_uses_unknown known v = is_unknown known.pieces v.piece || list_any (λ a. is_unknown known.vertices a.to) v.arrows
 
 -- a vertex or a step names what is not declared
@@ -32,7 +33,7 @@ abbrev pub uses_unknown : Known → Parts → Bool
 uses_unknown known p = list_any (vertex_uses_unknown known) p.vertices || list_any (step_uses_unknown known) p.steps
 
 -- two arrows of the vertex have one label
-abbrev pub repeats_label : Vertex → Bool
+abbrev pub repeats_label : WrittenVertex → Bool
 repeats_label v = has_repeat (map (λ a. a.label) v.arrows)
 
 -- a name is declared twice for things of one kind, or stands at two arrows of a vertex
@@ -47,8 +48,8 @@ abbrev pub has_large_bound : Declaration → Bool
 has_large_bound d = is_too_large d.bound
 
 -- the step is a number over the limit
-abbrev pub is_large_number : Step → Bool
-is_large_number (Step.number n) = is_too_large n
+abbrev pub is_large_number : ParseStep → Bool
+is_large_number (ParseStep.number n) = is_too_large n
 is_large_number _ = false
 
 -- a bound or a number is over the limit
@@ -62,16 +63,16 @@ bounds p = map (λ d. decimal d.bound) (p.players ++ p.variables)
 -- ---- limits
 
 -- the step stands for an action
-abbrev pub is_action : Step → Bool
-is_action (Step.shift w) = true
-is_action Step.on = true
-is_action (Step.off w) = true
-is_action (Step.assign w) = true
-is_action (Step.compare t) = true
-is_action (Step.switch w) = true
-is_action Step.keeper = true
-is_action Step.some_word = true
-is_action Step.no_word = true
+abbrev pub is_action : ParseStep → Bool
+is_action (ParseStep.shift w) = true
+is_action ParseStep.on = true
+is_action (ParseStep.off w) = true
+is_action (ParseStep.assign w) = true
+is_action (ParseStep.compare t) = true
+is_action (ParseStep.switch w) = true
+is_action ParseStep.keeper = true
+is_action ParseStep.some_word = true
+is_action ParseStep.no_word = true
 is_action _ = false
 
 -- there is more of something than a game may have

@@ -1,5 +1,6 @@
 -- The game that a syntax tree means.
-use Rattle.std.specs.Prelude.{◌≡◌, ℕ, ◌+◌, ◌-◌, ◌*◌, if◌then◌else◌, ◌==◌, true, false, not, List, [], ◌∷◌, ◌++◌, map, filter, fold, position, unwrap_or}
+use Rattle.std.specs.Prelude.{◌≡◌, ℕ, ◌+◌, ◌-◌, ◌*◌, if◌then◌else◌, ◌==◌, true, false, not, List, [], ◌∷◌, ◌++◌, map, filter, fold}
+use Rattle.std.specs.Prelude.{position, unwrap_or}
 use Rattle.std.specs.List.{flat_map}
 use Rattle.std.specs.Str.{bytes_eq}
 use Rattle.rbg_text.specs.Token.{Text}
@@ -35,7 +36,7 @@ variables_of (syntax.variables all) = all
 variables_of _ = []
 
 -- the vertices that a section declares
-abbrev pub vertices_of : Section → List syntax.Vertex
+abbrev pub vertices_of : Section → List syntax.WrittenVertex
 vertices_of (syntax.board first more) = first ∷ map further_vertex more
 vertices_of _ = []
 
@@ -139,11 +140,11 @@ abbrev pub declared : Declaration → Variable
 declared d = record { name = d.name; bound = decimal d.bound }
 
 -- an arrow with its names by their places
-abbrev pub arrow : Names → syntax.Arrow → Arrow
+abbrev pub arrow : Names → syntax.WrittenArrow → Arrow
 arrow names a = record { label = index_of names.labels a.label; to = index_of names.vertices a.to }
 
 -- a vertex with its names by their places
-abbrev pub vertex : Names → syntax.Vertex → Vertex
+abbrev pub vertex : Names → syntax.WrittenVertex → Vertex
 vertex names v = record { name = v.name; piece = index_of names.pieces v.piece; arrows = map (arrow names) v.arrows }
 
 -- the game with the sections' names, board and rules; the players are its first variables

@@ -3,8 +3,8 @@ use Rattle.std.specs.Prelude.{◌≤◌, length, List, [], ◌∷◌, ◌++◌, 
 use Rattle.std.specs.List.{flat_map, list_any}
 use Rattle.std.specs.Str.{bytes_eq}
 use Rattle.rbg_text.specs.Token.{Text}
-use Rattle.rbg_text.specs.Syntax.{Declaration, Vertex}
-use Rattle.rbg_text.specs.Parse.{Step}
+use Rattle.rbg_text.specs.Syntax.{Declaration, WrittenVertex}
+use Rattle.rbg_text.specs.Parse.{ParseStep}
 use Rattle.rbg_text.specs.View.{step_view}
 use Rattle.rbg_text.specs.Said.{Said, players, pieces, variables, board, rules, declaration_view, vertex_view}
 use Rattle.rbg_read.specs.Means.{first_appearances}
@@ -17,8 +17,8 @@ pub record Parts : Type 0 where
   pub players : List Declaration
   pub pieces : List Text
   pub variables : List Declaration
-  pub vertices : List Vertex
-  pub steps : List Step
+  pub vertices : List WrittenVertex
+  pub steps : List ParseStep
 
 -- ---- the sections of each kind
 
@@ -38,12 +38,12 @@ variables_said (variables all) = all ∷ []
 variables_said _ = []
 
 -- what a section of the board says
-abbrev pub board_said : Said → List (List Vertex)
+abbrev pub board_said : Said → List (List WrittenVertex)
 board_said (board all) = all ∷ []
 board_said _ = []
 
 -- what a section of rules says
-abbrev pub rules_said : Said → List (List Step)
+abbrev pub rules_said : Said → List (List ParseStep)
 rules_said (rules all) = all ∷ []
 rules_said _ = []
 
@@ -62,8 +62,8 @@ pub record Kinds : Type 0 where
   pub players : List (List Declaration)
   pub pieces : List (List Text)
   pub variables : List (List Declaration)
-  pub boards : List (List Vertex)
-  pub rules : List (List Step)
+  pub boards : List (List WrittenVertex)
+  pub rules : List (List ParseStep)
 
 -- the sections by their kinds
 abbrev pub kinds_of : List Said → Kinds
@@ -92,7 +92,8 @@ parts_of kinds =
     option_and_then (λ pieces.
     option_and_then (λ variables.
     option_and_then (λ vertices.
-    option_and_then (λ steps. Some (record { players = players; pieces = pieces; variables = variables; vertices = vertices; steps = steps }))
+    option_and_then (λ steps. Some (record
+    { players = players; pieces = pieces; variables = variables; vertices = vertices; steps = steps }))
     (only kinds.rules))
     (only kinds.boards))
     (at_most_one kinds.variables))
@@ -118,7 +119,7 @@ abbrev pub with_label : List Text → Text → List Text
 with_label labels w = if list_any (bytes_eq w) labels then labels else labels ++ w ∷ []
 
 -- the labels of a board, each once, in the order in which they appear first
-abbrev pub labels_in : List Vertex → List Text
+abbrev pub labels_in : List WrittenVertex → List Text
 labels_in all = first_appearances (flat_map (λ v. map (λ a. a.label) v.arrows) all)
 
 -- the names that the parts declare

@@ -1,6 +1,7 @@
 -- The rules that steps in postfix order stand for, by a stack of expressions and one of rules, the newest first.
-use Rattle.std.specs.Prelude.{ℕ, Bool, true, false, if◌then◌else◌, ◌==◌, List, [], ◌∷◌, ◌++◌, drop, fold, reverse, map, Option, Some, None, option_map}
-use Rattle.rbg_text.specs.Parse.{Step}
+use Rattle.std.specs.Prelude.{ℕ, Bool, true, false, if◌then◌else◌, ◌==◌, List, [], ◌∷◌, ◌++◌, drop, fold, reverse, map, Option, Some, None}
+use Rattle.std.specs.Prelude.{option_map}
+use Rattle.rbg_text.specs.Parse.{ParseStep}
 use Rattle.rbg_game.specs.Expressions.{Expression}
 use Rattle.rbg_game.specs.Rules.{Regex, Action}
 use Rattle.rbg_game.specs.Meaning.{expression_of, regex_of}
@@ -100,7 +101,8 @@ assigned v s = push_action (Action.assignment v (first_expression s.expressions)
 -- with the two newest expressions compared
 abbrev pub compared : Comparison → Stack → Stack
 compared test s =
-    push_action (Action.comparison (first_expression (drop 1 s.expressions)) test (first_expression s.expressions)) (pop_expression (pop_expression s))
+    push_action (Action.comparison (first_expression (drop 1 s.expressions)) test (first_expression s.expressions))
+    (pop_expression (pop_expression s))
 
 -- with the newest part in a pattern
 abbrev pub pattern_made : Bool → Stack → Stack
@@ -124,32 +126,32 @@ player_role place = if place == 0 then Player First else Player Second
 
 module _ (known : Known) where
   -- after a step that adds no piece to a set
-  abbrev pub performed : Step → Stack → Stack
-  performed (Step.number n) s = push_expression (Expression.number (decimal n)) s
-  performed (Step.variable v) s = push_expression (Expression.variable (index_of known.values v)) s
-  performed Step.negate s = negated s
-  performed Step.add s = binary_expression Expression.sum s
-  performed Step.subtract s = binary_expression difference s
-  performed Step.multiply s = binary_expression Expression.product s
-  performed (Step.shift label) s = push_action (Action.shift (index_of known.labels label)) s
-  performed Step.on s = begun_set s
-  performed (Step.among piece) s = s
-  performed (Step.off piece) s = push_action (Action.off (index_of known.pieces piece)) s
-  performed (Step.assign v) s = assigned (index_of known.values v) s
-  performed (Step.compare test) s = compared test s
-  performed (Step.switch player) s = push_action (Action.switch (player_role (index_of known.players player))) s
-  performed Step.keeper s = push_action (Action.switch Keeper) s
-  performed Step.some_word s = pattern_made true s
-  performed Step.no_word s = pattern_made false s
-  performed Step.join s = binary_rules Regex.cat s
-  performed Step.either s = binary_rules Regex.alt s
-  performed Step.star s = starred s
+  abbrev pub performed : ParseStep → Stack → Stack
+  performed (ParseStep.number n) s = push_expression (Expression.number (decimal n)) s
+  performed (ParseStep.variable v) s = push_expression (Expression.variable (index_of known.values v)) s
+  performed ParseStep.negate s = negated s
+  performed ParseStep.add s = binary_expression Expression.sum s
+  performed ParseStep.subtract s = binary_expression difference s
+  performed ParseStep.multiply s = binary_expression Expression.product s
+  performed (ParseStep.shift label) s = push_action (Action.shift (index_of known.labels label)) s
+  performed ParseStep.on s = begun_set s
+  performed (ParseStep.among piece) s = s
+  performed (ParseStep.off piece) s = push_action (Action.off (index_of known.pieces piece)) s
+  performed (ParseStep.assign v) s = assigned (index_of known.values v) s
+  performed (ParseStep.compare test) s = compared test s
+  performed (ParseStep.switch player) s = push_action (Action.switch (player_role (index_of known.players player))) s
+  performed ParseStep.keeper s = push_action (Action.switch Keeper) s
+  performed ParseStep.some_word s = pattern_made true s
+  performed ParseStep.no_word s = pattern_made false s
+  performed ParseStep.join s = binary_rules Regex.cat s
+  performed ParseStep.either s = binary_rules Regex.alt s
+  performed ParseStep.star s = starred s
 
   -- after a step
-  abbrev pub after_step : Stack → Step → Stack
-  after_step s (Step.among piece) = with_piece (index_of known.pieces piece) s
+  abbrev pub after_step : Stack → ParseStep → Stack
+  after_step s (ParseStep.among piece) = with_piece (index_of known.pieces piece) s
   after_step s step = performed step (finished s)
 
   -- the rules that steps stand for
-  unfoldable pub resolved : List Step → Regex
+  unfoldable pub resolved : List ParseStep → Regex
   resolved steps = first_rules (finished (fold after_step empty_stack steps)).rules

@@ -1,6 +1,7 @@
 -- Switches in patterns over steps in postfix order, by a stack of what parts of the rules have, the newest first.
-use Rattle.std.specs.Prelude.{Bool, true, false, not, is_some, ◌||◌, if◌then◌else◌, List, [], ◌∷◌, drop, fold, Option, Some, None, option_and_then}
-use Rattle.rbg_text.specs.Parse.{Step}
+use Rattle.std.specs.Prelude.{Bool, true, false, not, is_some, ◌||◌, if◌then◌else◌, List, [], ◌∷◌, drop, fold, Option, Some, None}
+use Rattle.std.specs.Prelude.{option_and_then}
+use Rattle.rbg_text.specs.Parse.{ParseStep}
 use Rattle.rbg_read.specs.declared.switches.Made.{Made}
 use Rattle.rbg_read.specs.declared.switches.Made.TheVariants as made
 
@@ -14,18 +15,18 @@ abbrev pub closed_pattern : List Bool → Option (List Bool)
 closed_pattern s = if first_flag s then None else Some (false ∷ drop 1 s)
 
 -- whether each part has a switch in it, after a step
-abbrev pub flags_after : Step → List Bool → Option (List Bool)
-flags_after (Step.switch w) s = Some (true ∷ s)
-flags_after Step.keeper s = Some (true ∷ s)
-flags_after (Step.shift w) s = Some (false ∷ s)
-flags_after Step.on s = Some (false ∷ s)
-flags_after (Step.off w) s = Some (false ∷ s)
-flags_after (Step.assign w) s = Some (false ∷ s)
-flags_after (Step.compare t) s = Some (false ∷ s)
-flags_after Step.join s = Some ((first_flag (drop 1 s) || first_flag s) ∷ drop 2 s)
-flags_after Step.either s = Some ((first_flag (drop 1 s) || first_flag s) ∷ drop 2 s)
-flags_after Step.some_word s = closed_pattern s
-flags_after Step.no_word s = closed_pattern s
+abbrev pub flags_after : ParseStep → List Bool → Option (List Bool)
+flags_after (ParseStep.switch w) s = Some (true ∷ s)
+flags_after ParseStep.keeper s = Some (true ∷ s)
+flags_after (ParseStep.shift w) s = Some (false ∷ s)
+flags_after ParseStep.on s = Some (false ∷ s)
+flags_after (ParseStep.off w) s = Some (false ∷ s)
+flags_after (ParseStep.assign w) s = Some (false ∷ s)
+flags_after (ParseStep.compare t) s = Some (false ∷ s)
+flags_after ParseStep.join s = Some ((first_flag (drop 1 s) || first_flag s) ∷ drop 2 s)
+flags_after ParseStep.either s = Some ((first_flag (drop 1 s) || first_flag s) ∷ drop 2 s)
+flags_after ParseStep.some_word s = closed_pattern s
+flags_after ParseStep.no_word s = closed_pattern s
 flags_after _ s = Some s
 
 -- what the program makes of the newest parts, with the flags that it left
@@ -35,9 +36,9 @@ flags_made made.Same rest = Some rest
 flags_made made.BadPattern rest = None
 
 -- after one step more, unless a pattern with a switch was found
-abbrev pub next_flags : Option (List Bool) → Step → Option (List Bool)
+abbrev pub next_flags : Option (List Bool) → ParseStep → Option (List Bool)
 next_flags flags step = option_and_then (flags_after step) flags
 
 -- a pattern has a switch in it
-unfoldable pub has_inner_switch : List Step → Bool
+unfoldable pub has_inner_switch : List ParseStep → Bool
 has_inner_switch steps = not (is_some (fold next_flags (Some []) steps))

@@ -83,7 +83,8 @@ fn vertices_of(
     vertices: &[said::Vertex],
 ) -> Result<Vec<Vertex>, AllocError>
     requires { AreFew (known_view names.now) }
-    ensures { IfOk result (λ placed. map meaning.vertex_of placed.items ≡ map (λ v. placed_vertex (known_view names.now) (vertex_view v)) vertices.now) }
+    ensures { IfOk result (λ placed. map meaning.vertex_of placed.items ≡ map (λ v. placed_vertex (known_view names.now)
+        (vertex_view v)) vertices.now) }
 {
     let mut placed = Vec::new(alloc);
     for vertex in vertices {

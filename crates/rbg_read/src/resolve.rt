@@ -191,7 +191,8 @@ impl Stack {
     fn perform(&mut self, names: &Names, step: Step<'_>) -> Result<(), AllocError>
         requires few { AreFew (known_view names.now) }
         requires within { is_large_number (step_view step) ≡ false }
-        ensures { IfOk result (λ _. spec.stack_of self.new ≡ spec.performed (known_view names.now) (step_view step.entry) (spec.stack_of self.old)) }
+        ensures { IfOk result (λ _. spec.stack_of self.new ≡ spec.performed (known_view names.now) (step_view step.entry)
+            (spec.stack_of self.old)) }
     {
         match step {
             Step::Number(digits) => self.push_expression(Expr::Number(number(digits))),
@@ -224,7 +225,8 @@ impl Stack {
     fn step(&mut self, names: &Names, step: Step<'_>) -> Result<(), AllocError>
         requires few { AreFew (known_view names.now) }
         requires within { is_large_number (step_view step) ≡ false }
-        ensures { IfOk result (λ _. spec.stack_of self.new ≡ spec.after_step (known_view names.now) (spec.stack_of self.old) (step_view step.entry)) }
+        ensures { IfOk result (λ _. spec.stack_of self.new ≡ spec.after_step (known_view names.now) (spec.stack_of self.old)
+            (step_view step.entry)) }
     {
         if let Step::Among(piece) = step {
             return self.add_piece(names.piece_place(piece));

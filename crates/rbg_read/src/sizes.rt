@@ -76,7 +76,8 @@ fn step_on(
 ) -> Result<bool, AllocError>
     requires few { AreFew (known_view names.now) }
     requires within { is_large_number (step_view step) ≡ false }
-    ensures { IfOk result (λ found. spec.sizes_after (known_view names.now).values bounds.now (step_view step.entry) (reverse sizes.old.items)
+    ensures { IfOk result (λ found. spec.sizes_after (known_view names.now).values bounds.now (step_view step.entry)
+        (reverse sizes.old.items)
         ≡ (if found then None else Some (reverse sizes.new.items))) }
 {
     if let Some(size) = size_after(names, bounds, step, sizes) {

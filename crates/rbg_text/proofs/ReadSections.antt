@@ -4,7 +4,7 @@ use Rattle.std.specs.Prelude.{Result, Ok, Err, IfOk}
 use Rattle.rbg_text.specs.Syntax as grammar
 use Rattle.rbg_text.specs.Syntax.{Tokens, Section}
 use Rattle.rbg_text.specs.NestingCount.{nesting}
-use Rattle.rbg_text.specs.Parse.{State, ReadsAs, turns}
+use Rattle.rbg_text.specs.Parse.{ParseState, ReadsAs, turns}
 use Rattle.rbg_text.specs.ParseSections.{sections}
 use Rattle.rbg_text.specs.Said.{Said, said_of}
 use Rattle.rbg_text.specs.declared.fault.ReadError.{ReadError}
@@ -14,7 +14,7 @@ use Rattle.rbg_text.proofs.SectionsSound.{sections_say}
 use Rattle.rbg_text.proofs.SectionsComplete.{sections_read}
 use Rattle.rbg_text.proofs.SectionsNesting.{all_shallow}
 
-module _ {X : Type 0} (view : X → List Said) (ts : Tokens) (s j : State) (begun : s ≡ state ts []) where
+module _ {X : Type 0} (view : X → List Said) (ts : Tokens) (s j : ParseState) (begun : s ≡ state ts []) where
   pub found : (r : Result X ReadError) → ReadsAs view (sections (turns s) [] s) r j → IfOk r (λ x. (all : List Section) × (ts ≡ grammar.text all) × (view x ≡ map said_of all))
   found (Ok x) h =
       let e : sections (length ts) [] (state ts []) ≡ Some (view x, j) = rw begun at h in

@@ -6,7 +6,7 @@ use Rattle.std.proofs.lemmas.Option.{some_pair_parts}
 use Rattle.rbg_text.specs.Token.{Text, Token}
 use Rattle.rbg_text.specs.Syntax as grammar
 use Rattle.rbg_text.specs.Syntax.{Tokens, Expr, Assignment, Sum, branch, Concat, single, followed, Element, once, Base}
-use Rattle.rbg_text.specs.Parse.{Step, State, Parser, and_then, first, sees, advance, after, eat, expect, push, done, expr, name_by, name, test_of, comparison_by, comparison, pieces, begins_element, set, assignment, assignments, bracket, compared, pattern, brace, base_by, base, element, elements, concat, branches, choice, rules_to}
+use Rattle.rbg_text.specs.Parse.{ParseStep, ParseState, Parser, and_then, first, sees, advance, after, eat, expect, push, done, expr, name_by, name, test_of, comparison_by, comparison, pieces, begins_element, set, assignment, assignments, bracket, compared, pattern, brace, base_by, base, element, elements, concat, branches, choice, rules_to}
 use Rattle.rbg_text.specs.Postfix.{expr_onto, among_onto, assignment_onto, assignments_onto, sum_onto, concat_onto, element_onto, base_onto}
 use Rattle.rbg_game.specs.declared.rules.Comparison.{Comparison}
 use Rattle.rbg_game.specs.declared.rules.Comparison.TheVariants as test
@@ -17,11 +17,11 @@ use Rattle.rbg_text.proofs.ExpressionsSound.{bind_some, seen, expected, first_is
 -- ---- names, sets and comparisons
 
 -- one token was taken
-pub record Takes (t : Token) (i j : State) : Type 0 where
+pub record Takes (t : Token) (i j : ParseState) : Type 0 where
   pub tokens : i.tokens ≡ t ∷ j.tokens
   pub steps : j.steps ≡ i.steps
 
-pub named : (i j : State) (w : Text) → name i ≡ Some (w, j) → Takes (Token.name w) i j
+pub named : (i j : ParseState) (w : Text) → name i ≡ Some (w, j) → Takes (Token.name w) i j
 unfolding name advance
 named i j w e = go (first i.tokens) refl e
   where
@@ -40,7 +40,7 @@ test_is (Some (Token.sign Greater)) t e = let same : test.Greater ≡ t = cc in 
 test_is (Some (Token.sign GreaterEqual)) t e = let same : test.GreaterEqual ≡ t = cc in rw (← same) refl
 test_is _ t e = absurd cc
 
-tested : (i j : State) (t : Comparison) → comparison i ≡ Some (t, j) → Takes (Token.sign (grammar.test_sign t)) i j
+tested : (i j : ParseState) (t : Comparison) → comparison i ≡ Some (t, j) → Takes (Token.sign (grammar.test_sign t)) i j
 unfolding comparison advance
 tested i j t e = go (test_of (first i.tokens)) refl e
   where
@@ -51,43 +51,43 @@ tested i j t e = go (test_of (first i.tokens)) refl e
     go None h e = absurd cc
 
 -- what was read is said by `said`, and its steps by `onto`
-record Says {X : Type 0} (said : X → Tokens → Tokens) (onto : X → List Step → List Step) (i j : State) : Type 0 where
+record Says {X : Type 0} (said : X → Tokens → Tokens) (onto : X → List ParseStep → List ParseStep) (i j : ParseState) : Type 0 where
   what : X
   tokens : i.tokens ≡ said what j.tokens
   steps : j.steps ≡ onto what i.steps
 
-pieces_say : (n : ℕ) (i j : State) (u : Unit {0}) → pieces n i ≡ Some (u, j) → Says (grammar.further grammar.word) among_onto i j
+pieces_say : (n : ℕ) (i j : ParseState) (u : Unit {0}) → pieces n i ≡ Some (u, j) → Says (grammar.further grammar.word) among_onto i j
 unfolding pieces after advance
 pieces_say zero i j u e = let p = stayed i j u tt e in record { what = []; tokens = p.tokens; steps = p.steps }
 pieces_say (suc n) i j u e = elim (cases_Bool (sees Comma i)) [
   | inl is ↦
       let b = bind_some (name (advance i)) _ (u, j) (rw is at e) in
       let w = named (advance i) b.0.1 b.0.0 b.1 in
-      let more = pieces_say n (record b.0.1 { steps = b.0.1.steps ++ Step.among b.0.0 ∷ [] }) j u b.2 in
+      let more = pieces_say n (record b.0.1 { steps = b.0.1.steps ++ ParseStep.among b.0.0 ∷ [] }) j u b.2 in
       record {
         what = b.0.0 ∷ more.what;
         tokens = seen Comma i is ∙ ap (λ ts. grammar.mark Comma ts) (w.tokens ∙ ap (λ ts. grammar.word b.0.0 ts) more.tokens);
-        steps = more.steps ∙ ap (λ out. among_onto more.what (out ++ Step.among b.0.0 ∷ [])) w.steps;
+        steps = more.steps ∙ ap (λ out. among_onto more.what (out ++ ParseStep.among b.0.0 ∷ [])) w.steps;
       }
   | inr isnt ↦ let p = stayed i j u tt (rw isnt at e) in record { what = []; tokens = p.tokens; steps = p.steps }
 ]
 
 -- a base whose first sign was read before
-record Behind (s : Sign) (i j : State) : Type 0 where
+record Behind (s : Sign) (i j : ParseState) : Type 0 where
   what : Base
   tokens : grammar.mark s i.tokens ≡ grammar.base what j.tokens
   steps : j.steps ≡ base_onto what i.steps
 
-abbrev IsBase : State → State → Type 0
+abbrev IsBase : ParseState → ParseState → Type 0
 IsBase = Says grammar.base base_onto
 
-abbrev IsElement : State → State → Type 0
+abbrev IsElement : ParseState → ParseState → Type 0
 IsElement = Says grammar.element element_onto
 
-abbrev IsConcat : State → State → Type 0
+abbrev IsConcat : ParseState → ParseState → Type 0
 IsConcat = Says grammar.concat concat_onto
 
-pub record IsSum (i j : State) : Type 0 where
+pub record IsSum (i j : ParseState) : Type 0 where
   pub what : Sum
   pub tokens : i.tokens ≡ grammar.sum what j.tokens
   pub steps : j.steps ≡ sum_onto what i.steps
@@ -95,7 +95,7 @@ pub record IsSum (i j : State) : Type 0 where
 set_says : Sound set (Behind OpenBrace)
 unfolding set after advance
 set_says i j u e =
-    let k : State = record i { steps = i.steps ++ Step.on ∷ [] } in
+    let k : ParseState = record i { steps = i.steps ++ ParseStep.on ∷ [] } in
     elim (cases_Bool (sees CloseBrace k)) [
       | inl is ↦
           let p = stayed (advance k) j u tt (rw is at e) in
@@ -103,14 +103,14 @@ set_says i j u e =
       | inr isnt ↦
           let b = bind_some (name k) _ (u, j) (rw isnt at e) in
           let w = named k b.0.1 b.0.0 b.1 in
-          let k2 : State = record b.0.1 { steps = b.0.1.steps ++ Step.among b.0.0 ∷ [] } in
+          let k2 : ParseState = record b.0.1 { steps = b.0.1.steps ++ ParseStep.among b.0.0 ∷ [] } in
           let c = bind_some (pieces (length b.0.1.tokens) k2) _ (u, j) b.2 in
           let more = pieces_say (length b.0.1.tokens) k2 c.0.1 c.0.0 c.1 in
           let closing = expected CloseBrace c.0.1 j u c.2 in
           record {
             what = grammar.on (b.0.0 ∷ more.what);
             tokens = ap (λ ts. grammar.mark OpenBrace ts) (w.tokens ∙ ap (λ ts. grammar.word b.0.0 ts) (more.tokens ∙ ap (λ ts. grammar.further grammar.word more.what ts) closing.tokens));
-            steps = sym closing.steps ∙ (more.steps ∙ ap (λ out. among_onto more.what (out ++ Step.among b.0.0 ∷ [])) w.steps);
+            steps = sym closing.steps ∙ (more.steps ∙ ap (λ out. among_onto more.what (out ++ ParseStep.among b.0.0 ∷ [])) w.steps);
           }
     ]
 
@@ -124,25 +124,25 @@ module _ (value : Parser (Unit {0})) (values : Sound value IsExpr) where
       let eq = expected Equal b.0.1 c.0.1 c.0.0 c.1 in
       let d = bind_some (value c.0.1) _ (u, j) c.2 in
       let v = values c.0.1 d.0.1 d.0.0 d.1 in
-      let p = pushed (Step.assign b.0.0) d.0.1 j u d.2 in
+      let p = pushed (ParseStep.assign b.0.0) d.0.1 j u d.2 in
       record {
         what = record { target = b.0.0; value = v.what };
         tokens = w.tokens ∙ ap (λ ts. grammar.word b.0.0 ts) (eq.tokens ∙ ap (λ ts. grammar.mark Equal ts) (v.tokens ∙ ap (λ ts. grammar.expr v.what ts) p.tokens));
-        steps = p.steps ∙ ap (λ out. out ++ Step.assign b.0.0 ∷ []) (v.steps ∙ ap (λ out. expr_onto v.what out) (sym eq.steps ∙ w.steps));
+        steps = p.steps ∙ ap (λ out. out ++ ParseStep.assign b.0.0 ∷ []) (v.steps ∙ ap (λ out. expr_onto v.what out) (sym eq.steps ∙ w.steps));
       }
 
-  assignments_say : (n : ℕ) (i j : State) (u : Unit {0}) → assignments value n i ≡ Some (u, j) → Says (grammar.further grammar.assignment) assignments_onto i j
+  assignments_say : (n : ℕ) (i j : ParseState) (u : Unit {0}) → assignments value n i ≡ Some (u, j) → Says (grammar.further grammar.assignment) assignments_onto i j
   unfolding assignments after advance
   assignments_say zero i j u e = let p = stayed i j u tt e in record { what = []; tokens = p.tokens; steps = p.steps }
   assignments_say (suc n) i j u e = elim (cases_Bool (sees Comma i)) [
     | inl is ↦
         let b = bind_some (assignment value (advance i)) _ (u, j) (rw is at e) in
         let a = assignment_says (advance i) b.0.1 b.0.0 b.1 in
-        let more = assignments_say n (record b.0.1 { steps = b.0.1.steps ++ Step.join ∷ [] }) j u b.2 in
+        let more = assignments_say n (record b.0.1 { steps = b.0.1.steps ++ ParseStep.join ∷ [] }) j u b.2 in
         record {
           what = a.what ∷ more.what;
           tokens = seen Comma i is ∙ ap (λ ts. grammar.mark Comma ts) (a.tokens ∙ ap (λ ts. grammar.assignment a.what ts) more.tokens);
-          steps = more.steps ∙ ap (λ out. assignments_onto more.what (out ++ Step.join ∷ [])) a.steps;
+          steps = more.steps ∙ ap (λ out. assignments_onto more.what (out ++ ParseStep.join ∷ [])) a.steps;
         }
     | inr isnt ↦ let p = stayed i j u tt (rw isnt at e) in record { what = []; tokens = p.tokens; steps = p.steps }
   ]
@@ -165,16 +165,16 @@ module _ (value : Parser (Unit {0})) (values : Sound value IsExpr) where
     | inr isnt ↦
         let b = bind_some (name i) _ (u, j) (rw isnt at e) in
         let w = named i b.0.1 b.0.0 b.1 in
-        let closing = expected CloseBracket (record b.0.1 { steps = b.0.1.steps ++ Step.off b.0.0 ∷ [] }) j u b.2 in
+        let closing = expected CloseBracket (record b.0.1 { steps = b.0.1.steps ++ ParseStep.off b.0.0 ∷ [] }) j u b.2 in
         record {
           what = grammar.off b.0.0;
           tokens = ap (λ ts. grammar.mark OpenBracket ts) (w.tokens ∙ ap (λ ts. grammar.word b.0.0 ts) closing.tokens);
-          steps = sym closing.steps ∙ ap (λ out. out ++ Step.off b.0.0 ∷ []) w.steps;
+          steps = sym closing.steps ∙ ap (λ out. out ++ ParseStep.off b.0.0 ∷ []) w.steps;
         }
   ]
 
   -- after `{$`, which stood in the place of `mark Dollar`
-  compared_says : (i j k : State) (u : Unit {0}) → k.tokens ≡ grammar.mark Dollar i.tokens → k.steps ≡ i.steps → compared value i ≡ Some (u, j) → Behind OpenBrace k j
+  compared_says : (i j k : ParseState) (u : Unit {0}) → k.tokens ≡ grammar.mark Dollar i.tokens → k.steps ≡ i.steps → compared value i ≡ Some (u, j) → Behind OpenBrace k j
   unfolding compared
   compared_says i j k u dollar same e =
       let b = bind_some (value i) _ (u, j) e in
@@ -183,22 +183,22 @@ module _ (value : Parser (Unit {0})) (values : Sound value IsExpr) where
       let t = tested b.0.1 c.0.1 c.0.0 c.1 in
       let d = bind_some (value c.0.1) _ (u, j) c.2 in
       let r = values c.0.1 d.0.1 d.0.0 d.1 in
-      let closing = expected CloseBrace (record d.0.1 { steps = d.0.1.steps ++ Step.compare c.0.0 ∷ [] }) j u d.2 in
+      let closing = expected CloseBrace (record d.0.1 { steps = d.0.1.steps ++ ParseStep.compare c.0.0 ∷ [] }) j u d.2 in
       record {
         what = grammar.compare l.what c.0.0 r.what;
         tokens = ap (λ ts. grammar.mark OpenBrace ts) (dollar ∙ ap (λ ts. grammar.mark Dollar ts)
             (l.tokens ∙ ap (λ ts. grammar.expr l.what ts) (t.tokens ∙ ap (λ ts. grammar.mark (grammar.test_sign c.0.0) ts) (r.tokens ∙ ap (λ ts. grammar.expr r.what ts) closing.tokens))));
-        steps = sym closing.steps ∙ ap (λ out. out ++ Step.compare c.0.0 ∷ []) (r.steps ∙ ap (λ out. expr_onto r.what out) (t.steps ∙ (l.steps ∙ ap (λ out. expr_onto l.what out) (sym same))));
+        steps = sym closing.steps ∙ ap (λ out. out ++ ParseStep.compare c.0.0 ∷ []) (r.steps ∙ ap (λ out. expr_onto r.what out) (t.steps ∙ (l.steps ∙ ap (λ out. expr_onto l.what out) (sym same))));
       }
 
 module _ (inner value : Parser (Unit {0})) (sums : Sound inner IsSum) (values : Sound value IsExpr) where
   -- a sum, a step, and the closing brace
-  record Pattern (kind : Step) (i j : State) : Type 0 where
+  record Pattern (kind : ParseStep) (i j : ParseState) : Type 0 where
     what : Sum
     tokens : i.tokens ≡ grammar.sum what (grammar.mark CloseBrace j.tokens)
     steps : j.steps ≡ sum_onto what i.steps ++ kind ∷ []
 
-  pattern_says : (kind : Step) (i j : State) (u : Unit {0}) → pattern inner kind i ≡ Some (u, j) → Pattern kind i j
+  pattern_says : (kind : ParseStep) (i j : ParseState) (u : Unit {0}) → pattern inner kind i ≡ Some (u, j) → Pattern kind i j
   unfolding pattern
   pattern_says kind i j u e =
       let b = bind_some (inner i) _ (u, j) e in
@@ -216,11 +216,11 @@ module _ (inner value : Parser (Unit {0})) (sums : Sound inner IsSum) (values : 
     | inl is ↦ compared_says value values (advance i) j i u (seen Dollar i is) refl (rw is at e)
     | inr isnt ↦ elim (cases_Bool (sees Question i)) [
       | inl is ↦
-          let p = pattern_says Step.some_word (advance i) j u (rw (isnt, is) at e) in
+          let p = pattern_says ParseStep.some_word (advance i) j u (rw (isnt, is) at e) in
           record { what = grammar.some_word p.what; tokens = ap (λ ts. grammar.mark OpenBrace ts) (seen Question i is ∙ ap (λ ts. grammar.mark Question ts) p.tokens); steps = p.steps }
       | inr isnt2 ↦ elim (cases_Bool (sees Exclamation i)) [
         | inl is ↦
-            let p = pattern_says Step.no_word (advance i) j u (rw (isnt, isnt2, is) at e) in
+            let p = pattern_says ParseStep.no_word (advance i) j u (rw (isnt, isnt2, is) at e) in
             record { what = grammar.no_word p.what; tokens = ap (λ ts. grammar.mark OpenBrace ts) (seen Exclamation i is ∙ ap (λ ts. grammar.mark Exclamation ts) p.tokens); steps = p.steps }
         | inr isnt3 ↦ set_says i j u (rw (isnt, isnt2, isnt3) at e)
       ]
@@ -228,7 +228,7 @@ module _ (inner value : Parser (Unit {0})) (sums : Sound inner IsSum) (values : 
   ]
 
   -- what stands behind a sign that came first
-  behind : (s : Sign) (i j : State) → first i.tokens ≡ Some (Token.sign s) → Behind s (advance i) j → IsBase i j
+  behind : (s : Sign) (i j : ParseState) → first i.tokens ≡ Some (Token.sign s) → Behind s (advance i) j → IsBase i j
   unfolding advance
   behind s i j h b = record { what = b.what; tokens = first_is i.tokens (Token.sign s) h ∙ b.tokens; steps = b.steps }
 
@@ -238,7 +238,7 @@ module _ (inner value : Parser (Unit {0})) (sums : Sound inner IsSum) (values : 
     where
       go : (o : Option Token) → first i.tokens ≡ o → base_by inner value o i ≡ Some (u, j) → IsBase i j
       go (Some (Token.name w)) h e =
-          let p = pushed (Step.shift w) (advance i) j u e in
+          let p = pushed (ParseStep.shift w) (advance i) j u e in
           record { what = grammar.shift w; tokens = first_is i.tokens (Token.name w) h ∙ ap (λ ts. grammar.word w ts) p.tokens; steps = p.steps }
       go (Some (Token.sign OpenBrace)) h e = behind OpenBrace i j h (brace_says (advance i) j u e)
       go (Some (Token.sign OpenBracket)) h e = behind OpenBracket i j h (bracket_says value values (advance i) j u e)
@@ -254,14 +254,14 @@ module _ (inner value : Parser (Unit {0})) (sums : Sound inner IsSum) (values : 
       go (Some (Token.sign SingleArrow)) h e =
           let b = bind_some (name (advance i)) _ (u, j) e in
           let w = named (advance i) b.0.1 b.0.0 b.1 in
-          let p = pushed (Step.switch b.0.0) b.0.1 j u b.2 in
+          let p = pushed (ParseStep.switch b.0.0) b.0.1 j u b.2 in
           behind SingleArrow i j h (record {
             what = grammar.switch b.0.0;
             tokens = ap (λ ts. grammar.mark SingleArrow ts) (w.tokens ∙ ap (λ ts. grammar.word b.0.0 ts) p.tokens);
-            steps = p.steps ∙ ap (λ out. out ++ Step.switch b.0.0 ∷ []) w.steps;
+            steps = p.steps ∙ ap (λ out. out ++ ParseStep.switch b.0.0 ∷ []) w.steps;
           })
       go (Some (Token.sign DoubleArrow)) h e =
-          let p = pushed Step.keeper (advance i) j u e in
+          let p = pushed ParseStep.keeper (advance i) j u e in
           behind DoubleArrow i j h (record { what = grammar.keeper; tokens = ap (λ ts. grammar.mark DoubleArrow ts) p.tokens; steps = p.steps })
       go _ h e = absurd cc
 
@@ -272,35 +272,35 @@ module _ (inner value : Parser (Unit {0})) (sums : Sound inner IsSum) (values : 
       let a = base_says i b.0.1 b.0.0 b.1 in
       star_says i b.0.1 j u a b.2
     where
-      star_says : (i k j : State) (u : Unit {0}) → IsBase i k → and_then (eat Star k) (λ b. if b then push Step.star else done) ≡ Some (u, j) → IsElement i j
+      star_says : (i k j : ParseState) (u : Unit {0}) → IsBase i k → and_then (eat Star k) (λ b. if b then push ParseStep.star else done) ≡ Some (u, j) → IsElement i j
       star_says i k j u a e = elim (cases_Bool (sees Star k)) [
         | inl is ↦
-            let p = pushed Step.star (advance k) j u (rw is at e) in
+            let p = pushed ParseStep.star (advance k) j u (rw is at e) in
             record {
               what = grammar.star a.what;
               tokens = a.tokens ∙ ap (λ ts. grammar.base a.what ts) (seen Star k is ∙ ap (λ ts. grammar.mark Star ts) p.tokens);
-              steps = p.steps ∙ ap (λ out. out ++ Step.star ∷ []) a.steps;
+              steps = p.steps ∙ ap (λ out. out ++ ParseStep.star ∷ []) a.steps;
             }
         | inr isnt ↦
             let p = stayed k j u tt (rw isnt at e) in
             record { what = once a.what; tokens = a.tokens ∙ ap (λ ts. grammar.base a.what ts) p.tokens; steps = p.steps ∙ a.steps }
       ]
 
-  elements_say : (n : ℕ) (start i j : State) (u : Unit {0}) → IsConcat start i → elements inner value n i ≡ Some (u, j) → IsConcat start j
+  elements_say : (n : ℕ) (start i j : ParseState) (u : Unit {0}) → IsConcat start i → elements inner value n i ≡ Some (u, j) → IsConcat start j
   unfolding elements
   elements_say zero start i j u so e =
       let p = stayed i j u tt e in
       record { what = so.what; tokens = so.tokens ∙ ap (λ ts. grammar.concat so.what ts) p.tokens; steps = p.steps ∙ so.steps }
   elements_say (suc n) start i j u so e = elim (cases_Bool (begins_element (first i.tokens))) [
     | inl is ↦
-        let c = bind_some (and_then (element inner value i) (λ _. push Step.join)) _ (u, j) (rw is at e) in
+        let c = bind_some (and_then (element inner value i) (λ _. push ParseStep.join)) _ (u, j) (rw is at e) in
         let b = bind_some (element inner value i) _ c.0 c.1 in
         let a = element_says i b.0.1 b.0.0 b.1 in
-        let p = pushed Step.join b.0.1 c.0.1 c.0.0 b.2 in
+        let p = pushed ParseStep.join b.0.1 c.0.1 c.0.0 b.2 in
         elements_say n start c.0.1 j u (record {
           what = followed so.what a.what;
           tokens = so.tokens ∙ ap (λ ts. grammar.concat so.what ts) (a.tokens ∙ ap (λ ts. grammar.element a.what ts) p.tokens);
-          steps = p.steps ∙ ap (λ out. out ++ Step.join ∷ []) (a.steps ∙ ap (λ out. element_onto a.what out) so.steps);
+          steps = p.steps ∙ ap (λ out. out ++ ParseStep.join ∷ []) (a.steps ∙ ap (λ out. element_onto a.what out) so.steps);
         }) c.2
     | inr isnt ↦
         let p = stayed i j u tt (rw isnt at e) in
@@ -314,7 +314,7 @@ module _ (inner value : Parser (Unit {0})) (sums : Sound inner IsSum) (values : 
       let a = element_says i b.0.1 b.0.0 b.1 in
       elements_say (length b.0.1.tokens) i b.0.1 j u (record { what = single a.what; tokens = a.tokens; steps = a.steps }) b.2
 
-  branches_say : (n : ℕ) (start i j : State) (u : Unit {0}) → IsSum start i → branches inner value n i ≡ Some (u, j) → IsSum start j
+  branches_say : (n : ℕ) (start i j : ParseState) (u : Unit {0}) → IsSum start i → branches inner value n i ≡ Some (u, j) → IsSum start j
   unfolding branches after advance
   branches_say zero start i j u so e =
       let p = stayed i j u tt e in
@@ -323,10 +323,10 @@ module _ (inner value : Parser (Unit {0})) (sums : Sound inner IsSum) (values : 
     | inl is ↦
         let b = bind_some (concat inner value (advance i)) _ (u, j) (rw is at e) in
         let a = concat_says (advance i) b.0.1 b.0.0 b.1 in
-        branches_say n start (record b.0.1 { steps = b.0.1.steps ++ Step.either ∷ [] }) j u (record {
+        branches_say n start (record b.0.1 { steps = b.0.1.steps ++ ParseStep.either ∷ [] }) j u (record {
           what = grammar.either so.what a.what;
           tokens = so.tokens ∙ ap (λ ts. grammar.sum so.what ts) (seen Plus i is ∙ ap (λ ts. grammar.mark Plus ts) a.tokens);
-          steps = ap (λ out. out ++ Step.either ∷ []) (a.steps ∙ ap (λ out. concat_onto a.what out) so.steps);
+          steps = ap (λ out. out ++ ParseStep.either ∷ []) (a.steps ∙ ap (λ out. concat_onto a.what out) so.steps);
         }) b.2
     | inr isnt ↦
         let p = stayed i j u tt (rw isnt at e) in

@@ -4,9 +4,9 @@ use Rattle.std.specs.Prelude.{codes}
 use Rattle.std.specs.Str.{bytes_eq}
 use Rattle.rbg_text.specs.Token.{Text, Token}
 use Rattle.rbg_text.specs.Syntax as grammar
-use Rattle.rbg_text.specs.Syntax.{Tokens, Declaration, Arrow, Vertex, Further, after_comma, at_once, Section}
+use Rattle.rbg_text.specs.Syntax.{Tokens, Declaration, WrittenArrow, WrittenVertex, Further, after_comma, at_once, Section}
 use Rattle.rbg_text.specs.NestingCount.{nesting_from}
-use Rattle.rbg_text.specs.Parse.{Step, Parser, first, same_sign, sees, advance, after, expect, name, begins_element, rules_to}
+use Rattle.rbg_text.specs.Parse.{ParseStep, Parser, first, same_sign, sees, advance, after, expect, name, begins_element, rules_to}
 use Rattle.rbg_text.specs.Said.{Said, further_vertex, said_of}
 use Rattle.rbg_text.specs.ParseSections.{items, listed, number, declaration, arrow, arrows, vertex, is_name, vertices, all_vertices, all_variables, all_rules, section_by, section, is_done, sections}
 use Rattle.rbg_text.specs.Postfix.{sum_onto, sum_depth}
@@ -17,13 +17,13 @@ use Rattle.rbg_text.proofs.RulesComplete.{sum_len, rules_read}
 
 -- the item is read, whatever follows
 abbrev ReadsItem : {X : Type 0} → Parser X → (X → Tokens → Tokens) → Type 0
-ReadsItem {X = X} item said = (x : X) (rest : Tokens) (out : List Step) → item (state (said x rest) out) ≡ Some (x, state rest out)
+ReadsItem {X = X} item said = (x : X) (rest : Tokens) (out : List ParseStep) → item (state (said x rest) out) ≡ Some (x, state rest out)
 
 abbrev TakesTokens : {X : Type 0} → (X → Tokens → Tokens) → Type 0
 TakesTokens {X = X} said = (x : X) (rest : Tokens) → length rest < length (said x rest)
 
 module _ {X : Type 0} (item : Parser X) (said : X → Tokens → Tokens) (reads : ReadsItem item said) (takes : TakesTokens said) where
-  items_stop : (n : ℕ) (xs : List X) (rest : Tokens) (out : List Step) → Not Comma rest → items item n xs (state rest out) ≡ Some (xs, state rest out)
+  items_stop : (n : ℕ) (xs : List X) (rest : Tokens) (out : List ParseStep) → Not Comma rest → items item n xs (state rest out) ≡ Some (xs, state rest out)
   unfolding items after
   items_stop zero xs rest out stop = refl
   items_stop (suc n) xs rest out stop = rw (stop out) refl
@@ -32,7 +32,7 @@ module _ {X : Type 0} (item : Parser X) (said : X → Tokens → Tokens) (reads 
   further_len [] rest = omega arith
   further_len (x ∷ more) rest = omega (arith, further_len more rest, takes x (grammar.further said more rest))
 
-  items_read : (more : List X) (n : ℕ) (xs : List X) (rest : Tokens) (out : List Step) → length (grammar.further said more rest) ≤ n → Not Comma rest
+  items_read : (more : List X) (n : ℕ) (xs : List X) (rest : Tokens) (out : List ParseStep) → length (grammar.further said more rest) ≤ n → Not Comma rest
       → items item n xs (state (grammar.further said more rest) out) ≡ Some (xs ++ more, state rest out)
   unfolding items after sees same_sign advance
   items_read [] n xs rest out enough stop = rw append-nil (items_stop n xs rest out stop)
@@ -42,7 +42,7 @@ module _ {X : Type 0} (item : Parser X) (said : X → Tokens → Tokens) (reads 
       let le : length (grammar.further said more rest) ≤ n = omega (arith, enough, takes x (grammar.further said more rest)) in
       rw one (items_read more n (xs ++ x ∷ []) rest out le stop ∙ ap (λ ys. Some (ys, state rest out)) (append_assoc xs (x ∷ []) more))
 
-  listed_read : (x : X) (more : List X) (rest : Tokens) (out : List Step) → Not Comma rest → listed item (state (said x (grammar.further said more rest)) out) ≡ Some (x ∷ more, state rest out)
+  listed_read : (x : X) (more : List X) (rest : Tokens) (out : List ParseStep) → Not Comma rest → listed item (state (said x (grammar.further said more rest)) out) ≡ Some (x ∷ more, state rest out)
   unfolding listed
   listed_read x more rest out stop =
       let one = reads x (grammar.further said more rest) out in
@@ -69,7 +69,7 @@ arrow_reads a rest out = refl
 arrow_takes : TakesTokens grammar.arrow
 arrow_takes a rest = omega arith
 
-arrows_read : (all : List Arrow) (rest : Tokens) (out : List Step) → arrows (state (grammar.commas grammar.arrow all (grammar.mark CloseBrace rest)) out) ≡ Some (all, state (grammar.mark CloseBrace rest) out)
+arrows_read : (all : List WrittenArrow) (rest : Tokens) (out : List ParseStep) → arrows (state (grammar.commas grammar.arrow all (grammar.mark CloseBrace rest)) out) ≡ Some (all, state (grammar.mark CloseBrace rest) out)
 unfolding arrows sees same_sign
 arrows_read [] rest out = refl
 arrows_read (a ∷ more) rest out = listed_read arrow grammar.arrow arrow_reads arrow_takes a more (grammar.mark CloseBrace rest) out (not_sign Comma CloseBrace rest refl)
@@ -78,14 +78,14 @@ vertex_reads : ReadsItem vertex grammar.vertex
 unfolding vertex name expect sees same_sign advance
 vertex_reads v rest out = rw (arrows_read v.arrows rest out) refl
 
-commas_len : (all : List Arrow) (rest : Tokens) → length rest ≤ length (grammar.commas grammar.arrow all rest)
+commas_len : (all : List WrittenArrow) (rest : Tokens) → length rest ≤ length (grammar.commas grammar.arrow all rest)
 commas_len [] rest = omega arith
 commas_len (a ∷ more) rest = omega (arith, further_len arrow grammar.arrow arrow_reads arrow_takes more rest)
 
 vertex_takes : TakesTokens grammar.vertex
 vertex_takes v rest = omega (arith, commas_len v.arrows (grammar.mark CloseBrace rest))
 
-vertices_stop : (n : ℕ) (xs : List Vertex) (rest : Tokens) (out : List Step) → Not Comma rest → is_name (first rest) ≡ false → vertices n xs (state rest out) ≡ Some (xs, state rest out)
+vertices_stop : (n : ℕ) (xs : List WrittenVertex) (rest : Tokens) (out : List ParseStep) → Not Comma rest → is_name (first rest) ≡ false → vertices n xs (state rest out) ≡ Some (xs, state rest out)
 unfolding vertices after
 vertices_stop zero xs rest out stop other = refl
 vertices_stop (suc n) xs rest out stop other = rw (stop out, other) refl
@@ -95,7 +95,7 @@ vertices_len [] rest = omega arith
 vertices_len (after_comma v ∷ more) rest = omega (arith, vertices_len more rest, vertex_takes v (grammar.further_vertices more rest))
 vertices_len (at_once v ∷ more) rest = omega (arith, vertices_len more rest, vertex_takes v (grammar.further_vertices more rest))
 
-vertices_read : (more : List Further) (n : ℕ) (xs : List Vertex) (rest : Tokens) (out : List Step) → length (grammar.further_vertices more rest) ≤ n → Not Comma rest → is_name (first rest) ≡ false
+vertices_read : (more : List Further) (n : ℕ) (xs : List WrittenVertex) (rest : Tokens) (out : List ParseStep) → length (grammar.further_vertices more rest) ≤ n → Not Comma rest → is_name (first rest) ≡ false
     → vertices n xs (state (grammar.further_vertices more rest) out) ≡ Some (xs ++ map further_vertex more, state rest out)
 unfolding vertices after sees same_sign advance
 vertices_read [] n xs rest out enough stop other = rw append-nil (vertices_stop n xs rest out stop other)
@@ -110,14 +110,14 @@ vertices_read (at_once v ∷ more) (suc n) xs rest out enough stop other =
     let le : length (grammar.further_vertices more rest) ≤ n = omega (arith, enough, vertex_takes v (grammar.further_vertices more rest)) in
     rw one (vertices_read more n (xs ++ v ∷ []) rest out le stop other ∙ ap (λ ys. Some (ys, state rest out)) (append_assoc xs (v ∷ []) (map further_vertex more)))
 
-board_read : (v : Vertex) (more : List Further) (rest : Tokens) (out : List Step) → Not Comma rest → is_name (first rest) ≡ false
+board_read : (v : WrittenVertex) (more : List Further) (rest : Tokens) (out : List ParseStep) → Not Comma rest → is_name (first rest) ≡ false
     → all_vertices (state (grammar.vertex v (grammar.further_vertices more rest)) out) ≡ Some (v ∷ map further_vertex more, state rest out)
 unfolding all_vertices
 board_read v more rest out stop other =
     let one = vertex_reads v (grammar.further_vertices more rest) out in
     rw one (vertices_read more (length (grammar.further_vertices more rest)) (v ∷ []) rest out (omega arith) stop other)
 
-variables_read : (all : List Declaration) (rest : Tokens) (out : List Step) → Not Comma rest → is_name (first rest) ≡ false
+variables_read : (all : List Declaration) (rest : Tokens) (out : List ParseStep) → Not Comma rest → is_name (first rest) ≡ false
     → all_variables (state (grammar.commas grammar.declaration all rest) out) ≡ Some (all, state rest out)
 unfolding all_variables
 variables_read [] rest out stop other = rw other refl

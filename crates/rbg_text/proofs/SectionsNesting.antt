@@ -2,7 +2,7 @@
 use Rattle.std.proofs.Common.{◌≡◌, ℕ, ◌+◌, ◌≤◌, List, [], ◌∷◌, refl, arith}
 use Rattle.rbg_text.specs.Token.{Text}
 use Rattle.rbg_text.specs.Syntax as grammar
-use Rattle.rbg_text.specs.Syntax.{Tokens, Declaration, Arrow, Vertex, Further, after_comma, at_once, Section}
+use Rattle.rbg_text.specs.Syntax.{Tokens, Declaration, WrittenArrow, WrittenVertex, Further, after_comma, at_once, Section}
 use Rattle.rbg_text.specs.NestingCount.{nesting_from}
 use Rattle.rbg_text.specs.Postfix.{sum_depth}
 use Rattle.rbg_text.specs.declared.token.Sign.TheVariants.{CloseParen, OpenBracket, CloseBracket, OpenBrace, CloseBrace}

@@ -7,8 +7,8 @@ use Rattle.std.proofs.lemmas.Slice.Eq.{bytes_eq-Decides}
 use Rattle.std.proofs.lemmas.Option.{some_pair_parts}
 use Rattle.rbg_text.specs.Token.{Text, Token}
 use Rattle.rbg_text.specs.Syntax as grammar
-use Rattle.rbg_text.specs.Syntax.{Tokens, Declaration, Arrow, Vertex, Further, after_comma, at_once, Section}
-use Rattle.rbg_text.specs.Parse.{Step, State, Parser, first, sees, advance, after, expect, name, rules_to}
+use Rattle.rbg_text.specs.Syntax.{Tokens, Declaration, WrittenArrow, WrittenVertex, Further, after_comma, at_once, Section}
+use Rattle.rbg_text.specs.Parse.{ParseStep, ParseState, Parser, first, sees, advance, after, expect, name, rules_to}
 use Rattle.rbg_text.specs.Said.{Said, further_vertex, said_of}
 use Rattle.rbg_text.specs.ParseSections as parse
 use Rattle.rbg_text.specs.ParseSections.{items, listed, number_by, number, declaration, arrow, arrows, vertex, is_name, vertices, all_vertices, all_variables, all_rules, section_by, section, is_done, sections}
@@ -19,20 +19,20 @@ use Rattle.rbg_text.proofs.ExpressionsSound.{bind_some, seen, expected, first_is
 use Rattle.rbg_text.proofs.RulesSound.{Takes, named, rules_say}
 
 -- x was read, as `said` writes it
-pub record Got {X : Type 0} (said : X → Tokens → Tokens) (i j : State) (x : X) : Type 0 where
+pub record Got {X : Type 0} (said : X → Tokens → Tokens) (i j : ParseState) (x : X) : Type 0 where
   pub tokens : i.tokens ≡ said x j.tokens
   pub steps : j.steps ≡ i.steps
 
 abbrev GetsAs : {X : Type 0} → Parser X → (X → Tokens → Tokens) → Type 0
-GetsAs {X = X} parser said = (i j : State) (x : X) → parser i ≡ Some (x, j) → Got said i j x
+GetsAs {X = X} parser said = (i j : ParseState) (x : X) → parser i ≡ Some (x, j) → Got said i j x
 
-moved : {X : Type 0} (said : X → Tokens → Tokens) (i k j : State) (x y : X) → (x ≡ y) × (k ≡ j) → Got said i k x → Got said i j y
+moved : {X : Type 0} (said : X → Tokens → Tokens) (i k j : ParseState) (x y : X) → (x ≡ y) × (k ≡ j) → Got said i k x → Got said i j y
 moved said i k j x y p g = rw (← p.0, ← p.1) g
 
 name_got : GetsAs name grammar.word
 name_got i j w e = let t = named i j w e in record { tokens = t.tokens; steps = t.steps }
 
-numbered : (i j : State) (w : Text) → number i ≡ Some (w, j) → Takes (Token.number w) i j
+numbered : (i j : ParseState) (w : Text) → number i ≡ Some (w, j) → Takes (Token.number w) i j
 unfolding number advance
 numbered i j w e = go (first i.tokens) refl e
   where
@@ -43,19 +43,19 @@ numbered i j w e = go (first i.tokens) refl e
     go _ h e = absurd cc
 
 -- further items, each with a comma before it
-record More {X : Type 0} (said : X → Tokens → Tokens) (xs : List X) (i j : State) (ys : List X) : Type 0 where
+record More {X : Type 0} (said : X → Tokens → Tokens) (xs : List X) (i j : ParseState) (ys : List X) : Type 0 where
   more : List X
   is : ys ≡ xs ++ more
   tokens : i.tokens ≡ grammar.further said more j.tokens
   steps : j.steps ≡ i.steps
 
-none_more : {X : Type 0} (said : X → Tokens → Tokens) (xs : List X) (i j : State) (ys : List X) → parse.give xs i ≡ Some (ys, j) → More said xs i j ys
+none_more : {X : Type 0} (said : X → Tokens → Tokens) (xs : List X) (i j : ParseState) (ys : List X) → parse.give xs i ≡ Some (ys, j) → More said xs i j ys
 none_more said xs i j ys e =
     let p = some_pair_parts xs ys i j e in
     record { more = []; is = sym p.0 ∙ sym (append-nil xs); tokens = ap (λ k. k.tokens) p.1; steps = ap (λ k. k.steps) (sym p.1) }
 
 module _ {X : Type 0} (item : Parser X) (said : X → Tokens → Tokens) (gets : GetsAs item said) where
-  items_more : (n : ℕ) (xs : List X) (i j : State) (ys : List X) → items item n xs i ≡ Some (ys, j) → More said xs i j ys
+  items_more : (n : ℕ) (xs : List X) (i j : ParseState) (ys : List X) → items item n xs i ≡ Some (ys, j) → More said xs i j ys
   unfolding items after advance
   items_more zero xs i j ys e = none_more said xs i j ys e
   items_more (suc n) xs i j ys e = elim (cases_Bool (sees Comma i)) [
@@ -73,14 +73,14 @@ module _ {X : Type 0} (item : Parser X) (said : X → Tokens → Tokens) (gets :
   ]
 
 -- one item or more
-record Some_of {X : Type 0} (said : X → Tokens → Tokens) (i j : State) (ys : List X) : Type 0 where
+record Some_of {X : Type 0} (said : X → Tokens → Tokens) (i j : ParseState) (ys : List X) : Type 0 where
   head : X
   more : List X
   is : ys ≡ head ∷ more
   tokens : i.tokens ≡ said head (grammar.further said more j.tokens)
   steps : j.steps ≡ i.steps
 
-listed_some : {X : Type 0} (item : Parser X) (said : X → Tokens → Tokens) → GetsAs item said → (i j : State) (ys : List X) → listed item i ≡ Some (ys, j) → Some_of said i j ys
+listed_some : {X : Type 0} (item : Parser X) (said : X → Tokens → Tokens) → GetsAs item said → (i j : ParseState) (ys : List X) → listed item i ≡ Some (ys, j) → Some_of said i j ys
 unfolding listed
 listed_some item said gets i j ys e =
     let b = bind_some (item i) _ (ys, j) e in
@@ -121,17 +121,17 @@ arrow_got i j x e =
     })
 
 -- a list in which there may be no item
-record Any_of {X : Type 0} (said : X → Tokens → Tokens) (i j : State) (ys : List X) : Type 0 where
+record Any_of {X : Type 0} (said : X → Tokens → Tokens) (i j : ParseState) (ys : List X) : Type 0 where
   tokens : i.tokens ≡ grammar.commas said ys j.tokens
   steps : j.steps ≡ i.steps
 
-none_of : {X : Type 0} (said : X → Tokens → Tokens) (i j : State) (ys : List X) → parse.give [] i ≡ Some (ys, j) → Any_of said i j ys
+none_of : {X : Type 0} (said : X → Tokens → Tokens) (i j : ParseState) (ys : List X) → parse.give [] i ≡ Some (ys, j) → Any_of said i j ys
 none_of said i j ys e = let p = some_pair_parts [] ys i j e in rw (← p.0, ← p.1) (record { tokens = refl; steps = refl })
 
-any_of : {X : Type 0} (said : X → Tokens → Tokens) (i j : State) (ys : List X) → Some_of said i j ys → Any_of said i j ys
+any_of : {X : Type 0} (said : X → Tokens → Tokens) (i j : ParseState) (ys : List X) → Some_of said i j ys → Any_of said i j ys
 any_of said i j ys s = rw s.is (record { tokens = s.tokens; steps = s.steps })
 
-arrows_got : (i j : State) (ys : List Arrow) → arrows i ≡ Some (ys, j) → Any_of grammar.arrow i j ys
+arrows_got : (i j : ParseState) (ys : List WrittenArrow) → arrows i ≡ Some (ys, j) → Any_of grammar.arrow i j ys
 unfolding arrows
 arrows_got i j ys e = elim (cases_Bool (sees CloseBrace i)) [
   | inl is ↦ none_of grammar.arrow i j ys (rw is at e)
@@ -163,18 +163,18 @@ vertex_got i j x e =
     })
 
 -- further vertices
-record MoreVertices (xs : List Vertex) (i j : State) (ys : List Vertex) : Type 0 where
+record MoreVertices (xs : List WrittenVertex) (i j : ParseState) (ys : List WrittenVertex) : Type 0 where
   more : List Further
   is : ys ≡ xs ++ map further_vertex more
   tokens : i.tokens ≡ grammar.further_vertices more j.tokens
   steps : j.steps ≡ i.steps
 
-no_vertices : (xs : List Vertex) (i j : State) (ys : List Vertex) → parse.give xs i ≡ Some (ys, j) → MoreVertices xs i j ys
+no_vertices : (xs : List WrittenVertex) (i j : ParseState) (ys : List WrittenVertex) → parse.give xs i ≡ Some (ys, j) → MoreVertices xs i j ys
 no_vertices xs i j ys e =
     let p = some_pair_parts xs ys i j e in
     record { more = []; is = sym p.0 ∙ sym (append-nil xs); tokens = ap (λ k. k.tokens) p.1; steps = ap (λ k. k.steps) (sym p.1) }
 
-vertices_more : (n : ℕ) (xs : List Vertex) (i j : State) (ys : List Vertex) → vertices n xs i ≡ Some (ys, j) → MoreVertices xs i j ys
+vertices_more : (n : ℕ) (xs : List WrittenVertex) (i j : ParseState) (ys : List WrittenVertex) → vertices n xs i ≡ Some (ys, j) → MoreVertices xs i j ys
 unfolding vertices after advance
 vertices_more zero xs i j ys e = no_vertices xs i j ys e
 vertices_more (suc n) xs i j ys e = elim (cases_Bool (sees Comma i)) [
@@ -204,20 +204,20 @@ vertices_more (suc n) xs i j ys e = elim (cases_Bool (sees Comma i)) [
 ]
 
 -- a section, where no steps were left before it
-pub record IsSection (i j : State) (x : Said) : Type 0 where
+pub record IsSection (i j : ParseState) (x : Said) : Type 0 where
   pub what : Section
   pub is : said_of what ≡ x
   pub tokens : i.tokens ≡ grammar.section what j.tokens
   pub steps : j.steps ≡ []
 
 -- a section whose title was read before
-record Titled (title : Text) (i j : State) (x : Said) : Type 0 where
+record Titled (title : Text) (i j : ParseState) (x : Said) : Type 0 where
   what : Section
   is : said_of what ≡ x
   tokens : grammar.headed title i.tokens ≡ grammar.section what j.tokens
   steps : j.steps ≡ []
 
-variables_got : (i j : State) (ys : List Declaration) → all_variables i ≡ Some (ys, j) → Any_of grammar.declaration i j ys
+variables_got : (i j : ParseState) (ys : List Declaration) → all_variables i ≡ Some (ys, j) → Any_of grammar.declaration i j ys
 unfolding all_variables
 variables_got i j ys e = elim (cases_Bool (is_name (first i.tokens))) [
   | inl is ↦ any_of grammar.declaration i j ys (listed_some declaration grammar.declaration declaration_got i j ys (rw is at e))
@@ -225,14 +225,14 @@ variables_got i j ys e = elim (cases_Bool (is_name (first i.tokens))) [
 ]
 
 -- the board after its title
-record IsBoard (i j : State) (ys : List Vertex) : Type 0 where
-  head : Vertex
+record IsBoard (i j : ParseState) (ys : List WrittenVertex) : Type 0 where
+  head : WrittenVertex
   more : List Further
   is : ys ≡ head ∷ map further_vertex more
   tokens : i.tokens ≡ grammar.vertex head (grammar.further_vertices more j.tokens)
   steps : j.steps ≡ i.steps
 
-board_got : (i j : State) (ys : List Vertex) → all_vertices i ≡ Some (ys, j) → IsBoard i j ys
+board_got : (i j : ParseState) (ys : List WrittenVertex) → all_vertices i ≡ Some (ys, j) → IsBoard i j ys
 unfolding all_vertices
 board_got i j ys e =
     let b = bind_some (vertex i) _ (ys, j) e in
@@ -241,13 +241,13 @@ board_got i j ys e =
     record { head = b.0.0; more = m.more; is = m.is; tokens = g.tokens ∙ ap (λ ts. grammar.vertex b.0.0 ts) m.tokens; steps = m.steps ∙ g.steps }
 
 -- the rules after their title, where no steps were left before them
-record AreRules (i j : State) (out : List Step) : Type 0 where
+record AreRules (i j : ParseState) (out : List ParseStep) : Type 0 where
   what : grammar.Sum
   is : out ≡ sum_onto what []
   tokens : i.tokens ≡ grammar.sum what j.tokens
   steps : j.steps ≡ []
 
-all_rules_got : (i j : State) (out : List Step) → i.steps ≡ [] → all_rules i ≡ Some (out, j) → AreRules i j out
+all_rules_got : (i j : ParseState) (out : List ParseStep) → i.steps ≡ [] → all_rules i ≡ Some (out, j) → AreRules i j out
 unfolding all_rules
 all_rules_got i j out none e =
     let b = bind_some (rules_to 65 i) _ (out, j) e in
@@ -261,7 +261,7 @@ all_rules_got i j out none e =
     }
 
 -- what was read under the title
-titled : (title word : Text) (what : Section) (i k j : State) (said x : Said) → title ≡ word → said_of what ≡ said → grammar.headed word i.tokens ≡ grammar.section what k.tokens
+titled : (title word : Text) (what : Section) (i k j : ParseState) (said x : Said) → title ≡ word → said_of what ≡ said → grammar.headed word i.tokens ≡ grammar.section what k.tokens
     → k.steps ≡ [] → parse.give said k ≡ Some (x, j) → Titled title i j x
 titled title word what i k j said x same is tokens steps e =
     let p = some_pair_parts said x k j e in
@@ -275,7 +275,7 @@ titled title word what i k j said x same is tokens steps e =
 is_word : (title word : Text) → bytes_eq title word ≡ true → title ≡ word
 is_word title word e = (bytes_eq-Decides title word).0 e
 
-titled_says : (title : Text) (i j : State) (x : Said) → i.steps ≡ [] → section_by title i ≡ Some (x, j) → Titled title i j x
+titled_says : (title : Text) (i j : ParseState) (x : Said) → i.steps ≡ [] → section_by title i ≡ Some (x, j) → Titled title i j x
 unfolding section_by
 titled_says title i j x none e = elim (cases_Bool (bytes_eq title (codes "players"))) [
   | inl is ↦
@@ -309,7 +309,7 @@ titled_says title i j x none e = elim (cases_Bool (bytes_eq title (codes "player
   ]
 ]
 
-section_says : (i j : State) (x : Said) → i.steps ≡ [] → section i ≡ Some (x, j) → IsSection i j x
+section_says : (i j : ParseState) (x : Said) → i.steps ≡ [] → section i ≡ Some (x, j) → IsSection i j x
 unfolding section
 section_says i j x none e =
     let a = bind_some (expect Hash i) _ (x, j) e in
@@ -327,12 +327,12 @@ section_says i j x none e =
     }
 
 -- sections up to the last token
-pub record AreSections (all : List Said) (i : State) (ys : List Said) : Type 0 where
+pub record AreSections (all : List Said) (i : ParseState) (ys : List Said) : Type 0 where
   pub more : List Section
   pub is : ys ≡ all ++ map said_of more
   pub tokens : i.tokens ≡ grammar.text more
 
-no_sections : (all : List Said) (i j : State) (ys : List Said) → is_done i.tokens ≡ true → parse.give all i ≡ Some (ys, j) → AreSections all i ys
+no_sections : (all : List Said) (i j : ParseState) (ys : List Said) → is_done i.tokens ≡ true → parse.give all i ≡ Some (ys, j) → AreSections all i ys
 no_sections all i j ys is e =
     let p = some_pair_parts all ys i j e in
     record { more = []; is = sym p.0 ∙ sym (append-nil all); tokens = nothing i.tokens is }
@@ -342,7 +342,7 @@ no_sections all i j ys is e =
     nothing (t ∷ ts) h = absurd cc
 
 -- what is read is sections of the grammar
-pub sections_say : (n : ℕ) (all : List Said) (i j : State) (ys : List Said) → i.steps ≡ [] → sections n all i ≡ Some (ys, j) → AreSections all i ys
+pub sections_say : (n : ℕ) (all : List Said) (i j : ParseState) (ys : List Said) → i.steps ≡ [] → sections n all i ≡ Some (ys, j) → AreSections all i ys
 unfolding sections
 sections_say zero all i j ys none e = elim (cases_Bool (is_done i.tokens)) [
   | inl is ↦ no_sections all i j ys is (rw is at e)

@@ -1,10 +1,13 @@
 -- Splitting a text, as a function.
-use Rattle.std.specs.Prelude.{ℕ, zero, suc, Bool, true, false, not, ◌&&◌, if◌then◌else◌, ◌==◌, nat_eq, List, [], ◌∷◌, length, take, drop, slice_index, Option, Some, None, is_some, unwrap_or, option_map, option_and_then}
+use Rattle.std.specs.Prelude.{ℕ, zero, suc, Bool, true, false, not, ◌&&◌, if◌then◌else◌, ◌==◌, nat_eq, List, [], ◌∷◌, length, take, drop}
+use Rattle.std.specs.Prelude.{slice_index, Option, Some, None, is_some, unwrap_or, option_map, option_and_then}
 use Rattle.std.specs.List.{prefix_len, list_all, starts_with}
 use Rattle.std.specs.Char.{is_ascii_digit}
 use Rattle.rbg_text.specs.Token.{Text, Token, is_word_byte, is_blank, sign_text}
 use Rattle.rbg_text.specs.declared.token.Sign.{Sign}
-use Rattle.rbg_text.specs.declared.token.Sign.TheVariants.{DoubleArrow, Arrow, EqualEqual, NotEqual, LessEqual, GreaterEqual, Less, Greater, Equal, Hash, Comma, Colon, OpenParen, CloseParen, OpenBracket, CloseBracket, OpenBrace, CloseBrace, Star, Plus, Minus, Dollar, Question, Exclamation}
+use Rattle.rbg_text.specs.declared.token.Sign.TheVariants.{DoubleArrow, Arrow, EqualEqual, NotEqual, LessEqual, GreaterEqual, Less, Greater}
+use Rattle.rbg_text.specs.declared.token.Sign.TheVariants.{Equal, Hash, Comma, Colon, OpenParen, CloseParen, OpenBracket, CloseBracket}
+use Rattle.rbg_text.specs.declared.token.Sign.TheVariants.{OpenBrace, CloseBrace, Star, Plus, Minus, Dollar, Question, Exclamation}
 
 -- whether a comment goes on after the byte b, which `next` follows, or none where b belongs to a token
 abbrev pub turn : Bool → ℕ → ℕ → Option Bool
@@ -25,7 +28,8 @@ skip text = skip_from false text
 abbrev pub signs : List Sign
 signs =
     DoubleArrow ∷ Arrow ∷ EqualEqual ∷ NotEqual ∷ LessEqual ∷ GreaterEqual ∷ Less ∷ Greater ∷ Equal ∷ Hash ∷ Comma ∷ Colon
-    ∷ OpenParen ∷ CloseParen ∷ OpenBracket ∷ CloseBracket ∷ OpenBrace ∷ CloseBrace ∷ Star ∷ Plus ∷ Minus ∷ Dollar ∷ Question ∷ Exclamation ∷ []
+    ∷ OpenParen ∷ CloseParen ∷ OpenBracket ∷ CloseBracket ∷ OpenBrace ∷ CloseBrace ∷ Star ∷ Plus ∷ Minus ∷ Dollar ∷ Question ∷ Exclamation
+    ∷ []
 
 unfoldable pub is_at : Text → Sign → Bool
 is_at text s = starts_with nat_eq text (sign_text s)

@@ -1,9 +1,12 @@
 -- Parsing, as a function on tokens: each function takes tokens from the front, and adds steps in postfix order.
-use Rattle.std.specs.Prelude.{◌≡◌, ℕ, zero, suc, Bool, true, false, if◌then◌else◌, List, [], ◌∷◌, ◌++◌, length, drop, Option, Some, None, Result, Ok, Err}
+use Rattle.std.specs.Prelude.{◌≡◌, ℕ, zero, suc, Bool, true, false, if◌then◌else◌, List, [], ◌∷◌, ◌++◌, length, drop, Option, Some, None}
+use Rattle.std.specs.Prelude.{Result, Ok, Err}
 use denote.Enum.Bare.{sameb}
 use Rattle.rbg_text.specs.contracts.token.Sign.{the_type}
 use Rattle.rbg_text.specs.declared.token.Sign.{Sign}
-use Rattle.rbg_text.specs.declared.token.Sign.TheVariants.{DoubleArrow, Arrow as SingleArrow, EqualEqual, NotEqual, LessEqual, GreaterEqual, Less, Greater, Equal, Comma, OpenParen, CloseParen, OpenBracket, CloseBracket, OpenBrace, CloseBrace, Star, Plus, Minus, Dollar, Question, Exclamation}
+use Rattle.rbg_text.specs.declared.token.Sign.TheVariants.{DoubleArrow, Arrow as SingleArrow, EqualEqual, NotEqual, LessEqual, GreaterEqual}
+use Rattle.rbg_text.specs.declared.token.Sign.TheVariants.{Less, Greater, Equal, Comma, OpenParen, CloseParen, OpenBracket, CloseBracket}
+use Rattle.rbg_text.specs.declared.token.Sign.TheVariants.{OpenBrace, CloseBrace, Star, Plus, Minus, Dollar, Question, Exclamation}
 use Rattle.rbg_game.specs.declared.rules.Comparison.{Comparison}
 use Rattle.rbg_game.specs.declared.rules.Comparison.TheVariants as test
 use Rattle.rbg_text.specs.declared.fault.ReadError.{ReadError}
@@ -12,31 +15,31 @@ use Rattle.rbg_text.specs.Token.{Text, Token}
 use Rattle.rbg_text.specs.Syntax.{Tokens}
 
 -- A step of the rules in postfix order: an operator stands behind its operands, a set before its pieces.
-pub data Step : Type 0 where
-  number : Text → Step
-  variable : Text → Step
-  negate : Step
-  add : Step
-  subtract : Step
-  multiply : Step
-  shift : Text → Step
-  on : Step
-  among : Text → Step
-  off : Text → Step
-  assign : Text → Step
-  compare : Comparison → Step
-  switch : Text → Step
-  keeper : Step
-  some_word : Step
-  no_word : Step
-  join : Step
-  either : Step
-  star : Step
+pub data ParseStep : Type 0 where
+  number : Text → ParseStep
+  variable : Text → ParseStep
+  negate : ParseStep
+  add : ParseStep
+  subtract : ParseStep
+  multiply : ParseStep
+  shift : Text → ParseStep
+  on : ParseStep
+  among : Text → ParseStep
+  off : Text → ParseStep
+  assign : Text → ParseStep
+  compare : Comparison → ParseStep
+  switch : Text → ParseStep
+  keeper : ParseStep
+  some_word : ParseStep
+  no_word : ParseStep
+  join : ParseStep
+  either : ParseStep
+  star : ParseStep
 
 -- the tokens that are left, and the steps so far
-pub record State : Type 0 where
+pub record ParseState : Type 0 where
   pub tokens : Tokens
-  pub steps : List Step
+  pub steps : List ParseStep
 
 -- `==` on signs
 unfoldable pub same_sign : Sign → Sign → Bool
@@ -45,10 +48,10 @@ same_sign = sameb the_type
 -- ---- parsers
 
 abbrev pub Outcome : Type 0 → Type 0
-Outcome A = Option (A × State)
+Outcome A = Option (A × ParseState)
 
 abbrev pub Parser : Type 0 → Type 0
-Parser A = State → Outcome A
+Parser A = ParseState → Outcome A
 
 abbrev pub and_then : {A B : Type 0} → Outcome A → (A → Parser B) → Outcome B
 and_then (Some p) f = f p.0 p.1
@@ -77,13 +80,13 @@ abbrev pub is_sign : Sign → Option Token → Bool
 is_sign s (Some (Token.sign u)) = same_sign u s
 is_sign s _ = false
 
-unfoldable pub sees : Sign → State → Bool
+unfoldable pub sees : Sign → ParseState → Bool
 sees s i = is_sign s (first i.tokens)
 
-unfoldable pub advance : State → State
+unfoldable pub advance : ParseState → ParseState
 advance i = record i { tokens = drop 1 i.tokens }
 
-unfoldable pub after : Sign → State → State
+unfoldable pub after : Sign → ParseState → ParseState
 after s i = if sees s i then advance i else i
 
 -- takes this sign, if it comes next
@@ -93,10 +96,10 @@ eat s = λ i. Some (sees s i, after s i)
 unfoldable pub expect : Sign → Parser (Unit {0})
 expect s = λ i. if sees s i then Some (tt, advance i) else None
 
-abbrev pub push : Step → Parser (Unit {0})
+abbrev pub push : ParseStep → Parser (Unit {0})
 push s = λ i. Some (tt, record i { steps = i.steps ++ s ∷ [] })
 
-abbrev pub turns : State → ℕ
+abbrev pub turns : ParseState → ℕ
 turns i = length i.tokens
 
 -- ---- expressions
@@ -209,7 +212,8 @@ module _ (value : Parser (Unit {0})) where
   unfoldable pub bracket : Parser (Unit {0})
   bracket = do
     is_list ← eat Dollar
-    if is_list then (do assignment; (λ i. assignments (turns i) i); expect CloseBracket) else (do w ← name; push (off w); expect CloseBracket)
+    if is_list then (do assignment; (λ i. assignments (turns i) i); expect CloseBracket) else
+        (do w ← name; push (off w); expect CloseBracket)
 
   -- after `{$`
   unfoldable pub compared : Parser (Unit {0})
@@ -221,7 +225,7 @@ module _ (value : Parser (Unit {0})) where
     expect CloseBrace
 
 -- with the parser of the rules in a pattern
-unfoldable pub pattern : Parser (Unit {0}) → Step → Parser (Unit {0})
+unfoldable pub pattern : Parser (Unit {0}) → ParseStep → Parser (Unit {0})
 pattern inner kind = do
   inner
   push kind
@@ -280,12 +284,12 @@ rules_to (suc depth) = choice (rules_to depth) (expr depth)
 
 -- ---- what a function that parses ensures: the parser's outcome, unless memory fails
 
-abbrev pub ReadsAs : {A B : Type 0} → (A → B) → Outcome B → Result A ReadError → State → Type 0
+abbrev pub ReadsAs : {A B : Type 0} → (A → B) → Outcome B → Result A ReadError → ParseState → Type 0
 ReadsAs view outcome (Ok a) new = outcome ≡ Some (view a, new)
 ReadsAs view outcome (Err Memory) new = Unit {0}
 ReadsAs view outcome (Err Syntax) new = outcome ≡ None
 
-abbrev pub Reads : {A : Type 0} → Outcome A → Result A ReadError → State → Type 0
-Reads outcome (Ok a) new = outcome ≡ Some (a, new)
-Reads outcome (Err Memory) new = Unit {0}
-Reads outcome (Err Syntax) new = outcome ≡ None
+abbrev pub ReadsTokens : {A : Type 0} → Outcome A → Result A ReadError → ParseState → Type 0
+ReadsTokens outcome (Ok a) new = outcome ≡ Some (a, new)
+ReadsTokens outcome (Err Memory) new = Unit {0}
+ReadsTokens outcome (Err Syntax) new = outcome ≡ None

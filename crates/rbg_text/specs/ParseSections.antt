@@ -2,10 +2,12 @@
 use Rattle.std.specs.Prelude.{ℕ, zero, suc, Bool, true, false, ◌||◌, if◌then◌else◌, List, [], ◌∷◌, ◌++◌, length, Option, Some, None, codes}
 use Rattle.std.specs.Str.{bytes_eq}
 use Rattle.rbg_text.specs.Token.{Text, Token}
-use Rattle.rbg_text.specs.Syntax.{Declaration, Arrow, Vertex}
-use Rattle.rbg_text.specs.Parse.{Step, State, Parser, ◌>>=◌, ◌>>◌, first, sees, advance, after, eat, expect, fail, turns, name, rules_to}
+use Rattle.rbg_text.specs.Syntax.{Declaration, WrittenArrow, WrittenVertex}
+use Rattle.rbg_text.specs.Parse.{ParseStep, ParseState, Parser, ◌>>=◌, ◌>>◌, first, sees, advance, after, eat, expect, fail, turns, name}
+use Rattle.rbg_text.specs.Parse.{rules_to}
 use Rattle.rbg_text.specs.Said.{Said, players, pieces, variables, board, rules}
-use Rattle.rbg_text.specs.declared.token.Sign.TheVariants.{Hash, Comma, Colon, Equal, OpenParen, CloseParen, OpenBracket, CloseBracket, OpenBrace, CloseBrace}
+use Rattle.rbg_text.specs.declared.token.Sign.TheVariants.{Hash, Comma, Colon, Equal, OpenParen, CloseParen, OpenBracket, CloseBracket}
+use Rattle.rbg_text.specs.declared.token.Sign.TheVariants.{OpenBrace, CloseBrace}
 
 abbrev pub give : {X : Type 0} → X → Parser X
 give x = λ i. Some (x, i)
@@ -39,10 +41,10 @@ declaration = do
   expect CloseParen
   give (declared w n)
 
-abbrev pub arrow_to : Text → Text → Arrow
+abbrev pub arrow_to : Text → Text → WrittenArrow
 arrow_to label to = record { label = label; to = to }
 
-unfoldable pub arrow : Parser Arrow
+unfoldable pub arrow : Parser WrittenArrow
 arrow = do
   label ← name
   expect Colon
@@ -50,13 +52,13 @@ arrow = do
   give (arrow_to label to)
 
 -- the arrows of a vertex, none or more
-unfoldable pub arrows : Parser (List Arrow)
+unfoldable pub arrows : Parser (List WrittenArrow)
 arrows = λ i. if sees CloseBrace i then give [] i else listed arrow i
 
-abbrev pub vertex_with : Text → Text → List Arrow → Vertex
+abbrev pub vertex_with : Text → Text → List WrittenArrow → WrittenVertex
 vertex_with w piece all = record { name = w; piece = piece; arrows = all }
 
-unfoldable pub vertex : Parser Vertex
+unfoldable pub vertex : Parser WrittenVertex
 vertex = do
   w ← name
   expect OpenBracket
@@ -72,13 +74,13 @@ is_name (Some (Token.name w)) = true
 is_name _ = false
 
 -- further vertices behind those so far, each with a comma before it or without
-unfoldable pub vertices : ℕ → List Vertex → Parser (List Vertex)
+unfoldable pub vertices : ℕ → List WrittenVertex → Parser (List WrittenVertex)
 vertices zero xs = give xs
 vertices (suc n) xs = do
   comma ← eat Comma
   (λ i. if comma || is_name (first i.tokens) then (vertex >>= (λ x. vertices n (xs ++ x ∷ []))) i else give xs i)
 
-unfoldable pub all_vertices : Parser (List Vertex)
+unfoldable pub all_vertices : Parser (List WrittenVertex)
 all_vertices = vertex >>= (λ x i. vertices (turns i) (x ∷ []) i)
 
 -- the variables, none or more
@@ -86,7 +88,7 @@ unfoldable pub all_variables : Parser (List Declaration)
 all_variables = λ i. if is_name (first i.tokens) then listed declaration i else give [] i
 
 -- the rules, whose steps are taken out
-unfoldable pub all_rules : Parser (List Step)
+unfoldable pub all_rules : Parser (List ParseStep)
 all_rules = rules_to 65 >> (λ i. Some (i.steps, record i { steps = [] }))
 
 unfoldable pub section_by : Text → Parser Said

@@ -2,8 +2,8 @@
 use Rattle.std.specs.Prelude.{List, [], ◌∷◌, map}
 use Rattle.rbg_text.specs.Token.{Text}
 use Rattle.rbg_text.specs.Syntax as syntax
-use Rattle.rbg_text.specs.Syntax.{Declaration, Vertex, Arrow}
-use Rattle.rbg_text.specs.Parse.{Step}
+use Rattle.rbg_text.specs.Syntax.{Declaration, WrittenVertex, WrittenArrow}
+use Rattle.rbg_text.specs.Parse.{ParseStep}
 use Rattle.rbg_text.specs.Postfix.{sum_onto}
 use Rattle.rbg_text.specs.View.{step_view}
 use Rattle.rbg_text.specs.declared.sections.Declaration.{Declaration as CodeDeclaration}
@@ -16,11 +16,11 @@ pub data Said : Type 0 where
   players : List Declaration → Said
   pieces : List Text → Said
   variables : List Declaration → Said
-  board : List Vertex → Said
-  rules : List Step → Said
+  board : List WrittenVertex → Said
+  rules : List ParseStep → Said
 
 -- a vertex after the first, without its comma
-abbrev pub further_vertex : syntax.Further → Vertex
+abbrev pub further_vertex : syntax.Further → WrittenVertex
 further_vertex (syntax.after_comma v) = v
 further_vertex (syntax.at_once v) = v
 
@@ -35,10 +35,10 @@ said_of (syntax.rules s) = rules (sum_onto s [])
 abbrev pub declaration_view : CodeDeclaration → Declaration
 declaration_view d = record { name = d.name.now; bound = d.bound.now }
 
-abbrev pub arrow_view : CodeArrow → Arrow
+abbrev pub arrow_view : CodeArrow → WrittenArrow
 arrow_view a = record { label = a.label.now; to = a.to.now }
 
-abbrev pub vertex_view : CodeVertex → Vertex
+abbrev pub vertex_view : CodeVertex → WrittenVertex
 vertex_view v = record { name = v.name.now; piece = v.piece.now; arrows = map arrow_view v.arrows.items }
 
 -- what a section of the program says

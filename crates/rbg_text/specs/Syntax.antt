@@ -2,7 +2,10 @@
 use Rattle.std.specs.Prelude.{List, [], ◌∷◌, codes}
 use Rattle.rbg_text.specs.Token.{Text, Token}
 use Rattle.rbg_text.specs.declared.token.Sign.{Sign}
-use Rattle.rbg_text.specs.declared.token.Sign.TheVariants.{DoubleArrow, Arrow as SingleArrow, EqualEqual, NotEqual, LessEqual, GreaterEqual, Less, Greater, Equal, Hash, Comma, Colon, OpenParen, CloseParen, OpenBracket, CloseBracket, OpenBrace, CloseBrace, Star, Plus, Minus, Dollar, Question, Exclamation}
+use Rattle.rbg_text.specs.declared.token.Sign.TheVariants.{DoubleArrow, Arrow as SingleArrow, EqualEqual, NotEqual, LessEqual, GreaterEqual}
+use Rattle.rbg_text.specs.declared.token.Sign.TheVariants.{Less, Greater, Equal, Hash, Comma, Colon, OpenParen, CloseParen, OpenBracket}
+use Rattle.rbg_text.specs.declared.token.Sign.TheVariants.{CloseBracket, OpenBrace, CloseBrace, Star, Plus, Minus, Dollar, Question}
+use Rattle.rbg_text.specs.declared.token.Sign.TheVariants.{Exclamation}
 use Rattle.rbg_game.specs.declared.rules.Comparison.{Comparison}
 use Rattle.rbg_game.specs.declared.rules.Comparison.TheVariants as test
 
@@ -63,25 +66,25 @@ pub record Declaration : Type 0 where
   pub name : Text
   pub bound : Text
 
-pub record Arrow : Type 0 where
+pub record WrittenArrow : Type 0 where
   pub label : Text
   pub to : Text
 
-pub record Vertex : Type 0 where
+pub record WrittenVertex : Type 0 where
   pub name : Text
   pub piece : Text
-  pub arrows : List Arrow
+  pub arrows : List WrittenArrow
 
 -- a vertex after the first, with a comma before it or without
 pub data Further : Type 0 where
-  after_comma : Vertex → Further
-  at_once : Vertex → Further
+  after_comma : WrittenVertex → Further
+  at_once : WrittenVertex → Further
 
 pub data Section : Type 0 where
   players : Declaration → List Declaration → Section
   pieces : Text → List Text → Section
   variables : List Declaration → Section
-  board : Vertex → List Further → Section
+  board : WrittenVertex → List Further → Section
   rules : Sum → Section
 
 -- ---- the tokens that say it, each time followed by the tokens `rest`
@@ -163,11 +166,12 @@ abbrev mutual
 abbrev pub declaration : Declaration → Tokens → Tokens
 declaration d rest = word d.name (mark OpenParen (Token.number d.bound ∷ mark CloseParen rest))
 
-abbrev pub arrow : Arrow → Tokens → Tokens
+abbrev pub arrow : WrittenArrow → Tokens → Tokens
 arrow a rest = word a.label (mark Colon (word a.to rest))
 
-abbrev pub vertex : Vertex → Tokens → Tokens
-vertex v rest = word v.name (mark OpenBracket (word v.piece (mark CloseBracket (mark OpenBrace (commas arrow v.arrows (mark CloseBrace rest))))))
+abbrev pub vertex : WrittenVertex → Tokens → Tokens
+vertex v rest = word v.name (mark OpenBracket (word v.piece (mark CloseBracket (mark OpenBrace (commas arrow v.arrows
+    (mark CloseBrace rest))))))
 
 -- a comma before a further vertex may be left out
 abbrev pub further_vertices : List Further → Tokens → Tokens

@@ -3,7 +3,9 @@ use Rattle.std.specs.Prelude.{List, ◌++◌, map, Option, option_map}
 use Rattle.rbg_text.specs.Token.{Token}
 use Rattle.rbg_text.specs.declared.token.Token.{Token as CodeToken}
 use Rattle.rbg_text.specs.declared.token.Token.TheVariants as code
-use Rattle.rbg_text.specs.Parse.{Step, number, variable, negate, add, subtract, multiply, shift, on, among, off, assign, compare, switch, keeper, some_word, no_word, join, either, star, State}
+use Rattle.rbg_text.specs.Parse.{ParseStep, number, variable, negate, add, subtract, multiply, shift, on, among, off, assign, compare}
+use Rattle.rbg_text.specs.Parse.{switch}
+use Rattle.rbg_text.specs.Parse.{keeper, some_word, no_word, join, either, star, ParseState}
 use Rattle.rbg_text.specs.declared.parser.Step.{Step as CodeStep}
 use Rattle.rbg_text.specs.declared.parser.Step.TheVariants as step
 use Rattle.rbg_text.specs.declared.parser.Parser.TheInside.{Inside}
@@ -17,7 +19,7 @@ token_view (code.Sign s) = Token.sign s
 abbrev pub with_front : List Token → Option (List Token) → Option (List Token)
 with_front front more = option_map (λ ts. front ++ ts) more
 
-abbrev pub step_view : CodeStep → Step
+abbrev pub step_view : CodeStep → ParseStep
 step_view (step.Number w) = number w.now
 step_view (step.Variable w) = variable w.now
 step_view step.Negate = negate
@@ -39,5 +41,5 @@ step_view step.Either = either
 step_view step.Star = star
 
 -- what a parser has left and has made
-abbrev pub state_of : Inside → State
+abbrev pub state_of : Inside → ParseState
 state_of p = record { tokens = map token_view p.tokens.now; steps = map step_view p.steps.items }

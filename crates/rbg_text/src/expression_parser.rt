@@ -1,7 +1,7 @@
 //! The grammar of expressions, over tokens.
 
 ghost use Rattle.rbg_text.specs.Parse as spec;
-ghost use Rattle.rbg_text.specs.Parse.{Reads};
+ghost use Rattle.rbg_text.specs.Parse.{ReadsTokens};
 
 use crate::fault::ReadError;
 use crate::parser::{Parser, Step};
@@ -11,7 +11,7 @@ impl<'t, 'a> Parser<'t, 'a> {
     #[cycle(expr)]
     #[tactic(auto, unfolding(crate::specs::Parse::atom))]
     fn atom(&mut self, depth: usize) -> Result<(), ReadError>
-        ensures { Reads (spec.atom (spec.expr depth) self.old) result self.new }
+        ensures { ReadsTokens (spec.atom (spec.expr depth) self.old) result self.new }
     {
         match self.peek() {
             Some(Token::Number(digits)) => {
@@ -33,7 +33,7 @@ impl<'t, 'a> Parser<'t, 'a> {
     #[cycle(expr)]
     #[tactic(auto, unfolding(crate::specs::Parse::factor))]
     fn factor(&mut self, depth: usize) -> Result<(), ReadError>
-        ensures { Reads (spec.factor (spec.expr depth) self.old) result self.new }
+        ensures { ReadsTokens (spec.factor (spec.expr depth) self.old) result self.new }
     {
         let is_negative = self.eat(Sign::Minus);
         self.atom(depth)?;
@@ -46,7 +46,7 @@ impl<'t, 'a> Parser<'t, 'a> {
     #[cycle(expr)]
     #[tactic(auto, unfolding(crate::specs::Parse::term, crate::specs::Parse::factors))]
     fn term(&mut self, depth: usize) -> Result<(), ReadError>
-        ensures { Reads (spec.term (spec.expr depth) self.old) result self.new }
+        ensures { ReadsTokens (spec.term (spec.expr depth) self.old) result self.new }
     {
         self.factor(depth)?;
         for _turn in 0..self.turns() {
@@ -63,7 +63,7 @@ impl<'t, 'a> Parser<'t, 'a> {
     #[cycle(expr)]
     #[tactic(auto, unfolding(crate::specs::Parse::expr, crate::specs::Parse::sum, crate::specs::Parse::terms))]
     pub(crate) fn expr(&mut self, depth: usize) -> Result<(), ReadError>
-        ensures { Reads (spec.expr depth self.old) result self.new }
+        ensures { ReadsTokens (spec.expr depth self.old) result self.new }
     {
         if depth == 0 {
             return Err(ReadError::Syntax);

@@ -1,6 +1,7 @@
 //! Splits a text into tokens.
 
-ghost use Rattle.std.specs.Prelude.{◌≡◌, ◌<◌, ◌≤◌, [], length, drop, map, Some, None, Ok, Err, IfOk, IfErr, IfSome, List, option_map, slice_index};
+ghost use Rattle.std.specs.Prelude.{◌≡◌, ◌<◌, ◌≤◌, [], length, drop, map, Some, None, Ok, Err, IfOk, IfErr, IfSome, List, option_map};
+ghost use Rattle.std.specs.Prelude.{slice_index};
 ghost use Rattle.std.specs.Char.{is_ascii_digit};
 ghost use Rattle.std.specs.List.{list_all};
 ghost use Rattle.rbg_text.specs.Token as grammar;

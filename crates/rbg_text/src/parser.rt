@@ -2,7 +2,7 @@
 
 ghost use Rattle.std.specs.Prelude.{◌≡◌, [], map, option_map};
 ghost use Rattle.rbg_text.specs.Parse as spec;
-ghost use Rattle.rbg_text.specs.Parse.{Reads, ReadsAs};
+ghost use Rattle.rbg_text.specs.Parse.{ReadsTokens, ReadsAs};
 ghost use Rattle.rbg_text.specs.ParseSections.{is_done};
 ghost use Rattle.rbg_text.specs.View.{token_view, step_view};
 
@@ -46,9 +46,9 @@ pub(crate) struct Parser<'t, 'a> {
 }
 
 impl<'t, 'a> Model for Parser<'t, 'a> {
-    ghost use Rattle.rbg_text.specs.Parse.{State};
+    ghost use Rattle.rbg_text.specs.Parse.{ParseState};
 
-    ghost Value = { State };
+    ghost Value = { ParseState };
 
     ghost use Rattle.rbg_text.specs.View.{state_of};
 
@@ -117,7 +117,7 @@ impl<'t, 'a> Parser<'t, 'a> {
 
     #[tactic(auto, unfolding(crate::specs::Parse::expect))]
     pub(crate) fn expect(&mut self, sign: Sign) -> Result<(), ReadError>
-        ensures { Reads (spec.expect sign self.old) result self.new }
+        ensures { ReadsTokens (spec.expect sign self.old) result self.new }
     {
         if !self.sees(sign) {
             return Err(ReadError::Syntax);
@@ -141,7 +141,7 @@ impl<'t, 'a> Parser<'t, 'a> {
     }
 
     pub(crate) fn push(&mut self, step: Step<'a>) -> Result<(), ReadError>
-        ensures { Reads (spec.push (step_view step.entry) self.old) result self.new }
+        ensures { ReadsTokens (spec.push (step_view step.entry) self.old) result self.new }
     {
         self.steps.push(step)?;
         Ok(())
@@ -160,7 +160,7 @@ impl<'t, 'a> Parser<'t, 'a> {
 
     #[tactic(auto, unfolding(crate::specs::Parse::comparison))]
     fn comparison(&mut self) -> Result<Comparison, ReadError>
-        ensures { Reads (spec.comparison self.old) result self.new }
+        ensures { ReadsTokens (spec.comparison self.old) result self.new }
     {
         let Some(test) = test_of(self.peek()) else {
             return Err(ReadError::Syntax);
@@ -172,7 +172,7 @@ impl<'t, 'a> Parser<'t, 'a> {
     /// The further pieces of a set.
     #[tactic(auto, unfolding(crate::specs::Parse::pieces))]
     fn pieces(&mut self) -> Result<(), ReadError>
-        ensures { Reads (spec.pieces (spec.turns self.old) self.old) result self.new }
+        ensures { ReadsTokens (spec.pieces (spec.turns self.old) self.old) result self.new }
     {
         for _turn in 0..self.turns() {
             if !self.eat(Sign::Comma) {
@@ -186,7 +186,7 @@ impl<'t, 'a> Parser<'t, 'a> {
 
     #[tactic(auto, unfolding(crate::specs::Parse::set))]
     fn set(&mut self) -> Result<(), ReadError>
-        ensures { Reads (spec.set self.old) result self.new }
+        ensures { ReadsTokens (spec.set self.old) result self.new }
     {
         self.push(Step::On)?;
         if self.eat(Sign::CloseBrace) {
@@ -200,7 +200,7 @@ impl<'t, 'a> Parser<'t, 'a> {
 
     #[tactic(auto, unfolding(crate::specs::Parse::compared))]
     fn compared(&mut self, depth: usize) -> Result<(), ReadError>
-        ensures { Reads (spec.compared (spec.expr depth) self.old) result self.new }
+        ensures { ReadsTokens (spec.compared (spec.expr depth) self.old) result self.new }
     {
         self.expr(depth)?;
         let test = self.comparison()?;
@@ -211,7 +211,7 @@ impl<'t, 'a> Parser<'t, 'a> {
 
     #[tactic(auto, unfolding(crate::specs::Parse::assignment))]
     fn assignment(&mut self, depth: usize) -> Result<(), ReadError>
-        ensures { Reads (spec.assignment (spec.expr depth) self.old) result self.new }
+        ensures { ReadsTokens (spec.assignment (spec.expr depth) self.old) result self.new }
     {
         let target = self.name()?;
         self.expect(Sign::Equal)?;
@@ -221,7 +221,7 @@ impl<'t, 'a> Parser<'t, 'a> {
 
     #[tactic(auto, unfolding(crate::specs::Parse::assignments))]
     fn assignments(&mut self, depth: usize) -> Result<(), ReadError>
-        ensures { Reads (spec.assignments (spec.expr depth) (spec.turns self.old) self.old) result self.new }
+        ensures { ReadsTokens (spec.assignments (spec.expr depth) (spec.turns self.old) self.old) result self.new }
     {
         for _turn in 0..self.turns() {
             if !self.eat(Sign::Comma) {
@@ -235,7 +235,7 @@ impl<'t, 'a> Parser<'t, 'a> {
 
     #[tactic(auto, unfolding(crate::specs::Parse::bracket))]
     fn bracket(&mut self, depth: usize) -> Result<(), ReadError>
-        ensures { Reads (spec.bracket (spec.expr depth) self.old) result self.new }
+        ensures { ReadsTokens (spec.bracket (spec.expr depth) self.old) result self.new }
     {
         if self.eat(Sign::Dollar) {
             self.assignment(depth)?;
@@ -250,7 +250,7 @@ impl<'t, 'a> Parser<'t, 'a> {
     #[cycle(rules)]
     #[tactic(auto, unfolding(crate::specs::Parse::pattern))]
     fn pattern(&mut self, depth: usize, kind: Step<'a>) -> Result<(), ReadError>
-        ensures { Reads (spec.pattern (spec.rules_to depth) (step_view kind.entry) self.old) result self.new }
+        ensures { ReadsTokens (spec.pattern (spec.rules_to depth) (step_view kind.entry) self.old) result self.new }
     {
         self.rules(depth)?;
         self.push(kind)?;
@@ -260,7 +260,7 @@ impl<'t, 'a> Parser<'t, 'a> {
     #[cycle(rules)]
     #[tactic(auto, unfolding(crate::specs::Parse::brace))]
     fn brace(&mut self, depth: usize) -> Result<(), ReadError>
-        ensures { Reads (spec.brace (spec.rules_to depth) (spec.expr depth) self.old) result self.new }
+        ensures { ReadsTokens (spec.brace (spec.rules_to depth) (spec.expr depth) self.old) result self.new }
     {
         if self.eat(Sign::Dollar) {
             self.compared(depth)
@@ -276,7 +276,7 @@ impl<'t, 'a> Parser<'t, 'a> {
     #[cycle(rules)]
     #[tactic(auto, unfolding(crate::specs::Parse::base))]
     fn base(&mut self, depth: usize) -> Result<(), ReadError>
-        ensures { Reads (spec.base (spec.rules_to depth) (spec.expr depth) self.old) result self.new }
+        ensures { ReadsTokens (spec.base (spec.rules_to depth) (spec.expr depth) self.old) result self.new }
     {
         match self.peek() {
             Some(Token::Name(label)) => {
@@ -312,7 +312,7 @@ impl<'t, 'a> Parser<'t, 'a> {
     #[cycle(rules)]
     #[tactic(auto, unfolding(crate::specs::Parse::element))]
     fn element(&mut self, depth: usize) -> Result<(), ReadError>
-        ensures { Reads (spec.element (spec.rules_to depth) (spec.expr depth) self.old) result self.new }
+        ensures { ReadsTokens (spec.element (spec.rules_to depth) (spec.expr depth) self.old) result self.new }
     {
         self.base(depth)?;
         if self.eat(Sign::Star) {
@@ -324,7 +324,7 @@ impl<'t, 'a> Parser<'t, 'a> {
     #[cycle(rules)]
     #[tactic(auto, unfolding(crate::specs::Parse::concat, crate::specs::Parse::elements))]
     fn concat(&mut self, depth: usize) -> Result<(), ReadError>
-        ensures { Reads (spec.concat (spec.rules_to depth) (spec.expr depth) self.old) result self.new }
+        ensures { ReadsTokens (spec.concat (spec.rules_to depth) (spec.expr depth) self.old) result self.new }
     {
         self.element(depth)?;
         for _turn in 0..self.turns() {
@@ -341,7 +341,7 @@ impl<'t, 'a> Parser<'t, 'a> {
     #[cycle(rules)]
     #[tactic(auto, unfolding(crate::specs::Parse::rules_to, crate::specs::Parse::choice, crate::specs::Parse::branches))]
     pub(crate) fn rules(&mut self, depth: usize) -> Result<(), ReadError>
-        ensures { Reads (spec.rules_to depth self.old) result self.new }
+        ensures { ReadsTokens (spec.rules_to depth self.old) result self.new }
     {
         if depth == 0 {
             return Err(ReadError::Syntax);

@@ -17,7 +17,7 @@ use Rattle.game_table.specs.Texts.{IsText}
 use Rattle.table.specs.Faults.{NeedsNoPage}
 use Rattle.table.specs.declared.fault.TableFault.{TableFault}
 use Rattle.table.specs.declared.fault.TableFault.TheVariants as table
-use Rattle.best_line.specs.Causes.{IsCause, OfTable}
+use Rattle.best_line.specs.Causes.{IsLineCause, OfTable}
 use Rattle.best_line.specs.Lines.{IsBestPlay}
 use Rattle.best_line.specs.Rows.{AreRows}
 use Rattle.best_line.specs.Values.{IsValue}
@@ -25,12 +25,12 @@ use Rattle.best_line.specs.declared.answers.Row.{Row}
 use Rattle.best_line.specs.declared.answers.Value.{Value}
 use Rattle.best_line.specs.declared.fault.LineFault.{LineFault}
 use Rattle.best_line.specs.declared.fault.LineFault.TheVariants as line
-use Rattle.game_file.specs.Causes.{TableCause}
+use Rattle.game_file.specs.Causes.{FileTableCause}
 use Rattle.game_file.specs.Kept.{Kept}
 use Rattle.game_file.specs.State.{State}
 use Rattle.recover.specs.Faults.{line_fault, table_fault}
 use Rattle.recover.specs.Held.{IsSound}
-use Rattle.recover.specs.Queries.{OfKept, IsThere, HasValue, HasRows, HasLine, HasText, IsOfUnknown, AskCause, NumberCause, LineCause}
+use Rattle.recover.specs.Queries.{OfKept, IsThere, HasValueAt, HasRows, HasLine, HasText, IsOfUnknown, AskCause, NumberCause, LineCause}
 use Rattle.recover.specs.State.{IsSourceOf}
 use Rattle.recover.proofs.Working.{kept_there, sound_here}
 
@@ -53,7 +53,7 @@ module _ (k : Kept) (stored : Stored (List ℕ)) (same : stored ≡ k.table) (fi
   its_table : IsTable stored
   its_table = subst (λ (t : Stored (List ℕ)). IsTable t) (sym same) fits
 
-  pub value_found : (number : ℕ) (value : Value) → number < counts.known → (IsTable stored → IsValue (view_of stored) number value) → HasValue number value k
+  pub value_found : (number : ℕ) (value : Value) → number < counts.known → (IsTable stored → IsValue (view_of stored) number value) → HasValueAt number value k
   value_found number value less found = record {
     there = is_there number less;
     value_is = subst (λ (t : Stored (List ℕ)). IsValue (view_of t) number value) same (found its_table);
@@ -116,21 +116,21 @@ module _ (k : Kept) (stored : Stored (List ℕ)) (same : stored ≡ k.table) (fi
 
 -- a fault of a table that was asked
 module _ (old new : State) where
-  pub ask_cause : (fault : TableFault) → NeedsNoPage fault → TableCause old new fault → AskCause old new (table_fault fault)
+  pub ask_cause : (fault : TableFault) → NeedsNoPage fault → FileTableCause old new fault → AskCause old new (table_fault fault)
   ask_cause table.Disk no_page cause = cause
   ask_cause table.Damaged no_page cause = cause
   ask_cause table.TableFull no_page cause = no_page refl
   ask_cause table.OutOfMemory no_page cause = tt
   ask_cause table.Closed no_page cause = cause
 
-  pub number_cause : (number : ℕ) (fault : TableFault) → NeedsNoPage fault → TableCause old new fault → NumberCause number old new (table_fault fault)
+  pub number_cause : (number : ℕ) (fault : TableFault) → NeedsNoPage fault → FileTableCause old new fault → NumberCause number old new (table_fault fault)
   number_cause number table.Disk no_page cause = cause
   number_cause number table.Damaged no_page cause = cause
   number_cause number table.TableFull no_page cause = absurd (no_page refl)
   number_cause number table.OutOfMemory no_page cause = tt
   number_cause number table.Closed no_page cause = cause
 
-  line_table_cause : (number : ℕ) (fault : TableFault) → NeedsNoPage fault → TableCause old new fault → LineCause number old new (table_fault fault)
+  line_table_cause : (number : ℕ) (fault : TableFault) → NeedsNoPage fault → FileTableCause old new fault → LineCause number old new (table_fault fault)
   line_table_cause number table.Disk no_page cause = cause
   line_table_cause number table.Damaged no_page cause = cause
   line_table_cause number table.TableFull no_page cause = absurd (no_page refl)
@@ -141,7 +141,7 @@ module _ (old new : State) where
   pub line_cause : {Fails : TableFault → Type 0} (number : ℕ) (fault : LineFault)
       → (fault ≡ line.NotSettled → IsTrue old.disk.honest → OfKept (λ k. IsThere number k × ((view_of k.table).value number ≡ None)) old.kept)
       → (IsTrue old.disk.honest → IsSound old.kept → (fault ≡ line.Inconsistent → ⊥) × (fault ≡ line.TooWide → ⊥))
-      → OfTable NeedsNoPage fault → OfTable Fails fault → ((f : TableFault) → Fails f → TableCause old new f) → LineCause number old new (line_fault fault)
+      → OfTable NeedsNoPage fault → OfTable Fails fault → ((f : TableFault) → Fails f → FileTableCause old new f) → LineCause number old new (line_fault fault)
   line_cause number line.NotSettled unsettled sound no_page fails cause = unsettled refl
   line_cause number line.Inconsistent unsettled sound no_page fails cause = λ honest is. (sound honest is).0 refl
   line_cause number line.TooWide unsettled sound no_page fails cause = λ honest is. (sound honest is).1 refl

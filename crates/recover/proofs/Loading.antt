@@ -11,11 +11,11 @@ use Rattle.retrograde.specs.Sound.{IsLocallySound}
 use Rattle.legal_moves.specs.Compiled.{compiled_game}
 use Rattle.legal_moves.specs.declared.compiled.Compiled.{Compiled}
 use Rattle.retrograde.specs.Stored.{loaded}
-use Rattle.table.specs.Fitting.{Fits}
+use Rattle.table.specs.Fitting.{FitsTogether}
 use Rattle.game_table.specs.Laws.{starts_are_positions, sound_tables_fit, a_first_table_is_sound}
 use Rattle.game_table.specs.Tables.{packed_length}
 use Rattle.game_file.specs.Calls.{IsPut, IsNotPut}
-use Rattle.game_file.specs.Causes.{LoadCause as FileLoadCause}
+use Rattle.game_file.specs.Causes.{FileLoadCause}
 use Rattle.game_file.specs.Kept.{Kept, Layout, kept_as, text_kept}
 use Rattle.game_file.specs.State.{State}
 use Rattle.game_file.specs.Stops.{LeavesNow}
@@ -77,7 +77,7 @@ module _ (Stores : Layout) (text start : List ℕ) (game : Game) (reads : Reads 
   load_cause file.Closed long cause = cause
   load_cause file.Inconsistent long cause =
       let (are, fits) = sound_tables_fit game (loaded (graph_of game).start) (starts_are_positions text game reads) (a_first_table_is_sound game) in
-      absurd (cause (subst (λ (s : List ℕ). Fits (length start) (loaded s)) (sym start_is) (subst (λ (n : ℕ). Fits n (loaded (graph_of game).start)) (sym long) fits)))
+      absurd (cause (subst (λ (s : List ℕ). FitsTogether (length start) (loaded s)) (sym start_is) (subst (λ (n : ℕ). FitsTogether n (loaded (graph_of game).start)) (sym long) fits)))
 
   pub loaded_refused : (fault : FileFault) → length start ≡ packed_length game → IsNotPut Stores (kept_as text (loaded start)) old new
       → FileLoadCause start old new fault → (fault ≢ file.Disk → new.closed ≡ old.closed) → IsRefused Stores (load text) old new (file_fault fault)

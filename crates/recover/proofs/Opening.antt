@@ -5,7 +5,7 @@ use Rattle.std.specs.Result.{IfOk, OnOk}
 use Rattle.sector_disk.specs.Disk.{Picture, Disk, LeavesOnly, MayLeave, Grew}
 use Rattle.sector_disk.specs.Moments.{goes_on_trans, leaves_then, leaves_more, still_honest}
 use Rattle.game_file.specs.Calls.{IsOpenedFile, IsNotOpened, IsCreatedFile, IsNotCreated, IsAsked}
-use Rattle.game_file.specs.Causes.{OpenCause as FileOpenCause, CreateCause as FileCreateCause}
+use Rattle.game_file.specs.Causes.{FileOpenCause, FileCreateCause}
 use Rattle.game_file.specs.Kept.{Kept, Layout}
 use Rattle.game_file.specs.State.{State, GoesFrom}
 use Rattle.game_file.specs.Stops.{OldOrEmpty}
@@ -16,7 +16,7 @@ use Rattle.recover.specs.declared.fault.SolverFault.TheVariants.{Disk as DiskFai
 use Rattle.recover.specs.Faults.{file_fault}
 use Rattle.recover.specs.Held.{IsOfAGame}
 use Rattle.recover.specs.Opening.{IsOpened, IsCreated, OpenCause, CreateCause}
-use Rattle.recover.specs.aid.Ready.{NoGameCause, IsBack}
+use Rattle.recover.specs.aid.Ready.{NoGameCause, IsHandedBack}
 use Rattle.recover.proofs.Loading.{Leaves}
 use Rattle.recover.proofs.Refusing.{apart}
 
@@ -64,7 +64,7 @@ module _ (Stores : Layout) (disk : Disk) (count : ℕ) (file : State) where
           (asked.leaves (still_honest found.from.goes_on honest)))
 
   -- the disk as it comes back, because the text is no game or a position is not one of its positions
-  pub opened_back : (back : Disk) (now : ℕ) → IsOpenedFile Stores disk count file → IsBack Stores file back now → IsNotOpened disk count back now
+  pub opened_back : (back : Disk) (now : ℕ) → IsOpenedFile Stores disk count file → IsHandedBack Stores file back now → IsNotOpened disk count back now
   opened_back back now found it =
       subst (λ (d : Disk). IsNotOpened disk count d now) (sym it.disk)
       (subst (λ (n : ℕ). IsNotOpened disk count it.later.disk n) (sym it.failures)
@@ -120,7 +120,7 @@ module _ (Stores : Layout) (disk : Disk) (count : ℕ) (file : State) where
         (leaves (still_honest (goes_on_trans made.from.goes_on asked.ahead.goes_on) honest) (asked.closed ∙ made.is_open) picture left);
   }
 
-  pub created_back : (back : Disk) (now : ℕ) → IsCreatedFile Stores disk count file → IsBack Stores file back now → IsNotCreated Stores disk count back now
+  pub created_back : (back : Disk) (now : ℕ) → IsCreatedFile Stores disk count file → IsHandedBack Stores file back now → IsNotCreated Stores disk count back now
   created_back back now made it =
       subst (λ (d : Disk). IsNotCreated Stores disk count d now) (sym it.disk)
       (subst (λ (n : ℕ). IsNotCreated Stores disk count it.later.disk n) (sym it.failures)

@@ -13,7 +13,7 @@ use Rattle.retrograde.specs.declared.records.Counts.{Counts}
 use Rattle.retrograde.specs.Changes.{counts_of}
 use Rattle.retrograde.specs.Sound.{IsLocallySound}
 use Rattle.retrograde.specs.Stored.{Stored}
-use Rattle.table.specs.Fitting.{Fits}
+use Rattle.table.specs.Fitting.{FitsTogether}
 use Rattle.table.specs.declared.fault.TableFault.{TableFault}
 use Rattle.table.specs.declared.fault.TableFault.TheVariants as table
 use Rattle.frontier.specs.Causes.{Leaves as LeavesUnit}
@@ -23,7 +23,7 @@ use Rattle.table_work.specs.Work.{StopsWith}
 use Rattle.game_table.specs.Laws.{starts_are_positions, sound_tables_fit}
 use Rattle.game_table.specs.Tables.{packed_length, IsWorkOf}
 use Rattle.game_file.specs.Calls.{IsPut, IsNotPut, IsKept}
-use Rattle.game_file.specs.Causes.{CommitCause, TableCause}
+use Rattle.game_file.specs.Causes.{FileCommitCause, FileTableCause}
 use Rattle.game_file.specs.Kept.{Kept, Layout, kept_as}
 use Rattle.game_file.specs.State.{State}
 use Rattle.game_file.specs.declared.fault.FileFault.{FileFault}
@@ -31,7 +31,7 @@ use Rattle.game_file.specs.declared.fault.FileFault.TheVariants as file
 use Rattle.recover.specs.declared.fault.SolverFault.TheVariants.{Disk}
 use Rattle.recover.specs.Faults.{file_fault, step_fault, table_fault}
 use Rattle.recover.specs.Held.{IsSound}
-use Rattle.recover.specs.Machine.{work, worked, Works, WorksTo, WorkCause, StopsAt}
+use Rattle.recover.specs.Machine.{work, worked, WorksOnTable, WorksTo, WorkCause, StopsAt}
 use Rattle.recover.specs.State.{IsSourceOf}
 use Rattle.recover.specs.Steps.{IsDone, IsRefused}
 use Rattle.recover.proofs.Loading.{Leaves, put_stops}
@@ -81,7 +81,7 @@ module _ (source : Compiled) (k : Kept) (is_read : Reads k.text (compiled_game s
     worked_sound sound = (compiled_game source, is_read, (works (sound_here sound)).sound)
 
     -- and fits, with positions of the same length
-    pub not_unfit : IsSound (Some k) → ((n : ℕ) → Fits n k.table → ¬ Fits n now) → ⊥
+    pub not_unfit : IsSound (Some k) → ((n : ℕ) → FitsTogether n k.table → ¬ FitsTogether n now) → ⊥
     not_unfit sound cause =
         let game = compiled_game source in
         let here = sound_here sound in
@@ -93,7 +93,7 @@ module _ (source : Compiled) (k : Kept) (is_read : Reads k.text (compiled_game s
 module _ (Stores : Layout) (old new : State) (source : Compiled) (k : Kept) (is_read : Reads k.text (compiled_game source)) (loaded : old.kept ≡ Some k)
     (units done : ℕ) (now : Stored (List ℕ))
     (works : IsTrue old.disk.honest → IsLocallySound (graph_of (compiled_game source)) (IsWideAt (compiled_game source)) k.table → IsWorkOf (compiled_game source) units k.table done now) where
-  works_of : (counts : Counts) → counts ≡ counts_of now → IsTrue old.disk.honest → Works units old.kept done counts (Some (kept_as k.text now))
+  works_of : (counts : Counts) → counts ≡ counts_of now → IsTrue old.disk.honest → WorksOnTable units old.kept done counts (Some (kept_as k.text now))
   works_of counts counted honest = record {
     was = k;
     loaded = loaded;
@@ -107,7 +107,7 @@ module _ (Stores : Layout) (old new : State) (source : Compiled) (k : Kept) (is_
   pub worked_done : (counts : Counts) → (IsTrue old.disk.honest → counts ≡ counts_of now) → Leaves Stores new → GoesOn old.disk new.disk
       → IsPut Stores (kept_as k.text now) old new → IsDone Stores (work units) (worked done counts) old new
   worked_done counts counted leaves goes_on put = record {
-    step = λ honest. subst (λ (kept : Option Kept). Works units old.kept done counts kept) (sym (put.kept honest)) (works_of counts (counted honest) honest);
+    step = λ honest. subst (λ (kept : Option Kept). WorksOnTable units old.kept done counts kept) (sym (put.kept honest)) (works_of counts (counted honest) honest);
     stops = put_stops Stores (kept_as k.text now) old new leaves goes_on put;
   }
 
@@ -117,7 +117,7 @@ module _ (Stores : Layout) (old new : State) (source : Compiled) (k : Kept) (is_
       subst (λ (kept : Option Kept). IsSound kept) (sym (put.kept honest))
       (worked_sound source k is_read units done now (works honest) (subst (λ (kept : Option Kept). IsSound kept) loaded sound))
 
-  keep_cause : (fault : FileFault) → CommitCause k.table now old new fault → WorkCause units old new (file_fault fault)
+  keep_cause : (fault : FileFault) → FileCommitCause k.table now old new fault → WorkCause units old new (file_fault fault)
   keep_cause file.Disk cause = cause
   keep_cause file.NotATable cause = absurd cause
   keep_cause file.AlreadyATable cause = absurd cause
@@ -130,7 +130,7 @@ module _ (Stores : Layout) (old new : State) (source : Compiled) (k : Kept) (is_
       not_unfit source k is_read units done now (works honest) (subst (λ (kept : Option Kept). IsSound kept) loaded sound) (cause honest)
 
   -- they are not kept
-  pub not_kept : (fault : FileFault) → IsNotPut Stores (kept_as k.text now) old new → CommitCause k.table now old new fault
+  pub not_kept : (fault : FileFault) → IsNotPut Stores (kept_as k.text now) old new → FileCommitCause k.table now old new fault
       → (fault ≢ file.Disk → new.closed ≡ old.closed) → IsRefused Stores (work units) old new (file_fault fault)
   not_kept fault left cause still = record {
     step = (left.kept, keep_cause fault cause);
@@ -185,7 +185,7 @@ module _ (Stores : Layout) (old new : State) (source : Compiled) (k : Kept) (is_
   other_origin : (IsTrue old.disk.honest → IsLocallySound (graph_of (compiled_game source)) (IsWideAt (compiled_game source)) k.table → ⊥) → IsTrue old.disk.honest → IsSound old.kept → ⊥
   other_origin consistent honest sound = consistent honest (sound_here source k is_read (subst (λ (kept : Option Kept). IsSound kept) loaded sound))
 
-  module _ (Ahead : Type 0) (Fails : TableFault → Type 0) (cause_of : (f : TableFault) → Fails f → TableCause old new f) where
+  module _ (Ahead : Type 0) (Fails : TableFault → Type 0) (cause_of : (f : TableFault) → Fails f → FileTableCause old new f) where
     work_cause : (fault : StepFault)
         → (IsTrue old.disk.honest → IsLocallySound (graph_of (compiled_game source)) (IsWideAt (compiled_game source)) k.table → StopsWith (graph_of (compiled_game source)) (IsWideAt (compiled_game source)) k.table units fault)
         → (IsTrue old.disk.honest → IsLocallySound (graph_of (compiled_game source)) (IsWideAt (compiled_game source)) k.table → fault ≡ step.Inconsistent → ⊥)
@@ -197,7 +197,7 @@ module _ (Stores : Layout) (old new : State) (source : Compiled) (k : Kept) (is_
     work_cause step.OutOfMemory cause consistent left = tt
     work_cause (step.Table fault) cause consistent left = by_fault fault (cause_of fault left)
       where
-        by_fault : (f : TableFault) → TableCause old new f → WorkCause units old new (table_fault f)
+        by_fault : (f : TableFault) → FileTableCause old new f → WorkCause units old new (table_fault f)
         by_fault table.Disk cause = cause
         by_fault table.Damaged cause = cause
         by_fault table.TableFull cause = tt

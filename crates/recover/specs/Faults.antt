@@ -10,7 +10,9 @@ use Rattle.game_file.specs.declared.fault.FileFault.TheVariants as file
 use Rattle.best_line.specs.declared.fault.LineFault.{LineFault}
 use Rattle.best_line.specs.declared.fault.LineFault.TheVariants as line
 use Rattle.recover.specs.declared.fault.SolverFault.{SolverFault}
-use Rattle.recover.specs.declared.fault.SolverFault.TheVariants.{Disk, NotATable, AlreadyATable, Damaged, TooSmall, TableFull, OutOfMemory, Closed, Game, NoGame, GameAlready, KeeperChooses, TooWide, TooManyPositions, Inconsistent, NoSuchPosition, NotSettled, BadPosition}
+use Rattle.recover.specs.declared.fault.SolverFault.TheVariants.{Disk, NotATable, AlreadyATable, Damaged, TooSmall, TableFull, OutOfMemory}
+use Rattle.recover.specs.declared.fault.SolverFault.TheVariants.{Closed, Game, NoGame, GameAlready, KeeperChooses, TooWide}
+use Rattle.recover.specs.declared.fault.SolverFault.TheVariants.{TooManyPositions, Inconsistent, NoSuchPosition, NotSettled, BadPosition}
 
 abbrev pub file_fault : FileFault → SolverFault
 file_fault file.Disk = Disk

@@ -19,7 +19,8 @@ use Rattle.recover.specs.Steps.{MayFollow}
 abbrev pub LeadsTo : List Command → Option Kept → ℕ → Option Kept → Type 0
 LeadsTo commands old zero new = new ≡ old
 LeadsTo [] old (suc count) new = ⊥
-LeadsTo (command ∷ commands) old (suc count) new = (mid : Option Kept) × (MayFollow command old mid ⊎ (mid ≡ old)) × LeadsTo commands mid count new
+LeadsTo (command ∷ commands) old (suc count) new = (mid : Option Kept) × (MayFollow command old mid ⊎ (mid ≡ old))
+    × LeadsTo commands mid count new
 
 -- what the table says is so by the rules of the game that its text reads to: each settled position is won by the named player in
 -- exactly the named number of moves, and where the table says finished, its positions are those that play can come to, and the
@@ -28,7 +29,8 @@ pub record SaysWhatIs (kept : Kept) (game : Game) : Type 0 where
   pub reads : Reads kept.text game
   pub won : (x : List ℕ) (w : Player) (n : ℕ) → HasValue (view_of kept.table) x w n → WonIn (graph_in game kept) w n x
   pub all : IsFinished (view_of kept.table) → (x : List ℕ) → IsKnown (view_of kept.table) x ↔ IsReachable (graph_in game kept) x
-  pub drawn : IsFinished (view_of kept.table) → (i : ℕ) (x : List ℕ) → HasNumber (view_of kept.table) i x → ((view_of kept.table).value i ≡ None) ↔ Drawn (graph_in game kept) x
+  pub drawn : IsFinished (view_of kept.table) → (i : ℕ) (x : List ℕ) → HasNumber (view_of kept.table) i x
+      → ((view_of kept.table).value i ≡ None) ↔ Drawn (graph_in game kept) x
 
 -- no game is loaded, or what the table says is so
 abbrev pub IsExact : Option Kept → Type 0

@@ -17,7 +17,8 @@ use Rattle.game_table.specs.Tables.{IsWorkOf}
 use Rattle.game_file.specs.Kept.{Kept}
 use Rattle.game_file.specs.State.{State}
 use Rattle.recover.specs.declared.fault.SolverFault.{SolverFault}
-use Rattle.recover.specs.declared.fault.SolverFault.TheVariants.{Disk, Damaged, TableFull, OutOfMemory, Closed, Game as BadGame, NoGame, GameAlready, KeeperChooses, TooWide, TooManyPositions, Inconsistent}
+use Rattle.recover.specs.declared.fault.SolverFault.TheVariants.{Disk, Damaged, TableFull, OutOfMemory, Closed, Game as BadGame, NoGame}
+use Rattle.recover.specs.declared.fault.SolverFault.TheVariants.{GameAlready, KeeperChooses, TooWide, TooManyPositions, Inconsistent}
 use Rattle.recover.specs.Held.{graph_in}
 use Rattle.recover.specs.State.{IsOfOtherOrigin}
 
@@ -42,10 +43,11 @@ pub record Loads (text : List ℕ) (old new : Option Kept) : Type 0 where
 -- so many units were asked of a table and these done, or it is finished by then; nothing is said of one that is not sound
 pub record WorksTo (units : ℕ) (was : Kept) (done : ℕ) (is : Kept) : Type 0 where
   pub same_text : is.text ≡ was.text
-  pub work : (game : Game) → Reads was.text game → IsLocallySound (graph_in game was) (IsWideAt game) was.table → IsWorkOf game units was.table done is.table
+  pub work : (game : Game) → Reads was.text game → IsLocallySound (graph_in game was) (IsWideAt game) was.table
+      → IsWorkOf game units was.table done is.table
 
 -- units of work lead from the old table to the new, which has these counts
-pub record Works (units : ℕ) (old : Option Kept) (done : ℕ) (counts : Counts) (new : Option Kept) : Type 0 where
+pub record WorksOnTable (units : ℕ) (old : Option Kept) (done : ℕ) (counts : Counts) (new : Option Kept) : Type 0 where
   pub was : Kept
   pub loaded : old ≡ Some was
   pub is : Kept
@@ -100,6 +102,6 @@ abbrev pub Step : Command → State → Reply → State → Type 0
 Step (load text) old loaded_it new = IsTrue old.disk.honest → Loads text old.kept new.kept
 Step (load text) old (worked done counts) new = ⊥
 Step (work units) old loaded_it new = ⊥
-Step (work units) old (worked done counts) new = IsTrue old.disk.honest → Works units old.kept done counts new.kept
+Step (work units) old (worked done counts) new = IsTrue old.disk.honest → WorksOnTable units old.kept done counts new.kept
 Step (load text) old (refused fault) new = (IsTrue old.disk.honest → new.kept ≡ old.kept) × LoadCause text old new fault
 Step (work units) old (refused fault) new = (IsTrue old.disk.honest → new.kept ≡ old.kept) × WorkCause units old new fault

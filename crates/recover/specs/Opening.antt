@@ -1,12 +1,13 @@
 -- What `open` and `create` give.
 use Rattle.std.specs.Prelude.{◌≡◌, ◌<◌, ◌/◌, min, ℕ, false, Option, None, IsTrue}
 use Rattle.sector_disk.specs.Disk.{Disk, size, LeavesOnly, MayLeave, Grew}
-use Rattle.root_pair.specs.Root.{Begins, IsTable}
+use Rattle.root_pair.specs.Root.{Begins, IsTablePicture}
 use Rattle.game_file.specs.Kept.{Kept, Layout}
 use Rattle.game_file.specs.State.{State, GoesFrom}
 use Rattle.game_file.specs.Stops.{LeavesNow, OldOrEmpty}
 use Rattle.recover.specs.declared.fault.SolverFault.{SolverFault}
-use Rattle.recover.specs.declared.fault.SolverFault.TheVariants.{Disk as DiskFailed, NotATable, AlreadyATable, Damaged, TooSmall, OutOfMemory}
+use Rattle.recover.specs.declared.fault.SolverFault.TheVariants.{Disk as DiskFailed, NotATable, AlreadyATable, Damaged, TooSmall}
+use Rattle.recover.specs.declared.fault.SolverFault.TheVariants.{OutOfMemory}
 use Rattle.recover.specs.Held.{Holds}
 
 module _ (Stores : Layout) where
@@ -35,7 +36,7 @@ module _ (Stores : Layout) where
   -- why `open` is refused: the disk failed; no table is there; it holds none; or memory ran out
   abbrev pub OpenCause : Disk → ℕ → ℕ → SolverFault → Type 0
   OpenCause disk before now DiskFailed = Grew before now
-  OpenCause disk before now NotATable = IsTrue disk.honest → ¬ IsTable disk.now.contents
+  OpenCause disk before now NotATable = IsTrue disk.honest → ¬ IsTablePicture disk.now.contents
   OpenCause disk before now Damaged = IsTrue disk.honest → (kept : Option Kept) → ¬ Holds Stores disk.now.contents kept
   OpenCause disk before now OutOfMemory = Unit {0}
   OpenCause disk before now _ = ⊥

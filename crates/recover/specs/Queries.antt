@@ -14,7 +14,8 @@ use Rattle.best_line.specs.Lines.{IsBestPlay}
 use Rattle.game_file.specs.Kept.{Kept}
 use Rattle.game_file.specs.State.{State}
 use Rattle.recover.specs.declared.fault.SolverFault.{SolverFault}
-use Rattle.recover.specs.declared.fault.SolverFault.TheVariants.{Disk, Damaged, OutOfMemory, Closed, NoGame, TooWide, Inconsistent, NoSuchPosition, NotSettled, BadPosition}
+use Rattle.recover.specs.declared.fault.SolverFault.TheVariants.{Disk, Damaged, OutOfMemory, Closed, NoGame, TooWide, Inconsistent}
+use Rattle.recover.specs.declared.fault.SolverFault.TheVariants.{NoSuchPosition, NotSettled, BadPosition}
 use Rattle.recover.specs.Held.{graph_in}
 use Rattle.recover.specs.State.{IsOfOtherOrigin}
 
@@ -40,7 +41,7 @@ abbrev pub IsGameOf : Game → Kept → Type 0
 IsGameOf game kept = Reads kept.text game
 
 -- the position with this number has this value
-pub record HasValue (number : ℕ) (value : Value) (kept : Kept) : Type 0 where
+pub record HasValueAt (number : ℕ) (value : Value) (kept : Kept) : Type 0 where
   pub there : IsThere number kept
   pub value_is : IsValue (view_of kept.table) number value
 

@@ -30,7 +30,8 @@ module _ (Stores : Layout) where
 
   -- a stop from the one moment to the other leaves the one table or the other
   abbrev pub LeavesBetween : Disk → ℕ → ℕ → Option Kept → Option Kept → Type 0
-  LeavesBetween disk from to one other = (moment : ℕ) (picture : Picture) → from ≤ moment → moment ≤ to → MayLeave (disk.was moment) picture → Stores picture one ⊎ Stores picture other
+  LeavesBetween disk from to one other = (moment : ℕ) (picture : Picture) → from ≤ moment → moment ≤ to
+      → MayLeave (disk.was moment) picture → Stores picture one ⊎ Stores picture other
 
   -- a write or a sync has failed in this command: it is answered E1, and a stop since it began leaves the table before it or one that
   -- may follow it
@@ -45,7 +46,8 @@ module _ (Stores : Layout) where
   pub record IsTurn (disk : Disk) (command : Command) (reply : Reply) (was is : State) : Type 0 where
     pub step : Step command was reply is
     pub ahead : GoesAhead was is
-    pub between : IsTrue disk.honest → was.closed ≡ false → is.closed ≡ false → LeavesBetween disk was.disk.clock is.disk.clock was.kept is.kept
+    pub between : IsTrue disk.honest → was.closed ≡ false → is.closed ≡ false
+        → LeavesBetween disk was.disk.clock is.disk.clock was.kept is.kept
     pub at : IsTrue disk.honest → was.closed ≡ false → is.closed ≡ false → LeavesAt disk is.disk.clock is.kept
     pub failed : was.closed ≡ false → is.closed ≡ true → HasFailed disk command reply was
     pub shut : was.closed ≡ true → (reply ≡ refused Closed) × (is ≡ was)
@@ -53,7 +55,8 @@ module _ (Stores : Layout) where
   -- the commands are answered one after another, each with its reply, on a disk that is this one in the end
   abbrev pub Turns : Disk → List Command → List Reply → State → State → Type 0
   Turns disk [] [] was is = is ≡ was
-  Turns disk (command ∷ commands) (reply ∷ replies) was is = (mid : State) × IsTurn disk command reply was mid × Turns disk commands replies mid is
+  Turns disk (command ∷ commands) (reply ∷ replies) was is = (mid : State) × IsTurn disk command reply was mid
+      × Turns disk commands replies mid is
   Turns disk _ _ was is = ⊥
 
   -- there are replies behind those that were there, one for each command, as the commands are answered one after another; a stop at

@@ -5,13 +5,13 @@ use Rattle.game_file.specs.Kept.{Kept, Layout}
 use Rattle.game_file.specs.State.{State}
 use Rattle.recover.specs.declared.fault.SolverFault.{SolverFault}
 use Rattle.recover.specs.declared.fault.SolverFault.TheVariants.{Disk}
-use Rattle.recover.specs.Machine.{Command, load, work, Reply, refused, Loads, Works, Step}
+use Rattle.recover.specs.Machine.{Command, load, work, Reply, refused, Loads, WorksOnTable, Step}
 use Rattle.recover.specs.Stops.{StopsDone, StopsRefused}
 
 -- this table may follow the old one under the command
 abbrev pub MayFollow : Command → Option Kept → Option Kept → Type 0
 MayFollow (load text) old new = Loads text old new
-MayFollow (work units) old new = (done : ℕ) × (counts : Counts) × Works units old done counts new
+MayFollow (work units) old new = (done : ℕ) × (counts : Counts) × WorksOnTable units old done counts new
 
 module _ (Stores : Layout) where
   -- the command is done with this reply

@@ -71,5 +71,6 @@ pub fn what_follows_is_sound()
 /// What some commands lead to from a locally sound table is locally sound: so is what is opened after a stop in the course of
 /// many commands, and the next run may begin from it.
 pub fn what_commands_lead_to_is_sound()
-    ensures { (commands : List Command) (old : Option Kept) (count : ℕ) (new : Option Kept) → LeadsTo commands old count new → IsSound old → IsSound new }
+    ensures { (commands : List Command) (old : Option Kept) (count : ℕ) (new : Option Kept) → LeadsTo commands old count new → IsSound old
+        → IsSound new }
 {}

@@ -3,7 +3,8 @@ ghost use Rattle.std.specs.Prelude.{◌≡◌, ◌<◌, true, false, None, IsSom
 ghost use Rattle.rbg_game.specs.Meaning.{game_of};
 ghost use Rattle.game_file.specs.Calls.{IsAsked};
 ghost use Rattle.recover.specs.Held.{IsSound};
-ghost use Rattle.recover.specs.Queries.{OfKept, Tells, HasValue, HasRows, HasLine, HasText, IsGameOf, AskCause, NumberCause, LineCause, ShowCause, FindCause};
+ghost use Rattle.recover.specs.Queries.{OfKept, Tells, HasValueAt, HasRows, HasLine, HasText, IsGameOf, AskCause, NumberCause, LineCause};
+ghost use Rattle.recover.specs.Queries.{ShowCause, FindCause};
 ghost use Rattle.recover.specs.Units.{units_in};
 
 use crate::{FileSolver, SolverFault, Solving, Units};
@@ -17,8 +18,10 @@ use table::Table;
 impl<F: GameFile> FileSolver<F> {
     /// The game, where one is loaded. It takes no memory and always answers, of a closed solver too.
     pub fn game(&self) -> Option<&Game>
-        ensures some { ⟦<FileSolver<F> as Solving>⟧.is_ready self.now → IfSome result (λ game. OfKept (IsGameOf (game_of game.now)) (⟦<FileSolver<F> as Solving>⟧.state self.now).kept) }
-        ensures none { ⟦<FileSolver<F> as Solving>⟧.is_ready self.now → IfNone result ((⟦<FileSolver<F> as Solving>⟧.state self.now).kept ≡ None) }
+        ensures some { ⟦<FileSolver<F> as Solving>⟧.is_ready self.now
+            → IfSome result (λ game. OfKept (IsGameOf (game_of game.now)) (⟦<FileSolver<F> as Solving>⟧.state self.now).kept) }
+        ensures none { ⟦<FileSolver<F> as Solving>⟧.is_ready self.now
+            → IfNone result ((⟦<FileSolver<F> as Solving>⟧.state self.now).kept ≡ None) }
     {
         match &self.source {
             Some(source) => Some(source.game()),
@@ -59,11 +62,15 @@ impl<F: GameFile> FileSolver<F> {
     /// Who wins the position with this number, and in how many moves; a draw only where the table is finished: E9, S1, S7.
     pub fn value(&mut self, number: u32) -> Result<Value, SolverFault>
         ensures ready { ⟦<FileSolver<F> as Solving>⟧.is_ready self.old → ⟦<FileSolver<F> as Solving>⟧.is_ready self.new }
-        ensures asked { ⟦<FileSolver<F> as Solving>⟧.is_ready self.old → IsAsked F.stores (⟦<FileSolver<F> as Solving>⟧.state self.old) (⟦<FileSolver<F> as Solving>⟧.state self.new) }
-        ensures value { ⟦<FileSolver<F> as Solving>⟧.is_ready self.old → IfOk result (λ value. Tells (HasValue number value) (⟦<FileSolver<F> as Solving>⟧.state self.old)) }
+        ensures asked { ⟦<FileSolver<F> as Solving>⟧.is_ready self.old
+            → IsAsked F.stores (⟦<FileSolver<F> as Solving>⟧.state self.old) (⟦<FileSolver<F> as Solving>⟧.state self.new) }
+        ensures value { ⟦<FileSolver<F> as Solving>⟧.is_ready self.old
+            → IfOk result (λ value. Tells (HasValueAt number value) (⟦<FileSolver<F> as Solving>⟧.state self.old)) }
         ensures cause { ⟦<FileSolver<F> as Solving>⟧.is_ready self.old
-            → IfErr result (NumberCause number (⟦<FileSolver<F> as Solving>⟧.state self.old) (⟦<FileSolver<F> as Solving>⟧.state self.new)) }
-        ensures closed { (⟦<FileSolver<F> as Solving>⟧.state self.old).closed ≡ true → IsErrOf result SolverFault.Closed × (self.new ≡ self.old) }
+            → IfErr result (NumberCause number (⟦<FileSolver<F> as Solving>⟧.state self.old)
+            (⟦<FileSolver<F> as Solving>⟧.state self.new)) }
+        ensures closed { (⟦<FileSolver<F> as Solving>⟧.state self.old).closed ≡ true → IsErrOf result SolverFault.Closed
+            × (self.new ≡ self.old) }
     {
         self.check(number)?;
         Ok(best_line::value(&mut self.file, number)?)
@@ -72,12 +79,14 @@ impl<F: GameFile> FileSolver<F> {
     /// The positions from this number on with their values, so many or up to the last: E9, S1, S7.
     pub fn list(&mut self, from: u32, count: Units) -> Result<Vec<Row>, SolverFault>
         ensures ready { ⟦<FileSolver<F> as Solving>⟧.is_ready self.old → ⟦<FileSolver<F> as Solving>⟧.is_ready self.new }
-        ensures asked { ⟦<FileSolver<F> as Solving>⟧.is_ready self.old → IsAsked F.stores (⟦<FileSolver<F> as Solving>⟧.state self.old) (⟦<FileSolver<F> as Solving>⟧.state self.new) }
+        ensures asked { ⟦<FileSolver<F> as Solving>⟧.is_ready self.old
+            → IsAsked F.stores (⟦<FileSolver<F> as Solving>⟧.state self.old) (⟦<FileSolver<F> as Solving>⟧.state self.new) }
         ensures rows { ⟦<FileSolver<F> as Solving>⟧.is_ready self.old
             → IfOk result (λ rows. Tells (HasRows from (units_in count) rows.items) (⟦<FileSolver<F> as Solving>⟧.state self.old)) }
         ensures cause { ⟦<FileSolver<F> as Solving>⟧.is_ready self.old
             → IfErr result (NumberCause from (⟦<FileSolver<F> as Solving>⟧.state self.old) (⟦<FileSolver<F> as Solving>⟧.state self.new)) }
-        ensures closed { (⟦<FileSolver<F> as Solving>⟧.state self.old).closed ≡ true → IsErrOf result SolverFault.Closed × (self.new ≡ self.old) }
+        ensures closed { (⟦<FileSolver<F> as Solving>⟧.state self.old).closed ≡ true → IsErrOf result SolverFault.Closed
+            × (self.new ≡ self.old) }
     {
         self.check(from)?;
         Ok(best_line::list(self.alloc, &mut self.file, from, count.count())?)
@@ -87,12 +96,14 @@ impl<F: GameFile> FileSolver<F> {
     /// fewer: E9, S1, S7, S8. S6 and S4 come only of a table that is not of this program's making.
     pub fn line(&mut self, number: u32) -> Result<Vec<u32>, SolverFault>
         ensures ready { ⟦<FileSolver<F> as Solving>⟧.is_ready self.old → ⟦<FileSolver<F> as Solving>⟧.is_ready self.new }
-        ensures asked { ⟦<FileSolver<F> as Solving>⟧.is_ready self.old → IsAsked F.stores (⟦<FileSolver<F> as Solving>⟧.state self.old) (⟦<FileSolver<F> as Solving>⟧.state self.new) }
+        ensures asked { ⟦<FileSolver<F> as Solving>⟧.is_ready self.old
+            → IsAsked F.stores (⟦<FileSolver<F> as Solving>⟧.state self.old) (⟦<FileSolver<F> as Solving>⟧.state self.new) }
         ensures line { ⟦<FileSolver<F> as Solving>⟧.is_ready self.old → IsSound (⟦<FileSolver<F> as Solving>⟧.state self.old).kept
             → IfOk result (λ numbers. Tells (HasLine number numbers.items) (⟦<FileSolver<F> as Solving>⟧.state self.old)) }
         ensures cause { ⟦<FileSolver<F> as Solving>⟧.is_ready self.old
             → IfErr result (LineCause number (⟦<FileSolver<F> as Solving>⟧.state self.old) (⟦<FileSolver<F> as Solving>⟧.state self.new)) }
-        ensures closed { (⟦<FileSolver<F> as Solving>⟧.state self.old).closed ≡ true → IsErrOf result SolverFault.Closed × (self.new ≡ self.old) }
+        ensures closed { (⟦<FileSolver<F> as Solving>⟧.state self.old).closed ≡ true → IsErrOf result SolverFault.Closed
+            × (self.new ≡ self.old) }
     {
         self.check(number)?;
         let Some(source) = &self.source else {
@@ -104,11 +115,14 @@ impl<F: GameFile> FileSolver<F> {
     /// The text of the position with this number: E9, S1, S7. S6 comes only of a table that is not of this program's making.
     pub fn show(&mut self, number: u32) -> Result<Vec<u8>, SolverFault>
         ensures ready { ⟦<FileSolver<F> as Solving>⟧.is_ready self.old → ⟦<FileSolver<F> as Solving>⟧.is_ready self.new }
-        ensures asked { ⟦<FileSolver<F> as Solving>⟧.is_ready self.old → IsAsked F.stores (⟦<FileSolver<F> as Solving>⟧.state self.old) (⟦<FileSolver<F> as Solving>⟧.state self.new) }
-        ensures text { ⟦<FileSolver<F> as Solving>⟧.is_ready self.old → IfOk result (λ text. Tells (HasText number text.items) (⟦<FileSolver<F> as Solving>⟧.state self.old)) }
+        ensures asked { ⟦<FileSolver<F> as Solving>⟧.is_ready self.old
+            → IsAsked F.stores (⟦<FileSolver<F> as Solving>⟧.state self.old) (⟦<FileSolver<F> as Solving>⟧.state self.new) }
+        ensures text { ⟦<FileSolver<F> as Solving>⟧.is_ready self.old
+            → IfOk result (λ text. Tells (HasText number text.items) (⟦<FileSolver<F> as Solving>⟧.state self.old)) }
         ensures cause { ⟦<FileSolver<F> as Solving>⟧.is_ready self.old
             → IfErr result (ShowCause number (⟦<FileSolver<F> as Solving>⟧.state self.old) (⟦<FileSolver<F> as Solving>⟧.state self.new)) }
-        ensures closed { (⟦<FileSolver<F> as Solving>⟧.state self.old).closed ≡ true → IsErrOf result SolverFault.Closed × (self.new ≡ self.old) }
+        ensures closed { (⟦<FileSolver<F> as Solving>⟧.state self.old).closed ≡ true → IsErrOf result SolverFault.Closed
+            × (self.new ≡ self.old) }
     {
         self.check(number)?;
         let packed = self.file.packed(number)?;
@@ -125,11 +139,15 @@ impl<F: GameFile> FileSolver<F> {
     /// S7 where that position is not known.
     pub fn find(&mut self, text: &[u8]) -> Result<u32, SolverFault>
         ensures ready { ⟦<FileSolver<F> as Solving>⟧.is_ready self.old → ⟦<FileSolver<F> as Solving>⟧.is_ready self.new }
-        ensures asked { ⟦<FileSolver<F> as Solving>⟧.is_ready self.old → IsAsked F.stores (⟦<FileSolver<F> as Solving>⟧.state self.old) (⟦<FileSolver<F> as Solving>⟧.state self.new) }
-        ensures number { ⟦<FileSolver<F> as Solving>⟧.is_ready self.old → IfOk result (λ number. Tells (HasText number text.now) (⟦<FileSolver<F> as Solving>⟧.state self.old)) }
+        ensures asked { ⟦<FileSolver<F> as Solving>⟧.is_ready self.old
+            → IsAsked F.stores (⟦<FileSolver<F> as Solving>⟧.state self.old) (⟦<FileSolver<F> as Solving>⟧.state self.new) }
+        ensures number { ⟦<FileSolver<F> as Solving>⟧.is_ready self.old
+            → IfOk result (λ number. Tells (HasText number text.now) (⟦<FileSolver<F> as Solving>⟧.state self.old)) }
         ensures cause { ⟦<FileSolver<F> as Solving>⟧.is_ready self.old
-            → IfErr result (FindCause text.now (⟦<FileSolver<F> as Solving>⟧.state self.old) (⟦<FileSolver<F> as Solving>⟧.state self.new)) }
-        ensures closed { (⟦<FileSolver<F> as Solving>⟧.state self.old).closed ≡ true → IsErrOf result SolverFault.Closed × (self.new ≡ self.old) }
+            → IfErr result (FindCause text.now (⟦<FileSolver<F> as Solving>⟧.state self.old)
+            (⟦<FileSolver<F> as Solving>⟧.state self.new)) }
+        ensures closed { (⟦<FileSolver<F> as Solving>⟧.state self.old).closed ≡ true → IsErrOf result SolverFault.Closed
+            × (self.new ≡ self.old) }
     {
         self.known()?;
         let Some(source) = &self.source else {

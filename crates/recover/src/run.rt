@@ -14,8 +14,10 @@ impl<F: GameFile> FileSolver<F> {
         ensures ready { ⟦<FileSolver<F> as Solving>⟧.is_ready self.old → ⟦<FileSolver<F> as Solving>⟧.is_ready self.new }
         ensures ahead { GoesAhead (⟦<FileSolver<F> as Solving>⟧.state self.old) (⟦<FileSolver<F> as Solving>⟧.state self.new) }
         ensures turn { ⟦<FileSolver<F> as Solving>⟧.is_ready self.old
-            → IsTurn F.stores (⟦<FileSolver<F> as Solving>⟧.state self.new).disk (command_of command.now) (reply_of result) (⟦<FileSolver<F> as Solving>⟧.state self.old) (⟦<FileSolver<F> as Solving>⟧.state self.new) }
-        ensures sound { ⟦<FileSolver<F> as Solving>⟧.is_ready self.old → IsTrue (⟦<FileSolver<F> as Solving>⟧.state self.old).disk.honest → IsSound (⟦<FileSolver<F> as Solving>⟧.state self.old).kept
+            → IsTurn F.stores (⟦<FileSolver<F> as Solving>⟧.state self.new).disk (command_of command.now) (reply_of result)
+            (⟦<FileSolver<F> as Solving>⟧.state self.old) (⟦<FileSolver<F> as Solving>⟧.state self.new) }
+        ensures sound { ⟦<FileSolver<F> as Solving>⟧.is_ready self.old → IsTrue (⟦<FileSolver<F> as Solving>⟧.state self.old).disk.honest
+            → IsSound (⟦<FileSolver<F> as Solving>⟧.state self.old).kept
             → IsSound (⟦<FileSolver<F> as Solving>⟧.state self.new).kept }
     {
         match command {
@@ -36,11 +38,15 @@ impl<F: GameFile> FileSolver<F> {
         ensures ready { ⟦<FileSolver<F> as Solving>⟧.is_ready self.old → ⟦<FileSolver<F> as Solving>⟧.is_ready self.new }
         ensures ahead { GoesAhead (⟦<FileSolver<F> as Solving>⟧.state self.old) (⟦<FileSolver<F> as Solving>⟧.state self.new) }
         ensures run { ⟦<FileSolver<F> as Solving>⟧.is_ready self.old
-            → OnOk result (IsRun F.stores commands.now replies.old.items replies.new.items (⟦<FileSolver<F> as Solving>⟧.state self.old) (⟦<FileSolver<F> as Solving>⟧.state self.new)) }
+            → OnOk result (IsRun F.stores commands.now replies.old.items replies.new.items (⟦<FileSolver<F> as Solving>⟧.state self.old)
+            (⟦<FileSolver<F> as Solving>⟧.state self.new)) }
         ensures stopped { ⟦<FileSolver<F> as Solving>⟧.is_ready self.old → IsSound (⟦<FileSolver<F> as Solving>⟧.state self.old).kept
-            → (⟦<FileSolver<F> as Solving>⟧.state self.old).closed ≡ false → IsTrue (⟦<FileSolver<F> as Solving>⟧.state self.old).disk.honest
-            → OnOk result (LeavesAPrefix F.stores (map command_of commands.now) (⟦<FileSolver<F> as Solving>⟧.state self.old) (⟦<FileSolver<F> as Solving>⟧.state self.new)) }
-        ensures sound { ⟦<FileSolver<F> as Solving>⟧.is_ready self.old → IsTrue (⟦<FileSolver<F> as Solving>⟧.state self.old).disk.honest → IsSound (⟦<FileSolver<F> as Solving>⟧.state self.old).kept
+            → (⟦<FileSolver<F> as Solving>⟧.state self.old).closed ≡ false
+            → IsTrue (⟦<FileSolver<F> as Solving>⟧.state self.old).disk.honest
+            → OnOk result (LeavesAPrefix F.stores (map command_of commands.now) (⟦<FileSolver<F> as Solving>⟧.state self.old)
+            (⟦<FileSolver<F> as Solving>⟧.state self.new)) }
+        ensures sound { ⟦<FileSolver<F> as Solving>⟧.is_ready self.old → IsTrue (⟦<FileSolver<F> as Solving>⟧.state self.old).disk.honest
+            → IsSound (⟦<FileSolver<F> as Solving>⟧.state self.old).kept
             → IsSound (⟦<FileSolver<F> as Solving>⟧.state self.new).kept }
         ensures fault { IfErr result (λ fault. fault ≡ SolverFault.OutOfMemory) }
         ensures refused { OnErr result (self.new ≡ self.old) }

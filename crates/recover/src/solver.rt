@@ -47,9 +47,12 @@ impl<F: GameFile> FileSolver<F> {
     /// Makes the empty table on this disk: E1, E3 and then E6, E8.
     pub fn create(alloc: Global, disk: F::Device) -> Result<Self, Refused<F::Device>>
         ensures ready { IfOk result (λ solver. ⟦<FileSolver<F> as Solving>⟧.is_ready solver) }
-        ensures created { IfOk result (λ solver. IsCreated F.stores (F.Device.disk disk) (F.Device.failures disk) (⟦<FileSolver<F> as Solving>⟧.state solver)) }
-        ensures refused { IfErr result (λ back. IsNotCreated F.stores (F.Device.disk disk) (F.Device.failures disk) (F.Device.disk back.disk) (F.Device.failures back.disk)) }
-        ensures cause { IfErr result (λ back. CreateCause (F.Device.disk disk) (F.Device.failures disk) (F.Device.failures back.disk) back.fault) }
+        ensures created { IfOk result (λ solver. IsCreated F.stores (F.Device.disk disk) (F.Device.failures disk)
+            (⟦<FileSolver<F> as Solving>⟧.state solver)) }
+        ensures refused { IfErr result (λ back. IsNotCreated F.stores (F.Device.disk disk) (F.Device.failures disk)
+            (F.Device.disk back.disk) (F.Device.failures back.disk)) }
+        ensures cause { IfErr result (λ back. CreateCause (F.Device.disk disk) (F.Device.failures disk)
+            (F.Device.failures back.disk) back.fault) }
     {
         match F::create(alloc, disk) {
             Ok(file) => with_game(alloc, file),
@@ -63,9 +66,12 @@ impl<F: GameFile> FileSolver<F> {
     /// Opens the table that this disk holds: E1, E2, E4, E8.
     pub fn open(alloc: Global, disk: F::Device) -> Result<Self, Refused<F::Device>>
         ensures ready { IfOk result (λ solver. ⟦<FileSolver<F> as Solving>⟧.is_ready solver) }
-        ensures opened { IfOk result (λ solver. IsOpened F.stores (F.Device.disk disk) (F.Device.failures disk) (⟦<FileSolver<F> as Solving>⟧.state solver)) }
-        ensures refused { IfErr result (λ back. IsNotOpened (F.Device.disk disk) (F.Device.failures disk) (F.Device.disk back.disk) (F.Device.failures back.disk)) }
-        ensures cause { IfErr result (λ back. OpenCause F.stores (F.Device.disk disk) (F.Device.failures disk) (F.Device.failures back.disk) back.fault) }
+        ensures opened { IfOk result (λ solver. IsOpened F.stores (F.Device.disk disk) (F.Device.failures disk)
+            (⟦<FileSolver<F> as Solving>⟧.state solver)) }
+        ensures refused { IfErr result (λ back. IsNotOpened (F.Device.disk disk) (F.Device.failures disk) (F.Device.disk back.disk)
+            (F.Device.failures back.disk)) }
+        ensures cause { IfErr result (λ back. OpenCause F.stores (F.Device.disk disk) (F.Device.failures disk)
+            (F.Device.failures back.disk) back.fault) }
     {
         match F::open(alloc, disk) {
             Ok(file) => with_game(alloc, file),
@@ -81,14 +87,18 @@ impl<F: GameFile> FileSolver<F> {
         ensures ready { ⟦<FileSolver<F> as Solving>⟧.is_ready self.old → ⟦<FileSolver<F> as Solving>⟧.is_ready self.new }
         ensures ahead { GoesAhead (⟦<FileSolver<F> as Solving>⟧.state self.old) (⟦<FileSolver<F> as Solving>⟧.state self.new) }
         ensures done { ⟦<FileSolver<F> as Solving>⟧.is_ready self.old
-            → OnOk result (IsDone F.stores (load_it text.now) loaded_it (⟦<FileSolver<F> as Solving>⟧.state self.old) (⟦<FileSolver<F> as Solving>⟧.state self.new)) }
+            → OnOk result (IsDone F.stores (load_it text.now) loaded_it (⟦<FileSolver<F> as Solving>⟧.state self.old)
+            (⟦<FileSolver<F> as Solving>⟧.state self.new)) }
         ensures refused { ⟦<FileSolver<F> as Solving>⟧.is_ready self.old
-            → IfErr result (IsRefused F.stores (load_it text.now) (⟦<FileSolver<F> as Solving>⟧.state self.old) (⟦<FileSolver<F> as Solving>⟧.state self.new)) }
+            → IfErr result (IsRefused F.stores (load_it text.now) (⟦<FileSolver<F> as Solving>⟧.state self.old)
+            (⟦<FileSolver<F> as Solving>⟧.state self.new)) }
         ensures closed { (⟦<FileSolver<F> as Solving>⟧.state self.old).closed ≡ true
             → IsErrOf result SolverFault.Closed × (self.new ≡ self.old) }
-        ensures already { (⟦<FileSolver<F> as Solving>⟧.state self.old).closed ≡ false → IsSome (⟦<FileSolver<F> as Solving>⟧.state self.old).kept
+        ensures already { (⟦<FileSolver<F> as Solving>⟧.state self.old).closed ≡ false
+            → IsSome (⟦<FileSolver<F> as Solving>⟧.state self.old).kept
             → IsErrOf result SolverFault.GameAlready × (self.new ≡ self.old) }
-        ensures sound { ⟦<FileSolver<F> as Solving>⟧.is_ready self.old → IsTrue (⟦<FileSolver<F> as Solving>⟧.state self.old).disk.honest → IsSound (⟦<FileSolver<F> as Solving>⟧.state self.old).kept
+        ensures sound { ⟦<FileSolver<F> as Solving>⟧.is_ready self.old → IsTrue (⟦<FileSolver<F> as Solving>⟧.state self.old).disk.honest
+            → IsSound (⟦<FileSolver<F> as Solving>⟧.state self.old).kept
             → IsSound (⟦<FileSolver<F> as Solving>⟧.state self.new).kept }
     {
         if self.file.is_closed() {
@@ -109,15 +119,19 @@ impl<F: GameFile> FileSolver<F> {
         ensures ready { ⟦<FileSolver<F> as Solving>⟧.is_ready self.old → ⟦<FileSolver<F> as Solving>⟧.is_ready self.new }
         ensures ahead { GoesAhead (⟦<FileSolver<F> as Solving>⟧.state self.old) (⟦<FileSolver<F> as Solving>⟧.state self.new) }
         ensures done { ⟦<FileSolver<F> as Solving>⟧.is_ready self.old → IfOk result (λ done.
-            IsDone F.stores (work_on (units_in units)) (worked done.units done.counts) (⟦<FileSolver<F> as Solving>⟧.state self.old) (⟦<FileSolver<F> as Solving>⟧.state self.new)) }
+            IsDone F.stores (work_on (units_in units)) (worked done.units done.counts) (⟦<FileSolver<F> as Solving>⟧.state self.old)
+            (⟦<FileSolver<F> as Solving>⟧.state self.new)) }
         ensures refused { ⟦<FileSolver<F> as Solving>⟧.is_ready self.old
-            → IfErr result (IsRefused F.stores (work_on (units_in units)) (⟦<FileSolver<F> as Solving>⟧.state self.old) (⟦<FileSolver<F> as Solving>⟧.state self.new)) }
+            → IfErr result (IsRefused F.stores (work_on (units_in units)) (⟦<FileSolver<F> as Solving>⟧.state self.old)
+            (⟦<FileSolver<F> as Solving>⟧.state self.new)) }
         ensures closed { (⟦<FileSolver<F> as Solving>⟧.state self.old).closed ≡ true
             → IsErrOf result SolverFault.Closed × (self.new ≡ self.old) }
-        ensures no_game { (⟦<FileSolver<F> as Solving>⟧.state self.old).closed ≡ false → (⟦<FileSolver<F> as Solving>⟧.state self.old).kept ≡ None
+        ensures no_game { (⟦<FileSolver<F> as Solving>⟧.state self.old).closed ≡ false
+            → (⟦<FileSolver<F> as Solving>⟧.state self.old).kept ≡ None
             → IsErrOf result SolverFault.NoGame × (self.new ≡ self.old) }
         ensures idle { IfOk result (λ done. done.units ≡ 0 → self.new ≡ self.old) }
-        ensures sound { ⟦<FileSolver<F> as Solving>⟧.is_ready self.old → IsTrue (⟦<FileSolver<F> as Solving>⟧.state self.old).disk.honest → IsSound (⟦<FileSolver<F> as Solving>⟧.state self.old).kept
+        ensures sound { ⟦<FileSolver<F> as Solving>⟧.is_ready self.old → IsTrue (⟦<FileSolver<F> as Solving>⟧.state self.old).disk.honest
+            → IsSound (⟦<FileSolver<F> as Solving>⟧.state self.old).kept
             → IsSound (⟦<FileSolver<F> as Solving>⟧.state self.new).kept }
     {
         if self.file.is_closed() {

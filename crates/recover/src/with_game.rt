@@ -3,7 +3,7 @@ ghost use Rattle.std.specs.Prelude.{◌≡◌, IfOk, IfErr, OnOk, IsTrue};
 ghost use Rattle.game_file.specs.Calls.{IsAsked};
 ghost use Rattle.recover.specs.Held.{IsOfAGame};
 ghost use Rattle.recover.specs.State.{IsSourceOf};
-ghost use Rattle.recover.specs.aid.Ready.{NoGameCause, IsBack};
+ghost use Rattle.recover.specs.aid.Ready.{NoGameCause, IsHandedBack};
 
 use crate::solver::{FileSolver, Solving};
 use crate::{Refused, SolverFault};
@@ -40,7 +40,8 @@ pub fn with_game<F: GameFile>(alloc: Global, file: F) -> Result<FileSolver<F>, R
     ensures ready { F.is_whole file → IfOk result (λ solver. ⟦<FileSolver<F> as Solving>⟧.is_ready solver) }
     ensures asked { F.is_whole file → IfOk result (λ solver. IsAsked F.stores (F.state file) (⟦<FileSolver<F> as Solving>⟧.state solver)) }
     ensures of_a_game { F.is_whole file → IsTrue (F.state file).disk.honest → OnOk result (IsOfAGame (F.state file).kept) }
-    ensures back { F.is_whole file → IfErr result (λ back. IsBack F.stores (F.state file) (F.Device.disk back.disk) (F.Device.failures back.disk)) }
+    ensures back { F.is_whole file → IfErr result (λ back. IsHandedBack F.stores (F.state file) (F.Device.disk back.disk)
+        (F.Device.failures back.disk)) }
     ensures cause { F.is_whole file → IfErr result (λ back. NoGameCause (F.state file) (F.Device.failures back.disk) back.fault) }
 {
     let mut file = file;

@@ -1,5 +1,6 @@
 -- What a table stores.
-use Rattle.std.specs.Prelude.{◌≡◌, ◌↔◌, ℕ, zero, suc, ◌+◌, ◌<◌, Bool, true, false, if◌then◌else◌, Option, Some, None, IsSome, option_map, option_and_then, List, [], ◌∷◌, length, slice_get, count_by}
+use Rattle.std.specs.Prelude.{◌≡◌, ◌↔◌, ℕ, zero, suc, ◌+◌, ◌<◌, Bool, true, false, if◌then◌else◌, Option, Some, None, IsSome, option_map}
+use Rattle.std.specs.Prelude.{option_and_then, List, [], ◌∷◌, length, slice_get, count_by}
 use Rattle.rbg_game.specs.declared.roles.Player.{Player}
 use Rattle.retrograde.specs.declared.records.State.{State}
 use Rattle.retrograde.specs.declared.records.State.TheVariants.{Known, Expanded, Settled, Processed}

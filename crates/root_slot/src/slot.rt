@@ -1,7 +1,8 @@
 //! The root slot of layout 1: what its 512 bytes say.
 ghost use Rattle.std.specs.Prelude.{◌≡◌, ◌↔◌, ◌+◌, ◌≤◌, ◌<◌, ℕ, true, slice_index, IfSome, IfNone};
 ghost use Rattle.table_bytes.specs.Numbers.{AreWithinLimits};
-ghost use Rattle.root_slot.specs.Slot.{word_at as word_in, long_at as long_in, layout_in, packing_in, commits_in, first_in, sizes_in as sizes_of, IsEmptySlot, AreZero, Says, IsNoSlot};
+ghost use Rattle.root_slot.specs.Slot.{word_at as word_in, long_at as long_in, layout_in, packing_in, commits_in, first_in};
+ghost use Rattle.root_slot.specs.Slot.{sizes_in as sizes_of, IsEmptySlot, AreZero, Says, IsNoSlot};
 
 use byteorder::{BigEndian, ByteOrder};
 use retrograde::Counts;

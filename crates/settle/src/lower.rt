@@ -18,8 +18,10 @@ use table::Table;
 /// Puts a number last into the settled order, and writes its record.
 fn settle<T: Table>(table: &mut T, number: u32, kept: Record) -> Result<(), StepFault>
     requires { number < (T.counted table.old).known }
-    ensures settled { T.is_honest table.old → OnOk result (T.stored table.new ≡ with_record (with_settled (T.stored table.old) number) number kept) }
-    ensures full { T.is_honest table.old → result ≡ Err Inconsistent → length (T.stored table.old).positions ≤ length (T.stored table.old).order }
+    ensures settled { T.is_honest table.old → OnOk result
+        (T.stored table.new ≡ with_record (with_settled (T.stored table.old) number) number kept) }
+    ensures full { T.is_honest table.old → result ≡ Err Inconsistent
+        → length (T.stored table.old).positions ≤ length (T.stored table.old).order }
     ensures honest { OnOk result (T.is_honest table.old ↔ T.is_honest table.new) }
     ensures known { OnOk result ((T.counted table.new).known ≡ (T.counted table.old).known) }
     ensures goes_on { IfErr result (λ fault. ¬ IsRefusal fault) }
@@ -45,7 +47,8 @@ fn lower<M: MoveSource, T: Table>(
 ) -> Result<(), StepFault>
     requires source { M.is_sound source.now }
     requires known { predecessor < (T.counted table.old).known }
-    ensures lowered { T.is_honest table.old → OnOk result (T.stored table.new ≡ lower_at (M.graph source.now) winner distance predecessor (T.stored table.old)) }
+    ensures lowered { T.is_honest table.old → OnOk result
+        (T.stored table.new ≡ lower_at (M.graph source.now) winner distance predecessor (T.stored table.old)) }
     ensures stuck { T.is_honest table.old → result ≡ Err Inconsistent
         → (r : Record) × HasRecord (T.stored table.old) predecessor r × IsStuck (T.stored table.old) distance r }
     ensures honest { OnOk result (T.is_honest table.old ↔ T.is_honest table.new) }

@@ -29,7 +29,8 @@ pub fn settle_one<M: MoveSource, T: Table>(source: &M, table: &mut T) -> Result<
     requires limit { (T.counted table.old).known ≤ 2 ^ 24 }
     ensures honest { OnOk result (T.is_honest table.old ↔ T.is_honest table.new) }
     ensures settles { T.is_honest table.old → IsLocallySound (M.graph source.now) (M.is_wide source.now) (T.stored table.old)
-        → OnOk result ((s : ℕ) × (r : Record) × (w : Player) × Settles (M.graph source.now) (T.stored table.old) (T.stored table.new) s r w) }
+        → OnOk result ((s : ℕ) × (r : Record) × (w : Player)
+        × Settles (M.graph source.now) (T.stored table.old) (T.stored table.new) s r w) }
     ensures fits { T.is_honest table.old → IsTable (T.stored table.old) → OnOk result (IsTable (T.stored table.new)) }
     ensures known { OnOk result ((T.counted table.new).known ≡ (T.counted table.old).known) }
     ensures newly { T.is_honest table.old → IfOk result (λ newly.

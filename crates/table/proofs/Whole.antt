@@ -13,7 +13,7 @@ use Rattle.retrograde.specs.declared.records.State.TheVariants.{Known, Expanded,
 use Rattle.retrograde.specs.declared.records.Record.{Record}
 use Rattle.retrograde.specs.Stored.{Stored, FitsState, IsTable, is_expanded, is_processed, is_settled, value_of, processed_in, view_of}
 use Rattle.table.specs.Memory.{bytes_of_each, position_cmp, edge_cmp, AreNumbered, AreBetweenKnown}
-use Rattle.table.specs.Fitting.{IsSettledAs, PartsFit, Fits}
+use Rattle.table.specs.Fitting.{IsSettledAs, PartsFit, FitsTogether}
 use Rattle.retrograde.proofs.Sound.{map_some}
 use Rattle.table.proofs.NumberLemmas.{at_bytes}
 
@@ -117,7 +117,7 @@ module _ (positions : List (ArrayVec ℕ)) (numbers : BTreeMap (ArrayVec ℕ) �
 
   pub whole_fits : (packed : ℕ) (fit long : Bool) → (fit ≡ true) ↔ PartsFit expanded processed records order
       → (long ≡ true) ↔ ((i : ℕ) (x : ArrayVec ℕ) → slice_get positions i ≡ Some x → length x.items ≡ packed)
-      → (fit ≡ true) × (long ≡ true) ↔ Fits packed whole
+      → (fit ≡ true) × (long ≡ true) ↔ FitsTogether packed whole
   whole_fits packed fit long parts lengths = (
     λ (one, other). record { table = parts_make (parts.0 one); long = λ i x at. lengths.0 other i (record { items = x }) (bytes_there i x at) },
     λ fits. (parts.1 (made_of_parts fits.table), lengths.1 (λ i x at. fits.long i x.items (there_bytes i x at))),

@@ -34,6 +34,6 @@ pub record PartsFit (expanded processed : ℕ) (records : List Record) (order : 
   pub listed : AllListed records order
 
 -- the parts of the table fit together, and each position has so many bytes
-pub record Fits (packed : ℕ) (stored : Stored (List ℕ)) : Type 0 where
+pub record FitsTogether (packed : ℕ) (stored : Stored (List ℕ)) : Type 0 where
   pub table : IsTable stored
   pub long : (i : ℕ) (x : List ℕ) → slice_get stored.positions i ≡ Some x → length x ≡ packed

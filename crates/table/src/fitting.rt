@@ -1,5 +1,6 @@
 //! Whether the parts of a table fit together.
-ghost use Rattle.std.specs.Prelude.{◌≡◌, ◌↔◌, ◌<◌, ℕ, List, true, false, Some, length, slice_get, slice_index_or, slice_set, count_by, IfOk, IfSome, IfNone, OnOk, IsSome};
+ghost use Rattle.std.specs.Prelude.{◌≡◌, ◌↔◌, ◌<◌, ℕ, List, true, false, Some, length, slice_get, slice_index_or, slice_set, count_by};
+ghost use Rattle.std.specs.Prelude.{IfOk, IfSome, IfNone, OnOk, IsSome};
 ghost use Rattle.retrograde.specs.declared.records.Record.{Record};
 ghost use Rattle.retrograde.specs.Stored.{FitsState, is_settled as settled_in, is_expanded as expanded_in};
 ghost use Rattle.arrayvec.specs.ArrayVec.{ArrayVec};
@@ -92,7 +93,8 @@ fn listed(
 ) -> Result<Option<Vec<bool>>, AllocError>
     ensures fits { IfOk result (λ r. IfSome r (λ marks. OrderFits processed records.now order.now
         × ((i : ℕ) → (slice_index_or marks.items i false ≡ true) → (k : ℕ) × (slice_get order.now k ≡ Some i)))) }
-    ensures marks { IfOk result (λ r. IfSome r (λ marks. (k i : ℕ) → slice_get order.now k ≡ Some i → slice_index_or marks.items i false ≡ true)) }
+    ensures marks { IfOk result (λ r. IfSome r (λ marks. (k i : ℕ) → slice_get order.now k ≡ Some i
+        → slice_index_or marks.items i false ≡ true)) }
     ensures none { IfOk result (λ r. IfNone r (¬ OrderFits processed records.now order.now)) }
 {
     let mut marks = unmarked(alloc, records.len())?;
@@ -116,7 +118,8 @@ fn is_marked(marks: &[bool], number: usize) -> bool
 
 /// Whether each settled number is marked.
 fn all_listed(records: &[Record], marks: &[bool]) -> bool
-    ensures { (result ≡ true) ↔ ((i : ℕ) (r : Record) → slice_get records.now i ≡ Some r → settled_in r.state ≡ true → slice_index_or marks.now i false ≡ true) }
+    ensures { (result ≡ true) ↔ ((i : ℕ) (r : Record) → slice_get records.now i ≡ Some r → settled_in r.state ≡ true
+        → slice_index_or marks.now i false ≡ true) }
 {
     records.iter().enumerate().all(|(number, kept)| !is_settled(kept.state)
         || is_marked(marks, number))

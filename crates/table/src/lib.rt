@@ -5,8 +5,6 @@ mod fault;
 mod fitting;
 mod memory;
 mod table;
-#[cfg(test)]
-mod tests;
 
 pub use fault::TableFault;
 pub use memory::MemTable;

@@ -1,11 +1,12 @@
 //! A table in memory.
-ghost use Rattle.std.specs.Prelude.{◌≡◌, refl, ◌↔◌, ◌+◌, ◌-◌, ◌^◌, ◌<◌, ◌≤◌, ℕ, true, if◌then◌else◌, IfOk, IfErr, IfSome, IfNone, length, count_by};
+ghost use Rattle.std.specs.Prelude.{◌≡◌, refl, ◌↔◌, ◌+◌, ◌-◌, ◌^◌, ◌<◌, ◌≤◌, ℕ, true, if◌then◌else◌, IfOk, IfErr, IfSome, IfNone, length};
+ghost use Rattle.std.specs.Prelude.{count_by};
 ghost use Rattle.std.specs.BTreeSet.{contains};
 ghost use Rattle.retrograde.specs.Changes.{fresh_record, counts_of};
 ghost use Rattle.retrograde.specs.Edges.{IsAfter};
 ghost use Rattle.retrograde.specs.Stored.{is_expanded, is_processed, loaded};
 ghost use Rattle.table.specs.declared.fault.TableFault.TheVariants.{OutOfMemory};
-ghost use Rattle.table.specs.Fitting.{Fits};
+ghost use Rattle.table.specs.Fitting.{FitsTogether};
 ghost use Rattle.table.specs.Memory.{AreNumbered, AreBetweenKnown, bytes_of_each, edge_cmp};
 
 use crate::fault::TableFault;
@@ -132,7 +133,7 @@ impl MemTable {
 
     /// Whether its parts fit together, and each position has so many bytes.
     pub fn fits(&self, alloc: Global, packed: u32) -> Result<bool, AllocError>
-        ensures { IfOk result (λ fits. (fits ≡ true) ↔ Fits packed (⟦<MemTable as Table>⟧.stored self.now)) }
+        ensures { IfOk result (λ fits. (fits ≡ true) ↔ FitsTogether packed (⟦<MemTable as Table>⟧.stored self.now)) }
     {
         let long = are_long(&self.positions, packed);
         let fit = parts_fit(

@@ -46,8 +46,10 @@ pub trait Table {
 
     /// The number of a position, if it is known.
     fn number_of(&mut self, packed: &Packed) -> Result<Option<u32>, TableFault>
-        ensures found { is_honest self.old → IfOk result (λ r. IfSome r (λ i. slice_get (stored self.old).positions i ≡ Some packed.now.items)) }
-        ensures unknown { is_honest self.old → IfOk result (λ r. IfNone r ((i : ℕ) → slice_get (stored self.old).positions i ≡ Some packed.now.items → ⊥)) }
+        ensures found { is_honest self.old → IfOk result
+            (λ r. IfSome r (λ i. slice_get (stored self.old).positions i ≡ Some packed.now.items)) }
+        ensures unknown { is_honest self.old → IfOk result
+            (λ r. IfNone r ((i : ℕ) → slice_get (stored self.old).positions i ≡ Some packed.now.items → ⊥)) }
         ensures within { IfOk result (λ r. IfSome r (λ i. i < (counted self.old).known)) }
         ensures same { is_honest self.old → stored self.new ≡ stored self.old }
         ensures honest { is_honest self.old ↔ is_honest self.new }

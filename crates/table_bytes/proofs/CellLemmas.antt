@@ -11,7 +11,7 @@ use Rattle.table_bytes.specs.Spelled.{AreSpelled}
 use Rattle.table_bytes.specs.Items.{spelled_more, spelled_next}
 use Rattle.table_bytes.specs.Laws.{long_pairs}
 use Rattle.table_bytes.specs.Parts.{fixed_cells}
-use Rattle.table_bytes.specs.Reading.{AreCells, AddsCell, KeepsRest, IsFirst}
+use Rattle.table_bytes.specs.Reading.{AreCells, AddsCell, KeepsRest, IsFirstEntry}
 
 pairs_more : {A B : Type 0} (xs : List A) (ys : List B) (x : A) (y : B) → length ys ≡ length xs → zip (xs ++ x ∷ []) (ys ++ y ∷ []) ≡ zip xs ys ++ (x, y) ∷ []
 pairs_more [] [] x y same = refl
@@ -121,8 +121,8 @@ first_within known width long started is =
 
 -- the first cell
 pub first_cell : (packed : ℕ) (bytes : List ℕ) (r : Record) (old new : Stored (List ℕ)) → packed ≤ length bytes → IsRecord (drop packed bytes) r → old ≡ loaded (take packed bytes)
-    → new ≡ with_record old 0 r → IsFirst packed bytes new
-first_cell packed bytes r old new long of old_is new_is = subst (λ (s : Stored (List ℕ)). IsFirst packed bytes s) (sym (new_is ∙ ap (λ (s : Stored (List ℕ)). with_record s 0 r) old_is)) (record {
+    → new ≡ with_record old 0 r → IsFirstEntry packed bytes new
+first_cell packed bytes r old new long of old_is new_is = subst (λ (s : Stored (List ℕ)). IsFirstEntry packed bytes s) (sym (new_is ∙ ap (λ (s : Stored (List ℕ)). with_record s 0 r) old_is)) (record {
   cells = record {
     paired = refl;
     spelled = (

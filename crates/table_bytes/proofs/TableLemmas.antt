@@ -3,7 +3,7 @@ use Rattle.std.proofs.Common.{◌≡◌, ◌∙◌, sym, ap, subst, ℕ, ◌+◌
 use Rattle.retrograde.specs.declared.records.Record.{Record}
 use Rattle.retrograde.specs.Stored.{Stored, IsTable}
 use Rattle.table_bytes.specs.Bytes.{IsCell, IsEdge}
-use Rattle.table_bytes.specs.Spelled.{AreSpelled, Spells}
+use Rattle.table_bytes.specs.Spelled.{AreSpelled, SpellsTable}
 use Rattle.table_bytes.specs.Items.{same_fronts}
 use Rattle.table_bytes.specs.Laws.{PartLengths, part_lengths, long_pairs}
 use Rattle.table_bytes.specs.Parts.{fixed_cells}
@@ -36,7 +36,7 @@ split_table sizes bytes front rest cells other edges order k k_is front_is rest_
     }
 
 -- they are those that a table spells
-module _ (sizes : Sizes) (bytes front cells edges order text : List ℕ) (stored : Stored (List ℕ)) (split : IsSplit sizes bytes front cells edges order) (s : Spells sizes bytes text stored) where
+module _ (sizes : Sizes) (bytes front cells edges order text : List ℕ) (stored : Stored (List ℕ)) (split : IsSplit sizes bytes front cells edges order) (s : SpellsTable sizes bytes text stored) where
   long : PartLengths sizes s.cells s.edge_bytes s.order
   long = part_lengths sizes bytes text stored s
 
@@ -72,7 +72,7 @@ module _ (sizes : Sizes) (bytes front cells edges order text : List ℕ) (stored
 -- what was read is spelled
 pub spells : (sizes : Sizes) (bytes front cells edges order : List ℕ) (celled edged new : Stored (List ℕ)) → IsSplit sizes bytes front cells edges order
     → AreCells sizes.packed cells celled → length celled.positions ≡ sizes.counts.known → ChangesEdges celled edged → AreEdges edges sizes.edges edged
-    → AddsOrder order sizes.counts.settled edged new → Spells sizes bytes front new
+    → AddsOrder order sizes.counts.settled edged new → SpellsTable sizes bytes front new
 spells sizes bytes front cells edges order celled edged new split are_cells known kept are_edges last =
     let positions : celled.positions ≡ new.positions = sym (last.others.positions ∙ kept.positions) in
     let records : celled.records ≡ new.records = sym (last.others.records ∙ kept.records) in
@@ -106,7 +106,7 @@ first_spelled IsOf bytes [] is some = absurd (omega arith)
 first_spelled IsOf bytes (x ∷ xs) (one, rest, is, of, more) some = (x, one, rest, is, of)
 
 -- the first cell of a table
-pub first_of : (sizes : Sizes) (bytes front rest cell back text : List ℕ) (stored : Stored (List ℕ)) → Spells sizes bytes text stored → 1 ≤ sizes.counts.known
+pub first_of : (sizes : Sizes) (bytes front rest cell back text : List ℕ) (stored : Stored (List ℕ)) → SpellsTable sizes bytes text stored → 1 ≤ sizes.counts.known
     → front ≡ take sizes.text bytes → rest ≡ drop sizes.text bytes → cell ≡ take (sizes.packed + 16) rest → back ≡ drop (sizes.packed + 16) rest
     → length front ≡ sizes.text → length cell ≡ sizes.packed + 16 → (x : List ℕ × Record) × IsCell sizes.packed cell x
 first_of sizes bytes front rest cell back text stored s started front_is rest_is cell_is back_is front_long cell_long =

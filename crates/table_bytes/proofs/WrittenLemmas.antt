@@ -3,7 +3,7 @@ use Rattle.std.proofs.Common.{◌≡◌, ◌∙◌, ap, subst, inl, ℕ, ◌+◌
 use Rattle.retrograde.specs.declared.records.Record.{Record}
 use Rattle.retrograde.specs.Stored.{Stored, IsTable}
 use Rattle.table_bytes.specs.Bytes.{IsCell, IsPlainCell, IsEdge, IsNumber}
-use Rattle.table_bytes.specs.Spelled.{AreSpelled, Spells, BeginsPlainly}
+use Rattle.table_bytes.specs.Spelled.{AreSpelled, SpellsTable, BeginsPlainly}
 use Rattle.table_bytes.specs.Items.{spelled_long}
 use Rattle.table_bytes.specs.Parts.{fixed_edges}
 use Rattle.table_bytes.specs.Writing.{Writes, WritesEdges}
@@ -31,7 +31,7 @@ begins_plainly packed text start celled edged all more last stored start_is cell
 
 pub spells_written : (sizes : Sizes) (text start celled edged all : List ℕ) (stored : Stored (List ℕ)) → IsTable stored → start ≡ text → length text ≡ sizes.text
     → length stored.positions ≡ sizes.counts.known → length stored.order ≡ sizes.counts.settled → Writes (IsPlainCell sizes.packed) (zip stored.positions stored.records) start celled
-    → WritesEdges stored sizes.counts.known 0 celled edged → sizes.edges ≡ (length edged - length celled) / 8 → Writes IsNumber stored.order edged all → Spells sizes all text stored
+    → WritesEdges stored sizes.counts.known 0 celled edged → sizes.edges ≡ (length edged - length celled) / 8 → Writes IsNumber stored.order edged all → SpellsTable sizes all text stored
 spells_written sizes text start celled edged all stored table start_is text_long known settled cells edges count order =
     let long : length edges.written.behind ≡ length edges.edges * 8 = spelled_long IsEdge 8 fixed_edges edges.written.behind edges.edges edges.written.spelled in
     let longer : length edged ≡ length celled + length edges.written.behind = ap length edges.written.is ∙ length-append celled edges.written.behind in

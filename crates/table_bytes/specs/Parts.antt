@@ -41,7 +41,8 @@ same_winner (Some Second) (Some First) e = absurd (cc)
 same_winner (Some Second) (Some Second) e = refl
 
 -- the record with its parts
-same_record : (r s : Record) → r.state ≡ s.state → r.winner ≡ s.winner → r.distance ≡ s.distance → r.left ≡ s.left → r.successors ≡ s.successors → r ≡ s
+same_record : (r s : Record) → r.state ≡ s.state → r.winner ≡ s.winner → r.distance ≡ s.distance → r.left ≡ s.left
+    → r.successors ≡ s.successors → r ≡ s
 same_record r s state winner distance left successors =
     λ i. record { state = state i; winner = winner i; distance = distance i; left = left i; successors = successors i }
 

@@ -31,7 +31,7 @@ pub record HasNoRest (stored : Stored (List ℕ)) : Type 0 where
   pub order : stored.order ≡ []
 
 -- the table of one position with its record, which these bytes spell
-pub record IsFirst (packed : ℕ) (bytes : List ℕ) (stored : Stored (List ℕ)) : Type 0 where
+pub record IsFirstEntry (packed : ℕ) (bytes : List ℕ) (stored : Stored (List ℕ)) : Type 0 where
   pub cells : AreCells packed bytes stored
   pub rest : HasNoRest stored
   pub one : length stored.positions ≡ 1

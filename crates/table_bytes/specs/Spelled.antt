@@ -12,7 +12,7 @@ AreSpelled IsOf bytes [] = bytes ≡ []
 AreSpelled IsOf bytes (x ∷ xs) = (one rest : List ℕ) × (bytes ≡ one ++ rest) × IsOf one x × AreSpelled IsOf rest xs
 
 -- the bytes of a table: the text; each position with its record; the edges, ascending; the settled order
-pub record Spells (sizes : Sizes) (bytes text : List ℕ) (stored : Stored (List ℕ)) : Type 0 where
+pub record SpellsTable (sizes : Sizes) (bytes text : List ℕ) (stored : Stored (List ℕ)) : Type 0 where
   pub cells : List ℕ
   pub edges : List (ℕ × ℕ)
   pub edge_bytes : List ℕ

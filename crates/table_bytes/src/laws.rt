@@ -2,17 +2,17 @@
 ghost use Rattle.std.specs.Prelude.{◌≡◌, ℕ, List, length};
 ghost use Rattle.retrograde.specs.Stored.{Stored};
 ghost use Rattle.table_bytes.specs.Numbers.{bytes_in};
-ghost use Rattle.table_bytes.specs.Spelled.{Spells};
+ghost use Rattle.table_bytes.specs.Spelled.{SpellsTable};
 ghost use Rattle.table_bytes.specs.declared.sizes.Sizes.{Sizes};
 
 /// Bytes spell one table at most.
 pub fn bytes_spell_one_table()
     ensures { (sizes : Sizes) (bytes text other : List ℕ) (one two : Stored (List ℕ))
-        → Spells sizes bytes text one → Spells sizes bytes other two → (text ≡ other) × (one ≡ two) }
+        → SpellsTable sizes bytes text one → SpellsTable sizes bytes other two → (text ≡ other) × (one ≡ two) }
 {}
 
 /// How many bytes a table takes.
 pub fn tables_have_their_length()
     ensures { (sizes : Sizes) (bytes text : List ℕ) (stored : Stored (List ℕ))
-        → Spells sizes bytes text stored → length bytes ≡ bytes_in sizes }
+        → SpellsTable sizes bytes text stored → length bytes ≡ bytes_in sizes }
 {}

@@ -2,8 +2,8 @@
 ghost use Rattle.std.specs.Prelude.{◌≡◌, ◌+◌, ℕ, List, length, take, drop, IfOk, OnOk, Err};
 ghost use Rattle.retrograde.specs.Stored.{Stored, IsTable};
 ghost use Rattle.table_bytes.specs.Numbers.{AreWithinLimits, bytes_in};
-ghost use Rattle.table_bytes.specs.Reading.{IsFirst};
-ghost use Rattle.table_bytes.specs.Spelled.{Spells};
+ghost use Rattle.table_bytes.specs.Reading.{IsFirstEntry};
+ghost use Rattle.table_bytes.specs.Spelled.{SpellsTable};
 ghost use Rattle.table_bytes.specs.declared.fault.BytesFault.TheVariants.{Damaged};
 
 use crate::read_cells::{read_cells, read_first};
@@ -18,10 +18,10 @@ fn read_into<T: Table>(table: &mut T, sizes: &Sizes, bytes: &[u8]) -> Result<(),
     requires honest { T.is_honest table.old }
     requires limits { AreWithinLimits sizes.now }
     requires long { length bytes.now ≡ bytes_in sizes.now }
-    requires first { IsFirst sizes.now.packed (take (sizes.now.packed + 16) (drop sizes.now.text bytes.now)) (T.stored table.old) }
-    ensures spelled { OnOk result (Spells sizes.now bytes.now (take sizes.now.text bytes.now) (T.stored table.new)) }
+    requires first { IsFirstEntry sizes.now.packed (take (sizes.now.packed + 16) (drop sizes.now.text bytes.now)) (T.stored table.old) }
+    ensures spelled { OnOk result (SpellsTable sizes.now bytes.now (take sizes.now.text bytes.now) (T.stored table.new)) }
     ensures damaged { result ≡ Err Damaged → (text : List ℕ) (stored : Stored (List ℕ)) → IsTable stored
-        → Spells sizes.now bytes.now text stored → ⊥ }
+        → SpellsTable sizes.now bytes.now text stored → ⊥ }
 {
     let packed = sizes.packed as usize;
     let (_, rest) = bytes.split_at(sizes.text as usize);
@@ -37,8 +37,10 @@ fn read_into<T: Table>(table: &mut T, sizes: &Sizes, bytes: &[u8]) -> Result<(),
 pub fn read_table(alloc: Global, sizes: &Sizes, bytes: &[u8]) -> Result<MemTable, BytesFault>
     requires limits { AreWithinLimits sizes.now }
     requires long { length bytes.now ≡ bytes_in sizes.now }
-    ensures spelled { IfOk result (λ table. Spells sizes.now bytes.now (take sizes.now.text bytes.now) (⟦<MemTable as Table>⟧.stored table)) }
-    ensures damaged { result ≡ Err Damaged → (text : List ℕ) (stored : Stored (List ℕ)) → IsTable stored → ¬ Spells sizes.now bytes.now text stored }
+    ensures spelled { IfOk result (λ table. SpellsTable sizes.now bytes.now (take sizes.now.text bytes.now)
+        (⟦<MemTable as Table>⟧.stored table)) }
+    ensures damaged { result ≡ Err Damaged → (text : List ℕ) (stored : Stored (List ℕ)) → IsTable stored
+        → ¬ SpellsTable sizes.now bytes.now text stored }
 {
     let packed = sizes.packed as usize;
     let (_, rest) = bytes.split_at(sizes.text as usize);

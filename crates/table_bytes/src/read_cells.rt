@@ -3,7 +3,7 @@ ghost use Rattle.std.specs.Prelude.{◌≡◌, ◌+◌, ◌-◌, ◌*◌, ◌^�
 ghost use Rattle.retrograde.specs.declared.records.Record.{Record};
 ghost use Rattle.retrograde.specs.Stored.{Stored, IsTable, loaded};
 ghost use Rattle.table_bytes.specs.Bytes.{IsCell, IsRecord};
-ghost use Rattle.table_bytes.specs.Reading.{AreCells, AddsCell, KeepsRest, IsFirst};
+ghost use Rattle.table_bytes.specs.Reading.{AreCells, AddsCell, KeepsRest, IsFirstEntry};
 ghost use Rattle.table_bytes.specs.declared.fault.BytesFault.TheVariants.{Damaged};
 
 use crate::BytesFault;
@@ -27,7 +27,7 @@ fn read_first_record<T: Table>(table: &mut T, packed: usize, cell: &[u8]) -> Res
     requires honest { T.is_honest table.old }
     requires long { length cell.now ≡ packed + 16 }
     requires first { T.stored table.old ≡ loaded (take packed cell.now) }
-    ensures first { OnOk result (IsFirst packed cell.now (T.stored table.new)) }
+    ensures first { OnOk result (IsFirstEntry packed cell.now (T.stored table.new)) }
     ensures damaged { result ≡ Err Damaged → (x : List ℕ × Record) → IsCell packed cell.now x → ⊥ }
 {
     let (_, kept) = cell.split_at(packed);
@@ -40,7 +40,7 @@ fn read_first_record<T: Table>(table: &mut T, packed: usize, cell: &[u8]) -> Res
 pub fn read_first(alloc: Global, packed: usize, cell: &[u8]) -> Result<MemTable, BytesFault>
     requires packed { packed ≤ 240 }
     requires long { length cell.now ≡ packed + 16 }
-    ensures first { IfOk result (λ table. IsFirst packed cell.now (⟦<MemTable as Table>⟧.stored table)) }
+    ensures first { IfOk result (λ table. IsFirstEntry packed cell.now (⟦<MemTable as Table>⟧.stored table)) }
     ensures damaged { result ≡ Err Damaged → (x : List ℕ × Record) → IsCell packed cell.now x → ⊥ }
 {
     let mut table = MemTable::new(alloc, &position_of(&cell[..packed]))?;

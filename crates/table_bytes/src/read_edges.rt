@@ -65,7 +65,8 @@ pub fn read_edges<T: Table>(table: &mut T, edges: usize, bytes: &[u8]) -> Result
     ensures others { OnOk result (ChangesEdges (T.stored table.old) (T.stored table.new)) }
     ensures damaged { result ≡ Err Damaged → (all : List (ℕ × ℕ)) → AreSpelled IsEdge bytes.now all → length all ≡ edges
         → IsStrictlySortedBy edge_cmp all
-        → ((i p : ℕ) → Contains all (i, p) → (i < length (T.stored table.old).positions) × (p < length (T.stored table.old).positions)) → ⊥ }
+        → ((i p : ℕ) → Contains all (i, p) → (i < length (T.stored table.old).positions) × (p < length (T.stored table.old).positions))
+        → ⊥ }
 {
     let mut before = None;
     let mut rest = bytes;

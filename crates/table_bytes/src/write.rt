@@ -3,7 +3,7 @@ ghost use Rattle.std.specs.Prelude.{◌≡◌, ◌↔◌, ◌≤◌, ◌^◌, �
 ghost use Rattle.retrograde.specs.Stored.{IsTable};
 ghost use Rattle.retrograde.specs.Changes.{counts_of};
 ghost use Rattle.table_bytes.specs.Numbers.{AreWithinLimits, bytes_in};
-ghost use Rattle.table_bytes.specs.Spelled.{Spells, BeginsPlainly};
+ghost use Rattle.table_bytes.specs.Spelled.{SpellsTable, BeginsPlainly};
 
 use crate::Sizes;
 use crate::write_cells::{write_cells, write_order};
@@ -28,7 +28,7 @@ pub fn write_table<T: Table>(
     requires text { length text.now ≤ 65536 }
     ensures spelled { T.is_honest table.old → IsTable (T.stored table.old)
         → ((x : List ℕ) (i : ℕ) → slice_get (T.stored table.old).positions i ≡ Some x → length x ≡ packed)
-        → IfOk result (λ written. Spells written.sizes written.bytes.items text.now (T.stored table.old)) }
+        → IfOk result (λ written. SpellsTable written.sizes written.bytes.items text.now (T.stored table.old)) }
     ensures plain { T.is_honest table.old → IsTable (T.stored table.old)
         → ((x : List ℕ) (i : ℕ) → slice_get (T.stored table.old).positions i ≡ Some x → length x ≡ packed)
         → IfOk result (λ written. BeginsPlainly packed written.bytes.items text.now (T.stored table.old)) }

@@ -28,7 +28,8 @@ fn write_cell<T: Table>(bytes: &mut Vec<u8>, number: u32, table: &mut T) -> Resu
 pub fn write_cells<T: Table>(bytes: &mut Vec<u8>, table: &mut T) -> Result<(), TableFault>
     ensures cells { T.is_honest table.old → length (T.stored table.old).records ≡ length (T.stored table.old).positions → (packed : ℕ)
         → ((x : List ℕ) (i : ℕ) → slice_get (T.stored table.old).positions i ≡ Some x → length x ≡ packed)
-        → OnOk result (Writes (IsPlainCell packed) (zip (T.stored table.old).positions (T.stored table.old).records) bytes.old.items bytes.new.items) }
+        → OnOk result (Writes (IsPlainCell packed)
+        (zip (T.stored table.old).positions (T.stored table.old).records) bytes.old.items bytes.new.items) }
     ensures same { T.is_honest table.old → OnOk result (T.stored table.new ≡ T.stored table.old) }
     ensures honest { OnOk result (T.is_honest table.old ↔ T.is_honest table.new) }
     ensures counts { OnOk result (T.counted table.new ≡ T.counted table.old) }

@@ -7,23 +7,25 @@ use Rattle.retrograde.specs.Sound.{IsLocallySound}
 use Rattle.retrograde.specs.Successors.{packed_cmp}
 use Rattle.retrograde.specs.Units.{UnitsOfWork}
 use Rattle.frontier.specs.declared.fault.StepFault.{StepFault}
-use Rattle.frontier.specs.Causes.{HasCause}
+use Rattle.frontier.specs.Causes.{HasUnitCause}
 
 -- this many units of work lead from one stored table to the other, within the limit of positions
 abbrev pub Works : Graph (List ℕ) → (List ℕ → Type 0) → Stored (List ℕ) → ℕ → Stored (List ℕ) → Type 0
 Works graph IsWide old units new = UnitsOfWork packed_cmp graph IsWide (2 ^ 24) (view_of old) units (view_of new)
 
 -- so many units were asked of the old table and these done, all or to its end, and the new one is locally sound again
-pub record AreDone (graph : Graph (List ℕ)) (IsWide : List ℕ → Type 0) (units : ℕ) (old : Stored (List ℕ)) (done : ℕ) (new : Stored (List ℕ)) : Type 0 where
+pub record AreDone (graph : Graph (List ℕ)) (IsWide : List ℕ
+    → Type 0) (units : ℕ) (old : Stored (List ℕ)) (done : ℕ) (new : Stored (List ℕ)) : Type 0 where
   pub works : Works graph IsWide old done new
   pub all : (done ≡ units) ⊎ ((done < units) × IsFinished (view_of new))
   pub sound : IsLocallySound graph IsWide new
 
 -- fewer units than were asked lead to a table whose next unit has this fault with its cause
-pub record StopsWith (graph : Graph (List ℕ)) (IsWide : List ℕ → Type 0) (old : Stored (List ℕ)) (units : ℕ) (fault : StepFault) : Type 0 where
+pub record StopsWith (graph : Graph (List ℕ)) (IsWide : List ℕ
+    → Type 0) (old : Stored (List ℕ)) (units : ℕ) (fault : StepFault) : Type 0 where
   pub done : ℕ
   pub fewer : done < units
   pub reached : Stored (List ℕ)
   pub works : Works graph IsWide old done reached
   pub sound : IsLocallySound graph IsWide reached
-  pub cause : HasCause graph IsWide reached fault
+  pub cause : HasUnitCause graph IsWide reached fault

@@ -3,7 +3,7 @@ ghost use Rattle.std.specs.Prelude.{◌≡◌, ◌↔◌, ◌⊎◌, ◌^◌, �
 ghost use Rattle.retrograde.specs.View.{IsFinished};
 ghost use Rattle.retrograde.specs.Stored.{IsTable, view_of};
 ghost use Rattle.retrograde.specs.Sound.{IsLocallySound};
-ghost use Rattle.frontier.specs.Causes.{HasCause, Leaves};
+ghost use Rattle.frontier.specs.Causes.{HasUnitCause, Leaves};
 ghost use Rattle.frontier.specs.declared.fault.StepFault.TheVariants.{Inconsistent};
 ghost use Rattle.table_work.specs.Work.{Works, AreDone, StopsWith};
 
@@ -28,11 +28,12 @@ fn unit<M: MoveSource, T: Table>(
         → OnOk result (IsLocallySound (M.graph source.now) (M.is_wide source.now) (T.stored table.new)) }
     ensures fits { T.is_honest table.old → IsTable (T.stored table.old) → OnOk result (IsTable (T.stored table.new)) }
     ensures one { T.is_honest table.old → IsLocallySound (M.graph source.now) (M.is_wide source.now) (T.stored table.old)
-        → IfOk result (λ done. done ≡ true → Works (M.graph source.now) (M.is_wide source.now) (T.stored table.old) 1 (T.stored table.new)) }
+        → IfOk result (λ done. done ≡ true → Works (M.graph source.now) (M.is_wide source.now) (T.stored table.old) 1
+        (T.stored table.new)) }
     ensures finished { T.is_honest table.old → IsLocallySound (M.graph source.now) (M.is_wide source.now) (T.stored table.old)
         → IfOk result (λ done. done ≡ false → (T.stored table.new ≡ T.stored table.old) × IsFinished (view_of (T.stored table.old))) }
     ensures cause { T.is_honest table.old → IsLocallySound (M.graph source.now) (M.is_wide source.now) (T.stored table.old)
-        → IfErr result (HasCause (M.graph source.now) (M.is_wide source.now) (T.stored table.old)) }
+        → IfErr result (HasUnitCause (M.graph source.now) (M.is_wide source.now) (T.stored table.old)) }
     ensures consistent { T.is_honest table.old → IsLocallySound (M.graph source.now) (M.is_wide source.now) (T.stored table.old)
         → result ≡ Err Inconsistent → ⊥ }
     ensures ahead { OnOk result (T.goes_on table.old table.new) }

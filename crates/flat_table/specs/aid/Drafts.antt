@@ -5,12 +5,12 @@ use Rattle.std.proofs.lemmas.List.{length-map}
 use Rattle.table.specs.declared.memory.MemTable.{MemTable}
 use Rattle.flat_file.specs.declared.game.Game.{Game}
 use Rattle.flat_file.specs.File.{File}
-use Rattle.flat_table.specs.Drafts.{stored_now, IsUnwritten, IsOnlyRead}
+use Rattle.flat_table.specs.Drafts.{stored_now, IsUnwrittenFile, IsOnlyRead}
 
-pub unwritten_here : (file : File) → IsUnwritten file file
+pub unwritten_here : (file : File) → IsUnwrittenFile file file
 unwritten_here file = record { store = refl; kept = refl; stands = λ it. it }
 
-pub unwritten_then : {a b c : File} → IsUnwritten a b → IsUnwritten b c → IsUnwritten a c
+pub unwritten_then : {a b c : File} → IsUnwrittenFile a b → IsUnwrittenFile b c → IsUnwrittenFile a c
 unwritten_then one two = record { store = two.store ∙ one.store; kept = two.kept ∙ one.kept; stands = λ it. two.stands (one.stands it) }
 
 pub only_read_here : (file : File) (draft : Option MemTable) → IsOnlyRead file draft file draft

@@ -9,7 +9,7 @@ use Rattle.table.specs.declared.memory.MemTable.{MemTable}
 use Rattle.table.specs.declared.fault.TableFault.{TableFault}
 use Rattle.table.specs.declared.fault.TableFault.TheVariants.{OutOfMemory}
 use Rattle.game_file.specs.Calls.{IsAsked, IsKept}
-use Rattle.game_file.specs.Causes.{TableCause}
+use Rattle.game_file.specs.Causes.{FileTableCause}
 use Rattle.game_file.specs.Kept.{Kept, text_kept}
 use Rattle.game_file.specs.State.{State, GoesAhead}
 use Rattle.flat_file.specs.declared.game.Game.{Game}
@@ -17,7 +17,7 @@ use Rattle.flat_file.specs.File.{File, IsFile, kept_in, kept_of}
 use Rattle.flat_file.specs.Held.{Stores}
 use Rattle.flat_file.specs.Laws.{a_file_is_kept}
 use Rattle.flat_table.specs.Calls.{file_of, state_of}
-use Rattle.flat_table.specs.Drafts.{stored_now, IsUnwritten}
+use Rattle.flat_table.specs.Drafts.{stored_now, IsUnwrittenFile}
 
 -- between commands the table is the one that is kept
 pub the_table_is_kept : (s : Store) (draft : Option MemTable) (game : Option Game) (kept : Kept) → IsFile (file_of s game) → draft ≡ None
@@ -43,22 +43,22 @@ same_pages s was is stands same = record {
 }
 
 -- it is in a later state
-pub unwritten_ahead : (old new : File) → IsUnwritten old new → GoesAhead (state_of old) (state_of new)
+pub unwritten_ahead : (old new : File) → IsUnwrittenFile old new → GoesAhead (state_of old) (state_of new)
 unwritten_ahead old new same =
     subst (λ (s : Store). GoesAhead (state_of old) (state_of (file_of s new.game))) (sym same.store)
     (record { goes_on = goes_on_refl old.store.disk; same_size = refl; failures = omega arith; capacity = refl })
 
-pub unwritten_asked : (old new : File) → IsFile old → IsUnwritten old new → IsAsked Stores (state_of old) (state_of new)
+pub unwritten_asked : (old new : File) → IsFile old → IsUnwrittenFile old new → IsAsked Stores (state_of old) (state_of new)
 unwritten_asked old new it same =
     subst (λ (s : Store). IsAsked Stores (state_of old) (state_of (file_of s new.game))) (sym same.store)
     (same_pages old.store old.game new.game it same.kept)
 
 -- so is a file of which a draft is given up
-pub unwritten_kept : (old new : File) → IsFile old → IsUnwritten old new → IsKept Stores (state_of old) (state_of new)
+pub unwritten_kept : (old new : File) → IsFile old → IsUnwrittenFile old new → IsKept Stores (state_of old) (state_of new)
 unwritten_kept old new it same =
     let asked = unwritten_asked old new it same in
     record { ahead = asked.ahead; commits = asked.commits; text = asked.text; kept = asked.kept; leaves = asked.since }
 
 -- want of memory needs no cause
-pub memory_cause : (old new : State) (fault : TableFault) → fault ≡ OutOfMemory → TableCause old new fault
-memory_cause old new fault is = subst (λ (f : TableFault). TableCause old new f) (sym is) tt
+pub memory_cause : (old new : State) (fault : TableFault) → fault ≡ OutOfMemory → FileTableCause old new fault
+memory_cause old new fault is = subst (λ (f : TableFault). FileTableCause old new f) (sym is) tt

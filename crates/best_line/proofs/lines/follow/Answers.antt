@@ -3,7 +3,7 @@ use Rattle.std.specs.Prelude.{Err}
 use Rattle.retrograde.specs.Stored.{Stored, IsTable, view_of}
 use Rattle.retrograde.proofs.Adding.{push_before}
 use Rattle.retrograde.proofs.Finished.{is_some_at}
-use Rattle.best_line.specs.Causes.{IsCause}
+use Rattle.best_line.specs.Causes.{IsLineCause}
 use Rattle.best_line.specs.Lines.{IsBestStep, HasNoStep}
 use Rattle.best_line.specs.declared.fault.LineFault.{LineFault}
 use Rattle.best_line.proofs.LineLemmas.{IsLineTo, line_value, line_push, line_done}
@@ -21,7 +21,7 @@ returns-in_err-at-clause-cause g c = λ honest sound value.
     let one : c.args.distance - c.loop-step.step ≡ suc (c.args.distance - c.loop-step.step - 1) = omega (arith, c.loop-step-test.true) in
     let here = line_value graph (view_of stored) c.args.winner c.args.distance c.loop-step.numbers.items c.loop-step.at (c.args.distance - c.loop-step.step) (c.loop-step.invariant.line honest sound.table value) in
     let here' = subst (λ (l : ℕ). (view_of stored).value c.loop-step.at ≡ Some (c.args.winner, l)) one here in
-    let it : IsCause (view_of stored) c.args.number c.in_err-at.field-0.0 =
+    let it : IsLineCause (view_of stored) c.args.number c.in_err-at.field-0.0 =
     step_cause graph (g.M.GameGraph.is_wide c.args.source.now) stored sound c.args.winner c.args.number c.loop-step.at left
     (is_some_at ((view_of stored).value c.args.number) (c.args.winner, c.args.distance) value) here' c.in_err-at.field-0.0
     (λ is. subst (λ (t : Stored (List ℕ)). HasNoStep graph (view_of t) c.loop-step.at c.args.winner left) same (c.in_err-at.ensures.none h table' (ap (λ (f : LineFault). Err f) is)))

@@ -1,5 +1,5 @@
 use Rattle.std.proofs.Common.{◌∙◌, ℕ, List, length, subst, sym}
-use Rattle.page_chain.specs.Causes.{WriteCause}
+use Rattle.page_chain.specs.Causes.{ChainWriteCause}
 use Rattle.page_chain.specs.Chain.{first_of}
 use Rattle.flat_write.specs.Steps.{IsExchanged, IsSlotOf}
 use Rattle.flat_write.proofs.Leaving.{left_writing, left_committing}
@@ -9,7 +9,7 @@ use Rattle.flat_write.proofs.write.replace.Goals as goal
 
 pub returns-in_err-pages-clause-err : goal.returns-in_err-pages-clause-err
 returns-in_err-pages-clause-err g c =
-    let cause = subst (λ (xs : List ℕ). WriteCause (length xs) (g.P.Pages.store c.args.store.now) (g.P.Pages.store c.exchange.new.store) c.in_err-pages.field-0.0) c.deref.ensures.value c.in_err-pages.ensures.cause in
+    let cause = subst (λ (xs : List ℕ). ChainWriteCause (length xs) (g.P.Pages.store c.args.store.now) (g.P.Pages.store c.exchange.new.store) c.in_err-pages.field-0.0) c.deref.ensures.value c.in_err-pages.ensures.cause in
     passed_on _ c.from_residual.result _ c.from_residual.ensures (left_writing _ _ _ _ _ _ (g.met.P.Pages.sound c.args.store.now) (sym c.is_closed.ensures ∙ c.if-is_closed.false) c.exchange.ensures.works c.in_err-pages.ensures.still cause)
 
 pub returns-in_err-commit-clause-err : goal.returns-in_err-commit-clause-err

@@ -5,7 +5,7 @@ use Rattle.rbg_game.proofs.MeaningLemmas.{regex_of-Action, regex_of-Star, action
 use Rattle.legal_moves.specs.Glushkov.{is_nullable}
 use Rattle.legal_moves.specs.Tables.{inner_of, IsAdded}
 use Rattle.legal_moves.proofs.AlikeLemmas.{some_nullable, IsAdded-along, cat_all-push, alt_all-push, nullable_cat-push, some_nullable-push, take_map-more, or_none, or_assoc}
-use Rattle.legal_moves.proofs.TableLemmas.{IsAdded-empty, IsAdded-one, IsAdded-star, IsAdded-cat, IsAdded-alt, IsTable-made, AreTables-pushed, related_along, asked}
+use Rattle.legal_moves.proofs.TableLemmas.{IsAdded-empty, IsAdded-one, IsAdded-star, IsAdded-cat, IsAdded-alt, IsExpressionTable-made, AreTables-pushed, related_along, asked}
 use Rattle.legal_moves.proofs.compile.+tables.Goals as goal
 
 pub add_parts-loop-part-init : goal.add_parts-loop-part-init
@@ -68,7 +68,7 @@ add_table-returns t c =
     let added = c.in_ok-ends.ensures.added in
     let now = added.tables_are es tables in
     let related = related_along c.add_rules.new.draft.follows c.relate_all.new.self (0 ∷ []) c.in_ok-ends.ends.first.items (0 ∷ []) c.deref.result.now refl c.deref.ensures.value c.in_ok-relate_all.ensures in
-    let made = IsTable-made es e c.args.tables.now.items c.add_rules.new.tables.items (record { steps = c.new.result; follows = c.new-2.result }) c.add_rules.new.draft c.in_ok-ends.ends (record { steps = c.add_rules.new.draft.steps; follows = c.relate_all.new.self; ends = c.in_ok-ends.ends }) tables added c.in_ok-ends.ensures.nullable c.new.ensures.items c.new-2.ensures refl refl related in
+    let made = IsExpressionTable-made es e c.args.tables.now.items c.add_rules.new.tables.items (record { steps = c.new.result; follows = c.new-2.result }) c.add_rules.new.draft c.in_ok-ends.ends (record { steps = c.add_rules.new.draft.steps; follows = c.relate_all.new.self; ends = c.in_ok-ends.ends }) tables added c.in_ok-ends.ensures.nullable c.new.ensures.items c.new-2.ensures refl refl related in
     let count : c.len-index.result ≡ length c.add_rules.new.tables.items = omega arith in
     (count ∙ now.as_many, AreTables-pushed (es ++ inner_of e) e c.add_rules.new.tables.items c.push.new.self.items (record { steps = c.add_rules.new.draft.steps; follows = c.relate_all.new.self; ends = c.in_ok-ends.ends }) now made c.in_ok-push.ensures.items)
 

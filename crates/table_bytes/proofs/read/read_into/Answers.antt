@@ -1,5 +1,5 @@
 use Rattle.std.proofs.Common.{List, ℕ, subst, refl, rules}
-use Rattle.table_bytes.specs.Spelled.{Spells}
+use Rattle.table_bytes.specs.Spelled.{SpellsTable}
 use Rattle.table_bytes.proofs.Outcomes.{on_ok}
 use Rattle.table_bytes.proofs.TableLemmas.{split_table, whole_cells, whole_edges, edges_within, spells}
 use Rattle.table_bytes.proofs.read.read_into.Goals as goal
@@ -26,7 +26,7 @@ returns-clause-spelled g c =
     c.split_at.ensures.front_len c.split_at-2.ensures.front_len c.split_at-3.ensures.front_len in
     on_ok _ _ c.read_order.result
     (λ added.
-    subst (λ (front : List ℕ). Spells c.args.sizes.now c.args.bytes.now front (g.T.Table.stored c.read_order.new.table)) c.split_at.ensures.front
+    subst (λ (front : List ℕ). SpellsTable c.args.sizes.now c.args.bytes.now front (g.T.Table.stored c.read_order.new.table)) c.split_at.ensures.front
     (spells c.args.sizes.now c.args.bytes.now c.split_at.result.0.now c.split_at-2.result.0.now c.split_at-3.result.0.now c.split_at-3.result.1.now
     (g.T.Table.stored c.read_cells.new.table) (g.T.Table.stored c.read_edges.new.table) (g.T.Table.stored c.read_order.new.table)
     split c.in_ok-read_cells.ensures.cells c.in_ok-read_cells.ensures.known c.in_ok-read_edges.ensures.others c.in_ok-read_edges.ensures.edges added))

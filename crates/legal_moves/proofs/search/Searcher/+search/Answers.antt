@@ -3,7 +3,7 @@ use Rattle.rbg_game.specs.Positions.{IsStateOf}
 use Rattle.rbg_game.specs.Meaning.{game_of}
 use Rattle.legal_moves.specs.Effects.{EffectAt}
 use Rattle.legal_moves.specs.declared.fault.MoveFault.TheVariants as MoveFault
-use Rattle.legal_moves.specs.Configurations.{expression_at, AsksTooMuch, LeadsTo, IsExpanded, IsSearch}
+use Rattle.legal_moves.specs.Configurations.{expression_at, AsksTooMuch, OccurrenceLeads, IsFollowed, IsSearch}
 use Rattle.legal_moves.specs.Going.{began, IsGoing}
 use Rattle.std.specs.Option.{IfSome, IfNone}
 use Rattle.rbg_game.specs.declared.position.SemiState.{SemiState}
@@ -15,7 +15,7 @@ use Rattle.legal_moves.specs.Searches.{place_at, IsLegal}
 use Rattle.legal_moves.proofs.WidthLemmas.{narrow_by_search}
 use Rattle.legal_moves.proofs.HoldsLemmas.{legal_by_nullable, legal_by_any}
 use Rattle.legal_moves.proofs.GetLemmas.{slice_get-within}
-use Rattle.legal_moves.proofs.FoundLemmas.{same_at, IsExpanded-end, IsExpanded-all}
+use Rattle.legal_moves.proofs.FoundLemmas.{same_at, IsFollowed-end, IsFollowed-all}
 use Rattle.legal_moves.proofs.ExpandLemmas.{ends_at, place_first, place_last, marked_next, unmarked_not, past_not, number_from, number_upto, number_small, going_next, more_skipped, more_invalid, asked, turned, full}
 use Rattle.legal_moves.proofs.ReadyLemmas.{read_at, count_steps, switches_is, modifies_is, act_plain, act_valid, act_refused, act_narrow, ask_before, ask_lacks, ask_ready, ask_narrow, ask_wide, ask_valid, ask_refused, OnTrue-at, beq_true, beq_same}
 use Rattle.legal_moves.proofs.search.Searcher.+search.Goals as goal
@@ -62,7 +62,7 @@ expand-returns-then-before-clause-going t c =
     let b = c.index-before.result.now in
     let at_b = read_at cs at b c.requires.at c.index-before.ensures in
     let ends = sym (ends_at game e place S cs c.requires.going.found_are at b at_b) ∙ c.if-before.true in
-    going_next game e place S c.args.found.now at c.requires.going c.requires.at (λ n. IsExpanded-end game e place S cs at n b at_b ends)
+    going_next game e place S c.args.found.now at c.requires.going c.requires.at (λ n. IsFollowed-end game e place S cs at n b at_b ends)
 
 pub expand-index-requires : goal.expand-index-requires
 expand-index-requires t c =
@@ -186,13 +186,13 @@ expand-loop-number-preserved t c =
       | expand-then-follows+in_ok-after+in-Some+in_ok-add-in-Some w ↦
           let next = marked_next game tables index c.requires.ready T at_T row c.from.result p row_is (c.from.ensures ∙ from_is) number w.if-follows.true in
           let same = same_at now at w.index.result.now b (read_at now at w.index.result.now (slice_get-within now at b now_b) w.index.ensures) now_b in
-          let got = subst (λ o. IfSome o (λ x. LeadsTo game e number w.index.result.now.at.state x × (x.parent ≡ at))) w.in-Some.is w.in_ok-after.ensures.some in
-          let leads = subst (λ x. LeadsTo game e number x.at.state w.in-Some.configuration) same got.0 in
+          let got = subst (λ o. IfSome o (λ x. OccurrenceLeads game e number w.index.result.now.at.state x × (x.parent ≡ at))) w.in-Some.is w.in_ok-after.ensures.some in
+          let leads = subst (λ x. OccurrenceLeads game e number x.at.state w.in-Some.configuration) same got.0 in
           let narrow = subst (λ x. ¬ AsksTooMuch game e number x.at.state) same (w.in_ok-after.ensures.narrow refl) in
           let turn = turned game tables index c.requires.ready place S c.loop-number.found at number b c.loop-number.invariant.going c.loop-number.invariant.here now_b plain w.in-Some.configuration next leads got.1 w.add.new.self narrow w.in_ok-add-in-Some.ensures.grown w.in_ok-add-in-Some.ensures.seen in
           record {
             going = subst (λ F. IsGoing game e place S F at) (sym w.found-is) turn.goes;
-            here = subst (λ F. IsExpanded game e place F.configurations.items at (number + 1)) (sym w.found-is) turn.expands;
+            here = subst (λ F. IsFollowed game e place F.configurations.items at (number + 1)) (sym w.found-is) turn.expands;
             before = subst (λ F. slice_get F.configurations.items at ≡ slice_get cs at) (sym w.found-is) (turn.b_at ∙ sym at_b);
           }
       | expand-then-follows+in_ok-after+in-None w ↦
@@ -201,14 +201,14 @@ expand-loop-number-preserved t c =
           let more = more_invalid game tables index c.requires.ready place S c.loop-number.found at number b c.loop-number.invariant.going c.loop-number.invariant.here now_b plain (subst (λ x. (U : SemiState) → ¬ EffectAt game e 1 number x.at.state U) same none) (subst (λ x. ¬ AsksTooMuch game e number x.at.state) same (w.in_ok-after.ensures.narrow refl)) in
           record {
             going = subst (λ F. IsGoing game e place S F at) (sym w.found-is) c.loop-number.invariant.going;
-            here = subst (λ F. IsExpanded game e place F.configurations.items at (number + 1)) (sym w.found-is) more;
+            here = subst (λ F. IsFollowed game e place F.configurations.items at (number + 1)) (sym w.found-is) more;
             before = subst (λ F. slice_get F.configurations.items at ≡ slice_get cs at) (sym w.found-is) c.loop-number.invariant.before;
           }
       | expand-else-follows w ↦
           let more = more_skipped game tables index c.requires.ready place S c.loop-number.found at number b c.loop-number.invariant.going c.loop-number.invariant.here now_b plain (unmarked_not game tables index c.requires.ready T at_T row c.from.result p row_is (c.from.ensures ∙ from_is) number w.if-follows.false) in
           record {
             going = subst (λ F. IsGoing game e place S F at) (sym w.found-is) c.loop-number.invariant.going;
-            here = subst (λ F. IsExpanded game e place F.configurations.items at (number + 1)) (sym w.found-is) more;
+            here = subst (λ F. IsFollowed game e place F.configurations.items at (number + 1)) (sym w.found-is) more;
             before = subst (λ F. slice_get F.configurations.items at ≡ slice_get cs at) (sym w.found-is) c.loop-number.invariant.before;
           }
     ]
@@ -234,7 +234,7 @@ expand-returns-clause-going t c =
     let p = place_at place b.at.place in
     let row_is = subst (λ x. row ≡ row_of x.follows c.from.result) (sym c.index-self-index.is) c.row-follows-items.ensures in
     let from_is : c.if-last-eq0.from ≡ p = elim c.if-last-eq0.branch [ expand-then-last-eq0 w ↦ w.from-is ∙ place_first place b.at.place w.if-last-eq0.true | expand-else-last-eq0 w ↦ w.from-is ∙ place_last place b.at.place w.if-last-eq0.false ] in
-    let all = λ (n : ℕ). IsExpanded-all game e place S now at c.loop-number.number n b now_b c.loop-number.invariant.here (λ k past. past_not game tables index c.requires.ready T at_T row c.from.result p row_is (c.from.ensures ∙ from_is) k (omega arith)) in
+    let all = λ (n : ℕ). IsFollowed-all game e place S now at c.loop-number.number n b now_b c.loop-number.invariant.here (λ k past. past_not game tables index c.requires.ready T at_T row c.from.result p row_is (c.from.ensures ∙ from_is) k (omega arith)) in
     going_next game e place S c.loop-number.found at c.loop-number.invariant.going (slice_get-within now at b now_b) all
 
 pub holds-returns-clause-answer : goal.holds-returns-clause-answer
@@ -400,8 +400,8 @@ expand-returns-in_err-add-in-Some-clause-wide t c =
     let from_is : c.if-last-eq0.from ≡ p = elim c.if-last-eq0.branch [ expand-then-last-eq0 w ↦ w.from-is ∙ place_first place b.at.place w.if-last-eq0.true | expand-else-last-eq0 w ↦ w.from-is ∙ place_last place b.at.place w.if-last-eq0.false ] in
     let next = marked_next game tables index c.requires.ready T at_T row c.from.result p row_is (c.from.ensures ∙ from_is) c.loop-number.number c.if-follows.true in
     let same = same_at now at c.index.result.now b (read_at now at c.index.result.now (slice_get-within now at b now_b) c.index.ensures) now_b in
-    let got = subst (λ o. IfSome o (λ x. LeadsTo game e c.loop-number.number c.index.result.now.at.state x × (x.parent ≡ at))) c.in-Some.is c.in_ok-after.ensures.some in
-    let leads = subst (λ x. LeadsTo game e c.loop-number.number x.at.state c.in-Some.configuration) same got.0 in
+    let got = subst (λ o. IfSome o (λ x. OccurrenceLeads game e c.loop-number.number c.index.result.now.at.state x × (x.parent ≡ at))) c.in-Some.is c.in_ok-after.ensures.some in
+    let leads = subst (λ x. OccurrenceLeads game e c.loop-number.number x.at.state c.in-Some.configuration) same got.0 in
     λ wide. let err = err_from_is_err_and c.from_residual-in_err-add-in-Some.result c.from_residual-in_err-add-in-Some.ensures.1 in
     let fault : c.in_err-add-in-Some.field-0.0 ≡ MoveFault.TooWide = cc in
     let too_many = c.in_err-add-in-Some.ensures.wide (ap Err fault) in

@@ -1,6 +1,6 @@
 use Rattle.std.proofs.Common.{◌≡◌, ◌+◌, ◌-◌, ◌*◌, slice_get}
 use Rattle.rbg_game.specs.Meaning.{game_of}
-use Rattle.legal_moves.specs.Configurations.{expression_at, IsExpanded}
+use Rattle.legal_moves.specs.Configurations.{expression_at, IsFollowed}
 use Rattle.legal_moves.specs.Going.{began, IsGoing}
 use Rattle.legal_moves.proofs.search.Searcher.+search.Given as goal
 
@@ -22,7 +22,7 @@ decreases-passes l = 5 * l.index + 1
 abbrev pub invariant-expand-loop-number : goal.invariant-expand-loop-number
 invariant-expand-loop-number l = record {
   going : IsGoing (game_of l.self.game.now) (expression_at (game_of l.self.game.now) l.index) l.place (began l.initial.found.configurations.items) l.found l.at;
-  here : IsExpanded (game_of l.self.game.now) (expression_at (game_of l.self.game.now) l.index) l.place l.found.configurations.items l.at l.number;
+  here : IsFollowed (game_of l.self.game.now) (expression_at (game_of l.self.game.now) l.index) l.place l.found.configurations.items l.at l.number;
   before : slice_get l.found.configurations.items l.at ≡ slice_get l.initial.found.configurations.items l.at;
 }
 

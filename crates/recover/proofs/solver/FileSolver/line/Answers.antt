@@ -2,7 +2,7 @@ use Rattle.std.proofs.Common.{◌≡◌, sym, ◌∙◌, ap, subst, Option, Err,
 use Rattle.legal_moves.specs.declared.compiled.Compiled.{Compiled}
 use Rattle.recover.specs.State.{IsSourceOf}
 use Rattle.retrograde.specs.Stored.{view_of}
-use Rattle.best_line.specs.Causes.{IsCause}
+use Rattle.best_line.specs.Causes.{IsLineCause}
 use Rattle.best_line.specs.declared.fault.LineFault.{LineFault}
 use Rattle.recover.proofs.Asking.{unsettled, never, line_found, line_cause}
 use Rattle.recover.proofs.Passing.{passed_on}
@@ -24,10 +24,10 @@ returns-in_err-line-clause-cause g c = λ ready.
     (λ honest sound.
     let stored = g.met.F.GameFile.whole_stored file k ready.0 honest is in
     let cause = never k _ stored.1 stored.2 _ (g.met.F.Table.counts_are file stored.0) c.in-Some.source is_read
-    (IsCause (view_of (g.F.Table.stored file)) c.args.number c.in_err-line.field-0.0) (rw is at sound)
+    (IsLineCause (view_of (g.F.Table.stored file)) c.args.number c.in_err-line.field-0.0) (rw is at sound)
     (λ here. rw c.moves.ensures.is at c.in_err-line.ensures.cause stored.0 here) in (
-      (λ i. subst (λ (f : LineFault). IsCause (view_of (g.F.Table.stored file)) c.args.number f) i cause),
-      (λ i. subst (λ (f : LineFault). IsCause (view_of (g.F.Table.stored file)) c.args.number f) i cause),
+      (λ i. subst (λ (f : LineFault). IsLineCause (view_of (g.F.Table.stored file)) c.args.number f) i cause),
+      (λ i. subst (λ (f : LineFault). IsLineCause (view_of (g.F.Table.stored file)) c.args.number f) i cause),
     ))
     c.in_err-line.ensures.room c.in_err-line.ensures.fault (λ f fails. g.met.F.GameFile.fails_for file c.line.new.table f ready.0 fails))
 

@@ -1,0 +1,35 @@
+//! What is said to people of a refusal: what is wrong, and what to do.
+
+use recover::SolverFault;
+use std::io::Write;
+
+/// What to do after a refusal.
+pub fn advice(fault: SolverFault) -> &'static str {
+    match fault {
+        SolverFault::Disk => "see that the file can be read and written, and start again",
+        SolverFault::NotATable => "`rbgsolve create` makes one",
+        SolverFault::AlreadyATable => "it stays as it is, so give the name of another file",
+        SolverFault::Damaged => "go back to a copy of the file, or begin with a new one",
+        SolverFault::TooSmall => "give `--pages` 16 or more",
+        SolverFault::TableFull =>
+            "the table stays as it was, so work on it in a file with more pages",
+        SolverFault::OutOfMemory => "the table stays as it was, so try again with more memory free",
+        SolverFault::Closed => "start a session again",
+        SolverFault::Game(_) => "mend the text, and load it again",
+        SolverFault::NoGame => "`rbgsolve load` loads one",
+        SolverFault::GameAlready => "it stays, so load another game into a new table",
+        SolverFault::KeeperChooses(_) => "write rules by which the keeper has one move at most",
+        SolverFault::TooWide => "write rules with fewer ways through them",
+        SolverFault::TooManyPositions => "write a smaller game",
+        SolverFault::Inconsistent => "it is not of this program's making, so begin with a new one",
+        SolverFault::NoSuchPosition => "`status` says how many are known, and `work` may find more",
+        SolverFault::NotSettled => "`value` says whether it is drawn, or still open",
+        SolverFault::BadPosition => "write it as `show` does",
+    }
+}
+
+/// Says in a sentence what is wrong and what to do, whether or not it arrives.
+pub fn tell_fault<E: Write>(told: &mut E, fault: SolverFault) {
+    let advice = advice(fault);
+    let _told = writeln!(told, "{fault}: {advice}");
+}

@@ -1,0 +1,365 @@
+//! Why a text is no game, for people: where the fault is, and what was met there.
+
+use crate::mentions::{Kind, Mention, Placed, Walk, Within, is_sign, mentions, scan};
+use rbg_read::fault::GameFault;
+use rbg_text::read::tokens_read;
+use rbg_text::token::{Sign, Token};
+use std::alloc::{AllocError, Global};
+
+/// A fault of a text: the byte that it is at, and a line for people.
+#[derive(Debug, Drop)]
+pub struct Explanation {
+    pub at: usize,
+    pub message: String,
+}
+
+/// A line and a column, each from 1; a column is a byte of its line.
+#[derive(Clone, Copy, Debug, PartialEq, Eq)]
+pub struct LineColumn {
+    pub line: usize,
+    pub column: usize,
+}
+
+const MAX_BYTES: usize = 65_536;
+
+const MAX_NESTING: usize = 64;
+
+/// The line and the column of a byte.
+pub fn line_column(text: &[u8], at: usize) -> LineColumn {
+    let mut line = 1usize;
+    let mut column = 1usize;
+    for byte in text.iter().take(at) {
+        if *byte == b'\n' {
+            line = line.saturating_add(1);
+            column = 1;
+        } else {
+            column = column.saturating_add(1);
+        }
+    }
+    LineColumn { line, column }
+}
+
+/// What is wrong with a text that was refused with this fault.
+pub fn explain(alloc: Global, text: &[u8], fault: GameFault) -> Result<Explanation, AllocError> {
+    if fault == GameFault::OutOfMemory {
+        return said(alloc, 0, "memory ran out");
+    }
+    if text.len() > MAX_BYTES {
+        return said(alloc, MAX_BYTES, "the text is longer than 65,536 bytes");
+    }
+    let scanned = scan(alloc, text)?;
+    if let Some(at) = scanned.stray {
+        return stray_byte(alloc, text, at);
+    }
+    let tokens = scanned.tokens.as_slice();
+    match fault {
+        GameFault::Syntax => unfit_token(alloc, text, tokens),
+        GameFault::Section => wrong_section(alloc, text, tokens),
+        GameFault::NotTwoPlayers => wrong_players(alloc, tokens),
+        GameFault::UnknownName => unknown_name(alloc, tokens),
+        GameFault::RepeatedName => repeated_name(alloc, tokens),
+        GameFault::BoundTooLarge => large_number(alloc, tokens),
+        GameFault::TooLarge => too_large(alloc, tokens),
+        GameFault::ExpressionTooLarge => large_expression(alloc, tokens),
+        GameFault::SwitchInPattern => switch_in_pattern(alloc, tokens),
+        GameFault::OutOfMemory => said(alloc, 0, "memory ran out"),
+    }
+}
+
+fn said(alloc: Global, at: usize, message: &str) -> Result<Explanation, AllocError> {
+    Ok(Explanation {
+        at,
+        message: String::from_str(alloc, message)?,
+    })
+}
+
+/// The bytes of a name or a number, which are ASCII.
+fn word_text(alloc: Global, word: &[u8]) -> Result<String, AllocError> {
+    let mut text = String::new(alloc);
+    for byte in word {
+        text.push(char::from(*byte))?;
+    }
+    Ok(text)
+}
+
+fn stray_byte(alloc: Global, text: &[u8], at: usize) -> Result<Explanation, AllocError> {
+    let byte = text.get(at).copied().unwrap_or(0);
+    let message = if byte.is_ascii_graphic() {
+        let shown = char::from(byte);
+        format!(in alloc; "nothing in a game text begins with `{shown}`")?
+    } else {
+        format!(in alloc; "nothing in a game text begins with the byte {byte}")?
+    };
+    Ok(Explanation { at, message })
+}
+
+fn unfit_token(
+    alloc: Global,
+    text: &[u8],
+    placed: &[Placed<'_>],
+) -> Result<Explanation, AllocError> {
+    let tokens: Vec<Token<'_>> = placed.iter().map(|p| p.token).collect(alloc)?;
+    let read = tokens_read(alloc, tokens.as_slice());
+    if let Some(unknown) = unknown_section(alloc, placed, read)? {
+        return Ok(unknown);
+    }
+    let Some(next) = placed.get(read) else {
+        return said(alloc, text.len(), "the text ends too early");
+    };
+    let message = match next.token {
+        Token::Name(word) => {
+            let word = word_text(alloc, word)?;
+            format!(in alloc; "`{word}` does not fit here")?
+        }
+        Token::Number(word) => {
+            let word = word_text(alloc, word)?;
+            format!(in alloc; "the number {word} does not fit here")?
+        }
+        Token::Sign(_) => {
+            let sign = sign_text(text, next.at);
+            format!(in alloc; "`{sign}` does not fit here")?
+        }
+    };
+    Ok(Explanation {
+        at: next.at,
+        message,
+    })
+}
+
+/// The first word behind a `#` that names no section, up to the place that was read.
+fn unknown_section(
+    alloc: Global,
+    placed: &[Placed<'_>],
+    read: usize,
+) -> Result<Option<Explanation>, AllocError> {
+    for place in 1..placed.len() {
+        if place > read {
+            break;
+        }
+        let Token::Name(word) = placed[place].token else {
+            continue;
+        };
+        let is_known = TITLES.iter().any(|title| title.as_bytes() == word);
+        if !is_known && is_sign(placed, place - 1, Sign::Hash) {
+            let word = word_text(alloc, word)?;
+            let message = format!(in alloc; "no section is called `{word}`")?;
+            let at = placed[place].at;
+            return Ok(Some(Explanation { at, message }));
+        }
+    }
+    Ok(None)
+}
+
+fn sign_text(text: &[u8], at: usize) -> char {
+    char::from(text.get(at).copied().unwrap_or(b'?'))
+}
+
+const TITLES: [&str; 5] = ["players", "pieces", "variables", "board", "rules"];
+
+fn wrong_section(
+    alloc: Global,
+    text: &[u8],
+    tokens: &[Placed<'_>],
+) -> Result<Explanation, AllocError> {
+    for title in TITLES {
+        let mut count = 0usize;
+        for place in 1..tokens.len() {
+            if !is_title(tokens, place, title) {
+                continue;
+            }
+            count = count.saturating_add(1);
+            if count > 1 {
+                let at = tokens[place - 1].at;
+                let message = format!(in alloc; "the section #{title} stands twice")?;
+                return Ok(Explanation { at, message });
+            }
+        }
+        if count == 0 && title != "variables" {
+            let at = text.len();
+            let message = format!(in alloc; "the section #{title} is missing")?;
+            return Ok(Explanation { at, message });
+        }
+    }
+    said(alloc, 0, "a section is missing or stands twice")
+}
+
+fn is_title(tokens: &[Placed<'_>], place: usize, title: &str) -> bool {
+    let behind_hash = place > 0 && is_sign(tokens, place - 1, Sign::Hash);
+    match tokens.get(place) {
+        Some(placed) => {
+            behind_hash && matches!(placed.token, Token::Name(word) if word == title.as_bytes())
+        }
+        None => false,
+    }
+}
+
+fn wrong_players(alloc: Global, tokens: &[Placed<'_>]) -> Result<Explanation, AllocError> {
+    let mut walk = Walk::new(alloc);
+    let mut count = 0usize;
+    let mut at = 0;
+    for place in 0..tokens.len() {
+        if let Some(mention) = walk.step(tokens, place)?
+            && walk.section() == Within::Players
+        {
+            count = count.saturating_add(1);
+            if count <= 3 {
+                at = mention.at;
+            }
+        }
+    }
+    let message = format!(in alloc; "the number of players is {count}, and has to be 2")?;
+    Ok(Explanation { at, message })
+}
+
+fn kind_text(kind: Kind) -> &'static str {
+    match kind {
+        Kind::Player => "player",
+        Kind::Variable => "variable",
+        Kind::Piece => "piece",
+        Kind::Vertex => "vertex",
+        Kind::Label => "label",
+    }
+}
+
+/// Whether the declared name serves where a name of the kind is used.
+fn serves(declared: &Mention<'_>, used: &Mention<'_>) -> bool {
+    let score = used.kind == Kind::Variable && declared.kind == Kind::Player;
+    declared.declared && (score || declared.kind == used.kind) && declared.word == used.word
+}
+
+fn unknown_name(alloc: Global, tokens: &[Placed<'_>]) -> Result<Explanation, AllocError> {
+    let all = mentions(alloc, tokens)?;
+    for used in &all {
+        if !used.declared && !all.iter().any(|declared| serves(declared, used)) {
+            let kind = kind_text(used.kind);
+            let word = word_text(alloc, used.word)?;
+            let message = format!(in alloc; "no {kind} is called `{word}`")?;
+            return Ok(Explanation {
+                at: used.at,
+                message,
+            });
+        }
+    }
+    said(alloc, 0, "a name is used that is not declared as such")
+}
+
+/// Whether both declare the same name, where it may be declared once.
+fn repeats(first: &Mention<'_>, second: &Mention<'_>) -> bool {
+    let same_kind = match (first.kind, second.kind) {
+        (Kind::Player | Kind::Variable, Kind::Player | Kind::Variable) => true,
+        (Kind::Label, Kind::Label) => first.vertex == second.vertex,
+        (one, other) => one == other,
+    };
+    first.declared && same_kind && first.word == second.word
+}
+
+fn repeated_name(alloc: Global, tokens: &[Placed<'_>]) -> Result<Explanation, AllocError> {
+    let all = mentions(alloc, tokens)?;
+    for (index, second) in all.iter().enumerate() {
+        let repeated = all.iter().take(index).any(|first| repeats(first, second));
+        if second.declared && repeated {
+            let kind = kind_text(second.kind);
+            let word = word_text(alloc, second.word)?;
+            let message = format!(in alloc; "the {kind} `{word}` is declared twice")?;
+            return Ok(Explanation {
+                at: second.at,
+                message,
+            });
+        }
+    }
+    said(alloc, 0, "a name is declared twice")
+}
+
+/// Whether the number that the digits write is over 1,000,000.
+fn is_over(digits: &[u8]) -> bool {
+    let mut number = 0u32;
+    for digit in digits {
+        let next = number * 10 + u32::from(digit.saturating_sub(b'0').min(9));
+        number = u32::min(next, 1_000_001);
+    }
+    number > 1_000_000
+}
+
+fn large_number(alloc: Global, tokens: &[Placed<'_>]) -> Result<Explanation, AllocError> {
+    for placed in tokens {
+        if let Token::Number(digits) = placed.token
+            && is_over(digits)
+        {
+            return said(alloc, placed.at, "this number is over 1,000,000");
+        }
+    }
+    said(alloc, 0, "a number is over 1,000,000")
+}
+
+fn too_large(alloc: Global, tokens: &[Placed<'_>]) -> Result<Explanation, AllocError> {
+    let mut depth = 0usize;
+    for placed in tokens {
+        if let Token::Sign(sign) = placed.token {
+            match sign {
+                Sign::OpenParen | Sign::OpenBracket | Sign::OpenBrace => {
+                    depth = depth.saturating_add(1);
+                }
+                Sign::CloseParen | Sign::CloseBracket | Sign::CloseBrace => {
+                    depth = depth.saturating_sub(1);
+                }
+                _ => {}
+            }
+            if depth > MAX_NESTING {
+                return said(alloc, placed.at, "brackets nest deeper than 64");
+            }
+        }
+    }
+    too_many(alloc, tokens)
+}
+
+fn too_many(alloc: Global, tokens: &[Placed<'_>]) -> Result<Explanation, AllocError> {
+    let all = mentions(alloc, tokens)?;
+    let limits = [(Kind::Vertex, 128, "vertices"), (Kind::Piece, 64, "pieces")];
+    for (kind, limit, plural) in limits {
+        let mut declared = all.iter().filter(|m| m.declared && m.kind == kind);
+        if let Some(first_over) = declared.nth(limit) {
+            let message = format!(in alloc; "there are more than {limit} {plural}")?;
+            return Ok(Explanation {
+                at: first_over.at,
+                message,
+            });
+        }
+    }
+    let mut variables = all
+        .iter()
+        .filter(|m| m.declared && m.kind == Kind::Variable);
+    match variables.nth(32) {
+        Some(first_over) => said(alloc, first_over.at, "there are more than 32 variables"),
+        None => said(
+            alloc,
+            0,
+            "there are more than 64 labels or more than 4,096 actions",
+        ),
+    }
+}
+
+fn large_expression(alloc: Global, tokens: &[Placed<'_>]) -> Result<Explanation, AllocError> {
+    for place in 1..tokens.len() {
+        if is_title(tokens, place, "rules") {
+            return said(
+                alloc,
+                tokens[place - 1].at,
+                "an expression in the rules can grow past 2^62",
+            );
+        }
+    }
+    said(alloc, 0, "an expression can grow past 2^62")
+}
+
+fn switch_in_pattern(alloc: Global, tokens: &[Placed<'_>]) -> Result<Explanation, AllocError> {
+    let mut walk = Walk::new(alloc);
+    for place in 0..tokens.len() {
+        let _mention = walk.step(tokens, place)?;
+        let is_switch = is_sign(tokens, place, Sign::Arrow)
+            || is_sign(tokens, place, Sign::DoubleArrow);
+        if is_switch && walk.in_pattern() {
+            return said(alloc, tokens[place].at, "a pattern may not have a switch");
+        }
+    }
+    said(alloc, 0, "a pattern has a switch in it")
+}

@@ -1,0 +1,132 @@
+//! What the command line says is done here: the words are read, and each command is handed on.
+
+use crate::explain::{Explanation, LineColumn, explain, line_column};
+use crate::files::{create_file, load_file, session_of_file};
+use crate::moves::moves_to;
+use crate::refused::Refused;
+use crate::streams::Streams;
+use crate::words::{Refusal, Words, words_of};
+use rbg_read::fault::GameFault;
+use rbg_read::read::read_game;
+use std::alloc::Global;
+use std::fmt::Display;
+use std::fs;
+use std::io::{self, BufWriter, Read};
+
+/// As many bytes as are read of a game text: one more than the limit, so that a longer text is seen
+/// to be too long.
+const READ_LIMIT: u64 = 65_537;
+
+/// Does what the command line says, and gives the exit status. Nothing that it opens gets the descriptor of a standard stream, also where
+/// the program was started with one of them closed.
+pub fn run(rt: &HostRuntime) -> u8 {
+    let Ok(streams) = Streams::hold(rt) else {
+        return status_of_refused(rt, Refused::Disk);
+    };
+    let status = run_words(rt);
+    streams.let_go();
+    status
+}
+
+fn run_words(rt: &HostRuntime) -> u8 {
+    let alloc = rt.alloc();
+    let words = match given_words(rt, alloc) {
+        Ok(words) => words,
+        Err(error) if error.kind() == io::ErrorKind::OutOfMemory => {
+            return status_of_refused(rt, Refused::OutOfMemory);
+        }
+        Err(_) => {
+            tell(
+                rt,
+                "a word of the command line is not UTF-8: give files names that are",
+            );
+            return 2;
+        }
+    };
+    match words_of(alloc, &words) {
+        Ok(Words::Moves { game }) => moves_of_file(rt, alloc, &game),
+        Ok(Words::Create { file, pages }) => create_file(rt, alloc, &file, pages),
+        Ok(Words::Load { file, game }) => load_file(rt, alloc, &file, &game),
+        Ok(Words::Session { file }) => session_of_file(rt, alloc, &file),
+        Err(refusal) => show(rt, &refusal),
+    }
+}
+
+/// Shows help, or why the words are no command, and gives the exit status.
+fn show(rt: &HostRuntime, refusal: &Refusal) -> u8 {
+    let shown = if refusal.status == 0 {
+        rt.print(&refusal.text)
+    } else {
+        rt.eprint(&refusal.text)
+    };
+    match shown {
+        Ok(()) => refusal.status,
+        Err(_) => 4,
+    }
+}
+
+fn given_words(rt: &HostRuntime, alloc: Global) -> io::Result<Vec<String>> {
+    let words = std::env::args(rt)?.collect(alloc)?;
+    Ok(words)
+}
+
+/// Says `refused` with the code on standard output.
+pub fn status_of_refused(rt: &HostRuntime, refused: Refused) -> u8 {
+    let code = refused.code();
+    match println!(rt; "refused {code}") {
+        Ok(()) => refused.status(),
+        Err(_) => 4,
+    }
+}
+
+fn moves_of_file(rt: &HostRuntime, alloc: Global, game: &str) -> u8 {
+    let mut text = Vec::new(alloc);
+    if let Err(error) = read_start(rt, game, &mut text) {
+        if error.kind() == io::ErrorKind::OutOfMemory {
+            return status_of_refused(rt, Refused::OutOfMemory);
+        }
+        let status = status_of_refused(rt, Refused::Disk);
+        tell(rt, format_args!("{game}: the file cannot be read"));
+        return status;
+    }
+    let Ok(mut out) = BufWriter::new(alloc, io::writer(rt)) else {
+        return status_of_refused(rt, Refused::OutOfMemory);
+    };
+    let status = moves_to(alloc, &text, &mut out);
+    if status == 1 {
+        tell_why(rt, alloc, game, &text);
+    }
+    status
+}
+
+/// Says on standard error why the text was refused.
+fn tell_why(rt: &HostRuntime, alloc: Global, game: &str, text: &[u8]) {
+    let Err(fault) = read_game(alloc, text) else {
+        return tell(
+            rt,
+            format_args!(
+                "{game}: the search from the start reaches more than 65,536 configurations"
+            ),
+        );
+    };
+    tell_game_fault(rt, alloc, game, text, fault);
+}
+
+/// Says on standard error why the text is no game.
+pub fn tell_game_fault(rt: &HostRuntime, alloc: Global, game: &str, text: &[u8], fault: GameFault) {
+    if let Ok(Explanation { at, message }) = explain(alloc, text, fault) {
+        let LineColumn { line, column } = line_column(text, at);
+        tell(rt, format_args!("{game}:{line}:{column}: {message}"));
+    }
+}
+
+/// A line on standard error, whether or not it arrives there.
+pub fn tell<D: Display + Drop>(rt: &HostRuntime, line: D) {
+    let _told = rt.eprintln(line);
+}
+
+pub fn read_start(rt: &HostRuntime, name: &str, text: &mut Vec<u8>) -> io::Result<()> {
+    let file = fs::File::open(rt, name)?;
+    file.take(READ_LIMIT).read_to_end(text)?;
+    Ok(())
+}

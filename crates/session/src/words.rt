@@ -1,0 +1,235 @@
+//! The command line.
+ghost use Rattle.std.specs.Prelude.{IfErr};
+ghost use Rattle.session.specs.Statuses.{IsStatusOfWords};
+
+use clap::{Arg, ArgAction, ArgMatches, Command, Error, value_parser};
+use std::alloc::{AllocError, Global};
+
+/// What the words of a command line ask for.
+#[derive(Debug, PartialEq, Eq, Drop)]
+pub enum Words {
+    /// The moves of the start of the game in this file.
+    Moves { game: String },
+    /// A new table of so many pages in this file.
+    Create { file: String, pages: u32 },
+    /// Loads the game of a text into the table of a file.
+    Load { file: String, game: String },
+    /// A session over the table of this file.
+    Session { file: String },
+}
+
+/// Why there is nothing to do: help was asked for, or the words are no command.
+#[derive(Debug, PartialEq, Eq, Drop)]
+pub struct Refusal {
+    /// 0 for help and the version, 2 for words that are no command, 5 for want of memory.
+    pub status: u8,
+    /// What is printed: help and the version on standard output, else on standard error.
+    pub text: String,
+}
+
+const VERSION: &str = "0.1.0";
+
+const ABOUT: &str = "Solves small two-player board games exactly";
+
+const LONG_ABOUT: &str = concat!(
+    "Solves small two-player board games exactly.\n",
+    "\n",
+    "A game is a text in a profile of the low-level language of Regular Boardgames.",
+);
+
+const AFTER_HELP: &str = concat!(
+    "Examples:\n",
+    "  rbgsolve moves games/take.rbg\n",
+    "    prints  1@v 2@v => white 2 v e 0,0,3\n",
+    "  rbgsolve create take.table --pages 16\n",
+    "  rbgsolve load take.table games/take.rbg\n",
+    "  echo work 256 | rbgsolve session take.table\n",
+    "    prints  units 14 known 7 expanded 7 settled 7 processed 7 finished\n",
+    "  echo value 0 | rbgsolve session take.table\n",
+    "    prints  black in 3\n",
+    "\n",
+    "A command that cannot be done is answered by `refused` and a code; README.md lists the codes.",
+);
+
+const CREATE_ABOUT: &str = "Makes an empty table in a file";
+
+const CREATE_LONG_ABOUT: &str = concat!(
+    "Makes an empty table in a file, and prints `created`.\n",
+    "\n",
+    "FILE gets the length of N pages. Of what was in it, the first 2,048 bytes are written over at once, the ",
+    "others only as the table grows, and all behind the new length is lost. A file that begins as each table does ",
+    "is not touched: that is answered by `refused E3`.",
+);
+
+const LOAD_ABOUT: &str = "Loads a game into an empty table";
+
+const LOAD_LONG_ABOUT: &str = concat!(
+    "Loads the game of a text into an empty table, and prints `loaded`.\n",
+    "\n",
+    "The table then knows the start of the game. `session` solves it.",
+);
+
+const SESSION_ABOUT: &str = "Works on a table and asks it, by commands on standard input";
+
+const SESSION_LONG_ABOUT: &str = concat!(
+    "Works on a table and asks it, by commands, one a line, on standard input, with the reply to each on standard ",
+    "output. When a reply is there, what it says is on the disk. What a refusal means is said on standard error.\n",
+    "\n",
+    "Positions are numbered from 0, the start, in the order in which they came to be known. A unit of work looks ",
+    "at one position: finds where its moves lead, or, once that is done for all, tells its predecessors who wins ",
+    "it. A table is finished when nothing is left to do. A table that may be read and not written can be asked.",
+);
+
+/// The lines that a session takes, as its help shows them.
+pub const SESSION_LINES: &str = concat!(
+    "Lines:\n",
+    "  work U     does U units of work, 1 to 256, or fewer where the table is finished then\n",
+    "  status     says how far the table is\n",
+    "  value N    who wins position N and in how many moves, or `drawn`, or `open`\n",
+    "  line N     the numbers of the positions along a shortest win from N\n",
+    "  list A B   the values of B positions, 1 to 256, from A on, one a line\n",
+    "  show N     the text of position N\n",
+    "  find TEXT  the number of the position with this text\n",
+    "  help       shows these lines on standard error\n",
+    "  quit       ends the session, as the end of the input does\n",
+    "\n",
+    "Any other line is answered by `usage`, and so is `help`.",
+);
+
+const MOVES_ABOUT: &str = "Prints the legal moves of a game's start";
+
+const MOVES_LONG_ABOUT: &str = concat!(
+    "Prints the legal moves of a game's start, one a line: MOVE => POSITION.\n",
+    "\n",
+    "MOVE lists what the move does, each as the number of the action and, behind @, the vertex where it is done. ",
+    "POSITION is who has the turn, the place in the rules, the current vertex, the pieces by vertices, and the two ",
+    "scores and the variables. A start without a legal move is answered by `ended`.",
+);
+
+/// The command that the words ask for; the first word is the program's name.
+pub fn words_of(alloc: Global, words: &[String]) -> Result<Words, Refusal>
+    ensures { IfErr result (λ refusal. IsStatusOfWords refusal.status) }
+{
+    match parsed(alloc, words) {
+        Ok(words) => Ok(words),
+        Err(error) => Err(refusal_of(alloc, error)),
+    }
+}
+
+fn parsed<'a>(alloc: Global, words: &'a [String]) -> Result<Words, Error> {
+    let command: Command<'a> = command(alloc)?;
+    let matches = command.try_get_matches_from(words)?;
+    let asked = match matches.subcommand() {
+        Some((name, inner)) => asked_for(alloc, name, inner)?,
+        None => asked_for(alloc, "", &matches)?,
+    };
+    Ok(asked)
+}
+
+/// What the command of this name asks for, with the words behind it.
+fn asked_for(alloc: Global, name: &str, inner: &ArgMatches<'_>) -> Result<Words, AllocError> {
+    match name {
+        "create" => Ok(Words::Create {
+            file: given(alloc, inner, "FILE")?,
+            pages: inner.get_one("pages").unwrap_or(0),
+        }),
+        "load" => Ok(Words::Load {
+            file: given(alloc, inner, "FILE")?,
+            game: given(alloc, inner, "GAME")?,
+        }),
+        "session" => Ok(Words::Session {
+            file: given(alloc, inner, "FILE")?,
+        }),
+        _ => Ok(Words::Moves {
+            game: given(alloc, inner, "GAME")?,
+        }),
+    }
+}
+
+/// The word that was given for this argument.
+fn given(alloc: Global, matches: &ArgMatches<'_>, id: &str) -> Result<String, AllocError> {
+    String::from_str(alloc, matches.get_str(id).unwrap_or(""))
+}
+
+fn command<'a>(alloc: Global) -> Result<Command<'a>, AllocError> {
+    Command::new(alloc, "rbgsolve")
+        .version(VERSION)
+        .about(ABOUT)
+        .long_about(LONG_ABOUT)
+        .after_help(AFTER_HELP)
+        .subcommand_required(true)
+        .arg_required_else_help(true)
+        .subcommand(create_command(alloc)?)?
+        .subcommand(load_command(alloc)?)?
+        .subcommand(session_command(alloc)?)?
+        .subcommand(moves_command(alloc)?)
+}
+
+fn file_word<'a>(alloc: Global) -> Arg<'a> {
+    Arg::new(alloc, "FILE")
+        .help("The file with the table")
+        .required(true)
+        .action(ArgAction::Set)
+}
+
+fn game_word<'a>(alloc: Global) -> Arg<'a> {
+    Arg::new(alloc, "GAME")
+        .help("The file with the game text")
+        .required(true)
+        .action(ArgAction::Set)
+}
+
+fn create_command<'a>(alloc: Global) -> Result<Command<'a>, AllocError> {
+    let pages = Arg::new(alloc, "pages")
+        .long("pages")
+        .value_name("N")
+        .help("How many pages of 4,096 bytes the table has: 16 to 1,048,576")
+        .required(true)
+        .value_parser(value_parser!(u32).range(1..=1_048_576))
+        .action(ArgAction::Set);
+    Command::new(alloc, "create")
+        .about(CREATE_ABOUT)
+        .long_about(CREATE_LONG_ABOUT)
+        .arg(file_word(alloc))?
+        .arg(pages)
+}
+
+fn load_command<'a>(alloc: Global) -> Result<Command<'a>, AllocError> {
+    Command::new(alloc, "load")
+        .about(LOAD_ABOUT)
+        .long_about(LOAD_LONG_ABOUT)
+        .arg(file_word(alloc))?
+        .arg(game_word(alloc))
+}
+
+fn session_command<'a>(alloc: Global) -> Result<Command<'a>, AllocError> {
+    Command::new(alloc, "session")
+        .about(SESSION_ABOUT)
+        .long_about(SESSION_LONG_ABOUT)
+        .after_help(SESSION_LINES)
+        .arg(file_word(alloc))
+}
+
+fn moves_command<'a>(alloc: Global) -> Result<Command<'a>, AllocError> {
+    Command::new(alloc, "moves")
+        .about(MOVES_ABOUT)
+        .long_about(MOVES_LONG_ABOUT)
+        .arg(game_word(alloc))
+}
+
+fn refusal_of(alloc: Global, error: Error) -> Refusal
+    ensures { IsStatusOfWords result.status }
+{
+    let status = match error.kind() {
+        clap::error::ErrorKind::OutOfMemory => 5,
+        _ if error.use_stderr() => 2,
+        _ => 0,
+    };
+    match error.to_string(alloc) {
+        Ok(text) => Refusal { status, text },
+        Err(_) => Refusal {
+            status: 5,
+            text: String::new(alloc),
+        },
+    }
+}

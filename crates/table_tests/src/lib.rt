@@ -1,0 +1,21 @@
+//! Tests of tables in memory and on pages, of units of work on them, and of what they answer.
+#![tactic(auto)]
+
+#[cfg(test)]
+mod game_texts;
+#[cfg(test)]
+mod games;
+#[cfg(test)]
+mod line_tests;
+#[cfg(test)]
+mod memory_tests;
+#[cfg(test)]
+mod paged_tests;
+#[cfg(test)]
+mod plain;
+#[cfg(test)]
+mod plain_tests;
+#[cfg(test)]
+mod source_tests;
+#[cfg(test)]
+mod work_tests;
