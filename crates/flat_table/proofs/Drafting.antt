@@ -10,12 +10,12 @@ use Rattle.game_file.specs.Calls.{IsPut, IsNotPut}
 use Rattle.game_file.specs.Causes.{FileLoadCause, FileCommitCause}
 use Rattle.game_file.specs.Kept.{Kept, kept_as}
 use Rattle.game_file.specs.State.{State, count_behind}
-use Rattle.root_slot.specs.Slot.{commits_in}
+use Rattle.flat_table.specs.Slot.{commits_in}
 use Rattle.game_file.specs.declared.fault.FileFault.{FileFault}
 use Rattle.game_file.specs.declared.fault.FileFault.TheVariants.{Disk, NotATable, AlreadyATable, Damaged, TooSmall, TableFull, OutOfMemory, Closed, Inconsistent}
-use Rattle.flat_file.specs.declared.game.Game.{Game}
-use Rattle.flat_file.specs.File.{File, IsFile, AreGames, kept_in, kept_of}
-use Rattle.flat_file.specs.Held.{Stores}
+use Rattle.flat_table.specs.declared.game.Game.{Game}
+use Rattle.flat_table.specs.File.{File, IsFile, AreGames, kept_in, kept_of}
+use Rattle.flat_table.specs.Held.{Stores}
 use Rattle.flat_table.specs.Calls.{state_of, IsPutInFile, IsNotPutInFile}
 use Rattle.flat_table.specs.Causes.{PutCause}
 use Rattle.flat_table.specs.Drafts.{IsUnwrittenFile}

@@ -1,5 +1,12 @@
 pub mod Passing
-pub mod Bytes
+pub mod Words
+pub mod Whole
+pub mod Reading
+pub mod SlotReading
+pub mod Letting
+pub mod Placing
+pub mod Leaving
+pub mod PageBytes
 pub mod Putting
 pub mod Opening
 pub mod Creating

@@ -7,11 +7,11 @@ use Rattle.page_store.specs.declared.fault.PageFault.{PageFault}
 use Rattle.page_store.specs.declared.fault.PageFault.TheVariants as page
 use Rattle.page_store.specs.Page.{page as bytes_of}
 use Rattle.page_store.specs.Store.{Store, IsOpened as IsFound, reads}
-use Rattle.flat_file.specs.declared.game.Game.{Game}
-use Rattle.flat_file.specs.File.{IsBacked, kept_of, pages_of}
-use Rattle.flat_file.specs.Held.{KeepsTable, capacity_of, Stores}
+use Rattle.flat_table.specs.declared.game.Game.{Game}
+use Rattle.flat_table.specs.File.{IsBacked, kept_of, pages_of}
+use Rattle.flat_table.specs.Held.{KeepsTable, capacity_of, Stores}
 use Rattle.game_file.specs.Kept.{Kept}
-use Rattle.flat_read.specs.Causes.{GameReadCause}
+use Rattle.flat_table.specs.ReadCauses.{GameReadCause}
 use Rattle.game_file.specs.Calls.{IsOpenedFile}
 use Rattle.game_file.specs.Causes.{FileOpenCause}
 use Rattle.game_file.specs.Faults.{of_pages}

@@ -2,15 +2,15 @@
 use Rattle.std.proofs.Common.{◌≡◌, ◌⊎◌, inl, inr, false, Option, Some, IsTrue, refl, sym, ap, subst}
 use Rattle.sector_disk.specs.Moments.{leaves_now}
 use Rattle.page_store.specs.Store.{Store, IsSoundStore}
-use Rattle.flat_file.specs.declared.game.Game.{Game}
-use Rattle.flat_file.specs.Held.{Stores}
-use Rattle.flat_file.specs.File.{File, IsFile, IsGame, IsBacked, kept_in, kept_of, pages_of}
+use Rattle.flat_table.specs.declared.game.Game.{Game}
+use Rattle.flat_table.specs.Held.{Stores}
+use Rattle.flat_table.specs.File.{File, IsFile, IsGame, IsBacked, kept_in, kept_of, pages_of}
 use Rattle.game_file.specs.Kept.{Kept}
-use Rattle.flat_file.specs.Laws.{a_file_is_kept}
+use Rattle.flat_table.specs.StoredLaws.{a_file_is_kept}
 use Rattle.game_file.specs.Calls.{IsPut, IsNotPut}
 use Rattle.game_file.specs.Kept.{text_kept}
 use Rattle.game_file.specs.State.{count_behind}
-use Rattle.root_slot.specs.Slot.{commits_in}
+use Rattle.flat_table.specs.Slot.{commits_in}
 use Rattle.game_file.specs.Stops.{LeavesEither, LeavesTable}
 use Rattle.flat_table.specs.Calls.{file_of, state_of, IsPutInFile, IsNotPutInFile}
 

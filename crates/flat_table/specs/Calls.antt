@@ -1,13 +1,13 @@
 -- What the calls on a file of this layout leave, said of its pages and of what is in memory.
 use Rattle.std.specs.Prelude.{◌≡◌, ◌⊎◌, length, false, Option, Some, IsTrue}
 use Rattle.page_store.specs.Store.{Store}
-use Rattle.root_slot.specs.Slot.{commits_in}
+use Rattle.flat_table.specs.Slot.{commits_in}
 use Rattle.game_file.specs.Kept.{Kept}
 use Rattle.game_file.specs.State.{State}
 use Rattle.game_file.specs.Stops.{LeavesEither, LeavesTable}
-use Rattle.flat_file.specs.declared.game.Game.{Game}
-use Rattle.flat_file.specs.File.{File, IsFile, kept_of}
-use Rattle.flat_file.specs.Held.{Stores}
+use Rattle.flat_table.specs.declared.game.Game.{Game}
+use Rattle.flat_table.specs.File.{File, IsFile, kept_of}
+use Rattle.flat_table.specs.Held.{Stores}
 
 -- the file with these pages and this game
 abbrev pub file_of : Store → Option Game → File

@@ -3,8 +3,8 @@ use Rattle.std.specs.Prelude.{◌≡◌, ℕ, false, List, [], Option, None, Som
 use Rattle.retrograde.specs.Stored.{Stored}
 use Rattle.table.specs.InMemory.{stored_in}
 use Rattle.table.specs.declared.memory.MemTable.{MemTable}
-use Rattle.flat_file.specs.declared.game.Game.{Game}
-use Rattle.flat_file.specs.File.{File, IsFile, kept_of}
+use Rattle.flat_table.specs.declared.game.Game.{Game}
+use Rattle.flat_table.specs.File.{File, IsFile, kept_of}
 
 -- no position, and nothing else
 abbrev pub nothing : Stored (List ℕ)

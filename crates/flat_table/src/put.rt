@@ -2,17 +2,17 @@
 ghost use Rattle.std.specs.Prelude.{◌≡◌, ◌≢◌, ◌≤◌, ◌^◌, Some, length, IfOk, IfErr, OnOk, OnErr};
 ghost use Rattle.table.specs.Fitting.{FitsTogether};
 ghost use Rattle.table.specs.InMemory.{stored_in};
-ghost use Rattle.root_slot.specs.Slot.{commits_in};
-ghost use Rattle.flat_file.specs.File.{IsFile, pages_of};
-ghost use Rattle.flat_write.specs.Saving.{AreBytesOf, StoreGoesAhead};
+ghost use Rattle.flat_table.specs.Slot.{commits_in};
+ghost use Rattle.flat_table.specs.File.{IsFile, pages_of};
+ghost use Rattle.flat_table.specs.Saving.{AreBytesOf, StoreGoesAhead};
 ghost use Rattle.game_file.specs.Kept.{kept_as};
 ghost use Rattle.flat_table.specs.Calls.{file_of, IsPutInFile, IsNotPutInFile};
 ghost use Rattle.flat_table.specs.Causes.{PutCause};
 ghost use Rattle.flat_table.specs.Pages.{ArePages};
 ghost use Rattle.flat_table.specs.Bytes.{BytesCause};
 
-use flat_file::Game;
-use flat_write::save;
+use crate::game::Game;
+use crate::write::save;
 use game_file::FileFault;
 use page_store::Pages;
 use std::alloc::Global;

@@ -11,3 +11,4 @@ pub mod Queries
 pub mod Runs
 pub mod Headline
 pub mod aid
+pub mod Solvers

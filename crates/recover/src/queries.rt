@@ -5,9 +5,10 @@ ghost use Rattle.game_file.specs.Calls.{IsAsked};
 ghost use Rattle.recover.specs.Held.{IsSound};
 ghost use Rattle.recover.specs.Queries.{OfKept, Tells, HasValueAt, HasRows, HasLine, HasText, IsGameOf, AskCause, NumberCause, LineCause};
 ghost use Rattle.recover.specs.Queries.{ShowCause, FindCause};
+ghost use Rattle.recover.specs.Solvers.{state, IsReady};
 ghost use Rattle.recover.specs.Units.{units_in};
 
-use crate::{FileSolver, SolverFault, Solving, Units};
+use crate::{FileSolver, SolverFault, Units};
 use best_line::{Row, Value};
 use game_file::GameFile;
 use rbg_game::game::Game;
@@ -18,10 +19,8 @@ use table::Table;
 impl<F: GameFile> FileSolver<F> {
     /// The game, where one is loaded. It takes no memory and always answers, of a closed solver too.
     pub fn game(&self) -> Option<&Game>
-        ensures some { ⟦<FileSolver<F> as Solving>⟧.is_ready self.now
-            → IfSome result (λ game. OfKept (IsGameOf (game_of game.now)) (⟦<FileSolver<F> as Solving>⟧.state self.now).kept) }
-        ensures none { ⟦<FileSolver<F> as Solving>⟧.is_ready self.now
-            → IfNone result ((⟦<FileSolver<F> as Solving>⟧.state self.now).kept ≡ None) }
+        ensures some { IsReady self.now → IfSome result (λ game. OfKept (IsGameOf (game_of game.now)) (state self.now).kept) }
+        ensures none { IsReady self.now → IfNone result ((state self.now).kept ≡ None) }
     {
         match &self.source {
             Some(source) => Some(source.game()),
@@ -61,16 +60,13 @@ impl<F: GameFile> FileSolver<F> {
 
     /// Who wins the position with this number, and in how many moves; a draw only where the table is finished: E9, S1, S7.
     pub fn value(&mut self, number: u32) -> Result<Value, SolverFault>
-        ensures ready { ⟦<FileSolver<F> as Solving>⟧.is_ready self.old → ⟦<FileSolver<F> as Solving>⟧.is_ready self.new }
-        ensures asked { ⟦<FileSolver<F> as Solving>⟧.is_ready self.old
-            → IsAsked F.stores (⟦<FileSolver<F> as Solving>⟧.state self.old) (⟦<FileSolver<F> as Solving>⟧.state self.new) }
-        ensures value { ⟦<FileSolver<F> as Solving>⟧.is_ready self.old
-            → IfOk result (λ value. Tells (HasValueAt number value) (⟦<FileSolver<F> as Solving>⟧.state self.old)) }
-        ensures cause { ⟦<FileSolver<F> as Solving>⟧.is_ready self.old
-            → IfErr result (NumberCause number (⟦<FileSolver<F> as Solving>⟧.state self.old)
-            (⟦<FileSolver<F> as Solving>⟧.state self.new)) }
-        ensures closed { (⟦<FileSolver<F> as Solving>⟧.state self.old).closed ≡ true → IsErrOf result SolverFault.Closed
-            × (self.new ≡ self.old) }
+        ensures ready { IsReady self.old → IsReady self.new }
+        ensures asked { IsReady self.old → IsAsked F.stores (state self.old) (state self.new) }
+        ensures value { IsReady self.old → IfOk result (λ value. Tells (HasValueAt number value) (state self.old)) }
+        ensures cause { IsReady self.old
+            → IfErr result (NumberCause number (state self.old)
+            (state self.new)) }
+        ensures closed { (state self.old).closed ≡ true → IsErrOf result SolverFault.Closed × (self.new ≡ self.old) }
     {
         self.check(number)?;
         Ok(best_line::value(&mut self.file, number)?)
@@ -78,15 +74,11 @@ impl<F: GameFile> FileSolver<F> {
 
     /// The positions from this number on with their values, so many or up to the last: E9, S1, S7.
     pub fn list(&mut self, from: u32, count: Units) -> Result<Vec<Row>, SolverFault>
-        ensures ready { ⟦<FileSolver<F> as Solving>⟧.is_ready self.old → ⟦<FileSolver<F> as Solving>⟧.is_ready self.new }
-        ensures asked { ⟦<FileSolver<F> as Solving>⟧.is_ready self.old
-            → IsAsked F.stores (⟦<FileSolver<F> as Solving>⟧.state self.old) (⟦<FileSolver<F> as Solving>⟧.state self.new) }
-        ensures rows { ⟦<FileSolver<F> as Solving>⟧.is_ready self.old
-            → IfOk result (λ rows. Tells (HasRows from (units_in count) rows.items) (⟦<FileSolver<F> as Solving>⟧.state self.old)) }
-        ensures cause { ⟦<FileSolver<F> as Solving>⟧.is_ready self.old
-            → IfErr result (NumberCause from (⟦<FileSolver<F> as Solving>⟧.state self.old) (⟦<FileSolver<F> as Solving>⟧.state self.new)) }
-        ensures closed { (⟦<FileSolver<F> as Solving>⟧.state self.old).closed ≡ true → IsErrOf result SolverFault.Closed
-            × (self.new ≡ self.old) }
+        ensures ready { IsReady self.old → IsReady self.new }
+        ensures asked { IsReady self.old → IsAsked F.stores (state self.old) (state self.new) }
+        ensures rows { IsReady self.old → IfOk result (λ rows. Tells (HasRows from (units_in count) rows.items) (state self.old)) }
+        ensures cause { IsReady self.old → IfErr result (NumberCause from (state self.old) (state self.new)) }
+        ensures closed { (state self.old).closed ≡ true → IsErrOf result SolverFault.Closed × (self.new ≡ self.old) }
     {
         self.check(from)?;
         Ok(best_line::list(self.alloc, &mut self.file, from, count.count())?)
@@ -95,15 +87,12 @@ impl<F: GameFile> FileSolver<F> {
     /// The numbers of a best line: each next one is the first successor in packed order that the same player wins in one
     /// fewer: E9, S1, S7, S8. S6 and S4 come only of a table that is not of this program's making.
     pub fn line(&mut self, number: u32) -> Result<Vec<u32>, SolverFault>
-        ensures ready { ⟦<FileSolver<F> as Solving>⟧.is_ready self.old → ⟦<FileSolver<F> as Solving>⟧.is_ready self.new }
-        ensures asked { ⟦<FileSolver<F> as Solving>⟧.is_ready self.old
-            → IsAsked F.stores (⟦<FileSolver<F> as Solving>⟧.state self.old) (⟦<FileSolver<F> as Solving>⟧.state self.new) }
-        ensures line { ⟦<FileSolver<F> as Solving>⟧.is_ready self.old → IsSound (⟦<FileSolver<F> as Solving>⟧.state self.old).kept
-            → IfOk result (λ numbers. Tells (HasLine number numbers.items) (⟦<FileSolver<F> as Solving>⟧.state self.old)) }
-        ensures cause { ⟦<FileSolver<F> as Solving>⟧.is_ready self.old
-            → IfErr result (LineCause number (⟦<FileSolver<F> as Solving>⟧.state self.old) (⟦<FileSolver<F> as Solving>⟧.state self.new)) }
-        ensures closed { (⟦<FileSolver<F> as Solving>⟧.state self.old).closed ≡ true → IsErrOf result SolverFault.Closed
-            × (self.new ≡ self.old) }
+        ensures ready { IsReady self.old → IsReady self.new }
+        ensures asked { IsReady self.old → IsAsked F.stores (state self.old) (state self.new) }
+        ensures line { IsReady self.old → IsSound (state self.old).kept
+            → IfOk result (λ numbers. Tells (HasLine number numbers.items) (state self.old)) }
+        ensures cause { IsReady self.old → IfErr result (LineCause number (state self.old) (state self.new)) }
+        ensures closed { (state self.old).closed ≡ true → IsErrOf result SolverFault.Closed × (self.new ≡ self.old) }
     {
         self.check(number)?;
         let Some(source) = &self.source else {
@@ -114,15 +103,11 @@ impl<F: GameFile> FileSolver<F> {
 
     /// The text of the position with this number: E9, S1, S7. S6 comes only of a table that is not of this program's making.
     pub fn show(&mut self, number: u32) -> Result<Vec<u8>, SolverFault>
-        ensures ready { ⟦<FileSolver<F> as Solving>⟧.is_ready self.old → ⟦<FileSolver<F> as Solving>⟧.is_ready self.new }
-        ensures asked { ⟦<FileSolver<F> as Solving>⟧.is_ready self.old
-            → IsAsked F.stores (⟦<FileSolver<F> as Solving>⟧.state self.old) (⟦<FileSolver<F> as Solving>⟧.state self.new) }
-        ensures text { ⟦<FileSolver<F> as Solving>⟧.is_ready self.old
-            → IfOk result (λ text. Tells (HasText number text.items) (⟦<FileSolver<F> as Solving>⟧.state self.old)) }
-        ensures cause { ⟦<FileSolver<F> as Solving>⟧.is_ready self.old
-            → IfErr result (ShowCause number (⟦<FileSolver<F> as Solving>⟧.state self.old) (⟦<FileSolver<F> as Solving>⟧.state self.new)) }
-        ensures closed { (⟦<FileSolver<F> as Solving>⟧.state self.old).closed ≡ true → IsErrOf result SolverFault.Closed
-            × (self.new ≡ self.old) }
+        ensures ready { IsReady self.old → IsReady self.new }
+        ensures asked { IsReady self.old → IsAsked F.stores (state self.old) (state self.new) }
+        ensures text { IsReady self.old → IfOk result (λ text. Tells (HasText number text.items) (state self.old)) }
+        ensures cause { IsReady self.old → IfErr result (ShowCause number (state self.old) (state self.new)) }
+        ensures closed { (state self.old).closed ≡ true → IsErrOf result SolverFault.Closed × (self.new ≡ self.old) }
     {
         self.check(number)?;
         let packed = self.file.packed(number)?;
@@ -138,16 +123,13 @@ impl<F: GameFile> FileSolver<F> {
     /// The number of the position with this text: E9, S1, then S10 where it is the text of no position of the game, and
     /// S7 where that position is not known.
     pub fn find(&mut self, text: &[u8]) -> Result<u32, SolverFault>
-        ensures ready { ⟦<FileSolver<F> as Solving>⟧.is_ready self.old → ⟦<FileSolver<F> as Solving>⟧.is_ready self.new }
-        ensures asked { ⟦<FileSolver<F> as Solving>⟧.is_ready self.old
-            → IsAsked F.stores (⟦<FileSolver<F> as Solving>⟧.state self.old) (⟦<FileSolver<F> as Solving>⟧.state self.new) }
-        ensures number { ⟦<FileSolver<F> as Solving>⟧.is_ready self.old
-            → IfOk result (λ number. Tells (HasText number text.now) (⟦<FileSolver<F> as Solving>⟧.state self.old)) }
-        ensures cause { ⟦<FileSolver<F> as Solving>⟧.is_ready self.old
-            → IfErr result (FindCause text.now (⟦<FileSolver<F> as Solving>⟧.state self.old)
-            (⟦<FileSolver<F> as Solving>⟧.state self.new)) }
-        ensures closed { (⟦<FileSolver<F> as Solving>⟧.state self.old).closed ≡ true → IsErrOf result SolverFault.Closed
-            × (self.new ≡ self.old) }
+        ensures ready { IsReady self.old → IsReady self.new }
+        ensures asked { IsReady self.old → IsAsked F.stores (state self.old) (state self.new) }
+        ensures number { IsReady self.old → IfOk result (λ number. Tells (HasText number text.now) (state self.old)) }
+        ensures cause { IsReady self.old
+            → IfErr result (FindCause text.now (state self.old)
+            (state self.new)) }
+        ensures closed { (state self.old).closed ≡ true → IsErrOf result SolverFault.Closed × (self.new ≡ self.old) }
     {
         self.known()?;
         let Some(source) = &self.source else {

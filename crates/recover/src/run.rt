@@ -4,21 +4,22 @@ ghost use Rattle.recover.specs.Headline.{LeavesAPrefix};
 ghost use Rattle.recover.specs.Held.{IsSound};
 ghost use Rattle.recover.specs.Runs.{command_of, reply_of, IsTurn, IsRun};
 ghost use Rattle.game_file.specs.State.{GoesAhead};
+ghost use Rattle.recover.specs.Solvers.{state, IsReady};
 
-use crate::{Command, FileSolver, Reply, SolverFault, Solving, Worked};
+use crate::{Command, FileSolver, Reply, SolverFault, Worked};
 use game_file::GameFile;
 
 impl<F: GameFile> FileSolver<F> {
     /// One command of a list, with its reply.
     fn answer(&mut self, command: &Command) -> Reply
-        ensures ready { ⟦<FileSolver<F> as Solving>⟧.is_ready self.old → ⟦<FileSolver<F> as Solving>⟧.is_ready self.new }
-        ensures ahead { GoesAhead (⟦<FileSolver<F> as Solving>⟧.state self.old) (⟦<FileSolver<F> as Solving>⟧.state self.new) }
-        ensures turn { ⟦<FileSolver<F> as Solving>⟧.is_ready self.old
-            → IsTurn F.stores (⟦<FileSolver<F> as Solving>⟧.state self.new).disk (command_of command.now) (reply_of result)
-            (⟦<FileSolver<F> as Solving>⟧.state self.old) (⟦<FileSolver<F> as Solving>⟧.state self.new) }
-        ensures sound { ⟦<FileSolver<F> as Solving>⟧.is_ready self.old → IsTrue (⟦<FileSolver<F> as Solving>⟧.state self.old).disk.honest
-            → IsSound (⟦<FileSolver<F> as Solving>⟧.state self.old).kept
-            → IsSound (⟦<FileSolver<F> as Solving>⟧.state self.new).kept }
+        ensures ready { IsReady self.old → IsReady self.new }
+        ensures ahead { GoesAhead (state self.old) (state self.new) }
+        ensures turn { IsReady self.old
+            → IsTurn F.stores (state self.new).disk (command_of command.now) (reply_of result)
+            (state self.old) (state self.new) }
+        ensures sound { IsReady self.old → IsTrue (state self.old).disk.honest
+            → IsSound (state self.old).kept
+            → IsSound (state self.new).kept }
     {
         match command {
             Command::Load(text) => match self.load(text) {
@@ -35,19 +36,19 @@ impl<F: GameFile> FileSolver<F> {
     /// Does these commands one after another, each as `load` and `work` do, and puts a reply for each behind those that are
     /// there. Room for all replies is asked for first: where it is refused, nothing is done (E8).
     pub fn run(&mut self, commands: &[Command], replies: &mut Vec<Reply>) -> Result<(), SolverFault>
-        ensures ready { ⟦<FileSolver<F> as Solving>⟧.is_ready self.old → ⟦<FileSolver<F> as Solving>⟧.is_ready self.new }
-        ensures ahead { GoesAhead (⟦<FileSolver<F> as Solving>⟧.state self.old) (⟦<FileSolver<F> as Solving>⟧.state self.new) }
-        ensures run { ⟦<FileSolver<F> as Solving>⟧.is_ready self.old
-            → OnOk result (IsRun F.stores commands.now replies.old.items replies.new.items (⟦<FileSolver<F> as Solving>⟧.state self.old)
-            (⟦<FileSolver<F> as Solving>⟧.state self.new)) }
-        ensures stopped { ⟦<FileSolver<F> as Solving>⟧.is_ready self.old → IsSound (⟦<FileSolver<F> as Solving>⟧.state self.old).kept
-            → (⟦<FileSolver<F> as Solving>⟧.state self.old).closed ≡ false
-            → IsTrue (⟦<FileSolver<F> as Solving>⟧.state self.old).disk.honest
-            → OnOk result (LeavesAPrefix F.stores (map command_of commands.now) (⟦<FileSolver<F> as Solving>⟧.state self.old)
-            (⟦<FileSolver<F> as Solving>⟧.state self.new)) }
-        ensures sound { ⟦<FileSolver<F> as Solving>⟧.is_ready self.old → IsTrue (⟦<FileSolver<F> as Solving>⟧.state self.old).disk.honest
-            → IsSound (⟦<FileSolver<F> as Solving>⟧.state self.old).kept
-            → IsSound (⟦<FileSolver<F> as Solving>⟧.state self.new).kept }
+        ensures ready { IsReady self.old → IsReady self.new }
+        ensures ahead { GoesAhead (state self.old) (state self.new) }
+        ensures run { IsReady self.old
+            → OnOk result (IsRun F.stores commands.now replies.old.items replies.new.items (state self.old)
+            (state self.new)) }
+        ensures stopped { IsReady self.old → IsSound (state self.old).kept
+            → (state self.old).closed ≡ false
+            → IsTrue (state self.old).disk.honest
+            → OnOk result (LeavesAPrefix F.stores (map command_of commands.now) (state self.old)
+            (state self.new)) }
+        ensures sound { IsReady self.old → IsTrue (state self.old).disk.honest
+            → IsSound (state self.old).kept
+            → IsSound (state self.new).kept }
         ensures fault { IfErr result (λ fault. fault ≡ SolverFault.OutOfMemory) }
         ensures refused { OnErr result (self.new ≡ self.old) }
         ensures unanswered { OnErr result (replies.new.items ≡ replies.old.items) }

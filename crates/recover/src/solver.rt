@@ -1,12 +1,13 @@
 //! A solver over a disk.
-ghost use Rattle.std.specs.Prelude.{◌≡◌, ◌↔◌, true, false, None, option_map, IsSome, OnOk, IfOk, IfErr, IsErrOf, IsTrue};
+ghost use Rattle.std.specs.Prelude.{◌≡◌, ◌↔◌, true, false, Option, None, option_map, IsSome, OnOk, IfOk, IfErr, IsErrOf, IsTrue};
+ghost use Rattle.sector_disk.specs.Disk.{Picture};
 ghost use Rattle.retrograde.specs.Changes.{counts_of};
+ghost use Rattle.game_file.specs.Kept.{Kept};
 ghost use Rattle.game_file.specs.Calls.{IsNotOpened, IsNotCreated};
-ghost use Rattle.game_file.specs.State.{State, GoesAhead};
+ghost use Rattle.game_file.specs.State.{GoesAhead};
 ghost use Rattle.recover.specs.Held.{IsSound};
 ghost use Rattle.recover.specs.Machine.{load as load_it, work as work_on, loaded_it, worked};
 ghost use Rattle.recover.specs.Opening.{IsOpened, IsCreated, OpenCause, CreateCause};
-ghost use Rattle.recover.specs.State.{IsSourceOf};
 ghost use Rattle.recover.specs.Steps.{IsDone, IsRefused};
 ghost use Rattle.recover.specs.Units.{units_in};
 
@@ -19,15 +20,6 @@ use sector_disk::SectorDisk;
 use std::alloc::Global;
 use table::Table;
 
-/// What is stated of a solver.
-pub trait Solving {
-    /// Its disk, and the table of the last commit.
-    ghost state: { Self → State };
-
-    /// What is in memory is what the disk keeps. So it is after `create` and `open`, and no call changes that.
-    ghost is_ready: { Self → Type 0 };
-}
-
 /// A game's table in a file.
 #[derive(Drop)]
 pub struct FileSolver<F: GameFile> {
@@ -35,20 +27,17 @@ pub struct FileSolver<F: GameFile> {
     pub(crate) file: F,
     /// The game, where one is loaded.
     pub(crate) source: Option<Source>,
-}
-
-impl<F: GameFile> Solving for FileSolver<F> {
-    ghost state = { λ s. F.state s.file };
-
-    ghost is_ready = { λ s. F.is_whole s.file × IsSourceOf s.source (F.state s.file).kept };
+    // says nothing, but names the layout, so that contracts can write `state self` and need no path through a trait
+    ghost layout: { (picture : Picture) (kept : Option Kept) → F.stores picture kept → Unit {0} },
 }
 
 impl<F: GameFile> FileSolver<F> {
+    ghost use Rattle.recover.specs.Solvers.{state, IsReady};
+
     /// Makes the empty table on this disk: E1, E3 and then E6, E8.
     pub fn create(alloc: Global, disk: F::Device) -> Result<Self, Refused<F::Device>>
-        ensures ready { IfOk result (λ solver. ⟦<FileSolver<F> as Solving>⟧.is_ready solver) }
-        ensures created { IfOk result (λ solver. IsCreated F.stores (F.Device.disk disk) (F.Device.failures disk)
-            (⟦<FileSolver<F> as Solving>⟧.state solver)) }
+        ensures ready { IfOk result IsReady }
+        ensures created { IfOk result (λ solver. IsCreated F.stores (F.Device.disk disk) (F.Device.failures disk) (state solver)) }
         ensures refused { IfErr result (λ back. IsNotCreated F.stores (F.Device.disk disk) (F.Device.failures disk)
             (F.Device.disk back.disk) (F.Device.failures back.disk)) }
         ensures cause { IfErr result (λ back. CreateCause (F.Device.disk disk) (F.Device.failures disk)
@@ -65,9 +54,8 @@ impl<F: GameFile> FileSolver<F> {
 
     /// Opens the table that this disk holds: E1, E2, E4, E8.
     pub fn open(alloc: Global, disk: F::Device) -> Result<Self, Refused<F::Device>>
-        ensures ready { IfOk result (λ solver. ⟦<FileSolver<F> as Solving>⟧.is_ready solver) }
-        ensures opened { IfOk result (λ solver. IsOpened F.stores (F.Device.disk disk) (F.Device.failures disk)
-            (⟦<FileSolver<F> as Solving>⟧.state solver)) }
+        ensures ready { IfOk result IsReady }
+        ensures opened { IfOk result (λ solver. IsOpened F.stores (F.Device.disk disk) (F.Device.failures disk) (state solver)) }
         ensures refused { IfErr result (λ back. IsNotOpened (F.Device.disk disk) (F.Device.failures disk) (F.Device.disk back.disk)
             (F.Device.failures back.disk)) }
         ensures cause { IfErr result (λ back. OpenCause F.stores (F.Device.disk disk) (F.Device.failures disk)
@@ -84,22 +72,21 @@ impl<F: GameFile> FileSolver<F> {
 
     /// Loads the game of this text: E9, S2, then G1 to G10, then E1, E7, E8.
     pub fn load(&mut self, text: &[u8]) -> Result<(), SolverFault>
-        ensures ready { ⟦<FileSolver<F> as Solving>⟧.is_ready self.old → ⟦<FileSolver<F> as Solving>⟧.is_ready self.new }
-        ensures ahead { GoesAhead (⟦<FileSolver<F> as Solving>⟧.state self.old) (⟦<FileSolver<F> as Solving>⟧.state self.new) }
-        ensures done { ⟦<FileSolver<F> as Solving>⟧.is_ready self.old
-            → OnOk result (IsDone F.stores (load_it text.now) loaded_it (⟦<FileSolver<F> as Solving>⟧.state self.old)
-            (⟦<FileSolver<F> as Solving>⟧.state self.new)) }
-        ensures refused { ⟦<FileSolver<F> as Solving>⟧.is_ready self.old
-            → IfErr result (IsRefused F.stores (load_it text.now) (⟦<FileSolver<F> as Solving>⟧.state self.old)
-            (⟦<FileSolver<F> as Solving>⟧.state self.new)) }
-        ensures closed { (⟦<FileSolver<F> as Solving>⟧.state self.old).closed ≡ true
-            → IsErrOf result SolverFault.Closed × (self.new ≡ self.old) }
-        ensures already { (⟦<FileSolver<F> as Solving>⟧.state self.old).closed ≡ false
-            → IsSome (⟦<FileSolver<F> as Solving>⟧.state self.old).kept
+        ensures ready { IsReady self.old → IsReady self.new }
+        ensures ahead { GoesAhead (state self.old) (state self.new) }
+        ensures done { IsReady self.old
+            → OnOk result (IsDone F.stores (load_it text.now) loaded_it (state self.old)
+            (state self.new)) }
+        ensures refused { IsReady self.old
+            → IfErr result (IsRefused F.stores (load_it text.now) (state self.old)
+            (state self.new)) }
+        ensures closed { (state self.old).closed ≡ true → IsErrOf result SolverFault.Closed × (self.new ≡ self.old) }
+        ensures already { (state self.old).closed ≡ false
+            → IsSome (state self.old).kept
             → IsErrOf result SolverFault.GameAlready × (self.new ≡ self.old) }
-        ensures sound { ⟦<FileSolver<F> as Solving>⟧.is_ready self.old → IsTrue (⟦<FileSolver<F> as Solving>⟧.state self.old).disk.honest
-            → IsSound (⟦<FileSolver<F> as Solving>⟧.state self.old).kept
-            → IsSound (⟦<FileSolver<F> as Solving>⟧.state self.new).kept }
+        ensures sound { IsReady self.old → IsTrue (state self.old).disk.honest
+            → IsSound (state self.old).kept
+            → IsSound (state self.new).kept }
     {
         if self.file.is_closed() {
             return Err(SolverFault::Closed);
@@ -116,23 +103,22 @@ impl<F: GameFile> FileSolver<F> {
     /// Does so many units of work, or fewer where the table is finished by then, and commits them at once: E9, S1,
     /// then S3 to S6, E1, E7, E8. Where no unit is done nothing is committed.
     pub fn work(&mut self, units: Units) -> Result<Worked, SolverFault>
-        ensures ready { ⟦<FileSolver<F> as Solving>⟧.is_ready self.old → ⟦<FileSolver<F> as Solving>⟧.is_ready self.new }
-        ensures ahead { GoesAhead (⟦<FileSolver<F> as Solving>⟧.state self.old) (⟦<FileSolver<F> as Solving>⟧.state self.new) }
-        ensures done { ⟦<FileSolver<F> as Solving>⟧.is_ready self.old → IfOk result (λ done.
-            IsDone F.stores (work_on (units_in units)) (worked done.units done.counts) (⟦<FileSolver<F> as Solving>⟧.state self.old)
-            (⟦<FileSolver<F> as Solving>⟧.state self.new)) }
-        ensures refused { ⟦<FileSolver<F> as Solving>⟧.is_ready self.old
-            → IfErr result (IsRefused F.stores (work_on (units_in units)) (⟦<FileSolver<F> as Solving>⟧.state self.old)
-            (⟦<FileSolver<F> as Solving>⟧.state self.new)) }
-        ensures closed { (⟦<FileSolver<F> as Solving>⟧.state self.old).closed ≡ true
-            → IsErrOf result SolverFault.Closed × (self.new ≡ self.old) }
-        ensures no_game { (⟦<FileSolver<F> as Solving>⟧.state self.old).closed ≡ false
-            → (⟦<FileSolver<F> as Solving>⟧.state self.old).kept ≡ None
+        ensures ready { IsReady self.old → IsReady self.new }
+        ensures ahead { GoesAhead (state self.old) (state self.new) }
+        ensures done { IsReady self.old → IfOk result (λ done.
+            IsDone F.stores (work_on (units_in units)) (worked done.units done.counts) (state self.old)
+            (state self.new)) }
+        ensures refused { IsReady self.old
+            → IfErr result (IsRefused F.stores (work_on (units_in units)) (state self.old)
+            (state self.new)) }
+        ensures closed { (state self.old).closed ≡ true → IsErrOf result SolverFault.Closed × (self.new ≡ self.old) }
+        ensures no_game { (state self.old).closed ≡ false
+            → (state self.old).kept ≡ None
             → IsErrOf result SolverFault.NoGame × (self.new ≡ self.old) }
         ensures idle { IfOk result (λ done. done.units ≡ 0 → self.new ≡ self.old) }
-        ensures sound { ⟦<FileSolver<F> as Solving>⟧.is_ready self.old → IsTrue (⟦<FileSolver<F> as Solving>⟧.state self.old).disk.honest
-            → IsSound (⟦<FileSolver<F> as Solving>⟧.state self.old).kept
-            → IsSound (⟦<FileSolver<F> as Solving>⟧.state self.new).kept }
+        ensures sound { IsReady self.old → IsTrue (state self.old).disk.honest
+            → IsSound (state self.old).kept
+            → IsSound (state self.new).kept }
     {
         if self.file.is_closed() {
             return Err(SolverFault::Closed);
@@ -163,9 +149,9 @@ impl<F: GameFile> FileSolver<F> {
     /// How far the table of the last commit is; none where no game is loaded. It takes no memory and always answers, of a
     /// closed solver too.
     pub fn status(&self) -> Option<Counts>
-        ensures counts { ⟦<FileSolver<F> as Solving>⟧.is_ready self.now → IsTrue (⟦<FileSolver<F> as Solving>⟧.state self.now).disk.honest
-            → result ≡ option_map (λ kept. counts_of kept.table) (⟦<FileSolver<F> as Solving>⟧.state self.now).kept }
-        ensures none { (result ≡ None) ↔ ((⟦<FileSolver<F> as Solving>⟧.state self.now).kept ≡ None) }
+        ensures counts { IsReady self.now → IsTrue (state self.now).disk.honest
+            → result ≡ option_map (λ kept. counts_of kept.table) (state self.now).kept }
+        ensures none { (result ≡ None) ↔ ((state self.now).kept ≡ None) }
     {
         if self.file.text().is_none() {
             return None;
@@ -175,8 +161,8 @@ impl<F: GameFile> FileSolver<F> {
 
     /// Gives the disk back. It takes no memory and always answers, of a closed solver too.
     pub fn close(self) -> F::Device
-        ensures disk { F.Device.disk result ≡ (⟦<FileSolver<F> as Solving>⟧.state self).disk }
-        ensures failures { F.Device.failures result ≡ (⟦<FileSolver<F> as Solving>⟧.state self).failures }
+        ensures disk { F.Device.disk result ≡ (state self).disk }
+        ensures failures { F.Device.failures result ≡ (state self).failures }
     {
         let FileSolver { file, .. } = self;
         file.into_disk()

@@ -2,10 +2,11 @@
 ghost use Rattle.std.specs.Prelude.{◌≡◌, IfOk, IfErr, OnOk, IsTrue};
 ghost use Rattle.game_file.specs.Calls.{IsAsked};
 ghost use Rattle.recover.specs.Held.{IsOfAGame};
+ghost use Rattle.recover.specs.Solvers.{state, IsReady};
 ghost use Rattle.recover.specs.State.{IsSourceOf};
 ghost use Rattle.recover.specs.aid.Ready.{NoGameCause, IsHandedBack};
 
-use crate::solver::{FileSolver, Solving};
+use crate::solver::FileSolver;
 use crate::{Refused, SolverFault};
 use game_file::GameFile;
 use game_table::Source;
@@ -37,8 +38,8 @@ fn source_in<F: GameFile>(alloc: Global, file: &mut F) -> Result<Option<Source>,
 
 /// The solver over this file, with its game made ready. `Damaged` if the text is no game or a position is not one of its positions.
 pub fn with_game<F: GameFile>(alloc: Global, file: F) -> Result<FileSolver<F>, Refused<F::Device>>
-    ensures ready { F.is_whole file → IfOk result (λ solver. ⟦<FileSolver<F> as Solving>⟧.is_ready solver) }
-    ensures asked { F.is_whole file → IfOk result (λ solver. IsAsked F.stores (F.state file) (⟦<FileSolver<F> as Solving>⟧.state solver)) }
+    ensures ready { F.is_whole file → IfOk result IsReady }
+    ensures asked { F.is_whole file → IfOk result (λ solver. IsAsked F.stores (F.state file) (state solver)) }
     ensures of_a_game { F.is_whole file → IsTrue (F.state file).disk.honest → OnOk result (IsOfAGame (F.state file).kept) }
     ensures back { F.is_whole file → IfErr result (λ back. IsHandedBack F.stores (F.state file) (F.Device.disk back.disk)
         (F.Device.failures back.disk)) }

@@ -3,3 +3,7 @@ pub mod Answers
 pub mod Stops
 pub mod Statuses
 pub mod Replies
+pub mod Told
+pub mod Asked
+pub mod Answered
+pub mod aid

@@ -1,5 +1,10 @@
 //! The lines of a session.
 
+ghost use Rattle.std.specs.Prelude.{◌≡◌, ◌≤◌, ◌<◌, ◌∷◌, [], ◌++◌, List, ℕ, length, false, IsTrue, OnOk};
+ghost use Rattle.session.specs.Asked.{SayWords, Asks, IsBare};
+ghost use Rattle.session.specs.aid.Words.{IsFirstWord, IsTrimmed, IsSplit, SaysBehind};
+ghost use Rattle.session.specs.declared.input.Asked.TheVariants.{Usage};
+
 use crate::numbers::number;
 use recover::Units;
 use std::alloc::{AllocError, Global};
@@ -16,7 +21,10 @@ pub struct Line {
 
 impl Line {
     /// An empty line.
-    pub fn new(alloc: Global) -> Line {
+    pub fn new(alloc: Global) -> Line
+        ensures empty { result.bytes.items ≡ [] }
+        ensures short { result.is_too_long ≡ false }
+    {
         Line {
             bytes: Vec::new(alloc),
             is_too_long: false,
@@ -24,7 +32,11 @@ impl Line {
     }
 
     /// Puts a byte behind the line. One byte more than a line may have is kept, since it may belong to its end.
-    pub fn push(&mut self, byte: u8) -> Result<(), AllocError> {
+    pub fn push(&mut self, byte: u8) -> Result<(), AllocError>
+        ensures room { length self.old.bytes.items ≤ 1048576 → self.old.is_too_long ≡ false
+            → OnOk result ((self.new.bytes.items ≡ self.old.bytes.items ++ byte ∷ []) × (self.new.is_too_long ≡ false)) }
+        ensures full { 1048576 < length self.old.bytes.items → IsTrue self.new.is_too_long }
+    {
         if self.bytes.len() > MOST_BYTES {
             self.is_too_long = true;
             return Ok(());
@@ -34,22 +46,33 @@ impl Line {
     }
 
     /// Begins the next line.
-    pub fn clear(&mut self) {
+    pub fn clear(&mut self)
+        ensures empty { self.new.bytes.items ≡ [] }
+        ensures short { self.new.is_too_long ≡ false }
+    {
         self.bytes.clear();
         self.is_too_long = false;
     }
 
     /// What the line asks for, where LF has ended it: a CR before that belongs to the end.
-    pub fn asked(&self) -> Asked<'_> {
-        let bytes: &[u8] = &self.bytes;
+    pub fn asked(&self) -> Asked<'_>
+        ensures long { IsTrue self.now.is_too_long → result ≡ Usage }
+        ensures line { self.now.is_too_long ≡ false → (line : List ℕ) × IsBare self.now.bytes.items line × Asks line result }
+    {
         if self.is_too_long {
             return Asked::Usage;
         }
-        asked_by(bytes.strip_suffix(b"\r").unwrap_or(bytes))
+        match self.bytes.as_slice() {
+            [line @ .., b'\r'] => asked_by(line),
+            line => asked_by(line),
+        }
     }
 
     /// What the line asks for, where the input ends with it.
-    pub fn asked_last(&self) -> Asked<'_> {
+    pub fn asked_last(&self) -> Asked<'_>
+        ensures long { IsTrue self.now.is_too_long → result ≡ Usage }
+        ensures line { self.now.is_too_long ≡ false → Asks self.now.bytes.items result }
+    {
         if self.is_too_long {
             return Asked::Usage;
         }
@@ -92,47 +115,48 @@ pub enum Question<'a> {
 }
 
 /// What a line asks for, without what ends it.
-fn asked_by(line: &[u8]) -> Asked<'_> {
+fn asked_by(line: &[u8]) -> Asked<'_>
+    ensures { Asks line.now result }
+{
     if line.len() > MOST_BYTES {
         return Asked::Usage;
     }
     let (first, rest) = next_word(line);
-    if first == b"find".as_slice() {
-        find_asked(rest)
-    } else {
-        words_asked(first, rest)
+    if first.is_empty() {
+        return Asked::Nothing;
+    }
+    if first != b"find".as_slice() {
+        return words_asked(first, rest);
+    }
+    match rest {
+        [b' ', text @ ..] => Asked::Question(Question::Find(text)),
+        _ => Asked::Usage,
     }
 }
 
-/// What `find` asks for with what stands behind the word: one space, and the text.
-fn find_asked(rest: &[u8]) -> Asked<'_> {
-    match rest.strip_prefix(b" ") {
-        Some(text) => Asked::Question(Question::Find(text)),
-        None => Asked::Usage,
-    }
-}
-
-/// What a line asks for that is its first word, and up to two more in the rest.
-fn words_asked<'a>(first: &[u8], rest: &[u8]) -> Asked<'a> {
+/// What a word asks for with what stands behind it.
+fn words_asked<'a>(first: &[u8], rest: &[u8]) -> Asked<'a>
+    ensures { SaysBehind first.now rest.now result }
+{
     let (second, rest) = next_word(rest);
     let (third, rest) = next_word(rest);
     let (fourth, _) = next_word(rest);
-    if !fourth.is_empty() {
-        Asked::Usage
-    } else if !third.is_empty() {
-        two_asked(first, second, third)
-    } else if !second.is_empty() {
-        one_asked(first, second)
-    } else {
+    if second.is_empty() {
         word_asked(first)
+    } else if third.is_empty() {
+        one_asked(first, second)
+    } else if fourth.is_empty() {
+        two_asked(first, second, third)
+    } else {
+        Asked::Usage
     }
 }
 
 /// What a word asks for that stands alone.
-fn word_asked<'a>(word: &[u8]) -> Asked<'a> {
-    if word.is_empty() {
-        Asked::Nothing
-    } else if word == b"status".as_slice() {
+fn word_asked<'a>(word: &[u8]) -> Asked<'a>
+    ensures { SayWords (word.now ∷ []) result }
+{
+    if word == b"status".as_slice() {
         Asked::Status
     } else if word == b"quit".as_slice() {
         Asked::Quit
@@ -144,12 +168,17 @@ fn word_asked<'a>(word: &[u8]) -> Asked<'a> {
 }
 
 /// What a word asks for with a number behind it.
-fn one_asked<'a>(word: &[u8], number_word: &[u8]) -> Asked<'a> {
+fn one_asked<'a>(word: &[u8], number_word: &[u8]) -> Asked<'a>
+    ensures { SayWords (word.now ∷ number_word.now ∷ []) result }
+{
     let Some(number) = number(number_word) else {
         return Asked::Usage;
     };
     if word == b"work".as_slice() {
-        work_asked(number)
+        match Units::new(number) {
+            Some(units) => Asked::Work(units),
+            None => Asked::Usage,
+        }
     } else if word == b"value".as_slice() {
         Asked::Question(Question::Value(number))
     } else if word == b"line".as_slice() {
@@ -161,29 +190,50 @@ fn one_asked<'a>(word: &[u8], number_word: &[u8]) -> Asked<'a> {
     }
 }
 
-/// What `work` asks for with this number: 1 to 256.
-fn work_asked<'a>(count: u32) -> Asked<'a> {
-    match Units::new(count) {
-        Some(units) => Asked::Work(units),
-        None => Asked::Usage,
-    }
-}
-
 /// What a word asks for with two numbers behind it.
-fn two_asked<'a>(word: &[u8], from_word: &[u8], count_word: &[u8]) -> Asked<'a> {
-    if word != b"list".as_slice() {
+fn two_asked<'a>(word: &[u8], from_word: &[u8], count_word: &[u8]) -> Asked<'a>
+    ensures { SayWords (word.now ∷ from_word.now ∷ count_word.now ∷ []) result }
+{
+    let (Some(from), Some(count)) = (number(from_word), number(count_word)) else {
         return Asked::Usage;
-    }
-    match (number(from_word), number(count_word).and_then(Units::new)) {
-        (Some(from), Some(count)) => Asked::Question(Question::List(from, count)),
-        _ => Asked::Usage,
+    };
+    let Some(count) = Units::new(count) else {
+        return Asked::Usage;
+    };
+    if word == b"list".as_slice() {
+        Asked::Question(Question::List(from, count))
+    } else {
+        Asked::Usage
     }
 }
 
 /// The first word of a line, and what stands behind it; no word is empty.
-fn next_word(line: &[u8]) -> (&[u8], &[u8]) {
-    let blanks = line.iter().take_while(|byte| **byte == b' ').count();
-    let line = &line[blanks.min(line.len())..];
-    let letters = line.iter().take_while(|byte| **byte != b' ').count();
-    line.split_at(letters.min(line.len()))
+fn next_word(line: &[u8]) -> (&[u8], &[u8])
+    ensures { IsFirstWord line.now result.0.now result.1.now }
+{
+    split_at_space(trimmed(line))
+}
+
+/// The line without the spaces that it begins with.
+fn trimmed(line: &[u8]) -> &[u8]
+    ensures { IsTrimmed line.now result.now }
+{
+    for (index, byte) in line.iter().enumerate() {
+        if *byte != b' ' {
+            return &line[index..];
+        }
+    }
+    &[]
+}
+
+/// What stands before the first space, and the rest with that space.
+fn split_at_space(line: &[u8]) -> (&[u8], &[u8])
+    ensures { IsSplit line.now result.0.now result.1.now }
+{
+    for (index, byte) in line.iter().enumerate() {
+        if *byte == b' ' {
+            return line.split_at(index);
+        }
+    }
+    (line, &[])
 }

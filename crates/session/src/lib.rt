@@ -17,8 +17,6 @@ mod questions;
 pub mod refused;
 pub mod replies;
 mod streams;
-#[cfg(test)]
-mod tests;
 pub mod turns;
 pub mod words;
 

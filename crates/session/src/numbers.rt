@@ -1,18 +1,20 @@
 //! Numbers in the lines of a session.
 
+ghost use Rattle.std.specs.Prelude.{ℕ, MatchOption};
+ghost use Rattle.session.specs.Asked.{IsNumber};
+
 /// The number that one to ten digits write, at most 4,294,967,295.
-pub fn number(word: &[u8]) -> Option<u32> {
-    if word.is_empty() || word.len() > 10 {
+pub fn number(word: &[u8]) -> Option<u32>
+    ensures { MatchOption result ((n : ℕ) → ¬ IsNumber word.now n) (IsNumber word.now) }
+{
+    if word.len() > 10 || word.starts_with(b"+") {
         return None;
     }
-    let mut number: u64 = 0;
-    for byte in word {
-        if !byte.is_ascii_digit() {
-            return None;
-        }
-        number = number
-            .saturating_mul(10)
-            .saturating_add(u64::from(byte.saturating_sub(b'0')));
-    }
-    u32::try_from(number).ok()
+    let Ok(text) = str::from_utf8(word) else {
+        return None;
+    };
+    let Ok(number) = text.parse::<u32>() else {
+        return None;
+    };
+    Some(number)
 }

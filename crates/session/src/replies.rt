@@ -1,12 +1,14 @@
 //! The lines of the replies in a session.
 
-ghost use Rattle.std.specs.Prelude.{◌≡◌, ◌∷◌, [], ◌++◌, codes, IfOk};
+ghost use Rattle.std.specs.Prelude.{◌≡◌, ◌∷◌, [], ◌++◌, ℕ, List, codes, IfOk, OnOk};
+ghost use Rattle.std.specs.Io.KnownBytes.{Appends};
 ghost use Rattle.std.specs.Fmt.{decimal};
 ghost use Rattle.std.specs.List.{flat_map};
 ghost use Rattle.rbg_game.specs.Meaning.{game_of};
 ghost use Rattle.position_pack.specs.Texts.{variable_name, role_text};
 ghost use Rattle.rbg_game.specs.declared.roles.Role.TheVariants as role;
 ghost use Rattle.session.specs.Replies.{value_text, row_line, spaced, line_line};
+ghost use Rattle.session.specs.Told.{IsCountsLine, IsStatusLine, IsWorkLine};
 
 use best_line::{Row, Value};
 use rbg_game::game::Game;
@@ -122,13 +124,17 @@ pub fn found_line(alloc: Global, number: u32) -> Result<Vec<u8>, AllocError>
 }
 
 /// Writes the line that tells what work was done. It takes no memory.
-pub fn put_work<W: Write>(out: &mut W, units: u32, counts: Counts) -> io::Result<()> {
+pub fn put_work<W: Write>(out: &mut W, units: u32, counts: Counts) -> io::Result<()>
+    ensures { OnOk result ((line : List ℕ) × IsWorkLine units counts line × Appends (W.contents out.old) (W.contents out.new) line) }
+{
     write!(out, "units {units} ")?;
     put_counts(out, counts)
 }
 
 /// Writes the line that tells how far a table is; `no game` where there is none. It takes no memory.
-pub fn put_status<W: Write>(out: &mut W, counts: Option<Counts>) -> io::Result<()> {
+pub fn put_status<W: Write>(out: &mut W, counts: Option<Counts>) -> io::Result<()>
+    ensures { OnOk result ((line : List ℕ) × IsStatusLine counts line × Appends (W.contents out.old) (W.contents out.new) line) }
+{
     match counts {
         Some(counts) => put_counts(out, counts),
         None => out.write_all(b"no game\n"),
@@ -136,20 +142,22 @@ pub fn put_status<W: Write>(out: &mut W, counts: Option<Counts>) -> io::Result<(
 }
 
 /// Writes how far a table is, in words.
-fn put_counts<W: Write>(out: &mut W, counts: Counts) -> io::Result<()> {
+fn put_counts<W: Write>(out: &mut W, counts: Counts) -> io::Result<()>
+    ensures { OnOk result ((line : List ℕ) × IsCountsLine counts line × Appends (W.contents out.old) (W.contents out.new) line) }
+{
     let Counts {
         known,
         expanded,
         settled,
         processed,
     } = counts;
-    let state = if expanded == known && processed == settled {
-        "finished"
-    } else {
-        "open"
-    };
-    writeln!(
+    write!(
         out,
-        "known {known} expanded {expanded} settled {settled} processed {processed} {state}"
-    )
+        "known {known} expanded {expanded} settled {settled} processed {processed}"
+    )?;
+    if expanded == known && processed == settled {
+        out.write_all(b" finished\n")
+    } else {
+        out.write_all(b" open\n")
+    }
 }

@@ -2,20 +2,20 @@
 
 ghost use Rattle.std.specs.Prelude.{◌≡◌, ◌⊎◌, slice_get, unwrap_or};
 ghost use Rattle.recover.specs.Runs.{command_of, reply_of, IsTurn};
+ghost use Rattle.recover.specs.Solvers.{state, IsReady};
 ghost use Rattle.recover.specs.declared.replies.Reply.TheVariants as answer;
 ghost use Rattle.recover.specs.declared.fault.SolverFault.TheVariants as fault;
 
 use game_file::GameFile;
-use recover::{Command, FileSolver, Reply, SolverFault, Solving};
+use recover::{Command, FileSolver, Reply, SolverFault};
 use std::alloc::Global;
 
 /// The reply to one command, done as a run of its own: what it says and does is the command's turn. Where there is no room for the
 /// reply, E8 is answered and nothing is done.
 pub fn reply_to<F: GameFile>(alloc: Global, solver: &mut FileSolver<F>, command: Command) -> Reply
-    ensures ready { ⟦<FileSolver<F> as Solving>⟧.is_ready solver.old → ⟦<FileSolver<F> as Solving>⟧.is_ready solver.new }
-    ensures turn { ⟦<FileSolver<F> as Solving>⟧.is_ready solver.old
-        → IsTurn F.stores (⟦<FileSolver<F> as Solving>⟧.state solver.new).disk (command_of command) (reply_of result)
-        (⟦<FileSolver<F> as Solving>⟧.state solver.old) (⟦<FileSolver<F> as Solving>⟧.state solver.new)
+    ensures ready { IsReady solver.old → IsReady solver.new }
+    ensures turn { IsReady solver.old
+        → IsTurn F.stores (state solver.new).disk (command_of command) (reply_of result) (state solver.old) (state solver.new)
         ⊎ ((result ≡ answer.Refused fault.OutOfMemory) × (solver.new ≡ solver.old)) }
 {
     let mut replies = Vec::new(alloc);

@@ -1,22 +1,23 @@
-//! Games made ready for their moves, and their tables.
-ghost use Rattle.std.specs.Prelude.{IfOk};
-ghost use Rattle.legal_moves.specs.Compiled.{IsCompiled};
-
-use legal_moves::{Compiled, MoveSource};
-use rbg_read::read::read_game;
+//! Games made ready for their moves, with their tables.
+use game_table::Source;
+use legal_moves::MoveSource;
+use rbg_game::roles::Player;
+use retrograde::Record;
 use std::alloc::Global;
 use std::test::Fail;
 use table::{MemTable, Table};
 use table_work::{MAX_POSITIONS, StepFault, work};
 
-/// The game of a text, made ready for its moves.
-pub fn game_of(alloc: Global, text: &str) -> Result<Compiled, Fail>
-    ensures { IfOk result IsCompiled }
-{
-    let Ok(game) = read_game(alloc, text.as_bytes()) else {
-        return Err("the game cannot be read".into());
-    };
-    Ok(Compiled::new(alloc, game)?)
+/// A game and its table in memory.
+#[derive(Drop)]
+pub struct Solving {
+    pub source: Source,
+    pub table: MemTable,
+}
+
+/// The game of a text.
+pub fn source_of(alloc: Global, text: &str) -> Result<Source, Fail> {
+    Ok(Source::read(alloc, text.as_bytes())?)
 }
 
 /// A game of white and black on one vertex, with these variables and rules.
@@ -28,14 +29,19 @@ pub fn small(alloc: Global, variables: &str, rules: &str) -> Result<String, Fail
 }
 
 /// The table of a game that was just loaded.
-pub fn fresh(alloc: Global, source: &Compiled) -> Result<MemTable, Fail>
-    requires { IsCompiled source.now }
-{
-    Ok(MemTable::new(alloc, &MoveSource::start(source))?)
+fn fresh(alloc: Global, source: &Source) -> Result<MemTable, Fail> {
+    Ok(MemTable::new(alloc, &source.start())?)
 }
 
-/// How many units of so many were done.
-pub fn works<M: MoveSource, T: Table>(
+/// A game that was just loaded.
+pub fn begun(alloc: Global, text: &str) -> Result<Solving, Fail> {
+    let source = source_of(alloc, text)?;
+    let table = fresh(alloc, &source)?;
+    Ok(Solving { source, table })
+}
+
+/// How many units of so many were done, by the bounds alone.
+fn works<M: MoveSource, T: Table>(
     alloc: Global,
     source: &M,
     table: &mut T,
@@ -49,11 +55,30 @@ pub fn works<M: MoveSource, T: Table>(
     work(alloc, source, table, units)
 }
 
-/// The table of a game after so many units of work, or fewer where it is finished then.
-pub fn worked(alloc: Global, source: &Compiled, units: u32) -> Result<MemTable, Fail>
-    requires { IsCompiled source.now }
-{
-    let mut table = fresh(alloc, source)?;
-    works(alloc, source, &mut table, units)?;
-    Ok(table)
+impl Solving {
+    /// How many units of so many were done.
+    pub fn work(&mut self, alloc: Global, units: u32) -> Result<u32, StepFault> {
+        works(alloc, self.source.moves(), &mut self.table, units)
+    }
+}
+
+/// A game after so many units of work, or fewer where it is finished then.
+pub fn worked(alloc: Global, text: &str, units: u32) -> Result<Solving, Fail> {
+    let mut solving = begun(alloc, text)?;
+    solving.work(alloc, units)?;
+    Ok(solving)
+}
+
+/// The record of a number.
+pub fn record_of<T: Table>(table: &mut T, number: u32) -> Result<Record, Fail> {
+    if number >= table.counts().known {
+        return Err("the number is not known".into());
+    }
+    Ok(table.record(number)?)
+}
+
+/// Who wins a number, and in how many moves.
+pub fn winner<T: Table>(table: &mut T, number: u32) -> Result<(Option<Player>, u32), Fail> {
+    let kept = record_of(table, number)?;
+    Ok((kept.winner, kept.distance))
 }

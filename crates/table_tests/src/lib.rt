@@ -2,6 +2,8 @@
 #![tactic(auto)]
 
 #[cfg(test)]
+mod expectation;
+#[cfg(test)]
 mod game_texts;
 #[cfg(test)]
 mod games;

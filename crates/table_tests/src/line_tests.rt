@@ -1,145 +1,160 @@
 //! Worked examples of values, lists and lines.
-ghost use Rattle.legal_moves.specs.Compiled.{IsCompiled};
-
+use crate::expectation::expect;
 use crate::game_texts::{FORK, ROUND, TAKE};
 use crate::games::{game_of, worked};
-use best_line::{LineFault, Row, Value, line, list, value};
-use legal_moves::Compiled;
-use rbg_game::roles::Player;
+use best_line::Value::{self, Drawn, Open, Won};
+use best_line::{LineFault, Row, line, list, value};
+use rbg_game::roles::Player::{First, Second};
 use std::alloc::Global;
 use std::test::Fail;
-use table::{MemTable, Table};
+use table::Table;
 
-/// The values of so many numbers from 0 on.
-fn values(alloc: Global, table: &mut MemTable, count: u32) -> Result<Vec<Value>, Fail> {
+/// The value of a number.
+fn value_at<T: Table>(table: &mut T, number: u32) -> Result<Value, Fail> {
+    if number >= table.counts().known {
+        return Err("the number is not known".into());
+    }
+    Ok(value(table, number)?)
+}
+
+/// The values of all positions of a game after so many units.
+fn values(alloc: Global, text: &str, units: u32) -> Result<Vec<Value>, Fail> {
+    let source = game_of(alloc, text)?;
+    let mut table = worked(alloc, &source, units)?;
     let mut values = Vec::new(alloc);
-    for number in 0..count {
-        if number >= table.counts().known {
-            return Err("the number is not known".into());
-        }
-        values.push(value(table, number)?)?;
+    for number in 0..table.counts().known {
+        values.push(value_at(&mut table, number)?)?;
     }
     Ok(values)
 }
 
-/// The rows from a known number on.
-fn rows(alloc: Global, table: &mut MemTable, from: u32, count: u32) -> Result<Vec<Row>, Fail> {
-    if from >= table.counts().known || count == 0 || count > 256 {
-        return Err("no such rows".into());
+/// Games, how many units of work are done on them, and the values of their positions then.
+const VALUES: [(&str, u32, &[Value]); 4] = [
+    (
+        TAKE,
+        14,
+        &[
+            Won(Second, 3),
+            Won(Second, 2),
+            Won(Second, 1),
+            Won(Second, 1),
+            Won(Second, 0),
+            Won(First, 1),
+            Won(First, 0),
+        ],
+    ),
+    (
+        FORK,
+        18,
+        &[
+            Won(First, 2),
+            Won(First, 1),
+            Won(First, 0),
+            Won(First, 2),
+            Won(First, 2),
+            Won(First, 1),
+            Won(First, 1),
+            Won(First, 2),
+            Won(First, 0),
+        ],
+    ),
+    (ROUND, 0, &[Open]),
+    (ROUND, 4, &[Drawn, Drawn, Drawn, Drawn]),
+];
+
+#[test]
+fn positions_have_their_values(rt: HostRuntime) -> Result<(), Fail> {
+    for (text, units, want) in VALUES {
+        let found = values(rt.alloc(), text, units)?;
+        expect(found.as_slice(), want, text)?;
     }
-    Ok(list(alloc, table, from, count)?)
+    Ok(())
 }
 
-/// The line from a known number.
+/// The line from a number, after so many units.
 fn line_from(
     alloc: Global,
-    source: &Compiled,
-    table: &mut MemTable,
+    text: &str,
+    units: u32,
     number: u32,
-) -> Result<Vec<u32>, Fail>
-    requires { IsCompiled source.now }
-{
+) -> Result<Result<Vec<u32>, LineFault>, Fail> {
+    let source = game_of(alloc, text)?;
+    let mut table = worked(alloc, &source, units)?;
     if number >= table.counts().known {
         return Err("the number is not known".into());
     }
-    Ok(line(alloc, source, table, number)?)
+    Ok(line(alloc, &source, &mut table, number))
 }
 
-fn white(distance: u32) -> Value {
-    Value::Won(Player::First, distance)
-}
+/// Games, how many units of work are done on them, and lines by their first number.
+const LINES: [(&str, u32, &[u32]); 4] = [
+    (TAKE, 14, &[0, 1, 2, 4]),
+    (FORK, 18, &[0, 1, 2]),
+    (FORK, 18, &[6, 8]),
+    (FORK, 18, &[7, 5, 2]),
+];
 
-fn black(distance: u32) -> Value {
-    Value::Won(Player::Second, distance)
+#[test]
+fn a_best_line_is_played(rt: HostRuntime) -> Result<(), Fail> {
+    for (text, units, want) in LINES {
+        let first = want.first().copied().ok_or("a line has a number")?;
+        let found = line_from(rt.alloc(), text, units, first)??;
+        expect(found.as_slice(), want, text)?;
+    }
+    Ok(())
 }
 
 #[test]
-fn takes_are_valued_and_played(rt: HostRuntime) -> Result<(), Fail> {
-    let alloc = rt.alloc();
+fn a_draw_has_no_line(rt: HostRuntime) -> Result<(), Fail> {
+    let found = line_from(rt.alloc(), ROUND, 4, 0)?;
+    expect(
+        found.err(),
+        Some(LineFault::NotSettled),
+        "play that goes round",
+    )
+}
+
+/// The rows of takes from a number on.
+fn rows(alloc: Global, from: u32, count: u32) -> Result<Vec<Row>, Fail> {
     let source = game_of(alloc, TAKE)?;
     let mut table = worked(alloc, &source, 14)?;
-    let found = values(alloc, &mut table, 7)?;
-    let expected = [
-        black(3),
-        black(2),
-        black(1),
-        black(1),
-        black(0),
-        white(1),
-        white(0),
-    ];
-    assert_eq!(rt; found.as_slice(), expected.as_slice());
-    let found = line_from(alloc, &source, &mut table, 0)?;
-    assert_eq!(rt; found.as_slice(), [0, 1, 2, 4].as_slice());
-    Ok(())
+    if from >= table.counts().known || count == 0 || count > 256 {
+        return Err("no such rows".into());
+    }
+    Ok(list(alloc, &mut table, from, count)?)
 }
+
+/// From where on and how many rows are asked for, and the rows.
+const ROWS: [(u32, u32, &[Row]); 2] = [
+    (
+        4,
+        2,
+        &[
+            Row {
+                number: 4,
+                value: Won(Second, 0),
+            },
+            Row {
+                number: 5,
+                value: Won(First, 1),
+            },
+        ],
+    ),
+    (
+        6,
+        256,
+        &[Row {
+            number: 6,
+            value: Won(First, 0),
+        }],
+    ),
+];
 
 #[test]
 fn takes_are_listed(rt: HostRuntime) -> Result<(), Fail> {
-    let alloc = rt.alloc();
-    let source = game_of(alloc, TAKE)?;
-    let mut table = worked(alloc, &source, 14)?;
-    let found = rows(alloc, &mut table, 4, 2)?;
-    let expected = [
-        Row {
-            number: 4,
-            value: black(0),
-        },
-        Row {
-            number: 5,
-            value: white(1),
-        },
-    ];
-    assert_eq!(rt; found.as_slice(), expected.as_slice());
-    let found = rows(alloc, &mut table, 6, 256)?;
-    let expected = [Row {
-        number: 6,
-        value: white(0),
-    }];
-    assert_eq!(rt; found.as_slice(), expected.as_slice());
-    Ok(())
-}
-
-#[test]
-fn a_fork_is_valued_and_played(rt: HostRuntime) -> Result<(), Fail> {
-    let alloc = rt.alloc();
-    let source = game_of(alloc, FORK)?;
-    let mut table = worked(alloc, &source, 18)?;
-    let found = values(alloc, &mut table, 9)?;
-    let expected = [
-        white(2),
-        white(1),
-        white(0),
-        white(2),
-        white(2),
-        white(1),
-        white(1),
-        white(2),
-        white(0),
-    ];
-    assert_eq!(rt; found.as_slice(), expected.as_slice());
-    let found = line_from(alloc, &source, &mut table, 0)?;
-    assert_eq!(rt; found.as_slice(), [0, 1, 2].as_slice());
-    let found = line_from(alloc, &source, &mut table, 6)?;
-    assert_eq!(rt; found.as_slice(), [6, 8].as_slice());
-    let found = line_from(alloc, &source, &mut table, 7)?;
-    assert_eq!(rt; found.as_slice(), [7, 5, 2].as_slice());
-    Ok(())
-}
-
-#[test]
-fn play_that_goes_round_is_open_and_then_drawn(rt: HostRuntime) -> Result<(), Fail> {
-    let alloc = rt.alloc();
-    let source = game_of(alloc, ROUND)?;
-    let mut table = worked(alloc, &source, 0)?;
-    let found = values(alloc, &mut table, 1)?;
-    assert_eq!(rt; found.as_slice(), [Value::Open].as_slice());
-    let mut table = worked(alloc, &source, 4)?;
-    assert_eq!(rt; table.counts().known, 4);
-    let found = values(alloc, &mut table, 1)?;
-    assert_eq!(rt; found.as_slice(), [Value::Drawn].as_slice());
-    assert!(rt; 0 < table.counts().known);
-    let found = line(alloc, &source, &mut table, 0);
-    assert!(rt; found == Err(LineFault::NotSettled));
+    for (from, count, want) in ROWS {
+        let found = rows(rt.alloc(), from, count)?;
+        expect(found.as_slice(), want, "rows of takes")?;
+    }
     Ok(())
 }

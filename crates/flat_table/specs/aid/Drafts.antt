@@ -3,8 +3,8 @@ use Rattle.std.specs.Prelude.{◌≤◌, ◌^◌, length, Option, None, Some, re
 use Rattle.std.proofs.Common.{◌∙◌, arith}
 use Rattle.std.proofs.lemmas.List.{length-map}
 use Rattle.table.specs.declared.memory.MemTable.{MemTable}
-use Rattle.flat_file.specs.declared.game.Game.{Game}
-use Rattle.flat_file.specs.File.{File}
+use Rattle.flat_table.specs.declared.game.Game.{Game}
+use Rattle.flat_table.specs.File.{File}
 use Rattle.flat_table.specs.Drafts.{stored_now, IsUnwrittenFile, IsOnlyRead}
 
 pub unwritten_here : (file : File) → IsUnwrittenFile file file

@@ -12,10 +12,10 @@ use Rattle.game_file.specs.Calls.{IsAsked, IsKept}
 use Rattle.game_file.specs.Causes.{FileTableCause}
 use Rattle.game_file.specs.Kept.{Kept, text_kept}
 use Rattle.game_file.specs.State.{State, GoesAhead}
-use Rattle.flat_file.specs.declared.game.Game.{Game}
-use Rattle.flat_file.specs.File.{File, IsFile, kept_in, kept_of}
-use Rattle.flat_file.specs.Held.{Stores}
-use Rattle.flat_file.specs.Laws.{a_file_is_kept}
+use Rattle.flat_table.specs.declared.game.Game.{Game}
+use Rattle.flat_table.specs.File.{File, IsFile, kept_in, kept_of}
+use Rattle.flat_table.specs.Held.{Stores}
+use Rattle.flat_table.specs.StoredLaws.{a_file_is_kept}
 use Rattle.flat_table.specs.Calls.{file_of, state_of}
 use Rattle.flat_table.specs.Drafts.{stored_now, IsUnwrittenFile}
 

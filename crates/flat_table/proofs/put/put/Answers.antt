@@ -2,14 +2,14 @@ use Rattle.std.proofs.Common.{◌≡◌, ◌≢◌, ◌≤◌, ◌^◌, ℕ, Lis
 use Rattle.page_store.specs.Store.{Store}
 use Rattle.retrograde.specs.Stored.{Stored}
 use Rattle.table.specs.InMemory.{stored_in}
-use Rattle.flat_file.specs.File.{IsBacked, kept_of}
-use Rattle.flat_write.specs.Saving.{AreBytesOf}
+use Rattle.flat_table.specs.File.{IsBacked, kept_of}
+use Rattle.flat_table.specs.Saving.{AreBytesOf}
 use Rattle.flat_table.specs.Bytes.{BytesCause}
 use Rattle.game_file.specs.Faults.{of_pages}
 use Rattle.game_file.specs.Kept.{kept_as}
 use Rattle.game_file.specs.declared.fault.FileFault.TheVariants.{Disk}
 use Rattle.flat_table.specs.Pages.{ArePages}
-use Rattle.flat_table.proofs.Bytes.{bytes_cause, save_cause}
+use Rattle.flat_table.proofs.PageBytes.{bytes_cause, save_cause}
 use Rattle.flat_table.proofs.Passing.{passed_on, so_refused_for}
 use Rattle.flat_table.proofs.Putting.{nothing_put, left_in_place, put_in_place}
 use Rattle.flat_table.proofs.put.put.Goals as goal

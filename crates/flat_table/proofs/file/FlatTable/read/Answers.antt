@@ -1,5 +1,5 @@
 use Rattle.std.proofs.Common.{◌∙◌, sym, ap}
-use Rattle.root_slot.specs.Slot.{commits_in}
+use Rattle.flat_table.specs.Slot.{commits_in}
 use Rattle.flat_table.proofs.Opening.{opened, open_cause}
 use Rattle.flat_table.proofs.file.FlatTable.read.Goals as goal
 

@@ -1,5 +1,5 @@
 use Rattle.std.proofs.Common.{◌∙◌, sym, ap, arith}
-use Rattle.root_slot.specs.Slot.{commits_in}
+use Rattle.flat_table.specs.Slot.{commits_in}
 use Rattle.flat_table.proofs.file.FlatTable.replace.Goals as goal
 
 pub invariant_of-self : goal.invariant_of-self

@@ -1,7 +1,7 @@
 use Rattle.std.proofs.Common.{sym, ◌∙◌, ap, subst}
 use Rattle.std.proofs.lemmas.Result.{IfErr-weaker}
 use Rattle.page_store.specs.Store.{Store}
-use Rattle.flat_file.specs.File.{File}
+use Rattle.flat_table.specs.File.{File}
 use Rattle.flat_table.specs.Drafts.{IsUnwrittenFile}
 use Rattle.flat_table.specs.contracts.file.FlatTableTableFile.TheImpl as it
 use Rattle.flat_table.proofs.Passing.{passed_on}

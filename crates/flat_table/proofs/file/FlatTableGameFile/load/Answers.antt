@@ -1,5 +1,5 @@
 use Rattle.std.proofs.Common.{◌≡◌, rules, refl}
-use Rattle.flat_file.specs.File.{File}
+use Rattle.flat_table.specs.File.{File}
 use Rattle.flat_table.specs.declared.file.FlatTable.{FlatTable}
 use Rattle.flat_table.specs.contracts.file.FlatTableTableFile.TheImpl as it
 use Rattle.flat_table.proofs.file.FlatTableGameFile.load.Given as Given

@@ -1,4 +1,4 @@
-use Rattle.std.proofs.Common.{◌≡◌, sym, ◌∙◌, ap, subst, arith, Option, Err}
+use Rattle.std.proofs.Common.{◌≡◌, refl, sym, ◌∙◌, ap, subst, arith, Option, Err}
 use Rattle.frontier.specs.declared.fault.StepFault.{StepFault}
 use Rattle.legal_moves.specs.declared.compiled.Compiled.{Compiled}
 use Rattle.game_file.specs.Kept.{Kept}
@@ -93,3 +93,14 @@ returns-else-done-gt0-clause-done g c = λ ready.
     (λ honest. ap g.F.Table.stored same ∙ (g.met.F.GameFile.whole_stored file k ready.0 honest is).1)
     (λ honest. c.counts-counts.ensures ∙ g.met.F.Table.counts_are c.work.new.table (c.in-Ok.ensures.honest.0 (g.met.F.GameFile.whole_stored file k ready.0 honest is).0))
     (λ honest is_open. g.met.F.GameFile.whole_leaves file ready.0 honest is_open) (sym c.is_closed.ensures ∙ c.if-is_closed.false))
+
+pub returns-then-is_closed-clause-closed : goal.returns-then-is_closed-clause-closed
+returns-then-is_closed-clause-closed g c = λ closed. (refl, refl)
+
+pub returns-then-is_none-clause-no_game : goal.returns-then-is_none-clause-no_game
+returns-then-is_none-clause-no_game g c = λ is_open none. (refl, refl)
+
+pub returns-else-done-gt0-clause-idle : goal.returns-else-done-gt0-clause-idle
+returns-else-done-gt0-clause-idle g c = λ none.
+    let same = c.in-Ok.ensures.idle (omega (arith, c.if-done-gt0.false)) in
+    rw same refl

@@ -1,0 +1,326 @@
+//! Tables in files of layout 1, on a disk in memory (`flat_table`): they are read, slots, chains and bytes that store none are
+//! refused, and one is saved in the place of another, with one disk call failing or the power stopped.
+
+use crate::disks::{COMMIT, OPENING, WRITING, agree, all_over, opened, sealed, table_disk};
+use crate::two_positions::{TWO, TWO_COUNTS, TWO_SIZES, two_with};
+use flat_table::game::Game;
+use flat_table::read::read_all;
+use flat_table::slot::{GameSlot, empty_slot, game_slot, read_slot};
+use flat_table::write::save;
+use page_chain::{read_chain, write_chain};
+use page_store::{PageFault, PageStore, Pages};
+use retrograde::Counts;
+use root_pair::MAGIC;
+use sector_disk::{FlakyDisk, FuseDisk, MemDisk, SectorDisk};
+use std::alloc::{AllocError, Global};
+use std::test::Fail;
+use table::Table;
+use table_bytes::{Sizes, Written};
+
+/// Sectors of a disk of 16 pages.
+const SIXTEEN: u64 = 128;
+
+/// Sectors of a disk of 20 pages.
+const TWENTY: u64 = 160;
+
+/// A disk of 16 pages with these bytes in a chain that the root names, with these sizes.
+fn with_game(alloc: Global, bytes: &[u8], sizes: Sizes) -> Result<MemDisk, Fail> {
+    let mut store = sealed(alloc, table_disk(alloc, SIXTEEN, &empty_slot())?)?;
+    let pages = write_chain(alloc, &mut store, bytes)?;
+    let first = pages.first().copied().unwrap_or(0);
+    store.commit(&game_slot(5, &GameSlot { first, sizes }))?;
+    Ok(store.into_disk())
+}
+
+/// The same with the table of two positions.
+fn with_two(alloc: Global) -> Result<MemDisk, Fail> {
+    with_game(alloc, &TWO, TWO_SIZES)
+}
+
+/// The fault of reading what a disk holds, if there is one.
+fn fault_of<D: SectorDisk + Drop>(alloc: Global, disk: D) -> Option<PageFault> {
+    match opened(alloc, disk) {
+        Ok(store) => {
+            let mut store = store;
+            read_all(alloc, &mut store).err()
+        }
+        Err(fault) => Some(fault),
+    }
+}
+
+/// What is told of a disk that is read: the count of commits, the free pages, and the game.
+fn told(alloc: Global, disk: MemDisk) -> Result<(u64, u32, Option<Game>), Fail> {
+    let mut store = opened(alloc, disk)?;
+    let read = read_all(alloc, &mut store)?;
+    Ok((read.commits, store.free_pages(), read.game))
+}
+
+#[test]
+fn a_table_of_two_positions_is_read(rt: HostRuntime) -> Result<(), Fail> {
+    let (commits, free, game) = told(rt.alloc(), with_two(rt.alloc())?)?;
+    let Some(game) = game else {
+        return Err("no game is read".into());
+    };
+    let numbers = (commits, free, game.packed, game.pages.len());
+    agree("numbers", numbers, (5, 14, 1, 1))?;
+    agree("text", game.text.as_slice(), b"rbg".as_slice())?;
+    agree("counts", game.table.counts(), TWO_COUNTS)
+}
+
+#[test]
+fn an_empty_table_takes_no_page(rt: HostRuntime) -> Result<(), Fail> {
+    let disk = table_disk(rt.alloc(), SIXTEEN, &empty_slot())?;
+    let (commits, free, game) = told(rt.alloc(), disk)?;
+    agree("empty", (commits, free, game.is_none()), (0, 15, true))
+}
+
+/// A disk of which the root names a chain of the table of two positions that begins at this page.
+fn naming(alloc: Global, first: u32) -> Result<MemDisk, Fail> {
+    let sizes = TWO_SIZES;
+    table_disk(alloc, SIXTEEN, &game_slot(1, &GameSlot { first, sizes }))
+}
+
+/// A disk of 15 pages and seven sectors, with a header, a gate of zeros and an empty slot.
+fn too_small(alloc: Global) -> Result<MemDisk, Fail> {
+    let mut disk = MemDisk::new(alloc, SIXTEEN - 1)?;
+    let mut header = [0; 512];
+    header[..8].copy_from_slice(&MAGIC);
+    if disk.sectors() > 2 {
+        disk.write(0, &header)?;
+        disk.write(2, &empty_slot())?;
+    }
+    Ok(disk)
+}
+
+#[test]
+fn a_disk_that_names_no_chain_or_is_too_small_is_damaged(rt: HostRuntime) -> Result<(), Fail> {
+    for disk in [
+        table_disk(rt.alloc(), SIXTEEN, &[7; 512])?,
+        naming(rt.alloc(), 0)?,
+        naming(rt.alloc(), 16)?,
+        naming(rt.alloc(), u32::MAX)?,
+        too_small(rt.alloc())?,
+    ] {
+        let sectors = disk.sectors();
+        agree(sectors, fault_of(rt.alloc(), disk), DAMAGED)?;
+    }
+    Ok(())
+}
+
+const DAMAGED: Option<PageFault> = Some(PageFault::Damaged);
+
+/// What the table of two positions gives with another byte at one place.
+const WITH_ANOTHER_BYTE: [(usize, u8, Option<PageFault>); 5] = [
+    (48, 1, None), // the settled number, as it is
+    (48, 0, DAMAGED), // one that is not settled
+    (48, 9, DAMAGED), // one that is not known
+    (20, 7, DAMAGED), // a position that stands twice
+    (21, 1, DAMAGED), // the settled number's state is expanded alone
+];
+
+#[test]
+fn a_table_whose_parts_do_not_fit_is_damaged(rt: HostRuntime) -> Result<(), Fail> {
+    for (at, byte, fault) in WITH_ANOTHER_BYTE {
+        let disk = with_game(rt.alloc(), &two_with(at, byte), TWO_SIZES)?;
+        agree((at, byte), fault_of(rt.alloc(), disk), fault)?;
+    }
+    Ok(())
+}
+
+#[test]
+fn a_table_that_is_counted_wrong_is_damaged(rt: HostRuntime) -> Result<(), Fail> {
+    for (expanded, processed, fault) in [(2, 0, None), (1, 0, DAMAGED), (2, 1, DAMAGED)] {
+        let mut sizes = TWO_SIZES;
+        sizes.counts.expanded = expanded;
+        sizes.counts.processed = processed;
+        let disk = with_game(rt.alloc(), &TWO, sizes)?;
+        agree((expanded, processed), fault_of(rt.alloc(), disk), fault)?;
+    }
+    Ok(())
+}
+
+#[test]
+fn a_read_that_fails_is_told(rt: HostRuntime) -> Result<(), Fail> {
+    // Four calls of opening, and eight for the page.
+    for at_call in 0..=12 {
+        let failing = FlakyDisk::new(with_two(rt.alloc())?, at_call, false);
+        let wanted = (at_call < 12).then_some(PageFault::Disk);
+        agree(at_call, fault_of(rt.alloc(), failing), wanted)?;
+    }
+    Ok(())
+}
+
+/// The sizes of what is saved, which name its byte too.
+fn sizes_with(byte: u8) -> Sizes {
+    Sizes {
+        text: u32::from(byte),
+        packed: 7,
+        counts: Counts {
+            known: 4,
+            expanded: 3,
+            settled: 2,
+            processed: 1,
+        },
+        edges: 9,
+    }
+}
+
+/// So many bytes, all of them this one. Whether they spell a table is told of above.
+fn written(alloc: Global, byte: u8, size: usize) -> Result<Written, AllocError> {
+    let sizes = sizes_with(byte);
+    let bytes = vec![in alloc; byte; size]?;
+    Ok(Written { sizes, bytes })
+}
+
+/// What the committed root says of a game.
+fn slot_in<P: Pages>(store: &P) -> Option<GameSlot> {
+    read_slot(&store.root().bytes).and_then(|slot| slot.game)
+}
+
+/// A store of 20 pages with no game.
+fn empty_store(alloc: Global) -> Result<PageStore<MemDisk>, Fail> {
+    Ok(sealed(alloc, table_disk(alloc, TWENTY, &empty_slot())?)?)
+}
+
+/// Saves so many of a byte in the place of what is on these pages, which have to be there.
+fn save_on<P: Pages>(
+    alloc: Global,
+    store: &mut P,
+    old: &[u32],
+    byte: u8,
+    size: usize,
+) -> Result<Result<Vec<u32>, PageFault>, Fail> {
+    let capacity = store.capacity();
+    if !old.iter().all(|page| 1 <= *page && *page < capacity) {
+        return Err("there is no such page".into());
+    }
+    let table = written(alloc, byte, size)?;
+    Ok(save(alloc, store, u64::from(byte), old, &table))
+}
+
+/// What is told of a store once a table was saved: how many pages it took, how many are free, and its sizes.
+type Saved = (usize, u32, Option<Sizes>);
+
+/// Saves so many ones where no game is, and then so many twos in their place.
+fn save_both(alloc: Global, ones: usize, twos: usize) -> Result<[Saved; 2], Fail> {
+    let mut store = empty_store(alloc)?;
+    let first = save_on(alloc, &mut store, &[], 1, ones)??;
+    let free = store.free_pages();
+    let sizes = slot_in(&store).map(|slot| slot.sizes);
+    let second = save_on(alloc, &mut store, &first, 2, twos)??;
+    let slot = slot_in(&store).filter(|slot| second.first() == Some(&slot.first));
+    let again = (
+        second.len(),
+        store.free_pages(),
+        slot.map(|slot| slot.sizes),
+    );
+    Ok([(first.len(), free, sizes), again])
+}
+
+#[test]
+fn each_table_takes_the_place_of_the_one_before(rt: HostRuntime) -> Result<(), Fail> {
+    let wanted = [(2, 17, Some(sizes_with(1))), (1, 18, Some(sizes_with(2)))];
+    agree("saved", save_both(rt.alloc(), 4_093, 4_092)?, wanted)
+}
+
+/// What is told where more twos than there is room for are to be saved in the place of ones.
+fn save_too_many(
+    alloc: Global,
+) -> Result<(Option<PageFault>, u32, Option<Sizes>, Option<u8>), Fail> {
+    let mut store = empty_store(alloc)?;
+    let pages = save_on(alloc, &mut store, &[], 1, 100)??;
+    let refused = save_on(alloc, &mut store, &pages, 2, 18 * 4_092 + 1)?.err();
+    let free = store.free_pages();
+    let sizes = slot_in(&store).map(|slot| slot.sizes);
+    Ok((refused, free, sizes, seen(alloc, store.into_disk())?))
+}
+
+#[test]
+fn a_table_that_is_too_long_leaves_the_one_before(rt: HostRuntime) -> Result<(), Fail> {
+    let wanted = (Some(PageFault::TableFull), 18, Some(sizes_with(1)), Some(1));
+    agree("refused", save_too_many(rt.alloc())?, wanted)
+}
+
+/// A disk with a table of one page of ones.
+fn disk_of_ones(alloc: Global) -> Result<MemDisk, Fail> {
+    let mut store = empty_store(alloc)?;
+    save_on(alloc, &mut store, &[], 1, 100)??;
+    Ok(store.into_disk())
+}
+
+/// Saves a page of twos in the place of the one page that the root names, on a store of which no page is marked.
+fn save_twos<P: Pages>(alloc: Global, store: &mut P) -> Result<Option<PageFault>, Fail> {
+    let old = slot_in(store).map_or(0, |slot| slot.first);
+    store.mark(old)?;
+    store.seal();
+    Ok(save_on(alloc, store, &[old], 2, 100)?.err())
+}
+
+/// The byte of which the table on this disk is made.
+fn seen(alloc: Global, disk: MemDisk) -> Result<Option<u8>, Fail> {
+    let mut store = opened(alloc, disk)?;
+    let Some(slot) = slot_in(&store) else {
+        return Ok(None);
+    };
+    let chain = read_chain(alloc, &mut store, slot.first, 100)?;
+    let byte = all_over(&chain.content);
+    Ok(byte.filter(|byte| slot.sizes.text == u32::from(*byte)))
+}
+
+/// All disk calls of opening a store and of `save_twos`.
+const ALL: u64 = OPENING + WRITING + COMMIT;
+
+/// The disk on which so many calls passed, and whether twos were saved.
+fn stopped(alloc: Global, passed: u64) -> Result<(MemDisk, bool), Fail> {
+    let mut store = opened(alloc, FuseDisk::new(disk_of_ones(alloc)?, passed))?;
+    let succeeded = save_twos(alloc, &mut store)?.is_none();
+    Ok((store.into_disk().into_inner(), succeeded))
+}
+
+/// Whether the old table is found after some of 16 stops, the new one after some, and anything else.
+fn found_after_stops(alloc: Global, disk: &MemDisk) -> Result<[bool; 3], Fail> {
+    let mut found = [false; 3];
+    for pick in 0..16 {
+        match seen(alloc, disk.after_stop(alloc, pick * 0x5555)?)? {
+            Some(1) => found[0] = true,
+            Some(2) => found[1] = true,
+            _ => found[2] = true,
+        }
+    }
+    Ok(found)
+}
+
+#[test]
+fn a_stop_at_each_call_leaves_the_old_table_or_the_new(rt: HostRuntime) -> Result<(), Fail> {
+    for passed in OPENING..=ALL {
+        let (disk, succeeded) = stopped(rt.alloc(), passed)?;
+        let found = (succeeded, found_after_stops(rt.alloc(), &disk)?);
+        // The last but one of the calls writes the gate, and the last syncs it.
+        let wanted = [passed < ALL, passed >= ALL - 1, false];
+        agree(passed, found, (passed == ALL, wanted))?;
+    }
+    Ok(())
+}
+
+/// What is told where this disk call fails: the fault, the free pages, the text's length of the old table, and whether the
+/// store is closed.
+fn told_after(
+    alloc: Global,
+    call: u64,
+) -> Result<(Option<PageFault>, u32, Option<u32>, bool), Fail> {
+    let mut store = opened(alloc, FlakyDisk::new(disk_of_ones(alloc)?, call, false))?;
+    let fault = save_twos(alloc, &mut store)?;
+    let text = slot_in(&store).map(|slot| slot.sizes.text);
+    Ok((fault, store.free_pages(), text, store.is_closed()))
+}
+
+#[test]
+fn after_a_refusal_all_pages_are_as_before(rt: HostRuntime) -> Result<(), Fail> {
+    for call in OPENING..ALL {
+        // Only the read of the gate leaves it open.
+        let is_closed = call != OPENING + WRITING;
+        let wanted = (Some(PageFault::Disk), 18, Some(1), is_closed);
+        agree(call, told_after(rt.alloc(), call)?, wanted)?;
+    }
+    Ok(())
+}

@@ -1,0 +1,23 @@
+//! Tests of disks, of their roots, pages and chains, and of tables on them.
+#![tactic(auto)]
+
+#[cfg(test)]
+mod bytes_tests;
+#[cfg(test)]
+mod chain_tests;
+#[cfg(test)]
+mod disks;
+#[cfg(test)]
+mod flat_tests;
+#[cfg(test)]
+mod root_tests;
+#[cfg(test)]
+mod sector_tests;
+#[cfg(test)]
+mod soak_tests;
+#[cfg(test)]
+mod stop_tests;
+#[cfg(test)]
+mod store_tests;
+#[cfg(test)]
+mod two_positions;

@@ -1,0 +1,280 @@
+//! What the disks answer (`sector_disk`): each is run at its own type, through the trait's bound.
+
+use crate::disks::{agree, all_over, file_disk, writable};
+use sector_disk::{DiskFault, FileDisk, FlakyDisk, FuseDisk, MemDisk, SectorDisk};
+use std::alloc::Global;
+use std::fs;
+use std::fs::File;
+use std::test::Fail;
+
+/// A call of a disk.
+#[derive(Clone, Copy, Debug)]
+enum Deed {
+    Read(u64),
+    /// Writes a byte all over the sector.
+    Write(u64, u8),
+    Sync,
+    Sectors,
+}
+
+/// What it answers.
+#[derive(Clone, Copy, PartialEq, Debug, Drop)]
+enum Answer {
+    /// Read: a byte all over the first half of the sector, and one all over the second.
+    Halves(u8, u8),
+    /// Read: the bytes of a half differ.
+    Mixed,
+    /// Written or synced.
+    Done,
+    /// So many sectors.
+    Count(u64),
+    /// The device failed.
+    Fault,
+    /// The disk was not asked: it has no such sector.
+    NotThere,
+}
+
+use Answer::{Count, Done, Fault, Halves, Mixed, NotThere};
+use Deed::{Read, Sectors, Sync, Write};
+
+/// Calls of a disk in turn, each with what it is to answer.
+type Script = &'static [(Deed, Answer)];
+
+/// What a write or a sync answers.
+fn told(outcome: Result<(), DiskFault>) -> Answer {
+    if outcome.is_ok() { Done } else { Fault }
+}
+
+/// What a read answers.
+fn read<D: SectorDisk>(disk: &mut D, at: u64) -> Answer {
+    let mut bytes = [0; 512];
+    if at >= disk.sectors() {
+        return NotThere;
+    }
+    if disk.read(at, &mut bytes).is_err() {
+        return Fault;
+    }
+    match (all_over(&bytes[..256]), all_over(&bytes[256..])) {
+        (Some(first), Some(second)) => Halves(first, second),
+        _ => Mixed,
+    }
+}
+
+/// What a call answers.
+fn answer_to<D: SectorDisk>(disk: &mut D, deed: Deed) -> Answer {
+    match deed {
+        Read(at) => read(disk, at),
+        Write(at, _) if at >= disk.sectors() => NotThere,
+        Write(at, byte) => told(disk.write(at, &[byte; 512])),
+        Sync => told(disk.sync()),
+        Sectors => Count(disk.sectors()),
+    }
+}
+
+/// Runs a script on a disk.
+fn run<D: SectorDisk>(disk: &mut D, script: &[(Deed, Answer)]) -> Result<(), Fail> {
+    for (deed, wanted) in script {
+        agree(*deed, answer_to(disk, *deed), *wanted)?;
+    }
+    Ok(())
+}
+
+/// Runs a script on what a stop leaves of a disk.
+fn run_after_stop(alloc: Global, disk: &MemDisk, pick: u64, script: Script) -> Result<(), Fail> {
+    run(&mut disk.after_stop(alloc, pick)?, script)
+}
+
+/// Sector 1 is synced, and the others are written since, sector 0 twice.
+const PARTLY_SYNCED: Script = &[
+    (Write(1, 10), Done),
+    (Sync, Done),
+    (Write(3, 5), Done),
+    (Write(0, 6), Done),
+    (Write(0, 7), Done),
+    (Write(2, 9), Done),
+];
+
+/// What stops leave of it. The sectors 0, 2 and 3 are not synced. 57 is 1 + 2 * 4 + 3 * 16, and 57 / 4 is 14. 1023 has the
+/// digit 3 five times, and 1023 / 4 is 255.
+const LEFT: [(u64, Script); 3] = [
+    (
+        57,
+        &[
+            (Read(0), Halves(7, 7)),
+            (Read(1), Halves(10, 10)),
+            (Read(2), Halves(9, 0)),
+            (Read(3), Halves(17, 17)),
+        ],
+    ),
+    (0, &[(Read(0), Halves(0, 0)), (Read(1), Halves(10, 10))]),
+    (
+        1023,
+        &[
+            (Read(0), Halves(255, 255)),
+            (Read(1), Halves(10, 10)),
+            (Read(2), Halves(1, 1)),
+        ],
+    ),
+];
+
+#[test]
+fn a_stop_leaves_what_the_digits_pick(rt: HostRuntime) -> Result<(), Fail> {
+    let mut disk = MemDisk::new(rt.alloc(), 4)?;
+    run(&mut disk, PARTLY_SYNCED)?;
+    for (pick, script) in LEFT {
+        run_after_stop(rt.alloc(), &disk, pick, script)?;
+    }
+    Ok(())
+}
+
+/// Writes threes all over so many sectors.
+fn fill<D: SectorDisk>(disk: &mut D, sectors: u64) -> Result<(), Fail> {
+    for at in 0..sectors {
+        run(disk, &[(Write(at, 3), Done)])?;
+    }
+    Ok(())
+}
+
+/// What the pick 5, which is 1 + 1 * 4, leaves of 34 sectors of threes.
+const AFTER_THIRTY_TWO: Script = &[
+    (Read(0), Halves(3, 3)),
+    (Read(1), Halves(3, 3)),
+    (Read(2), Halves(0, 0)),
+    (Read(31), Halves(0, 0)),
+    (Read(32), Halves(3, 3)),
+    (Read(33), Halves(3, 3)),
+];
+
+#[test]
+fn digits_begin_again_after_thirty_two(rt: HostRuntime) -> Result<(), Fail> {
+    let mut disk = MemDisk::new(rt.alloc(), 34)?;
+    fill(&mut disk, 34)?;
+    run_after_stop(rt.alloc(), &disk, 5, AFTER_THIRTY_TWO)
+}
+
+#[test]
+fn a_fuse_passes_as_many_calls_as_it_was_given(rt: HostRuntime) -> Result<(), Fail> {
+    let passes = [
+        (Write(1, 7), Done),
+        (Sync, Done),
+        (Read(1), Fault),
+        (Write(1, 9), Fault),
+    ];
+    let burnt = [
+        (Write(1, 7), Fault),
+        (Sync, Fault),
+        (Read(1), Fault),
+        (Write(1, 9), Fault),
+    ];
+    let mut fuse = FuseDisk::new(MemDisk::new(rt.alloc(), 2)?, 2);
+    run(&mut fuse, &passes)?;
+    let mut inner = fuse.into_inner();
+    run(&mut inner, &[(Read(1), Halves(7, 7))])?;
+    run(&mut FuseDisk::new(inner, 0), &burnt)
+}
+
+/// A call that fails, whether it is carried out first, what is answered then, and what a stop leaves that puts each sector
+/// back as it was synced.
+const FLAKY: [(u64, bool, Script, Script); 4] = [
+    (
+        0,
+        false,
+        &[(Write(1, 7), Fault), (Read(1), Halves(0, 0))],
+        &[(Read(1), Halves(0, 0))],
+    ),
+    (
+        0,
+        true,
+        &[(Write(1, 8), Fault), (Read(1), Halves(8, 8))],
+        &[(Read(1), Halves(0, 0))],
+    ),
+    (
+        1,
+        false,
+        &[
+            (Write(1, 7), Done),
+            (Sync, Fault),
+            (Read(1), Halves(7, 7)),
+            (Write(1, 9), Done),
+        ],
+        &[(Read(1), Halves(0, 0))],
+    ),
+    (
+        1,
+        true,
+        &[
+            (Write(1, 7), Done),
+            (Sync, Fault),
+            (Read(1), Halves(7, 7)),
+            (Write(1, 9), Done),
+        ],
+        &[(Read(1), Halves(7, 7))],
+    ),
+];
+
+#[test]
+fn one_call_fails_and_was_carried_out_or_not(rt: HostRuntime) -> Result<(), Fail> {
+    for (at_call, done, script, left) in FLAKY {
+        let mut disk = FlakyDisk::new(MemDisk::new(rt.alloc(), 2)?, at_call, done);
+        run(&mut disk, script)?;
+        run_after_stop(rt.alloc(), &disk.into_inner(), 0, left)?;
+    }
+    Ok(())
+}
+
+#[test]
+fn a_file_of_odd_length_has_its_whole_sectors(rt: HostRuntime) -> Result<(), Fail> {
+    fs::write(&rt, "odd.disk", [1; 1100].as_slice())?;
+    let script = [
+        (Sectors, Count(2)),
+        (Read(1), Halves(1, 1)),
+        (Write(1, 7), Done),
+        (Sync, Done),
+        (Read(1), Halves(7, 7)),
+        (Write(1, 9), Done),
+        (Read(1), Halves(9, 9)),
+    ];
+    run(&mut file_disk(&rt, "odd.disk")?, &script)?;
+    let bytes = fs::read(&rt, "odd.disk")?;
+    let found = [511, 512, 1023, 1024].map(|at| bytes.get(at).copied());
+    agree("bytes", found, [Some(1), Some(9), Some(9), Some(1)])?;
+    agree("length", bytes.len(), 1100)?;
+    Ok(fs::remove_file(&rt, "odd.disk")?)
+}
+
+#[test]
+fn an_empty_file_has_no_sector(rt: HostRuntime) -> Result<(), Fail> {
+    fs::write(&rt, "empty.disk", [].as_slice())?;
+    run(
+        &mut file_disk(&rt, "empty.disk")?,
+        &[(Sectors, Count(0)), (Sync, Done)],
+    )?;
+    Ok(fs::remove_file(&rt, "empty.disk")?)
+}
+
+#[test]
+fn a_file_that_is_read_only_fails_at_writes(rt: HostRuntime) -> Result<(), Fail> {
+    fs::write(&rt, "fixed.disk", [4; 1024].as_slice())?;
+    let script = [
+        (Sectors, Count(2)),
+        (Read(1), Halves(4, 4)),
+        (Write(1, 5), Fault),
+        (Read(1), Halves(4, 4)),
+    ];
+    run(&mut FileDisk::new(File::open(&rt, "fixed.disk")?)?, &script)?;
+    Ok(fs::remove_file(&rt, "fixed.disk")?)
+}
+
+#[test]
+fn a_file_that_was_cut_fails_at_reads(rt: HostRuntime) -> Result<(), Fail> {
+    fs::write(&rt, "cut.disk", [4; 1024].as_slice())?;
+    let mut disk = file_disk(&rt, "cut.disk")?;
+    writable(&rt, "cut.disk")?.set_len(700)?;
+    let script = [
+        (Sectors, Count(2)),
+        (Read(0), Halves(4, 4)),
+        (Read(1), Fault),
+    ];
+    run(&mut disk, &script)?;
+    Ok(fs::remove_file(&rt, "cut.disk")?)
+}

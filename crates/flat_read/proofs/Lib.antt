@@ -1,4 +1,0 @@
-mod Opening
-mod Passing
-mod Reading
-mod Whole

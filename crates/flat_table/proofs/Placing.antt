@@ -1,0 +1,156 @@
+-- The new table comes into the place of the old one.
+use Rattle.std.proofs.Common.{◌≡◌, ◌≢◌, inl, inr, ◌⊎◌, ℕ, zero, suc, ◌<◌, ◌≤◌, Bool, false, List, length, Option, None, Some, Contains, refl, sym, ◌∙◌, ap, subst, arith}
+use Rattle.std.specs.Prelude.{IsTrue}
+use Rattle.std.proofs.lemmas.Bool.{cases_lt}
+use Rattle.std.proofs.lemmas.List.{get_or_past}
+use Rattle.sector_disk.specs.Disk.{Picture}
+use Rattle.sector_disk.specs.Moments.{goes_on_trans, leaves_more, still_honest}
+use Rattle.page_store.specs.declared.marks.Mark.{Mark}
+use Rattle.page_store.specs.declared.marks.Mark.TheVariants.{Committed, Waiting, Fresh, Released, Free}
+use Rattle.page_store.specs.Marks.{mark, needs, keeps, turned}
+use Rattle.page_store.specs.Spelling.{Stands, IsPrepared, Spells}
+use Rattle.page_store.specs.Store.{Store, reads, IsSoundStore, StoreWorks, Commits, IsCommitted}
+use Rattle.page_store.specs.Carrying.{commit_carries, committed_stands, committed_calm}
+use Rattle.page_chain.specs.Chain.{IsChain, first_of}
+use Rattle.table_bytes.specs.declared.sizes.Sizes.{Sizes}
+use Rattle.table_bytes.specs.Numbers.{AreWithinLimits}
+use Rattle.table_bytes.specs.Spelled.{SpellsTable}
+use Rattle.flat_table.specs.Held.{KeepsGame, KeepsTable, Stores}
+use Rattle.game_file.specs.Kept.{Kept}
+use Rattle.flat_table.specs.File.{IsBacked}
+use Rattle.flat_table.specs.StoredLaws.{game_rests_on_its_pages, spells_stores}
+use Rattle.flat_table.specs.Saving.{AreBytesOf, StoreGoesAhead}
+use Rattle.game_file.specs.Stops.{LeavesEither}
+use Rattle.flat_table.specs.Steps.{IsGone, IsExchanged, IsSlotOf, IsReplaced}
+
+-- a mark is one of them
+marks_apart : (m : Mark) → m ≡ Committed → m ≡ Free → ⊥
+marks_apart m one other = cc
+
+waits_apart : (m : Mark) → (m ≡ Committed) ⊎ (m ≡ Free) → m ≡ Waiting → ⊥
+waits_apart m (inl one) other = cc
+waits_apart m (inr one) other = cc
+
+not_needed : (m : Mark) → IsTrue (needs m) → m ≡ Free → ⊥
+not_needed Committed needed is = cc
+not_needed Waiting needed is = cc
+not_needed Fresh needed is = cc
+not_needed Released needed is = cc
+not_needed Free needed is = cc
+
+some_apart : {X : Type 0} (x : X) → Some x ≡ None → ⊥
+some_apart x is = cc
+
+-- a free page is one of the pages, and not the system page
+free_page : (store : Store) (p : ℕ) → IsSoundStore store → mark store.marks p ≡ Free → (1 ≤ p) × (p < length store.marks)
+free_page store p sound free = (low p free, within)
+  where
+    low : (p : ℕ) → mark store.marks p ≡ Free → 1 ≤ p
+    low zero free = absurd (marks_apart _ sound.system free)
+    low (suc p) free = omega arith
+
+    within : p < length store.marks
+    within = elim (cases_lt p (length store.marks)) [
+      | inl here ↦ here
+      | inr past ↦ absurd (marks_apart _ (get_or_past store.marks p Committed past) free)
+    ]
+
+-- a chain of these bytes, and a slot that says so, keep the table
+abbrev pub keeps_game : (root : List ℕ) (capacity : ℕ) (pages bytes : List ℕ) (sizes : Sizes) (kept : Kept) (read : ℕ → List ℕ) → IsSlotOf (first_of pages) sizes root → AreBytesOf kept sizes bytes
+    → IsChain capacity (first_of pages) pages bytes read → KeepsGame root capacity kept read
+keeps_game root capacity pages bytes sizes kept read slot it chain = record {
+  layout = slot.layout;
+  packing = slot.packing;
+  limits = subst (λ (s : Sizes). AreWithinLimits s) (sym slot.sizes) it.limits;
+  pages = pages;
+  content = bytes;
+  chain = subst (λ (n : ℕ). IsChain capacity n pages bytes read) (sym slot.first) chain;
+  spells = subst (λ (s : Sizes). SpellsTable s bytes kept.text kept.table) (sym slot.sizes) it.spells;
+  table = it.table;
+  counts = it.counts ∙ ap (λ (s : Sizes). s.counts) (sym slot.sizes);
+}
+
+-- the new table is prepared, and a commit carries it
+module _ (was_pages pages bytes root : List ℕ) (sizes : Sizes) (old mid new : Store) (was : Option Kept) (is : Kept) (sound : IsSoundStore old) (was_open : old.closed ≡ false)
+    (exchanged : IsExchanged was_pages pages bytes old mid) (slot : IsSlotOf (first_of pages) sizes root) (backed : IsBacked old was_pages was) (it : AreBytesOf is sizes bytes) where
+  old_stands : IsTrue old.disk.honest → Stands (λ p. Contains was_pages p) (KeepsTable old.root (length old.marks) was) old
+  old_stands honest = backed.stands honest was_open
+
+  not_old : IsTrue old.disk.honest → (p : ℕ) → Contains pages p → Contains was_pages p → ⊥
+  not_old honest p here there = not_needed _ ((old_stands honest).needed p there).2 (exchanged.freed p here)
+
+  prepared : IsTrue old.disk.honest → IsPrepared (λ p. Contains pages p) (KeepsTable root (length old.marks) (Some is)) mid
+  prepared honest = record {
+    spelled = game_rests_on_its_pages root (length old.marks) is (reads mid) (keeps_game root (length old.marks) pages bytes sizes is (reads mid) slot it (exchanged.chain honest));
+    kept = λ p here.
+        let page = free_page old p sound (exchanged.freed p here) in
+        (page.0, omega (arith, page.1, exchanged.works.same_pages), subst (λ (m : Mark). IsTrue (keeps m)) (sym (exchanged.handed p here (not_old honest p here))) refl);
+  }
+
+  stores_one : (picture : Picture) → Spells old.root (length old.marks) (KeepsTable old.root (length old.marks) was) picture ⊎ Spells root (length old.marks) (KeepsTable root (length old.marks) (Some is)) picture
+      → Stores picture was ⊎ Stores picture (Some is)
+  stores_one picture (inl spells) = inl (spells_stores old.root (length old.marks) was picture backed.room sound.few spells)
+  stores_one picture (inr spells) = inr (spells_stores root (length old.marks) (Some is) picture backed.room sound.few spells)
+
+  pub commit_leaves : Commits root mid new → IsTrue old.disk.honest → LeavesEither Stores old.disk new.disk was (Some is)
+  commit_leaves commits honest =
+      leaves_more stores_one (commit_carries root old mid new honest (sound.safe honest was_open) (old_stands honest) exchanged.works (prepared honest) commits).stop
+
+  same_pages : IsCommitted root mid new → length new.marks ≡ length old.marks
+  same_pages done = done.marks.same_length ∙ exchanged.works.same_pages
+
+  was_honest : Commits root mid new → IsTrue new.disk.honest → IsTrue old.disk.honest
+  was_honest commits honest = subst (λ (b : Bool). IsTrue b) (commits.goes_on.honest ∙ exchanged.works.goes_on.honest) honest
+
+  new_stands : IsCommitted root mid new → IsTrue old.disk.honest → Stands (λ p. Contains pages p) (KeepsTable new.root (length new.marks) (Some is)) new
+  new_stands done honest =
+      subst (λ (n : ℕ). Stands (λ p. Contains pages p) (KeepsTable new.root n (Some is)) new) (sym (same_pages done))
+      (subst (λ (r : List ℕ). Stands (λ p. Contains pages p) (KeepsTable r (length old.marks) (Some is)) new) (sym done.is)
+      (committed_stands root mid new (still_honest exchanged.works.goes_on honest) done (prepared honest)))
+
+  none_waits : (p : ℕ) → mark mid.marks p ≡ Waiting → ⊥
+  none_waits p waits = waits_apart _ ((backed.calm was_open).each p) (exchanged.works.waiting p waits)
+
+  pub committed_backs : Commits root mid new → IsCommitted root mid new → IsBacked new pages (Some is)
+  committed_backs commits done = record {
+    room = omega (arith, same_pages done, backed.room);
+    there = λ p here.
+        let page = free_page old p sound (exchanged.freed p here) in
+        (page.0, omega (arith, page.1, same_pages done));
+    calm = λ open_. committed_calm root mid new none_waits done;
+    free = λ open_ none p low within. absurd (some_apart is none);
+    stands = λ honest open_. new_stands done (was_honest commits honest);
+  }
+
+-- what is so of a commit, whatever it answers
+pub commit_ahead : (root : List ℕ) (old mid new : Store) → old.closed ≡ false → StoreWorks old mid → Commits root mid new → length new.marks ≡ length mid.marks → StoreGoesAhead old new
+commit_ahead root old mid new was_open works commits same = record {
+  goes_on = goes_on_trans works.goes_on commits.goes_on;
+  same_size = commits.same_size ∙ works.same_size;
+  failures = omega (arith, works.failures, commits.failures);
+  same_pages = same ∙ works.same_pages;
+  closed = λ open_. was_open;
+}
+
+-- what was let go is free after a commit, unless it waits
+turned_free : (m : Mark) → IsGone m → m ≢ Waiting → turned Committed Free Waiting m ≡ Free
+turned_free Committed gone not = absurd (gone.not_committed refl)
+turned_free Waiting gone not = absurd (not refl)
+turned_free Fresh gone not = absurd (gone.not_fresh refl)
+turned_free Released gone not = refl
+turned_free Free gone not = refl
+
+-- the new table is in the place of the old one
+pub replaces : (was_pages pages bytes root : List ℕ) (sizes : Sizes) (old mid new : Store) → IsSoundStore old → old.closed ≡ false → IsExchanged was_pages pages bytes old mid
+    → IsSlotOf (first_of pages) sizes root → Commits root mid new → IsCommitted root mid new → IsReplaced was_pages pages sizes bytes old new
+replaces was_pages pages bytes root sizes old mid new sound was_open exchanged slot commits done = record {
+  was_open = was_open;
+  is_open = done.closed;
+  there = λ p here.
+      let page = free_page old p sound (exchanged.freed p here) in
+      (page.0, omega (arith, page.1, done.marks.same_length, exchanged.works.same_pages));
+  freed = λ p here not. done.marks.each p ∙ turned_free _ (exchanged.gone p here) (λ waits. not (exchanged.works.waiting p waits));
+  ahead = commit_ahead root old mid new was_open exchanged.works commits done.marks.same_length;
+  stop = λ was is backed it honest open_. commit_leaves was_pages pages bytes root sizes old mid new was is sound was_open exchanged slot backed it commits honest;
+  done = λ was is backed it. committed_backs was_pages pages bytes root sizes old mid new was is sound was_open exchanged slot backed it commits done;
+}

@@ -1,0 +1,5 @@
+use Rattle.flat_table.specs.ReadLaws.{a_picture_stores_one_table}
+use Rattle.flat_table.proofs.laws.a_picture_stores_one_table.Goals as goal
+
+pub returns : goal.returns
+returns c = a_picture_stores_one_table

@@ -1,0 +1,41 @@
+-- The table that a picture of the disk holds, as far as that can be told without the game's rules.
+use Rattle.std.specs.Prelude.{◌≡◌, ℕ, ◌/◌, ◌≤◌, min, List, length, Option, None, Some}
+use Rattle.sector_disk.specs.Disk.{Picture}
+use Rattle.root_pair.specs.Root.{HoldsRoot}
+use Rattle.page_store.specs.Page.{page}
+use Rattle.page_chain.specs.Chain.{IsChain}
+use Rattle.retrograde.specs.Stored.{IsTable}
+use Rattle.retrograde.specs.Changes.{counts_of}
+use Rattle.table_bytes.specs.Numbers.{AreWithinLimits, bytes_in}
+use Rattle.table_bytes.specs.Spelled.{SpellsTable}
+use Rattle.game_file.specs.Kept.{Kept}
+use Rattle.flat_table.specs.Slot.{layout_in, packing_in, first_in, sizes_in, IsEmptySlot}
+
+-- the chain of pages that the slot names spells the text and a table whose parts fit together, and the slot counts it right
+pub record KeepsGame (root : List ℕ) (capacity : ℕ) (kept : Kept) (bytes : ℕ → List ℕ) : Type 0 where
+  pub layout : layout_in root ≡ 1
+  pub packing : packing_in root ≡ 1
+  pub limits : AreWithinLimits (sizes_in root)
+  pub pages : List ℕ
+  pub content : List ℕ
+  pub chain : IsChain capacity (first_in root) pages content bytes
+  pub spells : SpellsTable (sizes_in root) content kept.text kept.table
+  pub table : IsTable kept.table
+  pub counts : counts_of kept.table ≡ (sizes_in root).counts
+
+-- the slot and the pages spell this table, or an empty one
+abbrev pub KeepsTable : List ℕ → ℕ → Option Kept → (ℕ → List ℕ) → Type 0
+KeepsTable root capacity None bytes = IsEmptySlot root
+KeepsTable root capacity (Some kept) bytes = KeepsGame root capacity kept bytes
+
+-- so many pages are used of a picture: those that it has room for, 1,048,576 at most
+abbrev pub capacity_of : Picture → ℕ
+capacity_of picture = min (length picture / 8) 1048576
+
+-- the picture is a table of 16 pages or more: it begins as each does, its gate picks a slot, and what that slot and
+-- the pages named from it spell is this
+pub record Stores (picture : Picture) (kept : Option Kept) : Type 0 where
+  pub root : List ℕ
+  pub holds : HoldsRoot root picture
+  pub room : 16 ≤ capacity_of picture
+  pub keeps : KeepsTable root (capacity_of picture) kept (page picture)

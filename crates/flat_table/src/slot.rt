@@ -1,0 +1,194 @@
+//! The root slot of layout 1: what its 512 bytes say.
+ghost use Rattle.std.specs.Prelude.{◌≡◌, ◌↔◌, ◌+◌, ◌≤◌, ◌<◌, ℕ, true, slice_index, IfSome, IfNone};
+ghost use Rattle.table_bytes.specs.Numbers.{AreWithinLimits};
+ghost use Rattle.flat_table.specs.Slot.{word_at as word_in, long_at as long_in, layout_in, packing_in, commits_in, first_in};
+ghost use Rattle.flat_table.specs.Slot.{sizes_in as sizes_of, IsEmptySlot, AreZero, Says, IsNoSlot};
+
+use byteorder::{BigEndian, ByteOrder};
+use retrograde::Counts;
+use table_bytes::Sizes;
+
+/// The number of this layout.
+const LAYOUT: u32 = 1;
+
+/// The number of the packing that a table with a game has.
+const PACKING: u32 = 1;
+
+/// The most bytes that a game text has.
+const MOST_TEXT: u32 = 65_536;
+
+/// The most bytes that a packed position has.
+const MOST_PACKED: u32 = 240;
+
+/// The most positions that a table knows.
+const MOST_KNOWN: u32 = 16_777_216;
+
+/// More edges than this no file has room for.
+const MOST_EDGES: u64 = 4_294_967_296;
+
+/// What a slot says of a table with a game.
+#[derive(Clone, Copy, PartialEq, Eq, Debug, Drop)]
+pub struct GameSlot {
+    /// The first page of the chain.
+    pub first: u32,
+    pub sizes: Sizes,
+}
+
+/// What a slot says.
+#[derive(Clone, Copy, PartialEq, Eq, Debug, Drop)]
+pub struct Slot {
+    /// Commits since the file was made; 0 follows the greatest number.
+    pub commits: u64,
+    /// The table, where a game is loaded.
+    pub game: Option<GameSlot>,
+}
+
+/// The number in the four bytes from there on.
+fn word_at(root: &[u8; 512], at: usize) -> u32
+    requires { at ≤ 508 }
+    ensures { result ≡ word_in root.now at }
+{
+    BigEndian::read_u32(&root[at..])
+}
+
+/// Puts a number into the four bytes from there on.
+fn put_word(root: &mut [u8; 512], at: usize, number: u32)
+    requires { at ≤ 508 }
+    ensures is { word_in root.new at ≡ number }
+    ensures before { (k : ℕ) → k + 4 ≤ at → word_in root.new k ≡ word_in root.old k }
+    ensures ahead { (k : ℕ) → k < at → slice_index root.new k ≡ slice_index root.old k }
+    ensures behind { (k : ℕ) → at + 4 ≤ k → slice_index root.new k ≡ slice_index root.old k }
+{
+    BigEndian::write_u32(&mut root[at..at + 4], number);
+}
+
+/// Puts a number into the eight bytes from there on.
+fn put_long(root: &mut [u8; 512], at: usize, number: u64)
+    requires { at ≤ 504 }
+    ensures is { long_in root.new at ≡ number }
+    ensures before { (k : ℕ) → k + 4 ≤ at → word_in root.new k ≡ word_in root.old k }
+    ensures ahead { (k : ℕ) → k < at → slice_index root.new k ≡ slice_index root.old k }
+    ensures behind { (k : ℕ) → at + 8 ≤ k → slice_index root.new k ≡ slice_index root.old k }
+{
+    BigEndian::write_u64(&mut root[at..at + 8], number);
+}
+
+/// The number in the eight bytes from there on.
+fn long_at(root: &[u8; 512], at: usize) -> u64
+    requires { at ≤ 504 }
+    ensures { result ≡ long_in root.now at }
+{
+    BigEndian::read_u64(&root[at..])
+}
+
+/// How much of each the slot says that there is.
+fn sizes_in(root: &[u8; 512]) -> Sizes
+    ensures { result ≡ sizes_of root.now }
+{
+    Sizes {
+        text: word_at(root, 20),
+        packed: word_at(root, 24),
+        counts: Counts {
+            known: word_at(root, 28),
+            expanded: word_at(root, 32),
+            settled: word_at(root, 36),
+            processed: word_at(root, 40),
+        },
+        edges: long_at(root, 60),
+    }
+}
+
+/// Whether the numbers are in order and within their limits.
+fn are_within_limits(sizes: &Sizes) -> bool
+    ensures { (result ≡ true) ↔ AreWithinLimits sizes.now }
+{
+    let counts = sizes.counts;
+    sizes.text <= MOST_TEXT
+        && sizes.packed <= MOST_PACKED
+        && (1..=MOST_KNOWN).contains(&counts.known)
+        && counts.expanded <= counts.known
+        && counts.settled <= counts.expanded
+        && counts.processed <= counts.settled
+}
+
+/// Whether all fields of the layout are zero.
+fn is_blank(root: &[u8; 512]) -> bool
+    ensures { (result ≡ true) ↔ (AreZero 16 44 root.now × AreZero 60 68 root.now) }
+{
+    are_zero(root, 16, 44) & are_zero(root, 60, 68)
+}
+
+/// Whether the bytes from one place on up to another are zero.
+fn are_zero(root: &[u8; 512], from: usize, to: usize) -> bool
+    requires from { from ≤ to }
+    requires to { to ≤ 512 }
+    ensures { (result ≡ true) ↔ AreZero from to root.now }
+{
+    (from..to).all(|at| root[at] == 0)
+}
+
+/// What the slot says; none where that is no table of this layout.
+pub fn read_slot(root: &[u8; 512]) -> Option<Slot>
+    ensures says { IfSome result (λ slot. Says root.now slot.game) }
+    ensures commits { IfSome result (λ slot. slot.commits ≡ commits_in root.now) }
+    ensures none { IfNone result (IsNoSlot root.now) }
+{
+    if word_at(root, 0) != LAYOUT {
+        return None;
+    }
+    let commits = long_at(root, 8);
+    match word_at(root, 4) {
+        0 if is_blank(root) => Some(Slot {
+            commits,
+            game: None,
+        }),
+        PACKING => {
+            let sizes = sizes_in(root);
+            if !are_within_limits(&sizes) || sizes.edges > MOST_EDGES {
+                return None;
+            }
+            let first = word_at(root, 16);
+            Some(Slot {
+                commits,
+                game: Some(GameSlot { first, sizes }),
+            })
+        }
+        _ => None,
+    }
+}
+
+/// The slot of a table in which no game is loaded, after no commit.
+pub fn empty_slot() -> [u8; 512]
+    ensures empty { IsEmptySlot result }
+    ensures commits { commits_in result ≡ 0 }
+    ensures zero { (k : ℕ) → 4 ≤ k → slice_index result k ≡ 0 }
+{
+    let mut root = [0; 512];
+    put_word(&mut root, 0, LAYOUT);
+    root
+}
+
+/// The slot of a table with a game, after so many commits. All bytes without a field are zero.
+pub fn game_slot(commits: u64, game: &GameSlot) -> [u8; 512]
+    ensures layout { layout_in result ≡ 1 }
+    ensures packing { packing_in result ≡ 1 }
+    ensures commits { commits_in result ≡ commits }
+    ensures first { first_in result ≡ game.now.first }
+    ensures sizes { sizes_of result ≡ game.now.sizes }
+    ensures between { AreZero 44 60 result }
+    ensures behind { AreZero 68 512 result }
+{
+    let GameSlot { first, sizes } = *game;
+    let mut root = empty_slot();
+    put_word(&mut root, 4, PACKING);
+    put_long(&mut root, 8, commits);
+    put_word(&mut root, 16, first);
+    put_word(&mut root, 20, sizes.text);
+    put_word(&mut root, 24, sizes.packed);
+    put_word(&mut root, 28, sizes.counts.known);
+    put_word(&mut root, 32, sizes.counts.expanded);
+    put_word(&mut root, 36, sizes.counts.settled);
+    put_word(&mut root, 40, sizes.counts.processed);
+    put_long(&mut root, 60, sizes.edges);
+    root
+}

@@ -1,4 +1,0 @@
-pub mod Letting
-pub mod Placing
-pub mod Leaving
-pub mod Passing

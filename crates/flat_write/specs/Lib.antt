@@ -1,3 +1,0 @@
-pub mod Saving
-pub mod Causes
-pub mod Steps

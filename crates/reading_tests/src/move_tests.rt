@@ -1,0 +1,159 @@
+//! The moves of small games, worked out by hand.
+ghost use Rattle.std.specs.Prelude.{IfOk};
+ghost use Rattle.legal_moves.specs.Compiled.{IsCompiled};
+
+use crate::expectation::expect;
+use legal_moves::{Compiled, Modifier, MoveFault, MoveSource, Moves};
+use position_pack::Packed;
+use rbg_game::roles::{Player, Role};
+use rbg_read::read::read_game;
+use std::alloc::Global;
+use std::test::Fail;
+
+/// A pattern that looks to the right.
+const LOOK: &str =
+    "#players = white(1), black(1) #pieces = e, x #board = a[e]{right: b} b[e]{} #rules = {? right [x] {x}} ->white";
+
+/// The position that it leads to: white has the turn, and nobody is ahead.
+const SEEN: [u8; 12] = [0, 0, 0, 0, 0, 0, 0, 0, 0, 1, 0, 2];
+
+/// Black has the turn and is ahead.
+const BLACK_AHEAD: [u8; 12] = [0, 0, 0, 0, 0, 0, 0, 1, 0, 2, 0, 2];
+
+/// The game of a text, made ready for its moves.
+fn game_of(alloc: Global, text: &str) -> Result<Compiled, Fail>
+    ensures { IfOk result IsCompiled }
+{
+    let game = read_game(alloc, text.as_bytes())?;
+    Ok(Compiled::new(alloc, game)?)
+}
+
+/// The moves of the start.
+fn first_moves(alloc: Global, text: &str) -> Result<Moves, Fail> {
+    let source = game_of(alloc, text)?;
+    Ok(source.moves(alloc, &source.start())?)
+}
+
+/// How many modifiers a move has, and the first.
+fn modifiers(
+    alloc: Global,
+    moves: &Moves,
+    index: usize,
+) -> Result<(usize, Option<Modifier>), Fail> {
+    if index >= moves.len() {
+        return Err("no such move".into());
+    }
+    let word = moves.word(alloc, index)?;
+    Ok((word.len(), word.first().copied()))
+}
+
+/// The bytes of where a move leads.
+fn successor_of(moves: &Moves, index: usize) -> Result<&[u8], Fail> {
+    if index >= moves.len() {
+        return Err("no such move".into());
+    }
+    Ok(moves.successor(index).as_slice())
+}
+
+#[test]
+fn a_pattern_leaves_the_board(rt: HostRuntime) -> Result<(), Fail> {
+    let moves = first_moves(rt.alloc(), LOOK)?;
+    expect(moves.len(), 1, "the moves")?;
+    expect(successor_of(&moves, 0)?, SEEN.as_slice(), "the successor")?;
+    let switch = Modifier {
+        number: 2,
+        vertex: 0,
+    };
+    expect(
+        modifiers(rt.alloc(), &moves, 0)?,
+        (1, Some(switch)),
+        "the word",
+    )
+}
+
+/// With the start, 32,767 sums and 32,768 ends there are as many configurations as there may be.
+const WIDE: &str =
+    "#players = white(1), black(1) #pieces = e #variables = n(32767) #board = v[e]{} #rules = ([$n=n+1])* ->white";
+
+const FIRST_OF_WIDE: Modifier = Modifier {
+    number: 1,
+    vertex: 0,
+};
+
+#[test]
+fn as_wide_as_may_be(rt: HostRuntime) -> Result<(), Fail> {
+    let moves = first_moves(rt.alloc(), WIDE)?;
+    expect(moves.len(), 32_768, "the moves")?;
+    let last = modifiers(rt.alloc(), &moves, 32_767)?;
+    expect(last, (32_768, Some(FIRST_OF_WIDE)), "the last word")
+}
+
+/// Where a position leads, by the bound alone.
+fn successors<S: MoveSource>(
+    alloc: Global,
+    source: &S,
+    at: &Packed,
+) -> Result<Vec<Packed>, MoveFault>
+    requires { S.is_sound source.now }
+{
+    source.successors(alloc, at)
+}
+
+fn start_of<S: MoveSource>(source: &S) -> Packed
+    requires { S.is_sound source.now }
+{
+    source.start()
+}
+
+/// Where the start of a game leads.
+fn after_start(alloc: Global, text: &str) -> Result<Vec<Packed>, Fail> {
+    let source = game_of(alloc, text)?;
+    Ok(successors(alloc, &source, &start_of(&source))?)
+}
+
+#[test]
+fn a_compiled_game_is_a_source_of_moves(rt: HostRuntime) -> Result<(), Fail> {
+    let mut found = after_start(rt.alloc(), LOOK)?;
+    let only = found.pop().ok_or("no successor")?;
+    expect(only.as_slice(), SEEN.as_slice(), "the successor")?;
+    expect(found.len(), 0, "further successors")
+}
+
+/// How many successors bytes have that are no position.
+fn after_nothing(alloc: Global, text: &str) -> Result<usize, Fail> {
+    let source = game_of(alloc, text)?;
+    Ok(successors(alloc, &source, &Packed::new())?.len())
+}
+
+#[test]
+fn bytes_that_are_no_position_have_no_successor(rt: HostRuntime) -> Result<(), Fail> {
+    expect(after_nothing(rt.alloc(), LOOK)?, 0, "the successors")
+}
+
+/// Who has the turn, and who is ahead.
+fn turn_and_leader<S: MoveSource>(source: &S, at: &Packed) -> (Role, Option<Player>)
+    requires { S.is_sound source.now }
+{
+    (source.mover(at), source.ahead(at))
+}
+
+fn packed(bytes: &[u8]) -> Result<Packed, Fail> {
+    let mut packed = Packed::new();
+    packed.try_extend_from_slice(bytes)?;
+    Ok(packed)
+}
+
+/// Who has the turn and who is ahead at these bytes.
+fn told_by(alloc: Global, bytes: &[u8]) -> Result<(Role, Option<Player>), Fail> {
+    let source = game_of(alloc, LOOK)?;
+    let at = packed(bytes)?;
+    Ok(turn_and_leader(&source, &at))
+}
+
+#[test]
+fn the_turn_and_the_leader_are_in_the_bytes(rt: HostRuntime) -> Result<(), Fail> {
+    let white = (Role::Player(Player::First), None);
+    expect(told_by(rt.alloc(), &SEEN)?, white, "white's turn")?;
+    let black = (Role::Player(Player::Second), Some(Player::Second));
+    expect(told_by(rt.alloc(), &BLACK_AHEAD)?, black, "black's turn")
+}

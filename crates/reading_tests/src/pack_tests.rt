@@ -1,0 +1,190 @@
+//! Positions as bytes and as text.
+ghost use Rattle.std.specs.Prelude.{IfOk};
+ghost use Rattle.rbg_game.specs.Meaning.{game_of};
+ghost use Rattle.rbg_game.specs.Names.{HasProperNames};
+ghost use Rattle.rbg_game.specs.Sound.{IsSoundGame};
+
+use crate::expectation::expect;
+use crate::game_texts::TAKE;
+use position_pack::{Packed, Packing, read_position};
+use rbg_game::game::Game;
+use rbg_game::position::Position;
+use rbg_game::roles::{Player, Role};
+use rbg_read::laws::what_is_read_has_proper_names;
+use rbg_read::read::read_game;
+use std::alloc::Global;
+use std::test::Fail;
+
+/// The game of a text.
+fn game(alloc: Global, text: &str) -> Result<Game, Fail>
+    ensures sound { IfOk result (λ game. IsSoundGame (game_of game)) }
+    ensures names { IfOk result (λ game. HasProperNames (game_of game)) }
+{
+    let game = read_game(alloc, text.as_bytes())?;
+    what_is_read_has_proper_names();
+    Ok(game)
+}
+
+/// The position of the game with this text.
+fn position(alloc: Global, game_text: &str, text: &[u8]) -> Result<Option<Position>, Fail> {
+    let game = game(alloc, game_text)?;
+    Ok(read_position(&game, text))
+}
+
+/// The bytes of a position of takes.
+fn packed(alloc: Global, at: &Position) -> Result<Packed, Fail> {
+    let game = game(alloc, TAKE)?;
+    Ok(Packing::new(&game).pack(at))
+}
+
+/// The position of takes with these bytes.
+fn unpacked(alloc: Global, bytes: &[u8]) -> Result<Option<Position>, Fail> {
+    let game = game(alloc, TAKE)?;
+    Ok(Packing::new(&game).unpack(bytes))
+}
+
+/// Expects of a position this role, place and values.
+fn expect_fields(
+    at: &Position,
+    (mover, place, values): (Role, u16, &[u32]),
+    text: &str,
+) -> Result<(), Fail> {
+    expect(at.state.mover, mover, text)?;
+    expect(at.place, place, text)?;
+    expect(at.state.values.as_slice(), values, text)
+}
+
+const WHITE: Role = Role::Player(Player::First);
+
+/// Texts of positions of takes, with the role, the place and the values, and their bytes. There are eleven places.
+const POSITIONS: [(&str, (Role, u16, &[u32]), [u8; 14]); 4] = [
+    (
+        ">> 2 v e 0,0,3",
+        (Role::Keeper, 2, &[0, 0, 3]),
+        [0, 0, 0, 0, 0, 0, 0, 0, 0, 3, 0, 0, 0, 2],
+    ),
+    (
+        "white 2 v e 0,0,3",
+        (WHITE, 2, &[0, 0, 3]),
+        [0, 0, 0, 0, 0, 0, 0, 0, 0, 3, 0, 1, 0, 2],
+    ),
+    (
+        "white 2 v e 0,1,0",
+        (WHITE, 2, &[0, 1, 0]),
+        [0, 0, 0, 0, 0, 0, 1, 0, 0, 0, 0, 1, 0, 2],
+    ),
+    (
+        "white 11 v e 0,0,0",
+        (WHITE, 11, &[0, 0, 0]),
+        [0, 0, 0, 0, 0, 0, 0, 0, 0, 0, 0, 1, 0, 11],
+    ),
+];
+
+/// Expects this text and these bytes of one position of takes.
+fn expect_position(
+    alloc: Global,
+    text: &str,
+    fields: (Role, u16, &[u32]),
+    bytes: &[u8],
+) -> Result<(), Fail> {
+    let at = position(alloc, TAKE, text.as_bytes())?.ok_or("no position")?;
+    expect_fields(&at, fields, text)?;
+    expect(packed(alloc, &at)?.as_slice(), bytes, text)
+}
+
+/// Expects these bytes of a position of takes.
+fn expect_unpacked(
+    alloc: Global,
+    text: &str,
+    fields: (Role, u16, &[u32]),
+    bytes: &[u8],
+) -> Result<(), Fail> {
+    let at = unpacked(alloc, bytes)?.ok_or("no position")?;
+    expect_fields(&at, fields, text)
+}
+
+#[test]
+fn a_position_has_its_text_and_its_bytes(rt: HostRuntime) -> Result<(), Fail> {
+    for (text, fields, bytes) in &POSITIONS {
+        expect_position(rt.alloc(), text, *fields, bytes)?;
+        expect_unpacked(rt.alloc(), text, *fields, bytes)?;
+    }
+    Ok(())
+}
+
+/// Bytes of no position of takes, each with one field out of its range, and two of other lengths.
+const NO_BYTES: [&[u8]; 8] = [
+    &[1, 0, 0, 0, 0, 0, 0, 0, 0, 0, 0, 1, 0, 2],
+    &[0, 0, 0, 2, 0, 0, 0, 0, 0, 0, 0, 1, 0, 2],
+    &[0, 0, 0, 0, 0, 0, 0, 1, 0, 0, 0, 1, 0, 2],
+    &[0, 0, 0, 0, 0, 0, 0, 0, 0, 0, 1, 1, 0, 2],
+    &[0, 0, 0, 0, 0, 0, 0, 0, 0, 0, 0, 3, 0, 2],
+    &[0, 0, 0, 0, 0, 0, 0, 0, 0, 0, 0, 1, 0, 12],
+    &[0, 0, 0],
+    &[0; 15],
+];
+
+#[test]
+fn only_canonical_bytes_are_a_position(rt: HostRuntime) -> Result<(), Fail> {
+    for bytes in NO_BYTES {
+        let found = unpacked(rt.alloc(), bytes)?;
+        expect(found.is_none(), true, "bytes of no position")?;
+    }
+    Ok(())
+}
+
+/// The game of a bound of a million.
+const MILLION: &str =
+    "#players = white(1), black(1) #pieces = e #variables = n(1000000) #board = v[e]{} #rules = ->white";
+
+/// Texts, and the last value of the position of takes with this text, if there is one. There is none with too few words
+/// or values, with a number that is written otherwise, or with one over its bound.
+const TAKE_VALUES: [(&str, Option<u32>); 12] = [
+    (">> 2 v e 0,0,3", Some(3)),
+    (">> 2 v e 0,1,2", Some(2)),
+    (">> 2 v e", None),
+    (">> 2 v e ", None),
+    (">> 2 v e 0 0,3", None),
+    (">> 2 v e 0,0,", None),
+    (">> 2 v e 0,0,03", None),
+    (">> 2 v e 0,0,00", None),
+    (">> 2 v e 0,0,+3", None),
+    (">> 2 v e 0,0,-0", None),
+    (">> 2 v e 0,0,3 ", None),
+    (">> 2 v e 0,0,4", None),
+];
+
+/// The same of the game of a bound of a million.
+const MILLION_VALUES: [(&str, Option<u32>); 7] = [
+    (">> 0 v e 0,0,0", Some(0)),
+    (">> 0 v e 0,0,1000000", Some(1_000_000)),
+    (">> 0 v e 0,0,1000001", None),
+    (">> 0 v e 0,0,4294967295", None),
+    (">> 0 v e 0,0,4294967296", None),
+    (">> 0 v e 0,0,99999999999", None),
+    (">> 0 v e 0,0,99999999999999999999999", None),
+];
+
+/// The last value of the position with this text.
+fn last_value(alloc: Global, game_text: &str, text: &[u8]) -> Result<Option<u32>, Fail> {
+    match position(alloc, game_text, text)? {
+        Some(at) => Ok(at.state.values.last().copied()),
+        None => Ok(None),
+    }
+}
+
+/// Expects of each of these texts the value beside it.
+fn expect_values(alloc: Global, game_text: &str, rows: &[(&str, Option<u32>)]) -> Result<(), Fail> {
+    for (text, want) in rows {
+        expect(last_value(alloc, game_text, text.as_bytes())?, *want, text)?;
+    }
+    Ok(())
+}
+
+#[test]
+fn a_value_has_one_spelling(rt: HostRuntime) -> Result<(), Fail> {
+    expect_values(rt.alloc(), TAKE, &TAKE_VALUES)?;
+    expect_values(rt.alloc(), MILLION, &MILLION_VALUES)?;
+    let no_text = last_value(rt.alloc(), TAKE, b">> 2 v e 0,0,\xff")?;
+    expect(no_text, None, "a byte that begins no character")
+}

@@ -1,0 +1,108 @@
+//! A list of commands in one call.
+
+use crate::deeds::{Deed, EMPTY, LOADED, TAKE, WORKED, all_say, disk_after};
+use recover::{Command, Reply, Solver, SolverFault, Units};
+use retrograde::Counts;
+use sector_disk::{FuseDisk, SectorDisk};
+use std::alloc::Global;
+use std::test::Fail;
+
+/// More disk calls than the run here makes.
+const MOST_CALLS: u64 = 64;
+
+/// To load the game of takes, or to work so many units.
+#[derive(Clone, Copy)]
+enum Step {
+    Load,
+    Work(u32),
+}
+
+fn commands(alloc: Global, steps: &[Step]) -> Result<Vec<Command>, Fail> {
+    let mut commands = Vec::new(alloc);
+    for step in steps {
+        let command = match step {
+            Step::Load => Command::Load(TAKE.as_bytes().to_vec(alloc)?),
+            Step::Work(count) => Command::Work(Units::new(*count).ok_or("that many units are no command")?),
+        };
+        commands.push(command)?;
+    }
+    Ok(commands)
+}
+
+/// Opens the table, runs the commands and puts their replies behind those that are there; the disk. Where the table is
+/// not opened, nothing is replied.
+fn run_on<D: SectorDisk + Drop>(alloc: Global, disk: D, commands: &[Command], replies: &mut Vec<Reply>) -> Result<D, Fail> {
+    match Solver::open(alloc, disk) {
+        Ok(mut solver) => {
+            solver.run(commands, replies)?;
+            Ok(solver.close())
+        }
+        Err(refused) => Ok(refused.disk),
+    }
+}
+
+/// The reply to so many units, after which seven positions are known and expanded.
+fn worked(units: u32, settled: u32, processed: u32) -> Reply {
+    let counts = Counts {
+        known: 7,
+        expanded: 7,
+        settled,
+        processed,
+    };
+    Reply::Worked(units, counts)
+}
+
+#[test]
+fn a_run_answers_each_command(rt: HostRuntime) -> Result<(), Fail> {
+    let alloc = rt.alloc();
+    let mut replies = Vec::new(alloc);
+    let disk = run_on(alloc, disk_after(alloc, &[Deed::Create])?, &[], &mut replies)?;
+    assert_eq!(rt; replies.len(), 0);
+    replies.push(Reply::Loaded)?;
+    let commands = commands(alloc, &[Step::Load, Step::Work(7), Step::Load, Step::Work(256)])?;
+    run_on(alloc, disk, &commands, &mut replies)?;
+    let wanted = [
+        Reply::Loaded,
+        Reply::Loaded,
+        worked(7, 2, 0),
+        Reply::Refused(SolverFault::GameAlready),
+        worked(7, 7, 7),
+    ];
+    assert_eq!(rt; replies.as_slice(), wanted.as_slice());
+    Ok(())
+}
+
+/// What a stop may leave after these replies to `load` and `work 7`: first while one of them is not done, then once both are.
+fn left_by(replies: &[Reply]) -> Result<[&'static [u8]; 2], Fail> {
+    match (replies.first(), replies.last()) {
+        (Some(Reply::Loaded), Some(Reply::Worked(7, _))) => Ok([WORKED, WORKED]),
+        (Some(Reply::Loaded), Some(Reply::Refused(SolverFault::Disk))) => Ok([LOADED, WORKED]),
+        (Some(Reply::Refused(SolverFault::Disk)), Some(Reply::Refused(SolverFault::Closed | SolverFault::NoGame))) => {
+            Ok([EMPTY, LOADED])
+        }
+        (None, None) => Ok([EMPTY, EMPTY]),
+        _ => Err("these replies cannot be")?,
+    }
+}
+
+/// Stops a run of `load` and `work 7` after so many calls: what its replies allow a stop to leave, and whether it leaves that.
+fn stopped_run(alloc: Global, commands: &[Command], passes: u64) -> Result<([&'static [u8]; 2], bool), Fail> {
+    let mut replies = Vec::new(alloc);
+    let fuse = FuseDisk::new(disk_after(alloc, &[Deed::Create])?, passes);
+    let disk = run_on(alloc, fuse, commands, &mut replies)?.into_inner();
+    let allowed = left_by(&replies)?;
+    Ok((allowed, all_say(alloc, &disk, &allowed)?))
+}
+
+#[test]
+fn a_stop_in_a_run_leaves_a_table_after_some_of_its_commands(rt: HostRuntime) -> Result<(), Fail> {
+    let commands = commands(rt.alloc(), &[Step::Load, Step::Work(7)])?;
+    for passes in 0..MOST_CALLS {
+        let (allowed, is_left) = stopped_run(rt.alloc(), &commands, passes)?;
+        assert!(rt; is_left, "{passes} calls pass");
+        if allowed[0] == WORKED {
+            return Ok(());
+        }
+    }
+    Err("no run was made in full")?
+}

@@ -1,0 +1,185 @@
+//! Disks and outputs that fail in a session, and what is printed of refusals and of the greatest numbers.
+
+use crate::deeds::{Deed, LOADED, SECTORS, TAKE, disk_after};
+use best_line::Value;
+use rbg_game::roles::Player;
+use rbg_read::fault::GameFault;
+use rbg_read::read::read_game;
+use recover::{Reply, SolverFault};
+use retrograde::Counts;
+use sector_disk::{FuseDisk, MemDisk};
+use session::commands::{FileCommand, Outcome, command_on, put_refused, put_reply, status_of};
+use session::line_by_line::session_over;
+use session::moves::moves_to;
+use session::replies::{put_status, value_line};
+use std::alloc::Global;
+use std::io::{self, ErrorKind, Write};
+use std::test::Fail;
+
+/// A writer that takes so many bytes, and then fails.
+#[derive(Drop)]
+struct Narrow {
+    room: usize,
+}
+
+impl Write for Narrow {
+    fn write(&mut self, buf: &[u8]) -> io::Result<usize> {
+        if buf.len() > self.room {
+            return Err(ErrorKind::Other.into());
+        }
+        self.room -= buf.len();
+        Ok(buf.len())
+    }
+
+    fn flush(&mut self) -> io::Result<()> {
+        Ok(())
+    }
+}
+
+const ONE_SWITCH: &[u8] = b"#players = fox(1), hen(1) #pieces = e #variables = x(9) #board = v[e]{} #rules = ->fox";
+
+#[test]
+fn an_output_that_fails_is_status_four(rt: HostRuntime) -> Result<(), Fail> {
+    for (room, text, status) in [
+        (0, ONE_SWITCH, 4),
+        (10, ONE_SWITCH, 4),
+        (100, ONE_SWITCH, 0),
+        (0, b"".as_slice(), 4),
+        (10, b"".as_slice(), 4),
+    ] {
+        assert_eq!(rt; moves_to(rt.alloc(), text, &mut Narrow { room }), status);
+    }
+    Ok(())
+}
+
+/// The line of a refusal.
+fn refused_line(alloc: Global, fault: SolverFault) -> Result<Vec<u8>, Fail> {
+    let mut out = Vec::new(alloc);
+    put_refused(&mut out, fault)?;
+    Ok(out)
+}
+
+#[test]
+fn refusals_have_a_line_and_a_status(rt: HostRuntime) -> Result<(), Fail> {
+    let rows = [
+        (SolverFault::KeeperChooses(4_294_967_295), 1, b"refused S3 4294967295\n".as_slice()),
+        (SolverFault::NoGame, 1, b"refused S1\n"),
+        (SolverFault::Damaged, 3, b"refused E4\n"),
+        (SolverFault::Disk, 4, b"refused E1\n"),
+        (SolverFault::OutOfMemory, 5, b"refused E8\n"),
+        (SolverFault::Game(GameFault::OutOfMemory), 5, b"refused G10\n"),
+        (SolverFault::Game(GameFault::Syntax), 1, b"refused G1\n"),
+    ];
+    for (fault, status, line) in rows {
+        assert_eq!(rt; refused_line(rt.alloc(), fault)?.as_slice(), line);
+        assert_eq!(rt; status_of(fault), status);
+    }
+    Ok(())
+}
+
+/// The greatest number that there is.
+const MOST: u32 = 4_294_967_295;
+
+const MOST_KNOWN: Counts = Counts {
+    known: MOST,
+    expanded: 7,
+    settled: 7,
+    processed: 7,
+};
+
+/// The reply to work, the status, and the value of a position, each with the greatest numbers.
+fn greatest_lines(alloc: Global) -> Result<Vec<u8>, Fail> {
+    let mut out = Vec::new(alloc);
+    put_reply(&mut out, Reply::Worked(6, MOST_KNOWN))?;
+    put_status(&mut out, Some(MOST_KNOWN))?;
+    let game = read_game(alloc, ONE_SWITCH)?;
+    let line = value_line(alloc, &game, Value::Won(Player::Second, MOST))?;
+    out.extend_from_slice(&line)?;
+    Ok(out)
+}
+
+#[test]
+fn replies_tell_the_greatest_numbers(rt: HostRuntime) -> Result<(), Fail> {
+    let wanted = b"units 6 known 4294967295 expanded 7 settled 7 processed 7 open
+known 4294967295 expanded 7 settled 7 processed 7 open
+hen in 4294967295
+";
+    assert_eq!(rt; greatest_lines(rt.alloc())?.as_slice(), wanted.as_slice());
+    Ok(())
+}
+
+/// What a command on this disk comes to, with the line that it prints.
+fn outcome_on(alloc: Global, disk: MemDisk, command: FileCommand) -> (Outcome, Vec<u8>) {
+    let mut out = Vec::new(alloc);
+    let (outcome, _) = command_on(alloc, disk, command, &mut out);
+    (outcome, out)
+}
+
+#[test]
+fn a_game_is_loaded_once_and_a_table_made_once_and_with_room(rt: HostRuntime) -> Result<(), Fail> {
+    let alloc = rt.alloc();
+    let loaded = [Deed::Create, Deed::LoadTake];
+    let again = FileCommand::Load(TAKE.as_bytes().to_vec(alloc)?);
+    let (outcome, line) = outcome_on(alloc, disk_after(alloc, &loaded)?, again);
+    assert_eq!(rt; (outcome.status, outcome.refused), (1, Some(SolverFault::GameAlready)));
+    assert_eq!(rt; line.as_slice(), b"refused S2\n".as_slice());
+    let (outcome, line) = outcome_on(alloc, disk_after(alloc, &loaded)?, FileCommand::Create);
+    assert_eq!(rt; (outcome.status, outcome.refused), (1, Some(SolverFault::AlreadyATable)));
+    assert_eq!(rt; line.as_slice(), b"refused E3\n".as_slice());
+    let (outcome, line) = outcome_on(alloc, MemDisk::new(alloc, SECTORS - 1)?, FileCommand::Create);
+    assert_eq!(rt; (outcome.status, outcome.refused), (1, Some(SolverFault::TooSmall)));
+    assert_eq!(rt; line.as_slice(), b"refused E6\n".as_slice());
+    Ok(())
+}
+
+/// What a session says, on its output and besides, and its status.
+struct Said {
+    status: u8,
+    out: Vec<u8>,
+    told: Vec<u8>,
+}
+
+/// A session on the game of takes, on a disk that stops after so many calls.
+fn session_with(alloc: Global, passes: u64, lines: &[u8]) -> Result<Said, Fail> {
+    let disk = FuseDisk::new(disk_after(alloc, &[Deed::Create, Deed::LoadTake])?, passes);
+    let mut out = Vec::new(alloc);
+    let mut told = Vec::new(alloc);
+    let mut input = lines;
+    let (status, _) = session_over(alloc, disk, &mut input, &mut out, &mut told);
+    Ok(Said { status, out, told })
+}
+
+#[test]
+fn a_disk_that_fails_ends_a_session(rt: HostRuntime) -> Result<(), Fail> {
+    let advice = b"the disk failed: see that the file can be read and written, and start again\n".as_slice();
+    // twelve calls to open and thirteen to commit
+    for passes in [0, 1, 11, 12, 20, 24] {
+        let said = session_with(rt.alloc(), passes, b"work 7\nworks\n")?;
+        assert_eq!(rt; said.status, 4, "{passes} calls pass");
+        assert_eq!(rt; said.out.as_slice(), b"refused E1\n".as_slice());
+        assert_eq!(rt; said.told.as_slice(), advice);
+    }
+    let said = session_with(rt.alloc(), 25, b"work 7\nworks\n")?;
+    assert_eq!(rt; said.status, 0);
+    let done = b"units 7 known 7 expanded 7 settled 2 processed 0 open\nusage\n".as_slice();
+    assert_eq!(rt; said.out.as_slice(), done);
+    assert!(rt; said.told.is_empty());
+    Ok(())
+}
+
+/// The status of a session whose output takes so many bytes.
+fn status_with(alloc: Global, room: usize) -> Result<u8, Fail> {
+    let disk = disk_after(alloc, &[Deed::Create, Deed::LoadTake])?;
+    let mut told = Vec::new(alloc);
+    let mut input = b"status\nwork 7\n".as_slice();
+    let (status, _) = session_over(alloc, disk, &mut input, &mut Narrow { room }, &mut told);
+    Ok(status)
+}
+
+#[test]
+fn an_output_that_fails_ends_a_session(rt: HostRuntime) -> Result<(), Fail> {
+    for (room, status) in [(0, 4), (LOADED.len() - 1, 4), (LOADED.len(), 4), (1_000, 0)] {
+        assert_eq!(rt; status_with(rt.alloc(), room)?, status, "{room} bytes");
+    }
+    Ok(())
+}
