@@ -124,7 +124,7 @@ fn take(alloc: Global) -> Result<MemTable, TableFault> {
     MemTable::new(alloc, &start)
 }
 
-/// Whether a table with this text is written with these sizes and as these bytes.
+/// Whether a table with this text, which is not longer than a game's may be, is written with these sizes and as these bytes.
 fn is_written(
     alloc: Global,
     table: &mut MemTable,
@@ -132,6 +132,9 @@ fn is_written(
     sizes: &Sizes,
     bytes: &[u8],
 ) -> Result<bool, TableFault> {
+    if text.len() > 65_536 {
+        return Ok(false);
+    }
     let written = write_table(alloc, text, sizes.packed, table)?;
     Ok(written.sizes == *sizes && written.bytes.as_slice() == bytes)
 }
@@ -223,8 +226,7 @@ fn another_byte_at_one_place_is_damaged_or_ignored(rt: HostRuntime) -> Result<()
     Ok(())
 }
 
-/// The bytes with two edges, where the successor of the second is this number, and its predecessor that one; and the
-/// successor of the first.
+/// The bytes with two edges: to these numbers, and the second from this one.
 fn edges_with(first: u8, second: u8, predecessor: u8) -> [u8; 57] {
     let mut bytes = TWO_EDGES;
     bytes[40] = first;

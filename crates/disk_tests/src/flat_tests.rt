@@ -3,7 +3,6 @@
 
 use crate::disks::{COMMIT, OPENING, WRITING, agree, all_over, opened, sealed, table_disk};
 use crate::two_positions::{TWO, TWO_COUNTS, TWO_SIZES, two_with};
-use flat_table::game::Game;
 use flat_table::read::read_all;
 use flat_table::slot::{GameSlot, empty_slot, game_slot, read_slot};
 use flat_table::write::save;
@@ -48,36 +47,48 @@ fn fault_of<D: SectorDisk + Drop>(alloc: Global, disk: D) -> Option<PageFault> {
     }
 }
 
+/// What is told of a game that is read: the bytes of a position, how many pages it takes, its counts, and whether its text
+/// is that of the table of two positions.
+type GameTold = (u32, usize, Counts, bool);
+
 /// What is told of a disk that is read: the count of commits, the free pages, and the game.
-fn told(alloc: Global, disk: MemDisk) -> Result<(u64, u32, Option<Game>), Fail> {
+fn told(alloc: Global, disk: MemDisk) -> Result<(u64, u32, Option<GameTold>), Fail> {
     let mut store = opened(alloc, disk)?;
     let read = read_all(alloc, &mut store)?;
-    Ok((read.commits, store.free_pages(), read.game))
-}
-
-#[test]
-fn a_table_of_two_positions_is_read(rt: HostRuntime) -> Result<(), Fail> {
-    let (commits, free, game) = told(rt.alloc(), with_two(rt.alloc())?)?;
-    let Some(game) = game else {
-        return Err("no game is read".into());
+    let game = match &read.game {
+        Some(game) => {
+            let is_text = game.text.as_slice() == b"rbg".as_slice();
+            Some((game.packed, game.pages.len(), game.table.counts(), is_text))
+        }
+        None => None,
     };
-    let numbers = (commits, free, game.packed, game.pages.len());
-    agree("numbers", numbers, (5, 14, 1, 1))?;
-    agree("text", game.text.as_slice(), b"rbg".as_slice())?;
-    agree("counts", game.table.counts(), TWO_COUNTS)
+    Ok((read.commits, store.free_pages(), game))
 }
 
 #[test]
-fn an_empty_table_takes_no_page(rt: HostRuntime) -> Result<(), Fail> {
-    let disk = table_disk(rt.alloc(), SIXTEEN, &empty_slot())?;
-    let (commits, free, game) = told(rt.alloc(), disk)?;
-    agree("empty", (commits, free, game.is_none()), (0, 15, true))
+fn a_game_is_read_and_an_empty_table_takes_no_page(rt: HostRuntime) -> Result<(), Fail> {
+    let game = told(rt.alloc(), with_two(rt.alloc())?)?;
+    agree("game", game, (5, 14, Some((1, 1, TWO_COUNTS, true))))?;
+    let empty = table_disk(rt.alloc(), SIXTEEN, &empty_slot())?;
+    agree("empty", told(rt.alloc(), empty)?, (0, 15, None))
 }
 
-/// A disk of which the root names a chain of the table of two positions that begins at this page.
-fn naming(alloc: Global, first: u32) -> Result<MemDisk, Fail> {
+const DAMAGED: Option<PageFault> = Some(PageFault::Damaged);
+
+/// A root that names a chain of the table of two positions which begins at this page.
+fn naming(first: u32) -> [u8; 512] {
     let sizes = TWO_SIZES;
-    table_disk(alloc, SIXTEEN, &game_slot(1, &GameSlot { first, sizes }))
+    game_slot(1, &GameSlot { first, sizes })
+}
+
+#[test]
+fn a_root_that_names_no_chain_is_damaged(rt: HostRuntime) -> Result<(), Fail> {
+    // The first is no slot.
+    for root in [[7; 512], naming(0), naming(16), naming(u32::MAX)] {
+        let disk = table_disk(rt.alloc(), SIXTEEN, &root)?;
+        agree("root", fault_of(rt.alloc(), disk), DAMAGED)?;
+    }
+    Ok(())
 }
 
 /// A disk of 15 pages and seven sectors, with a header, a gate of zeros and an empty slot.
@@ -93,48 +104,32 @@ fn too_small(alloc: Global) -> Result<MemDisk, Fail> {
 }
 
 #[test]
-fn a_disk_that_names_no_chain_or_is_too_small_is_damaged(rt: HostRuntime) -> Result<(), Fail> {
-    for disk in [
-        table_disk(rt.alloc(), SIXTEEN, &[7; 512])?,
-        naming(rt.alloc(), 0)?,
-        naming(rt.alloc(), 16)?,
-        naming(rt.alloc(), u32::MAX)?,
-        too_small(rt.alloc())?,
-    ] {
-        let sectors = disk.sectors();
-        agree(sectors, fault_of(rt.alloc(), disk), DAMAGED)?;
-    }
-    Ok(())
+fn fewer_than_sixteen_pages_are_damaged(rt: HostRuntime) -> Result<(), Fail> {
+    let told = fault_of(rt.alloc(), too_small(rt.alloc())?);
+    agree("small", told, DAMAGED)
 }
 
-const DAMAGED: Option<PageFault> = Some(PageFault::Damaged);
-
-/// What the table of two positions gives with another byte at one place.
-const WITH_ANOTHER_BYTE: [(usize, u8, Option<PageFault>); 5] = [
-    (48, 1, None), // the settled number, as it is
-    (48, 0, DAMAGED), // one that is not settled
-    (48, 9, DAMAGED), // one that is not known
-    (20, 7, DAMAGED), // a position that stands twice
-    (21, 1, DAMAGED), // the settled number's state is expanded alone
+/// What the table of two positions gives with another byte at one place, and where the slot counts so many expanded and
+/// processed.
+const CHANGED: [(usize, u8, u32, u32, Option<PageFault>); 7] = [
+    (48, 1, 2, 0, None), // as it is
+    (48, 0, 2, 0, DAMAGED), // the settled number is one that is not settled
+    (48, 9, 2, 0, DAMAGED), // or not known
+    (20, 7, 2, 0, DAMAGED), // a position stands twice
+    (21, 1, 2, 0, DAMAGED), // the settled number's state is expanded alone
+    (48, 1, 1, 0, DAMAGED), // one expanded too few
+    (48, 1, 2, 1, DAMAGED), // one processed too many
 ];
 
 #[test]
-fn a_table_whose_parts_do_not_fit_is_damaged(rt: HostRuntime) -> Result<(), Fail> {
-    for (at, byte, fault) in WITH_ANOTHER_BYTE {
-        let disk = with_game(rt.alloc(), &two_with(at, byte), TWO_SIZES)?;
-        agree((at, byte), fault_of(rt.alloc(), disk), fault)?;
-    }
-    Ok(())
-}
-
-#[test]
-fn a_table_that_is_counted_wrong_is_damaged(rt: HostRuntime) -> Result<(), Fail> {
-    for (expanded, processed, fault) in [(2, 0, None), (1, 0, DAMAGED), (2, 1, DAMAGED)] {
+fn a_table_that_does_not_fit_or_is_counted_wrong_is_damaged(rt: HostRuntime) -> Result<(), Fail> {
+    for (at, byte, expanded, processed, fault) in CHANGED {
         let mut sizes = TWO_SIZES;
         sizes.counts.expanded = expanded;
         sizes.counts.processed = processed;
-        let disk = with_game(rt.alloc(), &TWO, sizes)?;
-        agree((expanded, processed), fault_of(rt.alloc(), disk), fault)?;
+        let disk = with_game(rt.alloc(), &two_with(at, byte), sizes)?;
+        let row = (at, byte, expanded, processed);
+        agree(row, fault_of(rt.alloc(), disk), fault)?;
     }
     Ok(())
 }
@@ -198,47 +193,60 @@ fn save_on<P: Pages>(
     Ok(save(alloc, store, u64::from(byte), old, &table))
 }
 
-/// What is told of a store once a table was saved: how many pages it took, how many are free, and its sizes.
-type Saved = (usize, u32, Option<Sizes>);
+/// What is told where one table is saved in the place of another.
+#[derive(PartialEq, Debug, Drop)]
+struct Saved {
+    /// How many pages the first takes, and how many are free then.
+    first: (usize, u32),
+    /// How many the second takes or why it is refused, and how many are free then.
+    second: (Result<usize, PageFault>, u32),
+    /// The sizes that the root names.
+    sizes: Option<Sizes>,
+    /// The byte of which the table on the disk is made.
+    byte: Option<u8>,
+}
 
 /// Saves so many ones where no game is, and then so many twos in their place.
-fn save_both(alloc: Global, ones: usize, twos: usize) -> Result<[Saved; 2], Fail> {
+fn save_both(alloc: Global, ones: usize, twos: usize) -> Result<Saved, Fail> {
     let mut store = empty_store(alloc)?;
-    let first = save_on(alloc, &mut store, &[], 1, ones)??;
-    let free = store.free_pages();
+    let pages = save_on(alloc, &mut store, &[], 1, ones)??;
+    let first = (pages.len(), store.free_pages());
+    let told = save_on(alloc, &mut store, &pages, 2, twos)?;
+    let second = (told.map(|pages| pages.len()), store.free_pages());
     let sizes = slot_in(&store).map(|slot| slot.sizes);
-    let second = save_on(alloc, &mut store, &first, 2, twos)??;
-    let slot = slot_in(&store).filter(|slot| second.first() == Some(&slot.first));
-    let again = (
-        second.len(),
-        store.free_pages(),
-        slot.map(|slot| slot.sizes),
-    );
-    Ok([(first.len(), free, sizes), again])
+    let byte = seen(alloc, store.into_disk())?;
+    Ok(Saved {
+        first,
+        second,
+        sizes,
+        byte,
+    })
 }
 
 #[test]
 fn each_table_takes_the_place_of_the_one_before(rt: HostRuntime) -> Result<(), Fail> {
-    let wanted = [(2, 17, Some(sizes_with(1))), (1, 18, Some(sizes_with(2)))];
+    let wanted = Saved {
+        first: (2, 17),
+        second: (Ok(1), 18),
+        sizes: Some(sizes_with(2)),
+        byte: Some(2),
+    };
     agree("saved", save_both(rt.alloc(), 4_093, 4_092)?, wanted)
-}
-
-/// What is told where more twos than there is room for are to be saved in the place of ones.
-fn save_too_many(
-    alloc: Global,
-) -> Result<(Option<PageFault>, u32, Option<Sizes>, Option<u8>), Fail> {
-    let mut store = empty_store(alloc)?;
-    let pages = save_on(alloc, &mut store, &[], 1, 100)??;
-    let refused = save_on(alloc, &mut store, &pages, 2, 18 * 4_092 + 1)?.err();
-    let free = store.free_pages();
-    let sizes = slot_in(&store).map(|slot| slot.sizes);
-    Ok((refused, free, sizes, seen(alloc, store.into_disk())?))
 }
 
 #[test]
 fn a_table_that_is_too_long_leaves_the_one_before(rt: HostRuntime) -> Result<(), Fail> {
-    let wanted = (Some(PageFault::TableFull), 18, Some(sizes_with(1)), Some(1));
-    agree("refused", save_too_many(rt.alloc())?, wanted)
+    let wanted = Saved {
+        first: (1, 18),
+        second: (Err(PageFault::TableFull), 18),
+        sizes: Some(sizes_with(1)),
+        byte: Some(1),
+    };
+    agree(
+        "refused",
+        save_both(rt.alloc(), 100, 18 * 4_092 + 1)?,
+        wanted,
+    )
 }
 
 /// A disk with a table of one page of ones.

@@ -243,52 +243,101 @@ fn a_stop_at_each_disk_call_leaves_the_old_root_or_the_new(rt: HostRuntime) -> R
     Ok(())
 }
 
-/// Runs a script on a file of this name, and answers its bytes then.
-fn on_file(rt: &HostRuntime, path: &str, script: Script) -> Result<Vec<u8>, Fail> {
-    run(&mut file_disk(rt, path)?, script)?;
-    Ok(fs::read(rt, path)?)
+/// A file on which there may be a table.
+#[derive(Clone, Copy, Drop)]
+struct FileRow {
+    /// It is made of so many of this byte.
+    length: usize,
+    byte: u8,
+    /// What is done where it may only be read, then where it may be written, and then to the first disk again.
+    scripts: [Script; 3],
+    /// Some of its bytes behind the second script.
+    bytes: &'static [(usize, u8)],
+}
+
+const FILES: [FileRow; 3] = [
+    // A file of odd length becomes a table and keeps it.
+    FileRow {
+        length: 65_573,
+        byte: 1,
+        scripts: [
+            &[(Open, NO_TABLE)],
+            A_TABLE_OF_TWO,
+            &[(Open, Ok(Some(8))), (Create(9), A_TABLE)],
+        ],
+        bytes: &[
+            (0, b'R'),
+            (1, b'B'),
+            (2, b'G'),
+            (3, b'T'),
+            (4, b'A'),
+            (5, b'B'),
+            (6, b'L'),
+            (7, b'E'),
+            (512, 1),
+            (1024, 7),
+            (1536, 8),
+            (2048, 1),
+        ],
+    },
+    // One of no bytes is no table and too small.
+    FileRow {
+        length: 0,
+        byte: 0,
+        scripts: [&[], &[(Open, NO_TABLE), (Create(7), TOO_SMALL)], &[]],
+        bytes: &[],
+    },
+    // One that is read only is opened and not written.
+    FileRow {
+        length: 65_536,
+        byte: 0,
+        scripts: [
+            &[(Create(7), Err(RootFault::Write))],
+            &[(Create(7), Ok(Some(7)))],
+            &[
+                (Open, Ok(Some(7))),
+                (Publish(8), Err(RootFault::Write)),
+                (Open, Ok(Some(7))),
+            ],
+        ],
+        bytes: &[(0, b'R'), (1024, 7)],
+    },
+];
+
+/// The file that these tests use.
+const PATH: &str = "roots.table";
+
+/// A new file of so many of a byte, as a disk that may only be read.
+fn made(rt: &HostRuntime, length: usize, byte: u8) -> Result<FileDisk, Fail> {
+    let bytes = vec![in rt.alloc(); byte; length]?;
+    fs::write(rt, PATH, bytes.as_slice())?;
+    Ok(FileDisk::new(File::open(rt, PATH)?)?)
+}
+
+/// Runs a script on that file where it may be written, and answers its bytes then.
+fn written(rt: &HostRuntime, script: Script) -> Result<Vec<u8>, Fail> {
+    run(&mut file_disk(rt, PATH)?, script)?;
+    Ok(fs::read(rt, PATH)?)
 }
 
 #[test]
-fn a_file_of_odd_length_becomes_a_table_and_keeps_it(rt: HostRuntime) -> Result<(), Fail> {
-    fs::write(&rt, "odd.table", [1; 65_573].as_slice())?;
-    let before = on_file(&rt, "odd.table", A_TABLE_OF_TWO)?;
-    let found = [512, 1024, 1536, 2048].map(|at| before.get(at).copied());
-    agree("bytes", found, [Some(1), Some(7), Some(8), Some(1)])?;
-    let head = (before.len(), before.starts_with(b"RBGTABLE"));
-    agree("length and head", head, (65_573, true))?;
-    let after = on_file(
-        &rt,
-        "odd.table",
-        &[(Open, Ok(Some(8))), (Create(9), A_TABLE)],
-    )?;
-    agree("the file is as before", after == before, true)?;
-    Ok(fs::remove_file(&rt, "odd.table")?)
-}
-
-#[test]
-fn a_file_of_no_bytes_is_no_table_and_too_small(rt: HostRuntime) -> Result<(), Fail> {
-    fs::write(&rt, "empty.table", [].as_slice())?;
-    let after = on_file(
-        &rt,
-        "empty.table",
-        &[(Open, NO_TABLE), (Create(7), TOO_SMALL)],
-    )?;
-    agree("length", after.len(), 0)?;
-    Ok(fs::remove_file(&rt, "empty.table")?)
-}
-
-#[test]
-fn a_file_that_is_read_only_is_opened_and_not_written(rt: HostRuntime) -> Result<(), Fail> {
-    fs::write(&rt, "fixed.table", [0; 65_536].as_slice())?;
-    let mut disk = FileDisk::new(File::open(&rt, "fixed.table")?)?;
-    run(&mut disk, &[(Create(7), Err(RootFault::Write))])?;
-    on_file(&rt, "fixed.table", &[(Create(7), Ok(Some(7)))])?;
-    let script = [
-        (Open, Ok(Some(7))),
-        (Publish(8), Err(RootFault::Write)),
-        (Open, Ok(Some(7))),
-    ];
-    run(&mut disk, &script)?;
-    Ok(fs::remove_file(&rt, "fixed.table")?)
+fn a_file_becomes_a_table_and_keeps_it(rt: HostRuntime) -> Result<(), Fail> {
+    for row in FILES {
+        let [first, second, third] = row.scripts;
+        let mut disk = made(&rt, row.length, row.byte)?;
+        run(&mut disk, first)?;
+        let before = written(&rt, second)?;
+        run(&mut disk, third)?;
+        let kept = fs::read(&rt, PATH)? == before;
+        let same = row
+            .bytes
+            .iter()
+            .all(|(at, byte)| before.get(*at) == Some(byte));
+        agree(
+            row.length,
+            (before.len(), kept, same),
+            (row.length, true, true),
+        )?;
+    }
+    Ok(fs::remove_file(&rt, PATH)?)
 }

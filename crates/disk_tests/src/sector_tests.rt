@@ -45,6 +45,14 @@ fn told(outcome: Result<(), DiskFault>) -> Answer {
     if outcome.is_ok() { Done } else { Fault }
 }
 
+/// What the bytes of a sector are.
+fn halves_of(bytes: &[u8; 512]) -> Answer {
+    match (all_over(&bytes[..256]), all_over(&bytes[256..])) {
+        (Some(first), Some(second)) => Halves(first, second),
+        _ => Mixed,
+    }
+}
+
 /// What a read answers.
 fn read<D: SectorDisk>(disk: &mut D, at: u64) -> Answer {
     let mut bytes = [0; 512];
@@ -54,10 +62,7 @@ fn read<D: SectorDisk>(disk: &mut D, at: u64) -> Answer {
     if disk.read(at, &mut bytes).is_err() {
         return Fault;
     }
-    match (all_over(&bytes[..256]), all_over(&bytes[256..])) {
-        (Some(first), Some(second)) => Halves(first, second),
-        _ => Mixed,
-    }
+    halves_of(&bytes)
 }
 
 /// What a call answers.
@@ -222,59 +227,108 @@ fn one_call_fails_and_was_carried_out_or_not(rt: HostRuntime) -> Result<(), Fail
     Ok(())
 }
 
-#[test]
-fn a_file_of_odd_length_has_its_whole_sectors(rt: HostRuntime) -> Result<(), Fail> {
-    fs::write(&rt, "odd.disk", [1; 1100].as_slice())?;
-    let script = [
-        (Sectors, Count(2)),
-        (Read(1), Halves(1, 1)),
-        (Write(1, 7), Done),
-        (Sync, Done),
-        (Read(1), Halves(7, 7)),
-        (Write(1, 9), Done),
-        (Read(1), Halves(9, 9)),
-    ];
-    run(&mut file_disk(&rt, "odd.disk")?, &script)?;
-    let bytes = fs::read(&rt, "odd.disk")?;
-    let found = [511, 512, 1023, 1024].map(|at| bytes.get(at).copied());
-    agree("bytes", found, [Some(1), Some(9), Some(9), Some(1)])?;
-    agree("length", bytes.len(), 1100)?;
-    Ok(fs::remove_file(&rt, "odd.disk")?)
+/// A file that is used as a disk.
+#[derive(Clone, Copy, Drop)]
+struct FileRow {
+    /// It is made of so many of this byte.
+    length: usize,
+    byte: u8,
+    read_only: bool,
+    /// It has this length once the disk is made of it.
+    cut: u64,
+    script: Script,
+    /// Some of its bytes at the end.
+    bytes: &'static [(usize, u8)],
+}
+
+const FILES: [FileRow; 4] = [
+    // A file of odd length has its whole sectors.
+    FileRow {
+        length: 1100,
+        byte: 1,
+        read_only: false,
+        cut: 1100,
+        script: &[
+            (Sectors, Count(2)),
+            (Read(1), Halves(1, 1)),
+            (Write(1, 7), Done),
+            (Sync, Done),
+            (Read(1), Halves(7, 7)),
+            (Write(1, 9), Done),
+            (Read(1), Halves(9, 9)),
+        ],
+        bytes: &[(511, 1), (512, 9), (1023, 9), (1024, 1)],
+    },
+    // An empty one has none.
+    FileRow {
+        length: 0,
+        byte: 0,
+        read_only: false,
+        cut: 0,
+        script: &[(Sectors, Count(0)), (Sync, Done)],
+        bytes: &[],
+    },
+    // One that is read only fails at writes.
+    FileRow {
+        length: 1024,
+        byte: 4,
+        read_only: true,
+        cut: 1024,
+        script: &[
+            (Sectors, Count(2)),
+            (Read(1), Halves(4, 4)),
+            (Write(1, 5), Fault),
+            (Read(1), Halves(4, 4)),
+        ],
+        bytes: &[(512, 4)],
+    },
+    // One that was cut fails at reads.
+    FileRow {
+        length: 1024,
+        byte: 4,
+        read_only: false,
+        cut: 700,
+        script: &[
+            (Sectors, Count(2)),
+            (Read(0), Halves(4, 4)),
+            (Read(1), Fault),
+        ],
+        bytes: &[(699, 4)],
+    },
+];
+
+/// The file that these tests use.
+const PATH: &str = "sectors.disk";
+
+/// The disk of a row's file, which is made first.
+fn made(rt: &HostRuntime, row: &FileRow) -> Result<FileDisk, Fail> {
+    let bytes = vec![in rt.alloc(); row.byte; row.length]?;
+    fs::write(rt, PATH, bytes.as_slice())?;
+    if row.read_only {
+        return Ok(FileDisk::new(File::open(rt, PATH)?)?);
+    }
+    file_disk(rt, PATH)
+}
+
+/// The bytes of that file, which is removed then.
+fn taken(rt: &HostRuntime) -> std::io::Result<Vec<u8>> {
+    let bytes = fs::read(rt, PATH)?;
+    fs::remove_file(rt, PATH)?;
+    Ok(bytes)
 }
 
 #[test]
-fn an_empty_file_has_no_sector(rt: HostRuntime) -> Result<(), Fail> {
-    fs::write(&rt, "empty.disk", [].as_slice())?;
-    run(
-        &mut file_disk(&rt, "empty.disk")?,
-        &[(Sectors, Count(0)), (Sync, Done)],
-    )?;
-    Ok(fs::remove_file(&rt, "empty.disk")?)
-}
-
-#[test]
-fn a_file_that_is_read_only_fails_at_writes(rt: HostRuntime) -> Result<(), Fail> {
-    fs::write(&rt, "fixed.disk", [4; 1024].as_slice())?;
-    let script = [
-        (Sectors, Count(2)),
-        (Read(1), Halves(4, 4)),
-        (Write(1, 5), Fault),
-        (Read(1), Halves(4, 4)),
-    ];
-    run(&mut FileDisk::new(File::open(&rt, "fixed.disk")?)?, &script)?;
-    Ok(fs::remove_file(&rt, "fixed.disk")?)
-}
-
-#[test]
-fn a_file_that_was_cut_fails_at_reads(rt: HostRuntime) -> Result<(), Fail> {
-    fs::write(&rt, "cut.disk", [4; 1024].as_slice())?;
-    let mut disk = file_disk(&rt, "cut.disk")?;
-    writable(&rt, "cut.disk")?.set_len(700)?;
-    let script = [
-        (Sectors, Count(2)),
-        (Read(0), Halves(4, 4)),
-        (Read(1), Fault),
-    ];
-    run(&mut disk, &script)?;
-    Ok(fs::remove_file(&rt, "cut.disk")?)
+fn a_file_has_whole_sectors_and_tells_what_fails(rt: HostRuntime) -> Result<(), Fail> {
+    for row in FILES {
+        let mut disk = made(&rt, &row)?;
+        writable(&rt, PATH)?.set_len(row.cut)?;
+        run(&mut disk, row.script)?;
+        let bytes = taken(&rt)?;
+        let same = row
+            .bytes
+            .iter()
+            .all(|(at, byte)| bytes.get(*at) == Some(byte));
+        agree(row.length, (bytes.len() as u64, same), (row.cut, true))?;
+    }
+    Ok(())
 }

@@ -96,13 +96,9 @@ fn found_after_stops(alloc: Global, disk: &MemDisk) -> Result<[bool; 3], Fail> {
     let mut found = [false; 3];
     for pick in 0..64 {
         let seen = seen(alloc, disk.after_stop(alloc, pick * 0x5555)?)?;
-        found[if seen == OLD {
-            0
-        } else if seen == NEW {
-            1
-        } else {
-            2
-        }] = true;
+        found[0] |= seen == OLD;
+        found[1] |= seen == NEW;
+        found[2] |= seen != OLD && seen != NEW;
     }
     Ok(found)
 }
@@ -125,10 +121,10 @@ fn told_after(alloc: Global, call: u64, done: bool) -> Result<((bool, u8, [u32; 
     let mut pages = opened(alloc, FlakyDisk::new(disk_of_ones(alloc)?, call, done))?;
     let is_disk = put_twos(&mut pages) == Err(PageFault::Disk);
     let root = pages.root().bytes[0];
-    let working = pages.free_pages();
     if call != GATE_READ && answers(&mut pages) != [Some(PageFault::Closed); 4] {
         return Err("the store is not closed".into());
     }
+    let working = pages.free_pages();
     pages.discard();
     let told = (is_disk, root, [working, pages.free_pages()]);
     Ok((told, seen(alloc, pages.into_disk().into_inner())?))

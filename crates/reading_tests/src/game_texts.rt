@@ -20,16 +20,17 @@ pub fn with_rules(alloc: Global, head: &str, rules: &str) -> Result<String, Fail
     Ok(format!(in alloc; "{head} #rules = {rules}")?)
 }
 
-/// Why the text is no game, if it is none.
-fn fault_of(alloc: Global, text: &str) -> Option<GameFault> {
-    read_game(alloc, text.as_bytes()).err()
+/// Reads a text, and lets the game go.
+fn read(alloc: Global, text: &str) -> Result<(), GameFault> {
+    let _game = read_game(alloc, text.as_bytes())?;
+    Ok(())
 }
 
 /// The code of the text's fault, or `ok`.
 pub fn code(alloc: Global, text: &str) -> &'static str {
-    match fault_of(alloc, text) {
-        Some(fault) => fault.code(),
-        None => "ok",
+    match read(alloc, text) {
+        Ok(()) => "ok",
+        Err(fault) => fault.code(),
     }
 }
 

@@ -5,6 +5,7 @@ use std::alloc::Global;
 use std::test::Fail;
 
 /// A text in which a part stands many times over.
+#[derive(Clone, Copy)]
 struct Parts {
     before: &'static str,
     part: &'static str,

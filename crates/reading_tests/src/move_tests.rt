@@ -3,7 +3,7 @@ ghost use Rattle.std.specs.Prelude.{IfOk};
 ghost use Rattle.legal_moves.specs.Compiled.{IsCompiled};
 
 use crate::expectation::expect;
-use legal_moves::{Compiled, Modifier, MoveFault, MoveSource, Moves};
+use legal_moves::{Compiled, Modifier, MoveSource, Moves};
 use position_pack::Packed;
 use rbg_game::roles::{Player, Role};
 use rbg_read::read::read_game;
@@ -88,53 +88,22 @@ fn as_wide_as_may_be(rt: HostRuntime) -> Result<(), Fail> {
     expect(last, (32_768, Some(FIRST_OF_WIDE)), "the last word")
 }
 
-/// Where a position leads, by the bound alone.
-fn successors<S: MoveSource>(
-    alloc: Global,
-    source: &S,
-    at: &Packed,
-) -> Result<Vec<Packed>, MoveFault>
+/// Expects the bytes of the only successor of the start, by the bound alone.
+fn expect_only<S: MoveSource>(alloc: Global, source: &S, want: &[u8]) -> Result<(), Fail>
     requires { S.is_sound source.now }
 {
-    source.successors(alloc, at)
-}
-
-fn start_of<S: MoveSource>(source: &S) -> Packed
-    requires { S.is_sound source.now }
-{
-    source.start()
-}
-
-/// Where the start of a game leads.
-fn after_start(alloc: Global, text: &str) -> Result<Vec<Packed>, Fail> {
-    let source = game_of(alloc, text)?;
-    Ok(successors(alloc, &source, &start_of(&source))?)
-}
-
-#[test]
-fn a_compiled_game_is_a_source_of_moves(rt: HostRuntime) -> Result<(), Fail> {
-    let mut found = after_start(rt.alloc(), LOOK)?;
+    let mut found = source.successors(alloc, &source.start())?;
     let only = found.pop().ok_or("no successor")?;
-    expect(only.as_slice(), SEEN.as_slice(), "the successor")?;
+    expect(only.as_slice(), want, "the successor")?;
     expect(found.len(), 0, "further successors")
 }
 
-/// How many successors bytes have that are no position.
-fn after_nothing(alloc: Global, text: &str) -> Result<usize, Fail> {
-    let source = game_of(alloc, text)?;
-    Ok(successors(alloc, &source, &Packed::new())?.len())
-}
-
-#[test]
-fn bytes_that_are_no_position_have_no_successor(rt: HostRuntime) -> Result<(), Fail> {
-    expect(after_nothing(rt.alloc(), LOOK)?, 0, "the successors")
-}
-
-/// Who has the turn, and who is ahead.
-fn turn_and_leader<S: MoveSource>(source: &S, at: &Packed) -> (Role, Option<Player>)
+/// Expects that bytes that are no position have no successor.
+fn expect_none<S: MoveSource>(alloc: Global, source: &S) -> Result<(), Fail>
     requires { S.is_sound source.now }
 {
-    (source.mover(at), source.ahead(at))
+    let found = source.successors(alloc, &Packed::new())?;
+    expect(found.len(), 0, "successors of no position")
 }
 
 fn packed(bytes: &[u8]) -> Result<Packed, Fail> {
@@ -143,17 +112,32 @@ fn packed(bytes: &[u8]) -> Result<Packed, Fail> {
     Ok(packed)
 }
 
-/// Who has the turn and who is ahead at these bytes.
-fn told_by(alloc: Global, bytes: &[u8]) -> Result<(Role, Option<Player>), Fail> {
-    let source = game_of(alloc, LOOK)?;
+/// Expects of these bytes that this player has the turn, and that this one is ahead.
+fn expect_turn<S: MoveSource>(
+    source: &S,
+    bytes: &[u8],
+    turn: Player,
+    ahead: Option<Player>,
+) -> Result<(), Fail>
+    requires { S.is_sound source.now }
+{
     let at = packed(bytes)?;
-    Ok(turn_and_leader(&source, &at))
+    expect(source.mover(&at), Role::Player(turn), "the turn")?;
+    expect(source.ahead(&at), ahead, "who is ahead")
+}
+
+/// Expects of the game of `LOOK` what is told of it by the bound alone.
+fn expect_look<S: MoveSource>(alloc: Global, source: &S) -> Result<(), Fail>
+    requires { S.is_sound source.now }
+{
+    expect_only(alloc, source, &SEEN)?;
+    expect_none(alloc, source)?;
+    expect_turn(source, &SEEN, Player::First, None)?;
+    expect_turn(source, &BLACK_AHEAD, Player::Second, Some(Player::Second))
 }
 
 #[test]
-fn the_turn_and_the_leader_are_in_the_bytes(rt: HostRuntime) -> Result<(), Fail> {
-    let white = (Role::Player(Player::First), None);
-    expect(told_by(rt.alloc(), &SEEN)?, white, "white's turn")?;
-    let black = (Role::Player(Player::Second), Some(Player::Second));
-    expect(told_by(rt.alloc(), &BLACK_AHEAD)?, black, "black's turn")
+fn a_compiled_game_is_a_source_of_moves(rt: HostRuntime) -> Result<(), Fail> {
+    let source = game_of(rt.alloc(), LOOK)?;
+    expect_look(rt.alloc(), &source)
 }

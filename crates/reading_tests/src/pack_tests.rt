@@ -6,7 +6,7 @@ ghost use Rattle.rbg_game.specs.Sound.{IsSoundGame};
 
 use crate::expectation::expect;
 use crate::game_texts::TAKE;
-use position_pack::{Packed, Packing, read_position};
+use position_pack::{Packing, read_position};
 use rbg_game::game::Game;
 use rbg_game::position::Position;
 use rbg_game::roles::{Player, Role};
@@ -31,16 +31,10 @@ fn position(alloc: Global, game_text: &str, text: &[u8]) -> Result<Option<Positi
     Ok(read_position(&game, text))
 }
 
-/// The bytes of a position of takes.
-fn packed(alloc: Global, at: &Position) -> Result<Packed, Fail> {
+/// How the positions of takes are packed.
+fn packing(alloc: Global) -> Result<Packing, Fail> {
     let game = game(alloc, TAKE)?;
-    Ok(Packing::new(&game).pack(at))
-}
-
-/// The position of takes with these bytes.
-fn unpacked(alloc: Global, bytes: &[u8]) -> Result<Option<Position>, Fail> {
-    let game = game(alloc, TAKE)?;
-    Ok(Packing::new(&game).unpack(bytes))
+    Ok(Packing::new(&game))
 }
 
 /// Expects of a position this role, place and values.
@@ -80,36 +74,35 @@ const POSITIONS: [(&str, (Role, u16, &[u32]), [u8; 14]); 4] = [
     ),
 ];
 
-/// Expects this text and these bytes of one position of takes.
-fn expect_position(
-    alloc: Global,
-    text: &str,
+/// Expects that a position has these bytes, and the bytes these fields.
+fn expect_bytes(
+    packing: &Packing,
+    at: &Position,
     fields: (Role, u16, &[u32]),
     bytes: &[u8],
 ) -> Result<(), Fail> {
-    let at = position(alloc, TAKE, text.as_bytes())?.ok_or("no position")?;
-    expect_fields(&at, fields, text)?;
-    expect(packed(alloc, &at)?.as_slice(), bytes, text)
+    expect(packing.pack(at).as_slice(), bytes, "the bytes")?;
+    let again = packing.unpack(bytes).ok_or("no position")?;
+    expect_fields(&again, fields, "the bytes")
 }
 
-/// Expects these bytes of a position of takes.
-fn expect_unpacked(
+/// Expects of these texts of positions the fields and the bytes beside them.
+fn expect_positions(
     alloc: Global,
-    text: &str,
-    fields: (Role, u16, &[u32]),
-    bytes: &[u8],
+    rows: &[(&str, (Role, u16, &[u32]), [u8; 14])],
 ) -> Result<(), Fail> {
-    let at = unpacked(alloc, bytes)?.ok_or("no position")?;
-    expect_fields(&at, fields, text)
+    let packing = packing(alloc)?;
+    for (text, fields, bytes) in rows {
+        let at = position(alloc, TAKE, text.as_bytes())?.ok_or("no position")?;
+        expect_fields(&at, *fields, text)?;
+        expect_bytes(&packing, &at, *fields, bytes)?;
+    }
+    Ok(())
 }
 
 #[test]
 fn a_position_has_its_text_and_its_bytes(rt: HostRuntime) -> Result<(), Fail> {
-    for (text, fields, bytes) in &POSITIONS {
-        expect_position(rt.alloc(), text, *fields, bytes)?;
-        expect_unpacked(rt.alloc(), text, *fields, bytes)?;
-    }
-    Ok(())
+    expect_positions(rt.alloc(), &POSITIONS)
 }
 
 /// Bytes of no position of takes, each with one field out of its range, and two of other lengths.
@@ -126,9 +119,13 @@ const NO_BYTES: [&[u8]; 8] = [
 
 #[test]
 fn only_canonical_bytes_are_a_position(rt: HostRuntime) -> Result<(), Fail> {
-    for bytes in NO_BYTES {
-        let found = unpacked(rt.alloc(), bytes)?;
-        expect(found.is_none(), true, "bytes of no position")?;
+    let packing = packing(rt.alloc())?;
+    for bytes in &NO_BYTES {
+        expect(
+            packing.unpack(bytes).is_none(),
+            true,
+            "bytes of no position",
+        )?;
     }
     Ok(())
 }

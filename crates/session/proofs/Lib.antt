@@ -3,3 +3,5 @@ pub mod LineLemmas
 pub mod WritingLemmas
 pub mod AnswerLemmas
 pub mod OneReply
+mod AskLemmas
+mod Telling

@@ -69,11 +69,15 @@ abbrev pub IsNotFind : List (List ℕ) → Type 0
 IsNotFind [] = Unit {0}
 IsNotFind (word ∷ _) = word ≢ codes "find"
 
--- what a line of at most 1,048,576 bytes asks for: `find` takes all that stands behind one space as the text of a position, and
--- no other command has more than three words
+-- what a line asks for whose first word is `find`: all that stands behind one space is the text of a position
+abbrev pub FindsIn : List ℕ → Asked → Type 0
+FindsIn line (Question (Find text)) = BeginsWith line (codes "find") (32 ∷ text.now)
+FindsIn line Usage = BeginsWith line (codes "find") []
+FindsIn line _ = ⊥
+
+-- what a line of at most 1,048,576 bytes asks for; no command but `find` has more than three words
 pub data AsksInWords (line : List ℕ) : Asked → Type 0 where
-  find : (text : _) → BeginsWith line (codes "find") (32 ∷ text.now) → AsksInWords line (Question (Find text))
-  find_what : BeginsWith line (codes "find") [] → AsksInWords line Usage
+  find : (asked : Asked) → FindsIn line asked → AsksInWords line asked
   many : (words : List (List ℕ)) (rest : List ℕ) → StartsWith line words rest → length words ≡ 4 → IsNotFind words → AsksInWords line Usage
   few : (words : List (List ℕ)) (asked : Asked) → AreWords line words → length words ≤ 3 → IsNotFind words → SayWords words asked
       → AsksInWords line asked

@@ -14,13 +14,14 @@ IsDone counts = (counts.expanded ≡ counts.known) × (counts.processed ≡ coun
 
 -- how many positions are known, expanded, settled and processed
 abbrev pub counts_text : Counts → List ℕ
-counts_text counts = codes "known " ++ decimal counts.known ++ codes " expanded " ++ decimal counts.expanded
-    ++ codes " settled " ++ decimal counts.settled ++ codes " processed " ++ decimal counts.processed
+counts_text counts =
+    codes "known " ++ (decimal counts.known ++ (codes " expanded " ++ (decimal counts.expanded
+    ++ (codes " settled " ++ (decimal counts.settled ++ (codes " processed " ++ decimal counts.processed))))))
 
 -- the counts in a line, with `finished` at its end if nothing is left to do, and else `open`
 pub data IsCountsLine (counts : Counts) : List ℕ → Type 0 where
-  finished : IsDone counts → IsCountsLine counts (counts_text counts ++ codes " finished" ++ 10 ∷ [])
-  open : ¬ IsDone counts → IsCountsLine counts (counts_text counts ++ codes " open" ++ 10 ∷ [])
+  finished : IsDone counts → IsCountsLine counts (counts_text counts ++ (codes " finished" ++ 10 ∷ []))
+  unfinished : ¬ IsDone counts → IsCountsLine counts (counts_text counts ++ (codes " open" ++ 10 ∷ []))
 
 -- what `status` answers: the counts, or that no game is loaded
 abbrev pub IsStatusLine : Option Counts → List ℕ → Type 0
@@ -31,7 +32,7 @@ IsStatusLine (Some counts) line = IsCountsLine counts line
 pub record IsWorkLine (units : ℕ) (counts : Counts) (line : List ℕ) : Type 0 where
   pub counts_line : List ℕ
   pub counts_are : IsCountsLine counts counts_line
-  pub line_is : line ≡ codes "units " ++ decimal units ++ 32 ∷ counts_line
+  pub line_is : line ≡ codes "units " ++ (decimal units ++ 32 ∷ counts_line)
 
 -- what stands behind the code: after S3 the number of the position from which the keeper has a choice
 abbrev pub behind_code : SolverFault → List ℕ
@@ -40,7 +41,7 @@ behind_code _ = []
 
 -- `refused` and the code
 abbrev pub fault_line : SolverFault → List ℕ
-fault_line fault = codes "refused " ++ code_of fault ++ behind_code fault ++ 10 ∷ []
+fault_line fault = codes "refused " ++ (code_of fault ++ (behind_code fault ++ 10 ∷ []))
 
 -- the line of a reply
 abbrev pub IsReplyLine : Reply → List ℕ → Type 0

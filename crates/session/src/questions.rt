@@ -33,7 +33,7 @@ pub fn put_answer<F: GameFile, W: Write, E: Write>(
 ) -> io::Result<u8>
     ensures ready { IsReady solver.old → IsReady solver.new }
     ensures replied { IsReady solver.old → IfOk result (λ status. (line : List ℕ)
-        × IsReplied F.stores asked (state solver.old) (state solver.new) status line
+        × IsReplied F.stores asked.entry (state solver.old) (state solver.new) status line
         × Appends (W.contents out.old) (W.contents out.new) line) }
 {
     match asked {
@@ -102,8 +102,8 @@ fn put_worked<F: GameFile, W: Write, E: Write>(
 fn text_of<F: GameFile>(alloc: Global, solver: &mut FileSolver<F>, question: Question<'_>) -> Result<Vec<u8>, SolverFault>
     ensures ready { IsReady solver.old → IsReady solver.new }
     ensures asked { IsReady solver.old → IsAsked F.stores (state solver.old) (state solver.new) }
-    ensures text { IsReady solver.old → IfOk result (λ text. Tells (IsAnswerTo question text.items) (state solver.old)) }
-    ensures cause { IsReady solver.old → IfErr result (QuestionCause question (state solver.old) (state solver.new)) }
+    ensures text { IsReady solver.old → IfOk result (λ text. Tells (IsAnswerTo question.entry text.items) (state solver.old)) }
+    ensures cause { IsReady solver.old → IfErr result (QuestionCause question.entry (state solver.old) (state solver.new)) }
 {
     match question {
         Question::Value(number) => value_of(alloc, solver, number),

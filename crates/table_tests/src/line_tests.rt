@@ -1,13 +1,101 @@
 //! Worked examples of values, lists and lines.
 use crate::expectation::expect;
 use crate::game_texts::{FORK, ROUND, TAKE};
-use crate::games::{game_of, worked};
+use crate::games::{Solving, worked};
 use best_line::Value::{self, Drawn, Open, Won};
 use best_line::{LineFault, Row, line, list, value};
+use legal_moves::MoveSource;
 use rbg_game::roles::Player::{First, Second};
 use std::alloc::Global;
 use std::test::Fail;
 use table::Table;
+
+/// From where on and how many rows are asked for, and the rows.
+type Rows = (u32, u32, &'static [Row]);
+
+/// What is answered of a game after so many units of work.
+struct Answers {
+    text: &'static str,
+    units: u32,
+    values: &'static [Value],
+    /// A number, and the line from it.
+    lines: &'static [(u32, Result<&'static [u32], LineFault>)],
+    rows: &'static [Rows],
+}
+
+const TAKE_ANSWERS: Answers = Answers {
+    text: TAKE,
+    units: 14,
+    values: &[
+        Won(Second, 3),
+        Won(Second, 2),
+        Won(Second, 1),
+        Won(Second, 1),
+        Won(Second, 0),
+        Won(First, 1),
+        Won(First, 0),
+    ],
+    lines: &[(0, Ok(&[0, 1, 2, 4]))],
+    rows: &[
+        (
+            4,
+            2,
+            &[
+                Row {
+                    number: 4,
+                    value: Won(Second, 0),
+                },
+                Row {
+                    number: 5,
+                    value: Won(First, 1),
+                },
+            ],
+        ),
+        (
+            6,
+            256,
+            &[Row {
+                number: 6,
+                value: Won(First, 0),
+            }],
+        ),
+    ],
+};
+
+const FORK_ANSWERS: Answers = Answers {
+    text: FORK,
+    units: 18,
+    values: &[
+        Won(First, 2),
+        Won(First, 1),
+        Won(First, 0),
+        Won(First, 2),
+        Won(First, 2),
+        Won(First, 1),
+        Won(First, 1),
+        Won(First, 2),
+        Won(First, 0),
+    ],
+    lines: &[(0, Ok(&[0, 1, 2])), (6, Ok(&[6, 8])), (7, Ok(&[7, 5, 2]))],
+    rows: &[],
+};
+
+const ROUND_BEGUN: Answers = Answers {
+    text: ROUND,
+    units: 0,
+    values: &[Open],
+    lines: &[],
+    rows: &[],
+};
+
+/// A draw has no line.
+const ROUND_ANSWERS: Answers = Answers {
+    text: ROUND,
+    units: 4,
+    values: &[Drawn, Drawn, Drawn, Drawn],
+    lines: &[(0, Err(LineFault::NotSettled))],
+    rows: &[],
+};
 
 /// The value of a number.
 fn value_at<T: Table>(table: &mut T, number: u32) -> Result<Value, Fail> {
@@ -17,144 +105,101 @@ fn value_at<T: Table>(table: &mut T, number: u32) -> Result<Value, Fail> {
     Ok(value(table, number)?)
 }
 
-/// The values of all positions of a game after so many units.
-fn values(alloc: Global, text: &str, units: u32) -> Result<Vec<Value>, Fail> {
-    let source = game_of(alloc, text)?;
-    let mut table = worked(alloc, &source, units)?;
+/// Expects these values of all positions.
+fn expect_values<T: Table>(alloc: Global, table: &mut T, want: &[Value]) -> Result<(), Fail> {
     let mut values = Vec::new(alloc);
     for number in 0..table.counts().known {
-        values.push(value_at(&mut table, number)?)?;
+        values.push(value_at(table, number)?)?;
     }
-    Ok(values)
+    expect(values.as_slice(), want, "the values")
 }
 
-/// Games, how many units of work are done on them, and the values of their positions then.
-const VALUES: [(&str, u32, &[Value]); 4] = [
-    (
-        TAKE,
-        14,
-        &[
-            Won(Second, 3),
-            Won(Second, 2),
-            Won(Second, 1),
-            Won(Second, 1),
-            Won(Second, 0),
-            Won(First, 1),
-            Won(First, 0),
-        ],
-    ),
-    (
-        FORK,
-        18,
-        &[
-            Won(First, 2),
-            Won(First, 1),
-            Won(First, 0),
-            Won(First, 2),
-            Won(First, 2),
-            Won(First, 1),
-            Won(First, 1),
-            Won(First, 2),
-            Won(First, 0),
-        ],
-    ),
-    (ROUND, 0, &[Open]),
-    (ROUND, 4, &[Drawn, Drawn, Drawn, Drawn]),
-];
-
-#[test]
-fn positions_have_their_values(rt: HostRuntime) -> Result<(), Fail> {
-    for (text, units, want) in VALUES {
-        let found = values(rt.alloc(), text, units)?;
-        expect(found.as_slice(), want, text)?;
-    }
-    Ok(())
-}
-
-/// The line from a number, after so many units.
-fn line_from(
+/// The line from a number.
+fn line_from<M: MoveSource, T: Table>(
     alloc: Global,
-    text: &str,
-    units: u32,
+    source: &M,
+    table: &mut T,
     number: u32,
-) -> Result<Result<Vec<u32>, LineFault>, Fail> {
-    let source = game_of(alloc, text)?;
-    let mut table = worked(alloc, &source, units)?;
+) -> Result<Vec<u32>, LineFault>
+    requires { M.is_sound source.now }
+{
     if number >= table.counts().known {
-        return Err("the number is not known".into());
+        return Err(LineFault::Inconsistent);
     }
-    Ok(line(alloc, &source, &mut table, number))
+    line(alloc, source, table, number)
 }
 
-/// Games, how many units of work are done on them, and lines by their first number.
-const LINES: [(&str, u32, &[u32]); 4] = [
-    (TAKE, 14, &[0, 1, 2, 4]),
-    (FORK, 18, &[0, 1, 2]),
-    (FORK, 18, &[6, 8]),
-    (FORK, 18, &[7, 5, 2]),
-];
-
-#[test]
-fn a_best_line_is_played(rt: HostRuntime) -> Result<(), Fail> {
-    for (text, units, want) in LINES {
-        let first = want.first().copied().ok_or("a line has a number")?;
-        let found = line_from(rt.alloc(), text, units, first)??;
-        expect(found.as_slice(), want, text)?;
+/// Expects these lines.
+fn expect_lines<M: MoveSource, T: Table>(
+    alloc: Global,
+    source: &M,
+    table: &mut T,
+    want: &[(u32, Result<&[u32], LineFault>)],
+) -> Result<(), Fail>
+    requires { M.is_sound source.now }
+{
+    for (number, line) in want {
+        match line_from(alloc, source, table, *number) {
+            Ok(found) => expect(Ok(found.as_slice()), *line, "a line")?,
+            Err(fault) => expect(Err(fault), *line, "no line")?,
+        }
     }
     Ok(())
 }
 
-#[test]
-fn a_draw_has_no_line(rt: HostRuntime) -> Result<(), Fail> {
-    let found = line_from(rt.alloc(), ROUND, 4, 0)?;
-    expect(
-        found.err(),
-        Some(LineFault::NotSettled),
-        "play that goes round",
-    )
-}
-
-/// The rows of takes from a number on.
-fn rows(alloc: Global, from: u32, count: u32) -> Result<Vec<Row>, Fail> {
-    let source = game_of(alloc, TAKE)?;
-    let mut table = worked(alloc, &source, 14)?;
+/// The rows from a number on.
+fn rows_from<T: Table>(
+    alloc: Global,
+    table: &mut T,
+    from: u32,
+    count: u32,
+) -> Result<Vec<Row>, Fail> {
     if from >= table.counts().known || count == 0 || count > 256 {
         return Err("no such rows".into());
     }
-    Ok(list(alloc, &mut table, from, count)?)
+    Ok(list(alloc, table, from, count)?)
 }
 
-/// From where on and how many rows are asked for, and the rows.
-const ROWS: [(u32, u32, &[Row]); 2] = [
-    (
-        4,
-        2,
-        &[
-            Row {
-                number: 4,
-                value: Won(Second, 0),
-            },
-            Row {
-                number: 5,
-                value: Won(First, 1),
-            },
-        ],
-    ),
-    (
-        6,
-        256,
-        &[Row {
-            number: 6,
-            value: Won(First, 0),
-        }],
-    ),
-];
-
-#[test]
-fn takes_are_listed(rt: HostRuntime) -> Result<(), Fail> {
-    for (from, count, want) in ROWS {
-        let found = rows(rt.alloc(), from, count)?;
-        expect(found.as_slice(), want, "rows of takes")?;
+/// Expects these lists.
+fn expect_rows<T: Table>(alloc: Global, table: &mut T, want: &[Rows]) -> Result<(), Fail> {
+    for (from, count, rows) in want {
+        let found = rows_from(alloc, table, *from, *count)?;
+        expect(found.as_slice(), *rows, "rows")?;
     }
     Ok(())
+}
+
+/// Expects what is answered of a table.
+fn expect_all<M: MoveSource, T: Table>(
+    alloc: Global,
+    source: &M,
+    table: &mut T,
+    want: &Answers,
+) -> Result<(), Fail>
+    requires { M.is_sound source.now }
+{
+    expect_values(alloc, table, want.values)?;
+    expect_lines(alloc, source, table, want.lines)?;
+    expect_rows(alloc, table, want.rows)
+}
+
+fn expect_answers(alloc: Global, want: &Answers) -> Result<(), Fail> {
+    let Solving { source, mut table } = worked(alloc, want.text, want.units)?;
+    expect_all(alloc, source.moves(), &mut table, want)
+}
+
+#[test]
+fn takes_are_valued_played_and_listed(rt: HostRuntime) -> Result<(), Fail> {
+    expect_answers(rt.alloc(), &TAKE_ANSWERS)
+}
+
+#[test]
+fn a_fork_is_valued_and_played(rt: HostRuntime) -> Result<(), Fail> {
+    expect_answers(rt.alloc(), &FORK_ANSWERS)
+}
+
+#[test]
+fn play_that_goes_round_is_open_and_then_drawn(rt: HostRuntime) -> Result<(), Fail> {
+    expect_answers(rt.alloc(), &ROUND_BEGUN)?;
+    expect_answers(rt.alloc(), &ROUND_ANSWERS)
 }

@@ -1,5 +1,6 @@
 //! What a table answers, through the trait's bound, at the table in memory.
 use crate::expectation::expect;
+use crate::games::record_of;
 use position_pack::Packed;
 use rbg_game::roles::Player;
 use retrograde::{Counts, Record, State};
@@ -35,13 +36,25 @@ fn number_of<T: Table>(table: &mut T, byte: u8) -> Result<Option<u32>, Fail> {
     Ok(table.number_of(&position(byte))?)
 }
 
+const BEFORE: Counts = Counts {
+    known: 2,
+    expanded: 0,
+    settled: 0,
+    processed: 0,
+};
+
+/// Expects the numbers of the positions 7, 4 and 5.
+fn expect_numbers<T: Table>(table: &mut T) -> Result<(), Fail> {
+    expect(number_of(table, 7)?, Some(0), "the first")?;
+    expect(number_of(table, 4)?, Some(1), "the second")?;
+    expect(number_of(table, 5)?, None, "another")
+}
+
 #[test]
 fn known_positions_have_their_numbers(rt: HostRuntime) -> Result<(), Fail> {
     let mut table = two(rt.alloc())?;
-    for (byte, want) in [(7, Some(0)), (4, Some(1)), (5, None)] {
-        expect(number_of(&mut table, byte)?, want, "a number")?;
-    }
-    expect(table.counts().known, 2, "the positions")
+    expect_numbers(&mut table)?;
+    expect(table.counts(), BEFORE, "the counts")
 }
 
 /// Adds an edge between known numbers.
@@ -62,22 +75,29 @@ fn next_edge<T: Table>(
     Ok(table.next_edge(number, after)?)
 }
 
+/// A number, one of its predecessors or none, and the next predecessor.
+const PREDECESSORS: [(u32, Option<u32>, Option<u32>); 4] = [
+    (0, None, Some(0)),
+    (0, Some(0), Some(1)),
+    (0, Some(1), None),
+    (1, None, None),
+];
+
+/// Adds three edges to number 0, of which one is there already, and expects two.
+fn expect_edges<T: Table>(table: &mut T) -> Result<(), Fail> {
+    add_edge(table, 0, 1)?;
+    add_edge(table, 0, 0)?;
+    add_edge(table, 0, 1)?;
+    for (number, after, want) in &PREDECESSORS {
+        expect(next_edge(table, *number, *after)?, *want, "a predecessor")?;
+    }
+    Ok(())
+}
+
 #[test]
 fn predecessors_come_by_ascending_number_each_once(rt: HostRuntime) -> Result<(), Fail> {
     let mut table = two(rt.alloc())?;
-    for (successor, predecessor) in [(0, 1), (0, 0), (0, 1)] {
-        add_edge(&mut table, successor, predecessor)?;
-    }
-    let cases = [
-        (0, None, Some(0)),
-        (0, Some(0), Some(1)),
-        (0, Some(1), None),
-        (1, None, None),
-    ];
-    for (number, after, want) in cases {
-        expect(next_edge(&mut table, number, after)?, want, "a predecessor")?;
-    }
-    Ok(())
+    expect_edges(&mut table)
 }
 
 /// Writes the record of a known number.
@@ -98,14 +118,6 @@ fn push_settled<T: Table>(table: &mut T, number: u32) -> Result<(), Fail> {
     Ok(())
 }
 
-/// The record of a known number.
-fn record_of<T: Table>(table: &mut T, number: u32) -> Result<Record, Fail> {
-    if number >= table.counts().known {
-        return Err("no such number".into());
-    }
-    Ok(table.record(number)?)
-}
-
 /// The number that was settled first.
 fn first_settled<T: Table>(table: &mut T) -> Result<u32, Fail> {
     if table.counts().settled == 0 {
@@ -122,13 +134,6 @@ const KEPT: Record = Record {
     successors: 2,
 };
 
-const BEFORE: Counts = Counts {
-    known: 2,
-    expanded: 0,
-    settled: 0,
-    processed: 0,
-};
-
 const AFTER: Counts = Counts {
     known: 2,
     expanded: 1,
@@ -136,13 +141,17 @@ const AFTER: Counts = Counts {
     processed: 1,
 };
 
+/// Writes the record of number 1, settles it, and expects both.
+fn expect_kept<T: Table>(table: &mut T, kept: Record) -> Result<(), Fail> {
+    set_record(table, 1, kept)?;
+    push_settled(table, 1)?;
+    expect(record_of(table, 1)?, kept, "the record")?;
+    expect(first_settled(table)?, 1, "the settled number")
+}
+
 #[test]
 fn a_record_is_kept_and_counted(rt: HostRuntime) -> Result<(), Fail> {
     let mut table = two(rt.alloc())?;
-    expect(table.counts(), BEFORE, "the counts before")?;
-    set_record(&mut table, 1, KEPT)?;
-    push_settled(&mut table, 1)?;
-    expect(record_of(&mut table, 1)?, KEPT, "the record")?;
-    expect(first_settled(&mut table)?, 1, "the order")?;
-    expect(table.counts(), AFTER, "the counts after")
+    expect_kept(&mut table, KEPT)?;
+    expect(table.counts(), AFTER, "the counts")
 }

@@ -1,10 +1,9 @@
 //! The game of takes on a store of pages.
-ghost use Rattle.legal_moves.specs.Compiled.{IsCompiled};
-
 use crate::expectation::expect;
 use crate::game_texts::TAKE;
-use crate::games::{game_of, worked};
-use legal_moves::{Compiled, MoveSource};
+use crate::games::{Solving, begun, record_of};
+use game_table::Source;
+use legal_moves::MoveSource;
 use page_store::{PageStore, Pages};
 use paged_table::CommittedTable;
 use retrograde::Record;
@@ -12,7 +11,7 @@ use root_pair::create;
 use sector_disk::{FlakyDisk, MemDisk, SectorDisk};
 use std::alloc::Global;
 use std::test::Fail;
-use table::{Table, TableFault};
+use table::{MemTable, Table, TableFault};
 use table_work::{MAX_POSITIONS, StepFault};
 
 /// To open takes four disk calls: a sync, the header, the gate and the slot.
@@ -48,24 +47,20 @@ fn take_pages<S: Pages>(store: &mut S, count: u32) -> Result<(), Fail> {
 /// The table of a game that was just loaded, on this store.
 fn loaded<S: Pages + Drop>(
     alloc: Global,
-    source: &Compiled,
+    source: &Source,
     store: S,
-) -> Result<CommittedTable<S>, Fail>
-    requires { IsCompiled source.now }
-{
-    let start = MoveSource::start(source);
+) -> Result<CommittedTable<S>, Fail> {
+    let start = source.start();
     Ok(CommittedTable::begin(alloc, store, &start, &[1; 512])?)
 }
 
 /// The table of a game that was just loaded, on this disk, where so many pages are taken for nothing.
-fn begun<D: SectorDisk + Drop>(
+fn paged<D: SectorDisk + Drop>(
     alloc: Global,
-    source: &Compiled,
+    source: &Source,
     disk: D,
     taken: u32,
-) -> Result<CommittedTable<PageStore<D>>, Fail>
-    requires { IsCompiled source.now }
-{
+) -> Result<CommittedTable<PageStore<D>>, Fail> {
     let mut store = opened(alloc, disk)?;
     take_pages(&mut store, taken)?;
     loaded(alloc, source, store)
@@ -86,130 +81,143 @@ fn turned<M: MoveSource, S: Pages>(
     table.turn(alloc, source, units, &[2; 512])
 }
 
-/// The record of a number.
-fn record_of<S: Pages>(table: &mut CommittedTable<S>, number: u32) -> Result<Record, Fail> {
+/// The record of a number on a page.
+fn paged_record<S: Pages>(table: &mut CommittedTable<S>, number: u32) -> Result<Record, Fail> {
     if number >= table.counts().known {
         return Err("a position was lost".into());
     }
     Ok(table.record(number)?)
 }
 
-/// The records by number.
-fn records<S: Pages>(alloc: Global, table: &mut CommittedTable<S>) -> Result<Vec<Record>, Fail> {
-    let mut records = Vec::new(alloc);
-    for number in 0..table.counts().known {
-        records.push(record_of(table, number)?)?;
+/// Expects that a table on pages has the records of one in memory.
+fn expect_same<S: Pages>(table: &mut CommittedTable<S>, memory: &mut MemTable) -> Result<(), Fail> {
+    expect(table.counts(), memory.counts(), "the counts")?;
+    for number in 0..memory.counts().known {
+        expect(
+            paged_record(table, number)?,
+            record_of(memory, number)?,
+            "a record",
+        )?;
     }
-    Ok(records)
+    Ok(())
 }
 
-/// The record of a number in another table.
-fn record_in<T: Table>(table: &mut T, number: u32) -> Result<Record, Fail> {
-    if number >= table.counts().known {
-        return Err("a position was lost".into());
-    }
-    Ok(table.record(number)?)
-}
-
-/// The records of the table in memory after so many units.
-fn expected(alloc: Global, source: &Compiled, units: u32) -> Result<Vec<Record>, Fail>
-    requires { IsCompiled source.now }
-{
-    let mut table = worked(alloc, source, units)?;
-    let mut records = Vec::new(alloc);
-    for number in 0..table.counts().known {
-        records.push(record_in(&mut table, number)?)?;
-    }
-    Ok(records)
-}
-
-/// Whether the table is as that in memory after so many units.
-fn is_as_after<S: Pages>(
+/// Expects the records of the game in memory after each unit of work up to the last of fourteen.
+fn expect_units<S: Pages>(
     alloc: Global,
-    source: &Compiled,
+    solving: &mut Solving,
     table: &mut CommittedTable<S>,
-    units: u32,
-) -> Result<bool, Fail>
-    requires { IsCompiled source.now }
-{
-    let found = records(alloc, table)?;
-    let wanted = expected(alloc, source, units)?;
-    Ok(found.as_slice() == wanted.as_slice())
+) -> Result<(), Fail> {
+    for done in 0..=14 {
+        expect_same(table, &mut solving.table)?;
+        let more = turned(alloc, solving.source.moves(), table, 1)?;
+        expect(more, if done < 14 { 1 } else { 0 }, "the units")?;
+        solving.work(alloc, 1)?;
+    }
+    Ok(())
+}
+
+/// The table of a game that was just loaded, on a disk in memory.
+fn paged_in_memory(
+    alloc: Global,
+    source: &Source,
+    taken: u32,
+) -> Result<CommittedTable<PageStore<MemDisk>>, Fail> {
+    let disk = table_disk(alloc)?;
+    paged(alloc, source, disk, taken)
 }
 
 #[test]
 fn takes_come_to_the_records_of_the_table_in_memory(rt: HostRuntime) -> Result<(), Fail> {
-    let alloc = rt.alloc();
-    let source = game_of(alloc, TAKE)?;
-    let mut table = begun(alloc, &source, table_disk(alloc)?, 0)?;
-    for done in 0..=14 {
+    let mut solving = begun(rt.alloc(), TAKE)?;
+    let mut table = paged_in_memory(rt.alloc(), &solving.source, 0)?;
+    expect_units(rt.alloc(), &mut solving, &mut table)
+}
+
+/// Expects that all work on a table is refused for this cause, and a closed table says so from then on.
+fn expect_refused<S: Pages>(
+    alloc: Global,
+    source: &Source,
+    table: &mut CommittedTable<S>,
+    cause: TableFault,
+) -> Result<(), Fail> {
+    let told = turned(alloc, source.moves(), table, u32::MAX);
+    expect(told, Err(StepFault::Table(cause)), "all work")?;
+    if table.is_closed() {
+        let told = turned(alloc, source.moves(), table, 1);
         expect(
-            is_as_after(alloc, &source, &mut table, done)?,
-            true,
-            "the records",
+            told,
+            Err(StepFault::Table(TableFault::Closed)),
+            "a closed table",
         )?;
-        let more = turned(alloc, &source, &mut table, 1)?;
-        expect(more, if done < 14 { 1 } else { 0 }, "the units")?;
     }
     Ok(())
 }
 
-/// Whether a table that is closed says so, and another is as it was and comes to its end.
-fn rests_or_is_closed<S: Pages>(
+/// Expects that a table that is not closed is as it was committed and comes to its end.
+fn expect_end<S: Pages>(
     alloc: Global,
-    source: &Compiled,
+    solving: &mut Solving,
     table: &mut CommittedTable<S>,
-) -> Result<bool, Fail>
-    requires { IsCompiled source.now }
-{
+) -> Result<(), Fail> {
     if table.is_closed() {
-        let told = turned(alloc, source, table, 1);
-        return Ok(told == Err(StepFault::Table(TableFault::Closed)));
+        return Ok(());
     }
-    if !is_as_after(alloc, source, table, 0)? {
-        return Ok(false);
-    }
-    turned(alloc, source, table, u32::MAX)?;
-    is_as_after(alloc, source, table, u32::MAX)
+    expect_same(table, &mut solving.table)?;
+    turned(alloc, solving.source.moves(), table, u32::MAX)?;
+    solving.work(alloc, u32::MAX)?;
+    expect_same(table, &mut solving.table)
 }
 
-/// What is told of all work on takes where this call of the disk fails, and whether the table is closed then or rests.
-fn told_of(alloc: Global, call: u64) -> Result<(Result<u32, StepFault>, bool), Fail> {
-    let source = game_of(alloc, TAKE)?;
+/// Expects that a fault of the disk is told, and that then the table is closed, or is as committed and comes to its end.
+fn expect_fault<S: Pages>(
+    alloc: Global,
+    solving: &mut Solving,
+    table: &mut CommittedTable<S>,
+) -> Result<(), Fail> {
+    expect_refused(alloc, &solving.source, table, TableFault::Disk)?;
+    expect_end(alloc, solving, table)
+}
+
+/// The table of a game that was just loaded, on a disk in memory of which this call fails.
+fn paged_flaky(
+    alloc: Global,
+    source: &Source,
+    call: u64,
+) -> Result<CommittedTable<PageStore<FlakyDisk<MemDisk>>>, Fail> {
     let disk = FlakyDisk::new(table_disk(alloc)?, call, false);
-    let mut table = begun(alloc, &source, disk, 0)?;
-    let told = turned(alloc, &source, &mut table, u32::MAX);
-    let rests = rests_or_is_closed(alloc, &source, &mut table)?;
-    Ok((told, rests))
+    paged(alloc, source, disk, 0)
+}
+
+/// Expects of takes on pages what is to be where this call of the disk fails.
+fn expect_fault_at(alloc: Global, call: u64) -> Result<(), Fail> {
+    let mut solving = begun(alloc, TAKE)?;
+    let mut table = paged_flaky(alloc, &solving.source, call)?;
+    expect_fault(alloc, &mut solving, &mut table)
 }
 
 #[test]
 fn after_a_fault_all_is_as_committed(rt: HostRuntime) -> Result<(), Fail> {
-    let disk = Err(StepFault::Table(TableFault::Disk));
-    for (calls, at) in [
-        (0, "call 0"),
-        (9, "call 9"),
-        (30, "call 30"),
-        (100, "call 100"),
-        (200, "call 200"),
-    ] {
-        let found = told_of(rt.alloc(), OPENING + BEGINNING + calls)?;
-        expect(found, (disk, true), at)?;
+    for calls in [0, 9, 30, 100, 200] {
+        expect_fault_at(rt.alloc(), OPENING + BEGINNING + calls)?;
     }
     Ok(())
 }
 
+/// Expects that a full store is told, and that nothing changes.
+fn expect_full<S: Pages>(
+    alloc: Global,
+    solving: &mut Solving,
+    table: &mut CommittedTable<S>,
+) -> Result<(), Fail> {
+    expect_refused(alloc, &solving.source, table, TableFault::TableFull)?;
+    expect(table.is_closed(), false, "a full table")?;
+    expect_same(table, &mut solving.table)
+}
+
 #[test]
 fn a_full_store_is_told_and_nothing_changes(rt: HostRuntime) -> Result<(), Fail> {
-    let alloc = rt.alloc();
-    let source = game_of(alloc, TAKE)?;
-    let mut table = begun(alloc, &source, table_disk(alloc)?, 12)?;
-    let told = turned(alloc, &source, &mut table, u32::MAX);
-    let full = Err(StepFault::Table(TableFault::TableFull));
-    expect(told, full, "the last page")?;
-    expect(
-        is_as_after(alloc, &source, &mut table, 0)?,
-        true,
-        "the records",
-    )
+    let mut solving = begun(rt.alloc(), TAKE)?;
+    let mut table = paged_in_memory(rt.alloc(), &solving.source, 12)?;
+    expect_full(rt.alloc(), &mut solving, &mut table)
 }

@@ -10,15 +10,15 @@ use std::test::Fail;
 
 /// A position: its bytes, who has the turn, who is ahead, and where its moves lead.
 #[derive(Drop)]
-pub struct Node {
-    pub packed: Packed,
+struct Node {
+    packed: Packed,
     mover: Role,
     ahead: Option<Player>,
     moves: Vec<usize>,
 }
 
 /// The place of a position among those found.
-pub fn place_of(found: &[Packed], packed: &Packed) -> Option<usize> {
+fn place_of(found: &[Packed], packed: &Packed) -> Option<usize> {
     for place in 0..found.len() {
         if found[place].as_slice() == packed.as_slice() {
             return Some(place);
@@ -44,7 +44,7 @@ fn places(alloc: Global, found: &mut Vec<Packed>, moves: &[Packed]) -> Result<Ve
 }
 
 /// All positions that play can come to, no more than 1,000.
-pub fn explore(alloc: Global, source: &Compiled) -> Result<Vec<Node>, Fail>
+fn explore(alloc: Global, source: &Compiled) -> Result<Vec<Node>, Fail>
     requires { IsCompiled source.now }
 {
     let mut found = Vec::new(alloc);
@@ -137,7 +137,7 @@ fn noted(
 }
 
 /// In how many moves the player wins each position, where he does.
-pub fn distances(alloc: Global, nodes: &[Node], player: Player) -> Result<Vec<Option<u32>>, Fail> {
+fn distances(alloc: Global, nodes: &[Node], player: Player) -> Result<Vec<Option<u32>>, Fail> {
     let mut level = next_level(alloc, nodes, player, None)?;
     let mut distances = noted(alloc, &[], &level, 0)?;
     for distance in 1..1_000 {
@@ -145,4 +145,41 @@ pub fn distances(alloc: Global, nodes: &[Node], player: Player) -> Result<Vec<Op
         distances = noted(alloc, &distances, &level, distance)?;
     }
     Ok(distances)
+}
+
+/// Who wins a position, and in how many moves: nobody in none.
+pub type Outcome = (Option<Player>, u32);
+
+/// What follows of the moves in which each player wins, where not both do.
+fn outcome_of(white: Option<u32>, black: Option<u32>) -> Result<Outcome, Fail> {
+    match (white, black) {
+        (Some(distance), None) => Ok((Some(Player::First), distance)),
+        (None, Some(distance)) => Ok((Some(Player::Second), distance)),
+        (None, None) => Ok((None, 0)),
+        (Some(_), Some(_)) => Err("both players win".into()),
+    }
+}
+
+/// The outcome of each position, by the moves in which each player wins it.
+fn outcomes(
+    alloc: Global,
+    nodes: &[Node],
+    white: &[Option<u32>],
+    black: &[Option<u32>],
+) -> Result<Vec<(Packed, Outcome)>, Fail> {
+    let mut outcomes = Vec::new(alloc);
+    for ((node, white), black) in nodes.iter().zip(white).zip(black) {
+        outcomes.push((node.packed.clone()?, outcome_of(*white, *black)?))?;
+    }
+    Ok(outcomes)
+}
+
+/// All positions that play can come to, no more than 1,000, with the outcome of each.
+pub fn solve(alloc: Global, source: &Compiled) -> Result<Vec<(Packed, Outcome)>, Fail>
+    requires { IsCompiled source.now }
+{
+    let nodes = explore(alloc, source)?;
+    let white = distances(alloc, &nodes, Player::First)?;
+    let black = distances(alloc, &nodes, Player::Second)?;
+    outcomes(alloc, &nodes, &white, &black)
 }

@@ -1,62 +1,69 @@
 //! A game's table from its text to its end, and positions as text.
 use crate::expectation::expect;
 use crate::game_texts::TAKE;
+use crate::games::{Solving, begun, source_of};
 use game_table::Source;
 use position_pack::Packed;
 use std::alloc::Global;
 use std::test::Fail;
 use table::{MemTable, Table};
 
-/// The game of a text.
-fn source_of(alloc: Global, text: &str) -> Result<Source, Fail> {
-    Ok(Source::read(alloc, text.as_bytes())?)
-}
-
-/// Does so much work on a table.
-fn work(alloc: Global, source: &Source, table: &mut MemTable, units: u32) -> Result<u32, Fail> {
+/// Does so much work on a game's table.
+fn work<T: Table>(alloc: Global, source: &Source, table: &mut T, units: u32) -> Result<u32, Fail> {
     if table.counts().known > 1_000 {
         return Err("more than 1,000 positions".into());
     }
     Ok(source.work(alloc, table, units)?)
 }
 
-fn start_of(source: &Source) -> Packed {
-    source.start()
-}
-
 /// Whether the positions of a table are those of the game.
-fn are_positions(source: &Source, table: &mut MemTable) -> Result<bool, Fail> {
+fn are_positions<T: Table>(source: &Source, table: &mut T) -> Result<bool, Fail> {
     Ok(source.are_positions(table)?)
 }
 
-/// A new table with this start.
-fn table_of(alloc: Global, start: &Packed) -> Result<MemTable, Fail> {
-    Ok(MemTable::new(alloc, start)?)
+/// Expects that all work on takes is done.
+fn expect_work<T: Table>(alloc: Global, source: &Source, table: &mut T) -> Result<(), Fail> {
+    expect(work(alloc, source, table, 256)?, 14, "the units")?;
+    let counts = table.counts();
+    expect((counts.known, counts.processed), (7, 7), "the counts")?;
+    expect(are_positions(source, table)?, true, "the positions")
 }
 
 #[test]
 fn takes_are_worked_to_their_end(rt: HostRuntime) -> Result<(), Fail> {
-    let alloc = rt.alloc();
-    let source = source_of(alloc, TAKE)?;
-    let start = start_of(&source);
-    expect(start.as_slice(), [0; 14].as_slice(), "the start")?;
-    let mut table = table_of(alloc, &start)?;
-    expect(work(alloc, &source, &mut table, 256)?, 14, "the units")?;
-    let counts = table.counts();
-    expect((counts.known, counts.processed), (7, 7), "the counts")?;
-    expect(are_positions(&source, &mut table)?, true, "the positions")
+    let Solving { source, mut table } = begun(rt.alloc(), TAKE)?;
+    expect_work(rt.alloc(), &source, &mut table)
+}
+
+/// A table whose start has these bytes.
+fn table_of(alloc: Global, bytes: &[u8]) -> Result<MemTable, Fail> {
+    let mut start = Packed::new();
+    start.try_extend_from_slice(bytes)?;
+    Ok(MemTable::new(alloc, &start)?)
+}
+
+/// Expects that a start with these bytes is or is not a position of the game.
+fn expect_start(alloc: Global, source: &Source, bytes: &[u8], want: bool) -> Result<(), Fail> {
+    let mut table = table_of(alloc, bytes)?;
+    expect(are_positions(source, &mut table)?, want, "a start")
+}
+
+/// Expects that the start has zeros alone, and that with another byte it is no position.
+fn expect_starts(alloc: Global, source: &Source) -> Result<(), Fail> {
+    expect(source.start().as_slice(), [0; 14].as_slice(), "the start")?;
+    expect_start(alloc, source, &[0; 14], true)?;
+    expect_start(
+        alloc,
+        source,
+        &[1, 0, 0, 0, 0, 0, 0, 0, 0, 0, 0, 0, 0, 0],
+        false,
+    )
 }
 
 #[test]
 fn positions_of_another_game_are_told(rt: HostRuntime) -> Result<(), Fail> {
     let source = source_of(rt.alloc(), TAKE)?;
-    let mut start = start_of(&source);
-    let Some(first) = start.as_mut_slice().first_mut() else {
-        return Err("a position has bytes".into());
-    };
-    *first = 1;
-    let mut table = table_of(rt.alloc(), &start)?;
-    expect(are_positions(&source, &mut table)?, false, "another start")
+    expect_starts(rt.alloc(), &source)
 }
 
 /// A game with a bound of a million.
@@ -68,40 +75,51 @@ fn position(source: &Source, text: &str) -> Option<Packed> {
     source.position(text.as_bytes())
 }
 
+/// Expects of the text of a position these bytes.
+fn expect_bytes(source: &Source, text: &str, want: &[u8]) -> Result<(), Fail> {
+    let bytes = position(source, text).ok_or("no position")?;
+    expect(bytes.as_slice(), want, text)
+}
+
 #[test]
 fn a_position_has_its_bytes(rt: HostRuntime) -> Result<(), Fail> {
     let source = source_of(rt.alloc(), TAKE)?;
-    let bytes = position(&source, ">> 2 v e 0,0,3").ok_or("the text is a position's")?;
     let want = [0, 0, 0, 0, 0, 0, 0, 0, 0, 3, 0, 0, 0, 2];
-    expect(bytes.as_slice(), want.as_slice(), "a position of takes")
+    expect_bytes(&source, ">> 2 v e 0,0,3", &want)
 }
 
-/// Texts of no position of takes.
-const NO_TAKE: [&str; 15] = [
-    "",
-    ">>",
-    ">> 2 v e",
-    ">> 2 v e 0",
-    ">> 2 v e 0,0",
-    ">> 2 v e 0,0,",
-    ">> 2 v e 0,0,4",
-    ">> 2 v e 0,0,03",
-    ">> 2 v e 0,0,00",
-    ">> 2 v e 0,0,+3",
-    ">> 2 v e 0,0,-0",
-    ">> 2 v e 0,0,3 ",
-    ">> 2 v e 0,0,\u{ff}",
-    ">> 2 v e 0 0,3",
-    ">> 12 v e 0,0,3",
+/// Texts, and whether they are those of a position of takes.
+const TEXTS: [(&str, bool); 16] = [
+    (">> 2 v e 0,0,3", true),
+    ("", false),
+    (">>", false),
+    (">> 2 v e", false),
+    (">> 2 v e 0", false),
+    (">> 2 v e 0,0", false),
+    (">> 2 v e 0,0,", false),
+    (">> 2 v e 0,0,4", false),
+    (">> 2 v e 0,0,03", false),
+    (">> 2 v e 0,0,00", false),
+    (">> 2 v e 0,0,+3", false),
+    (">> 2 v e 0,0,-0", false),
+    (">> 2 v e 0,0,3 ", false),
+    (">> 2 v e 0,0,\u{ff}", false),
+    (">> 2 v e 0 0,3", false),
+    (">> 12 v e 0,0,3", false),
 ];
+
+/// Expects of each of these texts that it is or is not that of a position of the game.
+fn expect_texts(source: &Source, rows: &[(&str, bool)]) -> Result<(), Fail> {
+    for (text, want) in rows {
+        expect(position(source, text).is_some(), *want, text)?;
+    }
+    Ok(())
+}
 
 #[test]
 fn a_position_has_one_text(rt: HostRuntime) -> Result<(), Fail> {
     let source = source_of(rt.alloc(), TAKE)?;
-    for text in NO_TAKE {
-        expect(position(&source, text).is_none(), true, text)?;
-    }
-    Ok(())
+    expect_texts(&source, &TEXTS)
 }
 
 /// Texts, and whether they are those of a position of the game with a bound of a million.
@@ -117,8 +135,5 @@ const BOUNDS: [(&str, bool); 6] = [
 #[test]
 fn a_value_is_at_most_its_bound(rt: HostRuntime) -> Result<(), Fail> {
     let source = source_of(rt.alloc(), MILLION)?;
-    for (text, want) in BOUNDS {
-        expect(position(&source, text).is_some(), want, text)?;
-    }
-    Ok(())
+    expect_texts(&source, &BOUNDS)
 }

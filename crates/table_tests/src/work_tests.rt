@@ -1,18 +1,96 @@
 //! Worked examples of the two units of work, on tables in memory.
-ghost use Rattle.legal_moves.specs.Compiled.{IsCompiled};
-
 use crate::expectation::expect;
 use crate::game_texts::{FORK, HEXAPAWN, TAKE, TIC_TAC_TOE};
-use crate::games::{fresh, game_of, small, winner, worked, works};
+use crate::games::{Solving, begun, small, winner};
 use frontier::expand_one;
-use legal_moves::{Compiled, MoveSource};
+use legal_moves::MoveSource;
 use rbg_game::roles::Player;
 use retrograde::Counts;
 use settle::settle_one;
 use std::alloc::Global;
 use std::test::Fail;
-use table::{MemTable, Table};
+use table::Table;
 use table_work::{MAX_POSITIONS, StepFault};
+
+/// A number with one of its predecessors.
+type Edge = (u32, u32);
+
+/// A settled number, who wins it, and in how many moves.
+type Settled = (u32, Option<Player>, u32);
+
+/// What the two units of work come to on a game.
+struct Worked {
+    text: &'static str,
+    /// How many are known and settled after each expansion.
+    expansions: &'static [(u32, u32)],
+    edges: &'static [Edge],
+    /// The settled order before any processing, and after all.
+    early: &'static [Settled],
+    order: &'static [Settled],
+    /// How many are settled after each processing.
+    processings: &'static [u32],
+}
+
+const WHITE: Option<Player> = Some(Player::First);
+
+const BLACK: Option<Player> = Some(Player::Second);
+
+const TAKE_WORKED: Worked = Worked {
+    text: TAKE,
+    expansions: &[(2, 0), (4, 0), (5, 0), (6, 0), (6, 1), (7, 1), (7, 2)],
+    edges: &[(1, 0), (2, 1), (3, 1), (4, 2), (4, 3), (5, 3), (6, 5)],
+    early: &[(4, BLACK, 0), (6, WHITE, 0)],
+    processings: &[4, 5, 5, 6, 6, 7, 7],
+    order: &[
+        (4, BLACK, 0),
+        (6, WHITE, 0),
+        (2, BLACK, 1),
+        (3, BLACK, 1),
+        (5, WHITE, 1),
+        (1, BLACK, 2),
+        (0, BLACK, 3),
+    ],
+};
+
+const FORK_WORKED: Worked = Worked {
+    text: FORK,
+    expansions: &[
+        (2, 0),
+        (5, 0),
+        (5, 1),
+        (6, 1),
+        (7, 1),
+        (7, 1),
+        (9, 1),
+        (9, 1),
+        (9, 2),
+    ],
+    edges: &[
+        (1, 0),
+        (2, 1),
+        (2, 5),
+        (3, 1),
+        (4, 1),
+        (5, 3),
+        (5, 7),
+        (6, 4),
+        (7, 6),
+        (8, 6),
+    ],
+    early: &[(2, WHITE, 0), (8, WHITE, 0)],
+    processings: &[4, 5, 6, 8, 9, 9, 9, 9, 9],
+    order: &[
+        (2, WHITE, 0),
+        (8, WHITE, 0),
+        (1, WHITE, 1),
+        (5, WHITE, 1),
+        (6, WHITE, 1),
+        (0, WHITE, 2),
+        (3, WHITE, 2),
+        (7, WHITE, 2),
+        (4, WHITE, 2),
+    ],
+};
 
 /// Expands the next position.
 fn expand<M: MoveSource, T: Table>(alloc: Global, source: &M, table: &mut T) -> Result<(), Fail>
@@ -41,76 +119,37 @@ fn process<M: MoveSource, T: Table>(source: &M, table: &mut T) -> Result<(), Fai
     Ok(())
 }
 
-/// How many are known and settled after each of so many expansions.
-fn expansions(alloc: Global, solving: &mut Solving, units: usize) -> Result<Vec<(u32, u32)>, Fail> {
-    let mut counts = Vec::new(alloc);
-    for _ in 0..units {
-        expand(alloc, solving.source.moves(), &mut solving.table)?;
-        let after = solving.table.counts();
-        counts.push((after.known, after.settled))?;
+/// Expects how many are known and settled after each expansion.
+fn expect_expansions<M: MoveSource, T: Table>(
+    alloc: Global,
+    source: &M,
+    table: &mut T,
+    want: &[(u32, u32)],
+) -> Result<(), Fail>
+    requires { M.is_sound source.now }
+{
+    for counts in want {
+        expand(alloc, source, table)?;
+        let after = table.counts();
+        expect((after.known, after.settled), *counts, "an expansion")?;
     }
-    Ok(counts)
+    Ok(())
 }
 
-/// How many are settled after each of so many settled positions is processed.
-fn processings(alloc: Global, solving: &mut Solving, units: usize) -> Result<Vec<u32>, Fail> {
-    let mut counts = Vec::new(alloc);
-    for _ in 0..units {
-        process(solving.source.moves(), &mut solving.table)?;
-        counts.push(solving.table.counts().settled)?;
+/// Expects how many are settled after each processing.
+fn expect_processings<M: MoveSource, T: Table>(
+    source: &M,
+    table: &mut T,
+    want: &[u32],
+) -> Result<(), Fail>
+    requires { M.is_sound source.now }
+{
+    for settled in want {
+        process(source, table)?;
+        expect(table.counts().settled, *settled, "a processing")?;
     }
-    Ok(counts)
+    Ok(())
 }
-
-/// A game after so many expansions.
-fn expanded(alloc: Global, text: &str, units: usize) -> Result<Solving, Fail> {
-    let mut solving = begun(alloc, text)?;
-    let _counts = expansions(alloc, &mut solving, units)?;
-    Ok(solving)
-}
-
-const TAKE_EXPANSIONS: [(u32, u32); 7] = [(2, 0), (4, 0), (5, 0), (6, 0), (6, 1), (7, 1), (7, 2)];
-
-const FORK_EXPANSIONS: [(u32, u32); 9] = [
-    (2, 0),
-    (5, 0),
-    (5, 1),
-    (6, 1),
-    (7, 1),
-    (7, 1),
-    (9, 1),
-    (9, 1),
-    (9, 2),
-];
-
-/// How many are known and settled after each expansion of a new table.
-fn expansions_of(alloc: Global, text: &str, units: usize) -> Result<Vec<(u32, u32)>, Fail> {
-    let mut solving = begun(alloc, text)?;
-    expansions(alloc, &mut solving, units)
-}
-
-#[test]
-fn positions_become_known_and_settled(rt: HostRuntime) -> Result<(), Fail> {
-    let take = expansions_of(rt.alloc(), TAKE, 7)?;
-    expect(take.as_slice(), TAKE_EXPANSIONS.as_slice(), "takes")?;
-    let fork = expansions_of(rt.alloc(), FORK, 9)?;
-    expect(fork.as_slice(), FORK_EXPANSIONS.as_slice(), "a fork")
-}
-
-/// How many are settled after each processing of a table that is expanded.
-fn processings_of(alloc: Global, text: &str, units: usize) -> Result<Vec<u32>, Fail> {
-    let mut solving = expanded(alloc, text, units)?;
-    processings(alloc, &mut solving, units)
-}
-
-#[test]
-fn predecessors_become_settled(rt: HostRuntime) -> Result<(), Fail> {
-    let take = processings_of(rt.alloc(), TAKE, 7)?;
-    expect(take.as_slice(), [4, 5, 5, 6, 6, 7, 7].as_slice(), "takes")
-}
-
-/// A settled number, who wins it, and in how many moves.
-type Settled = (u32, Option<Player>, u32);
 
 /// What is at a place of the settled order.
 fn settled_at<T: Table>(table: &mut T, place: u32) -> Result<Settled, Fail> {
@@ -123,7 +162,7 @@ fn settled_at<T: Table>(table: &mut T, place: u32) -> Result<Settled, Fail> {
 }
 
 /// The settled order.
-fn order(alloc: Global, table: &mut MemTable) -> Result<Vec<Settled>, Fail> {
+fn order<T: Table>(alloc: Global, table: &mut T) -> Result<Vec<Settled>, Fail> {
     let mut order = Vec::new(alloc);
     for place in 0..table.counts().settled {
         order.push(settled_at(table, place)?)?;
@@ -141,7 +180,7 @@ fn next_edge<T: Table>(
 }
 
 /// Puts a number with each of its predecessors behind the edges.
-fn add_edges(edges: &mut Vec<(u32, u32)>, table: &mut MemTable, number: u32) -> Result<(), Fail> {
+fn add_edges<T: Table>(edges: &mut Vec<Edge>, table: &mut T, number: u32) -> Result<(), Fail> {
     let mut after = None;
     for _ in 0..table.counts().known {
         let Some(predecessor) = next_edge(table, number, after)? else {
@@ -154,7 +193,7 @@ fn add_edges(edges: &mut Vec<(u32, u32)>, table: &mut MemTable, number: u32) -> 
 }
 
 /// The predecessors of each number.
-fn edges(alloc: Global, table: &mut MemTable) -> Result<Vec<(u32, u32)>, Fail> {
+fn edges<T: Table>(alloc: Global, table: &mut T) -> Result<Vec<Edge>, Fail> {
     let mut edges = Vec::new(alloc);
     for number in 0..table.counts().known {
         add_edges(&mut edges, table, number)?;
@@ -162,238 +201,151 @@ fn edges(alloc: Global, table: &mut MemTable) -> Result<Vec<(u32, u32)>, Fail> {
     Ok(edges)
 }
 
-const TAKE_EXPANSIONS: [(u32, u32); 7] = [(2, 0), (4, 0), (5, 0), (6, 0), (6, 1), (7, 1), (7, 2)];
-
-const FORK_EXPANSIONS: [(u32, u32); 9] = [
-    (2, 0),
-    (5, 0),
-    (5, 1),
-    (6, 1),
-    (7, 1),
-    (7, 1),
-    (9, 1),
-    (9, 1),
-    (9, 2),
-];
-
-#[test]
-fn positions_become_known_and_settled(rt: HostRuntime) -> Result<(), Fail> {
-    let take = worked_by(rt.alloc(), TAKE, 7, 7)?;
+/// Expects the edges, and the settled order before any processing.
+fn expect_expanded<T: Table>(alloc: Global, table: &mut T, want: &Worked) -> Result<(), Fail> {
+    expect(edges(alloc, table)?.as_slice(), want.edges, "the edges")?;
     expect(
-        take.expansions.as_slice(),
-        TAKE_EXPANSIONS.as_slice(),
-        "takes, expanded",
-    )?;
-    expect(
-        take.processings.as_slice(),
-        [4, 5, 5, 6, 6, 7, 7].as_slice(),
-        "takes, processed",
-    )?;
-    let fork = worked_by(rt.alloc(), FORK, 9, 9)?;
-    expect(
-        fork.expansions.as_slice(),
-        FORK_EXPANSIONS.as_slice(),
-        "a fork, expanded",
+        order(alloc, table)?.as_slice(),
+        want.early,
+        "the order, expanded",
     )
 }
 
-#[test]
-fn takes_lead_to_takes(rt: HostRuntime) -> Result<(), Fail> {
-    let mut take = worked_by(rt.alloc(), TAKE, 7, 0)?;
-    let found = edges(rt.alloc(), &mut take.table)?;
-    let want = [(1, 0), (2, 1), (3, 1), (4, 2), (4, 3), (5, 3), (6, 5)];
-    expect(found.as_slice(), want.as_slice(), "the edges")
+/// Expects what the two units of work come to.
+fn expect_work<M: MoveSource, T: Table>(
+    alloc: Global,
+    source: &M,
+    table: &mut T,
+    want: &Worked,
+) -> Result<(), Fail>
+    requires { M.is_sound source.now }
+{
+    expect_expansions(alloc, source, table, want.expansions)?;
+    expect_expanded(alloc, table, want)?;
+    expect_processings(source, table, want.processings)?;
+    expect(
+        order(alloc, table)?.as_slice(),
+        want.order,
+        "the order, processed",
+    )
 }
 
-const WHITE: Option<Player> = Some(Player::First);
-
-const BLACK: Option<Player> = Some(Player::Second);
-
-const TAKE_ORDER: [Settled; 7] = [
-    (4, BLACK, 0),
-    (6, WHITE, 0),
-    (2, BLACK, 1),
-    (3, BLACK, 1),
-    (5, WHITE, 1),
-    (1, BLACK, 2),
-    (0, BLACK, 3),
-];
-
-const FORK_ORDER: [Settled; 9] = [
-    (2, WHITE, 0),
-    (8, WHITE, 0),
-    (1, WHITE, 1),
-    (5, WHITE, 1),
-    (6, WHITE, 1),
-    (0, WHITE, 2),
-    (3, WHITE, 2),
-    (7, WHITE, 2),
-    (4, WHITE, 2),
-];
-
-/// A game, how many positions are expanded and processed, and the settled order then.
-const ORDERS: [(&str, usize, usize, &[Settled]); 3] = [
-    (TAKE, 7, 7, &TAKE_ORDER),
-    (FORK, 9, 0, &[(2, WHITE, 0), (8, WHITE, 0)]),
-    (FORK, 9, 9, &FORK_ORDER),
-];
+fn expect_worked(alloc: Global, want: &Worked) -> Result<(), Fail> {
+    let Solving { source, mut table } = begun(alloc, want.text)?;
+    expect_work(alloc, source.moves(), &mut table, want)
+}
 
 #[test]
-fn positions_are_settled_in_order(rt: HostRuntime) -> Result<(), Fail> {
-    for (text, expanded, processed, want) in ORDERS {
-        let mut found = worked_by(rt.alloc(), text, expanded, processed)?;
-        let found = order(rt.alloc(), &mut found.table)?;
-        expect(found.as_slice(), want, text)?;
+fn takes_are_expanded_and_processed(rt: HostRuntime) -> Result<(), Fail> {
+    expect_worked(rt.alloc(), &TAKE_WORKED)
+}
+
+#[test]
+fn a_fork_is_expanded_and_processed(rt: HostRuntime) -> Result<(), Fail> {
+    expect_worked(rt.alloc(), &FORK_WORKED)
+}
+
+/// How many positions are known, expanded, settled and processed.
+type Far = (u32, u32, u32, u32);
+
+/// How many units of work are asked for, the answer, and how far the table is then.
+type Request = (u32, Result<u32, StepFault>, Far);
+
+fn far(counts: Counts) -> Far {
+    (
+        counts.known,
+        counts.expanded,
+        counts.settled,
+        counts.processed,
+    )
+}
+
+/// Expects the answers to these requests, one after another.
+fn expect_requests(alloc: Global, solving: &mut Solving, requests: &[Request]) -> Result<(), Fail> {
+    for (units, done, counts) in requests {
+        let found = solving.work(alloc, *units);
+        expect(
+            (found, far(solving.table.counts())),
+            (*done, *counts),
+            "units of work",
+        )?;
     }
     Ok(())
 }
 
-fn counts(known: u32, expanded: u32, settled: u32, processed: u32) -> Counts {
-    Counts {
-        known,
-        expanded,
-        settled,
-        processed,
-    }
+/// Expects the answers to these requests, and who wins the start then.
+fn expect_units(
+    alloc: Global,
+    text: &str,
+    requests: &[Request],
+    wins: Option<Player>,
+) -> Result<(), Fail> {
+    let mut solving = begun(alloc, text)?;
+    expect_requests(alloc, &mut solving, requests)?;
+    expect(winner(&mut solving.table, 0)?.0, wins, "the start")
 }
 
-/// What so many units of work on a new table answer, and how far it is then.
-fn units_of(
-    alloc: Global,
-    variables: &str,
-    rules: &str,
-    units: u32,
-) -> Result<(Result<u32, StepFault>, Counts), Fail> {
-    let text = small(alloc, variables, rules)?;
-    let source = game_of(alloc, text.as_str())?;
-    let mut table = fresh(alloc, &source)?;
-    let done = works(alloc, &source, &mut table, units);
-    Ok((done, table.counts()))
+/// Small games by their variables and rules, none of which is won, with a request.
+const GAMES: [(&str, &str, Request); 5] = [
+    // the keeper chooses: it is refused, and nothing changes
+    (
+        "x(2)",
+        "([$x=1]+[$x=2]) ->white",
+        (1, Err(StepFault::KeeperChooses(0)), (1, 0, 0, 0)),
+    ),
+    // it has one outcome by two ways
+    (
+        "x(2)",
+        "([$x=1]+[$x=0][$x=1]) ->white",
+        (9, Ok(2), (2, 2, 0, 0)),
+    ),
+    // a search that is too wide comes before the keeper
+    (
+        "n(32768)",
+        "([$n=n+1])* ->white",
+        (1, Err(StepFault::TooWide), (1, 0, 0, 0)),
+    ),
+    // play that goes round is drawn
+    ("", "->white (->black ->white)*", (9, Ok(4), (4, 4, 0, 0))),
+    // and so is play that ends with the keeper to move
+    ("", "->white ->> {} ->black", (9, Ok(3), (3, 3, 0, 0))),
+];
+
+/// Expects of each of these games the answer to its request.
+fn expect_games(alloc: Global, games: &[(&str, &str, Request)]) -> Result<(), Fail> {
+    for (variables, rules, request) in games {
+        let text = small(alloc, variables, rules)?;
+        expect_units(alloc, text.as_str(), &[*request], None)?;
+    }
+    Ok(())
 }
 
 #[test]
 fn small_games_are_worked_or_refused(rt: HostRuntime) -> Result<(), Fail> {
-    let cases = [
-        // the keeper chooses: it is refused, and nothing changes
-        (
-            "x(2)",
-            "([$x=1]+[$x=2]) ->white",
-            1,
-            Err(StepFault::KeeperChooses(0)),
-            counts(1, 0, 0, 0),
-        ),
-        // it has one outcome by two ways
-        (
-            "x(2)",
-            "([$x=1]+[$x=0][$x=1]) ->white",
-            9,
-            Ok(2),
-            counts(2, 2, 0, 0),
-        ),
-        // a search that is too wide comes before the keeper
-        (
-            "n(32768)",
-            "([$n=n+1])* ->white",
-            1,
-            Err(StepFault::TooWide),
-            counts(1, 0, 0, 0),
-        ),
-        // play that goes round is drawn
-        (
-            "",
-            "->white (->black ->white)*",
-            9,
-            Ok(4),
-            counts(4, 4, 0, 0),
-        ),
-        // and so is play that ends with the keeper to move
-        ("", "->white ->> {} ->black", 9, Ok(3), counts(3, 3, 0, 0)),
-    ];
-    for (variables, rules, units, done, counts) in cases {
-        let found = units_of(rt.alloc(), variables, rules, units)?;
-        expect(found, (done, counts), rules)?;
-    }
-    Ok(())
+    expect_games(rt.alloc(), &GAMES)
 }
 
-/// How many units of so many on takes are done, one request after another, and how far the table is after each.
-const CUTS: [(u32, u32, Counts); 4] = [
-    (
-        7,
-        7,
-        Counts {
-            known: 7,
-            expanded: 7,
-            settled: 2,
-            processed: 0,
-        },
-    ),
-    (
-        6,
-        6,
-        Counts {
-            known: 7,
-            expanded: 7,
-            settled: 7,
-            processed: 6,
-        },
-    ),
-    (
-        1,
-        1,
-        Counts {
-            known: 7,
-            expanded: 7,
-            settled: 7,
-            processed: 7,
-        },
-    ),
-    (
-        5,
-        0,
-        Counts {
-            known: 7,
-            expanded: 7,
-            settled: 7,
-            processed: 7,
-        },
-    ),
+const CUTS: [Request; 4] = [
+    (7, Ok(7), (7, 7, 2, 0)),
+    (6, Ok(6), (7, 7, 7, 6)),
+    (1, Ok(1), (7, 7, 7, 7)),
+    (5, Ok(0), (7, 7, 7, 7)),
 ];
 
 #[test]
 fn work_is_cut_where_it_is_asked(rt: HostRuntime) -> Result<(), Fail> {
-    let source = game_of(rt.alloc(), TAKE)?;
-    let mut table = fresh(rt.alloc(), &source)?;
-    for (units, done, counts) in CUTS {
-        let found = works(rt.alloc(), &source, &mut table, units)?;
-        expect((found, table.counts()), (done, counts), "units of takes")?;
-    }
-    Ok(())
+    expect_units(rt.alloc(), TAKE, &CUTS, BLACK)
 }
 
-/// How many positions the whole work of a game finds, and who wins it, where it is finished then.
-fn whole(alloc: Global, text: &str) -> Result<(u32, Option<Player>), Fail> {
-    let source = game_of(alloc, text)?;
-    let mut table = worked(alloc, &source, u32::MAX)?;
-    let counts = table.counts();
-    if counts.expanded != counts.known || counts.processed != counts.settled {
-        return Err("the table is not finished".into());
-    }
-    let (winner, _) = winner(&mut table, 0)?;
-    Ok((counts.known, winner))
-}
-
-/// Three in a row is a draw, and three pawns a side are lost for who begins.
+/// The numbers of positions and units are those of games/README.md.
 #[test]
-fn whole_games_are_finished(rt: HostRuntime) -> Result<(), Fail> {
-    expect(
-        whole(rt.alloc(), TIC_TAC_TOE)?,
-        (5_479, None),
-        "three in a row",
-    )?;
-    expect(
-        whole(rt.alloc(), HEXAPAWN)?,
-        (136, BLACK),
-        "three pawns a side",
-    )
+fn three_in_a_row_is_a_draw(rt: HostRuntime) -> Result<(), Fail> {
+    let whole = (u32::MAX, Ok(9_889), (5_479, 5_479, 4_410, 4_410));
+    expect_units(rt.alloc(), TIC_TAC_TOE, &[whole], None)
+}
+
+#[test]
+fn three_pawns_a_side_are_lost_for_who_begins(rt: HostRuntime) -> Result<(), Fail> {
+    let whole = (u32::MAX, Ok(272), (136, 136, 136, 136));
+    expect_units(rt.alloc(), HEXAPAWN, &[whole], BLACK)
 }

@@ -1,0 +1,49 @@
+-- What is told of a table.
+use Rattle.std.proofs.Common.{◌≡◌, ◌⊎◌, inl, inr, ℕ, List, [], ◌∷◌, ◌++◌, ap, ◌∙◌, append_assoc, subst, Option, Some, None, Result, Ok, Err}
+use Rattle.std.specs.Prelude.{OnOk, IfOk, codes}
+use Rattle.std.specs.Fmt.{decimal}
+use Rattle.std.specs.Io.KnownBytes.{Appends}
+use Rattle.retrograde.specs.declared.records.Counts.{Counts}
+use Rattle.game_file.specs.Kept.{Kept}
+use Rattle.game_file.specs.State.{State}
+use Rattle.recover.specs.Held.{IsSound}
+use Rattle.recover.specs.Queries.{OfKept, Tells}
+use Rattle.session.specs.Answered.{IsPlayLine}
+use Rattle.session.specs.Told.{IsDone, IsCountsLine, IsWorkLine}
+use Rattle.session.proofs.Appending.{appends_then}
+
+-- the line of counts, written in two parts
+pub told : {X E : Type 0} (counts : Counts) (old mid new : Option (List ℕ)) (r : Result X E) (front back : List ℕ) → Appends old mid front
+    → OnOk r (Appends mid new back) → IsCountsLine counts (front ++ back) → OnOk r ((line : List ℕ) × IsCountsLine counts line × Appends old new line)
+told counts old mid new (Ok x) front back first then is = (front ++ back, is, appends_then old mid new front back first then)
+told counts old mid new (Err e) front back first then is = tt
+
+pub not_done : (counts : Counts) → ((counts.expanded ≡ counts.known) × (counts.processed ≡ counts.settled → ⊥)) ⊎ (counts.expanded ≡ counts.known → ⊥)
+    → ¬ IsDone counts
+not_done counts (inl it) done = it.1 done.1
+not_done counts (inr it) done = it done.0
+
+-- the number of units before the counts
+pub work_told : {X E : Type 0} (units : ℕ) (counts : Counts) (old mid new : Option (List ℕ)) (r : Result X E)
+    → Appends old mid (codes "units " ++ (decimal units ++ 32 ∷ []))
+    → OnOk r ((line : List ℕ) × IsCountsLine counts line × Appends mid new line)
+    → OnOk r ((line : List ℕ) × IsWorkLine units counts line × Appends old new line)
+work_told units counts old mid new (Ok x) first (line, is, then) =
+    let front = codes "units " ++ (decimal units ++ 32 ∷ []) in
+    (front ++ line, record {
+      counts_line = line;
+      counts_are = is;
+      line_is = append_assoc (codes "units ") (decimal units ++ 32 ∷ []) line ∙ ap (λ t. codes "units " ++ t) (append_assoc (decimal units) (32 ∷ []) line);
+    }, appends_then old mid new front line first then)
+work_told units counts old mid new (Err e) first then = tt
+
+under : (Such : Kept → Type 0) (kept : Option Kept) → (IsSound kept → OfKept Such kept) → OfKept (λ k. IsSound (Some k) → Such k) kept
+under Such None told = told tt
+under Such (Some kept) told = told
+
+-- a best line is said of a sound table
+pub play_told : {X E : Type 0} (text : X → List ℕ) (number : ℕ) (state : State) (r : Result X E)
+    → (IsSound state.kept → IfOk r (λ x. Tells (IsPlayLine number (text x)) state))
+    → IfOk r (λ x. Tells (λ kept. IsSound (Some kept) → IsPlayLine number (text x) kept) state)
+play_told text number state (Ok x) told = λ honest. under (IsPlayLine number (text x)) state.kept (λ sound. told sound honest)
+play_told text number state (Err e) told = tt
