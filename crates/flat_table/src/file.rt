@@ -19,14 +19,14 @@ ghost use Rattle.flat_table.specs.Pages.{ArePages};
 ghost use Rattle.flat_table.specs.aid.Drafts.{few_stored};
 ghost use Rattle.flat_table.specs.aid.Whole.{the_table_is_kept, unwritten_ahead, unwritten_asked, memory_cause};
 
-use crate::put::put;
 use crate::game::Game;
+use crate::put::put;
 use crate::read::read_all;
+use crate::slot::empty_slot;
 use game_file::{FileFault, GameFile, Refused};
 use page_store::{PageStore, Pages};
 use position_pack::Packed;
 use root_pair::create;
-use crate::slot::empty_slot;
 use sector_disk::SectorDisk;
 use std::alloc::Global;
 use table::{MemTable, Table};

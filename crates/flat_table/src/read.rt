@@ -10,9 +10,9 @@ ghost use Rattle.flat_table.specs.Reading.{IsRead};
 
 use crate::bytes::{game_of, length_of};
 use crate::game::{Game, Opened};
+use crate::slot::{GameSlot, Slot, read_slot};
 use page_chain::read_chain;
 use page_store::{PageFault, Pages};
-use crate::slot::{GameSlot, Slot, read_slot};
 use std::alloc::Global;
 
 /// The fewest pages that a table's file has.

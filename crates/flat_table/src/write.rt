@@ -15,9 +15,9 @@ ghost use Rattle.flat_table.specs.Saving.{AreBytesOf, StoreGoesAhead};
 ghost use Rattle.game_file.specs.Stops.{LeavesEither, LeavesTable};
 ghost use Rattle.flat_table.specs.Steps.{LetsGo, IsExchanged, IsSlotOf, IsReplaced, IsLeft};
 
+use crate::slot::{GameSlot, game_slot};
 use page_chain::write_chain;
 use page_store::{PageFault, Pages};
-use crate::slot::{GameSlot, game_slot};
 use std::alloc::Global;
 use table_bytes::{Sizes, Written};
 

@@ -4,8 +4,6 @@
 pub mod laws;
 mod page;
 mod read;
-#[cfg(test)]
-mod tests;
 mod write;
 
 pub use page::{PAYLOAD, pages_for};

@@ -3,18 +3,10 @@
 
 mod fault;
 pub mod laws;
-#[cfg(test)]
-mod layer_tests;
 mod marks;
 mod page;
 mod pages;
-#[cfg(test)]
-mod soak_tests;
-#[cfg(test)]
-mod stop_tests;
 mod store;
-#[cfg(test)]
-mod tests;
 
 pub use fault::PageFault;
 pub use marks::Mark;

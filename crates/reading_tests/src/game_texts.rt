@@ -6,7 +6,9 @@ use std::test::Fail;
 
 /// The game of takes from a heap of three.
 pub const TAKE: &str =
-    "#players = white(1), black(1)  #pieces = e  #variables = heap(3)  #board = v[e]{}  #rules = [$heap=3] (->white ([$heap=heap-1]+[$heap=heap-2]) [$white=1][$black=0] ->black ([$heap=heap-1]+[$heap=heap-2]) [$black=1][$white=0])*";
+    "#players = white(1), black(1)  #pieces = e  #variables = heap(3)  #board = v[e]{}
+ #rules = [$heap=3] (->white ([$heap=heap-1]+[$heap=heap-2]) [$white=1][$black=0]
+ ->black ([$heap=heap-1]+[$heap=heap-2]) [$black=1][$white=0])*";
 
 /// All but the rules of a game on one vertex.
 pub const ONE_VERTEX: &str = "#players = white(1), black(1) #pieces = e #board = v[e]{}";
@@ -20,16 +22,16 @@ pub fn with_rules(alloc: Global, head: &str, rules: &str) -> Result<String, Fail
     Ok(format!(in alloc; "{head} #rules = {rules}")?)
 }
 
-/// Reads a text, and lets the game go.
-fn read(alloc: Global, text: &str) -> Result<(), GameFault> {
-    let _game = read_game(alloc, text.as_bytes())?;
-    Ok(())
+/// How many variables, vertices and labels the game of a text has.
+pub fn sizes(alloc: Global, text: &str) -> Result<[usize; 3], GameFault> {
+    let game = read_game(alloc, text.as_bytes())?;
+    Ok([game.variables.len(), game.vertices.len(), game.labels.len()])
 }
 
 /// The code of the text's fault, or `ok`.
 pub fn code(alloc: Global, text: &str) -> &'static str {
-    match read(alloc, text) {
-        Ok(()) => "ok",
+    match sizes(alloc, text) {
+        Ok(_) => "ok",
         Err(fault) => fault.code(),
     }
 }

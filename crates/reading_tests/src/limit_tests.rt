@@ -5,7 +5,6 @@ use std::alloc::Global;
 use std::test::Fail;
 
 /// A text in which a part stands many times over.
-#[derive(Clone, Copy)]
 struct Parts {
     before: &'static str,
     part: &'static str,
@@ -56,20 +55,6 @@ const OVER_A_MILLION: Parts = Parts {
     behind: "1000001] ->white",
 };
 
-/// Rules with so many parts, and the code of the game with them.
-const RULES: [(Parts, usize, &str); 10] = [
-    (SUM, 4_095, "ok"),
-    (SUM, 4_096, "G7"),
-    (CONCATENATION, 4_095, "ok"),
-    (CONCATENATION, 4_096, "G7"),
-    (LIST, 4_095, "ok"),
-    (LIST, 4_096, "G7"),
-    (PATTERN, 4_094, "ok"),
-    (PATTERN, 4_095, "G7"),
-    (MILLION, 1_000, "ok"),
-    (OVER_A_MILLION, 1_000, "G6"),
-];
-
 /// The code of the game with so many of these parts in its rules.
 fn code_of_parts(alloc: Global, parts: &Parts, count: usize) -> Result<&'static str, Fail> {
     let many = repeated(alloc, count, parts.part, parts.between)?;
@@ -78,16 +63,27 @@ fn code_of_parts(alloc: Global, parts: &Parts, count: usize) -> Result<&'static 
     Ok(code(alloc, text.as_str()))
 }
 
+/// Expects that so many of these parts may be in the rules, and one more may not.
+fn expect_most(alloc: Global, parts: &Parts, most: usize) -> Result<(), Fail> {
+    let above = code_of_parts(alloc, parts, most.saturating_add(1))?;
+    expect(code_of_parts(alloc, parts, most)?, "ok", parts.before)?;
+    expect(above, "G7", parts.before)
+}
+
 #[test]
-fn rules_of_many_parts_have_their_codes(rt: HostRuntime) -> Result<(), Fail> {
-    for (parts, count, want) in &RULES {
-        expect(
-            code_of_parts(rt.alloc(), parts, *count)?,
-            *want,
-            parts.before,
-        )?;
-    }
-    Ok(())
+fn actions_are_counted_to_their_limit(rt: HostRuntime) -> Result<(), Fail> {
+    expect_most(rt.alloc(), &SUM, 4_095)?;
+    expect_most(rt.alloc(), &CONCATENATION, 4_095)?;
+    expect_most(rt.alloc(), &LIST, 4_095)?;
+    expect_most(rt.alloc(), &PATTERN, 4_094)
+}
+
+#[test]
+fn numbers_may_have_many_digits(rt: HostRuntime) -> Result<(), Fail> {
+    let found = code_of_parts(rt.alloc(), &MILLION, 1_000)?;
+    expect(found, "ok", "a million")?;
+    let found = code_of_parts(rt.alloc(), &OVER_A_MILLION, 1_000)?;
+    expect(found, "G6", "over a million")
 }
 
 const PIECES: Parts = Parts {
@@ -118,18 +114,6 @@ const VARIABLES: Parts = Parts {
     behind: " #board = a[e]{} #rules = ->white",
 };
 
-/// Texts with so many names, each with the part behind it, and their codes.
-const NAMES: [(Parts, usize, &str); 8] = [
-    (PIECES, 64, "ok"),
-    (PIECES, 65, "G7"),
-    (LABELS, 64, "ok"),
-    (LABELS, 65, "G7"),
-    (VERTICES, 128, "ok"),
-    (VERTICES, 129, "G7"),
-    (VARIABLES, 32, "ok"),
-    (VARIABLES, 33, "G7"),
-];
-
 /// Puts a name, as `p0`, with what stands behind it and, where it is not the first, before it.
 fn put_name(alloc: Global, text: &mut String, index: usize, parts: &Parts) -> Result<(), Fail> {
     let between = if index > 0 { parts.between } else { "" };
@@ -154,16 +138,19 @@ fn code_of_names(alloc: Global, parts: &Parts, count: usize) -> Result<&'static 
     Ok(code(alloc, text.as_str()))
 }
 
+/// Expects that a text may have so many of these names, and one more may not be.
+fn expect_most_names(alloc: Global, parts: &Parts, most: usize) -> Result<(), Fail> {
+    let above = code_of_names(alloc, parts, most.saturating_add(1))?;
+    expect(code_of_names(alloc, parts, most)?, "ok", parts.before)?;
+    expect(above, "G7", parts.before)
+}
+
 #[test]
 fn names_are_counted_to_their_limits(rt: HostRuntime) -> Result<(), Fail> {
-    for (parts, count, want) in &NAMES {
-        expect(
-            code_of_names(rt.alloc(), parts, *count)?,
-            *want,
-            parts.before,
-        )?;
-    }
-    Ok(())
+    expect_most_names(rt.alloc(), &PIECES, 64)?;
+    expect_most_names(rt.alloc(), &LABELS, 64)?;
+    expect_most_names(rt.alloc(), &VERTICES, 128)?;
+    expect_most_names(rt.alloc(), &VARIABLES, 32)
 }
 
 /// The code of 65 open parentheses and so many bytes that begin no token.

@@ -136,7 +136,13 @@ const MILLION: &str =
 
 /// Texts, and the last value of the position of takes with this text, if there is one. There is none with too few words
 /// or values, with a number that is written otherwise, or with one over its bound.
-const TAKE_VALUES: [(&str, Option<u32>); 12] = [
+const TAKE_VALUES: [(&str, Option<u32>); 18] = [
+    ("", None),
+    (">>", None),
+    (">> 2 v e 0", None),
+    (">> 2 v e 0,0", None),
+    (">> 2 v e 0,0,\u{ff}", None),
+    (">> 12 v e 0,0,3", None),
     (">> 2 v e 0,0,3", Some(3)),
     (">> 2 v e 0,1,2", Some(2)),
     (">> 2 v e", None),

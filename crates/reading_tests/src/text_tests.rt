@@ -14,8 +14,8 @@ fn sections_of(alloc: Global, text: &[u8]) -> Result<Vec<Section<'_>>, ReadError
 }
 
 /// Each section once.
-const SECTIONS: &[u8] =
-    b"#players = white(1), black(07) #pieces = e, x // and no more\n #variables = #board = a[e]{right: b, left: a}, b[x]{} c[e]{} #rules = right ->white";
+const SECTIONS: &[u8] = b"#players = white(1), black(07) #pieces = e, x // and no more
+ #variables = #board = a[e]{right: b, left: a}, b[x]{} c[e]{} #rules = right ->white";
 
 /// Whether the board is that of `SECTIONS`.
 fn is_board(vertices: &[Vertex<'_>]) -> bool {
@@ -46,27 +46,26 @@ fn is_written(section: &Section<'_>) -> bool {
 fn each_section_is_read(rt: HostRuntime) -> Result<(), Fail> {
     let sections = sections_of(rt.alloc(), SECTIONS)?;
     expect(sections.len(), 5, "all sections")?;
-    for section in &sections {
-        expect(is_written(section), true, "a section")?;
-    }
-    Ok(())
+    expect(sections.iter().all(is_written), true, "each section")
 }
+
+/// Texts, and whether they are read.
+const TEXTS: [(&str, bool); 8] = [
+    ("", true),
+    ("#pieces =", false),
+    ("#pieces = e,", false),
+    ("#peices = e", false),
+    ("#pieces = e e", false),
+    ("#board = a[e]{},", false),
+    ("#rules = ->white )", false),
+    ("#rules = [$heap=heap/2]", false),
+];
 
 #[test]
 fn what_is_no_section_is_refused(rt: HostRuntime) -> Result<(), Fail> {
-    let cases = [
-        ("", true),
-        ("#pieces =", false),
-        ("#pieces = e,", false),
-        ("#peices = e", false),
-        ("#pieces = e e", false),
-        ("#board = a[e]{},", false),
-        ("#rules = ->white )", false),
-        ("#rules = [$heap=heap/2]", false),
-    ];
-    for (text, want) in cases {
+    for (text, want) in &TEXTS {
         let found = sections_of(rt.alloc(), text.as_bytes());
-        expect(found.is_ok(), want, text)?;
+        expect(found.is_ok(), *want, text)?;
     }
     Ok(())
 }

@@ -29,12 +29,15 @@ pub work_told : {X E : Type 0} (units : ℕ) (counts : Counts) (old mid new : Op
     → OnOk r ((line : List ℕ) × IsCountsLine counts line × Appends mid new line)
     → OnOk r ((line : List ℕ) × IsWorkLine units counts line × Appends old new line)
 work_told units counts old mid new (Ok x) first (line, is, then) =
-    let front = codes "units " ++ (decimal units ++ 32 ∷ []) in
-    (front ++ line, record {
-      counts_line = line;
-      counts_are = is;
-      line_is = append_assoc (codes "units ") (decimal units ++ 32 ∷ []) line ∙ ap (λ t. codes "units " ++ t) (append_assoc (decimal units) (32 ∷ []) line);
-    }, appends_then old mid new front line first then)
+    let front = codes "units " ++ (decimal units ++ 32 ∷ []) in (
+      front ++ line,
+      record {
+        counts_line = line;
+        counts_are = is;
+        line_is = append_assoc (codes "units ") (decimal units ++ 32 ∷ []) line ∙ ap (λ t. codes "units " ++ t) (append_assoc (decimal units) (32 ∷ []) line);
+      },
+      appends_then old mid new front line first then,
+    )
 work_told units counts old mid new (Err e) first then = tt
 
 under : (Such : Kept → Type 0) (kept : Option Kept) → (IsSound kept → OfKept Such kept) → OfKept (λ k. IsSound (Some k) → Such k) kept

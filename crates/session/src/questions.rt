@@ -67,7 +67,11 @@ fn put_done<W: Write>(out: &mut W, line: &[u8]) -> io::Result<u8>
 }
 
 /// Writes a refusal, and gives its status.
-pub fn put_fault<W: Write, E: Write>(fault: SolverFault, out: &mut W, told: &mut E) -> io::Result<u8>
+pub fn put_fault<W: Write, E: Write>(
+    fault: SolverFault,
+    out: &mut W,
+    told: &mut E,
+) -> io::Result<u8>
     ensures status { IfOk result (λ status. status ≡ status_of_fault fault) }
     ensures line { OnOk result (Appends (W.contents out.old) (W.contents out.new) (fault_line fault)) }
 {
@@ -99,7 +103,11 @@ fn put_worked<F: GameFile, W: Write, E: Write>(
 }
 
 /// The text that answers a question, in whole lines.
-fn text_of<F: GameFile>(alloc: Global, solver: &mut FileSolver<F>, question: Question<'_>) -> Result<Vec<u8>, SolverFault>
+fn text_of<F: GameFile>(
+    alloc: Global,
+    solver: &mut FileSolver<F>,
+    question: Question<'_>,
+) -> Result<Vec<u8>, SolverFault>
     ensures ready { IsReady solver.old → IsReady solver.new }
     ensures asked { IsReady solver.old → IsAsked F.stores (state solver.old) (state solver.new) }
     ensures text { IsReady solver.old → IfOk result (λ text. Tells (IsAnswerTo question.entry text.items) (state solver.old)) }
@@ -115,7 +123,11 @@ fn text_of<F: GameFile>(alloc: Global, solver: &mut FileSolver<F>, question: Que
 }
 
 /// The line of a position's value.
-fn value_of<F: GameFile>(alloc: Global, solver: &mut FileSolver<F>, number: u32) -> Result<Vec<u8>, SolverFault>
+fn value_of<F: GameFile>(
+    alloc: Global,
+    solver: &mut FileSolver<F>,
+    number: u32,
+) -> Result<Vec<u8>, SolverFault>
     ensures ready { IsReady solver.old → IsReady solver.new }
     ensures asked { IsReady solver.old → IsAsked F.stores (state solver.old) (state solver.new) }
     ensures text { IsReady solver.old → IfOk result (λ text. Tells (IsValueLine number text.items) (state solver.old)) }
@@ -129,7 +141,12 @@ fn value_of<F: GameFile>(alloc: Global, solver: &mut FileSolver<F>, number: u32)
 }
 
 /// The lines of a list.
-fn rows_of<F: GameFile>(alloc: Global, solver: &mut FileSolver<F>, from: u32, count: Units) -> Result<Vec<u8>, SolverFault>
+fn rows_of<F: GameFile>(
+    alloc: Global,
+    solver: &mut FileSolver<F>,
+    from: u32,
+    count: Units,
+) -> Result<Vec<u8>, SolverFault>
     ensures ready { IsReady solver.old → IsReady solver.new }
     ensures asked { IsReady solver.old → IsAsked F.stores (state solver.old) (state solver.new) }
     ensures text { IsReady solver.old → IfOk result (λ text. Tells (AreRowLines from (units_in count) text.items) (state solver.old)) }
@@ -143,7 +160,11 @@ fn rows_of<F: GameFile>(alloc: Global, solver: &mut FileSolver<F>, from: u32, co
 }
 
 /// The line of a best line's numbers.
-fn play_of<F: GameFile>(alloc: Global, solver: &mut FileSolver<F>, number: u32) -> Result<Vec<u8>, SolverFault>
+fn play_of<F: GameFile>(
+    alloc: Global,
+    solver: &mut FileSolver<F>,
+    number: u32,
+) -> Result<Vec<u8>, SolverFault>
     ensures ready { IsReady solver.old → IsReady solver.new }
     ensures asked { IsReady solver.old → IsAsked F.stores (state solver.old) (state solver.new) }
     ensures text { IsReady solver.old → IsSound (state solver.old).kept
@@ -167,7 +188,11 @@ fn shown<F: GameFile>(solver: &mut FileSolver<F>, number: u32) -> Result<Vec<u8>
 }
 
 /// The line of the number of the position with this text.
-fn found<F: GameFile>(alloc: Global, solver: &mut FileSolver<F>, text: &[u8]) -> Result<Vec<u8>, SolverFault>
+fn found<F: GameFile>(
+    alloc: Global,
+    solver: &mut FileSolver<F>,
+    text: &[u8],
+) -> Result<Vec<u8>, SolverFault>
     ensures ready { IsReady solver.old → IsReady solver.new }
     ensures asked { IsReady solver.old → IsAsked F.stores (state solver.old) (state solver.new) }
     ensures text { IsReady solver.old → IfOk result (λ line. Tells (IsFoundLine text.now line.items) (state solver.old)) }

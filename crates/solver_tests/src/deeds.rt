@@ -7,7 +7,8 @@ use std::alloc::Global;
 use std::test::Fail;
 
 /// The game of takes from a heap of three.
-pub const TAKE: &str = "#players = white(1), black(1)  #pieces = e  #variables = heap(3)  #board = v[e]{}
+pub const TAKE: &str =
+    "#players = white(1), black(1)  #pieces = e  #variables = heap(3)  #board = v[e]{}
 #rules = [$heap=3] (
     ->white ([$heap=heap-1]+[$heap=heap-2]) [$white=1][$black=0]
     ->black ([$heap=heap-1]+[$heap=heap-2]) [$black=1][$white=0]
@@ -35,7 +36,11 @@ pub enum Deed {
 }
 
 /// Does this to the table of the disk: the disk, the exit status, and what was printed.
-pub fn done_on<D: SectorDisk + Drop>(alloc: Global, disk: D, deed: Deed) -> Result<(D, u8, Vec<u8>), Fail> {
+pub fn done_on<D: SectorDisk + Drop>(
+    alloc: Global,
+    disk: D,
+    deed: Deed,
+) -> Result<(D, u8, Vec<u8>), Fail> {
     let mut out = Vec::new(alloc);
     let (disk, status) = match deed {
         Deed::Create => commanded(alloc, disk, FileCommand::Create, &mut out),
@@ -50,7 +55,12 @@ pub fn done_on<D: SectorDisk + Drop>(alloc: Global, disk: D, deed: Deed) -> Resu
 }
 
 /// Does one command on the table of the disk.
-fn commanded<D: SectorDisk>(alloc: Global, disk: D, command: FileCommand, out: &mut Vec<u8>) -> (D, u8) {
+fn commanded<D: SectorDisk>(
+    alloc: Global,
+    disk: D,
+    command: FileCommand,
+    out: &mut Vec<u8>,
+) -> (D, u8) {
     let (outcome, disk) = command_on(alloc, disk, command, out);
     (disk, outcome.status)
 }

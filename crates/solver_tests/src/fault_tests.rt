@@ -35,7 +35,9 @@ fn calls_that_may_fail(alloc: Global, done: bool) -> Result<Option<u64>, Fail> {
 }
 
 #[test]
-fn one_call_that_fails_is_told_and_leaves_one_table_or_the_other(rt: HostRuntime) -> Result<(), Fail> {
+fn one_call_that_fails_is_told_and_leaves_one_table_or_the_other(
+    rt: HostRuntime,
+) -> Result<(), Fail> {
     // a sync, the header, the gate, the slot and eight sectors to open; eight sectors and five calls to commit
     for done in [false, true] {
         assert_eq!(rt; calls_that_may_fail(rt.alloc(), done)?, Some(25));
@@ -71,7 +73,10 @@ fn refusal<D: SectorDisk>(solver: &mut Solver<D>, question: Question) -> Option<
 
 /// A solver over the game of takes, on a disk of which this call fails and is not carried out.
 fn solver_on(alloc: Global, call: u64) -> Result<Solver<FlakyDisk<MemDisk>>, Fail> {
-    match Solver::open(alloc, FlakyDisk::new(disk_after(alloc, &TAKE_LOADED)?, call, false)) {
+    match Solver::open(
+        alloc,
+        FlakyDisk::new(disk_after(alloc, &TAKE_LOADED)?, call, false),
+    ) {
         Ok(solver) => Ok(solver),
         Err(_) => Err("the table was refused")?,
     }
@@ -90,7 +95,10 @@ fn after_a_failed_sync_all_is_closed_until_it_is_opened_again(rt: HostRuntime) -
     // twelve calls to open, eight writes, the gate's reading, the slot and its sync, the gate and its sync
     let mut solver = solver_on(rt.alloc(), 24)?;
     let before = status(&solver);
-    assert_eq!(rt; refusal(&mut solver, Question::Work), Some(SolverFault::Disk));
+    assert_eq!(rt;
+        refusal(&mut solver, Question::Work),
+        Some(SolverFault::Disk)
+    );
     for question in [
         Question::Work,
         Question::Load,
@@ -112,7 +120,10 @@ fn a_read_that_fails_within_work_changes_nothing(rt: HostRuntime) -> Result<(), 
     // twelve calls to open and eight writes: then the gate is read
     let mut solver = solver_on(rt.alloc(), 20)?;
     let before = status(&solver);
-    assert_eq!(rt; refusal(&mut solver, Question::Work), Some(SolverFault::Disk));
+    assert_eq!(rt;
+        refusal(&mut solver, Question::Work),
+        Some(SolverFault::Disk)
+    );
     assert_eq!(rt; status(&solver), before);
     assert_eq!(rt; refusal(&mut solver, Question::Work), None);
     assert!(rt; all_say(rt.alloc(), &disk_of(solver), &[WORKED])?);

@@ -3,7 +3,7 @@
 use crate::deeds::{Deed, EMPTY, LOADED, TAKE, WORKED, all_say, disk_after};
 use recover::{Command, Reply, Solver, SolverFault, Units};
 use retrograde::Counts;
-use sector_disk::{FuseDisk, SectorDisk};
+use sector_disk::{FuseDisk, MemDisk, SectorDisk};
 use std::alloc::Global;
 use std::test::Fail;
 
@@ -22,7 +22,9 @@ fn commands(alloc: Global, steps: &[Step]) -> Result<Vec<Command>, Fail> {
     for step in steps {
         let command = match step {
             Step::Load => Command::Load(TAKE.as_bytes().to_vec(alloc)?),
-            Step::Work(count) => Command::Work(Units::new(*count).ok_or("that many units are no command")?),
+            Step::Work(count) => Command::Work(Units::new(*count).ok_or(
+                "that many units are no command",
+            )?),
         };
         commands.push(command)?;
     }
@@ -31,7 +33,12 @@ fn commands(alloc: Global, steps: &[Step]) -> Result<Vec<Command>, Fail> {
 
 /// Opens the table, runs the commands and puts their replies behind those that are there; the disk. Where the table is
 /// not opened, nothing is replied.
-fn run_on<D: SectorDisk + Drop>(alloc: Global, disk: D, commands: &[Command], replies: &mut Vec<Reply>) -> Result<D, Fail> {
+fn run_on<D: SectorDisk + Drop>(
+    alloc: Global,
+    disk: D,
+    commands: &[Command],
+    replies: &mut Vec<Reply>,
+) -> Result<D, Fail> {
     match Solver::open(alloc, disk) {
         Ok(mut solver) => {
             solver.run(commands, replies)?;
@@ -56,10 +63,18 @@ fn worked(units: u32, settled: u32, processed: u32) -> Reply {
 fn a_run_answers_each_command(rt: HostRuntime) -> Result<(), Fail> {
     let alloc = rt.alloc();
     let mut replies = Vec::new(alloc);
-    let disk = run_on(alloc, disk_after(alloc, &[Deed::Create])?, &[], &mut replies)?;
+    let disk = run_on(
+        alloc,
+        disk_after(alloc, &[Deed::Create])?,
+        &[],
+        &mut replies,
+    )?;
     assert_eq!(rt; replies.len(), 0);
     replies.push(Reply::Loaded)?;
-    let commands = commands(alloc, &[Step::Load, Step::Work(7), Step::Load, Step::Work(256)])?;
+    let commands = commands(
+        alloc,
+        &[Step::Load, Step::Work(7), Step::Load, Step::Work(256)],
+    )?;
     run_on(alloc, disk, &commands, &mut replies)?;
     let wanted = [
         Reply::Loaded,
@@ -72,35 +87,63 @@ fn a_run_answers_each_command(rt: HostRuntime) -> Result<(), Fail> {
     Ok(())
 }
 
-/// What a stop may leave after these replies to `load` and `work 7`: first while one of them is not done, then once both are.
-fn left_by(replies: &[Reply]) -> Result<[&'static [u8]; 2], Fail> {
+/// How far a run of `load` and `work 7` has come, as its replies say.
+#[derive(Clone, Copy, PartialEq, Eq, Debug)]
+enum Progress {
+    /// The table was not opened.
+    Refused,
+    /// The first command failed.
+    Loading,
+    /// The second command failed.
+    Working,
+    Done,
+}
+
+fn progress_of(replies: &[Reply]) -> Result<Progress, Fail> {
     match (replies.first(), replies.last()) {
-        (Some(Reply::Loaded), Some(Reply::Worked(7, _))) => Ok([WORKED, WORKED]),
-        (Some(Reply::Loaded), Some(Reply::Refused(SolverFault::Disk))) => Ok([LOADED, WORKED]),
-        (Some(Reply::Refused(SolverFault::Disk)), Some(Reply::Refused(SolverFault::Closed | SolverFault::NoGame))) => {
-            Ok([EMPTY, LOADED])
-        }
-        (None, None) => Ok([EMPTY, EMPTY]),
+        (None, None) => Ok(Progress::Refused),
+        (
+            Some(Reply::Refused(SolverFault::Disk)),
+            Some(Reply::Refused(SolverFault::Closed | SolverFault::NoGame)),
+        ) => { Ok(Progress::Loading) }
+        (Some(Reply::Loaded), Some(Reply::Refused(SolverFault::Disk))) => Ok(Progress::Working),
+        (Some(Reply::Loaded), Some(Reply::Worked(7, _))) => Ok(Progress::Done),
         _ => Err("these replies cannot be")?,
     }
 }
 
-/// Stops a run of `load` and `work 7` after so many calls: what its replies allow a stop to leave, and whether it leaves that.
-fn stopped_run(alloc: Global, commands: &[Command], passes: u64) -> Result<([&'static [u8]; 2], bool), Fail> {
+/// Whether each stop now leaves the table as it was before the command that failed, or as this command leaves it.
+fn is_left(alloc: Global, disk: &MemDisk, progress: Progress) -> Result<bool, Fail> {
+    match progress {
+        Progress::Refused => all_say(alloc, disk, &[EMPTY]),
+        Progress::Loading => all_say(alloc, disk, &[EMPTY, LOADED]),
+        Progress::Working => all_say(alloc, disk, &[LOADED, WORKED]),
+        Progress::Done => all_say(alloc, disk, &[WORKED]),
+    }
+}
+
+/// Stops a run of these commands on the empty table after so many calls: the disk that is left, and how far it came.
+fn stopped_run(
+    alloc: Global,
+    commands: &[Command],
+    passes: u64,
+) -> Result<(MemDisk, Progress), Fail> {
     let mut replies = Vec::new(alloc);
     let fuse = FuseDisk::new(disk_after(alloc, &[Deed::Create])?, passes);
     let disk = run_on(alloc, fuse, commands, &mut replies)?.into_inner();
-    let allowed = left_by(&replies)?;
-    Ok((allowed, all_say(alloc, &disk, &allowed)?))
+    Ok((disk, progress_of(&replies)?))
 }
 
 #[test]
 fn a_stop_in_a_run_leaves_a_table_after_some_of_its_commands(rt: HostRuntime) -> Result<(), Fail> {
     let commands = commands(rt.alloc(), &[Step::Load, Step::Work(7)])?;
     for passes in 0..MOST_CALLS {
-        let (allowed, is_left) = stopped_run(rt.alloc(), &commands, passes)?;
-        assert!(rt; is_left, "{passes} calls pass");
-        if allowed[0] == WORKED {
+        let (disk, progress) = stopped_run(rt.alloc(), &commands, passes)?;
+        assert!(rt;
+            is_left(rt.alloc(), &disk, progress)?,
+            "{passes} calls pass"
+        );
+        if progress == Progress::Done {
             return Ok(());
         }
     }

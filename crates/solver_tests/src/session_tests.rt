@@ -36,7 +36,8 @@ impl Write for Narrow {
     }
 }
 
-const ONE_SWITCH: &[u8] = b"#players = fox(1), hen(1) #pieces = e #variables = x(9) #board = v[e]{} #rules = ->fox";
+const ONE_SWITCH: &[u8] =
+    b"#players = fox(1), hen(1) #pieces = e #variables = x(9) #board = v[e]{} #rules = ->fox";
 
 #[test]
 fn an_output_that_fails_is_status_four(rt: HostRuntime) -> Result<(), Fail> {
@@ -62,12 +63,20 @@ fn refused_line(alloc: Global, fault: SolverFault) -> Result<Vec<u8>, Fail> {
 #[test]
 fn refusals_have_a_line_and_a_status(rt: HostRuntime) -> Result<(), Fail> {
     let rows = [
-        (SolverFault::KeeperChooses(4_294_967_295), 1, b"refused S3 4294967295\n".as_slice()),
+        (
+            SolverFault::KeeperChooses(4_294_967_295),
+            1,
+            b"refused S3 4294967295\n".as_slice(),
+        ),
         (SolverFault::NoGame, 1, b"refused S1\n"),
         (SolverFault::Damaged, 3, b"refused E4\n"),
         (SolverFault::Disk, 4, b"refused E1\n"),
         (SolverFault::OutOfMemory, 5, b"refused E8\n"),
-        (SolverFault::Game(GameFault::OutOfMemory), 5, b"refused G10\n"),
+        (
+            SolverFault::Game(GameFault::OutOfMemory),
+            5,
+            b"refused G10\n",
+        ),
         (SolverFault::Game(GameFault::Syntax), 1, b"refused G1\n"),
     ];
     for (fault, status, line) in rows {
@@ -121,18 +130,32 @@ fn a_game_is_loaded_once_and_a_table_made_once_and_with_room(rt: HostRuntime) ->
     let loaded = [Deed::Create, Deed::LoadTake];
     let again = FileCommand::Load(TAKE.as_bytes().to_vec(alloc)?);
     let (outcome, line) = outcome_on(alloc, disk_after(alloc, &loaded)?, again);
-    assert_eq!(rt; (outcome.status, outcome.refused), (1, Some(SolverFault::GameAlready)));
+    assert_eq!(rt;
+        (outcome.status, outcome.refused),
+        (1, Some(SolverFault::GameAlready))
+    );
     assert_eq!(rt; line.as_slice(), b"refused S2\n".as_slice());
     let (outcome, line) = outcome_on(alloc, disk_after(alloc, &loaded)?, FileCommand::Create);
-    assert_eq!(rt; (outcome.status, outcome.refused), (1, Some(SolverFault::AlreadyATable)));
+    assert_eq!(rt;
+        (outcome.status, outcome.refused),
+        (1, Some(SolverFault::AlreadyATable))
+    );
     assert_eq!(rt; line.as_slice(), b"refused E3\n".as_slice());
-    let (outcome, line) = outcome_on(alloc, MemDisk::new(alloc, SECTORS - 1)?, FileCommand::Create);
-    assert_eq!(rt; (outcome.status, outcome.refused), (1, Some(SolverFault::TooSmall)));
+    let (outcome, line) = outcome_on(
+        alloc,
+        MemDisk::new(alloc, SECTORS - 1)?,
+        FileCommand::Create,
+    );
+    assert_eq!(rt;
+        (outcome.status, outcome.refused),
+        (1, Some(SolverFault::TooSmall))
+    );
     assert_eq!(rt; line.as_slice(), b"refused E6\n".as_slice());
     Ok(())
 }
 
 /// What a session says, on its output and besides, and its status.
+#[derive(Drop)]
 struct Said {
     status: u8,
     out: Vec<u8>,
@@ -151,7 +174,8 @@ fn session_with(alloc: Global, passes: u64, lines: &[u8]) -> Result<Said, Fail> 
 
 #[test]
 fn a_disk_that_fails_ends_a_session(rt: HostRuntime) -> Result<(), Fail> {
-    let advice = b"the disk failed: see that the file can be read and written, and start again\n".as_slice();
+    let advice =
+        b"the disk failed: see that the file can be read and written, and start again\n".as_slice();
     // twelve calls to open and thirteen to commit
     for passes in [0, 1, 11, 12, 20, 24] {
         let said = session_with(rt.alloc(), passes, b"work 7\nworks\n")?;

@@ -16,7 +16,13 @@ fn stopped(alloc: Global, disk: MemDisk, deed: Deed, passes: u64) -> Result<(Mem
 
 /// Does a deed after others with a stop after 0 calls, after 1, and so on until it is done: where it was stopped, each picture
 /// says this or that, and where it was done, the latter. Whether all is so.
-fn each_stop_leaves(alloc: Global, earlier: &[Deed], deed: Deed, was: &[u8], is: &[u8]) -> Result<bool, Fail> {
+fn each_stop_leaves(
+    alloc: Global,
+    earlier: &[Deed],
+    deed: Deed,
+    was: &[u8],
+    is: &[u8],
+) -> Result<bool, Fail> {
     for passes in 0..MOST_CALLS {
         let before = disk_after(alloc, earlier)?;
         let (disk, status) = stopped(alloc, before, deed, passes)?;
@@ -37,7 +43,9 @@ fn a_stop_while_a_table_is_made_leaves_none_or_the_empty_one(rt: HostRuntime) ->
 }
 
 #[test]
-fn a_stop_while_a_game_is_loaded_leaves_the_empty_table_or_the_game(rt: HostRuntime) -> Result<(), Fail> {
+fn a_stop_while_a_game_is_loaded_leaves_the_empty_table_or_the_game(
+    rt: HostRuntime,
+) -> Result<(), Fail> {
     let earlier = [Deed::Create];
     assert!(rt; each_stop_leaves(rt.alloc(), &earlier, Deed::LoadTake, EMPTY, LOADED)?);
     Ok(())

@@ -8,8 +8,6 @@ mod read_cells;
 mod read_edges;
 mod record;
 mod sizes;
-#[cfg(test)]
-mod tests;
 mod write;
 mod write_cells;
 mod write_edges;

@@ -40,8 +40,8 @@ pub fn begun(alloc: Global, text: &str) -> Result<Solving, Fail> {
     Ok(Solving { source, table })
 }
 
-/// How many units of so many were done, by the bounds alone.
-fn works<M: MoveSource, T: Table>(
+/// How many units of so many were done.
+pub fn works<M: MoveSource, T: Table>(
     alloc: Global,
     source: &M,
     table: &mut T,
@@ -53,20 +53,6 @@ fn works<M: MoveSource, T: Table>(
         return Err(StepFault::TooManyPositions);
     }
     work(alloc, source, table, units)
-}
-
-impl Solving {
-    /// How many units of so many were done.
-    pub fn work(&mut self, alloc: Global, units: u32) -> Result<u32, StepFault> {
-        works(alloc, self.source.moves(), &mut self.table, units)
-    }
-}
-
-/// A game after so many units of work, or fewer where it is finished then.
-pub fn worked(alloc: Global, text: &str, units: u32) -> Result<Solving, Fail> {
-    let mut solving = begun(alloc, text)?;
-    solving.work(alloc, units)?;
-    Ok(solving)
 }
 
 /// The record of a number.

@@ -1,7 +1,7 @@
 //! Worked examples of values, lists and lines.
 use crate::expectation::expect;
 use crate::game_texts::{FORK, ROUND, TAKE};
-use crate::games::{Solving, worked};
+use crate::games::{Solving, begun, works};
 use best_line::Value::{self, Drawn, Open, Won};
 use best_line::{LineFault, Row, line, list, value};
 use legal_moves::MoveSource;
@@ -169,7 +169,7 @@ fn expect_rows<T: Table>(alloc: Global, table: &mut T, want: &[Rows]) -> Result<
     Ok(())
 }
 
-/// Expects what is answered of a table.
+/// Expects what is answered of a table after so many units of work.
 fn expect_all<M: MoveSource, T: Table>(
     alloc: Global,
     source: &M,
@@ -178,13 +178,14 @@ fn expect_all<M: MoveSource, T: Table>(
 ) -> Result<(), Fail>
     requires { M.is_sound source.now }
 {
+    works(alloc, source, table, want.units)?;
     expect_values(alloc, table, want.values)?;
     expect_lines(alloc, source, table, want.lines)?;
     expect_rows(alloc, table, want.rows)
 }
 
 fn expect_answers(alloc: Global, want: &Answers) -> Result<(), Fail> {
-    let Solving { source, mut table } = worked(alloc, want.text, want.units)?;
+    let Solving { source, mut table } = begun(alloc, want.text)?;
     expect_all(alloc, source.moves(), &mut table, want)
 }
 

@@ -1,7 +1,7 @@
 //! The game of takes on a store of pages.
 use crate::expectation::expect;
 use crate::game_texts::TAKE;
-use crate::games::{Solving, begun, record_of};
+use crate::games::{Solving, begun, record_of, works};
 use game_table::Source;
 use legal_moves::MoveSource;
 use page_store::{PageStore, Pages};
@@ -112,26 +112,9 @@ fn expect_units<S: Pages>(
         expect_same(table, &mut solving.table)?;
         let more = turned(alloc, solving.source.moves(), table, 1)?;
         expect(more, if done < 14 { 1 } else { 0 }, "the units")?;
-        solving.work(alloc, 1)?;
+        works(alloc, solving.source.moves(), &mut solving.table, 1)?;
     }
     Ok(())
-}
-
-/// The table of a game that was just loaded, on a disk in memory.
-fn paged_in_memory(
-    alloc: Global,
-    source: &Source,
-    taken: u32,
-) -> Result<CommittedTable<PageStore<MemDisk>>, Fail> {
-    let disk = table_disk(alloc)?;
-    paged(alloc, source, disk, taken)
-}
-
-#[test]
-fn takes_come_to_the_records_of_the_table_in_memory(rt: HostRuntime) -> Result<(), Fail> {
-    let mut solving = begun(rt.alloc(), TAKE)?;
-    let mut table = paged_in_memory(rt.alloc(), &solving.source, 0)?;
-    expect_units(rt.alloc(), &mut solving, &mut table)
 }
 
 /// Expects that all work on a table is refused for this cause, and a closed table says so from then on.
@@ -165,7 +148,7 @@ fn expect_end<S: Pages>(
     }
     expect_same(table, &mut solving.table)?;
     turned(alloc, solving.source.moves(), table, u32::MAX)?;
-    solving.work(alloc, u32::MAX)?;
+    works(alloc, solving.source.moves(), &mut solving.table, u32::MAX)?;
     expect_same(table, &mut solving.table)
 }
 
@@ -179,31 +162,6 @@ fn expect_fault<S: Pages>(
     expect_end(alloc, solving, table)
 }
 
-/// The table of a game that was just loaded, on a disk in memory of which this call fails.
-fn paged_flaky(
-    alloc: Global,
-    source: &Source,
-    call: u64,
-) -> Result<CommittedTable<PageStore<FlakyDisk<MemDisk>>>, Fail> {
-    let disk = FlakyDisk::new(table_disk(alloc)?, call, false);
-    paged(alloc, source, disk, 0)
-}
-
-/// Expects of takes on pages what is to be where this call of the disk fails.
-fn expect_fault_at(alloc: Global, call: u64) -> Result<(), Fail> {
-    let mut solving = begun(alloc, TAKE)?;
-    let mut table = paged_flaky(alloc, &solving.source, call)?;
-    expect_fault(alloc, &mut solving, &mut table)
-}
-
-#[test]
-fn after_a_fault_all_is_as_committed(rt: HostRuntime) -> Result<(), Fail> {
-    for calls in [0, 9, 30, 100, 200] {
-        expect_fault_at(rt.alloc(), OPENING + BEGINNING + calls)?;
-    }
-    Ok(())
-}
-
 /// Expects that a full store is told, and that nothing changes.
 fn expect_full<S: Pages>(
     alloc: Global,
@@ -215,9 +173,51 @@ fn expect_full<S: Pages>(
     expect_same(table, &mut solving.table)
 }
 
+/// What is expected of a table on pages.
+#[derive(Clone, Copy)]
+enum Case {
+    /// The records of the table in memory after each unit.
+    Units,
+    /// A fault of the disk, after which the table is closed or as committed.
+    Fault,
+    /// No free page, after which the table is as before.
+    Full,
+}
+
+/// Expects the case of takes on this disk, where so many pages are taken for nothing.
+fn expect_case<D: SectorDisk + Drop>(
+    alloc: Global,
+    disk: D,
+    taken: u32,
+    case: Case,
+) -> Result<(), Fail> {
+    let mut solving = begun(alloc, TAKE)?;
+    let mut table = paged(alloc, &solving.source, disk, taken)?;
+    match case {
+        Case::Units => expect_units(alloc, &mut solving, &mut table),
+        Case::Fault => expect_fault(alloc, &mut solving, &mut table),
+        Case::Full => expect_full(alloc, &mut solving, &mut table),
+    }
+}
+
+#[test]
+fn takes_come_to_the_records_of_the_table_in_memory(rt: HostRuntime) -> Result<(), Fail> {
+    let disk = table_disk(rt.alloc())?;
+    expect_case(rt.alloc(), disk, 0, Case::Units)
+}
+
+#[test]
+fn after_a_fault_all_is_as_committed(rt: HostRuntime) -> Result<(), Fail> {
+    for calls in [0, 9, 30, 100, 200] {
+        let disk = table_disk(rt.alloc())?;
+        let flaky = FlakyDisk::new(disk, OPENING + BEGINNING + calls, false);
+        expect_case(rt.alloc(), flaky, 0, Case::Fault)?;
+    }
+    Ok(())
+}
+
 #[test]
 fn a_full_store_is_told_and_nothing_changes(rt: HostRuntime) -> Result<(), Fail> {
-    let mut solving = begun(rt.alloc(), TAKE)?;
-    let mut table = paged_in_memory(rt.alloc(), &solving.source, 12)?;
-    expect_full(rt.alloc(), &mut solving, &mut table)
+    let disk = table_disk(rt.alloc())?;
+    expect_case(rt.alloc(), disk, 12, Case::Full)
 }

@@ -8,13 +8,17 @@ use rbg_game::roles::{Player, Role};
 use std::alloc::Global;
 use std::test::Fail;
 
-/// A position: its bytes, who has the turn, who is ahead, and where its moves lead.
+/// Who wins a position, and in how many moves: nobody in none.
+pub type Outcome = (Option<Player>, u32);
+
+/// A position: its bytes, who has the turn, who is ahead, where its moves lead, and what comes of it.
 #[derive(Drop)]
-struct Node {
-    packed: Packed,
+pub struct Node {
+    pub packed: Packed,
     mover: Role,
     ahead: Option<Player>,
     moves: Vec<usize>,
+    pub outcome: Outcome,
 }
 
 /// The place of a position among those found.
@@ -64,6 +68,7 @@ fn explore(alloc: Global, source: &Compiled) -> Result<Vec<Node>, Fail>
             mover,
             ahead,
             moves,
+            outcome: (None, 0),
         })?;
     }
     Err("more than 1,000 positions".into())
@@ -116,70 +121,35 @@ fn next_level(
     Ok(next)
 }
 
-/// The distances, where those that are new get this one.
-fn noted(
-    alloc: Global,
-    distances: &[Option<u32>],
-    level: &[bool],
-    distance: u32,
-) -> Result<Vec<Option<u32>>, Fail> {
-    let mut noted = Vec::new(alloc);
-    for place in 0..level.len() {
-        let known = distances.get(place).copied().unwrap_or(None);
-        let now = if is_won(level, place) {
-            Some(distance)
-        } else {
-            None
-        };
-        noted.push(known.or(now))?;
+/// Notes what the player wins at this level, where it is not noted yet. Not both players win a position.
+fn note(nodes: &mut [Node], level: &[bool], player: Player, distance: u32) -> Result<(), Fail> {
+    for (node, won) in nodes.iter_mut().zip(level) {
+        match node.outcome.0 {
+            None if *won => node.outcome = (Some(player), distance),
+            Some(other) if *won && other != player => return Err("both players win".into()),
+            _ => {}
+        }
     }
-    Ok(noted)
+    Ok(())
 }
 
-/// In how many moves the player wins each position, where he does.
-fn distances(alloc: Global, nodes: &[Node], player: Player) -> Result<Vec<Option<u32>>, Fail> {
+/// Notes in how many moves the player wins each position, where he does.
+fn note_all(alloc: Global, nodes: &mut [Node], player: Player) -> Result<(), Fail> {
     let mut level = next_level(alloc, nodes, player, None)?;
-    let mut distances = noted(alloc, &[], &level, 0)?;
+    note(nodes, &level, player, 0)?;
     for distance in 1..1_000 {
         level = next_level(alloc, nodes, player, Some(&level))?;
-        distances = noted(alloc, &distances, &level, distance)?;
+        note(nodes, &level, player, distance)?;
     }
-    Ok(distances)
-}
-
-/// Who wins a position, and in how many moves: nobody in none.
-pub type Outcome = (Option<Player>, u32);
-
-/// What follows of the moves in which each player wins, where not both do.
-fn outcome_of(white: Option<u32>, black: Option<u32>) -> Result<Outcome, Fail> {
-    match (white, black) {
-        (Some(distance), None) => Ok((Some(Player::First), distance)),
-        (None, Some(distance)) => Ok((Some(Player::Second), distance)),
-        (None, None) => Ok((None, 0)),
-        (Some(_), Some(_)) => Err("both players win".into()),
-    }
-}
-
-/// The outcome of each position, by the moves in which each player wins it.
-fn outcomes(
-    alloc: Global,
-    nodes: &[Node],
-    white: &[Option<u32>],
-    black: &[Option<u32>],
-) -> Result<Vec<(Packed, Outcome)>, Fail> {
-    let mut outcomes = Vec::new(alloc);
-    for ((node, white), black) in nodes.iter().zip(white).zip(black) {
-        outcomes.push((node.packed.clone()?, outcome_of(*white, *black)?))?;
-    }
-    Ok(outcomes)
+    Ok(())
 }
 
 /// All positions that play can come to, no more than 1,000, with the outcome of each.
-pub fn solve(alloc: Global, source: &Compiled) -> Result<Vec<(Packed, Outcome)>, Fail>
+pub fn solve(alloc: Global, source: &Compiled) -> Result<Vec<Node>, Fail>
     requires { IsCompiled source.now }
 {
-    let nodes = explore(alloc, source)?;
-    let white = distances(alloc, &nodes, Player::First)?;
-    let black = distances(alloc, &nodes, Player::Second)?;
-    outcomes(alloc, &nodes, &white, &black)
+    let mut nodes = explore(alloc, source)?;
+    note_all(alloc, &mut nodes, Player::First)?;
+    note_all(alloc, &mut nodes, Player::Second)?;
+    Ok(nodes)
 }

@@ -1,12 +1,16 @@
 //! Tables in memory, worked to their end, against the plain solver.
 use crate::expectation::expect;
 use crate::game_texts::{FORK, HEXAPAWN, NIM, SMALL, TAKE};
-use crate::games::{small, winner, worked};
-use crate::plain::{Outcome, solve};
+use crate::games::{Solving, begun, small, winner, works};
+use crate::plain::{Node, Outcome, solve};
 use position_pack::Packed;
 use std::alloc::Global;
 use std::test::Fail;
 use table::Table;
+
+fn number_of<T: Table>(table: &mut T, packed: &Packed) -> Result<Option<u32>, Fail> {
+    Ok(table.number_of(packed)?)
+}
 
 /// What a table has of a position, if it is there.
 fn kept<T: Table>(table: &mut T, packed: &Packed) -> Result<Option<Outcome>, Fail> {
@@ -16,25 +20,22 @@ fn kept<T: Table>(table: &mut T, packed: &Packed) -> Result<Option<Outcome>, Fai
     }
 }
 
-fn number_of<T: Table>(table: &mut T, packed: &Packed) -> Result<Option<u32>, Fail> {
-    Ok(table.number_of(packed)?)
-}
-
 /// Whether a table has these positions with these outcomes, and no others.
-fn has_all<T: Table>(table: &mut T, outcomes: &[(Packed, Outcome)]) -> Result<bool, Fail> {
-    for (packed, outcome) in outcomes {
-        if kept(table, packed)? != Some(*outcome) {
+fn has_all<T: Table>(table: &mut T, nodes: &[Node]) -> Result<bool, Fail> {
+    for node in nodes {
+        if kept(table, &node.packed)? != Some(node.outcome) {
             return Ok(false);
         }
     }
-    Ok(table.counts().known as usize == outcomes.len())
+    Ok(table.counts().known as usize == nodes.len())
 }
 
 /// Whether the finished table of a game has the positions and the values that the plain solver finds.
 fn agrees(alloc: Global, text: &str) -> Result<bool, Fail> {
-    let mut solving = worked(alloc, text, u32::MAX)?;
-    let outcomes = solve(alloc, solving.source.moves())?;
-    has_all(&mut solving.table, &outcomes)
+    let Solving { source, mut table } = begun(alloc, text)?;
+    works(alloc, source.moves(), &mut table, u32::MAX)?;
+    let nodes = solve(alloc, source.moves())?;
+    has_all(&mut table, &nodes)
 }
 
 /// Expects of each of these small games that its table agrees with the plain solver.

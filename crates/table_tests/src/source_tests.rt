@@ -66,74 +66,20 @@ fn positions_of_another_game_are_told(rt: HostRuntime) -> Result<(), Fail> {
     expect_starts(rt.alloc(), &source)
 }
 
-/// A game with a bound of a million.
-const MILLION: &str =
-    "#players = white(1), black(1) #pieces = e #variables = n(1000000) #board = v[e]{} #rules = ->white";
-
-/// The bytes of the position with this text.
-fn position(source: &Source, text: &str) -> Option<Packed> {
-    source.position(text.as_bytes())
-}
-
-/// Expects of the text of a position these bytes.
-fn expect_bytes(source: &Source, text: &str, want: &[u8]) -> Result<(), Fail> {
-    let bytes = position(source, text).ok_or("no position")?;
-    expect(bytes.as_slice(), want, text)
+/// Expects of the text of a position these bytes, and of another text none.
+fn expect_bytes(source: &Source) -> Result<(), Fail> {
+    let bytes = source.position(b">> 2 v e 0,0,3").ok_or("no position")?;
+    let want = [0, 0, 0, 0, 0, 0, 0, 0, 0, 3, 0, 0, 0, 2];
+    expect(bytes.as_slice(), want.as_slice(), "a position")?;
+    expect(
+        source.position(b">> 2 v e 0,0,4").is_none(),
+        true,
+        "no position",
+    )
 }
 
 #[test]
 fn a_position_has_its_bytes(rt: HostRuntime) -> Result<(), Fail> {
     let source = source_of(rt.alloc(), TAKE)?;
-    let want = [0, 0, 0, 0, 0, 0, 0, 0, 0, 3, 0, 0, 0, 2];
-    expect_bytes(&source, ">> 2 v e 0,0,3", &want)
-}
-
-/// Texts, and whether they are those of a position of takes.
-const TEXTS: [(&str, bool); 16] = [
-    (">> 2 v e 0,0,3", true),
-    ("", false),
-    (">>", false),
-    (">> 2 v e", false),
-    (">> 2 v e 0", false),
-    (">> 2 v e 0,0", false),
-    (">> 2 v e 0,0,", false),
-    (">> 2 v e 0,0,4", false),
-    (">> 2 v e 0,0,03", false),
-    (">> 2 v e 0,0,00", false),
-    (">> 2 v e 0,0,+3", false),
-    (">> 2 v e 0,0,-0", false),
-    (">> 2 v e 0,0,3 ", false),
-    (">> 2 v e 0,0,\u{ff}", false),
-    (">> 2 v e 0 0,3", false),
-    (">> 12 v e 0,0,3", false),
-];
-
-/// Expects of each of these texts that it is or is not that of a position of the game.
-fn expect_texts(source: &Source, rows: &[(&str, bool)]) -> Result<(), Fail> {
-    for (text, want) in rows {
-        expect(position(source, text).is_some(), *want, text)?;
-    }
-    Ok(())
-}
-
-#[test]
-fn a_position_has_one_text(rt: HostRuntime) -> Result<(), Fail> {
-    let source = source_of(rt.alloc(), TAKE)?;
-    expect_texts(&source, &TEXTS)
-}
-
-/// Texts, and whether they are those of a position of the game with a bound of a million.
-const BOUNDS: [(&str, bool); 6] = [
-    (">> 0 v e 0,0,0", true),
-    (">> 0 v e 0,0,1000000", true),
-    (">> 0 v e 0,0,1000001", false),
-    (">> 0 v e 0,0,4294967296", false),
-    (">> 0 v e 0,0,99999999999", false),
-    (">> 0 v e 0,0,99999999999999999999999", false),
-];
-
-#[test]
-fn a_value_is_at_most_its_bound(rt: HostRuntime) -> Result<(), Fail> {
-    let source = source_of(rt.alloc(), MILLION)?;
-    expect_texts(&source, &BOUNDS)
+    expect_bytes(&source)
 }

@@ -1,7 +1,7 @@
 //! Worked examples of the two units of work, on tables in memory.
 use crate::expectation::expect;
 use crate::game_texts::{FORK, HEXAPAWN, TAKE, TIC_TAC_TOE};
-use crate::games::{Solving, begun, small, winner};
+use crate::games::{Solving, begun, small, winner, works};
 use frontier::expand_one;
 use legal_moves::MoveSource;
 use rbg_game::roles::Player;
@@ -261,11 +261,18 @@ fn far(counts: Counts) -> Far {
 }
 
 /// Expects the answers to these requests, one after another.
-fn expect_requests(alloc: Global, solving: &mut Solving, requests: &[Request]) -> Result<(), Fail> {
+fn expect_requests<M: MoveSource, T: Table>(
+    alloc: Global,
+    source: &M,
+    table: &mut T,
+    requests: &[Request],
+) -> Result<(), Fail>
+    requires { M.is_sound source.now }
+{
     for (units, done, counts) in requests {
-        let found = solving.work(alloc, *units);
+        let found = works(alloc, source, table, *units);
         expect(
-            (found, far(solving.table.counts())),
+            (found, far(table.counts())),
             (*done, *counts),
             "units of work",
         )?;
@@ -274,15 +281,29 @@ fn expect_requests(alloc: Global, solving: &mut Solving, requests: &[Request]) -
 }
 
 /// Expects the answers to these requests, and who wins the start then.
+fn expect_start<M: MoveSource, T: Table>(
+    alloc: Global,
+    source: &M,
+    table: &mut T,
+    requests: &[Request],
+    wins: Option<Player>,
+) -> Result<(), Fail>
+    requires { M.is_sound source.now }
+{
+    expect_requests(alloc, source, table, requests)?;
+    let (found, _) = winner(table, 0)?;
+    expect(found, wins, "the start")
+}
+
+/// Expects of a game what is answered to these requests, and who wins its start then.
 fn expect_units(
     alloc: Global,
     text: &str,
     requests: &[Request],
     wins: Option<Player>,
 ) -> Result<(), Fail> {
-    let mut solving = begun(alloc, text)?;
-    expect_requests(alloc, &mut solving, requests)?;
-    expect(winner(&mut solving.table, 0)?.0, wins, "the start")
+    let Solving { source, mut table } = begun(alloc, text)?;
+    expect_start(alloc, source.moves(), &mut table, requests, wins)
 }
 
 /// Small games by their variables and rules, none of which is won, with a request.
