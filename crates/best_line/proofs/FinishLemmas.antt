@@ -1,5 +1,5 @@
 -- A finished table by its counts.
-use Rattle.std.proofs.Common.{◌≡◌, ◌∙◌, sym, ap, ℕ, None, ◌≤◌, ◌<◌, ⊎_elim, cond, length, arith}
+use Rattle.std.proofs.Common.{◌≡◌, sym, subst, ℕ, None, ◌≤◌, ◌<◌, ⊎_elim, cond, length, arith}
 use Rattle.std.proofs.lemmas.Bool.{cases_lt}
 use Rattle.std.proofs.lemmas.Option.{slice_get_within}
 use Rattle.std.proofs.lemmas.List.Sums.{sum_by-le-sum_by}
@@ -13,7 +13,7 @@ use Rattle.retrograde.specs.Stored.{Stored, IsTable, view_of, is_processed, is_s
 use Rattle.retrograde.proofs.Finished.{element}
 use Rattle.best_line.specs.declared.answers.Value.{Value}
 use Rattle.best_line.specs.declared.answers.Value.TheVariants.{Won, Drawn, Open}
-use Rattle.best_line.specs.Values.{IsValue, IsUnsettled}
+use Rattle.best_line.specs.Values.{IsValue, IsComplete, IsUnsettled}
 
 -- a processed position is settled
 processed_counts_less : (s : State) → cond (is_processed s) 1 0 ≤ cond (is_settled s) 1 0
@@ -36,26 +36,23 @@ all_of_order stored table finished =
     (λ enough. omega arith)
     (cases_lt (processed_count stored) (length stored.order))
 
+-- by its counts a table is finished exactly if nothing is left to do
+pub complete_finished : {P : Type 0} (stored : Stored P) → IsTable stored → IsComplete (counts_of stored) → IsFinished (view_of stored)
+complete_finished stored table (expanded, processed) = record {
+  all_expanded = expanded;
+  all_processed = λ j settled.
+      let (k, at) = table.listed j settled in
+      let within : k < length stored.order = slice_get_within stored.order k j at in
+      (table.processed k j at).1 (omega (arith, within, processed));
+}
+
+pub finished_complete : {P : Type 0} (stored : Stored P) → IsTable stored → IsFinished (view_of stored) → IsComplete (counts_of stored)
+finished_complete stored table finished = (finished.all_expanded, all_of_order stored table finished)
+
 -- the value of a position that is not settled, by the counts of the table
 pub unsettled_value : {P : Type 0} (stored : Stored P) (counts : Counts) → counts ≡ counts_of stored → IsTable stored → (i : ℕ) → (view_of stored).value i ≡ None
     → (v : Value) → IsUnsettled counts v → IsValue (view_of stored) i v
 unsettled_value stored counts is table i none (Won w n) it = absurd it
-unsettled_value stored counts is table i none Drawn (expanded, processed) =
-    let some : processed_count stored ≡ length stored.order =
-    sym (ap (λ (k : Counts). k.processed) is) ∙ (processed ∙ ap (λ (k : Counts). k.settled) is) in (
-      none,
-      record {
-        all_expanded = sym (ap (λ (k : Counts). k.expanded) is) ∙ (expanded ∙ ap (λ (k : Counts). k.known) is);
-        all_processed = λ j settled.
-            let (k, at) = table.listed j settled in
-            let within : k < length stored.order = slice_get_within stored.order k j at in
-            (table.processed k j at).1 (omega (arith, within, some));
-      },
-    )
-unsettled_value stored counts is table i none Open isnt = (
-  none,
-  λ finished. isnt (
-    ap (λ (k : Counts). k.expanded) is ∙ (finished.all_expanded ∙ sym (ap (λ (k : Counts). k.known) is)),
-    ap (λ (k : Counts). k.processed) is ∙ (all_of_order stored table finished ∙ sym (ap (λ (k : Counts). k.settled) is)),
-  ),
-)
+unsettled_value stored counts is table i none Drawn it = (none, complete_finished stored table (subst (λ (c : Counts). IsComplete c) is it))
+unsettled_value stored counts is table i none Open isnt =
+    (none, λ finished. isnt (subst (λ (c : Counts). IsComplete c) (sym is) (finished_complete stored table finished)))

@@ -1,4 +1,4 @@
 mod ListLemmas
-mod FinishLemmas
+pub mod FinishLemmas
 mod StepLemmas
 mod LineLemmas

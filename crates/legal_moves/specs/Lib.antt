@@ -14,7 +14,5 @@ pub mod Plain
 pub mod Laws
 pub mod Glushkov
 pub mod Take
-pub mod Look
-pub mod Counting
 pub mod Sources
 pub mod Machine

@@ -18,8 +18,6 @@ mod search;
 pub mod source;
 mod successor;
 mod table;
-#[cfg(test)]
-mod tests;
 
 pub use compiled::Compiled;
 pub use fault::MoveFault;

@@ -72,32 +72,3 @@ pub fn read_value(game: &Game, variable: usize, bytes: &[u8]) -> Option<u32>
 {
     read_number(bytes, game.variables[variable].bound)
 }
-
-#[cfg(test)]
-mod tests {
-    use super::*;
-
-    #[test]
-    fn a_number_has_one_spelling(rt: HostRuntime) {
-        assert_eq!(rt; read_number(b"0", 1_000_000), Some(0));
-        assert_eq!(rt; read_number(b"3", 3), Some(3));
-        assert_eq!(rt; read_number(b"1000000", 1_000_000), Some(1_000_000));
-        assert_eq!(rt; read_number(b"4294967295", u32::MAX), Some(u32::MAX));
-        assert_eq!(rt; read_number(b"", 3), None);
-        assert_eq!(rt; read_number(b"03", 3), None);
-        assert_eq!(rt; read_number(b"00", 3), None);
-        assert_eq!(rt; read_number(b"+3", 3), None);
-        assert_eq!(rt; read_number(b"-0", 3), None);
-        assert_eq!(rt; read_number(b"3 ", 3), None);
-        assert_eq!(rt; read_number(b"\xff", 3), None);
-    }
-
-    #[test]
-    fn a_number_over_its_bound_is_none(rt: HostRuntime) {
-        assert_eq!(rt; read_number(b"4", 3), None);
-        assert_eq!(rt; read_number(b"1000001", 1_000_000), None);
-        assert_eq!(rt; read_number(b"4294967296", u32::MAX), None);
-        assert_eq!(rt; read_number(b"99999999999", u32::MAX), None);
-        assert_eq!(rt; read_number(b"99999999999999999999999", u32::MAX), None);
-    }
-}

@@ -42,32 +42,3 @@ pub fn words_of(text: &[u8]) -> Option<Words<'_>>
         values,
     })
 }
-
-#[cfg(test)]
-mod tests {
-    use super::*;
-
-    #[test]
-    fn a_text_is_cut_at_the_first_such_byte(rt: HostRuntime) {
-        let Some((front, back)) = cut(b"0,12,3", b',') else {
-            panic!(rt; "the text has a comma");
-        };
-        assert_eq!(rt; front, b"0".as_slice());
-        assert_eq!(rt; back, b"12,3".as_slice());
-        assert!(rt; cut(b"0 12", b',').is_none());
-        assert!(rt; cut(b"", b',').is_none());
-    }
-
-    #[test]
-    fn a_text_of_a_position_has_five_words(rt: HostRuntime) {
-        let Some(words) = words_of(b">> 2 v e 0,0,3") else {
-            panic!(rt; "the text has four spaces");
-        };
-        assert_eq!(rt; words.role, b">>".as_slice());
-        assert_eq!(rt; words.place, b"2".as_slice());
-        assert_eq!(rt; words.vertex, b"v".as_slice());
-        assert_eq!(rt; words.pieces, b"e".as_slice());
-        assert_eq!(rt; words.values, b"0,0,3".as_slice());
-        assert!(rt; words_of(b">> 2 v e").is_none());
-    }
-}

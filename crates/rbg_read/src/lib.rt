@@ -4,8 +4,6 @@
 
 mod build;
 mod checks;
-#[cfg(test)]
-mod code_tests;
 pub mod fault;
 pub mod laws;
 mod limits;

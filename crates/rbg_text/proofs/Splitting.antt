@@ -4,7 +4,7 @@ use Rattle.std.proofs.lemmas.Bool.{cases_Bool, or_cases, eqb-true, and_parts}
 use Rattle.std.proofs.lemmas.List.{length-append, append-nil}
 use Rattle.std.proofs.lemmas.Option.{option_and_then_some}
 use Rattle.std.specs.List.{list_all}
-use Rattle.rbg_text.specs.Token.{Text, Token, token_text, IsToken, is_word_byte, is_blank, sign_text, Takes, Line, Gap, Splits}
+use Rattle.rbg_text.specs.Token.{Text, Token, token_text, IsToken, is_word_byte, is_blank, sign_text, Takes, Line, Gap, IsStray, Splits}
 use Rattle.rbg_text.specs.Lex.{skip_from, skip, take_token, cons_tokens, lex_here, lex_from, lex}
 use Rattle.rbg_text.specs.View.{with_front}
 use Rattle.rbg_text.specs.declared.token.Sign.{Sign}
@@ -187,6 +187,16 @@ step_shorter self text rest t here e = omega (arith, takes_len text t rest (take
 
 pub step_stray : (self text : Text) → text ≡ skip self → (text ≡ [] → ⊥) → None ≡ take_token text → lex self ≡ None
 step_stray self text here some e = lex_stray self (rw (← here) some) (rw (← here) (sym e))
+
+-- what a lexer takes, and where it ends or stays
+pub step_takes : (self text rest : Text) (t : Token) → text ≡ skip self → Some (t, rest) ≡ take_token text → (here : Text) × Gap self here × Takes here t rest
+step_takes self text rest t here e = (text, rw here (gap_at self), takes text t rest (sym e))
+
+pub step_gap : (self text : Text) → text ≡ skip self → Gap self text
+step_gap self text here = rw here (gap_at self)
+
+pub stray_here : (text : Text) → (text ≡ [] → ⊥) → None ≡ take_token text → IsStray text
+stray_here text some e = record { some = some; none = λ t rest k. let found = taken text t rest k in cc }
 
 pub whole_split : (text : Text) (front : List Token) (more : Option (List Token)) → lex text ≡ with_front front more → more ≡ Some [] → Splits text front
 whole_split text front more e none = splits-lex text front (e ∙ rw (none, append-nil) refl)

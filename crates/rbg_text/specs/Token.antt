@@ -79,6 +79,11 @@ pub record Takes (text : Text) (t : Token) (rest : Text) : Type 0 where
   pub written : text ≡ token_text t ++ rest
   pub longest : (u : Token) (more : Text) → IsToken u → text ≡ token_text u ++ more → length (token_text u) ≤ length (token_text t)
 
+-- there is more, and no token begins it
+pub record IsStray (text : Text) : Type 0 where
+  pub some : text ≢ []
+  pub none : (t : Token) (rest : Text) → ¬ Takes text t rest
+
 -- the tokens of a text, with blanks and comments between any two
 pub data Splits : Text → List Token → Type 0 where
   end : {text : Text} → Gap text [] → Splits text []

@@ -1,6 +1,6 @@
 //! Splits a text into tokens.
 
-ghost use Rattle.std.specs.Prelude.{◌≡◌, ◌<◌, ◌≤◌, [], length, drop, map, Some, None, Ok, Err, IfOk, IfErr, IfSome, List, option_map};
+ghost use Rattle.std.specs.Prelude.{◌≡◌, ◌<◌, ◌≤◌, ℕ, [], length, drop, map, Some, None, Ok, Err, IfOk, IfErr, IfSome, List, option_map};
 ghost use Rattle.std.specs.Prelude.{slice_index};
 ghost use Rattle.std.specs.Char.{is_ascii_digit};
 ghost use Rattle.std.specs.List.{list_all};
@@ -200,8 +200,12 @@ impl<'a> Lexer<'a> {
         Lexer { rest: text }
     }
 
-    /// The next token, or `None` at the end.
+    /// The next token, or `None` at the end. At a byte that begins none it stays there, and `Syntax` is answered.
     pub fn next_token(&mut self) -> Result<Option<Token<'a>>, ReadError>
+        ensures token { IfOk result (λ found. IfSome found (λ t. (here : List ℕ) × grammar.Gap self.old here
+            × grammar.Takes here (token_view t) self.new)) }
+        ensures end { result ≡ Ok None → grammar.Gap self.old self.new × (self.new ≡ []) }
+        ensures stuck { IfErr result (λ _. grammar.Gap self.old self.new × grammar.IsStray self.new) }
         ensures some { IfOk result (λ found. IfSome found (λ t. spec.lex self.old ≡ spec.cons_tokens (token_view t) (spec.lex self.new))) }
         ensures shorter { IfOk result (λ found. IfSome found (λ _. length self.new < length self.old)) }
         ensures none { result ≡ Ok None → spec.lex self.old ≡ Some [] }

@@ -4,12 +4,13 @@ ghost use Rattle.sector_disk.specs.Disk.{Picture, Disk, MayLeave};
 ghost use Rattle.rbg_game.specs.Games.{Game};
 ghost use Rattle.rbg_game.specs.declared.roles.Player.{Player};
 ghost use Rattle.rbg_read.specs.Reading.{Reads};
+ghost use Rattle.retrograde.specs.Changes.{counts_of};
 ghost use Rattle.retrograde.specs.Graph.{IsReachable};
 ghost use Rattle.retrograde.specs.Stored.{view_of};
 ghost use Rattle.retrograde.specs.Values.{WonIn, Drawn};
 ghost use Rattle.retrograde.specs.View.{IsKnown, HasNumber, HasValue, IsFinished};
 ghost use Rattle.best_line.specs.declared.answers.Value.{Value};
-ghost use Rattle.best_line.specs.Values.{IsValue};
+ghost use Rattle.best_line.specs.Values.{IsComplete, IsValue};
 ghost use Rattle.best_line.specs.Laws.{IsSo};
 ghost use Rattle.game_file.specs.Kept.{Kept};
 ghost use Rattle.game_file.specs.State.{State};
@@ -48,6 +49,12 @@ pub fn what_is_settled_is_won()
 pub fn finished_is_all()
     ensures { (kept : Kept) (game : Game) → IsSound (Some kept) → Reads kept.text game → IsFinished (view_of kept.table)
         → (x : List ℕ) → IsKnown (view_of kept.table) x ↔ IsReachable (graph_in game kept) x }
+{}
+
+/// A locally sound table is finished exactly if nothing is left to do by its counts: so what `status` and `work` answer tells it, and so
+/// does the word `finished` that a session prints.
+pub fn counts_tell_what_is_finished()
+    ensures { (kept : Kept) → IsSound (Some kept) → IsComplete (counts_of kept.table) ↔ IsFinished (view_of kept.table) }
 {}
 
 /// In a finished, locally sound table exactly the drawn positions are unsettled.

@@ -4,12 +4,13 @@ use Rattle.std.specs.Prelude.{OnOk, IfOk, codes}
 use Rattle.std.specs.Fmt.{decimal}
 use Rattle.std.specs.Io.KnownBytes.{Appends}
 use Rattle.retrograde.specs.declared.records.Counts.{Counts}
+use Rattle.best_line.specs.Values.{IsComplete}
 use Rattle.game_file.specs.Kept.{Kept}
 use Rattle.game_file.specs.State.{State}
 use Rattle.recover.specs.Held.{IsSound}
 use Rattle.recover.specs.Queries.{OfKept, Tells}
 use Rattle.session.specs.Answered.{IsPlayLine}
-use Rattle.session.specs.Told.{IsDone, IsCountsLine, IsWorkLine}
+use Rattle.session.specs.Told.{IsCountsLine, IsWorkLine}
 use Rattle.session.proofs.Appending.{appends_then}
 
 -- the line of counts, written in two parts
@@ -19,7 +20,7 @@ told counts old mid new (Ok x) front back first then is = (front ++ back, is, ap
 told counts old mid new (Err e) front back first then is = tt
 
 pub not_done : (counts : Counts) → ((counts.expanded ≡ counts.known) × (counts.processed ≡ counts.settled → ⊥)) ⊎ (counts.expanded ≡ counts.known → ⊥)
-    → ¬ IsDone counts
+    → ¬ IsComplete counts
 not_done counts (inl it) done = it.1 done.1
 not_done counts (inr it) done = it done.0
 

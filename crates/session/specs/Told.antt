@@ -2,15 +2,12 @@
 use Rattle.std.specs.Prelude.{◌≡◌, ℕ, List, [], ◌∷◌, ◌++◌, codes, Option, Some, None}
 use Rattle.std.specs.Fmt.{decimal}
 use Rattle.retrograde.specs.declared.records.Counts.{Counts}
+use Rattle.best_line.specs.Values.{IsComplete}
 use Rattle.recover.specs.declared.replies.Reply.{Reply}
 use Rattle.recover.specs.declared.replies.Reply.TheVariants.{Loaded, Worked, Refused}
 use Rattle.recover.specs.declared.fault.SolverFault.{SolverFault}
 use Rattle.recover.specs.declared.fault.SolverFault.TheVariants.{KeeperChooses}
 use Rattle.recover.specs.Faults.{code_of}
-
--- nothing is left to do: all known positions are expanded, and all settled ones processed
-abbrev pub IsDone : Counts → Type 0
-IsDone counts = (counts.expanded ≡ counts.known) × (counts.processed ≡ counts.settled)
 
 -- how many positions are known, expanded, settled and processed
 abbrev pub counts_text : Counts → List ℕ
@@ -20,8 +17,8 @@ counts_text counts =
 
 -- the counts in a line, with `finished` at its end if nothing is left to do, and else `open`
 pub data IsCountsLine (counts : Counts) : List ℕ → Type 0 where
-  finished : IsDone counts → IsCountsLine counts (counts_text counts ++ (codes " finished" ++ 10 ∷ []))
-  unfinished : ¬ IsDone counts → IsCountsLine counts (counts_text counts ++ (codes " open" ++ 10 ∷ []))
+  finished : IsComplete counts → IsCountsLine counts (counts_text counts ++ (codes " finished" ++ 10 ∷ []))
+  unfinished : ¬ IsComplete counts → IsCountsLine counts (counts_text counts ++ (codes " open" ++ 10 ∷ []))
 
 -- what `status` answers: the counts, or that no game is loaded
 abbrev pub IsStatusLine : Option Counts → List ℕ → Type 0

@@ -184,6 +184,20 @@ enum Case {
     Full,
 }
 
+/// Expects the case of a table that was just begun.
+fn expect_of<S: Pages>(
+    alloc: Global,
+    solving: &mut Solving,
+    table: &mut CommittedTable<S>,
+    case: Case,
+) -> Result<(), Fail> {
+    match case {
+        Case::Units => expect_units(alloc, solving, table),
+        Case::Fault => expect_fault(alloc, solving, table),
+        Case::Full => expect_full(alloc, solving, table),
+    }
+}
+
 /// Expects the case of takes on this disk, where so many pages are taken for nothing.
 fn expect_case<D: SectorDisk + Drop>(
     alloc: Global,
@@ -193,11 +207,7 @@ fn expect_case<D: SectorDisk + Drop>(
 ) -> Result<(), Fail> {
     let mut solving = begun(alloc, TAKE)?;
     let mut table = paged(alloc, &solving.source, disk, taken)?;
-    match case {
-        Case::Units => expect_units(alloc, &mut solving, &mut table),
-        Case::Fault => expect_fault(alloc, &mut solving, &mut table),
-        Case::Full => expect_full(alloc, &mut solving, &mut table),
-    }
+    expect_of(alloc, &mut solving, &mut table, case)
 }
 
 #[test]

@@ -123,11 +123,15 @@ fn next_level(
 
 /// Notes what the player wins at this level, where it is not noted yet. Not both players win a position.
 fn note(nodes: &mut [Node], level: &[bool], player: Player, distance: u32) -> Result<(), Fail> {
-    for (node, won) in nodes.iter_mut().zip(level) {
-        match node.outcome.0 {
-            None if *won => node.outcome = (Some(player), distance),
-            Some(other) if *won && other != player => return Err("both players win".into()),
-            _ => {}
+    for (place, node) in nodes.iter_mut().enumerate() {
+        if !is_won(level, place) {
+            continue;
+        }
+        let (winner, _) = node.outcome;
+        if winner.is_none() {
+            node.outcome = (Some(player), distance);
+        } else if winner != Some(player) {
+            return Err("both players win".into());
         }
     }
     Ok(())

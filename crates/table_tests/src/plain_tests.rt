@@ -3,6 +3,7 @@ use crate::expectation::expect;
 use crate::game_texts::{FORK, HEXAPAWN, NIM, SMALL, TAKE};
 use crate::games::{Solving, begun, small, winner, works};
 use crate::plain::{Node, Outcome, solve};
+use game_table::Source;
 use position_pack::Packed;
 use std::alloc::Global;
 use std::test::Fail;
@@ -30,12 +31,16 @@ fn has_all<T: Table>(table: &mut T, nodes: &[Node]) -> Result<bool, Fail> {
     Ok(table.counts().known as usize == nodes.len())
 }
 
+/// What the plain solver finds of a game.
+fn plain(alloc: Global, source: &Source) -> Result<Vec<Node>, Fail> {
+    solve(alloc, source.moves())
+}
+
 /// Whether the finished table of a game has the positions and the values that the plain solver finds.
 fn agrees(alloc: Global, text: &str) -> Result<bool, Fail> {
     let Solving { source, mut table } = begun(alloc, text)?;
     works(alloc, source.moves(), &mut table, u32::MAX)?;
-    let nodes = solve(alloc, source.moves())?;
-    has_all(&mut table, &nodes)
+    has_all(&mut table, &plain(alloc, &source)?)
 }
 
 /// Expects of each of these small games that its table agrees with the plain solver.
