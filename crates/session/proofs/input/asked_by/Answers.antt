@@ -1,4 +1,4 @@
-use Rattle.std.proofs.Common.{rules, refl, arith}
+use Rattle.std.proofs.Common.{rules}
 use Rattle.session.specs.Asked.{find}
 use Rattle.session.proofs.AskLemmas.{no_words, in_words, finds, ends_with_nothing, nothing, begins_with_space}
 use Rattle.session.proofs.input.asked_by.Goals as goal
