@@ -31,11 +31,11 @@ StartsWith line [] rest = rest ≡ line
 StartsWith line (word ∷ words) rest = (behind : List ℕ) × BeginsWith line word behind × StartsWith behind words rest
 
 -- these are the words of the line
-abbrev pub AreWords : List ℕ → List (List ℕ) → Type 0
-AreWords line words = (rest : List ℕ) × StartsWith line words rest × IsBlank rest
+abbrev pub HasWords : List ℕ → List (List ℕ) → Type 0
+HasWords line words = (rest : List ℕ) × StartsWith line words rest × IsBlank rest
 
 -- one to ten digits that write a number below 2^32
-pub record IsNumber (word : List ℕ) (number : ℕ) : Type 0 where
+pub record WritesNumber (word : List ℕ) (number : ℕ) : Type 0 where
   pub few : length word ≤ 10
   pub digits : IsNumeral 10 word
   pub number_is : number ≡ digits_value 10 word
@@ -43,7 +43,7 @@ pub record IsNumber (word : List ℕ) (number : ℕ) : Type 0 where
 
 -- a number of units, which is 1 to 256
 abbrev pub AreUnits : List ℕ → Units → Type 0
-AreUnits word units = IsNumber word (units_in units)
+AreUnits word units = WritesNumber word (units_in units)
 
 -- the words are a command, with its numbers
 abbrev pub IsCommand : List (List ℕ) → Asked → Type 0
@@ -52,11 +52,11 @@ IsCommand words Status = words ≡ codes "status" ∷ []
 IsCommand words Help = words ≡ codes "help" ∷ []
 IsCommand words Quit = words ≡ codes "quit" ∷ []
 IsCommand words (Work units) = (word : List ℕ) × (words ≡ codes "work" ∷ word ∷ []) × AreUnits word units
-IsCommand words (Question (Value number)) = (word : List ℕ) × (words ≡ codes "value" ∷ word ∷ []) × IsNumber word number
-IsCommand words (Question (Line number)) = (word : List ℕ) × (words ≡ codes "line" ∷ word ∷ []) × IsNumber word number
-IsCommand words (Question (Show number)) = (word : List ℕ) × (words ≡ codes "show" ∷ word ∷ []) × IsNumber word number
+IsCommand words (Question (Value number)) = (word : List ℕ) × (words ≡ codes "value" ∷ word ∷ []) × WritesNumber word number
+IsCommand words (Question (Line number)) = (word : List ℕ) × (words ≡ codes "line" ∷ word ∷ []) × WritesNumber word number
+IsCommand words (Question (Show number)) = (word : List ℕ) × (words ≡ codes "show" ∷ word ∷ []) × WritesNumber word number
 IsCommand words (Question (ListFrom from count)) =
-    (word : List ℕ) × (other : List ℕ) × (words ≡ codes "list" ∷ word ∷ other ∷ []) × IsNumber word from × AreUnits other count
+    (word : List ℕ) × (other : List ℕ) × (words ≡ codes "list" ∷ word ∷ other ∷ []) × WritesNumber word from × AreUnits other count
 IsCommand words _ = ⊥
 
 -- the words are this command, or `usage` is answered, as they are none
@@ -79,7 +79,7 @@ FindsIn line _ = ⊥
 pub data AsksInWords (line : List ℕ) : Asked → Type 0 where
   find : (asked : Asked) → FindsIn line asked → AsksInWords line asked
   many : (words : List (List ℕ)) (rest : List ℕ) → StartsWith line words rest → length words ≡ 4 → IsNotFind words → AsksInWords line Usage
-  few : (words : List (List ℕ)) (asked : Asked) → AreWords line words → length words ≤ 3 → IsNotFind words → SayWords words asked
+  few : (words : List (List ℕ)) (asked : Asked) → HasWords line words → length words ≤ 3 → IsNotFind words → SayWords words asked
       → AsksInWords line asked
 
 -- what a line asks for, without what ends it

@@ -1,11 +1,11 @@
 //! Numbers in the lines of a session.
 
 ghost use Rattle.std.specs.Prelude.{ℕ, MatchOption};
-ghost use Rattle.session.specs.Asked.{IsNumber};
+ghost use Rattle.session.specs.Asked.{WritesNumber};
 
 /// The number that one to ten digits write, at most 4,294,967,295.
 pub fn number(word: &[u8]) -> Option<u32>
-    ensures { MatchOption result ((n : ℕ) → ¬ IsNumber word.now n) (IsNumber word.now) }
+    ensures { MatchOption result ((n : ℕ) → ¬ WritesNumber word.now n) (WritesNumber word.now) }
 {
     if word.len() > 10 || word.starts_with(b"+") {
         return None;

@@ -2,7 +2,7 @@
 use Rattle.std.specs.Prelude.{◌≡◌, ◌≢◌, ◌≤◌, ◌⊎◌, List, [], ◌∷◌, ◌++◌, ℕ, All, length}
 use Rattle.session.specs.declared.input.Asked.{Asked}
 use Rattle.session.specs.declared.input.Asked.TheVariants.{Usage}
-use Rattle.session.specs.Asked.{IsBlank, EndsWord, BeginsWith, StartsWith, AreWords, SayWords}
+use Rattle.session.specs.Asked.{IsBlank, EndsWord, BeginsWith, StartsWith, HasWords, SayWords}
 
 -- the line begins with a word, and this is left; or it has none, and nothing is left
 abbrev pub IsFirstWord : List ℕ → List ℕ → List ℕ → Type 0
@@ -24,5 +24,5 @@ pub record IsSplit (line word rest : List ℕ) : Type 0 where
 -- what the words ask for of which this is the first, with this behind it
 pub data SaysBehind (first rest : List ℕ) : Asked → Type 0 where
   many : (words : List (List ℕ)) (left : List ℕ) → StartsWith rest words left → length words ≡ 3 → SaysBehind first rest Usage
-  few : (words : List (List ℕ)) (asked : Asked) → AreWords rest words → length words ≤ 2 → SayWords (first ∷ words) asked
+  few : (words : List (List ℕ)) (asked : Asked) → HasWords rest words → length words ≤ 2 → SayWords (first ∷ words) asked
       → SaysBehind first rest asked
