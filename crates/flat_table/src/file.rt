@@ -176,6 +176,8 @@ impl<D: SectorDisk> GameFile for FlatTable<D> {
 
     ghost stores_one = { λ picture one other first second. a_picture_stores_one_table picture one other first second };
 
+    ghost stores_begins = { λ picture kept it. it.holds.table };
+
     ghost whole_leaves = { λ t whole honest is_open. a_file_is_kept (⟦<FlatTable<D> as TableFile>⟧.file t) whole.0 honest is_open };
 
     ghost whole_stored = { λ t kept whole honest is.

@@ -2,6 +2,7 @@
 ghost use Rattle.std.specs.Prelude.{◌≡◌, ◌≢◌, ◌≤◌, ◌^◌, ℕ, true, false, Option, None, Some, length, OnOk, OnErr, IfOk, IfErr, IfSome};
 ghost use Rattle.std.specs.Prelude.{IfNone, IsTrue};
 ghost use Rattle.sector_disk.specs.Disk.{Picture};
+ghost use Rattle.root_pair.specs.Root.{IsTablePicture};
 ghost use Rattle.retrograde.specs.Stored.{IsTable, loaded};
 ghost use Rattle.table.specs.declared.fault.TableFault.{TableFault};
 ghost use Rattle.game_file.specs.Kept.{Kept, Layout, kept_as, text_kept};
@@ -108,6 +109,9 @@ pub trait GameFile: Table {
 
     /// A picture stores one table at most.
     ghost stores_one: { (picture : Picture) (one other : Option Kept) → stores picture one → stores picture other → one ≡ other };
+
+    /// A picture that stores a table begins as each table does.
+    ghost stores_begins: { (picture : Picture) (kept : Option Kept) → stores picture kept → IsTablePicture picture };
 
     /// A stop of a file that is whole and open leaves what it keeps.
     ghost whole_leaves: { (file : Self) → is_whole file → IsTrue (state file).disk.honest → (state file).closed ≡ false

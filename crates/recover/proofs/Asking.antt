@@ -17,7 +17,7 @@ use Rattle.game_table.specs.Texts.{IsText}
 use Rattle.table.specs.Faults.{NeedsNoPage}
 use Rattle.table.specs.declared.fault.TableFault.{TableFault}
 use Rattle.table.specs.declared.fault.TableFault.TheVariants as table
-use Rattle.best_line.specs.Causes.{IsLineCause, OfTable}
+use Rattle.best_line.specs.Causes.{OfTable}
 use Rattle.best_line.specs.Lines.{IsBestPlay}
 use Rattle.best_line.specs.Rows.{AreRows}
 use Rattle.best_line.specs.Values.{IsValue}
@@ -31,8 +31,7 @@ use Rattle.game_file.specs.State.{State}
 use Rattle.recover.specs.Faults.{line_fault, table_fault}
 use Rattle.recover.specs.Held.{IsSound}
 use Rattle.recover.specs.Queries.{OfKept, IsThere, HasValueAt, HasRows, HasLine, HasText, IsOfUnknown, AskCause, NumberCause, LineCause}
-use Rattle.recover.specs.State.{IsSourceOf}
-use Rattle.recover.proofs.Working.{kept_there, sound_here}
+use Rattle.recover.proofs.Working.{sound_here}
 
 -- what is so of each table that is kept is told of the one that is
 pub tells : (kept : Option Kept) (Such : Kept → Type 0) → IsSome kept → ((k : Kept) → kept ≡ Some k → Such k) → OfKept Such kept

@@ -6,4 +6,5 @@ pub mod Opening
 pub mod Asking
 pub mod Turning
 pub mod Prefixes
+pub mod Chains
 pub mod Making

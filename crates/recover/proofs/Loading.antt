@@ -1,5 +1,5 @@
 -- A game is loaded, or not.
-use Rattle.std.proofs.Common.{◌≡◌, ◌≢◌, ◌⊎◌, inl, inr, ℕ, List, Option, None, Some, length, refl, sym, ◌∙◌, ap, subst, Bool, false, true}
+use Rattle.std.proofs.Common.{◌≡◌, ◌≢◌, ◌⊎◌, ℕ, List, Option, None, Some, length, refl, sym, ◌∙◌, ap, subst, Bool, false, true}
 use Rattle.std.specs.Prelude.{is_some, IsSome, IfSome, IfNone, IsTrue}
 use Rattle.std.proofs.lemmas.Option.{same_Some}
 use Rattle.sector_disk.specs.Disk.{GoesOn}
@@ -23,7 +23,8 @@ use Rattle.game_file.specs.declared.fault.FileFault.{FileFault}
 use Rattle.game_file.specs.declared.fault.FileFault.TheVariants as file
 use Rattle.recover.specs.Faults.{file_fault}
 use Rattle.recover.specs.Held.{IsSound}
-use Rattle.recover.specs.Machine.{load, loaded_it, Loads, LoadCause}
+use Rattle.recover.specs.declared.replies.Reply.TheVariants.{Loaded}
+use Rattle.recover.specs.Machine.{load, Loads, LoadCause}
 use Rattle.recover.specs.State.{IsSourceOf}
 use Rattle.recover.specs.Steps.{IsDone, IsRefused}
 use Rattle.recover.specs.Stops.{StopsDone}
@@ -60,9 +61,12 @@ module _ (Stores : Layout) (text start : List ℕ) (game : Game) (reads : Reads 
   loads : Loads text old.kept (Some (kept_as text (loaded start)))
   loads = record { none = none; game = game; reads = reads; is = ap (λ (s : List ℕ). Some (kept_as text (loaded s))) start_is }
 
-  pub loaded_done : Leaves Stores new → GoesOn old.disk new.disk → IsPut Stores (kept_as text (loaded start)) old new → IsDone Stores (load text) loaded_it old new
+  pub loaded_done : Leaves Stores new → GoesOn old.disk new.disk → IsPut Stores (kept_as text (loaded start)) old new → IsDone Stores (load text) Loaded old new
   loaded_done leaves goes_on put = record {
-    step = λ honest. record { none = none; game = game; reads = reads; is = put.kept honest ∙ ap (λ (s : List ℕ). Some (kept_as text (loaded s))) start_is };
+    step = record {
+      does = λ honest. record { none = none; game = game; reads = reads; is = put.kept honest ∙ ap (λ (s : List ℕ). Some (kept_as text (loaded s))) start_is };
+      reason = tt;
+    };
     stops = put_stops Stores (kept_as text (loaded start)) old new leaves goes_on put;
   }
 
@@ -82,11 +86,11 @@ module _ (Stores : Layout) (text start : List ℕ) (game : Game) (reads : Reads 
   pub loaded_refused : (fault : FileFault) → length start ≡ packed_length game → IsNotPut Stores (kept_as text (loaded start)) old new
       → FileLoadCause start old new fault → (fault ≢ file.Disk → new.closed ≡ old.closed) → IsRefused Stores (load text) old new (file_fault fault)
   loaded_refused fault long left cause still = record {
-    step = (left.kept, load_cause fault long cause);
+    step = record { does = left.kept; reason = load_cause fault long cause };
     stops = record {
       same = left.kept;
       since = left.leaves;
-      failed = λ honest was is. (Some (kept_as text (loaded start)), inl loads, left.either honest was);
+      failed = λ honest was is. (Some (kept_as text (loaded start)), (Loaded, loads), left.either honest was);
     };
     still = λ other. still (λ is. other (ap file_fault is));
   }

@@ -6,7 +6,8 @@ use Rattle.game_file.specs.Kept.{Layout}
 use Rattle.game_file.specs.State.{State}
 use Rattle.game_file.specs.Stops.{LeavesNow}
 use Rattle.recover.specs.declared.fault.SolverFault.{SolverFault}
-use Rattle.recover.specs.Machine.{Command, Step, refused}
+use Rattle.recover.specs.declared.replies.Reply.TheVariants.{Refused}
+use Rattle.recover.specs.Machine.{Command, Step}
 use Rattle.recover.specs.Steps.{IsRefused}
 
 pub apart : (b : Bool) → b ≡ false → b ≡ true → ⊥
@@ -14,7 +15,7 @@ apart b one other = cc
 
 -- what was kept is, and a stop leaves it
 pub nothing_done : (Stores : Layout) (command : Command) (state : State) (fault : SolverFault)
-    → (IsTrue state.disk.honest → state.closed ≡ false → LeavesNow Stores state.disk state.kept) → Step command state (refused fault) state
+    → (IsTrue state.disk.honest → state.closed ≡ false → LeavesNow Stores state.disk state.kept) → Step command state (Refused fault) state
     → IsRefused Stores command state state fault
 nothing_done Stores command state fault leaves step = record {
   step = step;

@@ -1,5 +1,5 @@
 -- Units of work are done and kept, or not.
-use Rattle.std.proofs.Common.{◌≡◌, ◌≢◌, ◌<◌, inl, inr, ℕ, List, Option, None, Some, refl, sym, ◌∙◌, ap, subst, false, true}
+use Rattle.std.proofs.Common.{◌≡◌, ◌≢◌, inl, ℕ, List, Option, None, Some, refl, sym, ◌∙◌, ap, subst, false}
 use Rattle.std.specs.Prelude.{IsTrue}
 use Rattle.sector_disk.specs.Disk.{GoesOn}
 use Rattle.sector_disk.specs.Moments.{leaves_now, leaves_more}
@@ -31,7 +31,8 @@ use Rattle.game_file.specs.declared.fault.FileFault.TheVariants as file
 use Rattle.recover.specs.declared.fault.SolverFault.TheVariants.{Disk}
 use Rattle.recover.specs.Faults.{file_fault, step_fault, table_fault}
 use Rattle.recover.specs.Held.{IsSound}
-use Rattle.recover.specs.Machine.{work, worked, WorksOnTable, WorksTo, WorkCause, StopsAt}
+use Rattle.recover.specs.declared.replies.Reply.TheVariants.{Worked, Refused}
+use Rattle.recover.specs.Machine.{work, WorksOnTable, WorkCause, StopsAt}
 use Rattle.recover.specs.State.{IsSourceOf}
 use Rattle.recover.specs.Steps.{IsDone, IsRefused}
 use Rattle.recover.proofs.Loading.{Leaves, put_stops}
@@ -69,12 +70,9 @@ module _ (source : Compiled) (k : Kept) (is_read : Reads k.text (compiled_game s
 
   module _ (units done : ℕ) (now : Stored (List ℕ))
       (works : IsLocallySound (graph_of (compiled_game source)) (IsWideAt (compiled_game source)) k.table → IsWorkOf (compiled_game source) units k.table done now) where
-    pub works_to : WorksTo units k done (kept_as k.text now)
-    works_to = record {
-      same_text = refl;
-      work = λ game read sound.
-          of_any (λ g. IsWorkOf g units k.table done now) game read (works (to_source (λ g. IsLocallySound (graph_of g) (IsWideAt g) k.table) game read sound));
-    }
+    pub work_by : (game : Game) → Reads k.text game → IsLocallySound (graph_of game) (IsWideAt game) k.table → IsWorkOf game units k.table done now
+    work_by game read sound =
+        of_any (λ g. IsWorkOf g units k.table done now) game read (works (to_source (λ g. IsLocallySound (graph_of g) (IsWideAt g) k.table) game read sound))
 
     -- a sound table stays sound
     pub worked_sound : IsSound (Some k) → IsSound (Some (kept_as k.text now))
@@ -99,15 +97,19 @@ module _ (Stores : Layout) (old new : State) (source : Compiled) (k : Kept) (is_
     loaded = loaded;
     is = kept_as k.text now;
     worked = refl;
-    works = works_to source k is_read units done now (works honest);
+    same_text = refl;
+    work = work_by source k is_read units done now (works honest);
     counted = counted;
   }
 
   -- units are done and kept
   pub worked_done : (counts : Counts) → (IsTrue old.disk.honest → counts ≡ counts_of now) → Leaves Stores new → GoesOn old.disk new.disk
-      → IsPut Stores (kept_as k.text now) old new → IsDone Stores (work units) (worked done counts) old new
+      → IsPut Stores (kept_as k.text now) old new → IsDone Stores (work units) (Worked done counts) old new
   worked_done counts counted leaves goes_on put = record {
-    step = λ honest. subst (λ (kept : Option Kept). WorksOnTable units old.kept done counts kept) (sym (put.kept honest)) (works_of counts (counted honest) honest);
+    step = record {
+      does = λ honest. subst (λ (kept : Option Kept). WorksOnTable units old.kept done counts kept) (sym (put.kept honest)) (works_of counts (counted honest) honest);
+      reason = tt;
+    };
     stops = put_stops Stores (kept_as k.text now) old new leaves goes_on put;
   }
 
@@ -133,11 +135,11 @@ module _ (Stores : Layout) (old new : State) (source : Compiled) (k : Kept) (is_
   pub not_kept : (fault : FileFault) → IsNotPut Stores (kept_as k.text now) old new → FileCommitCause k.table now old new fault
       → (fault ≢ file.Disk → new.closed ≡ old.closed) → IsRefused Stores (work units) old new (file_fault fault)
   not_kept fault left cause still = record {
-    step = (left.kept, keep_cause fault cause);
+    step = record { does = left.kept; reason = keep_cause fault cause };
     stops = record {
       same = left.kept;
       since = left.leaves;
-      failed = λ honest was is. (Some (kept_as k.text now), inl (done, counts_of now, works_of (counts_of now) refl honest), left.either honest was);
+      failed = λ honest was is. (Some (kept_as k.text now), (Worked done (counts_of now), works_of (counts_of now) refl honest), left.either honest was);
     };
     still = λ other. still (λ is. other (ap file_fault is));
   }
@@ -146,15 +148,19 @@ module _ (Stores : Layout) (old new : State) (source : Compiled) (k : Kept) (is_
 pub idle_done : (Stores : Layout) (state : State) (source : Compiled) (k : Kept) → Reads k.text (compiled_game source) → state.kept ≡ Some k → (units done : ℕ) (now : Stored (List ℕ)) (counts : Counts)
     → (IsTrue state.disk.honest → IsLocallySound (graph_of (compiled_game source)) (IsWideAt (compiled_game source)) k.table → IsWorkOf (compiled_game source) units k.table done now)
     → (IsTrue state.disk.honest → now ≡ k.table) → (IsTrue state.disk.honest → counts ≡ counts_of now) → Leaves Stores state → state.closed ≡ false
-    → IsDone Stores (work units) (worked done counts) state state
+    → IsDone Stores (work units) (Worked done counts) state state
 idle_done Stores state source k is_read loaded units done now counts works same counted leaves is_open = record {
-  step = λ honest. record {
-    was = k;
-    loaded = loaded;
-    is = kept_as k.text now;
-    worked = loaded ∙ ap (λ (t : Stored (List ℕ)). Some (kept_as k.text t)) (sym (same honest));
-    works = works_to source k is_read units done now (works honest);
-    counted = counted honest;
+  step = record {
+    does = λ honest. record {
+      was = k;
+      loaded = loaded;
+      is = kept_as k.text now;
+      worked = loaded ∙ ap (λ (t : Stored (List ℕ)). Some (kept_as k.text t)) (sym (same honest));
+      same_text = refl;
+      work = work_by source k is_read units done now (works honest);
+      counted = counted honest;
+    };
+    reason = tt;
   };
   stops = record {
     is_open = is_open;
@@ -212,11 +218,11 @@ module _ (Stores : Layout) (old new : State) (source : Compiled) (k : Kept) (is_
         → (Ahead → new.closed ≡ old.closed) → ((f : TableFault) → Fails f → f ≢ table.Disk → new.closed ≡ old.closed)
         → IsRefused Stores (work units) old new (step_fault fault)
     work_refused fault cause consistent left is_open given back failed = record {
-      step = (given.kept, work_cause fault cause consistent left);
+      step = record { does = given.kept; reason = work_cause fault cause consistent left };
       stops = record {
         same = given.kept;
         since = λ honest open_. given.leaves honest is_open;
-        failed = λ honest was is. (old.kept, inr refl, leaves_more (λ picture left. inl left) (given.leaves honest is_open));
+        failed = λ honest was is. (old.kept, (Refused (step_fault fault), refl), leaves_more (λ picture left. inl left) (given.leaves honest is_open));
       };
       still = by_fault fault left;
     }

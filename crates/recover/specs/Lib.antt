@@ -9,6 +9,7 @@ pub mod Steps
 pub mod Laws
 pub mod Queries
 pub mod Runs
+pub mod Histories
 pub mod Headline
 pub mod aid
 pub mod Solvers

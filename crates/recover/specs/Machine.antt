@@ -12,13 +12,14 @@ use Rattle.retrograde.specs.Sound.{IsLocallySound}
 use Rattle.retrograde.specs.Stored.{loaded}
 use Rattle.frontier.specs.declared.fault.StepFault.{StepFault}
 use Rattle.frontier.specs.declared.fault.StepFault.TheVariants as step
-use Rattle.table_work.specs.Work.{StopsWith}
-use Rattle.game_table.specs.Tables.{IsWorkOf}
+use Rattle.table_work.specs.Work.{AreDone, StopsWith}
 use Rattle.game_file.specs.Kept.{Kept}
 use Rattle.game_file.specs.State.{State}
 use Rattle.recover.specs.declared.fault.SolverFault.{SolverFault}
 use Rattle.recover.specs.declared.fault.SolverFault.TheVariants.{Disk, Damaged, TableFull, OutOfMemory, Closed, Game as BadGame, NoGame}
 use Rattle.recover.specs.declared.fault.SolverFault.TheVariants.{GameAlready, KeeperChooses, TooWide, TooManyPositions, Inconsistent}
+use Rattle.recover.specs.declared.replies.Reply.{Reply}
+use Rattle.recover.specs.declared.replies.Reply.TheVariants.{Loaded, Worked, Refused}
 use Rattle.recover.specs.Held.{graph_in}
 use Rattle.recover.specs.State.{IsOfOtherOrigin}
 
@@ -27,12 +28,6 @@ pub data Command : Type 0 where
   load : (text : List ℕ) → Command
   work : (units : ℕ) → Command
 
--- what a command answers
-pub data Reply : Type 0 where
-  loaded_it : Reply
-  worked : (done : ℕ) (counts : Counts) → Reply
-  refused : (fault : SolverFault) → Reply
-
 -- where no game is loaded, the game that the text reads to is now, and its start is known and no more
 pub record Loads (text : List ℕ) (old new : Option Kept) : Type 0 where
   pub none : old ≡ None
@@ -40,20 +35,28 @@ pub record Loads (text : List ℕ) (old new : Option Kept) : Type 0 where
   pub reads : Reads text game
   pub is : new ≡ Some (record { text = text; table = loaded (graph_of game).start })
 
--- so many units were asked of a table and these done, or it is finished by then; nothing is said of one that is not sound
-pub record WorksTo (units : ℕ) (was : Kept) (done : ℕ) (is : Kept) : Type 0 where
-  pub same_text : is.text ≡ was.text
-  pub work : (game : Game) → Reads was.text game → IsLocallySound (graph_in game was) (IsWideAt game) was.table
-      → IsWorkOf game units was.table done is.table
-
--- units of work lead from the old table to the new, which has these counts
+-- so many units were asked of the old table and these done, or the new one is finished by then; it has these counts. Nothing is said
+-- of a table that is not sound
 pub record WorksOnTable (units : ℕ) (old : Option Kept) (done : ℕ) (counts : Counts) (new : Option Kept) : Type 0 where
   pub was : Kept
   pub loaded : old ≡ Some was
   pub is : Kept
   pub worked : new ≡ Some is
-  pub works : WorksTo units was done is
+  pub same_text : is.text ≡ was.text
+  pub work : (game : Game) → Reads was.text game → IsLocallySound (graph_in game was) (IsWideAt game) was.table
+      → AreDone (graph_in game was) (IsWideAt game) units was.table done is.table
   pub counted : counts ≡ counts_of is.table
+
+-- what a command with this reply does to the table: it is done where the reply says so, and a refusal leaves the table
+abbrev pub Does : Reply → Command → Option Kept → Option Kept → Type 0
+Does Loaded (load text) old new = Loads text old new
+Does (Worked done counts) (work units) old new = WorksOnTable units old done counts new
+Does (Refused fault) command old new = new ≡ old
+Does _ _ old new = ⊥
+
+-- what it may do: it is done or leaves the table
+abbrev pub MayDo : Command → Option Kept → Option Kept → Type 0
+MayDo command old new = (reply : Reply) × Does reply command old new
 
 -- fewer units than were asked lead to a table whose next unit has this fault with its cause
 abbrev pub StopsAt : ℕ → Option Kept → StepFault → Type 0
@@ -91,17 +94,15 @@ WorkCause units old new TooManyPositions = IsTrue old.disk.honest → StopsAt un
 WorkCause units old new Inconsistent = IsOfOtherOrigin old
 WorkCause units old new _ = ⊥
 
--- why a command is refused
-abbrev pub Cause : Command → State → State → SolverFault → Type 0
-Cause (load text) = LoadCause text
-Cause (work units) = WorkCause units
+-- a command has such a reply, and where it is refused a cause of that
+abbrev pub HasReason : Reply → Command → State → State → Type 0
+HasReason Loaded (load text) old new = Unit {0}
+HasReason (Worked done counts) (work units) old new = Unit {0}
+HasReason (Refused fault) (load text) old new = LoadCause text old new fault
+HasReason (Refused fault) (work units) old new = WorkCause units old new fault
+HasReason _ _ old new = ⊥
 
--- from the one state to the other by this command with this reply; a refusal leaves what is kept and has its cause. What is said
--- of what is kept is said of an honest disk
-abbrev pub Step : Command → State → Reply → State → Type 0
-Step (load text) old loaded_it new = IsTrue old.disk.honest → Loads text old.kept new.kept
-Step (load text) old (worked done counts) new = ⊥
-Step (work units) old loaded_it new = ⊥
-Step (work units) old (worked done counts) new = IsTrue old.disk.honest → WorksOnTable units old.kept done counts new.kept
-Step (load text) old (refused fault) new = (IsTrue old.disk.honest → new.kept ≡ old.kept) × LoadCause text old new fault
-Step (work units) old (refused fault) new = (IsTrue old.disk.honest → new.kept ≡ old.kept) × WorkCause units old new fault
+-- from the one state to the other by this command with this reply. What is said of what is kept is said of an honest disk
+pub record Step (command : Command) (old : State) (reply : Reply) (new : State) : Type 0 where
+  pub does : IsTrue old.disk.honest → Does reply command old.kept new.kept
+  pub reason : HasReason reply command old new

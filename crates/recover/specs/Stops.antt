@@ -1,5 +1,5 @@
 -- What a power failure leaves, by what a command answers.
-use Rattle.std.specs.Prelude.{◌≡◌, ◌⊎◌, false, true, Option, IsTrue}
+use Rattle.std.specs.Prelude.{◌≡◌, false, true, Option, IsTrue}
 use Rattle.game_file.specs.Kept.{Kept, Layout}
 use Rattle.game_file.specs.State.{State}
 use Rattle.game_file.specs.Stops.{LeavesNow, LeavesTable, LeavesEither}
@@ -12,9 +12,9 @@ module _ (Stores : Layout) where
     pub now : IsTrue old.disk.honest → LeavesNow Stores new.disk new.kept
 
   -- a command is refused: what was kept is; a stop since it began leaves that; but if a write or a sync has failed, it leaves that
-  -- or one table that would have been next
+  -- or one that the command may have come to
   pub record StopsRefused (Next : Option Kept → Type 0) (old new : State) : Type 0 where
     pub same : IsTrue old.disk.honest → new.kept ≡ old.kept
     pub since : IsTrue old.disk.honest → new.closed ≡ false → LeavesTable Stores old.disk new.disk old.kept
     pub failed : IsTrue old.disk.honest → old.closed ≡ false → new.closed ≡ true
-        → (is : Option Kept) × (Next is ⊎ (is ≡ old.kept)) × LeavesEither Stores old.disk new.disk old.kept is
+        → (is : Option Kept) × Next is × LeavesEither Stores old.disk new.disk old.kept is

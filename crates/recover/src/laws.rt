@@ -1,6 +1,6 @@
 //! What holds of every table that a solver keeps: each is a law, which proofs cite by a call, or by the lemma of the same name in specs/.
 ghost use Rattle.std.specs.Prelude.{◌≡◌, ◌⊎◌, ◌↔◌, ℕ, List, Option, None, Some, IsTrue};
-ghost use Rattle.sector_disk.specs.Disk.{Picture, Disk, MayLeave};
+ghost use Rattle.sector_disk.specs.Disk.{Picture, Shown, Disk, MayLeave};
 ghost use Rattle.rbg_game.specs.Games.{Game};
 ghost use Rattle.rbg_game.specs.declared.roles.Player.{Player};
 ghost use Rattle.rbg_read.specs.Reading.{Reads};
@@ -14,11 +14,11 @@ ghost use Rattle.best_line.specs.Values.{IsComplete, IsValue};
 ghost use Rattle.best_line.specs.Laws.{IsSo};
 ghost use Rattle.game_file.specs.Kept.{Kept};
 ghost use Rattle.game_file.specs.State.{State};
-ghost use Rattle.recover.specs.Headline.{LeadsTo};
+ghost use Rattle.recover.specs.Headline.{Headline};
 ghost use Rattle.recover.specs.Held.{Holds, IsSound, graph_in};
-ghost use Rattle.recover.specs.Machine.{Command};
+ghost use Rattle.recover.specs.Histories.{Sitting, LeadTo, History};
+ghost use Rattle.recover.specs.Machine.{Command, MayDo};
 ghost use Rattle.recover.specs.Opening.{IsOpened};
-ghost use Rattle.recover.specs.Steps.{MayFollow};
 
 use game_file::GameFile;
 
@@ -70,14 +70,21 @@ pub fn a_value_is_so()
         → HasNumber (view_of kept.table) i x → IsValue (view_of kept.table) i value → IsSo (graph_in game kept) x value }
 {}
 
-/// What a command leads to from a locally sound table is locally sound.
-pub fn what_follows_is_sound()
-    ensures { (command : Command) (old new : Option Kept) → MayFollow command old new → IsSound old → IsSound new }
+/// What a command may do to a locally sound table leaves it locally sound.
+pub fn what_may_be_done_is_sound()
+    ensures { (command : Command) (old new : Option Kept) → MayDo command old new → IsSound old → IsSound new }
 {}
 
-/// What some commands lead to from a locally sound table is locally sound: so is what is opened after a stop in the course of
-/// many commands, and the next run may begin from it.
-pub fn what_commands_lead_to_is_sound()
-    ensures { (commands : List Command) (old : Option Kept) (count : ℕ) (new : Option Kept) → LeadsTo commands old count new → IsSound old
-        → IsSound new }
+/// What sittings lead to from a locally sound table is locally sound.
+pub fn what_sittings_lead_to_is_sound()
+    ensures { (sittings : List Sitting) (old new : Option Kept) → LeadTo sittings old new → IsSound old → IsSound new }
+{}
+
+/// The headline. A table is made, and used in any number of sittings; each opens what was left, and may end by a stop of the power
+/// before or within any write. Whatever the last stop leaves, reopening gives a table which the sittings lead to: with all that was
+/// answered, and in each at most one command that was not. Each of its settled positions is won by the named player in exactly the
+/// named number of moves, and if it says finished, its positions are those that play can come to and the unsettled exactly the drawn.
+pub fn the_headline<F: GameFile>()
+    ensures { (sittings : List Sitting) (left : Shown) (picture : Picture) → History F.stores sittings left → MayLeave left picture
+        → Headline F.stores sittings picture }
 {}

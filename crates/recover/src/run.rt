@@ -1,8 +1,8 @@
 //! Many commands at once.
-ghost use Rattle.std.specs.Prelude.{◌≡◌, false, map, IsTrue, OnOk, OnErr, IfErr};
+ghost use Rattle.std.specs.Prelude.{◌≡◌, ◌++◌, false, List, map, IsTrue, OnOk, OnErr, IfErr};
 ghost use Rattle.recover.specs.Headline.{LeavesAPrefix};
 ghost use Rattle.recover.specs.Held.{IsSound};
-ghost use Rattle.recover.specs.Runs.{command_of, reply_of, IsTurn, IsRun};
+ghost use Rattle.recover.specs.Runs.{command_of, IsTurnWithCause, IsRun};
 ghost use Rattle.game_file.specs.State.{GoesAhead};
 ghost use Rattle.recover.specs.Solvers.{state, IsReady};
 
@@ -15,8 +15,7 @@ impl<F: GameFile> FileSolver<F> {
         ensures ready { IsReady self.old → IsReady self.new }
         ensures ahead { GoesAhead (state self.old) (state self.new) }
         ensures turn { IsReady self.old
-            → IsTurn F.stores (state self.new).disk (command_of command.now) (reply_of result)
-            (state self.old) (state self.new) }
+            → IsTurnWithCause F.stores (command_of command.now) result (state self.old) (state self.new) }
         ensures sound { IsReady self.old → IsTrue (state self.old).disk.honest
             → IsSound (state self.old).kept
             → IsSound (state self.new).kept }
@@ -44,8 +43,8 @@ impl<F: GameFile> FileSolver<F> {
         ensures stopped { IsReady self.old → IsSound (state self.old).kept
             → (state self.old).closed ≡ false
             → IsTrue (state self.old).disk.honest
-            → OnOk result (LeavesAPrefix F.stores (map command_of commands.now) (state self.old)
-            (state self.new)) }
+            → OnOk result ((added : List Reply) × (replies.new.items ≡ replies.old.items ++ added)
+            × LeavesAPrefix F.stores (map command_of commands.now) added (state self.old) (state self.new)) }
         ensures sound { IsReady self.old → IsTrue (state self.old).disk.honest
             → IsSound (state self.old).kept
             → IsSound (state self.new).kept }

@@ -5,14 +5,16 @@ ghost use Rattle.retrograde.specs.Changes.{counts_of};
 ghost use Rattle.game_file.specs.Kept.{Kept};
 ghost use Rattle.game_file.specs.Calls.{IsNotOpened, IsNotCreated};
 ghost use Rattle.game_file.specs.State.{GoesAhead};
-ghost use Rattle.recover.specs.Held.{IsSound};
-ghost use Rattle.recover.specs.Machine.{load as load_it, work as work_on, loaded_it, worked};
+ghost use Rattle.game_file.specs.Stops.{LeavesNow};
+ghost use Rattle.recover.specs.Headline.{IsUnlucky};
+ghost use Rattle.recover.specs.Held.{Holds, IsSound};
+ghost use Rattle.recover.specs.Machine.{load as load_it, work as work_on};
 ghost use Rattle.recover.specs.Opening.{IsOpened, IsCreated, OpenCause, CreateCause};
 ghost use Rattle.recover.specs.Steps.{IsDone, IsRefused};
 ghost use Rattle.recover.specs.Units.{units_in};
 
 use crate::with_game::with_game;
-use crate::{Refused, SolverFault, Units, Worked};
+use crate::{Refused, Reply, SolverFault, Units, Worked};
 use game_file::GameFile;
 use game_table::Source;
 use retrograde::Counts;
@@ -52,10 +54,15 @@ impl<F: GameFile> FileSolver<F> {
         }
     }
 
-    /// Opens the table that this disk holds: E1, E2, E4, E8.
+    /// Opens the table that this disk holds: E1, E2, E4, E8. Where it holds one, that is the one that is given, and only a failure
+    /// of the disk or want of memory can refuse it.
     pub fn open(alloc: Global, disk: F::Device) -> Result<Self, Refused<F::Device>>
         ensures ready { IfOk result IsReady }
         ensures opened { IfOk result (λ solver. IsOpened F.stores (F.Device.disk disk) (F.Device.failures disk) (state solver)) }
+        ensures gives { (kept : Option Kept) → IsTrue (F.Device.disk disk).honest → Holds F.stores (F.Device.disk disk).now.contents kept
+            → IfOk result (λ solver. ((state solver).kept ≡ kept) × LeavesNow F.stores (state solver).disk kept) }
+        ensures unlucky { (kept : Option Kept) → IsTrue (F.Device.disk disk).honest → Holds F.stores (F.Device.disk disk).now.contents kept
+            → IfErr result (λ back. IsUnlucky (F.Device.failures disk) (F.Device.failures back.disk) back.fault) }
         ensures refused { IfErr result (λ back. IsNotOpened (F.Device.disk disk) (F.Device.failures disk) (F.Device.disk back.disk)
             (F.Device.failures back.disk)) }
         ensures cause { IfErr result (λ back. OpenCause F.stores (F.Device.disk disk) (F.Device.failures disk)
@@ -75,7 +82,7 @@ impl<F: GameFile> FileSolver<F> {
         ensures ready { IsReady self.old → IsReady self.new }
         ensures ahead { GoesAhead (state self.old) (state self.new) }
         ensures done { IsReady self.old
-            → OnOk result (IsDone F.stores (load_it text.now) loaded_it (state self.old)
+            → OnOk result (IsDone F.stores (load_it text.now) Reply.Loaded (state self.old)
             (state self.new)) }
         ensures refused { IsReady self.old
             → IfErr result (IsRefused F.stores (load_it text.now) (state self.old)
@@ -106,7 +113,7 @@ impl<F: GameFile> FileSolver<F> {
         ensures ready { IsReady self.old → IsReady self.new }
         ensures ahead { GoesAhead (state self.old) (state self.new) }
         ensures done { IsReady self.old → IfOk result (λ done.
-            IsDone F.stores (work_on (units_in units)) (worked done.units done.counts) (state self.old)
+            IsDone F.stores (work_on (units_in units)) (Reply.Worked done.units done.counts) (state self.old)
             (state self.new)) }
         ensures refused { IsReady self.old
             → IfErr result (IsRefused F.stores (work_on (units_in units)) (state self.old)

@@ -18,7 +18,7 @@ use Rattle.recover.specs.declared.replies.Reply.TheVariants as answer
 use Rattle.recover.specs.Held.{IsSound}
 use Rattle.recover.specs.Machine.{work}
 use Rattle.recover.specs.Queries.{Tells, IsGameOf, HasValueAt, HasRows, HasLine, HasText, NumberCause, LineCause, ShowCause, FindCause}
-use Rattle.recover.specs.Runs.{reply_of, IsTurn}
+use Rattle.recover.specs.Runs.{IsTurnWithCause}
 use Rattle.recover.specs.Units.{units_in}
 use Rattle.session.specs.declared.input.Asked.{Asked}
 use Rattle.session.specs.declared.input.Asked.TheVariants as asked
@@ -101,9 +101,16 @@ module _ (Stores : Layout) where
   -- reply, and nothing was done
   pub record IsWorkReplied (units : ℕ) (old new : State) (status : ℕ) (line : List ℕ) : Type 0 where
     pub reply : Reply
-    pub turn : IsTurn Stores new.disk (work units) (reply_of reply) old new ⊎ ((reply ≡ answer.Refused fault.OutOfMemory) × (new ≡ old))
+    pub turn : IsTurnWithCause Stores (work units) reply old new ⊎ ((reply ≡ answer.Refused fault.OutOfMemory) × (new ≡ old))
     pub status_is : status ≡ status_of_reply reply
     pub line_is : IsReplyLine reply line
+
+  -- what is done for a line that asks this, whether its reply can be written or not: units are worked, or there is no room for the
+  -- reply and nothing is done; a question changes nothing that is kept; and else nothing is done
+  abbrev pub IsDoneFor : Asked → State → State → Type 0
+  IsDoneFor (asked.Work units) old new = ((reply : Reply) × IsTurnWithCause Stores (work (units_in units)) reply old new) ⊎ (new ≡ old)
+  IsDoneFor (asked.Question about) old new = IsAsked Stores old new
+  IsDoneFor _ old new = new ≡ old
 
   -- a question is answered, or refused with its cause
   abbrev pub IsAnswered : Question → State → State → ℕ → List ℕ → Type 0

@@ -1,14 +1,16 @@
 //! What a session replies to its lines.
 
-ghost use Rattle.std.specs.Prelude.{◌≡◌, ℕ, List, true, IfOk, IfErr, OnOk, IsErrOf};
+ghost use Rattle.std.specs.Prelude.{◌≡◌, ◌⊎◌, ℕ, List, true, IfOk, IfErr, OnOk, IsErrOf};
 ghost use Rattle.std.specs.Io.KnownBytes.{Appends};
 ghost use Rattle.game_file.specs.Calls.{IsAsked};
+ghost use Rattle.recover.specs.Machine.{work as work_on};
+ghost use Rattle.recover.specs.Runs.{IsTurnWithCause};
 ghost use Rattle.recover.specs.Queries.{Tells, NumberCause, LineCause, ShowCause, FindCause};
 ghost use Rattle.recover.specs.Held.{IsSound};
 ghost use Rattle.recover.specs.Solvers.{state, IsReady};
 ghost use Rattle.recover.specs.Units.{units_in};
 ghost use Rattle.session.specs.Answered.{IsValueLine, AreRowLines, IsPlayLine, IsShownLine, IsFoundLine, IsAnswerTo, QuestionCause};
-ghost use Rattle.session.specs.Answered.{status_of_fault, IsReplied, IsWorkReplied};
+ghost use Rattle.session.specs.Answered.{status_of_fault, IsDoneFor, IsReplied, IsWorkReplied};
 ghost use Rattle.session.specs.Told.{fault_line};
 
 use crate::advice::tell_fault;
@@ -32,6 +34,7 @@ pub fn put_answer<F: GameFile, W: Write, E: Write>(
     told: &mut E,
 ) -> io::Result<u8>
     ensures ready { IsReady solver.old → IsReady solver.new }
+    ensures done { IsReady solver.old → IsDoneFor F.stores asked.entry (state solver.old) (state solver.new) }
     ensures replied { IsReady solver.old → IfOk result (λ status. (line : List ℕ)
         × IsReplied F.stores asked.entry (state solver.old) (state solver.new) status line
         × Appends (W.contents out.old) (W.contents out.new) line) }
@@ -89,6 +92,9 @@ fn put_worked<F: GameFile, W: Write, E: Write>(
     told: &mut E,
 ) -> io::Result<u8>
     ensures ready { IsReady solver.old → IsReady solver.new }
+    ensures done { IsReady solver.old
+        → ((reply : Reply) × IsTurnWithCause F.stores (work_on (units_in units)) reply (state solver.old) (state solver.new))
+        ⊎ ((state solver.new) ≡ (state solver.old)) }
     ensures worked { IsReady solver.old → IfOk result (λ status. (line : List ℕ)
         × IsWorkReplied F.stores (units_in units) (state solver.old) (state solver.new) status line
         × Appends (W.contents out.old) (W.contents out.new) line) }

@@ -1,7 +1,7 @@
 //! The commands of a session and of a command line, each a run of its own.
 
 ghost use Rattle.std.specs.Prelude.{◌≡◌, ◌⊎◌, slice_get, unwrap_or};
-ghost use Rattle.recover.specs.Runs.{command_of, reply_of, IsTurn};
+ghost use Rattle.recover.specs.Runs.{command_of, IsTurnWithCause};
 ghost use Rattle.recover.specs.Solvers.{state, IsReady};
 ghost use Rattle.recover.specs.declared.replies.Reply.TheVariants as answer;
 ghost use Rattle.recover.specs.declared.fault.SolverFault.TheVariants as fault;
@@ -15,7 +15,7 @@ use std::alloc::Global;
 pub fn reply_to<F: GameFile>(alloc: Global, solver: &mut FileSolver<F>, command: Command) -> Reply
     ensures ready { IsReady solver.old → IsReady solver.new }
     ensures turn { IsReady solver.old
-        → IsTurn F.stores (state solver.new).disk (command_of command) (reply_of result) (state solver.old) (state solver.new)
+        → IsTurnWithCause F.stores (command_of command) result (state solver.old) (state solver.new)
         ⊎ ((result ≡ answer.Refused fault.OutOfMemory) × (solver.new ≡ solver.old)) }
 {
     let mut replies = Vec::new(alloc);

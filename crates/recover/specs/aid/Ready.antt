@@ -1,8 +1,8 @@
 -- How a file's game is made ready.
-use Rattle.std.specs.Prelude.{◌≡◌, ℕ, true, Option, IsTrue}
+use Rattle.std.specs.Prelude.{◌≡◌, ℕ, true, IsTrue}
 use Rattle.sector_disk.specs.Disk.{Disk, Grew}
 use Rattle.game_file.specs.Calls.{IsAsked}
-use Rattle.game_file.specs.Kept.{Kept, Layout}
+use Rattle.game_file.specs.Kept.{Layout}
 use Rattle.game_file.specs.State.{State}
 use Rattle.recover.specs.declared.fault.SolverFault.{SolverFault}
 use Rattle.recover.specs.declared.fault.SolverFault.TheVariants.{Disk as DiskFailed, Damaged, OutOfMemory, Closed}

@@ -1,4 +1,4 @@
-use Rattle.std.proofs.Common.{◌≡◌, sym, ◌∙◌, ap, subst, Option, Err, None}
+use Rattle.std.proofs.Common.{ap, subst, Option, Err}
 use Rattle.legal_moves.specs.declared.compiled.Compiled.{Compiled}
 use Rattle.recover.specs.State.{IsSourceOf}
 use Rattle.retrograde.specs.Stored.{view_of}

@@ -17,7 +17,7 @@ loop-command-preserved g c =
       sound = λ ready honest sound. reply.sound (so_far.ready ready) (still_honest so_far.ahead.goes_on honest) (so_far.sound ready honest sound);
       run = λ ready.
           run_goes_on _ c.args.commands.now c.loop-command.command-index c.command-item.result c.answer-reply.result c.args.replies.now.items c.loop-command.replies.items
-          c.push.new.self.items _ _ _ c.loop-command-test.true c.command-item.is reply.ahead.goes_on pushed.items (so_far.run ready) (reply.turn (so_far.ready ready));
+          c.push.new.self.items _ _ _ c.loop-command-test.true c.command-item.is pushed.items (so_far.run ready) (reply.turn (so_far.ready ready));
     }
 
 pub loop-command-init : goal.loop-command-init
@@ -32,4 +32,4 @@ loop-command-init g c = record {
 pub returns-clause-stopped : goal.returns-clause-stopped
 returns-clause-stopped g c = λ ready sound is_open honest.
     let so_far = c.loop-command.invariant in
-    stopped_run _ c.args.commands.now _ _ _ _ _ (take_all c.loop-command.command-index c.args.commands.now c.loop-command-test.false) so_far.ahead (so_far.run ready) honest is_open sound
+    stopped_run _ c.args.commands.now _ _ _ _ _ (take_all c.loop-command.command-index c.args.commands.now c.loop-command-test.false) (so_far.run ready) honest is_open sound

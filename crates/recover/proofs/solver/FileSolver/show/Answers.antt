@@ -1,7 +1,7 @@
-use Rattle.std.proofs.Common.{◌≡◌, sym, ◌∙◌, ap, subst, Option, Err, None}
+use Rattle.std.proofs.Common.{subst, Option}
 use Rattle.legal_moves.specs.declared.compiled.Compiled.{Compiled}
 use Rattle.recover.specs.State.{IsSourceOf}
-use Rattle.recover.proofs.Asking.{tells, text_found, no_text}
+use Rattle.recover.proofs.Asking.{text_found, no_text}
 use Rattle.recover.proofs.Working.{kept_there}
 use Rattle.recover.proofs.solver.FileSolver.show.Goals as goal
 

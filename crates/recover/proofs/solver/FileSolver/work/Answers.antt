@@ -1,9 +1,7 @@
-use Rattle.std.proofs.Common.{◌≡◌, refl, sym, ◌∙◌, ap, subst, arith, Option, Err}
+use Rattle.std.proofs.Common.{refl, sym, ◌∙◌, ap, subst, arith, Option, Err}
 use Rattle.frontier.specs.declared.fault.StepFault.{StepFault}
 use Rattle.legal_moves.specs.declared.compiled.Compiled.{Compiled}
-use Rattle.game_file.specs.Kept.{Kept}
 use Rattle.recover.specs.State.{IsSourceOf}
-use Rattle.recover.specs.Faults.{step_fault}
 use Rattle.recover.proofs.Loading.{same_source, source_of_text}
 use Rattle.recover.proofs.Passing.{passed_on}
 use Rattle.recover.proofs.Turning.{ahead_then}
