@@ -1,5 +1,7 @@
 pub mod Collected
 pub mod Defaults
+pub mod EveryText
+pub mod ExampleReading
 pub mod Examples
 pub mod Labels
 pub mod NoCause

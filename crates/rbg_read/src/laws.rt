@@ -1,6 +1,6 @@
 //! Laws of the definitions, for readers: each function's contract is one.
 
-ghost use Rattle.std.specs.Prelude.{◌≡◌, ◌≤◌};
+ghost use Rattle.std.specs.Prelude.{◌≡◌, ◌≤◌, ◌⊎◌};
 ghost use Rattle.rbg_game.specs.Rules.{count};
 ghost use Rattle.rbg_text.specs.Token.{Text};
 ghost use Rattle.rbg_game.specs.Games.{Game};
@@ -10,6 +10,7 @@ ghost use Rattle.rbg_game.specs.Sound.{IsSoundGame};
 ghost use Rattle.rbg_game.specs.Names.{HasProperNames};
 ghost use Rattle.rbg_game.specs.Take.{take};
 ghost use Rattle.rbg_read.specs.TakeText.{take_text};
+ghost use Rattle.rbg_read.specs.Example.{example_text, example_game};
 
 /// A game that a text reads to is sound.
 pub fn what_is_read_is_sound()
@@ -26,9 +27,19 @@ pub fn small_game_is_read()
     ensures { Reads take_text take }
 {}
 
+/// A text with every construct of the language reads to the game that is written out beside it.
+pub fn example_is_read()
+    ensures { Reads example_text example_game }
+{}
+
 /// A text reads to one game at most.
 pub fn a_text_reads_to_one_game()
     ensures { (text : Text) (game other : Game) → Reads text game → Reads text other → game ≡ other }
+{}
+
+/// Every text reads to a game or has a fault.
+pub fn a_text_reads_or_has_a_fault()
+    ensures { (text : Text) → ((game : Game) × Reads text game) ⊎ ((fault : GameFault) × Fault text fault) }
 {}
 
 /// A text that reads to a game has no fault.
