@@ -2,13 +2,13 @@
 ghost use Rattle.std.specs.Prelude.{◌≡◌, ◌∷◌, []};
 ghost use Rattle.retrograde.specs.Stored.{loaded};
 
-use crate::disks::agree;
 use crate::two_positions::{TWO, TWO_COUNTS, TWO_SIZES, two_with};
 use position_pack::Packed;
 use rbg_game::roles::Player;
 use retrograde::{Counts, Record, State};
 use std::alloc::Global;
 use std::test::Fail;
+use test_aids::expect;
 use table::{MemTable, Table, TableFault};
 use table_bytes::{BytesFault, Sizes, read_table, write_table};
 
@@ -153,7 +153,7 @@ fn tables_are_written_as_their_bytes(rt: HostRuntime) -> Result<(), Fail> {
         )?,
         is_written(alloc, &mut take(alloc)?, b"take", &TAKE_SIZES, &TAKE)?,
     ];
-    agree("written", found, [true; 3])
+    expect(found, [true; 3], "written")
 }
 
 /// The record of this number, where it is known.
@@ -183,21 +183,21 @@ fn numbers_of<T: Table>(table: &mut T, of: &Packed) -> Result<[Option<u32>; 4], 
 #[test]
 fn these_bytes_are_read_to_the_table(rt: HostRuntime) -> Result<(), Fail> {
     let mut table = read_two(rt.alloc(), &TWO)?;
-    agree("counts", table.counts(), TWO_COUNTS)?;
+    expect(table.counts(), TWO_COUNTS, "counts")?;
     let records = [record_of(&mut table, 0)?, record_of(&mut table, 1)?];
-    agree("records", records, [Some(FIRST), Some(SECOND)])?;
+    expect(records, [Some(FIRST), Some(SECOND)], "records")?;
     let numbers = numbers_of(&mut table, &position(4))?;
-    agree("numbers", numbers, [Some(1), None, Some(0), Some(1)])
+    expect(numbers, [Some(1), None, Some(0), Some(1)], "numbers")
 }
 
 #[test]
 fn the_first_table_of_take_is_read(rt: HostRuntime) -> Result<(), Fail> {
     let mut table = read_take(rt.alloc(), &TAKE)?;
-    agree("counts", table.counts(), TAKE_COUNTS)?;
-    agree("record", record_of(&mut table, 0)?, Some(FRESH))?;
+    expect(table.counts(), TAKE_COUNTS, "counts")?;
+    expect(record_of(&mut table, 0)?, Some(FRESH), "record")?;
     let mut start = Packed::new();
     let _fits = start.try_extend_from_slice(&[0; 14]);
-    agree("number", table.number_of(&start)?, Some(0))
+    expect(table.number_of(&start)?, Some(0), "number")
 }
 
 const DAMAGED: Option<BytesFault> = Some(BytesFault::Damaged);
@@ -221,7 +221,7 @@ const WITH_ANOTHER_BYTE: [(usize, u8, Option<BytesFault>); 11] = [
 fn another_byte_at_one_place_is_damaged_or_ignored(rt: HostRuntime) -> Result<(), Fail> {
     for (at, byte, fault) in WITH_ANOTHER_BYTE {
         let told = read_two(rt.alloc(), &two_with(at, byte)).err();
-        agree((at, byte), told, fault)?;
+        expect(told, fault, (at, byte))?;
     }
     Ok(())
 }
@@ -244,7 +244,7 @@ fn edges_that_do_not_ascend_are_damaged(rt: HostRuntime) -> Result<(), Fail> {
         (0, 1, 0, None),
     ] {
         let told = read_more(rt.alloc(), &edges_with(first, second, predecessor)).err();
-        agree((first, second, predecessor), told, fault)?;
+        expect(told, fault, (first, second, predecessor))?;
     }
     Ok(())
 }

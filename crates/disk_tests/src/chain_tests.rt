@@ -1,11 +1,12 @@
 //! Chains are written, committed and read back on a disk in memory; chains that are none are refused (`page_chain`).
 
-use crate::disks::{agree, bytes_of, commit, opened, sealed, table_disk};
+use crate::disks::{bytes_of, commit, opened, sealed, table_disk};
 use page_chain::{Chain, PAYLOAD, read_chain, write_chain};
 use page_store::{PageFault, PageStore, Pages};
 use sector_disk::{FlakyDisk, MemDisk, SectorDisk};
 use std::alloc::{AllocError, Global};
 use std::test::Fail;
+use test_aids::expect;
 
 /// Sectors of a disk of 16 pages.
 const SIXTEEN: u64 = 128;
@@ -57,7 +58,7 @@ fn told_back(alloc: Global, size: usize) -> Result<(usize, bool), Fail> {
 #[test]
 fn what_is_written_is_read_back(rt: HostRuntime) -> Result<(), Fail> {
     for (size, pages) in [(0, 0), (1, 1), (4_092, 1), (4_093, 2), (65_786, 17)] {
-        agree(size, told_back(rt.alloc(), size)?, (pages, true))?;
+        expect(told_back(rt.alloc(), size)?, (pages, true), size)?;
     }
     Ok(())
 }
@@ -100,7 +101,7 @@ fn a_page_names_the_next_in_its_first_four_bytes(rt: HostRuntime) -> Result<(), 
     // 257 is 256 + 1, and 258 is 256 + 2.
     let number = if second == 257 { 1 } else { 2 };
     let wanted = [[0, 0, 1, number, 1, 1, 1, 1], [0, 0, 0, 0, 9, 8, 0, 0]];
-    agree("heads", (heads, zero), (wanted, true))
+    expect((heads, zero), (wanted, true), "heads")
 }
 
 /// What a chain of this size answers, as its length, and how many pages of 16 are free then.
@@ -117,7 +118,7 @@ fn a_chain_that_is_too_long_takes_no_page(rt: HostRuntime) -> Result<(), Fail> {
         (15 * PAYLOAD, (Ok(15), 0)),
     ];
     for (size, wanted) in rows {
-        agree(size, told_writing(rt.alloc(), size)?, wanted)?;
+        expect(told_writing(rt.alloc(), size)?, wanted, size)?;
     }
     Ok(())
 }
@@ -155,9 +156,9 @@ fn linked(alloc: Global, links: &[u32]) -> Result<MemDisk, Fail> {
 #[test]
 fn a_chain_goes_where_its_pages_lead(rt: HostRuntime) -> Result<(), Fail> {
     let chain = read_back(rt.alloc(), linked(rt.alloc(), &[3, 0, 2])?, 1, 12_276)?;
-    agree("goes on", chain.pages.as_slice(), [1, 3, 2].as_slice())?;
+    expect(chain.pages.as_slice(), [1, 3, 2].as_slice(), "goes on")?;
     let none = read_back(rt.alloc(), linked(rt.alloc(), &[0])?, 0, 0)?;
-    agree("of no bytes", none.pages.len(), 0)
+    expect(none.pages.len(), 0, "of no bytes")
 }
 
 /// What is no chain of its size: the pages from 1 on name these, and so many bytes are read from the first page on.
@@ -176,7 +177,7 @@ const NO_CHAINS: [(&str, &[u32], u32, usize); 8] = [
 fn what_is_no_chain_of_its_size_is_damaged(rt: HostRuntime) -> Result<(), Fail> {
     for (name, links, first, size) in NO_CHAINS {
         let told = following_fault(rt.alloc(), links, first, size)?;
-        agree(name, told, Some(PageFault::Damaged))?;
+        expect(told, Some(PageFault::Damaged), name)?;
     }
     Ok(())
 }
@@ -214,7 +215,7 @@ fn a_call_that_fails_is_told(rt: HostRuntime) -> Result<(), Fail> {
             writing_fault(rt.alloc(), at_call)?,
             reading_fault(rt.alloc(), at_call)?,
         );
-        agree(at_call, found, (fault, (fault, all_pass)))?;
+        expect(found, (fault, (fault, all_pass)), at_call)?;
     }
     Ok(())
 }
@@ -229,9 +230,9 @@ fn told_reading(alloc: Global) -> Result<(Option<PageFault>, Result<(), PageFaul
 
 #[test]
 fn a_read_that_fails_leaves_the_store_open(rt: HostRuntime) -> Result<(), Fail> {
-    agree(
-        "told",
+    expect(
         told_reading(rt.alloc())?,
         (Some(PageFault::Disk), Ok(())),
+        "told",
     )
 }

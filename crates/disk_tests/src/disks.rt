@@ -18,19 +18,6 @@ pub const WRITING: u64 = 8;
 /// To commit takes five: the gate is read, the spare slot written, a sync, the gate written, a sync.
 pub const COMMIT: u64 = 5;
 
-/// Refuses what is found at this row of a test if it is not what is wanted. It takes no handle, as `assert_eq!` does: a
-/// function that may end the process takes many times longer to prove.
-pub fn agree<R: Debug + Drop, T: PartialEq + Debug + Drop>(
-    row: R,
-    found: T,
-    wanted: T,
-) -> Result<(), Fail> {
-    if found == wanted {
-        return Ok(());
-    }
-    Err(Fail::new(format_args!("{row:?}: found {found:?}, wanted {wanted:?}")))
-}
-
 /// A disk of so many sectors with a table on it that has this root.
 pub fn table_disk(alloc: Global, sectors: u64, root: &[u8; 512]) -> Result<MemDisk, Fail> {
     let mut disk = MemDisk::new(alloc, sectors)?;

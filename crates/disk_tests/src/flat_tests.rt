@@ -1,7 +1,7 @@
 //! Tables in files of layout 1, on a disk in memory (`flat_table`): they are read, slots, chains and bytes that store none are
 //! refused, and one is saved in the place of another, with one disk call failing or the power stopped.
 
-use crate::disks::{COMMIT, OPENING, WRITING, agree, all_over, opened, sealed, table_disk};
+use crate::disks::{COMMIT, OPENING, WRITING, all_over, opened, sealed, table_disk};
 use crate::two_positions::{TWO, TWO_COUNTS, TWO_SIZES, two_with};
 use flat_table::read::read_all;
 use flat_table::slot::{GameSlot, empty_slot, game_slot, read_slot};
@@ -13,6 +13,7 @@ use root_pair::MAGIC;
 use sector_disk::{FlakyDisk, FuseDisk, MemDisk, SectorDisk};
 use std::alloc::{AllocError, Global};
 use std::test::Fail;
+use test_aids::expect;
 use table::Table;
 use table_bytes::{Sizes, Written};
 
@@ -68,9 +69,9 @@ fn told(alloc: Global, disk: MemDisk) -> Result<(u64, u32, Option<GameTold>), Fa
 #[test]
 fn a_game_is_read_and_an_empty_table_takes_no_page(rt: HostRuntime) -> Result<(), Fail> {
     let game = told(rt.alloc(), with_two(rt.alloc())?)?;
-    agree("game", game, (5, 14, Some((1, 1, TWO_COUNTS, true))))?;
+    expect(game, (5, 14, Some((1, 1, TWO_COUNTS, true))), "game")?;
     let empty = table_disk(rt.alloc(), SIXTEEN, &empty_slot())?;
-    agree("empty", told(rt.alloc(), empty)?, (0, 15, None))
+    expect(told(rt.alloc(), empty)?, (0, 15, None), "empty")
 }
 
 const DAMAGED: Option<PageFault> = Some(PageFault::Damaged);
@@ -86,7 +87,7 @@ fn a_root_that_names_no_chain_is_damaged(rt: HostRuntime) -> Result<(), Fail> {
     // The first is no slot.
     for root in [[7; 512], naming(0), naming(16), naming(u32::MAX)] {
         let disk = table_disk(rt.alloc(), SIXTEEN, &root)?;
-        agree("root", fault_of(rt.alloc(), disk), DAMAGED)?;
+        expect(fault_of(rt.alloc(), disk), DAMAGED, "root")?;
     }
     Ok(())
 }
@@ -106,7 +107,7 @@ fn too_small(alloc: Global) -> Result<MemDisk, Fail> {
 #[test]
 fn fewer_than_sixteen_pages_are_damaged(rt: HostRuntime) -> Result<(), Fail> {
     let told = fault_of(rt.alloc(), too_small(rt.alloc())?);
-    agree("small", told, DAMAGED)
+    expect(told, DAMAGED, "small")
 }
 
 /// What the table of two positions gives with another byte at one place, and where the slot counts so many expanded and
@@ -129,7 +130,7 @@ fn a_table_that_does_not_fit_or_is_counted_wrong_is_damaged(rt: HostRuntime) -> 
         sizes.counts.processed = processed;
         let disk = with_game(rt.alloc(), &two_with(at, byte), sizes)?;
         let row = (at, byte, expanded, processed);
-        agree(row, fault_of(rt.alloc(), disk), fault)?;
+        expect(fault_of(rt.alloc(), disk), fault, row)?;
     }
     Ok(())
 }
@@ -140,7 +141,7 @@ fn a_read_that_fails_is_told(rt: HostRuntime) -> Result<(), Fail> {
     for at_call in 0..=12 {
         let failing = FlakyDisk::new(with_two(rt.alloc())?, at_call, false);
         let wanted = (at_call < 12).then_some(PageFault::Disk);
-        agree(at_call, fault_of(rt.alloc(), failing), wanted)?;
+        expect(fault_of(rt.alloc(), failing), wanted, at_call)?;
     }
     Ok(())
 }
@@ -231,7 +232,7 @@ fn each_table_takes_the_place_of_the_one_before(rt: HostRuntime) -> Result<(), F
         sizes: Some(sizes_with(2)),
         byte: Some(2),
     };
-    agree("saved", save_both(rt.alloc(), 4_093, 4_092)?, wanted)
+    expect(save_both(rt.alloc(), 4_093, 4_092)?, wanted, "saved")
 }
 
 #[test]
@@ -242,10 +243,10 @@ fn a_table_that_is_too_long_leaves_the_one_before(rt: HostRuntime) -> Result<(),
         sizes: Some(sizes_with(1)),
         byte: Some(1),
     };
-    agree(
-        "refused",
+    expect(
         save_both(rt.alloc(), 100, 18 * 4_092 + 1)?,
         wanted,
+        "refused",
     )
 }
 
@@ -305,7 +306,7 @@ fn a_stop_at_each_call_leaves_the_old_table_or_the_new(rt: HostRuntime) -> Resul
         let found = (succeeded, found_after_stops(rt.alloc(), &disk)?);
         // The last but one of the calls writes the gate, and the last syncs it.
         let wanted = [passed < ALL, passed >= ALL - 1, false];
-        agree(passed, found, (passed == ALL, wanted))?;
+        expect(found, (passed == ALL, wanted), passed)?;
     }
     Ok(())
 }
@@ -328,7 +329,7 @@ fn after_a_refusal_all_pages_are_as_before(rt: HostRuntime) -> Result<(), Fail> 
         // Only the read of the gate leaves it open.
         let is_closed = call != OPENING + WRITING;
         let wanted = (Some(PageFault::Disk), 18, Some(1), is_closed);
-        agree(call, told_after(rt.alloc(), call)?, wanted)?;
+        expect(told_after(rt.alloc(), call)?, wanted, call)?;
     }
     Ok(())
 }

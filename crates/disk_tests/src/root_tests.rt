@@ -1,13 +1,14 @@
 //! What `create`, `open` and `publish` do on each kind of disk (`root_pair`), with a fault of the device and a stop of the
 //! power at each of their disk calls.
 
-use crate::disks::{agree, all_over, file_disk};
+use crate::disks::{all_over, file_disk};
 use root_pair::{RootFault, create, open, publish};
 use sector_disk::{FileDisk, FlakyDisk, FuseDisk, MemDisk, SectorDisk};
 use std::alloc::Global;
 use std::fs;
 use std::fs::File;
 use std::test::Fail;
+use test_aids::expect;
 
 /// What is done to a disk.
 #[derive(Clone, Copy, Debug)]
@@ -81,7 +82,7 @@ fn answer_to<D: SectorDisk>(disk: &mut D, deed: Deed) -> Answer {
 /// Runs a script on a disk.
 fn run<D: SectorDisk>(disk: &mut D, script: &[(Deed, Answer)]) -> Result<(), Fail> {
     for (deed, wanted) in script {
-        agree(*deed, answer_to(disk, *deed), *wanted)?;
+        expect(answer_to(disk, *deed), *wanted, *deed)?;
     }
     Ok(())
 }
@@ -333,10 +334,10 @@ fn a_file_becomes_a_table_and_keeps_it(rt: HostRuntime) -> Result<(), Fail> {
             .bytes
             .iter()
             .all(|(at, byte)| before.get(*at) == Some(byte));
-        agree(
-            row.length,
+        expect(
             (before.len(), kept, same),
             (row.length, true, true),
+            row.length,
         )?;
     }
     Ok(fs::remove_file(&rt, PATH)?)

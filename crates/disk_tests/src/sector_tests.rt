@@ -1,11 +1,12 @@
 //! What the disks answer (`sector_disk`): each is run at its own type, through the trait's bound.
 
-use crate::disks::{agree, all_over, file_disk, writable};
+use crate::disks::{all_over, file_disk, writable};
 use sector_disk::{DiskFault, FileDisk, FlakyDisk, FuseDisk, MemDisk, SectorDisk};
 use std::alloc::Global;
 use std::fs;
 use std::fs::File;
 use std::test::Fail;
+use test_aids::expect;
 
 /// A call of a disk.
 #[derive(Clone, Copy, Debug)]
@@ -79,7 +80,7 @@ fn answer_to<D: SectorDisk>(disk: &mut D, deed: Deed) -> Answer {
 /// Runs a script on a disk.
 fn run<D: SectorDisk>(disk: &mut D, script: &[(Deed, Answer)]) -> Result<(), Fail> {
     for (deed, wanted) in script {
-        agree(*deed, answer_to(disk, *deed), *wanted)?;
+        expect(answer_to(disk, *deed), *wanted, *deed)?;
     }
     Ok(())
 }
@@ -328,7 +329,7 @@ fn a_file_has_whole_sectors_and_tells_what_fails(rt: HostRuntime) -> Result<(), 
             .bytes
             .iter()
             .all(|(at, byte)| bytes.get(*at) == Some(byte));
-        agree(row.length, (bytes.len() as u64, same), (row.cut, true))?;
+        expect((bytes.len() as u64, same), (row.cut, true), row.length)?;
     }
     Ok(())
 }

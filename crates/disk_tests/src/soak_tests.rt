@@ -1,11 +1,12 @@
 //! Ten thousand random calls of a store (`page_store`) against two plain maps, with the power stopped at a random moment in
 //! or after each hundred.
 
-use crate::disks::{OPENING, agree, byte_of, let_go, opened, table_disk, write_new};
+use crate::disks::{OPENING, byte_of, let_go, opened, table_disk, write_new};
 use page_store::{PageFault, Pages};
 use sector_disk::{FuseDisk, MemDisk};
 use std::alloc::{AllocError, Global};
 use std::test::Fail;
+use test_aids::expect;
 
 const CALLS: u32 = 10_000;
 
@@ -252,14 +253,14 @@ fn recovered<P: Pages>(pages: &mut P, model: &mut Model) -> Result<bool, PageFau
 /// error where the store did not answer as the model does.
 fn until_stop(alloc: Global, disk: MemDisk, model: &mut Model) -> Result<Option<MemDisk>, Fail> {
     let mut pages = opened(alloc, disk)?;
-    agree("recovered", recovered(&mut pages, model)?, true)?;
+    expect(recovered(&mut pages, model)?, true, "recovered")?;
     if model.calls == CALLS {
         return Ok(None);
     }
     let passes = OPENING + u64::from(model.roll(DISK_CALLS));
     let mut pages = opened(alloc, FuseDisk::new(pages.into_disk(), passes))?;
     mark_all(&mut pages, model)?;
-    agree(("call", model.calls), sitting(&mut pages, model), true)?;
+    expect(sitting(&mut pages, model), true, ("call", model.calls))?;
     let pick = u64::from(model.roll(u32::MAX)) * 0x1_0000_0001;
     let left = pages.into_disk().into_inner().after_stop(alloc, pick)?;
     Ok(Some(left))
@@ -288,9 +289,9 @@ fn ten_thousand_calls_agree_with_plain_maps(rt: HostRuntime) -> Result<(), Fail>
         }
     }
     let came_up = counted(&model).map(|count| count > 0);
-    agree(
-        "calls and what came up",
+    expect(
         (model.calls, came_up),
         (CALLS, [true; 5]),
+        "calls and what came up",
     )
 }

@@ -1,12 +1,11 @@
 //! A page and a root that names it (`page_store`), with the power stopped or one disk call failing at each place.
 
-use crate::disks::{
-    COMMIT, OPENING, WRITING, agree, byte_of, commit, let_go, opened, sealed, table_disk, write_new,
-};
+use crate::disks::{COMMIT, OPENING, WRITING, byte_of, commit, let_go, opened, sealed, table_disk, write_new, };
 use page_store::{PageFault, PageStore, Pages};
 use sector_disk::{FlakyDisk, FuseDisk, MemDisk};
 use std::alloc::Global;
 use std::test::Fail;
+use test_aids::expect;
 
 /// The disk call of `put_twos` that reads the gate, where its commit begins.
 const GATE_READ: u64 = OPENING + WRITING;
@@ -110,7 +109,7 @@ fn a_stop_at_each_call_leaves_the_old_page_or_the_new(rt: HostRuntime) -> Result
         let found = (succeeded, found_after_stops(rt.alloc(), &disk)?);
         // Up to the write of the gate the old page is there, and once all is acknowledged the new; between them either.
         let wanted = [passed < ALL, passed > GATE_WRITTEN, false];
-        agree(passed, found, (passed == ALL, wanted))?;
+        expect(found, (passed == ALL, wanted), passed)?;
     }
     Ok(())
 }
@@ -138,7 +137,7 @@ fn a_write_or_sync_that_fails_closes_the_store(rt: HostRuntime) -> Result<(), Fa
             let found = told_after(rt.alloc(), call, done)?;
             // One page is taken and one released.
             let wanted = ((true, 1, [13, 14]), if is_new { NEW } else { OLD });
-            agree((call, done), found, wanted)?;
+            expect(found, wanted, (call, done))?;
         }
     }
     Ok(())
@@ -156,11 +155,11 @@ fn a_commit_whose_read_failed_is_made_again(rt: HostRuntime) -> Result<(), Fail>
     let flaky = FlakyDisk::new(disk_of_ones(rt.alloc())?, GATE_READ, false);
     let mut pages = opened(rt.alloc(), flaky)?;
     let told = told_twice(&mut pages);
-    agree("told", told, (Err(PageFault::Disk), 13, Ok(())))?;
-    agree(
-        "seen",
+    expect(told, (Err(PageFault::Disk), 13, Ok(())), "told")?;
+    expect(
         seen(rt.alloc(), pages.into_disk().into_inner())?,
         NEW,
+        "seen",
     )
 }
 
@@ -178,7 +177,7 @@ fn a_read_that_fails_leaves_the_store_as_it_was(rt: HostRuntime) -> Result<(), F
     let answers = [Some(PageFault::Damaged), None, None, None];
     for call in OPENING..GATE_READ {
         let told = told_reading(rt.alloc(), call)?;
-        agree(call, told, (Err(PageFault::Disk), Ok(Some(1)), answers))?;
+        expect(told, (Err(PageFault::Disk), Ok(Some(1)), answers), call)?;
     }
     Ok(())
 }
@@ -195,7 +194,7 @@ fn refused_opening(alloc: Global, call: u64) -> Result<Option<(PageFault, Seen)>
 fn a_disk_that_fails_at_opening_comes_back(rt: HostRuntime) -> Result<(), Fail> {
     for call in 0..OPENING {
         let told = refused_opening(rt.alloc(), call)?;
-        agree(call, told, Some((PageFault::Disk, OLD)))?;
+        expect(told, Some((PageFault::Disk, OLD)), call)?;
     }
     Ok(())
 }

@@ -1,9 +1,10 @@
 //! Pages are marked, handed out, written and released (`page_store`), through the trait's bound, on a disk in memory.
 
-use crate::disks::{agree, all_over, byte_of, commit, let_go, opened, table_disk, write_new};
+use crate::disks::{all_over, byte_of, commit, let_go, opened, table_disk, write_new};
 use page_store::{PageFault, PageStore, Pages};
 use sector_disk::{MemDisk, SectorDisk};
 use std::test::Fail;
+use test_aids::expect;
 
 /// What is done to a store.
 #[derive(Clone, Copy, Debug)]
@@ -122,7 +123,7 @@ fn run<P: Pages>(pages: &mut P, script: &[(Deed, Answer)]) -> Result<(), Fail> {
         if let PutIt(byte) = *deed {
             it = write_new(pages, byte)?;
         }
-        agree(*deed, answer_to(pages, it, *deed), *wanted)?;
+        expect(answer_to(pages, it, *deed), *wanted, *deed)?;
     }
     Ok(())
 }
@@ -231,7 +232,7 @@ fn a_disk_with_no_table_comes_back(rt: HostRuntime) -> Result<(), Fail> {
             Ok(_) => None,
             Err(refused) => Some((refused.fault, refused.disk.sectors())),
         };
-        agree(sectors, found, Some((PageFault::NotATable, sectors)))?;
+        expect(found, Some((PageFault::NotATable, sectors)), sectors)?;
     }
     Ok(())
 }

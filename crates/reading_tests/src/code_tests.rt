@@ -1,5 +1,5 @@
 //! Texts with the code of their fault, worked out by hand.
-use crate::expectation::expect;
+use test_aids::expect;
 use crate::game_texts::{ONE_VERTEX, TWO_VERTICES, code, with_rules};
 use std::alloc::Global;
 use std::test::Fail;

@@ -4,12 +4,6 @@ use rbg_read::read::read_game;
 use std::alloc::Global;
 use std::test::Fail;
 
-/// The game of takes from a heap of three.
-pub const TAKE: &str =
-    "#players = white(1), black(1)  #pieces = e  #variables = heap(3)  #board = v[e]{}
- #rules = [$heap=3] (->white ([$heap=heap-1]+[$heap=heap-2]) [$white=1][$black=0]
- ->black ([$heap=heap-1]+[$heap=heap-2]) [$black=1][$white=0])*";
-
 /// All but the rules of a game on one vertex.
 pub const ONE_VERTEX: &str = "#players = white(1), black(1) #pieces = e #board = v[e]{}";
 

@@ -4,8 +4,6 @@
 #[cfg(test)]
 mod code_tests;
 #[cfg(test)]
-mod expectation;
-#[cfg(test)]
 mod game_texts;
 #[cfg(test)]
 mod limit_tests;

@@ -1,5 +1,5 @@
 //! Texts up to the limits and one past them, worked out by hand.
-use crate::expectation::expect;
+use test_aids::expect;
 use crate::game_texts::{TWO_VERTICES, code, repeated, with_rules};
 use std::alloc::Global;
 use std::test::Fail;

@@ -2,7 +2,7 @@
 ghost use Rattle.std.specs.Prelude.{IfOk};
 ghost use Rattle.legal_moves.specs.Compiled.{IsCompiled};
 
-use crate::expectation::expect;
+use test_aids::expect;
 use legal_moves::{Compiled, Modifier, MoveSource, Moves};
 use position_pack::Packed;
 use rbg_game::roles::{Player, Role};

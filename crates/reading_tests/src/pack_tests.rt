@@ -4,8 +4,7 @@ ghost use Rattle.rbg_game.specs.Meaning.{game_of};
 ghost use Rattle.rbg_game.specs.Names.{HasProperNames};
 ghost use Rattle.rbg_game.specs.Sound.{IsSoundGame};
 
-use crate::expectation::expect;
-use crate::game_texts::TAKE;
+use test_aids::{TAKE, expect};
 use position_pack::{Packing, read_position};
 use rbg_game::game::Game;
 use rbg_game::position::Position;

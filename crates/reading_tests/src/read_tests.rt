@@ -1,6 +1,6 @@
 //! What is read of a game's text.
-use crate::expectation::expect;
-use crate::game_texts::{TAKE, sizes};
+use test_aids::{TAKE, expect};
+use crate::game_texts::sizes;
 use std::test::Fail;
 
 /// Three vertices in a ring.

@@ -1,5 +1,5 @@
 //! Tokens, sections and how deep brackets nest.
-use crate::expectation::expect;
+use test_aids::expect;
 use rbg_text::fault::ReadError;
 use rbg_text::lexer::tokens;
 use rbg_text::nesting::nesting;

@@ -5,14 +5,7 @@ use session::commands::{FileCommand, command_on};
 use session::line_by_line::session_over;
 use std::alloc::Global;
 use std::test::Fail;
-
-/// The game of takes from a heap of three.
-pub const TAKE: &str =
-    "#players = white(1), black(1)  #pieces = e  #variables = heap(3)  #board = v[e]{}
-#rules = [$heap=3] (
-    ->white ([$heap=heap-1]+[$heap=heap-2]) [$white=1][$black=0]
-    ->black ([$heap=heap-1]+[$heap=heap-2]) [$black=1][$white=0]
-)*";
+use test_aids::TAKE;
 
 /// Sectors of the smallest disk that takes a table.
 pub const SECTORS: u64 = 128;

@@ -1,11 +1,12 @@
 //! A list of commands in one call.
 
-use crate::deeds::{Deed, EMPTY, LOADED, TAKE, WORKED, all_say, disk_after};
+use crate::deeds::{Deed, EMPTY, LOADED, WORKED, all_say, disk_after};
 use recover::{Command, Reply, Solver, SolverFault, Units};
 use retrograde::Counts;
 use sector_disk::{FuseDisk, MemDisk, SectorDisk};
 use std::alloc::Global;
 use std::test::Fail;
+use test_aids::TAKE;
 
 /// More disk calls than the run here makes.
 const MOST_CALLS: u64 = 64;

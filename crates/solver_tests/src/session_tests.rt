@@ -1,6 +1,6 @@
 //! Disks and outputs that fail in a session, and what is printed of refusals and of the greatest numbers.
 
-use crate::deeds::{Deed, LOADED, SECTORS, TAKE, disk_after};
+use crate::deeds::{Deed, LOADED, SECTORS, disk_after};
 use best_line::Value;
 use rbg_game::roles::Player;
 use rbg_read::fault::GameFault;
@@ -15,6 +15,7 @@ use session::replies::{put_status, value_line};
 use std::alloc::Global;
 use std::io::{self, ErrorKind, Write};
 use std::test::Fail;
+use test_aids::TAKE;
 
 /// A writer that takes so many bytes, and then fails.
 #[derive(Drop)]

@@ -1,9 +1,5 @@
 //! Game texts for the tests: those of `games/`, and small rules on one vertex.
 
-/// The game of takes from a heap of three.
-pub const TAKE: &str =
-    "#players = white(1), black(1)  #pieces = e  #variables = heap(3)  #board = v[e]{}  #rules = [$heap=3] (->white ([$heap=heap-1]+[$heap=heap-2]) [$white=1][$black=0] ->black ([$heap=heap-1]+[$heap=heap-2]) [$black=1][$white=0])*";
-
 /// The game that forks: a win that is found late by number is near by distance.
 pub const FORK: &str = "#players = white(1), black(1)
 #pieces = e

@@ -2,8 +2,6 @@
 #![tactic(auto)]
 
 #[cfg(test)]
-mod expectation;
-#[cfg(test)]
 mod game_texts;
 #[cfg(test)]
 mod games;

@@ -1,6 +1,6 @@
 //! Worked examples of values, lists and lines.
-use crate::expectation::expect;
-use crate::game_texts::{FORK, ROUND, TAKE};
+use test_aids::{TAKE, expect};
+use crate::game_texts::{FORK, ROUND};
 use crate::games::{Solving, begun, works};
 use best_line::Value::{self, Drawn, Open, Won};
 use best_line::{LineFault, Row, line, list, value};

@@ -1,5 +1,5 @@
 //! What a table answers, through the trait's bound, at the table in memory.
-use crate::expectation::expect;
+use test_aids::expect;
 use crate::games::record_of;
 use position_pack::Packed;
 use rbg_game::roles::Player;

@@ -1,6 +1,5 @@
 //! The game of takes on a store of pages.
-use crate::expectation::expect;
-use crate::game_texts::TAKE;
+use test_aids::{TAKE, expect};
 use crate::games::{Solving, begun, record_of, works};
 use game_table::Source;
 use legal_moves::MoveSource;

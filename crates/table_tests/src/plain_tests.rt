@@ -1,6 +1,6 @@
 //! Tables in memory, worked to their end, against the plain solver.
-use crate::expectation::expect;
-use crate::game_texts::{FORK, HEXAPAWN, NIM, SMALL, TAKE};
+use test_aids::{TAKE, expect};
+use crate::game_texts::{FORK, HEXAPAWN, NIM, SMALL};
 use crate::games::{Solving, begun, small, winner, works};
 use crate::plain::{Node, Outcome, solve};
 use game_table::Source;

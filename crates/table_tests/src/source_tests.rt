@@ -1,6 +1,5 @@
 //! A game's table from its text to its end, and positions as text.
-use crate::expectation::expect;
-use crate::game_texts::TAKE;
+use test_aids::{TAKE, expect};
 use crate::games::{Solving, begun, source_of};
 use game_table::Source;
 use position_pack::Packed;

@@ -1,6 +1,6 @@
 //! Worked examples of the two units of work, on tables in memory.
-use crate::expectation::expect;
-use crate::game_texts::{FORK, HEXAPAWN, TAKE, TIC_TAC_TOE};
+use test_aids::{TAKE, expect};
+use crate::game_texts::{FORK, HEXAPAWN, TIC_TAC_TOE};
 use crate::games::{Solving, begun, small, winner, works};
 use frontier::expand_one;
 use legal_moves::MoveSource;
