@@ -1,3 +1,4 @@
 pub mod MeaningLemmas
 pub mod ValueLemmas
 pub mod CountLemmas
+pub mod DepthLemmas

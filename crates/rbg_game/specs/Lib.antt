@@ -2,6 +2,7 @@ pub mod Expressions
 pub mod Rules
 pub mod Games
 pub mod Meaning
+pub mod Depth
 pub mod Sound
 pub mod Positions
 pub mod Take

@@ -3,6 +3,7 @@ pub mod Defaults
 pub mod EveryText
 pub mod ExampleReading
 pub mod Examples
+pub mod FlatNodes
 pub mod Labels
 pub mod NoCause
 pub mod Lists
@@ -14,6 +15,7 @@ pub mod TakeReading
 pub mod TreeParts
 pub mod OneReading
 pub mod Outcome
+pub mod ShallowRules
 pub mod SmallExpressions
 pub mod SoundRules
 pub mod SoundGames

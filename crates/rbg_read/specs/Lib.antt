@@ -1,6 +1,7 @@
 pub mod Build
 pub mod Causes
 pub mod Codes
+pub mod Depths
 pub mod Example
 pub mod Flat
 pub mod Means

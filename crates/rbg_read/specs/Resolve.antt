@@ -28,8 +28,8 @@ empty_stack = record { set = None; expressions = []; rules = [] }
 abbrev pub stack_of : CodeStack → Stack
 stack_of s = record {
   set = option_map (λ v. v.items) s.set;
-  expressions = map expression_of (reverse s.expressions.items);
-  rules = map regex_of (reverse s.rules.items);
+  expressions = map (λ e. expression_of e.expr) (reverse s.expressions.items);
+  rules = map (λ r. regex_of r.rules) (reverse s.rules.items);
 }
 
 -- ---- the newest, where there is one

@@ -1,12 +1,14 @@
 //! The game of the parts of a text.
 
-ghost use Rattle.std.specs.Prelude.{◌≡◌, ◌++◌, map, false, None, IfOk};
+ghost use Rattle.std.specs.Prelude.{◌≡◌, ◌≤◌, ◌++◌, map, false, None, IfOk};
 ghost use Rattle.rbg_text.specs.Said.{declaration_view, arrow_view, vertex_view};
 ghost use Rattle.std.specs.List.{list_any};
 ghost use Rattle.rbg_game.specs.Meaning as meaning;
-ghost use Rattle.rbg_game.specs.Meaning.{game_of, variable_of, arrow_of};
+ghost use Rattle.rbg_game.specs.Meaning.{game_of, regex_of, variable_of, arrow_of};
+ghost use Rattle.rbg_game.specs.Depth.{rules_depth};
 ghost use Rattle.rbg_read.specs.Means.{declared};
 ghost use Rattle.rbg_read.specs.Build.{flat_game, placed_vertex, placed_arrow};
+ghost use Rattle.rbg_read.specs.Depths.{rules_depths};
 ghost use Rattle.rbg_read.specs.Flat.{flat_cause, has_large_bound};
 ghost use Rattle.rbg_read.specs.Parts.{known_of, known_view, parts_view, AreFew};
 
@@ -97,7 +99,8 @@ fn vertices_of(
 pub fn build(alloc: Global, names: &Names, parts: &Parts) -> Result<Game, AllocError>
     requires named { known_view names.now ≡ known_of (parts_view parts.now) }
     requires fine { flat_cause (known_view names.now) (parts_view parts.now) ≡ None }
-    ensures { IfOk result (λ game. game_of game ≡ flat_game (known_view names.now) (parts_view parts.now)) }
+    ensures means { IfOk result (λ game. game_of game ≡ flat_game (known_view names.now) (parts_view parts.now)) }
+    ensures shallow { IfOk result (λ game. rules_depth game.rules ≤ (rules_depths (regex_of game.rules)).whole) }
 {
     let mut variables = Vec::new(alloc);
     add_variables(alloc, &mut variables, parts.players.as_slice())?;

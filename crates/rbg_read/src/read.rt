@@ -1,9 +1,11 @@
 //! Reads a game text.
 
-ghost use Rattle.std.specs.Prelude.{◌≡◌, ◌≢◌, IfOk, IfErr};
+ghost use Rattle.std.specs.Prelude.{◌≡◌, ◌≢◌, ◌≤◌, ◌+◌, ◌*◌, IfOk, IfErr};
 ghost use Rattle.rbg_game.specs.Games.{Game as TextbookGame};
 ghost use Rattle.rbg_game.specs.Sound.{IsSoundGame};
 ghost use Rattle.rbg_game.specs.Meaning.{game_of};
+ghost use Rattle.rbg_game.specs.Depth.{rules_depth};
+ghost use Rattle.rbg_text.specs.NestingCount.{max_nesting};
 ghost use Rattle.rbg_read.specs.Reading.{Reads, Fault};
 
 use crate::build::build;
@@ -25,6 +27,8 @@ const MAX_NESTING: usize = 64;
 pub fn read_game(alloc: Global, text: &[u8]) -> Result<Game, GameFault>
     ensures reads { IfOk result (λ game. Reads text.now (game_of game)) }
     ensures sound { IfOk result (λ game. IsSoundGame (game_of game)) }
+    // No list of terms, factors, branches or parts makes its tree deeper: only brackets do.
+    ensures shallow { IfOk result (λ game. rules_depth game.rules ≤ 4 * max_nesting + 6) }
     ensures fault { IfErr result (λ fault. fault ≢ GameFault.OutOfMemory → Fault text.now fault) }
     // A text that reads to a game is refused for want of memory alone.
     ensures only { (game : TextbookGame) → Reads text.now game → IfErr result (λ fault. fault ≡ GameFault.OutOfMemory) }

@@ -1,6 +1,6 @@
 //! Steps in postfix order to rules.
 
-ghost use Rattle.std.specs.Prelude.{◌≡◌, map, false, IfOk};
+ghost use Rattle.std.specs.Prelude.{◌≡◌, ◌≤◌, map, false, IfOk};
 ghost use Rattle.std.specs.List.{list_any};
 ghost use Rattle.rbg_text.specs.View.{step_view};
 ghost use Rattle.rbg_game.specs.Meaning.{expression_of, regex_of, action_of};
@@ -8,13 +8,15 @@ ghost use Rattle.rbg_game.specs.Rules.{Regex};
 ghost use Rattle.rbg_game.specs.Expressions.{Expression};
 ghost use Rattle.rbg_read.specs.Resolve as spec;
 ghost use Rattle.rbg_read.specs.Parts.{known_view, AreFew};
+ghost use Rattle.rbg_game.specs.Depth.{rules_depth};
+ghost use Rattle.rbg_read.specs.Depths.{IsFlatAction, rules_depths};
 ghost use Rattle.rbg_read.specs.Flat.{is_large_number};
 
 use crate::names::Names;
-use crate::nodes;
+use crate::nodes::{self, FlatExpr, FlatRules};
 use crate::numbers::number;
 use rbg_game::roles::{Player, Role};
-use rbg_game::rules::{Action, Comparison, Expr, Rules};
+use rbg_game::rules::{Action, Comparison, Rules};
 use rbg_text::parser::Step;
 use std::alloc::{AllocError, Global};
 
@@ -24,8 +26,8 @@ pub struct Stack {
     alloc: Global,
     /// The set whose pieces come next.
     set: Option<Vec<u8>>,
-    expressions: Vec<Expr>,
-    rules: Vec<Rules>,
+    expressions: Vec<FlatExpr>,
+    rules: Vec<FlatRules>,
 }
 
 impl Stack {
@@ -40,41 +42,42 @@ impl Stack {
         }
     }
 
-    fn push_expression(&mut self, expr: Expr) -> Result<(), AllocError>
-        ensures { IfOk result (λ _. spec.stack_of self.new ≡ spec.push_expression (expression_of expr) (spec.stack_of self.old)) }
+    fn push_expression(&mut self, expr: FlatExpr) -> Result<(), AllocError>
+        ensures { IfOk result (λ _. spec.stack_of self.new ≡ spec.push_expression (expression_of expr.expr) (spec.stack_of self.old)) }
     {
         self.expressions.push(expr)?;
         Ok(())
     }
 
     /// The newest expression, or 0 where there is none.
-    fn pop_expression(&mut self) -> Expr
-        ensures value { expression_of result ≡ spec.first_expression (spec.stack_of self.old).expressions }
+    fn pop_expression(&mut self) -> FlatExpr
+        ensures value { expression_of result.expr ≡ spec.first_expression (spec.stack_of self.old).expressions }
         ensures after { spec.stack_of self.new ≡ spec.pop_expression (spec.stack_of self.old) }
     {
-        self.expressions.pop().unwrap_or(Expr::Number(0))
+        self.expressions.pop().unwrap_or(nodes::number(0))
     }
 
-    fn push_rules(&mut self, rules: Rules) -> Result<(), AllocError>
-        ensures { IfOk result (λ _. spec.stack_of self.new ≡ spec.push_rules (regex_of rules) (spec.stack_of self.old)) }
+    fn push_rules(&mut self, rules: FlatRules) -> Result<(), AllocError>
+        ensures { IfOk result (λ _. spec.stack_of self.new ≡ spec.push_rules (regex_of rules.rules) (spec.stack_of self.old)) }
     {
         self.rules.push(rules)?;
         Ok(())
     }
 
     /// The newest part of the rules, or no action where there is none.
-    fn pop_rules(&mut self) -> Rules
-        ensures value { regex_of result ≡ spec.first_rules (spec.stack_of self.old).rules }
+    fn pop_rules(&mut self) -> FlatRules
+        ensures value { regex_of result.rules ≡ spec.first_rules (spec.stack_of self.old).rules }
         ensures after { spec.stack_of self.new ≡ spec.pop_rules (spec.stack_of self.old) }
     {
-        let empty = Rules::Concat(Vec::new(self.alloc));
-        self.rules.pop().unwrap_or(empty)
+        let nothing = nodes::nothing(self.alloc);
+        self.rules.pop().unwrap_or(nothing)
     }
 
     fn push_action(&mut self, action: Action) -> Result<(), AllocError>
+        requires { IsFlatAction action }
         ensures { IfOk result (λ _. spec.stack_of self.new ≡ spec.push_action (action_of action) (spec.stack_of self.old)) }
     {
-        self.push_rules(Rules::Action(action))
+        self.push_rules(nodes::action(action))
     }
 
     /// The set, where one was begun, is an action.
@@ -127,7 +130,7 @@ impl Stack {
         ensures { IfOk result (λ _. spec.stack_of self.new ≡ spec.assigned variable (spec.stack_of self.old)) }
     {
         let value = self.pop_expression();
-        self.push_action(Action::Assignment(variable, value))
+        self.push_action(Action::Assignment(variable, value.expr))
     }
 
     fn compare(&mut self, test: Comparison) -> Result<(), AllocError>
@@ -135,14 +138,14 @@ impl Stack {
     {
         let right = self.pop_expression();
         let left = self.pop_expression();
-        self.push_action(Action::Comparison(left, test, right))
+        self.push_action(Action::Comparison(left.expr, test, right.expr))
     }
 
     fn pattern(&mut self, is_positive: bool) -> Result<(), AllocError>
         ensures { IfOk result (λ _. spec.stack_of self.new ≡ spec.pattern_made is_positive (spec.stack_of self.old)) }
     {
         let inner = self.pop_rules();
-        let inner = Box::new(self.alloc, inner)?;
+        let inner = Box::new(self.alloc, inner.rules)?;
         self.push_action(Action::Pattern(is_positive, inner))
     }
 
@@ -195,8 +198,8 @@ impl Stack {
             (spec.stack_of self.old)) }
     {
         match step {
-            Step::Number(digits) => self.push_expression(Expr::Number(number(digits))),
-            Step::Variable(name) => self.push_expression(Expr::Variable(names.value_place(name))),
+            Step::Number(digits) => self.push_expression(nodes::number(number(digits))),
+            Step::Variable(name) => self.push_expression(nodes::variable(names.value_place(name))),
             Step::Negate => self.negate(),
             Step::Add => self.add(),
             Step::Subtract => self.subtract(),
@@ -251,12 +254,13 @@ fn role_at(place: u8) -> Role
 pub fn resolve(alloc: Global, names: &Names, steps: &[Step]) -> Result<Rules, AllocError>
     requires few { AreFew (known_view names.now) }
     requires within { list_any is_large_number (map step_view steps.now) ≡ false }
-    ensures { IfOk result (λ r. regex_of r ≡ spec.resolved (known_view names.now) (map step_view steps.now)) }
+    ensures means { IfOk result (λ r. regex_of r ≡ spec.resolved (known_view names.now) (map step_view steps.now)) }
+    ensures shallow { IfOk result (λ r. rules_depth r ≤ (rules_depths (regex_of r)).whole) }
 {
     let mut stack = Stack::new(alloc);
     for step in steps {
         stack.step(names, *step)?;
     }
     stack.finish_set()?;
-    Ok(stack.pop_rules())
+    Ok(stack.pop_rules().rules)
 }

@@ -37,8 +37,8 @@ resolve-requires-clause-within c =
     let fine = no_cause (known_view c.args.names.now) (parts_view c.args.parts.now) c.requires.fine in
     ap (λ ss. list_any is_large_number (map step_view ss)) c.as_slice-6.ensures.value ∙ (no_large c.args.parts.now fine.no_large_number).steps
 
-pub returns : goal.returns
-returns c =
+pub returns-clause-means : goal.returns-clause-means
+returns-clause-means c =
     let names = known_view c.args.names.now in
     let parts = c.args.parts.now in
     let pieces = c.in_ok-all_named.ensures ∙ ap (map (λ w. w.now)) c.as_slice-3.ensures.value in
@@ -50,5 +50,5 @@ returns c =
     ∙ sym (two_maps declared declaration_view parts.players.items parts.variables.items) in
     let labels = c.in_ok-all_named-2.ensures ∙ ap (map (λ w. w.now)) c.as_slice-4.ensures.value in
     let vertices = c.in_ok-vertices_of.ensures ∙ ap (map (λ v. placed_vertex names (vertex_view v))) c.as_slice-5.ensures.value ∙ sym (map_map (placed_vertex names) vertex_view parts.vertices.items) in
-    let rules = c.in_ok-resolve.ensures ∙ ap (λ ss. resolved names (map step_view ss)) c.as_slice-6.ensures.value in
+    let rules = c.in_ok-resolve.ensures.means ∙ ap (λ ss. resolved names (map step_view ss)) c.as_slice-6.ensures.value in
     λ i. record { pieces = pieces i; variables = variables i; labels = labels i; vertices = vertices i; rules = rules i }

@@ -8,6 +8,7 @@ use Rattle.rbg_read.specs.Parts.{parts_view, known_view}
 use Rattle.rbg_read.specs.Reading.{too_long, stray_byte, nested, grammar}
 use Rattle.rbg_read.proofs.Outcome.{passed_on, kept_on, lacks, refused, read}
 use Rattle.rbg_read.proofs.SoundGames.{read_sound}
+use Rattle.rbg_read.proofs.ShallowRules.{read_shallow}
 use Rattle.rbg_read.proofs.OneReading.{no_fault, refused_only}
 use Rattle.rbg_read.proofs.read.read_game.Goals as goal
 
@@ -70,7 +71,7 @@ returns-clause-reads c =
     read c.args.text.now (map token_view tokens) sections.0 (map section_view c.in_ok-sections.sections.items)
     c.if-text-gt-MAX_BYTES.false flat c.in_ok-tokens.ensures.split (sym same ∙ sections.1) sections.2
     (parts_view c.in-Some.parts) (known_view c.in_ok-names.names) (game_of c.in_ok-build.field-0)
-    (sym c.in_ok-parts.ensures ∙ ap (option_map parts_view) c.in-Some.is) c.in_ok-names.ensures c.in_ok-check.ensures c.in_ok-build.ensures
+    (sym c.in_ok-parts.ensures ∙ ap (option_map parts_view) c.in-Some.is) c.in_ok-names.ensures c.in_ok-check.ensures c.in_ok-build.ensures.means
 
 pub returns-then-text-gt-MAX_BYTES-clause-only : goal.returns-then-text-gt-MAX_BYTES-clause-only
 returns-then-text-gt-MAX_BYTES-clause-only c = λ game is. absurd (no_fault c.args.text.now game _ is (returns-then-text-gt-MAX_BYTES-clause-fault c (λ e. absurd (cc))))
@@ -92,3 +93,7 @@ returns-in_err-check-clause-only c = λ game is. refused_only c.args.text.now c.
 
 pub returns-clause-sound : goal.returns-clause-sound
 returns-clause-sound c = read_sound c.args.text.now (game_of c.in_ok-build.field-0) (returns-clause-reads c)
+
+pub returns-clause-shallow : goal.returns-clause-shallow
+returns-clause-shallow c =
+    omega (arith, c.in_ok-build.ensures.shallow, read_shallow c.args.text.now (game_of c.in_ok-build.field-0) (returns-clause-reads c))

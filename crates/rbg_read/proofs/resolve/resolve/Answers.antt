@@ -1,9 +1,10 @@
-use Rattle.std.proofs.Common.{get_or, sym, ap, ◌∙◌}
+use Rattle.std.proofs.Common.{get_or, sym, ap, ◌∙◌, arith}
 use Rattle.rbg_text.specs.View.{step_view}
 use Rattle.rbg_read.specs.Flat.{is_large_number}
 use Rattle.rbg_read.specs.Parts.{known_view}
 use Rattle.rbg_read.specs.Resolve.{finished, first_rules, after_step, empty_stack, resolved}
 use Rattle.rbg_read.proofs.Defaults.{no_step}
+use Rattle.rbg_read.proofs.FlatNodes.{rules_whole}
 use Rattle.rbg_read.proofs.Lists.{fold_turn, fold_end, none_at}
 use Rattle.rbg_read.proofs.resolve.resolve.Goals as goal
 
@@ -17,8 +18,11 @@ loop-step-preserved c =
     ∙ ap (λ s. next s (step_view (get_or c.args.steps.now c.loop-step.step-index no_step))) c.loop-step.invariant
     ∙ sym (fold_turn next empty_stack step_view c.args.steps.now c.loop-step.step-index no_step c.loop-step-test.true)
 
-pub returns : goal.returns
+pub returns-clause-means : goal.returns-clause-means
 unfolding resolved
-returns c =
+returns-clause-means c =
     let end = fold_end (after_step (known_view c.args.names.now)) empty_stack step_view c.args.steps.now c.loop-step.step-index c.loop-step-test.false in
     c.pop_rules.ensures.value ∙ ap (λ s. first_rules s.rules) (c.in_ok-finish_set.ensures ∙ ap finished (c.loop-step.invariant ∙ end))
+
+pub returns-clause-shallow : goal.returns-clause-shallow
+returns-clause-shallow c = omega (arith, rules_whole c.pop_rules.result.rules, c.pop_rules.result.flat.whole)
