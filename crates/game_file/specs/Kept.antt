@@ -1,5 +1,5 @@
 -- What a file keeps of a game, and which pictures of a disk store it.
-use Rattle.std.specs.Prelude.{ℕ, List, Option, None, Some, length}
+use Rattle.std.specs.Prelude.{ℕ, List, Option, None, Some}
 use Rattle.sector_disk.specs.Disk.{Picture}
 use Rattle.retrograde.specs.Stored.{Stored}
 
@@ -16,11 +16,6 @@ kept_as t s = record { text = t; table = s }
 abbrev pub text_kept : Option Kept → Option (List ℕ)
 text_kept None = None
 text_kept (Some kept) = Some kept.text
-
--- how many positions are known, none if no game is loaded
-abbrev pub known_in : Option Kept → ℕ
-known_in None = 0
-known_in (Some kept) = length kept.table.positions
 
 -- which picture of a disk stores which table, or that none of a game is there: each layout of a file says it in its own way
 abbrev pub Layout : Type 1

@@ -28,10 +28,6 @@ OfKept Such (Some kept) = Such kept
 abbrev pub Tells : (Kept → Type 0) → State → Type 0
 Tells Such state = IsTrue state.disk.honest → OfKept Such state.kept
 
--- so many positions are known
-abbrev pub HasSoMany : ℕ → Kept → Type 0
-HasSoMany known kept = known ≡ length kept.table.positions
-
 -- the number is that of a known position
 abbrev pub IsThere : ℕ → Kept → Type 0
 IsThere number kept = number < length kept.table.positions
