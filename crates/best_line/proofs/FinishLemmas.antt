@@ -13,7 +13,8 @@ use Rattle.retrograde.specs.Stored.{Stored, IsTable, view_of, is_processed, is_s
 use Rattle.retrograde.proofs.Finished.{element}
 use Rattle.best_line.specs.declared.answers.Value.{Value}
 use Rattle.best_line.specs.declared.answers.Value.TheVariants.{Won, Drawn, Open}
-use Rattle.best_line.specs.Values.{IsValue, IsComplete, IsUnsettled}
+use Rattle.best_line.specs.Values.{IsValue, IsComplete}
+use Rattle.best_line.specs.aid.Values.{IsUnsettled}
 
 -- a processed position is settled
 processed_counts_less : (s : State) → cond (is_processed s) 1 0 ≤ cond (is_settled s) 1 0

@@ -3,3 +3,4 @@ pub mod Rows
 pub mod Lines
 pub mod Causes
 pub mod Laws
+pub mod aid

@@ -1,5 +1,5 @@
 -- What a best line is.
-use Rattle.std.specs.Prelude.{◌≡◌, ◌⊎◌, ◌<◌, ℕ, zero, suc, List, [], ◌∷◌, Some, slice_get}
+use Rattle.std.specs.Prelude.{◌≡◌, ◌⊎◌, ℕ, zero, suc, List, [], ◌∷◌, Some, slice_get}
 use Rattle.std.specs.List.{AllZip}
 use Rattle.std.specs.declared.cmp.Ordering.TheVariants.{Less}
 use Rattle.rbg_game.specs.declared.roles.Player.{Player}
@@ -7,15 +7,6 @@ use Rattle.retrograde.specs.Graph.{Graph}
 use Rattle.retrograde.specs.View.{View, HasNumber, HasValue}
 use Rattle.retrograde.specs.Successors.{packed_cmp}
 use Rattle.retrograde.specs.Play.{IsPlay}
-
--- i is the number of one of these positions, w wins it in n, and none of those before it in n
-pub record IsFirstWon {P : Type 0} (view : View P) (ys : List P) (w : Player) (n i : ℕ) : Type 0 where
-  pub place : ℕ
-  pub position : P
-  pub at : slice_get ys place ≡ Some position
-  pub number : HasNumber view i position
-  pub value : view.value i ≡ Some (w, n)
-  pub first : (k : ℕ) (y : P) → k < place → slice_get ys k ≡ Some y → HasValue view y w n → ⊥
 
 -- from i a move leads to j, w wins j in n, and each other position that is so comes after it in packed order
 pub record IsBestStep (graph : Graph (List ℕ)) (view : View (List ℕ)) (i : ℕ) (w : Player) (n j : ℕ) : Type 0 where

@@ -14,9 +14,3 @@ IsValue view i Open = (view.value i ≡ None) × (IsFinished view → ⊥)
 -- nothing is left to do by these counts: all that is known is expanded, and all that is settled is processed
 abbrev pub IsComplete : Counts → Type 0
 IsComplete counts = (counts.expanded ≡ counts.known) × (counts.processed ≡ counts.settled)
-
--- with these counts one that is not settled is drawn if nothing is left to do, and else open
-abbrev pub IsUnsettled : Counts → Value → Type 0
-IsUnsettled counts (Won w n) = ⊥
-IsUnsettled counts Drawn = IsComplete counts
-IsUnsettled counts Open = ¬ IsComplete counts

@@ -2,7 +2,8 @@
 ghost use Rattle.std.specs.Prelude.{◌≡◌, ◌↔◌, ◌<◌, ℕ, List, true, IfOk, OnOk, IfErr};
 ghost use Rattle.retrograde.specs.Stored.{Stored, HasRecord, IsTable, view_of};
 ghost use Rattle.retrograde.specs.Changes.{counts_of};
-ghost use Rattle.best_line.specs.Values.{IsValue, IsUnsettled};
+ghost use Rattle.best_line.specs.Values.{IsValue};
+ghost use Rattle.best_line.specs.aid.Values.{IsUnsettled};
 ghost use Rattle.table.specs.Faults.{NeedsNoPage};
 
 use crate::answers::Value;

@@ -1,3 +1,3 @@
 pub mod Tables
-pub mod Laws
 pub mod Texts
+pub mod aid

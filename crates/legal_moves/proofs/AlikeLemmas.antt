@@ -5,7 +5,8 @@ use Rattle.std.proofs.lemmas.List.{take_more, take_all, length-map, get_or-map}
 use Rattle.rbg_game.specs.Rules.{Regex, empty, cat, alt, count, cat_all, alt_all}
 use Rattle.legal_moves.specs.Glushkov.{is_nullable, IsNext}
 use Rattle.legal_moves.specs.Relations.{IsRelated}
-use Rattle.legal_moves.specs.Tables.{actions_of, inner_of, first_of, last_of, IsStep, AreTables, IsAdded}
+use Rattle.legal_moves.specs.Tables.{actions_of, inner_of, first_of, last_of, IsStep, AreTables}
+use Rattle.legal_moves.specs.aid.Tables.{IsAdded}
 use Rattle.legal_moves.specs.declared.table.Ends.{Ends}
 use Rattle.legal_moves.specs.declared.table.Table.{Table}
 use Rattle.legal_moves.specs.declared.table.Draft.{Draft}

@@ -14,7 +14,8 @@ use Rattle.legal_moves.specs.Effects.{Effect, EffectAt}
 use Rattle.legal_moves.specs.Glushkov.{IsNextAt, IsLast}
 use Rattle.legal_moves.specs.Marks.{IsMarkSet}
 use Rattle.legal_moves.specs.Relations.{row_of}
-use Rattle.legal_moves.specs.Searches.{IsWideFrom, IsLegal}
+use Rattle.legal_moves.specs.Searches.{IsWideFrom}
+use Rattle.legal_moves.specs.aid.Searches.{IsLegal}
 use Rattle.legal_moves.specs.Tables.{is_pattern, switches, modifies, actions_of, IsStep, IsExpressionTable}
 use Rattle.legal_moves.specs.Configurations.{expressions_of, expression_at, IsReady, AsksTooMuch}
 use Rattle.rbg_game.specs.declared.rules.Action.{Action as ProgramAction}

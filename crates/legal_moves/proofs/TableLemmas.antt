@@ -4,7 +4,8 @@ use Rattle.std.specs.List.{AllZip}
 use Rattle.rbg_game.specs.Rules.{Regex, one, empty, cat, alt, star, count, Action, pattern}
 use Rattle.legal_moves.specs.Glushkov.{is_nullable, IsFirst, IsLast, IsNext, IsNextAt}
 use Rattle.legal_moves.specs.Relations.{IsRelated}
-use Rattle.legal_moves.specs.Tables.{actions_of, inner_of, inner_in, first_of, last_of, IsStep, IsExpressionTable, AreTables, IsAdded}
+use Rattle.legal_moves.specs.Tables.{actions_of, inner_of, inner_in, first_of, last_of, IsStep, IsExpressionTable, AreTables}
+use Rattle.legal_moves.specs.aid.Tables.{IsAdded}
 use Rattle.legal_moves.specs.declared.relation.Relation.{Relation}
 use Rattle.legal_moves.specs.declared.table.Step.{Step}
 use Rattle.legal_moves.specs.declared.table.Step.TheVariants.{Act, Ask}

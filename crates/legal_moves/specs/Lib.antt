@@ -7,7 +7,6 @@ pub mod Marks
 pub mod Relations
 pub mod Tables
 pub mod Configurations
-pub mod Going
 pub mod Shown
 pub mod Compiled
 pub mod Plain
@@ -16,3 +15,4 @@ pub mod Glushkov
 pub mod Take
 pub mod Sources
 pub mod Machine
+pub mod aid

@@ -4,7 +4,7 @@ use Rattle.rbg_game.specs.Rules.{Regex, action_at, is_switch, pattern}
 use Rattle.rbg_game.specs.Games.{Game}
 use Rattle.rbg_game.specs.declared.position.SemiState.{SemiState}
 use Rattle.rbg_game.specs.declared.position.Position.{Position}
-use Rattle.legal_moves.specs.Words.{IsWord, CanFollow, HasNoSwitch}
+use Rattle.legal_moves.specs.Words.{CanFollow, HasNoSwitch}
 use Rattle.legal_moves.specs.Effects.{EffectAt, Leads}
 use Rattle.legal_moves.specs.Glushkov.{IsNextAt}
 
@@ -36,7 +36,3 @@ pub data Searched (game : Game) (e : Regex) (place : ℕ) (S : SemiState) : List
   begun : Searched game e place S [] S 0
   gone : (w : List ℕ) (T : SemiState) (k : ℕ) (U : SemiState) (l : ℕ) → Searched game e place S w T k → is_switch (action_at e 1 k) ≡ false
       → IsNextAt e (place_at place k) l → EffectAt game e 1 l T U → Searched game e place S (w ++ l ∷ []) U l
-
--- some word of the expression is legal from S
-abbrev pub IsLegal : Game → Regex → SemiState → Type 0
-IsLegal game e S = (w : List ℕ) × (U : SemiState) × IsWord e 1 w × Leads game e w S U

@@ -1,16 +1,14 @@
 -- Expressions as tables.
-use Rattle.std.specs.Prelude.{◌≡◌, ℕ, suc, ◌+◌, ◌⊎◌, ◌↔◌, Bool, true, false, List, [], ◌∷◌, ◌++◌, length, take, Some, slice_get}
-use Rattle.std.specs.Prelude.{if◌then◌else◌}
+use Rattle.std.specs.Prelude.{◌≡◌, ℕ, ◌+◌, ◌↔◌, Bool, true, false, List, [], ◌∷◌, ◌++◌, length, take, Some, slice_get, if◌then◌else◌}
 use Rattle.std.specs.List.{AllZip}
 use Rattle.rbg_game.specs.Rules.{Regex, one, empty, cat, alt, star, count, Action, pattern, is_switch, is_modifier}
 use Rattle.rbg_game.specs.Meaning.{action_of}
-use Rattle.legal_moves.specs.Glushkov.{is_nullable, IsNext, IsNextAt}
+use Rattle.legal_moves.specs.Glushkov.{is_nullable, IsNextAt}
 use Rattle.legal_moves.specs.Relations.{IsRelated}
 use Rattle.legal_moves.specs.declared.table.Step.{Step}
 use Rattle.legal_moves.specs.declared.table.Step.TheVariants.{Act, Ask}
 use Rattle.legal_moves.specs.declared.table.Ends.{Ends}
 use Rattle.legal_moves.specs.declared.table.Table.{Table}
-use Rattle.legal_moves.specs.declared.table.Draft.{Draft}
 
 -- the actions of an expression, in the order of their numbers
 abbrev pub actions_of : Regex → List Action
@@ -88,12 +86,3 @@ pub record AreTables (es : List Regex) (tables : List Table) : Type 0 where
   pub as_many : length tables ≡ length es
   pub each : (i : ℕ) (table : Table) (e : Regex) → slice_get tables i ≡ Some table → slice_get es i ≡ Some e
       → IsExpressionTable (take i es) table e
-
--- the expression is added to a draft, and the tables of its patterns to the tables
-pub record IsAdded (e : Regex) (tables tables' : List Table) (draft draft' : Draft) (ends : Ends) : Type 0 where
-  pub tables_are : (es : List Regex) → AreTables es tables → AreTables (es ++ inner_of e) tables'
-  pub steps_are : (es : List Regex) (actions : List Action) → AreTables es tables → AllZip (IsStep es) draft.steps.items actions
-      → AllZip (IsStep (es ++ inner_of e)) draft'.steps.items (actions ++ actions_of e)
-  pub count_is : length draft'.steps.items ≡ length draft.steps.items + count e
-  pub follows_is : (i j : ℕ) → IsRelated draft'.follows i j ↔ (IsRelated draft.follows i j ⊎ IsNext e (suc (length draft.steps.items)) i j)
-  pub ends_are : IsEnds ends e (suc (length draft.steps.items))

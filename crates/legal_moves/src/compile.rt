@@ -3,7 +3,8 @@ ghost use Rattle.std.specs.Prelude.{◌≡◌, List, map, ◌∷◌, [], ◌++�
 ghost use Rattle.rbg_game.specs.Rules.{Regex, cat_all, alt_all};
 ghost use Rattle.rbg_game.specs.Meaning.{action_of, regex_of};
 ghost use Rattle.legal_moves.specs.Glushkov.{is_nullable};
-ghost use Rattle.legal_moves.specs.Tables.{inner_of, inner_in, IsStep, AreTables, IsAdded};
+ghost use Rattle.legal_moves.specs.Tables.{inner_of, inner_in, IsStep, AreTables};
+ghost use Rattle.legal_moves.specs.aid.Tables.{IsAdded};
 
 use crate::copies::copied_expression;
 use crate::relation::Relation;

@@ -2,7 +2,8 @@
 use Rattle.std.proofs.Common.{◌≡◌, ℕ, zero, suc, ◌+◌, ◌<◌, List, [], ◌∷◌, ◌++◌, length, take, map, get_or, ap, sym, ◌∙◌, append_assoc, append-nil, add-one, arith}
 use Rattle.std.specs.List.{flat_map}
 use Rattle.std.proofs.lemmas.List.Concat.{flat_map-cons}
-use Rattle.position_pack.specs.Texts.{comma_before, with_commas}
+use Rattle.position_pack.specs.Texts.{with_commas}
+use Rattle.position_pack.specs.aid.Texts.{comma_before}
 
 -- the tail of a list with commas
 abbrev commas : List (List ℕ) → List ℕ

@@ -4,3 +4,4 @@ pub mod Bytes
 pub mod Texts
 pub mod Spelled
 pub mod Laws
+pub mod aid

@@ -1,10 +1,10 @@
 -- What a text and its parts spell.
-use Rattle.std.specs.Prelude.{◌≡◌, ◌≢◌, ℕ, ◌<◌, ◌≤◌, List, ◌∷◌, ◌++◌, length, map, All, slice_index}
+use Rattle.std.specs.Prelude.{◌≡◌, ◌≢◌, ℕ, ◌<◌, ◌≤◌, List, ◌∷◌, ◌++◌, length, All}
 use Rattle.std.specs.Fmt.{decimal}
-use Rattle.rbg_game.specs.Games.{Game, bound_of}
+use Rattle.rbg_game.specs.Games.{Game}
 use Rattle.rbg_game.specs.Positions.{IsPositionOf}
 use Rattle.rbg_game.specs.declared.position.Position.{Position}
-use Rattle.position_pack.specs.Texts.{piece_name, vertex_name, with_commas, text_of}
+use Rattle.position_pack.specs.Texts.{piece_name, vertex_name, text_of}
 
 -- the text is that of the position, which is one of the game's
 pub record IsSpelled (game : Game) (at : Position) (text : List ℕ) : Type 0 where
@@ -40,17 +40,3 @@ IsVertex game = IsWritten (vertex_name game) (λ k. k < length game.vertices)
 -- the name of a piece of the game
 abbrev pub IsPiece : Game → List ℕ → ℕ → Type 0
 IsPiece game = IsWritten (piece_name game) (λ k. k < length game.pieces)
-
--- the text is what f writes for each number, with commas between: so many numbers, each allowed at its place
-pub record AreWritten (f : ℕ → List ℕ) (Allowed : ℕ → ℕ → Type 0) (count : ℕ) (text all : List ℕ) : Type 0 where
-  pub as_many : length all ≡ count
-  pub allowed : (k : ℕ) → k < count → Allowed k (slice_index all k)
-  pub text_is : text ≡ with_commas (map f all)
-
--- the names of pieces, one for each vertex
-abbrev pub ArePieces : Game → List ℕ → List ℕ → Type 0
-ArePieces game = AreWritten (piece_name game) (λ _ x. x < length game.pieces) (length game.vertices)
-
--- the decimals of values, one for each variable and none over its bound
-abbrev pub AreNumbers : Game → List ℕ → List ℕ → Type 0
-AreNumbers game = AreWritten decimal (λ k x. x ≤ bound_of game k) (length game.variables)

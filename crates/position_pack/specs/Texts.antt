@@ -1,5 +1,5 @@
 -- The text of a position: `ROLE PLACE VERTEX PIECES VALUES`.
-use Rattle.std.specs.Prelude.{ℕ, zero, suc, List, [], ◌∷◌, ◌++◌, map, codes, slice_get, option_map, unwrap_or}
+use Rattle.std.specs.Prelude.{ℕ, List, [], ◌∷◌, ◌++◌, map, codes, slice_get, option_map, unwrap_or}
 use Rattle.std.specs.List.{flat_map}
 use Rattle.std.specs.Fmt.{decimal}
 use Rattle.rbg_game.specs.Games.{Game}
@@ -23,11 +23,6 @@ abbrev pub role_text : Game → Role → List ℕ
 role_text game Keeper = codes ">>"
 role_text game (Player First) = variable_name game 0
 role_text game (Player Second) = variable_name game 1
-
--- a comma before each item but the first
-abbrev pub comma_before : ℕ → List ℕ
-comma_before zero = []
-comma_before (suc k) = 44 ∷ []
 
 -- with a comma before each but the first
 abbrev pub with_commas : List (List ℕ) → List ℕ

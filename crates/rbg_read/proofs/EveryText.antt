@@ -7,8 +7,8 @@ use Rattle.rbg_text.specs.Lex.{lex}
 use Rattle.rbg_text.specs.Syntax as g
 use Rattle.rbg_text.specs.Syntax.{Tokens, Section}
 use Rattle.rbg_text.specs.Said.{Said, said_of}
-use Rattle.rbg_text.specs.Parse.{Outcome}
-use Rattle.rbg_text.specs.ParseSections.{sections}
+use Rattle.rbg_text.specs.aid.Parse.{Outcome}
+use Rattle.rbg_text.specs.aid.ParseSections.{sections}
 use Rattle.rbg_text.specs.NestingCount.{nesting}
 use Rattle.rbg_text.proofs.Splitting.{splits-lex, lex-splits}
 use Rattle.rbg_text.proofs.ExpressionsComplete.{state}

@@ -4,7 +4,7 @@ use Rattle.std.specs.Prelude.{IfErr}
 use Rattle.rbg_text.specs.Token.{Text, Splits}
 use Rattle.rbg_text.specs.Syntax.{Tokens, Section, text}
 use Rattle.rbg_text.specs.Said.{Said, said_of}
-use Rattle.rbg_text.specs.Parse.{Outcome}
+use Rattle.rbg_text.specs.aid.Parse.{Outcome}
 use Rattle.rbg_text.specs.NestingCount.{nesting}
 use Rattle.rbg_text.proofs.Splitting.{splits_once}
 use Rattle.rbg_text.proofs.SectionsComplete.{sections_read}

@@ -12,3 +12,4 @@ pub mod Resolve
 pub mod Sizes
 pub mod Switches
 pub mod TakeText
+pub mod aid

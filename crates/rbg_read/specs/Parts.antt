@@ -1,7 +1,6 @@
 -- The parts of a game text, with the rules as steps in postfix order.
-use Rattle.std.specs.Prelude.{◌≤◌, length, List, [], ◌∷◌, ◌++◌, map, Option, Some, None, option_and_then, if◌then◌else◌}
-use Rattle.std.specs.List.{flat_map, list_any}
-use Rattle.std.specs.Str.{bytes_eq}
+use Rattle.std.specs.Prelude.{◌≤◌, length, List, [], ◌∷◌, ◌++◌, map, Option, Some, None, option_and_then}
+use Rattle.std.specs.List.{flat_map}
 use Rattle.rbg_text.specs.Token.{Text}
 use Rattle.rbg_text.specs.Syntax.{Declaration, WrittenVertex}
 use Rattle.rbg_text.specs.Parse.{ParseStep}
@@ -9,7 +8,6 @@ use Rattle.rbg_text.specs.View.{step_view}
 use Rattle.rbg_text.specs.Said.{Said, players, pieces, variables, board, rules, declaration_view, vertex_view}
 use Rattle.rbg_read.specs.Means.{first_appearances}
 use Rattle.rbg_read.specs.declared.parts.Parts.{Parts as CodeParts}
-use Rattle.rbg_read.specs.declared.parts.Sections.{Sections as CodeSections}
 use Rattle.rbg_read.specs.declared.names.Names.{Names as CodeNames}
 
 -- what the sections say, each kind of section once
@@ -75,16 +73,6 @@ kinds_of all = record {
   rules = flat_map rules_said all;
 }
 
--- with one section more
-abbrev pub with_said : Kinds → Said → Kinds
-with_said kinds s = record {
-  players = kinds.players ++ players_said s;
-  pieces = kinds.pieces ++ pieces_said s;
-  variables = kinds.variables ++ variables_said s;
-  boards = kinds.boards ++ board_said s;
-  rules = kinds.rules ++ rules_said s;
-}
-
 -- the parts, where each section stands once, but for the variables, which may be missing
 abbrev pub parts_of : Kinds → Option Parts
 parts_of kinds =
@@ -114,10 +102,6 @@ pub record Known : Type 0 where
   pub vertices : List Text
   pub labels : List Text
 
--- a label more, where it is new
-abbrev pub with_label : List Text → Text → List Text
-with_label labels w = if list_any (bytes_eq w) labels then labels else labels ++ w ∷ []
-
 -- the labels of a board, each once, in the order in which they appear first
 abbrev pub labels_in : List WrittenVertex → List Text
 labels_in all = first_appearances (flat_map (λ v. map (λ a. a.label) v.arrows) all)
@@ -141,16 +125,6 @@ pub record AreFew (known : Known) : Type 0 where
   pub labels_few : length known.labels ≤ 256
 
 -- ---- what the program has for them
-
--- the sections without where their words lie in memory
-abbrev pub kinds_view : CodeSections → Kinds
-kinds_view all = record {
-  players = map (λ v. map declaration_view v.items) all.players.items;
-  pieces = map (λ v. map (λ w. w.now) v.items) all.pieces.items;
-  variables = map (λ v. map declaration_view v.items) all.variables.items;
-  boards = map (λ v. map vertex_view v.items) all.boards.items;
-  rules = map (λ v. map step_view v.items) all.rules.items;
-}
 
 -- the parts without where their words lie in memory
 abbrev pub parts_view : CodeParts → Parts

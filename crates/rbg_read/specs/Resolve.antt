@@ -1,17 +1,14 @@
 -- The rules that steps in postfix order stand for, by a stack of expressions and one of rules, the newest first.
-use Rattle.std.specs.Prelude.{ℕ, Bool, true, false, if◌then◌else◌, ◌==◌, List, [], ◌∷◌, ◌++◌, drop, fold, reverse, map, Option, Some, None}
-use Rattle.std.specs.Prelude.{option_map}
+use Rattle.std.specs.Prelude.{ℕ, Bool, true, false, if◌then◌else◌, ◌==◌, List, [], ◌∷◌, ◌++◌, drop, fold, Option, Some, None, option_map}
 use Rattle.rbg_text.specs.Parse.{ParseStep}
 use Rattle.rbg_game.specs.Expressions.{Expression}
 use Rattle.rbg_game.specs.Rules.{Regex, Action}
-use Rattle.rbg_game.specs.Meaning.{expression_of, regex_of}
 use Rattle.rbg_game.specs.declared.rules.Comparison.{Comparison}
 use Rattle.rbg_game.specs.declared.roles.Player.TheVariants.{First, Second}
 use Rattle.rbg_game.specs.declared.roles.Role.{Role}
 use Rattle.rbg_game.specs.declared.roles.Role.TheVariants.{Keeper, Player}
 use Rattle.rbg_read.specs.Means.{decimal, index_of}
 use Rattle.rbg_read.specs.Parts.{Known}
-use Rattle.rbg_read.specs.declared.resolve.Stack.{Stack as CodeStack}
 
 -- what waits for the steps to come
 pub record Stack : Type 0 where
@@ -23,14 +20,6 @@ pub record Stack : Type 0 where
 -- nothing waits
 abbrev pub empty_stack : Stack
 empty_stack = record { set = None; expressions = []; rules = [] }
-
--- what the program has for it
-abbrev pub stack_of : CodeStack → Stack
-stack_of s = record {
-  set = option_map (λ v. v.items) s.set;
-  expressions = map (λ e. expression_of e.expr) (reverse s.expressions.items);
-  rules = map (λ r. regex_of r.rules) (reverse s.rules.items);
-}
 
 -- ---- the newest, where there is one
 

@@ -25,11 +25,6 @@ sizes_after values bounds (ParseStep.assign v) s = Some (drop 1 s)
 sizes_after values bounds (ParseStep.compare t) s = Some (drop 2 s)
 sizes_after values bounds _ s = Some s
 
--- what the program makes of the newest sizes, with those that it left
-abbrev pub sizes_made : Option ℕ → List ℕ → Option (List ℕ)
-sizes_made (Some n) rest = with_size n rest
-sizes_made None rest = Some rest
-
 -- after one step more, unless a size was over the limit
 abbrev pub next_sizes : List Text → List ℕ → Option (List ℕ) → ParseStep → Option (List ℕ)
 next_sizes values bounds sizes step = option_and_then (sizes_after values bounds step) sizes

@@ -2,8 +2,6 @@
 use Rattle.std.specs.Prelude.{Bool, true, false, not, is_some, ◌||◌, if◌then◌else◌, List, [], ◌∷◌, drop, fold, Option, Some, None}
 use Rattle.std.specs.Prelude.{option_and_then}
 use Rattle.rbg_text.specs.Parse.{ParseStep}
-use Rattle.rbg_read.specs.declared.switches.Made.{Made}
-use Rattle.rbg_read.specs.declared.switches.Made.TheVariants as made
 
 -- the newest, and false where there is none
 abbrev pub first_flag : List Bool → Bool
@@ -28,12 +26,6 @@ flags_after ParseStep.either s = Some ((first_flag (drop 1 s) || first_flag s) �
 flags_after ParseStep.some_word s = closed_pattern s
 flags_after ParseStep.no_word s = closed_pattern s
 flags_after _ s = Some s
-
--- what the program makes of the newest parts, with the flags that it left
-abbrev pub flags_made : Made → List Bool → Option (List Bool)
-flags_made (made.Part b) rest = Some (b ∷ rest)
-flags_made made.Same rest = Some rest
-flags_made made.BadPattern rest = None
 
 -- after one step more, unless a pattern with a switch was found
 abbrev pub next_flags : Option (List Bool) → ParseStep → Option (List Bool)

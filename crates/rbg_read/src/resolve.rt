@@ -7,6 +7,7 @@ ghost use Rattle.rbg_game.specs.Meaning.{expression_of, regex_of, action_of};
 ghost use Rattle.rbg_game.specs.Rules.{Regex};
 ghost use Rattle.rbg_game.specs.Expressions.{Expression};
 ghost use Rattle.rbg_read.specs.Resolve as spec;
+ghost use Rattle.rbg_read.specs.aid.Resolve.{stack_of};
 ghost use Rattle.rbg_read.specs.Parts.{known_view, AreFew};
 ghost use Rattle.rbg_game.specs.Depth.{rules_depth};
 ghost use Rattle.rbg_read.specs.Depths.{IsFlatAction, rules_depths};
@@ -32,7 +33,7 @@ pub struct Stack {
 
 impl Stack {
     fn new(alloc: Global) -> Stack
-        ensures { spec.stack_of result ≡ spec.empty_stack }
+        ensures { stack_of result ≡ spec.empty_stack }
     {
         Stack {
             alloc,
@@ -43,7 +44,7 @@ impl Stack {
     }
 
     fn push_expression(&mut self, expr: FlatExpr) -> Result<(), AllocError>
-        ensures { IfOk result (λ _. spec.stack_of self.new ≡ spec.push_expression (expression_of expr.expr) (spec.stack_of self.old)) }
+        ensures { IfOk result (λ _. stack_of self.new ≡ spec.push_expression (expression_of expr.expr) (stack_of self.old)) }
     {
         self.expressions.push(expr)?;
         Ok(())
@@ -51,14 +52,14 @@ impl Stack {
 
     /// The newest expression, or 0 where there is none.
     fn pop_expression(&mut self) -> FlatExpr
-        ensures value { expression_of result.expr ≡ spec.first_expression (spec.stack_of self.old).expressions }
-        ensures after { spec.stack_of self.new ≡ spec.pop_expression (spec.stack_of self.old) }
+        ensures value { expression_of result.expr ≡ spec.first_expression (stack_of self.old).expressions }
+        ensures after { stack_of self.new ≡ spec.pop_expression (stack_of self.old) }
     {
         self.expressions.pop().unwrap_or(nodes::number(0))
     }
 
     fn push_rules(&mut self, rules: FlatRules) -> Result<(), AllocError>
-        ensures { IfOk result (λ _. spec.stack_of self.new ≡ spec.push_rules (regex_of rules.rules) (spec.stack_of self.old)) }
+        ensures { IfOk result (λ _. stack_of self.new ≡ spec.push_rules (regex_of rules.rules) (stack_of self.old)) }
     {
         self.rules.push(rules)?;
         Ok(())
@@ -66,8 +67,8 @@ impl Stack {
 
     /// The newest part of the rules, or no action where there is none.
     fn pop_rules(&mut self) -> FlatRules
-        ensures value { regex_of result.rules ≡ spec.first_rules (spec.stack_of self.old).rules }
-        ensures after { spec.stack_of self.new ≡ spec.pop_rules (spec.stack_of self.old) }
+        ensures value { regex_of result.rules ≡ spec.first_rules (stack_of self.old).rules }
+        ensures after { stack_of self.new ≡ spec.pop_rules (stack_of self.old) }
     {
         let nothing = nodes::nothing(self.alloc);
         self.rules.pop().unwrap_or(nothing)
@@ -75,14 +76,14 @@ impl Stack {
 
     fn push_action(&mut self, action: Action) -> Result<(), AllocError>
         requires { IsFlatAction action }
-        ensures { IfOk result (λ _. spec.stack_of self.new ≡ spec.push_action (action_of action) (spec.stack_of self.old)) }
+        ensures { IfOk result (λ _. stack_of self.new ≡ spec.push_action (action_of action) (stack_of self.old)) }
     {
         self.push_rules(nodes::action(action))
     }
 
     /// The set, where one was begun, is an action.
     fn finish_set(&mut self) -> Result<(), AllocError>
-        ensures { IfOk result (λ _. spec.stack_of self.new ≡ spec.finished (spec.stack_of self.old)) }
+        ensures { IfOk result (λ _. stack_of self.new ≡ spec.finished (stack_of self.old)) }
     {
         match self.set.take() {
             Some(pieces) => self.push_action(Action::On(pieces)),
@@ -91,7 +92,7 @@ impl Stack {
     }
 
     fn negate(&mut self) -> Result<(), AllocError>
-        ensures { IfOk result (λ _. spec.stack_of self.new ≡ spec.negated (spec.stack_of self.old)) }
+        ensures { IfOk result (λ _. stack_of self.new ≡ spec.negated (stack_of self.old)) }
     {
         let part = self.pop_expression();
         let negation = nodes::negation(self.alloc, part)?;
@@ -99,7 +100,7 @@ impl Stack {
     }
 
     fn add(&mut self) -> Result<(), AllocError>
-        ensures { IfOk result (λ _. spec.stack_of self.new ≡ spec.binary_expression Expression.sum (spec.stack_of self.old)) }
+        ensures { IfOk result (λ _. stack_of self.new ≡ spec.binary_expression Expression.sum (stack_of self.old)) }
     {
         let right = self.pop_expression();
         let left = self.pop_expression();
@@ -108,7 +109,7 @@ impl Stack {
     }
 
     fn subtract(&mut self) -> Result<(), AllocError>
-        ensures { IfOk result (λ _. spec.stack_of self.new ≡ spec.binary_expression spec.difference (spec.stack_of self.old)) }
+        ensures { IfOk result (λ _. stack_of self.new ≡ spec.binary_expression spec.difference (stack_of self.old)) }
     {
         let right = self.pop_expression();
         let left = self.pop_expression();
@@ -118,7 +119,7 @@ impl Stack {
     }
 
     fn multiply(&mut self) -> Result<(), AllocError>
-        ensures { IfOk result (λ _. spec.stack_of self.new ≡ spec.binary_expression Expression.product (spec.stack_of self.old)) }
+        ensures { IfOk result (λ _. stack_of self.new ≡ spec.binary_expression Expression.product (stack_of self.old)) }
     {
         let right = self.pop_expression();
         let left = self.pop_expression();
@@ -127,14 +128,14 @@ impl Stack {
     }
 
     fn assign(&mut self, variable: u8) -> Result<(), AllocError>
-        ensures { IfOk result (λ _. spec.stack_of self.new ≡ spec.assigned variable (spec.stack_of self.old)) }
+        ensures { IfOk result (λ _. stack_of self.new ≡ spec.assigned variable (stack_of self.old)) }
     {
         let value = self.pop_expression();
         self.push_action(Action::Assignment(variable, value.expr))
     }
 
     fn compare(&mut self, test: Comparison) -> Result<(), AllocError>
-        ensures { IfOk result (λ _. spec.stack_of self.new ≡ spec.compared test (spec.stack_of self.old)) }
+        ensures { IfOk result (λ _. stack_of self.new ≡ spec.compared test (stack_of self.old)) }
     {
         let right = self.pop_expression();
         let left = self.pop_expression();
@@ -142,7 +143,7 @@ impl Stack {
     }
 
     fn pattern(&mut self, is_positive: bool) -> Result<(), AllocError>
-        ensures { IfOk result (λ _. spec.stack_of self.new ≡ spec.pattern_made is_positive (spec.stack_of self.old)) }
+        ensures { IfOk result (λ _. stack_of self.new ≡ spec.pattern_made is_positive (stack_of self.old)) }
     {
         let inner = self.pop_rules();
         let inner = Box::new(self.alloc, inner.rules)?;
@@ -150,7 +151,7 @@ impl Stack {
     }
 
     fn join(&mut self) -> Result<(), AllocError>
-        ensures { IfOk result (λ _. spec.stack_of self.new ≡ spec.binary_rules Regex.cat (spec.stack_of self.old)) }
+        ensures { IfOk result (λ _. stack_of self.new ≡ spec.binary_rules Regex.cat (stack_of self.old)) }
     {
         let right = self.pop_rules();
         let left = self.pop_rules();
@@ -159,7 +160,7 @@ impl Stack {
     }
 
     fn either(&mut self) -> Result<(), AllocError>
-        ensures { IfOk result (λ _. spec.stack_of self.new ≡ spec.binary_rules Regex.alt (spec.stack_of self.old)) }
+        ensures { IfOk result (λ _. stack_of self.new ≡ spec.binary_rules Regex.alt (stack_of self.old)) }
     {
         let right = self.pop_rules();
         let left = self.pop_rules();
@@ -168,7 +169,7 @@ impl Stack {
     }
 
     fn star(&mut self) -> Result<(), AllocError>
-        ensures { IfOk result (λ _. spec.stack_of self.new ≡ spec.starred (spec.stack_of self.old)) }
+        ensures { IfOk result (λ _. stack_of self.new ≡ spec.starred (stack_of self.old)) }
     {
         let inner = self.pop_rules();
         let star = nodes::star(self.alloc, inner)?;
@@ -176,13 +177,13 @@ impl Stack {
     }
 
     fn begin_set(&mut self)
-        ensures { spec.stack_of self.new ≡ spec.begun_set (spec.stack_of self.old) }
+        ensures { stack_of self.new ≡ spec.begun_set (stack_of self.old) }
     {
         self.set = Some(Vec::new(self.alloc));
     }
 
     fn add_piece(&mut self, piece: u8) -> Result<(), AllocError>
-        ensures { IfOk result (λ _. spec.stack_of self.new ≡ spec.with_piece piece (spec.stack_of self.old)) }
+        ensures { IfOk result (λ _. stack_of self.new ≡ spec.with_piece piece (stack_of self.old)) }
     {
         if let Some(pieces) = &mut self.set {
             pieces.push(piece)?;
@@ -194,8 +195,8 @@ impl Stack {
     fn perform(&mut self, names: &Names, step: Step<'_>) -> Result<(), AllocError>
         requires few { AreFew (known_view names.now) }
         requires within { is_large_number (step_view step) ≡ false }
-        ensures { IfOk result (λ _. spec.stack_of self.new ≡ spec.performed (known_view names.now) (step_view step.entry)
-            (spec.stack_of self.old)) }
+        ensures { IfOk result (λ _. stack_of self.new ≡ spec.performed (known_view names.now) (step_view step.entry)
+            (stack_of self.old)) }
     {
         match step {
             Step::Number(digits) => self.push_expression(nodes::number(number(digits))),
@@ -228,7 +229,7 @@ impl Stack {
     fn step(&mut self, names: &Names, step: Step<'_>) -> Result<(), AllocError>
         requires few { AreFew (known_view names.now) }
         requires within { is_large_number (step_view step) ≡ false }
-        ensures { IfOk result (λ _. spec.stack_of self.new ≡ spec.after_step (known_view names.now) (spec.stack_of self.old)
+        ensures { IfOk result (λ _. stack_of self.new ≡ spec.after_step (known_view names.now) (stack_of self.old)
             (step_view step.entry)) }
     {
         if let Step::Among(piece) = step {

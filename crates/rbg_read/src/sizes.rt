@@ -6,6 +6,7 @@ ghost use Rattle.rbg_text.specs.View.{step_view};
 ghost use Rattle.rbg_read.specs.Parts.{known_view, AreFew};
 ghost use Rattle.rbg_read.specs.Flat.{is_large_number};
 ghost use Rattle.rbg_read.specs.Sizes as spec;
+ghost use Rattle.rbg_read.specs.aid.Sizes.{sizes_made};
 
 use crate::names::Names;
 use crate::numbers::number;
@@ -39,7 +40,7 @@ fn size_after(names: &Names, bounds: &[u32], step: Step<'_>, sizes: &mut Vec<u64
     requires few { AreFew (known_view names.now) }
     requires within { is_large_number (step_view step) ≡ false }
     ensures { spec.sizes_after (known_view names.now).values bounds.now (step_view step.entry) (reverse sizes.old.items)
-        ≡ spec.sizes_made result (reverse sizes.new.items) }
+        ≡ sizes_made result (reverse sizes.new.items) }
 {
     match step {
         Step::Number(digits) => Some(u64::from(number(digits))),

@@ -3,6 +3,7 @@
 ghost use Rattle.std.specs.Prelude.{◌≡◌, map, reverse, drop, IfOk, if◌then◌else◌};
 ghost use Rattle.rbg_text.specs.View.{step_view};
 ghost use Rattle.rbg_read.specs.Switches as spec;
+ghost use Rattle.rbg_read.specs.aid.Switches.{flags_made};
 
 use rbg_text::parser::Step;
 use std::alloc::{AllocError, Global};
@@ -27,7 +28,7 @@ enum Made {
 
 /// Takes off what the step needs.
 fn made_by(step: Step<'_>, flags: &mut Vec<bool>) -> Made
-    ensures { spec.flags_after (step_view step.entry) (reverse flags.old.items) ≡ spec.flags_made result (reverse flags.new.items) }
+    ensures { spec.flags_after (step_view step.entry) (reverse flags.old.items) ≡ flags_made result (reverse flags.new.items) }
 {
     match step {
         Step::Switch(_) | Step::Keeper => Made::Part(true),

@@ -3,8 +3,10 @@ use Rattle.std.proofs.Common.{◌≡◌, ℕ, zero, suc, ◌≤◌, ◌<◌, fal
 use Rattle.rbg_text.specs.Token.{Text, Token}
 use Rattle.rbg_text.specs.Syntax as grammar
 use Rattle.rbg_text.specs.Syntax.{Tokens, Expr, sum_of, plus, minus, Term, product_of, times, Factor, positive, negative, Atom, literal, parenthesized}
-use Rattle.rbg_text.specs.Parse.{ParseStep, ParseState, Parser, same_sign, sees, advance, after, expect, atom, factor, factors, term, terms, sum, expr}
-use Rattle.rbg_text.specs.Postfix.{expr_onto, term_onto, factor_onto, atom_onto, expr_depth, term_depth, factor_depth, atom_depth}
+use Rattle.rbg_text.specs.Parse.{ParseStep, ParseState}
+use Rattle.rbg_text.specs.aid.Parse.{Parser, same_sign, sees, advance, after, expect, atom, factor, factors, term, terms, sum, expr}
+use Rattle.rbg_text.specs.Postfix.{expr_onto, term_onto, factor_onto, atom_onto}
+use Rattle.rbg_text.specs.aid.Postfix.{expr_depth, term_depth, factor_depth, atom_depth}
 use Rattle.rbg_text.specs.declared.token.Sign.{Sign}
 use Rattle.rbg_text.specs.declared.token.Sign.TheVariants.{OpenParen, CloseParen, Plus, Minus, Star}
 

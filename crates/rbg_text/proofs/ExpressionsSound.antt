@@ -7,7 +7,9 @@ use Rattle.rbg_text.specs.contracts.token.Sign.{the_type}
 use Rattle.rbg_text.specs.Token.{Token}
 use Rattle.rbg_text.specs.Syntax as grammar
 use Rattle.rbg_text.specs.Syntax.{Tokens, Expr, sum_of, plus, minus, Term, product_of, times, Factor, positive, negative, Atom, literal, parenthesized}
-use Rattle.rbg_text.specs.Parse.{ParseStep, ParseState, Parser, Outcome, and_then, first, is_sign, same_sign, sees, advance, after, expect, push, atom_by, atom, factor, factors, term, terms, sum, expr}
+use Rattle.rbg_text.specs.Parse.{ParseStep, ParseState}
+use Rattle.rbg_text.specs.aid.Parse.{Parser, Outcome, and_then, first, is_sign, same_sign, sees, advance, after, expect, push, atom_by}
+use Rattle.rbg_text.specs.aid.Parse.{atom, factor, factors, term, terms, sum, expr}
 use Rattle.rbg_text.specs.Postfix.{expr_onto, term_onto, factor_onto, atom_onto}
 use Rattle.rbg_text.specs.declared.token.Sign.{Sign}
 use Rattle.rbg_text.specs.declared.token.Sign.TheVariants.{OpenParen, CloseParen, Plus, Minus, Star}

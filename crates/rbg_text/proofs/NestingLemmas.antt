@@ -5,7 +5,8 @@ use Rattle.rbg_text.specs.Syntax.{Tokens, Expr, sum_of, plus, minus, Term, produ
 use Rattle.rbg_text.specs.NestingCount.{nesting_from, count_after}
 use Rattle.rbg_text.specs.View.{token_view}
 use Rattle.rbg_text.specs.declared.token.Token.{Token as CodeToken}
-use Rattle.rbg_text.specs.Postfix.{expr_depth, term_depth, factor_depth, atom_depth, assignments_depth, sum_depth, concat_depth, element_depth, base_depth}
+use Rattle.rbg_text.specs.aid.Postfix.{expr_depth, term_depth, factor_depth, atom_depth, assignments_depth, sum_depth, concat_depth}
+use Rattle.rbg_text.specs.aid.Postfix.{element_depth, base_depth}
 use Rattle.rbg_text.specs.declared.token.Sign.{Sign}
 use Rattle.rbg_text.specs.declared.token.Sign.TheVariants.{Star, CloseParen, CloseBracket, CloseBrace}
 use Rattle.rbg_game.specs.declared.rules.Comparison.{Comparison}

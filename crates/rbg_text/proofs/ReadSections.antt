@@ -4,8 +4,9 @@ use Rattle.std.specs.Prelude.{Result, Ok, Err, IfOk}
 use Rattle.rbg_text.specs.Syntax as grammar
 use Rattle.rbg_text.specs.Syntax.{Tokens, Section}
 use Rattle.rbg_text.specs.NestingCount.{nesting}
-use Rattle.rbg_text.specs.Parse.{ParseState, ReadsAs, turns}
-use Rattle.rbg_text.specs.ParseSections.{sections}
+use Rattle.rbg_text.specs.Parse.{ParseState}
+use Rattle.rbg_text.specs.aid.Parse.{ReadsAs, turns}
+use Rattle.rbg_text.specs.aid.ParseSections.{sections}
 use Rattle.rbg_text.specs.Said.{Said, said_of}
 use Rattle.rbg_text.specs.declared.fault.ReadError.{ReadError}
 use Rattle.rbg_text.specs.declared.fault.ReadError.TheVariants.{Memory, Syntax}

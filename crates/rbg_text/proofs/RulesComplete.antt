@@ -3,8 +3,12 @@ use Rattle.std.proofs.Common.{◌≡◌, ℕ, zero, suc, ◌≤◌, ◌<◌, max
 use Rattle.rbg_text.specs.Token.{Text}
 use Rattle.rbg_text.specs.Syntax as grammar
 use Rattle.rbg_text.specs.Syntax.{Tokens, Expr, Assignment, Sum, branch, Concat, single, followed, Element, once, Base}
-use Rattle.rbg_text.specs.Parse.{ParseStep, Parser, first, same_sign, sees, advance, after, expect, expr, name, comparison, pieces, begins_element, set, assignment, assignments, bracket, compared, pattern, brace, base, element, elements, concat, branches, choice, rules_to}
-use Rattle.rbg_text.specs.Postfix.{expr_onto, expr_depth, among_onto, assignment_onto, assignments_onto, sum_onto, concat_onto, element_onto, base_onto, assignments_depth, sum_depth, concat_depth, element_depth, base_depth}
+use Rattle.rbg_text.specs.Parse.{ParseStep}
+use Rattle.rbg_text.specs.aid.Parse.{Parser, first, same_sign, sees, advance, after, expect, expr, name, comparison, pieces, begins_element}
+use Rattle.rbg_text.specs.aid.Parse.{set, assignment, assignments, bracket, compared, pattern, brace, base, element, elements, concat}
+use Rattle.rbg_text.specs.aid.Parse.{branches, choice, rules_to}
+use Rattle.rbg_text.specs.Postfix.{expr_onto, among_onto, assignment_onto, assignments_onto, sum_onto, concat_onto, element_onto, base_onto}
+use Rattle.rbg_text.specs.aid.Postfix.{expr_depth, assignments_depth, sum_depth, concat_depth, element_depth, base_depth}
 use Rattle.rbg_game.specs.declared.rules.Comparison.{Comparison}
 use Rattle.rbg_game.specs.declared.rules.Comparison.TheVariants as test
 use Rattle.rbg_text.specs.declared.token.Sign.{Sign}

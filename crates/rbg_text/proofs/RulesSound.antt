@@ -6,7 +6,10 @@ use Rattle.std.proofs.lemmas.Option.{some_pair_parts}
 use Rattle.rbg_text.specs.Token.{Text, Token}
 use Rattle.rbg_text.specs.Syntax as grammar
 use Rattle.rbg_text.specs.Syntax.{Tokens, Expr, Assignment, Sum, branch, Concat, single, followed, Element, once, Base}
-use Rattle.rbg_text.specs.Parse.{ParseStep, ParseState, Parser, and_then, first, sees, advance, after, eat, expect, push, done, expr, name_by, name, test_of, comparison_by, comparison, pieces, begins_element, set, assignment, assignments, bracket, compared, pattern, brace, base_by, base, element, elements, concat, branches, choice, rules_to}
+use Rattle.rbg_text.specs.Parse.{ParseStep, ParseState}
+use Rattle.rbg_text.specs.aid.Parse.{Parser, and_then, first, sees, advance, after, eat, expect, push, done, expr, name_by, name, test_of}
+use Rattle.rbg_text.specs.aid.Parse.{comparison_by, comparison, pieces, begins_element, set, assignment, assignments, bracket, compared}
+use Rattle.rbg_text.specs.aid.Parse.{pattern, brace, base_by, base, element, elements, concat, branches, choice, rules_to}
 use Rattle.rbg_text.specs.Postfix.{expr_onto, among_onto, assignment_onto, assignments_onto, sum_onto, concat_onto, element_onto, base_onto}
 use Rattle.rbg_game.specs.declared.rules.Comparison.{Comparison}
 use Rattle.rbg_game.specs.declared.rules.Comparison.TheVariants as test

@@ -6,10 +6,13 @@ use Rattle.rbg_text.specs.Token.{Text, Token}
 use Rattle.rbg_text.specs.Syntax as grammar
 use Rattle.rbg_text.specs.Syntax.{Tokens, Declaration, WrittenArrow, WrittenVertex, Further, after_comma, at_once, Section}
 use Rattle.rbg_text.specs.NestingCount.{nesting_from}
-use Rattle.rbg_text.specs.Parse.{ParseStep, Parser, first, same_sign, sees, advance, after, expect, name, begins_element, rules_to}
+use Rattle.rbg_text.specs.Parse.{ParseStep}
+use Rattle.rbg_text.specs.aid.Parse.{Parser, first, same_sign, sees, advance, after, expect, name, begins_element, rules_to}
 use Rattle.rbg_text.specs.Said.{Said, further_vertex, said_of}
-use Rattle.rbg_text.specs.ParseSections.{items, listed, number, declaration, arrow, arrows, vertex, is_name, vertices, all_vertices, all_variables, all_rules, section_by, section, is_done, sections}
-use Rattle.rbg_text.specs.Postfix.{sum_onto, sum_depth}
+use Rattle.rbg_text.specs.aid.ParseSections.{items, listed, number, declaration, arrow, arrows, vertex, is_name, vertices, all_vertices}
+use Rattle.rbg_text.specs.aid.ParseSections.{all_variables, all_rules, section_by, section, is_done, sections}
+use Rattle.rbg_text.specs.Postfix.{sum_onto}
+use Rattle.rbg_text.specs.aid.Postfix.{sum_depth}
 use Rattle.rbg_text.specs.declared.token.Sign.{Sign}
 use Rattle.rbg_text.specs.declared.token.Sign.TheVariants.{Hash, Comma, Colon, Equal, OpenParen, CloseParen, OpenBracket, CloseBracket, OpenBrace, CloseBrace, Star, Plus}
 use Rattle.rbg_text.proofs.ExpressionsComplete.{state, Not, not_sign}

@@ -4,7 +4,7 @@ use Rattle.rbg_text.specs.Token.{Text}
 use Rattle.rbg_text.specs.Syntax as grammar
 use Rattle.rbg_text.specs.Syntax.{Tokens, Declaration, WrittenArrow, WrittenVertex, Further, after_comma, at_once, Section}
 use Rattle.rbg_text.specs.NestingCount.{nesting_from}
-use Rattle.rbg_text.specs.Postfix.{sum_depth}
+use Rattle.rbg_text.specs.aid.Postfix.{sum_depth}
 use Rattle.rbg_text.specs.declared.token.Sign.TheVariants.{CloseParen, OpenBracket, CloseBracket, OpenBrace, CloseBrace}
 use Rattle.rbg_text.proofs.NestingLemmas.{Nests, at_least, closed, closed_bracket, closed_brace, next_to, after_sign, bracketed, word_nests, sum_nests}
 use Rattle.rbg_text.proofs.SectionsComplete.{IsShallow, AreShallow, no_section, with_section}

@@ -8,10 +8,12 @@ use Rattle.std.proofs.lemmas.Option.{some_pair_parts}
 use Rattle.rbg_text.specs.Token.{Text, Token}
 use Rattle.rbg_text.specs.Syntax as grammar
 use Rattle.rbg_text.specs.Syntax.{Tokens, Declaration, WrittenArrow, WrittenVertex, Further, after_comma, at_once, Section}
-use Rattle.rbg_text.specs.Parse.{ParseStep, ParseState, Parser, first, sees, advance, after, expect, name, rules_to}
+use Rattle.rbg_text.specs.Parse.{ParseStep, ParseState}
+use Rattle.rbg_text.specs.aid.Parse.{Parser, first, sees, advance, after, expect, name, rules_to}
 use Rattle.rbg_text.specs.Said.{Said, further_vertex, said_of}
-use Rattle.rbg_text.specs.ParseSections as parse
-use Rattle.rbg_text.specs.ParseSections.{items, listed, number_by, number, declaration, arrow, arrows, vertex, is_name, vertices, all_vertices, all_variables, all_rules, section_by, section, is_done, sections}
+use Rattle.rbg_text.specs.aid.ParseSections as parse
+use Rattle.rbg_text.specs.aid.ParseSections.{items, listed, number_by, number, declaration, arrow, arrows, vertex, is_name, vertices}
+use Rattle.rbg_text.specs.aid.ParseSections.{all_vertices, all_variables, all_rules, section_by, section, is_done, sections}
 use Rattle.rbg_text.specs.Postfix.{sum_onto}
 use Rattle.rbg_text.specs.declared.token.Sign.{Sign}
 use Rattle.rbg_text.specs.declared.token.Sign.TheVariants.{Hash, Comma, Colon, Equal, OpenParen, CloseParen, OpenBracket, CloseBracket, OpenBrace, CloseBrace}

@@ -6,7 +6,7 @@ use Rattle.std.proofs.lemmas.Option.{option_and_then_some}
 use Rattle.std.specs.List.{list_all}
 use Rattle.rbg_text.specs.Token.{Text, Token, token_text, IsToken, is_word_byte, is_blank, sign_text, Takes, Line, Gap, IsStray, Splits}
 use Rattle.rbg_text.specs.Lex.{skip_from, skip, take_token, cons_tokens, lex_here, lex_from, lex}
-use Rattle.rbg_text.specs.View.{with_front}
+use Rattle.rbg_text.specs.aid.View.{with_front}
 use Rattle.rbg_text.specs.declared.token.Sign.{Sign}
 use Rattle.rbg_text.specs.declared.token.Sign.TheVariants.{DoubleArrow}
 use Rattle.rbg_text.proofs.Gaps.{skip-gap, gap_at}

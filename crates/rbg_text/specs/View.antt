@@ -1,11 +1,10 @@
 -- Tokens and steps without where their words lie in memory.
-use Rattle.std.specs.Prelude.{List, ◌++◌, map, Option, option_map}
+use Rattle.std.specs.Prelude.{map}
 use Rattle.rbg_text.specs.Token.{Token}
 use Rattle.rbg_text.specs.declared.token.Token.{Token as CodeToken}
 use Rattle.rbg_text.specs.declared.token.Token.TheVariants as code
 use Rattle.rbg_text.specs.Parse.{ParseStep, number, variable, negate, add, subtract, multiply, shift, on, among, off, assign, compare}
-use Rattle.rbg_text.specs.Parse.{switch}
-use Rattle.rbg_text.specs.Parse.{keeper, some_word, no_word, join, either, star, ParseState}
+use Rattle.rbg_text.specs.Parse.{switch, keeper, some_word, no_word, join, either, star, ParseState}
 use Rattle.rbg_text.specs.declared.parser.Step.{Step as CodeStep}
 use Rattle.rbg_text.specs.declared.parser.Step.TheVariants as step
 use Rattle.rbg_text.specs.declared.parser.Parser.TheInside.{Inside}
@@ -14,10 +13,6 @@ abbrev pub token_view : CodeToken → Token
 token_view (code.Name w) = Token.name w.now
 token_view (code.Number w) = Token.number w.now
 token_view (code.Sign s) = Token.sign s
-
--- the tokens so far and those that are left, unless a byte begins no token
-abbrev pub with_front : List Token → Option (List Token) → Option (List Token)
-with_front front more = option_map (λ ts. front ++ ts) more
 
 abbrev pub step_view : CodeStep → ParseStep
 step_view (step.Number w) = number w.now

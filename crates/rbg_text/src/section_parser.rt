@@ -2,8 +2,8 @@
 
 ghost use Rattle.std.specs.Prelude.{◌≡◌, [], map, option_map};
 ghost use Rattle.std.specs.Str.{bytes_eq};
-ghost use Rattle.rbg_text.specs.Parse.{ReadsAs, name, turns};
-ghost use Rattle.rbg_text.specs.ParseSections as spec;
+ghost use Rattle.rbg_text.specs.aid.Parse.{ReadsAs, name, turns};
+ghost use Rattle.rbg_text.specs.aid.ParseSections as spec;
 ghost use Rattle.rbg_text.specs.View.{token_view, step_view};
 ghost use Rattle.rbg_text.specs.Said.{declaration_view, arrow_view, vertex_view, section_view};
 
@@ -17,7 +17,7 @@ use std::alloc::Global;
 const DEPTH: usize = 65;
 
 impl<'t, 'a> Parser<'t, 'a> {
-    #[tactic(auto, unfolding(crate::specs::ParseSections::number))]
+    #[tactic(auto, unfolding(crate::specs::aid::ParseSections::number))]
     fn number(&mut self) -> Result<&'a [u8], ReadError>
         ensures { ReadsAs (λ w. w.now) (spec.number self.old) result self.new }
     {
@@ -28,7 +28,7 @@ impl<'t, 'a> Parser<'t, 'a> {
         Ok(digits)
     }
 
-    #[tactic(auto, unfolding(crate::specs::ParseSections::declaration))]
+    #[tactic(auto, unfolding(crate::specs::aid::ParseSections::declaration))]
     fn declaration(&mut self) -> Result<Declaration<'a>, ReadError>
         ensures { ReadsAs declaration_view (spec.declaration self.old) result self.new }
     {
@@ -39,7 +39,7 @@ impl<'t, 'a> Parser<'t, 'a> {
         Ok(Declaration { name, bound })
     }
 
-    #[tactic(auto, unfolding(crate::specs::ParseSections::listed, crate::specs::ParseSections::items))]
+    #[tactic(auto, unfolding(crate::specs::aid::ParseSections::listed, crate::specs::aid::ParseSections::items))]
     fn declarations(&mut self, alloc: Global) -> Result<Vec<Declaration<'a>>, ReadError>
         ensures { ReadsAs (λ all. map declaration_view all.items) (spec.listed spec.declaration self.old) result self.new }
     {
@@ -54,7 +54,7 @@ impl<'t, 'a> Parser<'t, 'a> {
         Ok(all)
     }
 
-    #[tactic(auto, unfolding(crate::specs::ParseSections::listed, crate::specs::ParseSections::items))]
+    #[tactic(auto, unfolding(crate::specs::aid::ParseSections::listed, crate::specs::aid::ParseSections::items))]
     fn names(&mut self, alloc: Global) -> Result<Vec<&'a [u8]>, ReadError>
         ensures { ReadsAs (λ all. map (λ w. w.now) all.items) (spec.listed name self.old) result self.new }
     {
@@ -69,7 +69,7 @@ impl<'t, 'a> Parser<'t, 'a> {
         Ok(all)
     }
 
-    #[tactic(auto, unfolding(crate::specs::ParseSections::arrow))]
+    #[tactic(auto, unfolding(crate::specs::aid::ParseSections::arrow))]
     fn arrow(&mut self) -> Result<Arrow<'a>, ReadError>
         ensures { ReadsAs arrow_view (spec.arrow self.old) result self.new }
     {
@@ -79,7 +79,7 @@ impl<'t, 'a> Parser<'t, 'a> {
         Ok(Arrow { label, to })
     }
 
-    #[tactic(auto, unfolding(crate::specs::ParseSections::listed, crate::specs::ParseSections::items))]
+    #[tactic(auto, unfolding(crate::specs::aid::ParseSections::listed, crate::specs::aid::ParseSections::items))]
     fn some_arrows(&mut self, alloc: Global) -> Result<Vec<Arrow<'a>>, ReadError>
         ensures { ReadsAs (λ all. map arrow_view all.items) (spec.listed spec.arrow self.old) result self.new }
     {
@@ -94,7 +94,7 @@ impl<'t, 'a> Parser<'t, 'a> {
         Ok(all)
     }
 
-    #[tactic(auto, unfolding(crate::specs::ParseSections::arrows))]
+    #[tactic(auto, unfolding(crate::specs::aid::ParseSections::arrows))]
     fn arrows(&mut self, alloc: Global) -> Result<Vec<Arrow<'a>>, ReadError>
         ensures { ReadsAs (λ all. map arrow_view all.items) (spec.arrows self.old) result self.new }
     {
@@ -105,7 +105,7 @@ impl<'t, 'a> Parser<'t, 'a> {
         }
     }
 
-    #[tactic(auto, unfolding(crate::specs::ParseSections::vertex))]
+    #[tactic(auto, unfolding(crate::specs::aid::ParseSections::vertex))]
     fn vertex(&mut self, alloc: Global) -> Result<Vertex<'a>, ReadError>
         ensures { ReadsAs vertex_view (spec.vertex self.old) result self.new }
     {
@@ -123,7 +123,7 @@ impl<'t, 'a> Parser<'t, 'a> {
         })
     }
 
-    #[tactic(auto, unfolding(crate::specs::ParseSections::all_vertices, crate::specs::ParseSections::vertices))]
+    #[tactic(auto, unfolding(crate::specs::aid::ParseSections::all_vertices, crate::specs::aid::ParseSections::vertices))]
     fn vertices(&mut self, alloc: Global) -> Result<Vec<Vertex<'a>>, ReadError>
         ensures { ReadsAs (λ all. map vertex_view all.items) (spec.all_vertices self.old) result self.new }
     {
@@ -139,7 +139,7 @@ impl<'t, 'a> Parser<'t, 'a> {
         Ok(all)
     }
 
-    #[tactic(auto, unfolding(crate::specs::ParseSections::all_variables))]
+    #[tactic(auto, unfolding(crate::specs::aid::ParseSections::all_variables))]
     fn variables(&mut self, alloc: Global) -> Result<Vec<Declaration<'a>>, ReadError>
         ensures { ReadsAs (λ all. map declaration_view all.items) (spec.all_variables self.old) result self.new }
     {
@@ -150,7 +150,7 @@ impl<'t, 'a> Parser<'t, 'a> {
         }
     }
 
-    #[tactic(auto, unfolding(crate::specs::ParseSections::all_rules))]
+    #[tactic(auto, unfolding(crate::specs::aid::ParseSections::all_rules))]
     fn steps(&mut self, alloc: Global) -> Result<Vec<Step<'a>>, ReadError>
         ensures { ReadsAs (λ all. map step_view all.items) (spec.all_rules self.old) result self.new }
     {
@@ -158,7 +158,7 @@ impl<'t, 'a> Parser<'t, 'a> {
         Ok(self.take_steps(alloc))
     }
 
-    #[tactic(auto, unfolding(crate::specs::ParseSections::section_by))]
+    #[tactic(auto, unfolding(crate::specs::aid::ParseSections::section_by))]
     fn titled(&mut self, alloc: Global, title: &[u8]) -> Result<Section<'a>, ReadError>
         ensures { ReadsAs section_view (spec.section_by title.now self.old) result self.new }
     {
@@ -177,7 +177,7 @@ impl<'t, 'a> Parser<'t, 'a> {
         }
     }
 
-    #[tactic(auto, unfolding(crate::specs::ParseSections::section))]
+    #[tactic(auto, unfolding(crate::specs::aid::ParseSections::section))]
     fn section(&mut self, alloc: Global) -> Result<Section<'a>, ReadError>
         ensures { ReadsAs section_view (spec.section self.old) result self.new }
     {
@@ -188,7 +188,7 @@ impl<'t, 'a> Parser<'t, 'a> {
     }
 
     /// All sections, up to the last token.
-    #[tactic(auto, unfolding(crate::specs::ParseSections::sections))]
+    #[tactic(auto, unfolding(crate::specs::aid::ParseSections::sections))]
     pub(crate) fn sections(&mut self, alloc: Global) -> Result<Vec<Section<'a>>, ReadError>
         ensures { ReadsAs (λ all. map section_view all.items)
             (spec.sections (turns self.old) [] self.old) result self.new }

@@ -12,7 +12,7 @@ use Rattle.retrograde.specs.declared.records.Counts.{Counts}
 use Rattle.retrograde.specs.Changes.{counts_of}
 use Rattle.retrograde.specs.Sound.{IsLocallySound}
 use Rattle.retrograde.specs.Stored.{Stored, IsTable, view_of}
-use Rattle.game_table.specs.Laws.{starts_are_positions, sound_tables_fit}
+use Rattle.game_table.specs.aid.Laws.{starts_are_positions, sound_tables_fit}
 use Rattle.game_table.specs.Texts.{IsText}
 use Rattle.table.specs.Faults.{NeedsNoPage}
 use Rattle.table.specs.declared.fault.TableFault.{TableFault}

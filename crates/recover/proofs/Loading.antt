@@ -12,7 +12,7 @@ use Rattle.legal_moves.specs.Compiled.{compiled_game}
 use Rattle.legal_moves.specs.declared.compiled.Compiled.{Compiled}
 use Rattle.retrograde.specs.Stored.{loaded}
 use Rattle.table.specs.Fitting.{FitsTogether}
-use Rattle.game_table.specs.Laws.{starts_are_positions, sound_tables_fit, a_first_table_is_sound}
+use Rattle.game_table.specs.aid.Laws.{starts_are_positions, sound_tables_fit, a_first_table_is_sound}
 use Rattle.game_table.specs.Tables.{packed_length}
 use Rattle.game_file.specs.Calls.{IsPut, IsNotPut}
 use Rattle.game_file.specs.Causes.{FileLoadCause}

@@ -5,7 +5,7 @@ use Rattle.std.proofs.lemmas.Bool.{cases_lt}
 use Rattle.sector_disk.specs.Disk.{Picture, Shown, GoesOn, MayLeave}
 use Rattle.sector_disk.specs.Moments.{still_honest, goes_on_refl, goes_on_trans}
 use Rattle.rbg_read.specs.Reading.{Reads}
-use Rattle.game_table.specs.Laws.{a_first_table_is_sound}
+use Rattle.game_table.specs.aid.Laws.{a_first_table_is_sound}
 use Rattle.game_file.specs.Kept.{Kept, Layout}
 use Rattle.game_file.specs.State.{State}
 use Rattle.game_file.specs.Stops.{LeavesNow}

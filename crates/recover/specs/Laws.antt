@@ -16,7 +16,7 @@ use Rattle.retrograde.specs.Values.{WonIn, Drawn}
 use Rattle.retrograde.specs.View.{IsKnown, HasNumber, HasValue, IsFinished}
 use Rattle.retrograde.proofs.Finished.{reach_is_known, draws, values_are_won}
 use Rattle.retrograde.proofs.Sound.{sound_right}
-use Rattle.game_table.specs.Laws.{starts_are_positions, sound_tables_fit}
+use Rattle.game_table.specs.aid.Laws.{starts_are_positions, sound_tables_fit}
 use Rattle.best_line.specs.declared.answers.Value.{Value}
 use Rattle.best_line.specs.declared.answers.Value.TheVariants.{Won, Drawn as NobodyWins, Open}
 use Rattle.best_line.specs.Values.{IsValue}

@@ -3,7 +3,7 @@ use Rattle.std.specs.Prelude.{Contains}
 use Rattle.table.specs.Memory.{bytes_of_each}
 use Rattle.retrograde.specs.View.{HasValue}
 use Rattle.retrograde.specs.Stored.{Stored, IsTable, view_of}
-use Rattle.best_line.specs.Lines.{IsFirstWon}
+use Rattle.best_line.specs.aid.Lines.{IsFirstWon}
 use Rattle.best_line.proofs.StepLemmas.{best_step, no_step}
 use Rattle.best_line.proofs.steps.next_on_line.Goals as goal
 

@@ -3,7 +3,8 @@ use Rattle.rbg_game.specs.Rules.{cat, alt, pattern, cat_all, alt_all}
 use Rattle.rbg_game.specs.Meaning.{regex_of, action_of}
 use Rattle.rbg_game.proofs.MeaningLemmas.{regex_of-Action, regex_of-Star, action_of-Pattern}
 use Rattle.legal_moves.specs.Glushkov.{is_nullable}
-use Rattle.legal_moves.specs.Tables.{inner_of, IsAdded}
+use Rattle.legal_moves.specs.Tables.{inner_of}
+use Rattle.legal_moves.specs.aid.Tables.{IsAdded}
 use Rattle.legal_moves.proofs.AlikeLemmas.{some_nullable, IsAdded-along, cat_all-push, alt_all-push, nullable_cat-push, some_nullable-push, take_map-more, or_none, or_assoc}
 use Rattle.legal_moves.proofs.TableLemmas.{IsAdded-empty, IsAdded-one, IsAdded-star, IsAdded-cat, IsAdded-alt, IsExpressionTable-made, AreTables-pushed, related_along, asked}
 use Rattle.legal_moves.proofs.compile.+tables.Goals as goal

@@ -2,7 +2,7 @@ use Rattle.std.proofs.Common.{◌≡◌, ◌||◌, ◌==◌, length, map, take}
 use Rattle.rbg_game.specs.Rules.{cat_all, alt_all}
 use Rattle.rbg_game.specs.Meaning.{regex_of}
 use Rattle.legal_moves.specs.Glushkov.{is_nullable}
-use Rattle.legal_moves.specs.Tables.{IsAdded}
+use Rattle.legal_moves.specs.aid.Tables.{IsAdded}
 use Rattle.legal_moves.proofs.AlikeLemmas.{some_nullable}
 use Rattle.legal_moves.proofs.compile.+tables.Given as goal
 

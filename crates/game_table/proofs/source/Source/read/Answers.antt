@@ -3,7 +3,7 @@ use Rattle.rbg_game.specs.Meaning.{game_of}
 use Rattle.rbg_game.specs.Names.{HasProperNames}
 use Rattle.rbg_read.proofs.OneReading.{one_game}
 use Rattle.rbg_read.proofs.ProperNames.{proper}
-use Rattle.game_table.specs.Laws.{texts_are_short}
+use Rattle.game_table.specs.aid.Laws.{texts_are_short}
 use Rattle.game_table.proofs.source.Source.read.Goals as goal
 
 pub returns-clause-one : goal.returns-clause-one

@@ -4,14 +4,15 @@ use Rattle.rbg_game.specs.Meaning.{game_of}
 use Rattle.legal_moves.specs.Effects.{EffectAt}
 use Rattle.legal_moves.specs.declared.fault.MoveFault.TheVariants as MoveFault
 use Rattle.legal_moves.specs.Configurations.{expression_at, AsksTooMuch, OccurrenceLeads, IsFollowed, IsSearch}
-use Rattle.legal_moves.specs.Going.{began, IsGoing}
+use Rattle.legal_moves.specs.aid.Going.{began, IsGoing}
 use Rattle.std.specs.Option.{IfSome, IfNone}
 use Rattle.rbg_game.specs.declared.position.SemiState.{SemiState}
 use Rattle.std.proofs.lemmas.Result.{err_from_is_err_and}
 use Rattle.legal_moves.specs.Relations.{row_of}
 use Rattle.std.specs.Bool.{MatchBool}
 use Rattle.std.specs.List.{list_any}
-use Rattle.legal_moves.specs.Searches.{place_at, IsLegal}
+use Rattle.legal_moves.specs.Searches.{place_at}
+use Rattle.legal_moves.specs.aid.Searches.{IsLegal}
 use Rattle.legal_moves.proofs.WidthLemmas.{narrow_by_search}
 use Rattle.legal_moves.proofs.HoldsLemmas.{legal_by_nullable, legal_by_any}
 use Rattle.legal_moves.proofs.GetLemmas.{slice_get-within}

@@ -1,6 +1,6 @@
 use Rattle.std.proofs.Common.{rules, ◌-◌, arith}
 use Rattle.std.proofs.lemmas.Grind.{common_steps}
-use Rattle.rbg_text.specs.Parse.{expr, elements, branches, rules_to}
+use Rattle.rbg_text.specs.aid.Parse.{expr, elements, branches, rules_to}
 use Rattle.rbg_text.proofs.Turns.{one_more}
 use Rattle.rbg_text.proofs.parser.Parser.+rules.Goals as goal
 

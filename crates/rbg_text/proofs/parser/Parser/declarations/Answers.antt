@@ -1,6 +1,6 @@
 use Rattle.std.proofs.Common.{rules, arith, map}
 use Rattle.std.proofs.lemmas.Grind.{common_steps}
-use Rattle.rbg_text.specs.ParseSections.{items, declaration}
+use Rattle.rbg_text.specs.aid.ParseSections.{items, declaration}
 use Rattle.rbg_text.specs.Said.{declaration_view}
 use Rattle.rbg_text.proofs.Turns.{one_more}
 use Rattle.rbg_text.proofs.parser.Parser.declarations.Goals as goal

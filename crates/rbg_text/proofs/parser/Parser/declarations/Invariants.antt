@@ -1,5 +1,5 @@
 use Rattle.std.proofs.Common.{◌≡◌, ◌-◌, map}
-use Rattle.rbg_text.specs.ParseSections.{items, listed, declaration}
+use Rattle.rbg_text.specs.aid.ParseSections.{items, listed, declaration}
 use Rattle.rbg_text.specs.Said.{declaration_view}
 use Rattle.rbg_text.proofs.parser.Parser.declarations.Given as goal
 

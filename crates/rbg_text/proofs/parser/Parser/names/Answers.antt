@@ -1,7 +1,7 @@
 use Rattle.std.proofs.Common.{rules, arith, map}
 use Rattle.std.proofs.lemmas.Grind.{common_steps}
-use Rattle.rbg_text.specs.Parse.{name}
-use Rattle.rbg_text.specs.ParseSections.{items}
+use Rattle.rbg_text.specs.aid.Parse.{name}
+use Rattle.rbg_text.specs.aid.ParseSections.{items}
 use Rattle.rbg_text.proofs.Turns.{one_more}
 use Rattle.rbg_text.proofs.parser.Parser.names.Goals as goal
 

@@ -1,6 +1,6 @@
 use Rattle.std.proofs.Common.{◌≡◌, ◌-◌, map}
-use Rattle.rbg_text.specs.Parse.{name}
-use Rattle.rbg_text.specs.ParseSections.{items, listed}
+use Rattle.rbg_text.specs.aid.Parse.{name}
+use Rattle.rbg_text.specs.aid.ParseSections.{items, listed}
 use Rattle.rbg_text.proofs.parser.Parser.names.Given as goal
 
 abbrev pub invariant-loop-turn : goal.invariant-loop-turn

@@ -1,6 +1,6 @@
 use Rattle.std.proofs.Common.{rules, arith, map}
 use Rattle.std.proofs.lemmas.Grind.{common_steps}
-use Rattle.rbg_text.specs.ParseSections.{sections}
+use Rattle.rbg_text.specs.aid.ParseSections.{sections}
 use Rattle.rbg_text.specs.Said.{section_view}
 use Rattle.rbg_text.proofs.Turns.{one_more}
 use Rattle.rbg_text.proofs.parser.Parser.sections.Goals as goal

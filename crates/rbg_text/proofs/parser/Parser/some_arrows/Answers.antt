@@ -1,6 +1,6 @@
 use Rattle.std.proofs.Common.{rules, arith, map}
 use Rattle.std.proofs.lemmas.Grind.{common_steps}
-use Rattle.rbg_text.specs.ParseSections.{items, arrow}
+use Rattle.rbg_text.specs.aid.ParseSections.{items, arrow}
 use Rattle.rbg_text.specs.Said.{arrow_view}
 use Rattle.rbg_text.proofs.Turns.{one_more}
 use Rattle.rbg_text.proofs.parser.Parser.some_arrows.Goals as goal

@@ -1,5 +1,5 @@
 use Rattle.std.proofs.Common.{◌≡◌, ◌-◌, map}
-use Rattle.rbg_text.specs.ParseSections.{items, listed, arrow}
+use Rattle.rbg_text.specs.aid.ParseSections.{items, listed, arrow}
 use Rattle.rbg_text.specs.Said.{arrow_view}
 use Rattle.rbg_text.proofs.parser.Parser.some_arrows.Given as goal
 

@@ -1,6 +1,6 @@
 use Rattle.std.proofs.Common.{rules, arith, map}
 use Rattle.std.proofs.lemmas.Grind.{common_steps}
-use Rattle.rbg_text.specs.ParseSections.{vertices}
+use Rattle.rbg_text.specs.aid.ParseSections.{vertices}
 use Rattle.rbg_text.specs.Said.{vertex_view}
 use Rattle.rbg_text.proofs.Turns.{one_more}
 use Rattle.rbg_text.proofs.parser.Parser.vertices.Goals as goal

@@ -3,8 +3,9 @@ use Rattle.std.specs.Prelude.{ℕ, zero, suc, Bool, true, false, ◌||◌, if◌
 use Rattle.std.specs.Str.{bytes_eq}
 use Rattle.rbg_text.specs.Token.{Text, Token}
 use Rattle.rbg_text.specs.Syntax.{Declaration, WrittenArrow, WrittenVertex}
-use Rattle.rbg_text.specs.Parse.{ParseStep, ParseState, Parser, ◌>>=◌, ◌>>◌, first, sees, advance, after, eat, expect, fail, turns, name}
-use Rattle.rbg_text.specs.Parse.{rules_to}
+use Rattle.rbg_text.specs.Parse.{ParseStep, ParseState}
+use Rattle.rbg_text.specs.aid.Parse.{Parser, ◌>>=◌, ◌>>◌, first, sees, advance, after, eat, expect, fail, turns, name}
+use Rattle.rbg_text.specs.aid.Parse.{rules_to}
 use Rattle.rbg_text.specs.Said.{Said, players, pieces, variables, board, rules}
 use Rattle.rbg_text.specs.declared.token.Sign.TheVariants.{Hash, Comma, Colon, Equal, OpenParen, CloseParen, OpenBracket, CloseBracket}
 use Rattle.rbg_text.specs.declared.token.Sign.TheVariants.{OpenBrace, CloseBrace}

@@ -1,0 +1,4 @@
+pub mod Parts
+pub mod Resolve
+pub mod Sizes
+pub mod Switches

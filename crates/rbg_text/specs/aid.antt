@@ -1,0 +1,4 @@
+pub mod Parse
+pub mod ParseSections
+pub mod Postfix
+pub mod View
