@@ -4,8 +4,8 @@ use Rattle.std.specs.Result.{IfOk}
 use Rattle.std.proofs.Common.{◌≡◌, ◌⊎◌, inl, inr, ◌≤◌, ◌/◌, ℕ, false, true, List, None, IsTrue, sym, ◌∙◌, ap, subst, arith}
 use Rattle.std.proofs.Math.Nat.{le-min, le-div_iff_mul-le}
 use Rattle.sector_disk.specs.Disk.{Picture, Disk, size, GoesOn, LeavesOnly, MayLeave, AllSynced}
-use Rattle.sector_disk.specs.Moments.{goes_on_trans, leaves_then, leaves_more, still_honest}
-use Rattle.root_pair.specs.Rest.{rest_leaves, synced_rests}
+use Rattle.sector_disk.specs.aid.Moments.{goes_on_trans, leaves_then, leaves_more, still_honest}
+use Rattle.root_pair.specs.aid.Rest.{rest_leaves, synced_rests}
 use Rattle.root_pair.specs.Root.{Begins, HoldsRoot, IsMade, OldOrNoneOrNew}
 use Rattle.flat_table.specs.Slot.{commits_in, IsEmptySlot}
 use Rattle.flat_table.specs.Held.{Stores}

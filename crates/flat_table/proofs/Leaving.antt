@@ -2,7 +2,7 @@
 use Rattle.std.proofs.Common.{◌≡◌, ◌≢◌, inl, inr, ◌⊎◌, ℕ, Bool, true, false, List, length, Option, Contains, sym, ◌∙◌, ap, subst, arith}
 use Rattle.std.specs.Prelude.{IsTrue}
 use Rattle.sector_disk.specs.Disk.{Picture, Shown, Grew}
-use Rattle.sector_disk.specs.Moments.{leaves_more}
+use Rattle.sector_disk.specs.aid.Moments.{leaves_more}
 use Rattle.root_pair.specs.Root.{root_of, IsAtRest}
 use Rattle.page_store.specs.declared.fault.PageFault.{PageFault}
 use Rattle.page_store.specs.declared.fault.PageFault.TheVariants.{Disk as DiskFailed, NotATable, Damaged, TableFull, OutOfMemory, Closed}
@@ -13,8 +13,8 @@ use Rattle.page_store.specs.Marks.{mark, needs, IsNeeded, AreDiscarded}
 use Rattle.page_store.specs.Page.{page}
 use Rattle.page_store.specs.Spelling.{Stands, IsBack}
 use Rattle.page_store.specs.Store.{Store, Saved, IsSoundStore, IsSafe, StoreWorks, Commits, IsRemarked, IsUnchanged}
-use Rattle.page_store.specs.Works.{safe_saves, works_then}
-use Rattle.page_store.specs.Carrying.{saved_spells, works_stands, discard_goes_back}
+use Rattle.page_store.specs.aid.Works.{safe_saves, works_then}
+use Rattle.page_store.specs.aid.Carrying.{saved_spells, works_stands, discard_goes_back}
 use Rattle.page_chain.specs.Causes.{ChainWriteCause}
 use Rattle.page_chain.specs.Chain.{first_of}
 use Rattle.table_bytes.specs.declared.sizes.Sizes.{Sizes}

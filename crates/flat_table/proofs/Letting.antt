@@ -10,7 +10,7 @@ use Rattle.page_store.specs.declared.marks.Mark.TheVariants.{Committed, Waiting,
 use Rattle.page_store.specs.Marks.{mark, let_go, IsMarked}
 use Rattle.page_store.specs.Page.{page}
 use Rattle.page_store.specs.Store.{Store, reads, StoreWorks, IsRemarked}
-use Rattle.page_store.specs.Works.{works_refl, works_then}
+use Rattle.page_store.specs.aid.Works.{works_refl, works_then}
 use Rattle.page_chain.specs.Chain.{IsChain, first_of}
 use Rattle.flat_table.specs.Steps.{IsGone, LetsGo, IsExchanged}
 

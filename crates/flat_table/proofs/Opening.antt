@@ -1,7 +1,7 @@
 -- What is read of a disk is what it stores.
 use Rattle.std.proofs.Common.{◌≡◌, inl, inr, ◌≤◌, ℕ, Bool, false, true, List, Option, IsTrue, length, sym, ◌∙◌, ap, subst, arith}
 use Rattle.sector_disk.specs.Disk.{Picture, Shown, Disk, sector, size, GoesOn, LeavesOnly, MayLeave, SyncedMore, Grew}
-use Rattle.sector_disk.specs.Moments.{goes_on_trans, leaves_then, leaves_more, still_honest}
+use Rattle.sector_disk.specs.aid.Moments.{goes_on_trans, leaves_then, leaves_more, still_honest}
 use Rattle.root_pair.specs.Root.{HoldsRoot}
 use Rattle.page_store.specs.declared.fault.PageFault.{PageFault}
 use Rattle.page_store.specs.declared.fault.PageFault.TheVariants as page

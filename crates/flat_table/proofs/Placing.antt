@@ -4,13 +4,13 @@ use Rattle.std.specs.Prelude.{IsTrue}
 use Rattle.std.proofs.lemmas.Bool.{cases_lt}
 use Rattle.std.proofs.lemmas.List.{get_or_past}
 use Rattle.sector_disk.specs.Disk.{Picture}
-use Rattle.sector_disk.specs.Moments.{goes_on_trans, leaves_more, still_honest}
+use Rattle.sector_disk.specs.aid.Moments.{goes_on_trans, leaves_more, still_honest}
 use Rattle.page_store.specs.declared.marks.Mark.{Mark}
 use Rattle.page_store.specs.declared.marks.Mark.TheVariants.{Committed, Waiting, Fresh, Released, Free}
 use Rattle.page_store.specs.Marks.{mark, needs, keeps, turned}
 use Rattle.page_store.specs.Spelling.{Stands, IsPrepared, Spells}
 use Rattle.page_store.specs.Store.{Store, reads, IsSoundStore, StoreWorks, Commits, IsCommitted}
-use Rattle.page_store.specs.Carrying.{commit_carries, committed_stands, committed_calm}
+use Rattle.page_store.specs.aid.Carrying.{commit_carries, committed_stands, committed_calm}
 use Rattle.page_chain.specs.Chain.{IsChain, first_of}
 use Rattle.table_bytes.specs.declared.sizes.Sizes.{Sizes}
 use Rattle.table_bytes.specs.Numbers.{AreWithinLimits}

@@ -1,6 +1,6 @@
 -- A text and a table in the place of others, or not.
 use Rattle.std.proofs.Common.{◌≡◌, ◌⊎◌, inl, inr, false, Option, Some, IsTrue, refl, sym, ap, subst}
-use Rattle.sector_disk.specs.Moments.{leaves_now}
+use Rattle.sector_disk.specs.aid.Moments.{leaves_now}
 use Rattle.page_store.specs.Store.{Store, IsSoundStore}
 use Rattle.flat_table.specs.declared.game.Game.{Game}
 use Rattle.flat_table.specs.Held.{Stores}

@@ -8,7 +8,7 @@ use Rattle.page_store.specs.Spelling.{SpelledBy}
 use Rattle.page_store.specs.Store.{Store, reads}
 use Rattle.page_chain.specs.Causes.{ChainReadCause as ChainCause}
 use Rattle.page_chain.specs.Chain.{IsChain}
-use Rattle.page_chain.specs.Resting.{a_chain_has_one_content}
+use Rattle.page_chain.specs.aid.Resting.{a_chain_has_one_content}
 use Rattle.table.specs.InMemory.{stored_in}
 use Rattle.table_bytes.specs.declared.sizes.Sizes.{Sizes}
 use Rattle.table_bytes.specs.Numbers.{bytes_in}

@@ -3,16 +3,16 @@ use Rattle.std.proofs.Common.{◌≡◌, inl, inr, ◌⊎◌, ℕ, ◌<◌, ◌�
 use Rattle.std.proofs.lemmas.Bool.{cases_lt}
 use Rattle.std.proofs.lemmas.List.{get_or_past}
 use Rattle.sector_disk.specs.Disk.{Disk, Shown, LeavesOnly, MayLeave}
-use Rattle.sector_disk.specs.Moments.{leaves_now}
+use Rattle.sector_disk.specs.aid.Moments.{leaves_now}
 use Rattle.page_store.specs.declared.marks.Mark.{Mark}
 use Rattle.page_store.specs.declared.marks.Mark.TheVariants.{Committed, Waiting, Fresh, Released, Free}
-use Rattle.page_store.specs.Carrying.{sealed_stands}
+use Rattle.page_store.specs.aid.Carrying.{sealed_stands}
 use Rattle.page_store.specs.Marks.{mark, needs, turned, AreSealed}
 use Rattle.page_store.specs.Page.{page}
 use Rattle.page_store.specs.Spelling.{SpelledBy, Stands}
 use Rattle.page_store.specs.Store.{Store, IsSoundStore, IsRemarked}
-use Rattle.page_store.specs.Works.{works_refl}
-use Rattle.page_chain.specs.Links.{OnlyMarks}
+use Rattle.page_store.specs.aid.Works.{works_refl}
+use Rattle.page_chain.specs.aid.Links.{OnlyMarks}
 use Rattle.flat_table.specs.File.{IsBacked}
 use Rattle.game_file.specs.Kept.{Kept}
 use Rattle.flat_table.specs.Held.{KeepsTable}

@@ -3,7 +3,7 @@ use Rattle.std.specs.Prelude.{◌≡◌, ℕ, List, Option, None, Some}
 use Rattle.std.proofs.Common.{refl, sym, ◌∙◌, subst, arith}
 use Rattle.sector_disk.specs.Disk.{Picture}
 use Rattle.page_store.specs.Page.{page}
-use Rattle.page_chain.specs.Resting.{a_chain_has_one_content}
+use Rattle.page_chain.specs.aid.Resting.{a_chain_has_one_content}
 use Rattle.table_bytes.specs.Spelled.{SpellsTable}
 use Rattle.table_bytes.specs.Laws.{tables_have_their_length, bytes_spell_one_table}
 use Rattle.flat_table.specs.Slot.{first_in, sizes_in}

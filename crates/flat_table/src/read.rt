@@ -1,7 +1,7 @@
 //! All that the root of a file names is read.
 ghost use Rattle.std.specs.Prelude.{◌≡◌, ◌≤◌, false, Some, length, IfOk, IfErr, IsTrue};
 ghost use Rattle.sector_disk.specs.Disk.{size, GoesOn, LeavesOnly, MayLeave};
-ghost use Rattle.page_chain.specs.Links.{OnlyMarks};
+ghost use Rattle.page_chain.specs.aid.Links.{OnlyMarks};
 ghost use Rattle.page_store.specs.Store.{StoreWorks};
 ghost use Rattle.flat_table.specs.Slot.{commits_in, Says, SaysGame};
 ghost use Rattle.flat_table.specs.File.{IsGame, AreGames, IsBacked, kept_of, pages_of};

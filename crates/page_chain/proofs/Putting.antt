@@ -5,16 +5,16 @@ use Rattle.std.proofs.lemmas.Bool.{cases_lt}
 use Rattle.std.proofs.lemmas.List.{length-append, length-take-le, length-drop, take_all, take-append-drop, take_more, get_or_past}
 use Rattle.std.proofs.lemmas.Option.{slice_get-get_or}
 use Rattle.std.specs.Prelude.{slice_get, slice_index}
-use Rattle.sector_disk.specs.Moments.{still_honest}
+use Rattle.sector_disk.specs.aid.Moments.{still_honest}
 use Rattle.page_store.specs.declared.fault.PageFault.{PageFault}
 use Rattle.page_store.specs.declared.fault.PageFault.TheVariants.{Disk, NotATable, Damaged, TableFull, OutOfMemory, Closed}
 use Rattle.page_store.specs.Causes.{PageWriteCause as PageCause}
 use Rattle.page_store.specs.Store.{Store, reads, StoreWorks}
-use Rattle.page_store.specs.Works.{works_refl, works_then}
+use Rattle.page_store.specs.aid.Works.{works_refl, works_then}
 use Rattle.page_chain.specs.Chain.{next_in, LeadsThrough, payloads, first_of}
-use Rattle.page_chain.specs.Causes.{ChainPutCause}
-use Rattle.page_chain.specs.Links.{IsOnce}
-use Rattle.page_chain.specs.Resting.{payloads_same}
+use Rattle.page_chain.specs.aid.Causes.{ChainPutCause}
+use Rattle.page_chain.specs.aid.Links.{IsOnce}
+use Rattle.page_chain.specs.aid.Resting.{payloads_same}
 use Rattle.page_chain.proofs.Linking.{LeadsTo, leads_more, leads_end, leads_to_same, payloads_more, got_before}
 
 -- what fills a page up is cut away

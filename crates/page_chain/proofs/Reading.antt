@@ -5,7 +5,7 @@ use Rattle.std.proofs.lemmas.List.Elements.{Contains-push_cases}
 use Rattle.std.proofs.lemmas.Bool.{cases_eq}
 use Rattle.std.specs.Prelude.{slice_get}
 use Rattle.sector_disk.specs.Disk.{Shown, Disk as DiskStated, LeavesOnly, MayLeave}
-use Rattle.sector_disk.specs.Moments.{still_honest, leaves_now, leaves_then, leaves_more}
+use Rattle.sector_disk.specs.aid.Moments.{still_honest, leaves_now, leaves_then, leaves_more}
 use Rattle.page_store.specs.declared.fault.PageFault.{PageFault}
 use Rattle.page_store.specs.declared.fault.PageFault.TheVariants.{Disk, NotATable, Damaged, TableFull, OutOfMemory, Closed}
 use Rattle.page_store.specs.declared.marks.Mark.{Mark}
@@ -13,10 +13,11 @@ use Rattle.page_store.specs.declared.marks.Mark.TheVariants.{Committed, Waiting}
 use Rattle.page_store.specs.Marks.{mark, IsMarked}
 use Rattle.page_store.specs.Page.{page}
 use Rattle.page_store.specs.Store.{Store, reads, StoreWorks}
-use Rattle.page_store.specs.Works.{works_refl, works_then}
+use Rattle.page_store.specs.aid.Works.{works_refl, works_then}
 use Rattle.page_chain.specs.Chain.{next_in, LeadsThrough, payloads, IsChain}
-use Rattle.page_chain.specs.Causes.{AreWaiting, ChainReadCause, LinkCause}
-use Rattle.page_chain.specs.Links.{IsOnce, OnlyMarks, IsJoined}
+use Rattle.page_chain.specs.Causes.{AreWaiting, ChainReadCause}
+use Rattle.page_chain.specs.aid.Causes.{LinkCause}
+use Rattle.page_chain.specs.aid.Links.{IsOnce, OnlyMarks, IsJoined}
 use Rattle.page_chain.proofs.Linking.{LeadsTo, leads_more, leads_end, payloads_more, once_more, none_once, none_contained, contains_before, contains_last, same_way, got_seam, got_before, contains_got}
 
 pub only_marks_refl : (store : Store) → OnlyMarks store store

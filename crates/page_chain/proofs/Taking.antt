@@ -10,9 +10,9 @@ use Rattle.page_store.specs.declared.fault.PageFault.TheVariants.{Disk, NotATabl
 use Rattle.page_store.specs.Causes.{NewCause}
 use Rattle.page_store.specs.Marks.{mark, free_one, free_count, IsMarked}
 use Rattle.page_store.specs.Store.{Store, StoreWorks, IsRemarked}
-use Rattle.page_store.specs.Works.{works_refl, works_then}
-use Rattle.page_chain.specs.Causes.{TakeCause}
-use Rattle.page_chain.specs.Links.{HandsOut, AreTaken}
+use Rattle.page_store.specs.aid.Works.{works_refl, works_then}
+use Rattle.page_chain.specs.aid.Causes.{TakeCause}
+use Rattle.page_chain.specs.aid.Links.{HandsOut, AreTaken}
 use Rattle.page_chain.proofs.Linking.{once_more, none_once, none_contained, contains_before, contains_last}
 
 -- marks that agree are as many free ones

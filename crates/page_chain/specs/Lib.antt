@@ -1,4 +1,3 @@
 pub mod Causes
 pub mod Chain
-pub mod Links
-pub mod Resting
+pub mod aid

@@ -5,8 +5,9 @@ ghost use Rattle.page_store.specs.declared.marks.Mark.TheVariants.{Committed, Wa
 ghost use Rattle.page_store.specs.Marks.{mark as mark_of};
 ghost use Rattle.page_store.specs.Store.{reads, StoreWorks};
 ghost use Rattle.page_chain.specs.Chain.{IsChain};
-ghost use Rattle.page_chain.specs.Causes.{ChainReadCause, LinkCause};
-ghost use Rattle.page_chain.specs.Links.{OnlyMarks, IsJoined};
+ghost use Rattle.page_chain.specs.Causes.{ChainReadCause};
+ghost use Rattle.page_chain.specs.aid.Causes.{LinkCause};
+ghost use Rattle.page_chain.specs.aid.Links.{OnlyMarks, IsJoined};
 
 use crate::page::{next_of, pages_for, payload_of};
 use page_store::{PageFault, Pages};

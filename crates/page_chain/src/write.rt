@@ -5,8 +5,9 @@ ghost use Rattle.page_store.specs.declared.marks.Mark.TheVariants.{Fresh, Free};
 ghost use Rattle.page_store.specs.Marks.{mark as mark_of, free_count};
 ghost use Rattle.page_store.specs.Store.{reads, StoreWorks};
 ghost use Rattle.page_chain.specs.Chain.{IsChain, LeadsThrough, payloads, first_of};
-ghost use Rattle.page_chain.specs.Causes.{ChainWriteCause, TakeCause, ChainPutCause};
-ghost use Rattle.page_chain.specs.Links.{HandsOut, AreTaken, IsOnce};
+ghost use Rattle.page_chain.specs.Causes.{ChainWriteCause};
+ghost use Rattle.page_chain.specs.aid.Causes.{TakeCause, ChainPutCause};
+ghost use Rattle.page_chain.specs.aid.Links.{HandsOut, AreTaken, IsOnce};
 
 use crate::page::{page_with, pages_for, part_of};
 use crate::read::add_page;

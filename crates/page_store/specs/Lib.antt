@@ -1,7 +1,6 @@
-pub mod Carrying
 pub mod Causes
 pub mod Marks
 pub mod Page
 pub mod Spelling
 pub mod Store
-pub mod Works
+pub mod aid

@@ -3,7 +3,7 @@ use Rattle.std.proofs.Common.{◌≡◌, ◌≢◌, ℕ, Bool, Result, Ok, Err, 
 use Rattle.std.specs.Prelude.{OnErr}
 use Rattle.std.specs.Result.{IsErr, IfErr, IsErrAnd}
 use Rattle.page_store.specs.Store.{Store, reads, StoreWorks, IsUnchanged}
-use Rattle.page_store.specs.Works.{works_refl}
+use Rattle.page_store.specs.aid.Works.{works_refl}
 use Rattle.table.specs.declared.fault.TableFault.{TableFault}
 use Rattle.table.specs.declared.fault.TableFault.TheVariants.{Disk, Damaged, TableFull, OutOfMemory, Closed}
 use Rattle.paged_table.specs.Page.{IsRecordPage}

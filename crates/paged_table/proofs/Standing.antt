@@ -2,13 +2,13 @@
 use Rattle.std.proofs.Common.{◌≡◌, ◌⊎◌, inl, inr, ℕ, Bool, false, List, length, Some, refl, sym, ◌∙◌, ap, subst, arith}
 use Rattle.std.specs.Prelude.{IsTrue, slice_get, count_by}
 use Rattle.sector_disk.specs.Disk.{Picture, LeavesOnly}
-use Rattle.sector_disk.specs.Moments.{leaves_more, still_honest}
+use Rattle.sector_disk.specs.aid.Moments.{leaves_more, still_honest}
 use Rattle.page_store.specs.declared.marks.Mark.{Mark}
 use Rattle.page_store.specs.declared.marks.Mark.TheVariants.{Committed, Waiting, Fresh, Released, Free}
 use Rattle.page_store.specs.Marks.{mark, needs, keeps, turned, IsNeeded, IsKept}
 use Rattle.page_store.specs.Store.{Store, reads, IsSoundStore, StoreWorks, Commits, IsCommitted}
 use Rattle.page_store.specs.Spelling.{SpelledBy, Stands, IsPrepared, Spells, IsCalm, IsBack}
-use Rattle.page_store.specs.Carrying.{saved_spells, commit_carries}
+use Rattle.page_store.specs.aid.Carrying.{saved_spells, commit_carries}
 use Rattle.retrograde.specs.declared.records.Record.{Record}
 use Rattle.retrograde.specs.Graph.{Graph}
 use Rattle.retrograde.specs.Stored.{Stored, is_expanded, is_processed}

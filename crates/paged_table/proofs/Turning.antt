@@ -4,7 +4,7 @@ use Rattle.std.specs.Prelude.{IsTrue}
 use Rattle.std.specs.Result.{IsErr, IsErrAnd}
 use Rattle.sector_disk.specs.Disk.{Shown, Grew}
 use Rattle.sector_disk.specs.Disk.{Disk as Drive}
-use Rattle.sector_disk.specs.Moments.{leaves_more, goes_on_trans}
+use Rattle.sector_disk.specs.aid.Moments.{leaves_more, goes_on_trans}
 use Rattle.root_pair.specs.Root.{root_of, IsAtRest}
 use Rattle.page_store.specs.declared.fault.PageFault.{PageFault}
 use Rattle.page_store.specs.declared.fault.PageFault.TheVariants as page
@@ -13,9 +13,9 @@ use Rattle.page_store.specs.Causes.{StoreCommitCause}
 use Rattle.page_store.specs.Marks.{mark, needs, IsNeeded, AreDiscarded}
 use Rattle.page_store.specs.Page.{page as page_of}
 use Rattle.page_store.specs.Store.{Store, IsSafe, StoreWorks, Commits, IsRemarked, IsUnchanged}
-use Rattle.page_store.specs.Works.{safe_saves, works_then}
+use Rattle.page_store.specs.aid.Works.{safe_saves, works_then}
 use Rattle.page_store.specs.Spelling.{IsCalm, IsBack}
-use Rattle.page_store.specs.Carrying.{discard_goes_back}
+use Rattle.page_store.specs.aid.Carrying.{discard_goes_back}
 use Rattle.table.specs.declared.fault.TableFault.{TableFault}
 use Rattle.table.specs.declared.fault.TableFault.TheVariants.{Disk, Damaged, TableFull, OutOfMemory, Closed}
 use Rattle.frontier.specs.Causes.{Leaves}
@@ -25,7 +25,8 @@ use Rattle.retrograde.specs.declared.records.Record.{Record}
 use Rattle.retrograde.specs.Stored.{Stored}
 use Rattle.paged_table.specs.Paged.{stored_of, StaysWhole, IsHonest, PagedGoesOn, Fails}
 use Rattle.paged_table.specs.Places.{fault_of, IsPageThere, PlaceCause}
-use Rattle.paged_table.specs.Turns.{IsGivenUp, DeviceCause, TurnCause, StartCause, BeginCause}
+use Rattle.paged_table.specs.Turns.{DeviceCause, TurnCause, StartCause, BeginCause}
+use Rattle.paged_table.specs.aid.Turns.{IsGivenUp}
 use Rattle.paged_table.proofs.Standing.{back_whole, back_records}
 
 -- a commit that left the store as it was commits nothing

@@ -1,6 +1,6 @@
 -- Work on a table and then a commit: what a stop leaves, and why it is refused.
-use Rattle.std.specs.Prelude.{◌≡◌, ◌⊎◌, ℕ, ◌≤◌, true, false, List, length, slice_get, Some, Bool, IsTrue}
-use Rattle.sector_disk.specs.Disk.{Picture, Grew, GoesOn}
+use Rattle.std.specs.Prelude.{◌≡◌, ◌⊎◌, ℕ, true, false, List, length, slice_get, Some, Bool, IsTrue}
+use Rattle.sector_disk.specs.Disk.{Picture, Grew}
 use Rattle.page_store.specs.declared.marks.Mark.{Mark}
 use Rattle.page_store.specs.declared.marks.Mark.TheVariants.{Committed, Waiting, Fresh, Released, Free}
 use Rattle.page_store.specs.Marks.{mark, free_count}
@@ -51,15 +51,6 @@ pub record HoldsReached (graph : Graph (List ℕ)) (IsWide : List ℕ → Type 0
 abbrev pub IsLeftByTurn : Graph (List ℕ) → (List ℕ → Type 0) → ℕ → Store → List ℕ → Stored (List ℕ) → List ℕ → Picture → Type 0
 IsLeftByTurn graph IsWide units old pages was root picture =
     Holds old.root (length old.marks) pages was picture ⊎ HoldsReached graph IsWide units was root (length old.marks) picture
-
--- work or a commit was refused: nothing is committed, or the store is closed
-pub record IsGivenUp (old new : Store) : Type 0 where
-  pub left : StoreWorks old new ⊎ (new.closed ≡ true)
-  pub goes_on : GoesOn old.disk new.disk
-  pub failures : old.failures ≤ new.failures
-  pub root : new.root ≡ old.root
-  pub same_pages : length new.marks ≡ length old.marks
-  pub waiting : (p : ℕ) → mark new.marks p ≡ Waiting → mark old.marks p ≡ Waiting
 
 -- no page was free at some moment
 pub record WasFull (old : Store) : Type 0 where

@@ -8,7 +8,8 @@ ghost use Rattle.frontier.specs.declared.fault.StepFault.TheVariants.{Inconsiste
 ghost use Rattle.table_work.specs.Work.{AreDone, StopsWith};
 ghost use Rattle.table.specs.InMemory.{stored_in};
 ghost use Rattle.paged_table.specs.Paged.{IsHonest, stored_of};
-ghost use Rattle.paged_table.specs.Turns.{Holds, IsGivenUp, TurnCause, IsLeftByTurn};
+ghost use Rattle.paged_table.specs.Turns.{Holds, TurnCause, IsLeftByTurn};
+ghost use Rattle.paged_table.specs.aid.Turns.{IsGivenUp};
 
 use crate::paged::PagedTable;
 use crate::place::table_fault;

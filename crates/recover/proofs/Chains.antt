@@ -2,7 +2,7 @@
 use Rattle.std.proofs.Common.{◌≡◌, inl, inr, ℕ, List, [], ◌∷◌, ◌++◌, Option, None, refl, sym, subst}
 use Rattle.std.specs.Prelude.{IsTrue}
 use Rattle.sector_disk.specs.Disk.{Picture, Shown, Disk, MayLeave}
-use Rattle.sector_disk.specs.Moments.{reads_left, still_honest}
+use Rattle.sector_disk.specs.aid.Moments.{reads_left, still_honest}
 use Rattle.root_pair.specs.Root.{IsTablePicture}
 use Rattle.game_file.specs.Kept.{Kept, Layout}
 use Rattle.game_file.specs.State.{State}

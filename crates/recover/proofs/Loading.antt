@@ -3,7 +3,7 @@ use Rattle.std.proofs.Common.{◌≡◌, ◌≢◌, ◌⊎◌, ℕ, List, Option
 use Rattle.std.specs.Prelude.{is_some, IsSome, IfSome, IfNone, IsTrue}
 use Rattle.std.proofs.lemmas.Option.{same_Some}
 use Rattle.sector_disk.specs.Disk.{GoesOn}
-use Rattle.sector_disk.specs.Moments.{leaves_more, still_honest}
+use Rattle.sector_disk.specs.aid.Moments.{leaves_more, still_honest}
 use Rattle.rbg_game.specs.Games.{Game}
 use Rattle.rbg_read.specs.Reading.{Reads}
 use Rattle.legal_moves.specs.Sources.{IsWideAt, graph_of}

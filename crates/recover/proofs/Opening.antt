@@ -3,7 +3,7 @@ use Rattle.std.proofs.Common.{◌≡◌, ◌≤◌, inl, inr, ℕ, Option, sym, 
 use Rattle.std.specs.Prelude.{IsTrue, Result, Ok, Err}
 use Rattle.std.specs.Result.{IfOk, OnOk}
 use Rattle.sector_disk.specs.Disk.{Picture, Disk, LeavesOnly, MayLeave, Grew}
-use Rattle.sector_disk.specs.Moments.{goes_on_trans, leaves_then, leaves_more, still_honest}
+use Rattle.sector_disk.specs.aid.Moments.{goes_on_trans, leaves_then, leaves_more, still_honest}
 use Rattle.game_file.specs.Calls.{IsOpenedFile, IsNotOpened, IsCreatedFile, IsNotCreated, IsAsked}
 use Rattle.game_file.specs.Causes.{FileOpenCause, FileCreateCause}
 use Rattle.game_file.specs.Kept.{Kept, Layout}

@@ -3,7 +3,7 @@ use Rattle.std.proofs.Common.{◌≡◌, ◌⊎◌, inl, inr, ℕ, ◌≤◌, �
 use Rattle.std.specs.Prelude.{IsTrue}
 use Rattle.std.proofs.lemmas.Bool.{cases_lt}
 use Rattle.sector_disk.specs.Disk.{Picture, Shown, GoesOn, MayLeave}
-use Rattle.sector_disk.specs.Moments.{still_honest, goes_on_refl, goes_on_trans}
+use Rattle.sector_disk.specs.aid.Moments.{still_honest, goes_on_refl, goes_on_trans}
 use Rattle.rbg_read.specs.Reading.{Reads}
 use Rattle.game_table.specs.aid.Laws.{a_first_table_is_sound}
 use Rattle.game_file.specs.Kept.{Kept, Layout}

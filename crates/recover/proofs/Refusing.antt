@@ -1,7 +1,7 @@
 -- A refusal that changes nothing.
 use Rattle.std.proofs.Common.{◌≡◌, Bool, false, true, refl}
 use Rattle.std.specs.Prelude.{IsTrue}
-use Rattle.sector_disk.specs.Moments.{leaves_now}
+use Rattle.sector_disk.specs.aid.Moments.{leaves_now}
 use Rattle.game_file.specs.Kept.{Layout}
 use Rattle.game_file.specs.State.{State}
 use Rattle.game_file.specs.Stops.{LeavesNow}

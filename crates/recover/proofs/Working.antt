@@ -2,7 +2,7 @@
 use Rattle.std.proofs.Common.{◌≡◌, ◌≢◌, inl, ℕ, List, Option, None, Some, refl, sym, ◌∙◌, ap, subst, false}
 use Rattle.std.specs.Prelude.{IsTrue}
 use Rattle.sector_disk.specs.Disk.{GoesOn}
-use Rattle.sector_disk.specs.Moments.{leaves_now, leaves_more}
+use Rattle.sector_disk.specs.aid.Moments.{leaves_now, leaves_more}
 use Rattle.rbg_game.specs.Games.{Game}
 use Rattle.rbg_read.specs.Reading.{Reads}
 use Rattle.rbg_read.proofs.OneReading.{one_game}

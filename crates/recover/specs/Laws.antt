@@ -2,7 +2,7 @@
 use Rattle.std.specs.Prelude.{◌≡◌, ◌⊎◌, ◌↔◌, ℕ, List, Option, None, Some, IsTrue}
 use Rattle.std.proofs.Common.{inl, inr, subst}
 use Rattle.sector_disk.specs.Disk.{Picture, Disk, MayLeave}
-use Rattle.sector_disk.specs.Moments.{reads_left}
+use Rattle.sector_disk.specs.aid.Moments.{reads_left}
 use Rattle.rbg_game.specs.Games.{Game}
 use Rattle.rbg_game.specs.declared.roles.Player.{Player}
 use Rattle.rbg_read.specs.Reading.{Reads}

@@ -1,7 +1,6 @@
 -- The last sync among the events that a disk in memory keeps, and the sectors as they were then.
 use Rattle.std.specs.Prelude.{◌≡◌, ℕ, ◌<◌, ◌≤◌, true, List, length, take, drop, IsTrue}
 use Rattle.sector_disk.specs.declared.log.Event.{Event}
-use Rattle.sector_disk.specs.declared.log.Event.TheVariants.{Wrote, Synced}
 use Rattle.sector_disk.specs.Disk.{Picture}
 use Rattle.sector_disk.specs.Past.{undone, synced_after}
 
@@ -10,11 +9,6 @@ pub record IsLastSyncOf (events : List Event) (last : ℕ) : Type 0 where
   pub within : last ≤ length events
   pub all : (k : ℕ) → IsTrue (synced_after (λ j. true) (take last events) k)
   pub later : (m : ℕ) → last < m → m ≤ length events → ¬ ((k : ℕ) → IsTrue (synced_after (λ j. true) (take m events) k))
-
--- that number once this event has happened, as the one of this number
-abbrev pub last_by : Event → ℕ → ℕ → ℕ
-last_by (Wrote at bytes) count last = last
-last_by Synced count last = count
 
 -- the sectors as at the last sync, where they are this now
 pub record IsAsAtSync (events : List Event) (contents sectors : Picture) : Type 0 where

@@ -2,7 +2,7 @@
 use Rattle.std.specs.Prelude.{◌≡◌, Option, None, Some, refl}
 use Rattle.std.proofs.Common.{sym, ap, subst, arith}
 use Rattle.std.proofs.lemmas.Option.{same_Some}
-use Rattle.sector_disk.specs.Moments.{goes_on_refl, leaves_now}
+use Rattle.sector_disk.specs.aid.Moments.{goes_on_refl, leaves_now}
 use Rattle.page_store.specs.Store.{Store}
 use Rattle.retrograde.specs.Stored.{IsTable}
 use Rattle.table.specs.declared.memory.MemTable.{MemTable}

@@ -1,9 +1,9 @@
 -- One call after another.
 use Rattle.std.proofs.Common.{◌≡◌, inl, inr, ℕ, ◌≤◌, Bool, List, length, refl, sym, ◌∙◌, arith}
 use Rattle.sector_disk.specs.Disk.{Grew}
-use Rattle.sector_disk.specs.Moments.{still_honest}
+use Rattle.sector_disk.specs.aid.Moments.{still_honest}
 use Rattle.page_store.specs.Store.{Store}
-use Rattle.page_store.specs.Works.{works_refl, works_then}
+use Rattle.page_store.specs.aid.Works.{works_refl, works_then}
 use Rattle.table.specs.declared.fault.TableFault.{TableFault}
 use Rattle.table.specs.declared.fault.TableFault.TheVariants.{Disk, Damaged, TableFull, OutOfMemory, Closed}
 use Rattle.retrograde.specs.Stored.{Stored}

@@ -1,5 +1,5 @@
 use Rattle.std.proofs.Common.{length, subst, arith}
-use Rattle.page_store.specs.Works.{works_refl}
+use Rattle.page_store.specs.aid.Works.{works_refl}
 use Rattle.page_store.specs.Store.{reads}
 use Rattle.flat_table.specs.Slot.{IsNoSlot}
 use Rattle.flat_table.proofs.Reading.{no_slot_keeps}

@@ -1,6 +1,6 @@
 use Rattle.std.proofs.Common.{◌≡◌, ℕ, sym, subst, arith}
 use Rattle.page_store.specs.Store.{Store}
-use Rattle.page_chain.specs.Links.{HandsOut, AreTaken}
+use Rattle.page_chain.specs.aid.Links.{HandsOut, AreTaken}
 use Rattle.page_chain.proofs.Passing.{passed_on}
 use Rattle.page_chain.proofs.Taking.{none_taken, out_more, taken_more, take_cause}
 use Rattle.page_chain.proofs.write.take_pages.Goals as goal

@@ -1,4 +1,4 @@
-use Rattle.page_store.specs.Works.{works_refl}
+use Rattle.page_store.specs.aid.Works.{works_refl}
 use Rattle.page_chain.proofs.write.write_chain.Goals as goal
 
 pub returns-then-free_pages-count-clause-works : goal.returns-then-free_pages-count-clause-works

@@ -4,7 +4,7 @@ use Rattle.std.proofs.lemmas.Option.{slice_get-get_or}
 use Rattle.std.specs.Prelude.{slice_index}
 use Rattle.page_store.specs.declared.marks.Mark.{Mark}
 use Rattle.page_store.specs.Marks.{mark}
-use Rattle.page_store.specs.Works.{works_then}
+use Rattle.page_store.specs.aid.Works.{works_then}
 use Rattle.page_chain.proofs.Linking.{contains_got}
 use Rattle.page_chain.proofs.Passing.{passed_on}
 use Rattle.page_chain.proofs.Putting.{none_put, put_more, all_lead, all_hold, put_still, put_cause}

@@ -1,5 +1,5 @@
 use Rattle.std.proofs.lemmas.Result.{IfErr-weaker}
-use Rattle.sector_disk.specs.Moments.{still_honest}
+use Rattle.sector_disk.specs.aid.Moments.{still_honest}
 use Rattle.flat_table.proofs.Creating.{IsLaidDown, never, counts_none, both_ok, created, not_created, create_cause}
 use Rattle.flat_table.proofs.file.FlatTableGameFile.create.Goals as goal
 

@@ -1,7 +1,7 @@
 use Rattle.std.proofs.Common.{rules, refl, inl, inr, arith}
-use Rattle.sector_disk.specs.Moments.{goes_on_refl, leaves_now, leaves_more}
+use Rattle.sector_disk.specs.aid.Moments.{goes_on_refl, leaves_now, leaves_more}
 use Rattle.page_store.specs.Store.{store_of}
-use Rattle.page_store.specs.Works.{safe_saves}
+use Rattle.page_store.specs.aid.Works.{safe_saves}
 use Rattle.page_store.proofs.Keeping.{old_or_new, published_reads, published_leaves, published_grew}
 use Rattle.page_store.proofs.store.PageStorePages.commit.Goals as goal
 

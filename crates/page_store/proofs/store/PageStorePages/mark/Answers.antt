@@ -2,7 +2,7 @@ use Rattle.std.proofs.Common.{◌≡◌, ◌<◌, ◌∙◌, length, ap, refl, s
 use Rattle.std.proofs.lemmas.List.{get_or_default}
 use Rattle.page_store.specs.declared.marks.Mark.TheVariants.{Committed, Waiting}
 use Rattle.page_store.specs.Marks.{mark, needs}
-use Rattle.page_store.specs.Works.{works_refl}
+use Rattle.page_store.specs.aid.Works.{works_refl}
 use Rattle.page_store.proofs.Keeping.{marked_works, marked_sound, not_zero, waiting_apart}
 use Rattle.page_store.proofs.store.PageStorePages.mark.Goals as goal
 

@@ -2,7 +2,7 @@ use Rattle.std.proofs.Common.{◌≡◌, ◌∙◌, List, ap, refl, sym}
 use Rattle.page_store.specs.declared.marks.Mark.{Mark}
 use Rattle.page_store.specs.declared.marks.Mark.TheVariants.{Free}
 use Rattle.page_store.specs.Marks.{mark, needs}
-use Rattle.page_store.specs.Works.{works_refl}
+use Rattle.page_store.specs.aid.Works.{works_refl}
 use Rattle.page_store.proofs.Keeping.{marked_works, fresh_waits}
 use Rattle.page_store.proofs.store.PageStorePages.new_page.Goals as goal
 

@@ -1,5 +1,5 @@
 use Rattle.std.proofs.Common.{refl}
-use Rattle.page_store.specs.Works.{works_refl}
+use Rattle.page_store.specs.aid.Works.{works_refl}
 use Rattle.page_store.proofs.Keeping.{reads_else, works_write}
 use Rattle.page_store.proofs.store.PageStorePages.write_page.Goals as goal
 

@@ -1,4 +1,4 @@
-use Rattle.page_store.specs.Carrying.{stop_leaves}
+use Rattle.page_store.specs.aid.Carrying.{stop_leaves}
 use Rattle.paged_table.proofs.Standing.{stands}
 use Rattle.paged_table.proofs.Resting.{calm_at_rest}
 use Rattle.paged_table.proofs.committed.CommittedTable.rests.Goals as goal

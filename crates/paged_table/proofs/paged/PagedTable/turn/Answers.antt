@@ -1,5 +1,5 @@
 use Rattle.std.proofs.Common.{ℕ, List, ap, length}
-use Rattle.page_store.specs.Works.{works_refl}
+use Rattle.page_store.specs.aid.Works.{works_refl}
 use Rattle.retrograde.specs.Stored.{Stored}
 use Rattle.table.specs.InMemory.{stored_in}
 use Rattle.paged_table.proofs.Faults.{on_err}

@@ -1,7 +1,7 @@
 use Rattle.std.proofs.Common.{◌≡◌, ◌≤◌, ◌^◌, ℕ, List, ap, length, Some, None, slice_get, arith}
 use Rattle.std.proofs.lemmas.Option.{slice_get_within}
 use Rattle.std.proofs.lemmas.List.{length-map}
-use Rattle.page_store.specs.Works.{works_then}
+use Rattle.page_store.specs.aid.Works.{works_then}
 use Rattle.table.specs.InMemory.{stored_in}
 use Rattle.paged_table.proofs.Faults.{passed_on, damaged_here, read_fault}
 use Rattle.paged_table.proofs.Wholes.{there_on, page_there}

@@ -1,6 +1,6 @@
 use Rattle.std.proofs.Common.{arith, rules}
 use Rattle.std.proofs.lemmas.List.{take_all}
-use Rattle.sector_disk.specs.Moments.{still_honest}
+use Rattle.sector_disk.specs.aid.Moments.{still_honest}
 use Rattle.recover.proofs.Prefixes.{stopped_run}
 use Rattle.recover.proofs.Turning.{ahead_then, run_begins, run_goes_on}
 use Rattle.recover.proofs.solver.FileSolver.run.Goals as goal

@@ -4,13 +4,13 @@ use Rattle.std.proofs.Common.{refl, sym, ◌∙◌, ap, subst, arith, inl, inr}
 use Rattle.std.proofs.lemmas.Bool.{cases_lt}
 use Rattle.std.proofs.lemmas.List.{get_or_past}
 use Rattle.sector_disk.specs.Disk.{Picture, Disk, GoesOn, LeavesOnly}
-use Rattle.sector_disk.specs.Moments.{goes_on_refl, goes_on_trans, leaves_now, leaves_then, leaves_more, still_honest}
+use Rattle.sector_disk.specs.aid.Moments.{goes_on_refl, goes_on_trans, leaves_now, leaves_then, leaves_more, still_honest}
 use Rattle.root_pair.specs.Root.{HoldsRoot, root_of, IsAtRest}
-use Rattle.root_pair.specs.Rest.{rest_leaves}
+use Rattle.root_pair.specs.aid.Rest.{rest_leaves}
 use Rattle.page_store.specs.declared.marks.Mark.{Mark}
 use Rattle.page_store.specs.declared.marks.Mark.TheVariants.{Committed, Fresh}
 use Rattle.page_store.specs.Marks.{mark, IsNeeded}
-use Rattle.page_store.specs.Page.{page_same}
+use Rattle.page_store.specs.aid.Page.{page_same}
 use Rattle.page_store.specs.Store.{Store, Saved, SavedAs, StopLeaves, IsSafe, StoreWorks, IsRemarked}
 
 -- a page that was handed out lies before the end

@@ -3,7 +3,7 @@ use Rattle.std.specs.Prelude.{◌≡◌, ◌⊎◌, ℕ, ◌≤◌, ◌<◌, Boo
 use Rattle.std.proofs.Common.{refl, sym, ◌∙◌, ap, subst, arith, inl, inr}
 use Rattle.std.proofs.lemmas.List.{ext_get_or}
 use Rattle.sector_disk.specs.Disk.{Picture, Disk}
-use Rattle.sector_disk.specs.Moments.{leaves_more, leaves_then, still_honest}
+use Rattle.sector_disk.specs.aid.Moments.{leaves_more, leaves_then, still_honest}
 use Rattle.page_store.specs.declared.marks.Mark.{Mark}
 use Rattle.page_store.specs.declared.marks.Mark.TheVariants.{Committed, Waiting, Fresh, Released, Free}
 use Rattle.page_store.specs.Marks.{mark, needs, keeps, turned, IsNeeded, AreSealed, AreDiscarded}
@@ -11,7 +11,7 @@ use Rattle.page_store.specs.Page.{page}
 use Rattle.page_store.specs.Store.{Store, reads, Saved, SavedAs, StopLeaves, IsSafe, StoreWorks, Commits, IsRemarked, IsUnchanged}
 use Rattle.page_store.specs.Store.{IsCommitted}
 use Rattle.page_store.specs.Store.{IsOpened}
-use Rattle.page_store.specs.Works.{safe_saves, saved_before, still_needed, commit_after}
+use Rattle.page_store.specs.aid.Works.{safe_saves, saved_before, still_needed, commit_after}
 use Rattle.page_store.specs.Spelling.{SpelledBy, Stands, IsPrepared, Spells, IsCarried, IsCalm, IsBack}
 
 -- other bytes that agree on the named pages

@@ -11,7 +11,7 @@ use Rattle.page_store.specs.declared.marks.Mark.TheVariants.{Committed, Fresh}
 use Rattle.page_store.specs.Marks.{mark, needs, keeps}
 use Rattle.page_store.specs.Spelling.{SpelledBy, Stands, IsPrepared}
 use Rattle.page_store.specs.Store.{Store, reads}
-use Rattle.page_store.specs.Works.{fresh_within}
+use Rattle.page_store.specs.aid.Works.{fresh_within}
 use Rattle.page_chain.specs.Chain.{next_in, LeadsThrough, payloads, IsChain}
 
 -- the first of some pages is one of them, and so are the others
