@@ -9,7 +9,7 @@ use Rattle.root_pair.specs.aid.Rest.{rest_leaves, synced_rests}
 use Rattle.root_pair.specs.Root.{Begins, HoldsRoot, IsMade, OldOrNoneOrNew}
 use Rattle.flat_table.specs.Slot.{commits_in, IsEmptySlot}
 use Rattle.flat_table.specs.Held.{Stores}
-use Rattle.flat_table.specs.ReadLaws.{a_picture_stores_one_table}
+use Rattle.flat_table.specs.aid.ReadLaws.{a_picture_stores_one_table}
 use Rattle.game_file.specs.declared.fault.FileFault.{FileFault}
 use Rattle.game_file.specs.declared.fault.FileFault.TheVariants.{Disk as DiskFailed, NotATable, AlreadyATable, Damaged, TooSmall, TableFull, OutOfMemory, Closed, Inconsistent}
 use Rattle.game_file.specs.Calls.{IsOpenedFile, IsNotOpened, IsCreatedFile, IsNotCreated}

@@ -21,11 +21,11 @@ use Rattle.table_bytes.specs.declared.sizes.Sizes.{Sizes}
 use Rattle.flat_table.specs.Held.{KeepsTable, Stores}
 use Rattle.game_file.specs.Kept.{Kept}
 use Rattle.flat_table.specs.File.{IsBacked}
-use Rattle.flat_table.specs.StoredLaws.{spells_stores}
+use Rattle.flat_table.specs.aid.StoredLaws.{spells_stores}
 use Rattle.flat_table.specs.SaveCauses.{SaveCause}
 use Rattle.flat_table.specs.Saving.{StoreGoesAhead}
 use Rattle.game_file.specs.Stops.{LeavesTable}
-use Rattle.flat_table.specs.Steps.{IsExchanged, IsSlotOf, IsLeft}
+use Rattle.flat_table.specs.aid.Steps.{IsExchanged, IsSlotOf, IsLeft}
 use Rattle.flat_table.proofs.Letting.{still_there}
 use Rattle.flat_table.proofs.Placing.{commit_leaves, commit_ahead}
 

@@ -12,7 +12,7 @@ use Rattle.page_store.specs.Page.{page}
 use Rattle.page_store.specs.Store.{Store, reads, StoreWorks, IsRemarked}
 use Rattle.page_store.specs.aid.Works.{works_refl, works_then}
 use Rattle.page_chain.specs.Chain.{IsChain, first_of}
-use Rattle.flat_table.specs.Steps.{IsGone, LetsGo, IsExchanged}
+use Rattle.flat_table.specs.aid.Steps.{IsGone, LetsGo, IsExchanged}
 
 -- the pages before this place are let go
 pub record AreLetGo (pages : List ℕ) (place : ℕ) (old new : Store) : Type 0 where

@@ -10,7 +10,7 @@ use Rattle.flat_table.specs.Saving.{AreBytesOf}
 use Rattle.game_file.specs.Faults.{of_pages}
 use Rattle.game_file.specs.declared.fault.FileFault.{FileFault}
 use Rattle.game_file.specs.declared.fault.FileFault.TheVariants.{Disk, NotATable, AlreadyATable, Damaged, TooSmall, TableFull, OutOfMemory, Closed, Inconsistent}
-use Rattle.flat_table.specs.Bytes.{BytesCause}
+use Rattle.flat_table.specs.aid.Bytes.{BytesCause}
 use Rattle.flat_table.specs.Causes.{PutCause}
 
 -- where a text and a table have no bytes they are not put

@@ -18,10 +18,10 @@ use Rattle.table_bytes.specs.Spelled.{SpellsTable}
 use Rattle.flat_table.specs.Held.{KeepsGame, KeepsTable, Stores}
 use Rattle.game_file.specs.Kept.{Kept}
 use Rattle.flat_table.specs.File.{IsBacked}
-use Rattle.flat_table.specs.StoredLaws.{game_rests_on_its_pages, spells_stores}
+use Rattle.flat_table.specs.aid.StoredLaws.{game_rests_on_its_pages, spells_stores}
 use Rattle.flat_table.specs.Saving.{AreBytesOf, StoreGoesAhead}
 use Rattle.game_file.specs.Stops.{LeavesEither}
-use Rattle.flat_table.specs.Steps.{IsGone, IsExchanged, IsSlotOf, IsReplaced}
+use Rattle.flat_table.specs.aid.Steps.{IsGone, IsExchanged, IsSlotOf, IsReplaced}
 
 -- a mark is one of them
 marks_apart : (m : Mark) → m ≡ Committed → m ≡ Free → ⊥

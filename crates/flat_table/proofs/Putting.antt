@@ -6,7 +6,7 @@ use Rattle.flat_table.specs.declared.game.Game.{Game}
 use Rattle.flat_table.specs.Held.{Stores}
 use Rattle.flat_table.specs.File.{File, IsFile, IsGame, IsBacked, kept_in, kept_of, pages_of}
 use Rattle.game_file.specs.Kept.{Kept}
-use Rattle.flat_table.specs.StoredLaws.{a_file_is_kept}
+use Rattle.flat_table.specs.aid.StoredLaws.{a_file_is_kept}
 use Rattle.game_file.specs.Calls.{IsPut, IsNotPut}
 use Rattle.game_file.specs.Kept.{text_kept}
 use Rattle.game_file.specs.State.{count_behind}

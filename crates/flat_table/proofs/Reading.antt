@@ -13,16 +13,17 @@ use Rattle.table.specs.InMemory.{stored_in}
 use Rattle.table_bytes.specs.declared.sizes.Sizes.{Sizes}
 use Rattle.table_bytes.specs.Numbers.{bytes_in}
 use Rattle.table_bytes.specs.Spelled.{SpellsTable}
-use Rattle.table_bytes.specs.Laws.{tables_have_their_length}
+use Rattle.table_bytes.specs.aid.Laws.{tables_have_their_length}
 use Rattle.flat_table.specs.declared.slot.GameSlot.{GameSlot}
 use Rattle.flat_table.specs.Slot.{sizes_in, SaysGame, IsNoSlot}
 use Rattle.flat_table.specs.declared.game.Game.{Game}
 use Rattle.flat_table.specs.File.{kept_in}
 use Rattle.game_file.specs.Kept.{Kept}
 use Rattle.flat_table.specs.Held.{KeepsGame, KeepsTable}
-use Rattle.flat_table.specs.StoredLaws.{game_rests_on_its_pages, few_edges}
+use Rattle.flat_table.specs.aid.StoredLaws.{game_rests_on_its_pages, few_edges}
 use Rattle.flat_table.specs.ReadCauses.{GameReadCause}
-use Rattle.flat_table.specs.Reading.{IsGameIn, SpellingCause, IsRead}
+use Rattle.flat_table.specs.Reading.{IsGameIn, SpellingCause}
+use Rattle.flat_table.specs.aid.Reading.{IsRead}
 
 -- where the slot says nothing nothing is kept
 pub no_slot_keeps : (root : List ℕ) (capacity : ℕ) (bytes : ℕ → List ℕ) → capacity ≤ 1048576 → IsNoSlot root → (kept : Option Kept) → KeepsTable root capacity kept bytes → ⊥

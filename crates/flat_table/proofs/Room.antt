@@ -3,7 +3,7 @@ use Rattle.std.proofs.Common.{◌≡◌, ◌+◌, ◌*◌, ◌<◌, ◌≤◌, �
 use Rattle.page_store.specs.declared.marks.Mark.{Mark}
 use Rattle.page_store.specs.declared.marks.Mark.TheVariants.{Free}
 use Rattle.page_store.specs.Marks.{mark, free_one, free_count}
-use Rattle.table_bytes.specs.Laws.{tables_have_their_length}
+use Rattle.table_bytes.specs.aid.Laws.{tables_have_their_length}
 use Rattle.retrograde.specs.Stored.{loaded}
 use Rattle.game_file.specs.Kept.{kept_as}
 use Rattle.flat_table.specs.Causes.{IsTooLong}

@@ -17,7 +17,7 @@ use Rattle.flat_table.specs.File.{IsBacked}
 use Rattle.game_file.specs.Kept.{Kept}
 use Rattle.flat_table.specs.Held.{KeepsTable}
 use Rattle.flat_table.specs.ReadCauses.{AllWait}
-use Rattle.flat_table.specs.Reading.{IsRead}
+use Rattle.flat_table.specs.aid.Reading.{IsRead}
 
 -- a stop before the first call leaves what it may leave
 pub still_leaves : (disk : Disk) → LeavesOnly disk disk (MayLeave disk.now)

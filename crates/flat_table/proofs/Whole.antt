@@ -8,7 +8,7 @@ use Rattle.page_store.specs.declared.fault.PageFault.TheVariants.{Damaged}
 use Rattle.table_bytes.specs.declared.sizes.Sizes.{Sizes}
 use Rattle.table_bytes.specs.Bytes.{IsCell}
 use Rattle.table_bytes.specs.Spelled.{AreSpelled, SpellsTable}
-use Rattle.table_bytes.specs.Laws.{bytes_spell_one_table}
+use Rattle.table_bytes.specs.aid.Laws.{bytes_spell_one_table}
 use Rattle.flat_table.specs.Reading.{IsWhole, SpellingCause}
 
 -- positions that were spelled have their length

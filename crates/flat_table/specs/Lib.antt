@@ -1,15 +1,11 @@
 pub mod Slot
 pub mod Held
 pub mod File
-pub mod StoredLaws
 pub mod Reading
 pub mod ReadCauses
-pub mod ReadLaws
 pub mod Saving
-pub mod Steps
 pub mod SaveCauses
 pub mod Pages
-pub mod Bytes
 pub mod Causes
 pub mod Calls
 pub mod Drafts

@@ -1,11 +1,7 @@
 -- What is read of a file, part by part.
-use Rattle.std.specs.Prelude.{◌≡◌, ℕ, List, length, take, Option, None, Contains, IsTrue}
+use Rattle.std.specs.Prelude.{◌≡◌, ℕ, List, take}
 use Rattle.page_store.specs.declared.fault.PageFault.{PageFault}
 use Rattle.page_store.specs.declared.fault.PageFault.TheVariants.{Damaged, OutOfMemory}
-use Rattle.page_store.specs.declared.marks.Mark.TheVariants.{Committed, Waiting}
-use Rattle.page_store.specs.Marks.{mark}
-use Rattle.page_store.specs.Spelling.{SpelledBy}
-use Rattle.page_store.specs.Store.{Store, reads}
 use Rattle.retrograde.specs.Stored.{Stored, IsTable}
 use Rattle.retrograde.specs.Changes.{counts_of}
 use Rattle.table.specs.Fitting.{FitsTogether}
@@ -13,8 +9,6 @@ use Rattle.table.specs.InMemory.{stored_in}
 use Rattle.table_bytes.specs.declared.sizes.Sizes.{Sizes}
 use Rattle.table_bytes.specs.Spelled.{SpellsTable}
 use Rattle.flat_table.specs.declared.game.Game.{Game}
-use Rattle.flat_table.specs.Held.{KeepsTable}
-use Rattle.game_file.specs.Kept.{Kept}
 
 -- the parts of the table fit together, and there is of each as much as the sizes say
 pub record IsWhole (sizes : Sizes) (stored : Stored (List ℕ)) : Type 0 where
@@ -39,10 +33,3 @@ SpellingCause sizes bytes Damaged = (text : List ℕ) (stored : Stored (List ℕ
     → ¬ SpellsTable sizes bytes text stored
 SpellingCause sizes bytes OutOfMemory = Unit {0}
 SpellingCause sizes bytes _ = ⊥
-
--- from pages that waited and are marked now this was read; none is marked where there is no table
-pub record IsRead (pages : List ℕ) (kept : Option Kept) (old new : Store) : Type 0 where
-  pub waited : (p : ℕ) → Contains pages p → mark old.marks p ≡ Waiting
-  pub marked : (p : ℕ) → Contains pages p → mark new.marks p ≡ Committed
-  pub none : kept ≡ None → new.marks ≡ old.marks
-  pub held : IsTrue old.disk.honest → SpelledBy (λ p. Contains pages p) (reads old) (KeepsTable old.root (length old.marks) kept)

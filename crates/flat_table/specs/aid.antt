@@ -1,2 +1,7 @@
 pub mod Drafts
 pub mod Whole
+pub mod Bytes
+pub mod ReadLaws
+pub mod Reading
+pub mod Steps
+pub mod StoredLaws

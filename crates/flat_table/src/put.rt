@@ -9,7 +9,7 @@ ghost use Rattle.game_file.specs.Kept.{kept_as};
 ghost use Rattle.flat_table.specs.Calls.{file_of, IsPutInFile, IsNotPutInFile};
 ghost use Rattle.flat_table.specs.Causes.{PutCause};
 ghost use Rattle.flat_table.specs.Pages.{ArePages};
-ghost use Rattle.flat_table.specs.Bytes.{BytesCause};
+ghost use Rattle.flat_table.specs.aid.Bytes.{BytesCause};
 
 use crate::game::Game;
 use crate::write::save;

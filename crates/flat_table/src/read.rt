@@ -6,7 +6,7 @@ ghost use Rattle.page_store.specs.Store.{StoreWorks};
 ghost use Rattle.flat_table.specs.Slot.{commits_in, Says, SaysGame};
 ghost use Rattle.flat_table.specs.File.{IsGame, AreGames, IsBacked, kept_of, pages_of};
 ghost use Rattle.flat_table.specs.ReadCauses.{AllWait, GameReadCause};
-ghost use Rattle.flat_table.specs.Reading.{IsRead};
+ghost use Rattle.flat_table.specs.aid.Reading.{IsRead};
 
 use crate::bytes::{game_of, length_of};
 use crate::game::{Game, Opened};

@@ -13,7 +13,7 @@ ghost use Rattle.game_file.specs.Kept.{Kept};
 ghost use Rattle.flat_table.specs.SaveCauses.{SaveCause};
 ghost use Rattle.flat_table.specs.Saving.{AreBytesOf, StoreGoesAhead};
 ghost use Rattle.game_file.specs.Stops.{LeavesEither, LeavesTable};
-ghost use Rattle.flat_table.specs.Steps.{LetsGo, IsExchanged, IsSlotOf, IsReplaced, IsLeft};
+ghost use Rattle.flat_table.specs.aid.Steps.{LetsGo, IsExchanged, IsSlotOf, IsReplaced, IsLeft};
 
 use crate::slot::{GameSlot, game_slot};
 use page_chain::write_chain;

@@ -12,7 +12,7 @@ use Rattle.recover.specs.declared.fault.SolverFault.TheVariants.{Disk as DiskFai
 use Rattle.recover.specs.Headline.{IsUnlucky, Reopens, Headline}
 use Rattle.recover.specs.Held.{Holds, IsSound}
 use Rattle.recover.specs.Histories.{Sitting, LeadTo, History, was_made, was_reopened, was_not_opened}
-use Rattle.recover.specs.Laws.{a_sound_table_is_held}
+use Rattle.recover.specs.aid.Laws.{a_sound_table_is_held}
 use Rattle.recover.specs.Opening.{IsOpened, OpenCause}
 use Rattle.recover.proofs.Prefixes.{what_sittings_lead_to_is_sound, sitting_leads, a_sound_table_is_exact}
 

@@ -16,7 +16,7 @@ use Rattle.recover.specs.declared.replies.Reply.TheVariants.{Loaded, Worked, Ref
 use Rattle.recover.specs.Held.{Holds, IsSound}
 use Rattle.recover.specs.Headline.{IsExact, IsPart, LeavesAPrefix}
 use Rattle.recover.specs.Histories.{Sitting, DoAll, DoesInDoubt, LeadTo, IsUsed, no_call, a_question, a_command, Ends, by_closing, in_a_question, in_a_command, by_a_fault, IsSitting}
-use Rattle.recover.specs.Laws.{a_sound_table_is_held, what_is_settled_is_won, finished_is_all, finished_leaves_the_drawn}
+use Rattle.recover.specs.aid.Laws.{a_sound_table_is_held, what_is_settled_is_won, finished_is_all, finished_leaves_the_drawn}
 use Rattle.recover.specs.Machine.{Command, load, work, Does, MayDo}
 use Rattle.recover.specs.Runs.{command_of, IsTurn, Turns, IsRun}
 

@@ -6,7 +6,6 @@ pub mod Stops
 pub mod Opening
 pub mod Machine
 pub mod Steps
-pub mod Laws
 pub mod Queries
 pub mod Runs
 pub mod Histories

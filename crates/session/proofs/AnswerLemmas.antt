@@ -10,9 +10,9 @@ use Rattle.rbg_read.specs.Reading.{Reads}
 use Rattle.legal_moves.specs.Moves.{HasNoMove, start_of}
 use Rattle.legal_moves.specs.Listed.{ShownMove, AreMoves, IsShownMove, IsShortestMove}
 use Rattle.position_pack.specs.Bytes.{bytes_of}
-use Rattle.session.specs.Lines.{HasPosition, SaysMoves}
+use Rattle.session.specs.aid.Lines.{HasPosition, SaysMoves}
 use Rattle.session.specs.Answers.{status_of, refusal_line, IsListing, IsRefused, IsAnswer}
-use Rattle.session.specs.Stops.{IsStoppedLine, IsStopped}
+use Rattle.session.specs.aid.Stops.{IsStoppedLine, IsStopped}
 use Rattle.session.specs.declared.moves.Stop.{Stop}
 use Rattle.session.specs.declared.moves.Stop.TheVariants as stop
 use Rattle.session.specs.declared.refused.Refused.{Refused}

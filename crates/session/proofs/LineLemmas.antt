@@ -9,7 +9,8 @@ use Rattle.position_pack.specs.Shape.{Shape, shape_of, Fits}
 use Rattle.position_pack.specs.Bytes.{IsPacked, bytes_of}
 use Rattle.position_pack.proofs.ShapeLemmas.{fits, is_position}
 use Rattle.legal_moves.specs.Listed.{ShownMove}
-use Rattle.session.specs.Lines.{HasPosition, IsLine, line_of}
+use Rattle.session.specs.Lines.{IsLine, line_of}
+use Rattle.session.specs.aid.Lines.{HasPosition}
 
 none : ShownMove
 none = record { next = []; shown = [] }

@@ -4,7 +4,7 @@ use Rattle.std.specs.Prelude.{Result, Ok, Err, IfErr, IfSome, IsErrAnd, slice_ge
 use Rattle.rbg_game.specs.Games.{Game}
 use Rattle.legal_moves.specs.Listed.{ShownMove}
 use Rattle.session.specs.Lines.{IsLine, AreLines}
-use Rattle.session.specs.Stops.{IsStoppedLine}
+use Rattle.session.specs.aid.Stops.{IsStoppedLine}
 use Rattle.session.specs.declared.moves.Stop.{Stop}
 use Rattle.session.specs.declared.moves.Stop.TheVariants.{Refused}
 use Rattle.session.specs.declared.refused.Refused.TheVariants.{OutOfMemory}

@@ -1,6 +1,5 @@
 pub mod Lines
 pub mod Answers
-pub mod Stops
 pub mod Statuses
 pub mod Replies
 pub mod Told

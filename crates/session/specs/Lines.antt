@@ -1,5 +1,5 @@
 -- The lines of moves.
-use Rattle.std.specs.Prelude.{◌≡◌, ℕ, List, [], ◌∷◌, ◌++◌, ◌⊎◌, ◌≢◌, codes}
+use Rattle.std.specs.Prelude.{◌≡◌, ℕ, List, [], ◌∷◌, ◌++◌, codes}
 use Rattle.std.specs.List.{flat_map}
 use Rattle.std.specs.Fmt.{decimal}
 use Rattle.rbg_game.specs.Games.{Game}
@@ -17,10 +17,6 @@ modifier_text game m = decimal m.0 ++ 64 ∷ vertex_name game m.1 ++ 32 ∷ []
 abbrev pub line_of : Game → List (ℕ × ℕ) → Position → List ℕ
 line_of game shown next = flat_map (modifier_text game) shown ++ codes "=> " ++ text_of game next ++ 10 ∷ []
 
--- the bytes are those of a position of the game
-abbrev pub HasPosition : Game → ShownMove → Type 0
-HasPosition game move = (next : Position) × IsPositionOf game next × (move.next ≡ bytes_of next)
-
 -- the line of a move
 pub record IsLine (game : Game) (move : ShownMove) (line : List ℕ) : Type 0 where
   pub next : Position
@@ -32,7 +28,3 @@ pub record IsLine (game : Game) (move : ShownMove) (line : List ℕ) : Type 0 wh
 abbrev pub AreLines : Game → List ShownMove → List ℕ → Type 0
 AreLines game [] text = text ≡ []
 AreLines game (m ∷ ms) text = (line : List ℕ) × (rest : List ℕ) × (text ≡ line ++ rest) × IsLine game m line × AreLines game ms rest
-
--- the lines of the moves, or `ended` where there is none
-abbrev pub SaysMoves : Game → List ShownMove → List ℕ → Type 0
-SaysMoves game moves text = ((moves ≡ []) × (text ≡ codes "ended" ++ 10 ∷ [])) ⊎ ((moves ≢ []) × AreLines game moves text)

@@ -3,9 +3,10 @@
 ghost use Rattle.std.specs.Prelude.{◌≡◌, ◌<◌, ◌⊎◌, ℕ, List, All, OnOk, IfOk, IfErr, IfSome, length, slice_get};
 ghost use Rattle.std.specs.Io.KnownBytes.{Appends};
 ghost use Rattle.legal_moves.specs.Compiled.{compiled_game, IsCompiled};
-ghost use Rattle.session.specs.Lines.{IsLine, AreLines, HasPosition, SaysMoves};
+ghost use Rattle.session.specs.Lines.{IsLine, AreLines};
+ghost use Rattle.session.specs.aid.Lines.{HasPosition, SaysMoves};
 ghost use Rattle.session.specs.Answers.{status_of, refusal_line, IsAnswer};
-ghost use Rattle.session.specs.Stops.{IsStoppedLine, IsStopped};
+ghost use Rattle.session.specs.aid.Stops.{IsStoppedLine, IsStopped};
 
 use crate::lines::move_line;
 use crate::refused::Refused;

@@ -13,9 +13,10 @@ use Rattle.retrograde.proofs.Adding.{is_first, is_later, first_or_later, none_in
 use Rattle.table.specs.Memory.{edge_cmp}
 use Rattle.table_bytes.specs.Bytes.{IsEdge}
 use Rattle.table_bytes.specs.Spelled.{AreSpelled}
-use Rattle.table_bytes.specs.Items.{spelled_more, spelled_next}
-use Rattle.table_bytes.specs.Parts.{fixed_edges}
-use Rattle.table_bytes.specs.Reading.{IsPast, ChangesEdges}
+use Rattle.table_bytes.specs.aid.Items.{spelled_more, spelled_next}
+use Rattle.table_bytes.specs.aid.Parts.{fixed_edges}
+use Rattle.table_bytes.specs.Reading.{ChangesEdges}
+use Rattle.table_bytes.specs.aid.Reading.{IsPast}
 
 -- the order of edges by their numbers
 abbrev pub ComesFirst : ℕ × ℕ → ℕ × ℕ → Type 0

@@ -4,7 +4,7 @@ use Rattle.retrograde.specs.Stored.{Stored}
 use Rattle.retrograde.specs.Changes.{with_settled}
 use Rattle.table_bytes.specs.Bytes.{IsNumber}
 use Rattle.table_bytes.specs.Spelled.{AreSpelled}
-use Rattle.table_bytes.specs.Items.{spelled_more}
+use Rattle.table_bytes.specs.aid.Items.{spelled_more}
 use Rattle.table_bytes.specs.Reading.{AddsOrder}
 
 -- one more settled number

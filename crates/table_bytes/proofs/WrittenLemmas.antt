@@ -4,8 +4,8 @@ use Rattle.retrograde.specs.declared.records.Record.{Record}
 use Rattle.retrograde.specs.Stored.{Stored, IsTable}
 use Rattle.table_bytes.specs.Bytes.{IsCell, IsPlainCell, IsEdge, IsNumber}
 use Rattle.table_bytes.specs.Spelled.{AreSpelled, SpellsTable, BeginsPlainly}
-use Rattle.table_bytes.specs.Items.{spelled_long}
-use Rattle.table_bytes.specs.Parts.{fixed_edges}
+use Rattle.table_bytes.specs.aid.Items.{spelled_long}
+use Rattle.table_bytes.specs.aid.Parts.{fixed_edges}
 use Rattle.table_bytes.specs.Writing.{Writes, WritesEdges}
 use Rattle.table_bytes.specs.declared.sizes.Sizes.{Sizes}
 

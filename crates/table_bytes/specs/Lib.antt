@@ -1,8 +1,6 @@
 pub mod Bytes
 pub mod Spelled
 pub mod Numbers
-pub mod Items
-pub mod Laws
-pub mod Parts
 pub mod Reading
 pub mod Writing
+pub mod aid

@@ -1,10 +1,7 @@
 -- What reading a part of the bytes adds to a table.
-use Rattle.std.specs.Prelude.{◌≡◌, ◌↔◌, ℕ, true, Option, None, Some, List, [], length, zip, Contains}
+use Rattle.std.specs.Prelude.{◌≡◌, ◌↔◌, ℕ, true, List, [], length, zip, Contains}
 use Rattle.std.specs.List.Sorted.{IsStrictlySortedBy}
-use Rattle.std.specs.declared.cmp.Ordering.TheVariants.{Less}
-use Rattle.retrograde.specs.declared.records.Record.{Record}
 use Rattle.retrograde.specs.Stored.{Stored}
-use Rattle.retrograde.specs.Changes.{with_position, with_record}
 use Rattle.table.specs.Memory.{edge_cmp}
 use Rattle.table_bytes.specs.Bytes.{IsCell, IsEdge, IsNumber}
 use Rattle.table_bytes.specs.Spelled.{AreSpelled}
@@ -13,12 +10,6 @@ use Rattle.table_bytes.specs.Spelled.{AreSpelled}
 pub record AreCells (packed : ℕ) (bytes : List ℕ) (stored : Stored (List ℕ)) : Type 0 where
   pub paired : length stored.records ≡ length stored.positions
   pub spelled : AreSpelled (IsCell packed) bytes (zip stored.positions stored.records)
-
--- one more position with its record, which these bytes spell
-pub record AddsCell (packed : ℕ) (bytes : List ℕ) (old new : Stored (List ℕ)) : Type 0 where
-  pub cell : List ℕ × Record
-  pub is_cell : IsCell packed bytes cell
-  pub added : new ≡ with_record (with_position old cell.0) (length old.positions) cell.1
 
 -- the edges and the settled order are as they were
 pub record KeepsRest (old new : Stored (List ℕ)) : Type 0 where
@@ -35,11 +26,6 @@ pub record IsFirstEntry (packed : ℕ) (bytes : List ℕ) (stored : Stored (List
   pub cells : AreCells packed bytes stored
   pub rest : HasNoRest stored
   pub one : length stored.positions ≡ 1
-
--- an edge comes behind the one before it, if there is one
-abbrev pub IsPast : Option (ℕ × ℕ) → ℕ × ℕ → Type 0
-IsPast None edge = Unit {0}
-IsPast (Some before) edge = edge_cmp before edge ≡ Less
 
 -- these bytes spell the table's edges, ascending
 pub record AreEdges (bytes : List ℕ) (count : ℕ) (stored : Stored (List ℕ)) : Type 0 where

@@ -1,10 +1,9 @@
 -- What writing a part of a table puts behind bytes.
-use Rattle.std.specs.Prelude.{◌≡◌, ◌⊎◌, ℕ, ◌<◌, true, List, ◌++◌, length, slice_get, Some, Contains}
+use Rattle.std.specs.Prelude.{◌≡◌, ◌⊎◌, ℕ, ◌<◌, true, List, ◌++◌, Contains}
 use Rattle.std.specs.List.Sorted.{IsStrictlySortedBy}
-use Rattle.retrograde.specs.declared.records.Record.{Record}
-use Rattle.retrograde.specs.Stored.{Stored, HasRecord}
+use Rattle.retrograde.specs.Stored.{Stored}
 use Rattle.table.specs.Memory.{edge_cmp}
-use Rattle.table_bytes.specs.Bytes.{IsPlainCell, IsEdge}
+use Rattle.table_bytes.specs.Bytes.{IsEdge}
 use Rattle.table_bytes.specs.Spelled.{AreSpelled}
 
 -- new is old and behind it the bytes of these items
@@ -18,13 +17,6 @@ pub record WritesOne {A : Type 0} (IsOf : List ℕ → A → Type 0) (item : A) 
   pub behind : List ℕ
   pub is : new ≡ old ++ behind
   pub spelled : IsOf behind item
-
--- new is old and behind it the cell of this number
-pub record WritesCell (stored : Stored (List ℕ)) (number : ℕ) (old new : List ℕ) : Type 0 where
-  pub cell : List ℕ × Record
-  pub position : slice_get stored.positions number ≡ Some cell.0
-  pub recorded : HasRecord stored number cell.1
-  pub written : WritesOne (IsPlainCell (length cell.0)) cell old new
 
 -- the edge to i from p is before those to s from first on
 abbrev pub IsBefore : ℕ → ℕ → ℕ → ℕ → Type 0

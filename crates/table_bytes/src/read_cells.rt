@@ -3,7 +3,8 @@ ghost use Rattle.std.specs.Prelude.{◌≡◌, ◌+◌, ◌-◌, ◌*◌, ◌^�
 ghost use Rattle.retrograde.specs.declared.records.Record.{Record};
 ghost use Rattle.retrograde.specs.Stored.{Stored, IsTable, loaded};
 ghost use Rattle.table_bytes.specs.Bytes.{IsCell, IsRecord};
-ghost use Rattle.table_bytes.specs.Reading.{AreCells, AddsCell, KeepsRest, IsFirstEntry};
+ghost use Rattle.table_bytes.specs.Reading.{AreCells, KeepsRest, IsFirstEntry};
+ghost use Rattle.table_bytes.specs.aid.Reading.{AddsCell};
 ghost use Rattle.table_bytes.specs.declared.fault.BytesFault.TheVariants.{Damaged};
 
 use crate::BytesFault;

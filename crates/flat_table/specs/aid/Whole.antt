@@ -15,7 +15,7 @@ use Rattle.game_file.specs.State.{State, GoesAhead}
 use Rattle.flat_table.specs.declared.game.Game.{Game}
 use Rattle.flat_table.specs.File.{File, IsFile, kept_in, kept_of}
 use Rattle.flat_table.specs.Held.{Stores}
-use Rattle.flat_table.specs.StoredLaws.{a_file_is_kept}
+use Rattle.flat_table.specs.aid.StoredLaws.{a_file_is_kept}
 use Rattle.flat_table.specs.Calls.{file_of, state_of}
 use Rattle.flat_table.specs.Drafts.{stored_now, IsUnwrittenFile}
 

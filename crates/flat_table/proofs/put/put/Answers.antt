@@ -4,7 +4,7 @@ use Rattle.retrograde.specs.Stored.{Stored}
 use Rattle.table.specs.InMemory.{stored_in}
 use Rattle.flat_table.specs.File.{IsBacked, kept_of}
 use Rattle.flat_table.specs.Saving.{AreBytesOf}
-use Rattle.flat_table.specs.Bytes.{BytesCause}
+use Rattle.flat_table.specs.aid.Bytes.{BytesCause}
 use Rattle.game_file.specs.Faults.{of_pages}
 use Rattle.game_file.specs.Kept.{kept_as}
 use Rattle.game_file.specs.declared.fault.FileFault.TheVariants.{Disk}

@@ -1,7 +1,7 @@
 use Rattle.std.proofs.Common.{◌∙◌, ℕ, List, length, subst, sym}
 use Rattle.page_chain.specs.Causes.{ChainWriteCause}
 use Rattle.page_chain.specs.Chain.{first_of}
-use Rattle.flat_table.specs.Steps.{IsExchanged, IsSlotOf}
+use Rattle.flat_table.specs.aid.Steps.{IsExchanged, IsSlotOf}
 use Rattle.flat_table.proofs.Leaving.{left_writing, left_committing}
 use Rattle.flat_table.proofs.Passing.{passed_on}
 use Rattle.flat_table.proofs.Placing.{replaces}

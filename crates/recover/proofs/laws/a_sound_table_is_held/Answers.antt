@@ -1,4 +1,4 @@
-use Rattle.recover.specs.Laws.{a_sound_table_is_held}
+use Rattle.recover.specs.aid.Laws.{a_sound_table_is_held}
 use Rattle.recover.proofs.laws.a_sound_table_is_held.Goals as goal
 
 pub returns : goal.returns

@@ -1,4 +1,4 @@
-use Rattle.recover.specs.Laws.{a_value_is_so}
+use Rattle.recover.specs.aid.Laws.{a_value_is_so}
 use Rattle.recover.proofs.laws.a_value_is_so.Goals as goal
 
 pub returns : goal.returns

@@ -1,4 +1,4 @@
-use Rattle.recover.specs.Laws.{finished_leaves_the_drawn}
+use Rattle.recover.specs.aid.Laws.{finished_leaves_the_drawn}
 use Rattle.recover.proofs.laws.finished_leaves_the_drawn.Goals as goal
 
 pub returns : goal.returns

@@ -1,4 +1,4 @@
-use Rattle.recover.specs.Laws.{what_is_settled_is_won}
+use Rattle.recover.specs.aid.Laws.{what_is_settled_is_won}
 use Rattle.recover.proofs.laws.what_is_settled_is_won.Goals as goal
 
 pub returns : goal.returns

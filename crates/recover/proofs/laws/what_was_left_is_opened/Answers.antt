@@ -1,4 +1,4 @@
-use Rattle.recover.specs.Laws.{what_was_left_is_opened}
+use Rattle.recover.specs.aid.Laws.{what_was_left_is_opened}
 use Rattle.recover.proofs.laws.what_was_left_is_opened.Goals as goal
 
 pub returns : goal.returns

@@ -1,7 +1,7 @@
 use Rattle.std.proofs.Common.{◌++◌, subst, inl, inr}
 use Rattle.std.specs.Io.KnownBytes.{Appends}
 use Rattle.session.specs.Answers.{refusal_line}
-use Rattle.session.specs.Stops.{IsStopped}
+use Rattle.session.specs.aid.Stops.{IsStopped}
 use Rattle.session.proofs.Appending.{appends_then}
 use Rattle.session.proofs.AnswerLemmas.{refusal_of}
 use Rattle.session.proofs.moves.moves_to.Goals as goal

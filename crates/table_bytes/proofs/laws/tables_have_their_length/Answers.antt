@@ -1,4 +1,4 @@
-use Rattle.table_bytes.specs.Laws.{tables_have_their_length}
+use Rattle.table_bytes.specs.aid.Laws.{tables_have_their_length}
 use Rattle.table_bytes.proofs.laws.tables_have_their_length.Goals as goal
 
 pub returns : goal.returns

@@ -7,7 +7,7 @@ use Rattle.retrograde.specs.declared.records.State.{State}
 use Rattle.retrograde.specs.declared.records.State.TheVariants.{Known, Expanded, Settled, Processed}
 use Rattle.retrograde.specs.declared.records.Record.{Record}
 use Rattle.table_bytes.specs.Bytes.{state_byte, winner_byte, IsRecord, IsCell, IsEdge, IsNumber}
-use Rattle.table_bytes.specs.Items.{IsFixed, same_fronts}
+use Rattle.table_bytes.specs.aid.Items.{IsFixed, same_fronts}
 
 -- the state with a byte
 same_state : (a b : State) → state_byte a ≡ state_byte b → a ≡ b

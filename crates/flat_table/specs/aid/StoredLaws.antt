@@ -8,7 +8,7 @@ use Rattle.page_store.specs.aid.Carrying.{stop_leaves}
 use Rattle.page_store.specs.Spelling.{SpelledBy, Spells}
 use Rattle.page_store.specs.Store.{StopLeaves}
 use Rattle.page_chain.specs.aid.Resting.{a_chain_rests_on_its_pages, a_chain_fits_more, a_chain_is_not_longer}
-use Rattle.table_bytes.specs.Laws.{tables_have_their_length}
+use Rattle.table_bytes.specs.aid.Laws.{tables_have_their_length}
 use Rattle.flat_table.specs.Slot.{sizes_in}
 use Rattle.flat_table.specs.File.{File, IsFile, kept_of}
 use Rattle.flat_table.specs.Held.{KeepsGame, KeepsTable, capacity_of, Stores}

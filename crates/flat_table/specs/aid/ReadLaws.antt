@@ -5,7 +5,7 @@ use Rattle.sector_disk.specs.Disk.{Picture}
 use Rattle.page_store.specs.Page.{page}
 use Rattle.page_chain.specs.aid.Resting.{a_chain_has_one_content}
 use Rattle.table_bytes.specs.Spelled.{SpellsTable}
-use Rattle.table_bytes.specs.Laws.{tables_have_their_length, bytes_spell_one_table}
+use Rattle.table_bytes.specs.aid.Laws.{tables_have_their_length, bytes_spell_one_table}
 use Rattle.flat_table.specs.Slot.{first_in, sizes_in}
 use Rattle.flat_table.specs.Held.{KeepsTable, capacity_of, Stores}
 use Rattle.game_file.specs.Kept.{Kept}

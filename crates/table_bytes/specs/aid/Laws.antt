@@ -6,8 +6,8 @@ use Rattle.table_bytes.specs.Bytes.{IsCell, IsEdge, IsNumber}
 use Rattle.table_bytes.specs.Spelled.{AreSpelled, SpellsTable}
 use Rattle.table_bytes.specs.Numbers.{bytes_in}
 use Rattle.table_bytes.specs.declared.sizes.Sizes.{Sizes}
-use Rattle.table_bytes.specs.Items.{same_fronts, spelled_long, spelled_same}
-use Rattle.table_bytes.specs.Parts.{fixed_cells, fixed_edges, fixed_numbers}
+use Rattle.table_bytes.specs.aid.Items.{same_fronts, spelled_long, spelled_same}
+use Rattle.table_bytes.specs.aid.Parts.{fixed_cells, fixed_edges, fixed_numbers}
 
 -- how many pairs
 pub long_pairs : {A B : Type 0} (xs : List A) (ys : List B) → length ys ≡ length xs → length (zip xs ys) ≡ length xs

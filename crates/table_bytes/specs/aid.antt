@@ -1,0 +1,5 @@
+pub mod Items
+pub mod Laws
+pub mod Parts
+pub mod Reading
+pub mod Writing
