@@ -5,7 +5,7 @@ use Rattle.rbg_text.specs.Syntax as g
 use Rattle.rbg_text.specs.Token.{Text}
 use Rattle.rbg_text.specs.Syntax.{Section}
 use Rattle.rbg_text.specs.NestingCount.{nesting}
-use Rattle.rbg_text.specs.Postfix.{expr_depth, term_depth, factor_depth, atom_depth, assignments_depth, sum_depth, concat_depth, element_depth, base_depth}
+use Rattle.rbg_text.specs.aid.Postfix.{expr_depth, term_depth, factor_depth, atom_depth, assignments_depth, sum_depth, concat_depth, element_depth, base_depth}
 use Rattle.rbg_text.proofs.SectionsComplete.{AreShallow, with_section}
 use Rattle.rbg_text.proofs.SectionsNesting.{all_shallow}
 use Rattle.rbg_game.specs.Rules.{Regex, cat}
