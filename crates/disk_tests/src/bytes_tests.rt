@@ -8,9 +8,9 @@ use rbg_game::roles::Player;
 use retrograde::{Counts, Record, State};
 use std::alloc::Global;
 use std::test::Fail;
-use test_aids::expect;
 use table::{MemTable, Table, TableFault};
 use table_bytes::{BytesFault, Sizes, read_table, write_table};
+use test_aids::expect;
 
 /// The bytes of two positions, with edges to 0 from 1 and to 1 from 0.
 const TWO_EDGES: [u8; 57] = [

@@ -13,9 +13,9 @@ use root_pair::MAGIC;
 use sector_disk::{FlakyDisk, FuseDisk, MemDisk, SectorDisk};
 use std::alloc::{AllocError, Global};
 use std::test::Fail;
-use test_aids::expect;
 use table::Table;
 use table_bytes::{Sizes, Written};
+use test_aids::expect;
 
 /// Sectors of a disk of 16 pages.
 const SIXTEEN: u64 = 128;

@@ -1,6 +1,8 @@
 //! A page and a root that names it (`page_store`), with the power stopped or one disk call failing at each place.
 
-use crate::disks::{COMMIT, OPENING, WRITING, byte_of, commit, let_go, opened, sealed, table_disk, write_new, };
+use crate::disks::{
+    COMMIT, OPENING, WRITING, byte_of, commit, let_go, opened, sealed, table_disk, write_new,
+};
 use page_store::{PageFault, PageStore, Pages};
 use sector_disk::{FlakyDisk, FuseDisk, MemDisk};
 use std::alloc::Global;

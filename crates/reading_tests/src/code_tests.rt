@@ -1,8 +1,8 @@
 //! Texts with the code of their fault, worked out by hand.
-use test_aids::expect;
 use crate::game_texts::{ONE_VERTEX, TWO_VERTICES, code, with_rules};
 use std::alloc::Global;
 use std::test::Fail;
+use test_aids::expect;
 
 /// Rules on two vertices.
 const RULES: [(&str, &str); 65] = [

@@ -1,8 +1,8 @@
 //! Texts up to the limits and one past them, worked out by hand.
-use test_aids::expect;
 use crate::game_texts::{TWO_VERTICES, code, repeated, with_rules};
 use std::alloc::Global;
 use std::test::Fail;
+use test_aids::expect;
 
 /// A text in which a part stands many times over.
 struct Parts {

@@ -2,13 +2,13 @@
 ghost use Rattle.std.specs.Prelude.{IfOk};
 ghost use Rattle.legal_moves.specs.Compiled.{IsCompiled};
 
-use test_aids::expect;
 use legal_moves::{Compiled, Modifier, MoveSource, Moves};
 use position_pack::Packed;
 use rbg_game::roles::{Player, Role};
 use rbg_read::read::read_game;
 use std::alloc::Global;
 use std::test::Fail;
+use test_aids::expect;
 
 /// A pattern that looks to the right.
 const LOOK: &str =

@@ -4,7 +4,6 @@ ghost use Rattle.rbg_game.specs.Meaning.{game_of};
 ghost use Rattle.rbg_game.specs.Names.{HasProperNames};
 ghost use Rattle.rbg_game.specs.Sound.{IsSoundGame};
 
-use test_aids::{TAKE, expect};
 use position_pack::{Packing, read_position};
 use rbg_game::game::Game;
 use rbg_game::position::Position;
@@ -13,6 +12,7 @@ use rbg_read::laws::what_is_read_has_proper_names;
 use rbg_read::read::read_game;
 use std::alloc::Global;
 use std::test::Fail;
+use test_aids::{TAKE, expect};
 
 /// The game of a text.
 fn game(alloc: Global, text: &str) -> Result<Game, Fail>

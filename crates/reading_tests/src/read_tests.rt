@@ -1,7 +1,7 @@
 //! What is read of a game's text.
-use test_aids::{TAKE, expect};
 use crate::game_texts::sizes;
 use std::test::Fail;
+use test_aids::{TAKE, expect};
 
 /// Three vertices in a ring.
 const RING: &str =

@@ -1,5 +1,4 @@
 //! Tokens, sections and how deep brackets nest.
-use test_aids::expect;
 use rbg_text::fault::ReadError;
 use rbg_text::lexer::tokens;
 use rbg_text::nesting::nesting;
@@ -7,6 +6,7 @@ use rbg_text::read::read_sections;
 use rbg_text::sections::{Section, Vertex};
 use std::alloc::Global;
 use std::test::Fail;
+use test_aids::expect;
 
 fn sections_of(alloc: Global, text: &[u8]) -> Result<Vec<Section<'_>>, ReadError> {
     let tokens = tokens(alloc, text)?;

@@ -1,5 +1,4 @@
 //! Worked examples of values, lists and lines.
-use test_aids::{TAKE, expect};
 use crate::game_texts::{FORK, ROUND};
 use crate::games::{Solving, begun, works};
 use best_line::Value::{self, Drawn, Open, Won};
@@ -9,6 +8,7 @@ use rbg_game::roles::Player::{First, Second};
 use std::alloc::Global;
 use std::test::Fail;
 use table::Table;
+use test_aids::{TAKE, expect};
 
 /// From where on and how many rows are asked for, and the rows.
 type Rows = (u32, u32, &'static [Row]);

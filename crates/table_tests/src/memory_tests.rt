@@ -1,5 +1,4 @@
 //! What a table answers, through the trait's bound, at the table in memory.
-use test_aids::expect;
 use crate::games::record_of;
 use position_pack::Packed;
 use rbg_game::roles::Player;
@@ -8,6 +7,7 @@ use std::alloc::Global;
 use std::test::Fail;
 use table::{MemTable, Table};
 use table_work::MAX_POSITIONS;
+use test_aids::expect;
 
 fn position(byte: u8) -> Packed {
     let mut position = Packed::new();

@@ -1,5 +1,4 @@
 //! The game of takes on a store of pages.
-use test_aids::{TAKE, expect};
 use crate::games::{Solving, begun, record_of, works};
 use game_table::Source;
 use legal_moves::MoveSource;
@@ -12,6 +11,7 @@ use std::alloc::Global;
 use std::test::Fail;
 use table::{MemTable, Table, TableFault};
 use table_work::{MAX_POSITIONS, StepFault};
+use test_aids::{TAKE, expect};
 
 /// To open takes four disk calls: a sync, the header, the gate and the slot.
 const OPENING: u64 = 4;

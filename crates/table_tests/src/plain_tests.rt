@@ -1,5 +1,4 @@
 //! Tables in memory, worked to their end, against the plain solver.
-use test_aids::{TAKE, expect};
 use crate::game_texts::{FORK, HEXAPAWN, NIM, SMALL};
 use crate::games::{Solving, begun, small, winner, works};
 use crate::plain::{Node, Outcome, solve};
@@ -8,6 +7,7 @@ use position_pack::Packed;
 use std::alloc::Global;
 use std::test::Fail;
 use table::Table;
+use test_aids::{TAKE, expect};
 
 fn number_of<T: Table>(table: &mut T, packed: &Packed) -> Result<Option<u32>, Fail> {
     Ok(table.number_of(packed)?)

@@ -1,11 +1,11 @@
 //! A game's table from its text to its end, and positions as text.
-use test_aids::{TAKE, expect};
 use crate::games::{Solving, begun, source_of};
 use game_table::Source;
 use position_pack::Packed;
 use std::alloc::Global;
 use std::test::Fail;
 use table::{MemTable, Table};
+use test_aids::{TAKE, expect};
 
 /// Does so much work on a game's table.
 fn work<T: Table>(alloc: Global, source: &Source, table: &mut T, units: u32) -> Result<u32, Fail> {

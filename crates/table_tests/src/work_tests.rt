@@ -1,5 +1,4 @@
 //! Worked examples of the two units of work, on tables in memory.
-use test_aids::{TAKE, expect};
 use crate::game_texts::{FORK, HEXAPAWN, TIC_TAC_TOE};
 use crate::games::{Solving, begun, small, winner, works};
 use frontier::expand_one;
@@ -11,6 +10,7 @@ use std::alloc::Global;
 use std::test::Fail;
 use table::Table;
 use table_work::{MAX_POSITIONS, StepFault};
+use test_aids::{TAKE, expect};
 
 /// A number with one of its predecessors.
 type Edge = (u32, u32);
