@@ -48,7 +48,7 @@ rules_some (alt a b) = omega arith
 rules_some (star a) = omega arith
 
 -- the whole is as deep as the tree
-pub expression_whole : (x : Expr) → (depths_of_expression x).whole ≡ expression_depth x
+expression_whole : (x : Expr) → (depths_of_expression x).whole ≡ expression_depth x
 expression_whole x = go (expression_depth x) (out-Expr x)
   where
     go : (d : ℕ) (level : Expr-F Expr) → (expression_level d level).whole ≡ d
