@@ -8,8 +8,9 @@ use Rattle.best_line.specs.Values.{IsComplete}
 use Rattle.game_file.specs.Kept.{Kept}
 use Rattle.game_file.specs.State.{State}
 use Rattle.recover.specs.Held.{IsSound}
-use Rattle.recover.specs.Queries.{OfKept, Tells}
+use Rattle.recover.specs.Queries.{OfKept, Tells, HasLine}
 use Rattle.session.specs.Answered.{IsPlayLine}
+use Rattle.session.specs.Replies.{line_line}
 use Rattle.session.specs.Told.{IsCountsLine, IsWorkLine}
 use Rattle.session.proofs.Appending.{appends_then}
 
@@ -51,3 +52,11 @@ pub play_told : {X E : Type 0} (text : X → List ℕ) (number : ℕ) (state : S
     → IfOk r (λ x. Tells (λ kept. IsSound (Some kept) → IsPlayLine number (text x) kept) state)
 play_told text number state (Ok x) told = λ honest. under (IsPlayLine number (text x)) state.kept (λ sound. told sound honest)
 play_told text number state (Err e) told = tt
+
+-- the line of a play's numbers, of the table that they are told of
+pub line_told : (number : ℕ) (numbers text : List ℕ) (state : State) → Tells (HasLine number numbers) state → text ≡ line_line numbers → Tells (IsPlayLine number text) state
+line_told number numbers text state told is = λ honest. go state.kept (told honest)
+  where
+    go : (kept : Option Kept) → OfKept (HasLine number numbers) kept → OfKept (IsPlayLine number text) kept
+    go None none = none
+    go (Some k) has = record { numbers = numbers; has = has; text_is = is }
