@@ -1,0 +1,4 @@
+pub mod Reading
+pub mod Moves
+pub mod Positions
+pub mod Winning

@@ -1,0 +1,5 @@
+use Rattle.witness.proofs.Winning.{won_in_two}
+use Rattle.witness.proofs.laws.white_wins_the_start_in_two.Goals as goal
+
+pub returns : goal.returns
+returns c = won_in_two
