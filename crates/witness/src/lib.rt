@@ -1,4 +1,9 @@
-//! A small game that shows what the promise of this repository says.
+//! What the promise of this repository says, seen on one small game: its table is stopped, opened again and worked to the end, and
+//! answers what the game is.
 #![tactic(auto)]
 
 pub mod laws;
+mod sittings;
+mod stop;
+
+pub use stop::value_after_a_stop;
