@@ -4,7 +4,7 @@ use Rattle.std.proofs.lemmas.List.{length-replicate}
 use Rattle.std.specs.Prelude.{◌/◌, min, IsTrue, IfSome, IsSome}
 use Rattle.std.specs.List.{AllByRecursion}
 use Rattle.sector_disk.specs.Disk.{Picture, Shown, Disk, size, MayLeave, IsFresh}
-use Rattle.sector_disk.specs.Moments.{reads_left}
+use Rattle.sector_disk.specs.aid.Moments.{reads_left}
 use Rattle.root_pair.specs.Root.{Begins}
 use Rattle.rbg_game.specs.Games.{Game}
 use Rattle.rbg_game.specs.declared.roles.Player.{Player}
@@ -35,7 +35,7 @@ use Rattle.recover.specs.declared.replies.Reply.TheVariants.{Loaded, Worked, Ref
 use Rattle.recover.specs.Headline.{Headline, IsUnlucky}
 use Rattle.recover.specs.Held.{IsSound}
 use Rattle.recover.specs.Histories.{Sitting, History, DoAll, DoesInDoubt, LeadTo}
-use Rattle.recover.specs.Laws.{a_sound_table_is_right, a_value_is_so}
+use Rattle.recover.specs.aid.Laws.{a_sound_table_is_right, a_value_is_so}
 use Rattle.recover.specs.Machine.{Command, load, work, Does, WorksOnTable, TextCause, LoadCause, WorkCause, StopsAt}
 use Rattle.recover.specs.Opening.{IsOpened, OpenCause, CreateCause}
 use Rattle.recover.specs.Queries.{OfKept, Tells, HasValueAt, AskCause, NumberCause, IsThere}
