@@ -10,3 +10,9 @@ value_of-requires c =
       as_long = exact.as_long;
       left = rw c.into_inner.ensures at c.in_ok-found.ensures.picture;
     }
+
+pub returns-clause-value : goal.returns-clause-value
+returns-clause-value c = c.value_of.ensures.value
+
+pub returns-clause-fault : goal.returns-clause-fault
+returns-clause-fault c = c.value_of.ensures.fault
