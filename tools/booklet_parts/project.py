@@ -7,7 +7,7 @@ from pathlib import Path
 
 from booklet_parts import rust, specs
 from booklet_parts.definition import Bounded, Constructor, Context, Definition, Library, Namespace, Proof, Uses
-from booklet_parts.rust import Item, Source
+from booklet_parts.rust import Exports, Item, Source
 from booklet_parts.scopes import Scope, Walker
 from booklet_parts.specs import Import, SpecModule
 from booklet_parts.tokens import CLAUSE_TOKEN, tokens_of
@@ -54,6 +54,7 @@ class Project:
         self.ghosts: dict[tuple[Trait, str], Definition] = {}
         self.impl_ghosts: dict[tuple[tuple[str, int], Trait, str], Definition] = {}
         self.scopes: dict[str, Scope] = {}
+        self.exports: dict[str, Exports] = {}
         for crate in self.crates:
             self.read(crate)
         for source in self.sources.values():
@@ -75,6 +76,8 @@ class Project:
         for path in sorted((folder / "src").glob("*.rt")):
             place = path.relative_to(self.root).as_posix()
             self.sources[crate, path.stem] = rust.read_source(crate, path.stem, place, path.read_text(encoding="utf-8"))
+        lib = folder / "src" / "lib.rt"
+        self.exports[crate] = rust.exports_of(lib.read_text(encoding="utf-8") if lib.exists() else "")
 
     def declare(self, source: Source) -> None:
         """Makes definitions of the types of a source, and of the ghost members of its traits."""

@@ -40,6 +40,27 @@ class Source:
     names: dict[str, list[str]]  # what `use` names here: the path of each
 
 
+@dataclass
+class Exports:
+    """What other crates see of a crate: its public modules, and names of the others that it hands on."""
+
+    modules: set[str]
+    names: set[tuple[str, str]]  # the module and the name
+
+    def has(self, module: str, name: str) -> bool:
+        return module in self.modules or (module, name) in self.names
+
+
+def exports_of(lib: str) -> Exports:
+    """What the text of a crate's lib.rt hands on."""
+    modules = {"lib", "main", *re.findall(r"^pub mod (\w+);", lib, re.M)}
+    names: set[tuple[str, str]] = set()
+    for path, name, group in re.findall(r"^pub use ([\w:]+)::(?:(\w+)|\{([^}]*)\});", lib, re.M):
+        handed = [name] if name else [part.split(" as ")[0].strip() for part in group.split(",")]
+        names |= {(path.split("::")[-1], one) for one in handed}
+    return Exports(modules, names)
+
+
 def blank(match: re.Match[str]) -> str:
     return re.sub(r"[^\n]", " ", match.group())
 

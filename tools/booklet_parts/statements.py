@@ -2,6 +2,7 @@
 from __future__ import annotations
 
 from dataclasses import dataclass
+from pathlib import Path
 
 from booklet_parts import rust
 from booklet_parts.definition import Definition, Uses
@@ -67,6 +68,20 @@ def is_public(statement: Statement) -> bool:
     return around.is_public if around is not None and around.kind == "trait" else statement.item.is_public
 
 
+def is_exported(project: Project, statement: Statement) -> bool:
+    """Whether another crate can call it: by a public module, or by a name, its own or its type's, that the crate hands on."""
+    source, around = statement.source, statement.around
+    exports = project.exports[source.crate]
+    if around is None:
+        return statement.item.is_public and exports.has(source.module, statement.item.name)
+    if around.kind == "trait":
+        return around.is_public and exports.has(source.module, around.name)
+    head = source.lines[around.start]
+    of = project.rust_name(source, rust.public_name(head))
+    in_module = Path(of.path).stem if isinstance(of, Definition) else source.module
+    return exports.has(in_module, rust.public_name(head)) and (statement.item.is_public or rust.trait_name(head) != "")
+
+
 def owner(statement: Statement) -> str:
     """The type or the trait that a function is of."""
     if statement.around is None:
@@ -93,16 +108,16 @@ def statements_named(project: Project, name: str) -> list[Statement]:
 
 
 def public_uses(project: Project, crate: str) -> Uses:
-    """What the public contracts of a crate use: of functions, traits, types with their invariants, and implementations."""
+    """What the contracts of a crate use which other crates see: of functions, traits, types with their invariants, and implementations."""
     uses = Uses()
     for (of, _), source in sorted(project.sources.items()):
         if of != crate:
             continue
         for statement in functions_of(source):
-            if is_public(statement):
+            if is_exported(project, statement):
                 uses.merge(statement.uses(project))
         for item in source.items:
-            if item.kind in ("struct", "enum", "type") and item.is_public:
+            if item.kind in ("struct", "enum", "type") and item.is_public and project.exports[crate].has(source.module, item.name):
                 uses.add(project.types[source.crate, source.module, item.name])
             for member in item.members:
                 if member.kind == "ghost" and is_stated(project, source, item, member):

@@ -18,8 +18,8 @@ use Rattle.legal_moves.specs.Listed.{ListsExactly}
 use Rattle.best_line.specs.declared.fault.LineFault.{LineFault}
 use Rattle.best_line.specs.declared.fault.LineFault.TheVariants.{NotSettled, Inconsistent, TooWide, OutOfMemory, Table}
 use Rattle.best_line.specs.Causes.{IsLineCause}
-use Rattle.best_line.specs.Lines.{IsBestStep, HasNoStep}
-use Rattle.best_line.specs.aid.Lines.{IsFirstWon}
+use Rattle.best_line.specs.Lines.{IsBestStep}
+use Rattle.best_line.specs.aid.Lines.{HasNoStep, IsFirstWon}
 
 module _ (graph : Graph (List ℕ)) (view : View (List ℕ)) (x : List ℕ) (ys : List (List ℕ)) (lists : ListsExactly (graph.Successor x) ys)
     (i : ℕ) (number : HasNumber view i x) (w : Player) (n : ℕ) where

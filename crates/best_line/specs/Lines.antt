@@ -18,12 +18,6 @@ pub record IsBestStep (graph : Graph (List ℕ)) (view : View (List ℕ)) (i : �
   pub value : view.value j ≡ Some (w, n)
   pub first : (y : List ℕ) → graph.Successor from y → HasValue view y w n → (y ≡ to) ⊎ (packed_cmp to y ≡ Less)
 
--- no move from i leads to where w wins in n
-pub record HasNoStep (graph : Graph (List ℕ)) (view : View (List ℕ)) (i : ℕ) (w : Player) (n : ℕ) : Type 0 where
-  pub from : List ℕ
-  pub number : HasNumber view i from
-  pub none : (y : List ℕ) → graph.Successor from y → HasValue view y w n → ⊥
-
 -- w wins the first number in n, a best step leads from each to the next, and w wins the last in 0
 abbrev pub IsBestLine : Graph (List ℕ) → View (List ℕ) → Player → ℕ → List ℕ → Type 0
 IsBestLine graph view w zero (i ∷ []) = view.value i ≡ Some (w, 0)

@@ -3,8 +3,8 @@ ghost use Rattle.std.specs.Prelude.{◌≡◌, ◌↔◌, ◌⊎◌, ◌<◌, �
 ghost use Rattle.table.specs.Memory.{bytes_of_each};
 ghost use Rattle.retrograde.specs.View.{HasNumber, HasValue};
 ghost use Rattle.retrograde.specs.Stored.{IsTable, view_of};
-ghost use Rattle.best_line.specs.Lines.{IsBestStep, HasNoStep};
-ghost use Rattle.best_line.specs.aid.Lines.{IsFirstWon};
+ghost use Rattle.best_line.specs.Lines.{IsBestStep};
+ghost use Rattle.best_line.specs.aid.Lines.{HasNoStep, IsFirstWon};
 ghost use Rattle.best_line.specs.Causes.{OfTable};
 ghost use Rattle.best_line.specs.declared.fault.LineFault.TheVariants.{NotSettled, Inconsistent, TooWide};
 ghost use Rattle.table.specs.Faults.{NeedsNoPage};
@@ -24,7 +24,8 @@ fn number_if_won<T: Table>(
     distance: u32,
 ) -> Result<Option<u32>, TableFault>
     ensures found { T.is_honest table.old → IfOk result (λ r. IfSome r (λ i.
-        HasNumber (view_of (T.stored table.old)) i position.now.items × ((view_of (T.stored table.old)).value i ≡ Some (winner, distance)))) }
+        HasNumber (view_of (T.stored table.old)) i position.now.items
+        × ((view_of (T.stored table.old)).value i ≡ Some (winner, distance)))) }
     ensures none { T.is_honest table.old → IsTable (T.stored table.old) → IfOk result (λ r. IfNone r
         (HasValue (view_of (T.stored table.old)) position.now.items winner distance → ⊥)) }
     ensures within { IfOk result (λ r. IfSome r (λ i. i < (T.counted table.old).known)) }

@@ -16,8 +16,9 @@ use Rattle.game_file.specs.declared.fault.FileFault.TheVariants.{Disk, NotATable
 use Rattle.flat_table.specs.declared.game.Game.{Game}
 use Rattle.flat_table.specs.File.{File, IsFile, AreGames, kept_in, kept_of}
 use Rattle.flat_table.specs.Held.{Stores}
-use Rattle.flat_table.specs.Calls.{state_of, IsPutInFile, IsNotPutInFile}
-use Rattle.flat_table.specs.Causes.{PutCause}
+use Rattle.flat_table.specs.Calls.{state_of}
+use Rattle.flat_table.specs.aid.Calls.{IsPutInFile, IsNotPutInFile}
+use Rattle.flat_table.specs.aid.Causes.{PutCause}
 use Rattle.flat_table.specs.Drafts.{IsUnwrittenFile}
 use Rattle.flat_table.proofs.Passing.{so_refused}
 use Rattle.flat_table.proofs.Putting.{nothing_put, put_whole, not_put_whole}

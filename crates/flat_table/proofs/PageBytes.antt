@@ -11,7 +11,7 @@ use Rattle.game_file.specs.Faults.{of_pages}
 use Rattle.game_file.specs.declared.fault.FileFault.{FileFault}
 use Rattle.game_file.specs.declared.fault.FileFault.TheVariants.{Disk, NotATable, AlreadyATable, Damaged, TooSmall, TableFull, OutOfMemory, Closed, Inconsistent}
 use Rattle.flat_table.specs.aid.Bytes.{BytesCause}
-use Rattle.flat_table.specs.Causes.{PutCause}
+use Rattle.flat_table.specs.aid.Causes.{PutCause}
 
 -- where a text and a table have no bytes they are not put
 pub bytes_cause : (kept : Kept) (packed : ℕ) (store : Store) (fault : FileFault) → BytesCause kept packed fault → PutCause kept packed store store fault

@@ -12,7 +12,8 @@ use Rattle.game_file.specs.Kept.{text_kept}
 use Rattle.game_file.specs.State.{count_behind}
 use Rattle.flat_table.specs.Slot.{commits_in}
 use Rattle.game_file.specs.Stops.{LeavesEither, LeavesTable}
-use Rattle.flat_table.specs.Calls.{file_of, state_of, IsPutInFile, IsNotPutInFile}
+use Rattle.flat_table.specs.Calls.{file_of, state_of}
+use Rattle.flat_table.specs.aid.Calls.{IsPutInFile, IsNotPutInFile}
 
 -- before anything is done what was kept still is
 pub nothing_put : (is : Kept) (file : File) → IsFile file → IsNotPutInFile is file file

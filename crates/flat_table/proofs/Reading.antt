@@ -22,8 +22,7 @@ use Rattle.game_file.specs.Kept.{Kept}
 use Rattle.flat_table.specs.Held.{KeepsGame, KeepsTable}
 use Rattle.flat_table.specs.aid.StoredLaws.{game_rests_on_its_pages, few_edges}
 use Rattle.flat_table.specs.ReadCauses.{GameReadCause}
-use Rattle.flat_table.specs.Reading.{IsGameIn, SpellingCause}
-use Rattle.flat_table.specs.aid.Reading.{IsRead}
+use Rattle.flat_table.specs.aid.Reading.{IsGameIn, SpellingCause, IsRead}
 
 -- where the slot says nothing nothing is kept
 pub no_slot_keeps : (root : List ℕ) (capacity : ℕ) (bytes : ℕ → List ℕ) → capacity ≤ 1048576 → IsNoSlot root → (kept : Option Kept) → KeepsTable root capacity kept bytes → ⊥

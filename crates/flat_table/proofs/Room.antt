@@ -6,7 +6,7 @@ use Rattle.page_store.specs.Marks.{mark, free_one, free_count}
 use Rattle.table_bytes.specs.aid.Laws.{tables_have_their_length}
 use Rattle.retrograde.specs.Stored.{loaded}
 use Rattle.game_file.specs.Kept.{kept_as}
-use Rattle.flat_table.specs.Causes.{IsTooLong}
+use Rattle.flat_table.specs.aid.Causes.{IsTooLong}
 
 all_free : (marks : List Mark) → ((p : ℕ) → p < length marks → mark marks p ≡ Free) → free_count marks ≡ length marks
 all_free [] each = refl

@@ -9,7 +9,7 @@ use Rattle.table_bytes.specs.declared.sizes.Sizes.{Sizes}
 use Rattle.table_bytes.specs.Bytes.{IsCell}
 use Rattle.table_bytes.specs.Spelled.{AreSpelled, SpellsTable}
 use Rattle.table_bytes.specs.aid.Laws.{bytes_spell_one_table}
-use Rattle.flat_table.specs.Reading.{IsWhole, SpellingCause}
+use Rattle.flat_table.specs.aid.Reading.{IsWhole, SpellingCause}
 
 -- positions that were spelled have their length
 cells_long : (packed : ℕ) (bytes : List ℕ) (xs : List (List ℕ)) (rs : List Record) → length rs ≡ length xs → AreSpelled (IsCell packed) bytes (zip xs rs)

@@ -1,13 +1,10 @@
 -- What the calls on a file of this layout leave, said of its pages and of what is in memory.
-use Rattle.std.specs.Prelude.{◌≡◌, ◌⊎◌, length, false, Option, Some, IsTrue}
+use Rattle.std.specs.Prelude.{length, Option}
 use Rattle.page_store.specs.Store.{Store}
 use Rattle.flat_table.specs.Slot.{commits_in}
-use Rattle.game_file.specs.Kept.{Kept}
 use Rattle.game_file.specs.State.{State}
-use Rattle.game_file.specs.Stops.{LeavesEither, LeavesTable}
 use Rattle.flat_table.specs.declared.game.Game.{Game}
-use Rattle.flat_table.specs.File.{File, IsFile, kept_of}
-use Rattle.flat_table.specs.Held.{Stores}
+use Rattle.flat_table.specs.File.{File, kept_of}
 
 -- the file with these pages and this game
 abbrev pub file_of : Store → Option Game → File
@@ -23,19 +20,3 @@ state_of file = record {
   commits = commits_in file.store.root;
   kept = kept_of file.game;
 }
-
--- this is kept now in the place of what was, and a stop meanwhile leaves the one or the other
-pub record IsPutInFile (is : Kept) (old new : File) : Type 0 where
-  pub stands : IsFile new
-  pub kept : kept_of new.game ≡ Some is
-  pub is_open : new.store.closed ≡ false
-  pub leaves : IsTrue old.store.disk.honest → LeavesEither Stores old.store.disk new.store.disk (kept_of old.game) (Some is)
-
--- what was kept still is, and a stop leaves it; where a write or a sync failed, it leaves that or what should have been put
-pub record IsNotPutInFile (is : Kept) (old new : File) : Type 0 where
-  pub stands : IsFile new
-  pub game : new.game ≡ old.game
-  pub leaves : IsTrue old.store.disk.honest → new.store.closed ≡ false → LeavesTable Stores old.store.disk new.store.disk (kept_of old.game)
-  pub either : IsTrue old.store.disk.honest → old.store.closed ≡ false
-      → LeavesEither Stores old.store.disk new.store.disk (kept_of old.game) (Some is)
-  pub untouched : (old.store.closed ≡ false) ⊎ (new.store.disk ≡ old.store.disk)

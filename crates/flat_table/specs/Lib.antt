@@ -1,12 +1,11 @@
 pub mod Slot
 pub mod Held
 pub mod File
-pub mod Reading
 pub mod ReadCauses
 pub mod Saving
 pub mod SaveCauses
 pub mod Pages
-pub mod Causes
 pub mod Calls
 pub mod Drafts
+pub mod InFile
 pub mod aid

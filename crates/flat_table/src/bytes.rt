@@ -2,7 +2,7 @@
 ghost use Rattle.std.specs.Prelude.{◌≡◌, ◌↔◌, ◌≤◌, ◌^◌, true, length, IfOk, IfErr};
 ghost use Rattle.table.specs.InMemory.{stored_in};
 ghost use Rattle.table_bytes.specs.Numbers.{AreWithinLimits, bytes_in};
-ghost use Rattle.flat_table.specs.Reading.{IsWhole, IsTableOf, IsGameIn, SpellingCause};
+ghost use Rattle.flat_table.specs.aid.Reading.{IsWhole, IsTableOf, IsGameIn, SpellingCause};
 
 use crate::game::Game;
 use page_chain::Chain;

@@ -3,9 +3,10 @@ ghost use Rattle.std.specs.Prelude.{◌≡◌, None, refl, OnOk, OnErr, IfErr, I
 ghost use Rattle.retrograde.specs.Changes.{counts_of};
 ghost use Rattle.table.specs.declared.fault.TableFault.TheVariants.{OutOfMemory};
 ghost use Rattle.flat_table.specs.Drafts.{stored_now, IsUnwrittenFile, IsOnlyRead};
+ghost use Rattle.flat_table.specs.InFile.{file_in};
 ghost use Rattle.flat_table.specs.aid.Drafts.{unwritten_here, unwritten_then, only_read_here, only_read_then};
 
-use crate::file::{FlatTable, TableFile};
+use crate::file::FlatTable;
 use position_pack::Packed;
 use retrograde::{Counts, Record};
 use sector_disk::SectorDisk;
@@ -14,7 +15,7 @@ use table::{Table, TableFault};
 impl<D: SectorDisk> FlatTable<D> {
     /// Begins a command: the table of the last commit is copied, if it is not yet.
     pub(crate) fn begin(&mut self) -> Result<(), TableFault>
-        ensures same { (⟦<FlatTable<D> as TableFile>⟧.file self.new) ≡ (⟦<FlatTable<D> as TableFile>⟧.file self.old) }
+        ensures same { file_in self.new ≡ file_in self.old }
         ensures some { OnOk result (IsSome self.new.draft) }
         ensures idle { OnErr result (self.new.draft ≡ None) }
         ensures stored { stored_now self.new.draft self.new.game ≡ stored_now self.old.draft self.old.game }
@@ -38,17 +39,17 @@ impl<D: SectorDisk> Table for FlatTable<D> {
 
     ghost counted = { λ t. counts_of (stored_now t.draft t.game) };
 
-    ghost stays = { λ was is. IsOnlyRead (⟦<FlatTable<D> as TableFile>⟧.file was) was.draft
-        (⟦<FlatTable<D> as TableFile>⟧.file is) is.draft };
+    ghost stays = { λ was is. IsOnlyRead (file_in was) was.draft
+        (file_in is) is.draft };
 
-    ghost goes_on = { λ was is. IsUnwrittenFile (⟦<FlatTable<D> as TableFile>⟧.file was) (⟦<FlatTable<D> as TableFile>⟧.file is) };
+    ghost goes_on = { λ was is. IsUnwrittenFile (file_in was) (file_in is) };
 
-    ghost fails = { λ was is fault. IsUnwrittenFile (⟦<FlatTable<D> as TableFile>⟧.file was) (⟦<FlatTable<D> as TableFile>⟧.file is)
+    ghost fails = { λ was is fault. IsUnwrittenFile (file_in was) (file_in is)
         × (fault ≡ OutOfMemory) };
 
     ghost counts_are = { λ t honest. refl };
 
-    ghost stays_here = { λ t. only_read_here (⟦<FlatTable<D> as TableFile>⟧.file t) t.draft };
+    ghost stays_here = { λ t. only_read_here (file_in t) t.draft };
 
     ghost stays_then = { λ a b c first second. only_read_then first second };
 

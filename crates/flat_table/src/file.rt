@@ -1,6 +1,6 @@
 //! A table in a file.
 ghost use Rattle.std.specs.Prelude.{◌≡◌, ◌≢◌, ◌≤◌, ◌^◌, ℕ, true, None, length, OnOk, OnErr, IfOk, IfErr, IsTrue};
-ghost use Rattle.table.specs.InMemory.{stored_in};
+ghost use Rattle.table.specs.InMemory.{stored_in, counted_in};
 ghost use Rattle.root_pair.specs.Root.{HoldsRoot};
 ghost use Rattle.flat_table.specs.Slot.{commits_in};
 ghost use Rattle.game_file.specs.Calls.{IsOpenedFile, IsNotOpened};
@@ -13,8 +13,9 @@ ghost use Rattle.flat_table.specs.Held.{Stores};
 ghost use Rattle.flat_table.specs.aid.StoredLaws.{a_file_is_kept};
 ghost use Rattle.flat_table.specs.aid.ReadLaws.{a_picture_stores_one_table};
 ghost use Rattle.flat_table.specs.Saving.{StoreGoesAhead};
-ghost use Rattle.flat_table.specs.Calls.{file_of, state_of, IsPutInFile, IsNotPutInFile};
-ghost use Rattle.flat_table.specs.Causes.{PutCause};
+ghost use Rattle.flat_table.specs.Calls.{file_of, state_of};
+ghost use Rattle.flat_table.specs.aid.Calls.{IsPutInFile, IsNotPutInFile};
+ghost use Rattle.flat_table.specs.aid.Causes.{PutCause};
 ghost use Rattle.flat_table.specs.Pages.{ArePages};
 ghost use Rattle.flat_table.specs.aid.Drafts.{few_stored};
 ghost use Rattle.flat_table.specs.aid.Whole.{the_table_is_kept, unwritten_ahead, unwritten_asked, memory_cause};
@@ -30,12 +31,6 @@ use root_pair::create;
 use sector_disk::SectorDisk;
 use std::alloc::Global;
 use table::{MemTable, Table};
-
-/// What is stated of a file of this layout.
-pub trait TableFile {
-    /// Its pages, and the game of the last commit, which is in memory.
-    ghost file: { Self → File };
-}
 
 /// A game's table in a file, with its last commit in memory. A command works on a copy of the table, which is made as it first
 /// writes; to give the command up the copy is dropped.
@@ -53,18 +48,15 @@ pub struct FlatTable<D: SectorDisk> {
     ghost counted: { commits ≡ commits_in store.root.bytes },
 }
 
-impl<D: SectorDisk> TableFile for FlatTable<D> {
-    ghost file = { λ t. file_of (⟦<PageStore<D> as Pages>⟧.store t.store) t.game };
-}
-
 impl<D: SectorDisk> FlatTable<D> {
+    ghost use Rattle.flat_table.specs.InFile.{file_in};
+
     /// Reads the whole table that this disk stores, after a sync: E1, E2, E4, E8.
     fn read(alloc: Global, disk: D) -> Result<Self, Refused<D>>
-        ensures whole { IfOk result (λ t. IsFile (⟦<FlatTable<D> as TableFile>⟧.file t) × (t.draft ≡ None)) }
-        ensures ok { IfOk result (λ t. IsOpenedFile Stores (D.disk disk) (D.failures disk) (state_of
-            (⟦<FlatTable<D> as TableFile>⟧.file t))) }
+        ensures whole { IfOk result (λ t. IsFile (file_in t) × (t.draft ≡ None)) }
+        ensures ok { IfOk result (λ t. IsOpenedFile Stores (D.disk disk) (D.failures disk) (state_of (file_in t))) }
         ensures root { IfOk result (λ t. IsTrue (D.disk disk).honest
-            → HoldsRoot (⟦<FlatTable<D> as TableFile>⟧.file t).store.root (D.disk disk).now.contents) }
+            → HoldsRoot (file_in t).store.root (D.disk disk).now.contents) }
         ensures refused { IfErr result (λ back. IsNotOpened (D.disk disk) (D.failures disk) (D.disk back.disk) (D.failures back.disk)) }
         ensures cause { IfErr result (λ back. FileOpenCause Stores (D.disk disk) (D.failures disk) (D.failures back.disk) back.fault) }
     {
@@ -94,28 +86,21 @@ impl<D: SectorDisk> FlatTable<D> {
 
     /// Stores a table that was worked on in the place of the last commit's, if a game is loaded.
     fn keep(&mut self, table: MemTable) -> Result<(), FileFault>
-        requires { (⟦<MemTable as Table>⟧.counted table).known ≤ 2 ^ 24 }
+        requires { (counted_in table).known ≤ 2 ^ 24 }
         ensures draft { self.new.draft ≡ self.old.draft }
-        ensures ahead { StoreGoesAhead (⟦<FlatTable<D> as TableFile>⟧.file self.old).store
-            (⟦<FlatTable<D> as TableFile>⟧.file self.new).store }
-        ensures commits { OnOk result (commits_in (⟦<FlatTable<D> as TableFile>⟧.file self.new).store.root
-            ≡ count_behind (commits_in (⟦<FlatTable<D> as TableFile>⟧.file self.old).store.root)) }
-        ensures root { OnErr result ((⟦<FlatTable<D> as TableFile>⟧.file self.new).store.root ≡
-            (⟦<FlatTable<D> as TableFile>⟧.file self.old).store.root) }
-        ensures ok { (was : Loaded) → (⟦<FlatTable<D> as TableFile>⟧.file self.old).game ≡ Some was
-            → IsFile (⟦<FlatTable<D> as TableFile>⟧.file self.old)
-            → OnOk result (IsPutInFile (kept_as was.text.items (stored_in table)) (⟦<FlatTable<D> as TableFile>⟧.file self.old)
-            (⟦<FlatTable<D> as TableFile>⟧.file self.new)) }
-        ensures err { (was : Loaded) → (⟦<FlatTable<D> as TableFile>⟧.file self.old).game ≡ Some was
-            → IsFile (⟦<FlatTable<D> as TableFile>⟧.file self.old)
-            → OnErr result (IsNotPutInFile (kept_as was.text.items (stored_in table)) (⟦<FlatTable<D> as TableFile>⟧.file self.old)
-            (⟦<FlatTable<D> as TableFile>⟧.file self.new)) }
-        ensures cause { (was : Loaded) → (⟦<FlatTable<D> as TableFile>⟧.file self.old).game ≡ Some was
-            → IsFile (⟦<FlatTable<D> as TableFile>⟧.file self.old)
+        ensures ahead { StoreGoesAhead (file_in self.old).store (file_in self.new).store }
+        ensures commits { OnOk result (commits_in (file_in self.new).store.root
+            ≡ count_behind (commits_in (file_in self.old).store.root)) }
+        ensures root { OnErr result ((file_in self.new).store.root ≡ (file_in self.old).store.root) }
+        ensures ok { (was : Loaded) → (file_in self.old).game ≡ Some was → IsFile (file_in self.old)
+            → OnOk result (IsPutInFile (kept_as was.text.items (stored_in table)) (file_in self.old) (file_in self.new)) }
+        ensures err { (was : Loaded) → (file_in self.old).game ≡ Some was → IsFile (file_in self.old)
+            → OnErr result (IsNotPutInFile (kept_as was.text.items (stored_in table)) (file_in self.old) (file_in self.new)) }
+        ensures cause { (was : Loaded) → (file_in self.old).game ≡ Some was → IsFile (file_in self.old)
             → IfErr result (PutCause (kept_as was.text.items (stored_in table)) was.packed
-            (⟦<FlatTable<D> as TableFile>⟧.file self.old).store (⟦<FlatTable<D> as TableFile>⟧.file self.new).store) }
+            (file_in self.old).store (file_in self.new).store) }
         ensures still { IfErr result (λ fault. fault ≢ FileFault.Disk
-            → (⟦<FlatTable<D> as TableFile>⟧.file self.new).store.closed ≡ (⟦<FlatTable<D> as TableFile>⟧.file self.old).store.closed) }
+            → (file_in self.new).store.closed ≡ (file_in self.old).store.closed) }
     {
         let Some(game) = &self.game else {
             return Err(FileFault::Inconsistent);
@@ -129,25 +114,21 @@ impl<D: SectorDisk> FlatTable<D> {
     fn replace(&mut self, text: Vec<u8>, packed: u32, table: MemTable) -> Result<(), FileFault>
         requires text { length text.items ≤ 65536 }
         requires packed { packed ≤ 240 }
-        requires known { (⟦<MemTable as Table>⟧.counted table).known ≤ 2 ^ 24 }
+        requires known { (counted_in table).known ≤ 2 ^ 24 }
         ensures draft { self.new.draft ≡ self.old.draft }
-        ensures ahead { StoreGoesAhead (⟦<FlatTable<D> as TableFile>⟧.file self.old).store
-            (⟦<FlatTable<D> as TableFile>⟧.file self.new).store }
-        ensures commits { OnOk result (commits_in (⟦<FlatTable<D> as TableFile>⟧.file self.new).store.root
-            ≡ count_behind (commits_in (⟦<FlatTable<D> as TableFile>⟧.file self.old).store.root)) }
-        ensures root { OnErr result ((⟦<FlatTable<D> as TableFile>⟧.file self.new).store.root ≡
-            (⟦<FlatTable<D> as TableFile>⟧.file self.old).store.root) }
-        ensures ok { IsFile (⟦<FlatTable<D> as TableFile>⟧.file self.old)
-            → OnOk result (IsPutInFile (kept_as text.items (stored_in table)) (⟦<FlatTable<D> as TableFile>⟧.file self.old)
-            (⟦<FlatTable<D> as TableFile>⟧.file self.new)) }
-        ensures err { IsFile (⟦<FlatTable<D> as TableFile>⟧.file self.old)
-            → OnErr result (IsNotPutInFile (kept_as text.items (stored_in table)) (⟦<FlatTable<D> as TableFile>⟧.file self.old)
-            (⟦<FlatTable<D> as TableFile>⟧.file self.new)) }
-        ensures cause { IsFile (⟦<FlatTable<D> as TableFile>⟧.file self.old)
-            → IfErr result (PutCause (kept_as text.items (stored_in table)) packed (⟦<FlatTable<D> as TableFile>⟧.file self.old).store
-            (⟦<FlatTable<D> as TableFile>⟧.file self.new).store) }
+        ensures ahead { StoreGoesAhead (file_in self.old).store (file_in self.new).store }
+        ensures commits { OnOk result (commits_in (file_in self.new).store.root
+            ≡ count_behind (commits_in (file_in self.old).store.root)) }
+        ensures root { OnErr result ((file_in self.new).store.root ≡ (file_in self.old).store.root) }
+        ensures ok { IsFile (file_in self.old)
+            → OnOk result (IsPutInFile (kept_as text.items (stored_in table)) (file_in self.old) (file_in self.new)) }
+        ensures err { IsFile (file_in self.old)
+            → OnErr result (IsNotPutInFile (kept_as text.items (stored_in table)) (file_in self.old) (file_in self.new)) }
+        ensures cause { IsFile (file_in self.old)
+            → IfErr result (PutCause (kept_as text.items (stored_in table)) packed (file_in self.old).store
+            (file_in self.new).store) }
         ensures still { IfErr result (λ fault. fault ≢ FileFault.Disk
-            → (⟦<FlatTable<D> as TableFile>⟧.file self.new).store.closed ≡ (⟦<FlatTable<D> as TableFile>⟧.file self.old).store.closed) }
+            → (file_in self.new).store.closed ≡ (file_in self.old).store.closed) }
     {
         let commits = self.commits.wrapping_add(1);
         let game = put(
@@ -166,38 +147,37 @@ impl<D: SectorDisk> FlatTable<D> {
 }
 
 impl<D: SectorDisk> GameFile for FlatTable<D> {
+    ghost use Rattle.page_store.specs.InStore.{store_in};
+    ghost use Rattle.flat_table.specs.InFile.{file_in};
+
     type Device = D;
 
     ghost stores = { Stores };
 
-    ghost state = { λ t. state_of (⟦<FlatTable<D> as TableFile>⟧.file t) };
+    ghost state = { λ t. state_of (file_in t) };
 
-    ghost is_whole = { λ t. IsFile (⟦<FlatTable<D> as TableFile>⟧.file t) × (t.draft ≡ None) };
+    ghost is_whole = { λ t. IsFile (file_in t) × (t.draft ≡ None) };
 
     ghost stores_one = { λ picture one other first second. a_picture_stores_one_table picture one other first second };
 
     ghost stores_begins = { λ picture kept it. it.holds.table };
 
-    ghost whole_leaves = { λ t whole honest is_open. a_file_is_kept (⟦<FlatTable<D> as TableFile>⟧.file t) whole.0 honest is_open };
+    ghost whole_leaves = { λ t whole honest is_open. a_file_is_kept (file_in t) whole.0 honest is_open };
 
     ghost whole_stored = { λ t kept whole honest is.
-        let both = the_table_is_kept (⟦<PageStore<D> as Pages>⟧.store t.store) t.draft t.game kept whole.0 whole.1 is in
+        let both = the_table_is_kept (store_in t.store) t.draft t.game kept whole.0 whole.1 is in
         (tt, both.0, both.1) };
 
     ghost whole_stays = { λ old new whole stays. (
-      (stays.unwritten.stands whole.0, stays.idle whole.1),
-      unwritten_asked (⟦<FlatTable<D> as TableFile>⟧.file old) (⟦<FlatTable<D> as TableFile>⟧.file new) whole.0 stays.unwritten,
+      (stays.unwritten.stands whole.0, stays.idle whole.1), unwritten_asked (file_in old) (file_in new) whole.0 stays.unwritten,
     ) };
 
-    ghost goes_ahead = { λ old new goes_on.
-        unwritten_ahead (⟦<FlatTable<D> as TableFile>⟧.file old) (⟦<FlatTable<D> as TableFile>⟧.file new) goes_on };
+    ghost goes_ahead = { λ old new goes_on. unwritten_ahead (file_in old) (file_in new) goes_on };
 
-    ghost fails_ahead = { λ old new fault cause.
-        unwritten_ahead (⟦<FlatTable<D> as TableFile>⟧.file old) (⟦<FlatTable<D> as TableFile>⟧.file new) cause.0 };
+    ghost fails_ahead = { λ old new fault cause. unwritten_ahead (file_in old) (file_in new) cause.0 };
 
-    ghost fails_for = { λ old new fault whole cause.
-        memory_cause (state_of (⟦<FlatTable<D> as TableFile>⟧.file old))
-        (state_of (⟦<FlatTable<D> as TableFile>⟧.file new)) fault cause.1 };
+    ghost fails_for = { λ old new fault whole cause. memory_cause (state_of (file_in old))
+        (state_of (file_in new)) fault cause.1 };
 
     ghost few = { λ t. few_stored t.draft t.game };
 

@@ -1,13 +1,14 @@
 //! A text and a table in the place of others.
 ghost use Rattle.std.specs.Prelude.{◌≡◌, ◌≢◌, ◌≤◌, ◌^◌, Some, length, IfOk, IfErr, OnOk, OnErr};
 ghost use Rattle.table.specs.Fitting.{FitsTogether};
-ghost use Rattle.table.specs.InMemory.{stored_in};
+ghost use Rattle.table.specs.InMemory.{stored_in, counted_in};
 ghost use Rattle.flat_table.specs.Slot.{commits_in};
 ghost use Rattle.flat_table.specs.File.{IsFile, pages_of};
 ghost use Rattle.flat_table.specs.Saving.{AreBytesOf, StoreGoesAhead};
 ghost use Rattle.game_file.specs.Kept.{kept_as};
-ghost use Rattle.flat_table.specs.Calls.{file_of, IsPutInFile, IsNotPutInFile};
-ghost use Rattle.flat_table.specs.Causes.{PutCause};
+ghost use Rattle.flat_table.specs.Calls.{file_of};
+ghost use Rattle.flat_table.specs.aid.Calls.{IsPutInFile, IsNotPutInFile};
+ghost use Rattle.flat_table.specs.aid.Causes.{PutCause};
 ghost use Rattle.flat_table.specs.Pages.{ArePages};
 ghost use Rattle.flat_table.specs.aid.Bytes.{BytesCause};
 
@@ -33,7 +34,7 @@ pub fn put<P: Pages>(
 ) -> Result<Game, FileFault>
     requires text { length text.items ≤ 65536 }
     requires packed { packed ≤ 240 }
-    requires known { (⟦<MemTable as Table>⟧.counted table).known ≤ 2 ^ 24 }
+    requires known { (counted_in table).known ≤ 2 ^ 24 }
     requires there { ArePages (length (P.store store.old).marks) (pages_of old.now) }
     ensures pages { IfOk result (λ game. ArePages (length (P.store store.new).marks) game.pages.items) }
     ensures ahead { StoreGoesAhead (P.store store.old) (P.store store.new) }
@@ -80,7 +81,7 @@ fn bytes_of(
 ) -> Result<Written, FileFault>
     requires text { length text.now ≤ 65536 }
     requires packed { packed ≤ 240 }
-    requires known { (⟦<MemTable as Table>⟧.counted table.old).known ≤ 2 ^ 24 }
+    requires known { (counted_in table.old).known ≤ 2 ^ 24 }
     ensures same { OnOk result (stored_in table.new ≡ stored_in table.old) }
     ensures fits { OnOk result (FitsTogether packed (stored_in table.new)) }
     ensures bytes { IfOk result (λ written. AreBytesOf (kept_as text.now (stored_in table.old)) written.sizes written.bytes.items) }

@@ -20,7 +20,7 @@ use Rattle.retrograde.specs.aid.Expansion.{IsNoted, AreNoted}
 use Rattle.retrograde.specs.Expands.{IsTooMany}
 use Rattle.retrograde.proofs.Adding.{push_before, push_cases, is_first, is_later}
 use Rattle.retrograde.proofs.Finding.{finds}
-use Rattle.frontier.specs.Numbering.{AreNumbersOf}
+use Rattle.frontier.specs.aid.Numbering.{AreNumbersOf}
 
 -- y has the number i, or the next one
 abbrev pub IsNumberOf : {P : Type 0} → List P → ℕ → P → ℕ → Type 0

@@ -1,3 +1,3 @@
 pub mod Causes
 pub mod Done
-pub mod Numbering
+pub mod aid

@@ -7,7 +7,7 @@ ghost use Rattle.retrograde.specs.aid.Expansion.{AreNoted};
 ghost use Rattle.retrograde.specs.Successors.{packed_cmp};
 ghost use Rattle.frontier.specs.Causes.{IsRefusal, Leaves};
 ghost use Rattle.frontier.specs.declared.fault.StepFault.TheVariants.{Inconsistent};
-ghost use Rattle.frontier.specs.Numbering.{AreNumbersOf};
+ghost use Rattle.frontier.specs.aid.Numbering.{AreNumbersOf};
 
 use crate::fault::StepFault;
 use position_pack::Packed;

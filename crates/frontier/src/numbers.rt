@@ -3,7 +3,7 @@ ghost use Rattle.std.specs.Prelude.{◌≡◌, ◌↔◌, ◌+◌, ◌^◌, ◌<
 ghost use Rattle.table.specs.Memory.{bytes_of_each};
 ghost use Rattle.frontier.specs.Causes.{IsRefusal, Leaves};
 ghost use Rattle.frontier.specs.declared.fault.StepFault.TheVariants.{Inconsistent};
-ghost use Rattle.frontier.specs.Numbering.{AreNumbersOf};
+ghost use Rattle.frontier.specs.aid.Numbering.{AreNumbersOf};
 
 use crate::fault::StepFault;
 use position_pack::Packed;
@@ -48,7 +48,8 @@ pub fn numbers_of<T: Table>(
     requires few { length positions.now ≤ 65536 }
     requires limit { (T.counted table.old).known ≤ 2 ^ 24 }
     ensures numbers { T.is_honest table.old → IfOk result (λ numbers.
-        AreNumbersOf (T.stored table.old).positions (length (T.stored table.old).positions) (bytes_of_each positions.now) numbers.each.items numbers.next) }
+        AreNumbersOf (T.stored table.old).positions (length (T.stored table.old).positions) (bytes_of_each positions.now)
+        numbers.each.items numbers.next) }
     ensures lengths { IfOk result (λ numbers. length numbers.each.items ≡ length positions.now) }
     ensures within { IfOk result (λ numbers. All (λ i. i < numbers.next) numbers.each.items) }
     ensures next { IfOk result (λ numbers. (T.counted table.old).known ≤ numbers.next) }

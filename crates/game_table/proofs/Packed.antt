@@ -10,7 +10,8 @@ use Rattle.rbg_game.specs.Games.{Game}
 use Rattle.position_pack.specs.Shape.{Shape, shape_of}
 use Rattle.legal_moves.proofs.SourceLemmas.{at_by_packed, packed_by_at}
 use Rattle.retrograde.specs.Stored.{Stored}
-use Rattle.game_table.specs.Tables.{IsPackedBytes, ArePacked, ArePositions}
+use Rattle.game_table.specs.Tables.{ArePositions}
+use Rattle.game_table.specs.aid.Tables.{IsPackedBytes, ArePacked}
 
 -- an answer whether they are packed is one whether they are positions
 pub positions_by_packed : (game : Game) (shape : Shape) (stored : Stored (List ℕ)) (packed : List (List ℕ)) (are : Bool) → shape ≡ shape_of game → packed ≡ stored.positions

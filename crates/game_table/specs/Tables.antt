@@ -1,9 +1,6 @@
 -- When a table is one of a game, and what units of work on it come to.
 use Rattle.std.specs.Prelude.{◌≡◌, ℕ, ◌+◌, ◌*◌, List, length, slice_get, Some}
 use Rattle.rbg_game.specs.Games.{Game}
-use Rattle.rbg_game.specs.declared.position.Position.{Position}
-use Rattle.position_pack.specs.Shape.{Shape}
-use Rattle.position_pack.specs.Bytes.{IsPacked}
 use Rattle.legal_moves.specs.Sources.{IsPositionBytes, IsWideAt, graph_of}
 use Rattle.retrograde.specs.Stored.{Stored}
 use Rattle.table_work.specs.Work.{AreDone}
@@ -11,14 +8,6 @@ use Rattle.table_work.specs.Work.{AreDone}
 -- each stored position is the bytes of a position of the game
 abbrev pub ArePositions : Game → Stored (List ℕ) → Type 0
 ArePositions game stored = (i : ℕ) (x : List ℕ) → slice_get stored.positions i ≡ Some x → IsPositionBytes game x
-
--- these are the bytes of a position whose fields are in the ranges of the shape
-abbrev pub IsPackedBytes : Shape → List ℕ → Type 0
-IsPackedBytes shape x = (at : Position) × IsPacked shape at x
-
--- each of these is
-abbrev pub ArePacked : Shape → List (List ℕ) → Type 0
-ArePacked shape positions = (i : ℕ) (x : List ℕ) → slice_get positions i ≡ Some x → IsPackedBytes shape x
 
 -- how many bytes a position of the game has: one for each piece, three for each value, and four more
 abbrev pub packed_length : Game → ℕ

@@ -1,6 +1,6 @@
 //! Whether what a table stores are positions.
 ghost use Rattle.std.specs.Prelude.{◌≡◌, ◌↔◌, true, IfOk, IfErr};
-ghost use Rattle.game_table.specs.Tables.{IsPackedBytes, ArePacked};
+ghost use Rattle.game_table.specs.aid.Tables.{IsPackedBytes, ArePacked};
 ghost use Rattle.table.specs.Faults.{NeedsNoPage};
 
 use position_pack::{Packed, Packing};

@@ -10,7 +10,7 @@ use Rattle.legal_moves.specs.Effects.{EffectAt}
 use Rattle.legal_moves.specs.Glushkov.{IsNextAt}
 use Rattle.legal_moves.specs.Relations.{row_of}
 use Rattle.legal_moves.specs.Searches.{place_at, IsWideFrom}
-use Rattle.legal_moves.specs.Configurations.{expression_at, IsReady, AsksTooMuch, OccurrenceLeads, opening, AreFound, IsMet, IsFollowed, IsSeen, IsNew, IsGrown}
+use Rattle.legal_moves.specs.aid.Configurations.{expression_at, IsReady, AsksTooMuch, OccurrenceLeads, opening, AreFound, IsMet, IsFollowed, IsSeen, IsNew, IsGrown}
 use Rattle.legal_moves.specs.aid.Going.{IsGoing}
 use Rattle.legal_moves.specs.declared.table.Table.{Table}
 use Rattle.legal_moves.specs.declared.configuration.Configuration.{Configuration}

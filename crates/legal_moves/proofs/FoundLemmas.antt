@@ -9,7 +9,7 @@ use Rattle.rbg_game.specs.declared.position.SemiState.{SemiState}
 use Rattle.legal_moves.specs.Effects.{EffectAt}
 use Rattle.legal_moves.specs.Glushkov.{IsNextAt}
 use Rattle.legal_moves.specs.Searches.{place_at}
-use Rattle.legal_moves.specs.Configurations.{AsksTooMuch, IsLinked, opening, AreFound, IsMet, IsFollowed}
+use Rattle.legal_moves.specs.aid.Configurations.{AsksTooMuch, IsLinked, opening, AreFound, IsMet, IsFollowed}
 use Rattle.legal_moves.specs.aid.Going.{began}
 use Rattle.legal_moves.specs.declared.configuration.Configuration.{Configuration}
 use Rattle.legal_moves.proofs.GetLemmas.{slice_get-append, slice_get-push, slice_get-within}

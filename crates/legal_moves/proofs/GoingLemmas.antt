@@ -8,7 +8,7 @@ use Rattle.rbg_game.specs.declared.position.SemiState.{SemiState}
 use Rattle.position_pack.specs.Bytes.{bytes_of}
 use Rattle.legal_moves.specs.Glushkov.{IsNextAt}
 use Rattle.legal_moves.specs.Searches.{place_at, IsWideFrom}
-use Rattle.legal_moves.specs.Configurations.{OccurrenceLeads, IsLinked, AreFound, IsMet, IsFollowed, IsSeen, IsNew, IsGrown}
+use Rattle.legal_moves.specs.aid.Configurations.{OccurrenceLeads, IsLinked, AreFound, IsMet, IsFollowed, IsSeen, IsNew, IsGrown}
 use Rattle.legal_moves.specs.aid.Going.{IsGoing}
 use Rattle.legal_moves.specs.declared.configuration.Configuration.{Configuration}
 use Rattle.legal_moves.specs.declared.found.Found.{Found}

@@ -9,7 +9,7 @@ use Rattle.rbg_game.specs.Sound.{LacksSwitch, IsNoSwitch}
 use Rattle.rbg_game.specs.declared.position.SemiState.{SemiState}
 use Rattle.legal_moves.specs.Glushkov.{IsLast}
 use Rattle.legal_moves.specs.aid.Searches.{IsLegal}
-use Rattle.legal_moves.specs.Configurations.{expression_at, IsReady, IsSearch}
+use Rattle.legal_moves.specs.aid.Configurations.{expression_at, IsReady, IsSearch}
 use Rattle.legal_moves.specs.declared.table.Table.{Table}
 use Rattle.legal_moves.specs.declared.configuration.Configuration.{Configuration}
 use Rattle.legal_moves.proofs.EffectLemmas.{option_or-cases, action_at-one}

@@ -24,7 +24,7 @@ use Rattle.position_pack.specs.Bytes.{bytes_of}
 use Rattle.legal_moves.specs.Moves.{ShowsFrom}
 use Rattle.legal_moves.specs.Shown.{ends_in, shown_to, shown_of, moves_of}
 use Rattle.legal_moves.specs.Listed.{IsSuccessorBytes, ShownMove, IsShownWord, IsShownMove, IsShortestMove, AreMoves}
-use Rattle.legal_moves.specs.Configurations.{packed_cmp, IsSearch, IsSeen}
+use Rattle.legal_moves.specs.aid.Configurations.{packed_cmp, IsSearch, IsSeen}
 use Rattle.legal_moves.specs.declared.configuration.Configuration.{Configuration}
 use Rattle.legal_moves.proofs.Distinct.{distinct-le}
 use Rattle.legal_moves.proofs.GetLemmas.{slice_get-within}

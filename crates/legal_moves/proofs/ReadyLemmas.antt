@@ -16,8 +16,10 @@ use Rattle.legal_moves.specs.Marks.{IsMarkSet}
 use Rattle.legal_moves.specs.Relations.{row_of}
 use Rattle.legal_moves.specs.Searches.{IsWideFrom}
 use Rattle.legal_moves.specs.aid.Searches.{IsLegal}
-use Rattle.legal_moves.specs.Tables.{is_pattern, switches, modifies, actions_of, IsStep, IsExpressionTable}
-use Rattle.legal_moves.specs.Configurations.{expressions_of, expression_at, IsReady, AsksTooMuch}
+use Rattle.legal_moves.specs.Tables.{is_pattern, actions_of, IsStep, IsExpressionTable}
+use Rattle.legal_moves.specs.aid.Tables.{switches, modifies}
+use Rattle.legal_moves.specs.Configurations.{expressions_of}
+use Rattle.legal_moves.specs.aid.Configurations.{expression_at, IsReady, AsksTooMuch}
 use Rattle.rbg_game.specs.declared.rules.Action.{Action as ProgramAction}
 use Rattle.legal_moves.specs.declared.table.Step.{Step}
 use Rattle.legal_moves.specs.declared.table.Step.TheVariants.{Act, Ask}

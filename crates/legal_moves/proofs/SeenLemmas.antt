@@ -10,7 +10,7 @@ use Rattle.std.specs.declared.cmp.Ordering.TheVariants.{Less, Equal, Greater}
 use Rattle.std.proofs.lemmas.Map.Lookups.{exact_bytes}
 use Rattle.arrayvec.specs.ArrayVec.{ArrayVec}
 use Rattle.position_pack.specs.Bytes.{bytes_of}
-use Rattle.legal_moves.specs.Configurations.{packed_cmp, IsSeen, IsNew, IsGrown}
+use Rattle.legal_moves.specs.aid.Configurations.{packed_cmp, IsSeen, IsNew, IsGrown}
 use Rattle.legal_moves.specs.declared.configuration.Configuration.{Configuration}
 use Rattle.legal_moves.proofs.GetLemmas.{slice_get-append, slice_get-push, slice_get-end}
 

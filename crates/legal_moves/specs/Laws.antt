@@ -8,6 +8,7 @@ use Rattle.rbg_game.specs.declared.roles.Player.{Player}
 use Rattle.rbg_game.specs.declared.position.SemiState.{SemiState}
 use Rattle.rbg_game.specs.declared.position.Position.{Position}
 use Rattle.legal_moves.specs.Words.{CanFollow}
+use Rattle.legal_moves.specs.Effects.{Effect, EffectAt}
 use Rattle.position_pack.specs.Bytes.{bytes_of}
 use Rattle.retrograde.specs.Graph.{IsEnded, IsReachable}
 use Rattle.legal_moves.specs.Moves.{IsMove, IsSuccessor, IsAhead, HasNoMove, Reach}
@@ -34,6 +35,12 @@ abbrev pub SoundActionsArePlain : Type 0
 SoundActionsArePlain =
     (game : Game) (S : SemiState) → IsStateOf game S → (a : Action) → ((positive : Bool) (e : Regex) → a ≡ pattern positive e → ⊥)
     → IsSoundAction game a → IsPlain S.values.items a
+
+-- an action leads from a semi-state to one or to none, by itself and where it stands in an expression
+abbrev pub ActionsLeadToOne : Type 0
+ActionsLeadToOne =
+    (game : Game) (S T U : SemiState) → ((a : Action) → Effect game a S T → Effect game a S U → T ≡ U)
+    × ((e : Regex) (n k : ℕ) → EffectAt game e n k S T → EffectAt game e n k S U → T ≡ U)
 
 -- what a position of the game leads to is a position of the game
 abbrev pub SuccessorsArePositions : Type 0

@@ -1,7 +1,7 @@
 -- Expressions as tables.
 use Rattle.std.specs.Prelude.{◌≡◌, ℕ, ◌+◌, ◌↔◌, Bool, true, false, List, [], ◌∷◌, ◌++◌, length, take, Some, slice_get, if◌then◌else◌}
 use Rattle.std.specs.List.{AllZip}
-use Rattle.rbg_game.specs.Rules.{Regex, one, empty, cat, alt, star, count, Action, pattern, is_switch, is_modifier}
+use Rattle.rbg_game.specs.Rules.{Regex, one, empty, cat, alt, star, count, Action, pattern}
 use Rattle.rbg_game.specs.Meaning.{action_of}
 use Rattle.legal_moves.specs.Glushkov.{is_nullable, IsNextAt}
 use Rattle.legal_moves.specs.Relations.{IsRelated}
@@ -58,16 +58,6 @@ is_pattern _ = false
 abbrev pub IsStep : List Regex → Step → Action → Type 0
 IsStep es (Act x) a = (action_of x ≡ a) × (is_pattern a ≡ false)
 IsStep es (Ask positive i) a = (e : Regex) × (slice_get es i ≡ Some e) × (a ≡ pattern positive e)
-
--- the step is a switch
-abbrev pub switches : Step → Bool
-switches (Act x) = is_switch (Some (action_of x))
-switches (Ask positive i) = false
-
--- the step is one that a shown move names
-abbrev pub modifies : Step → Bool
-modifies (Act x) = is_modifier (Some (action_of x))
-modifies (Ask positive i) = false
 
 -- how words of the expression begin and end, where its numbers begin with n
 pub record IsEnds (ends : Ends) (e : Regex) (n : ℕ) : Type 0 where

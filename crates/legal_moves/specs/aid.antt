@@ -1,3 +1,4 @@
+pub mod Configurations
 pub mod Going
 pub mod Searches
 pub mod Tables

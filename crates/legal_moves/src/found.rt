@@ -1,6 +1,6 @@
 //! The configurations that a search has found.
 ghost use Rattle.std.specs.Prelude.{◌≡◌, ◌≤◌, [], ◌∷◌, length, IfOk, OnOk, Err};
-ghost use Rattle.legal_moves.specs.Configurations.{opening, IsSeen, IsNew, IsGrown};
+ghost use Rattle.legal_moves.specs.aid.Configurations.{opening, IsSeen, IsNew, IsGrown};
 
 use crate::configuration::Configuration;
 use crate::fault::MoveFault;

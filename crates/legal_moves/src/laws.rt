@@ -1,15 +1,22 @@
 //! Laws of the definitions, for readers: each function's contract is one.
-ghost use Rattle.legal_moves.specs.Laws.{BytesAreOfOnePosition, BytesSayMoverAndLeader, EndsAgree, FollowsByWalks, MovesAreSearched, PlaysAgree};
-ghost use Rattle.legal_moves.specs.Laws.{SoundActionsArePlain, SoundExpressionsAreSmall, SuccessorsArePositions, ValuesFitTheMachine};
+ghost use Rattle.legal_moves.specs.Laws.{ActionsLeadToOne, BytesAreOfOnePosition, BytesSayMoverAndLeader, EndsAgree, FollowsByWalks};
+ghost use Rattle.legal_moves.specs.Laws.{MovesAreSearched, PlaysAgree, SoundActionsArePlain, SoundExpressionsAreSmall};
+ghost use Rattle.legal_moves.specs.Laws.{SuccessorsArePositions, ValuesFitTheMachine};
 ghost use Rattle.legal_moves.specs.Moves.{IsSuccessor, start_of};
 ghost use Rattle.rbg_game.specs.Take.{take};
 ghost use Rattle.legal_moves.specs.Take.{after_first_move};
 ghost use Rattle.std.specs.Prelude.{◌≡◌, ◌↔◌};
 ghost use Rattle.rbg_game.specs.declared.position.Position.{Position};
 
+/// What can follow a place in a word, and which words are moves, can be found an occurrence at a time.
 pub fn laws_of_words()
     ensures follows { FollowsByWalks }
     ensures moves { MovesAreSearched }
+{}
+
+/// An action leads from a semi-state to one semi-state or to none.
+pub fn actions_lead_to_one()
+    ensures { ActionsLeadToOne }
 {}
 
 /// What `act` asks of an action holds of the actions of a sound game.

@@ -11,7 +11,7 @@ ghost use Rattle.rbg_game.specs.declared.position.SemiState.{SemiState};
 ghost use Rattle.legal_moves.specs.Effects.{EffectAt};
 ghost use Rattle.legal_moves.specs.Searches.{IsWideFrom};
 ghost use Rattle.legal_moves.specs.aid.Searches.{IsLegal};
-ghost use Rattle.legal_moves.specs.Configurations.{expression_at, IsReady, AsksTooMuch, OccurrenceLeads, IsSeen, IsSearch};
+ghost use Rattle.legal_moves.specs.aid.Configurations.{expression_at, IsReady, AsksTooMuch, OccurrenceLeads, IsSeen, IsSearch};
 ghost use Rattle.legal_moves.specs.aid.Going.{began, IsGoing};
 
 use crate::configuration::Configuration;

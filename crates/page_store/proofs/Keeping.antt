@@ -1,7 +1,8 @@
 -- A store stays sound through the calls of its disk.
 use Rattle.std.proofs.Common.{◌≡◌, ◌≢◌, ◌⊎◌, inl, inr, ℕ, ◌*◌, ◌%◌, ◌<◌, ◌≤◌, Bool, false, List, length, slice_index, IsTrue, refl, sym, ◌∙◌, ap, subst, arith}
 use Rattle.std.proofs.lemmas.Bool.{cases_lt, cases_eq}
-use Rattle.sector_disk.specs.Disk.{Picture, sector, Shown, Agrees, MayLeave, Disk, size, GoesOn, LeavesOnly, Grew, KeepsThroughout}
+use Rattle.sector_disk.specs.Disk.{Picture, sector, Shown, Agrees, MayLeave, Disk, size, GoesOn, LeavesOnly, Grew}
+use Rattle.sector_disk.specs.aid.Disk.{KeepsThroughout}
 use Rattle.sector_disk.specs.aid.Moments.{leaves_more, leaves_now, goes_on_refl}
 use Rattle.root_pair.specs.Root.{picked, HoldsRoot, root_of, IsAtRest, OldOrNew, IsPublished, PublishCause}
 use Rattle.root_pair.specs.declared.fault.RootFault.{RootFault}
@@ -10,8 +11,8 @@ use Rattle.root_pair.specs.aid.Rest.{same_root, rest_leaves, root_kept, rest_kep
 use Rattle.page_store.specs.declared.marks.Mark.{Mark}
 use Rattle.page_store.specs.declared.marks.Mark.TheVariants.{Committed, Waiting, Fresh, Released, Free}
 use Rattle.page_store.specs.Marks.{mark, needs, IsNeeded, turned, let_go, AreDiscarded, IsMarked}
-use Rattle.page_store.specs.Page.{page, IsWithin, IsOutside}
-use Rattle.page_store.specs.aid.Page.{page_same}
+use Rattle.page_store.specs.Page.{page, IsWithin}
+use Rattle.page_store.specs.aid.Page.{IsOutside, page_same}
 use Rattle.page_store.specs.Store.{Store, Saved, SavedAs, IsSafe, IsSoundStore, StoreWorks, IsUnchanged, IsRemarked}
 use Rattle.page_store.specs.aid.Works.{safe_saves, safe_remarked}
 

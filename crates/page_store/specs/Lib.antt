@@ -3,4 +3,5 @@ pub mod Marks
 pub mod Page
 pub mod Spelling
 pub mod Store
+pub mod InStore
 pub mod aid

@@ -1,7 +1,9 @@
 //! One page, sector by sector.
 ghost use Rattle.std.specs.Prelude.{◌≡◌, ◌+◌, ◌*◌, ◌≤◌, OnOk, IsTrue};
-ghost use Rattle.sector_disk.specs.Disk.{size, GoesOn, LeavesOnly, MayLeave, KeepsThroughout, HasCause};
-ghost use Rattle.page_store.specs.Page.{page, IsOutside};
+ghost use Rattle.sector_disk.specs.Disk.{size, GoesOn, LeavesOnly, MayLeave, HasCause};
+ghost use Rattle.sector_disk.specs.aid.Disk.{KeepsThroughout};
+ghost use Rattle.page_store.specs.Page.{page};
+ghost use Rattle.page_store.specs.aid.Page.{IsOutside};
 
 use sector_disk::{DiskFault, SectorDisk};
 

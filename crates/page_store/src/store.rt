@@ -36,10 +36,12 @@ pub struct Refused<D> {
 }
 
 impl<D: SectorDisk> PageStore<D> {
+    ghost use Rattle.page_store.specs.InStore.{store_in};
+
     /// Finds the root on the disk, which it syncs first. No page is marked. `Disk`, `NotATable`, or `OutOfMemory`, with
     /// the disk. The room that later calls take is reserved here.
     pub fn open(alloc: Global, disk: D) -> Result<Self, Refused<D>>
-        ensures ok { IfOk result (λ store. IsOpened (D.disk disk) (D.failures disk) (⟦<PageStore<D> as Pages>⟧.store store)) }
+        ensures ok { IfOk result (λ store. IsOpened (D.disk disk) (D.failures disk) (store_in store)) }
         ensures refused { IfErr result (λ back. IsRefusedStore (D.disk disk) (D.failures disk) (D.disk back.disk) (D.failures back.disk)) }
         ensures cause { IfErr result (λ back. StoreOpenCause (D.disk disk) (D.failures disk) (D.failures back.disk) back.fault) }
     {
@@ -77,8 +79,8 @@ impl<D: SectorDisk> PageStore<D> {
 
     /// The disk, as it is.
     pub fn into_disk(self) -> D
-        ensures disk { D.disk result ≡ (⟦<PageStore<D> as Pages>⟧.store self).disk }
-        ensures failures { D.failures result ≡ (⟦<PageStore<D> as Pages>⟧.store self).failures }
+        ensures disk { D.disk result ≡ (store_in self).disk }
+        ensures failures { D.failures result ≡ (store_in self).failures }
     {
         let PageStore { disk, .. } = self;
         disk
@@ -100,7 +102,9 @@ fn unmarked(alloc: Global, capacity: u64) -> Result<Vec<Mark>, AllocError>
 }
 
 impl<D: SectorDisk> Pages for PageStore<D> {
-    ghost store = { λ s. store_of (D.disk s.disk) (D.failures s.disk) s.root.bytes s.marks.items s.closed };
+    ghost use Rattle.page_store.specs.InStore.{store_in};
+
+    ghost store = { store_in };
 
     ghost sound = { λ s. s.sound };
 

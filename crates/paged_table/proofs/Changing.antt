@@ -13,7 +13,8 @@ use Rattle.table.specs.declared.fault.TableFault.{TableFault}
 use Rattle.table.specs.declared.fault.TableFault.TheVariants.{Disk}
 use Rattle.paged_table.specs.Page.{record_in}
 use Rattle.paged_table.specs.Paged.{records_in, stored_of, StaysWhole, IsHonest, PagedGoesOn, Fails}
-use Rattle.paged_table.specs.Places.{IsPageThere, IsRecordAdded, IsRenewed, PlaceCause}
+use Rattle.paged_table.specs.Places.{IsPageThere}
+use Rattle.paged_table.specs.aid.Places.{IsRecordAdded, IsRenewed, PlaceCause}
 use Rattle.paged_table.specs.aid.Frames.{fails_since}
 use Rattle.paged_table.proofs.Faults.{place_fault}
 use Rattle.paged_table.proofs.Lists.{push_cases, set_cases, contains_got, got_contained}

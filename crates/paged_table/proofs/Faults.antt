@@ -8,7 +8,8 @@ use Rattle.table.specs.declared.fault.TableFault.{TableFault}
 use Rattle.table.specs.declared.fault.TableFault.TheVariants.{Disk, Damaged, TableFull, OutOfMemory, Closed}
 use Rattle.paged_table.specs.Page.{IsRecordPage}
 use Rattle.paged_table.specs.Paged.{IsHonest, PagedGoesOn, PagedCause, Fails}
-use Rattle.paged_table.specs.Places.{IsPageThere, RecordReadCause, PlaceCause}
+use Rattle.paged_table.specs.Places.{IsPageThere}
+use Rattle.paged_table.specs.aid.Places.{RecordReadCause, PlaceCause}
 use Rattle.paged_table.specs.aid.Frames.{memory_fails}
 
 pub passed_on : {X E : Type 0} (PagedCause : E → Type 0) (r : Result X E) (fault : E) → IsErr r × IsErrAnd r (λ f. f ≡ fault) → PagedCause fault → IfErr r PagedCause

@@ -9,7 +9,7 @@ use Rattle.page_store.specs.Page.{page}
 use Rattle.page_store.specs.Store.{Store, reads, IsRemarked}
 use Rattle.retrograde.specs.declared.records.Record.{Record}
 use Rattle.paged_table.specs.Page.{record_in, IsRecordPage}
-use Rattle.paged_table.specs.Places.{IsRecordAdded, IsRenewed}
+use Rattle.paged_table.specs.aid.Places.{IsRecordAdded, IsRenewed}
 
 -- a page that is kept is not free
 pub kept_not_free : (m : Mark) → IsTrue (keeps m) → m ≡ Free → ⊥

@@ -2,8 +2,7 @@
 use Rattle.std.proofs.Common.{◌≡◌, ◌≢◌, ◌⊎◌, inl, inr, ℕ, ◌≤◌, Bool, true, false, ◌||◌, List, length, Contains, Result, Ok, Err, IfErr, refl, sym, ◌∙◌, ap, subst, arith}
 use Rattle.std.specs.Prelude.{IsTrue}
 use Rattle.std.specs.Result.{IsErr, IsErrAnd}
-use Rattle.sector_disk.specs.Disk.{Shown, Grew}
-use Rattle.sector_disk.specs.Disk.{Disk as Drive}
+use Rattle.sector_disk.specs.Disk.{Shown, Grew, Disk as Drive}
 use Rattle.sector_disk.specs.aid.Moments.{leaves_more, goes_on_trans}
 use Rattle.root_pair.specs.Root.{root_of, IsAtRest}
 use Rattle.page_store.specs.declared.fault.PageFault.{PageFault}
@@ -24,7 +23,8 @@ use Rattle.frontier.specs.declared.fault.StepFault.TheVariants.{TooWide, KeeperC
 use Rattle.retrograde.specs.declared.records.Record.{Record}
 use Rattle.retrograde.specs.Stored.{Stored}
 use Rattle.paged_table.specs.Paged.{stored_of, StaysWhole, IsHonest, PagedGoesOn, Fails}
-use Rattle.paged_table.specs.Places.{fault_of, IsPageThere, PlaceCause}
+use Rattle.paged_table.specs.Places.{IsPageThere}
+use Rattle.paged_table.specs.aid.Places.{fault_of, PlaceCause}
 use Rattle.paged_table.specs.Turns.{DeviceCause, TurnCause, StartCause, BeginCause}
 use Rattle.paged_table.specs.aid.Turns.{IsGivenUp}
 use Rattle.paged_table.proofs.Standing.{back_whole, back_records}

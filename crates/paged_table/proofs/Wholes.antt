@@ -15,7 +15,8 @@ use Rattle.retrograde.specs.Changes.{fresh_record}
 use Rattle.table.specs.declared.fault.TableFault.{TableFault}
 use Rattle.paged_table.specs.Page.{record_in, IsRecordPage}
 use Rattle.paged_table.specs.Paged.{records_in, StaysWhole, IsHonest}
-use Rattle.paged_table.specs.Places.{IsPageThere, IsRecordAdded, IsRenewed}
+use Rattle.paged_table.specs.Places.{IsPageThere}
+use Rattle.paged_table.specs.aid.Places.{IsRecordAdded, IsRenewed}
 use Rattle.paged_table.proofs.Lists.{set_cases, push_cases, map_same, map_set_same, count_set, some_pass, some_fail, count_push}
 use Rattle.paged_table.proofs.Placing.{kept_not_free}
 

@@ -1,3 +1,4 @@
+pub mod InPages
 pub mod aid
 pub mod Page
 pub mod Paged

@@ -7,6 +7,7 @@ ghost use Rattle.retrograde.specs.Stored.{HasRecord, loaded as loaded_with};
 ghost use Rattle.frontier.specs.Causes.{IsRefusal};
 ghost use Rattle.frontier.specs.declared.fault.StepFault.TheVariants.{Inconsistent};
 ghost use Rattle.table_work.specs.Work.{AreDone, StopsWith};
+ghost use Rattle.paged_table.specs.InPages.{stored_on_pages, counted_on_pages, IsWholeTable, StaysTable, FailsTable};
 ghost use Rattle.paged_table.specs.Turns.{AtRest, Holds, TurnCause, BeginCause, IsLeftByTurn};
 
 use crate::paged::{PagedTable, fresh};
@@ -34,7 +35,7 @@ fn loaded<S: Pages + Drop>(
     start: &Packed,
 ) -> Result<PagedTable<S>, TableFault>
     ensures loaded { IsTrue (S.store store).disk.honest
-        → IfOk result (λ t. ⟦<PagedTable<S> as Table>⟧.stored t ≡ loaded_with start.now.items) }
+        → IfOk result (λ t. stored_on_pages t ≡ loaded_with start.now.items) }
     ensures honest { IfOk result (λ t. t.torn ≡ false) }
     ensures works { IfOk result (λ t. StoreWorks (S.store store) (S.store t.store)) }
     ensures still { IfOk result (λ t. (S.store t.store).closed ≡ (S.store store).closed) }
@@ -64,8 +65,8 @@ impl<S: Pages + Drop> CommittedTable<S> {
         root: &[u8; 512],
     ) -> Result<Self, TableFault>
         ensures loaded { IsTrue (S.store store).disk.honest
-            → IfOk result (λ t. ⟦<PagedTable<S> as Table>⟧.stored t.table ≡ loaded_with start.now.items) }
-        ensures honest { IfOk result (λ t. IsTrue (S.store store).disk.honest ↔ ⟦<PagedTable<S> as Table>⟧.is_honest t.table) }
+            → IfOk result (λ t. stored_on_pages t.table ≡ loaded_with start.now.items) }
+        ensures honest { IfOk result (λ t. IsTrue (S.store store).disk.honest ↔ IsWholeTable t.table) }
         ensures root { IfOk result (λ t. (S.store t.table.store).root ≡ root.now) }
         ensures open { IfOk result (λ t. (S.store t.table.store).closed ≡ false) }
         ensures cause { IfErr result (BeginCause (S.store store)) }
@@ -87,22 +88,22 @@ impl<S: Pages + Drop> CommittedTable<S> {
 impl<S: Pages> CommittedTable<S> {
     /// How many positions are known, expanded, settled and processed.
     pub fn counts(&self) -> Counts
-        ensures { result ≡ ⟦<PagedTable<S> as Table>⟧.counted self.now.table }
+        ensures { result ≡ counted_on_pages self.now.table }
     {
         self.table.counts()
     }
 
     /// The record of a number.
     pub fn record(&mut self, number: u32) -> Result<Record, TableFault>
-        requires { number < (⟦<PagedTable<S> as Table>⟧.counted self.old.table).known }
-        ensures record { ⟦<PagedTable<S> as Table>⟧.is_honest self.old.table
-            → IfOk result (λ r. HasRecord (⟦<PagedTable<S> as Table>⟧.stored self.old.table) number r) }
-        ensures same { ⟦<PagedTable<S> as Table>⟧.is_honest self.old.table
-            → ⟦<PagedTable<S> as Table>⟧.stored self.new.table ≡ ⟦<PagedTable<S> as Table>⟧.stored self.old.table }
-        ensures honest { ⟦<PagedTable<S> as Table>⟧.is_honest self.old.table ↔ ⟦<PagedTable<S> as Table>⟧.is_honest self.new.table }
-        ensures counts { ⟦<PagedTable<S> as Table>⟧.counted self.new.table ≡ ⟦<PagedTable<S> as Table>⟧.counted self.old.table }
-        ensures stays { ⟦<PagedTable<S> as Table>⟧.stays self.old.table self.new.table }
-        ensures fault { IfErr result (⟦<PagedTable<S> as Table>⟧.fails self.old.table self.new.table) }
+        requires { number < (counted_on_pages self.old.table).known }
+        ensures record { IsWholeTable self.old.table
+            → IfOk result (λ r. HasRecord (stored_on_pages self.old.table) number r) }
+        ensures same { IsWholeTable self.old.table
+            → stored_on_pages self.new.table ≡ stored_on_pages self.old.table }
+        ensures honest { IsWholeTable self.old.table ↔ IsWholeTable self.new.table }
+        ensures counts { counted_on_pages self.new.table ≡ counted_on_pages self.old.table }
+        ensures stays { StaysTable self.old.table self.new.table }
+        ensures fault { IfErr result (FailsTable self.old.table self.new.table) }
     {
         self.table.record(number)
     }
@@ -116,9 +117,9 @@ impl<S: Pages> CommittedTable<S> {
 
     /// A stop of the power now leaves the table that is stored.
     pub fn rests(&self)
-        ensures { ⟦<PagedTable<S> as Table>⟧.is_honest self.now.table → (S.store self.now.table.store).closed ≡ false
+        ensures { IsWholeTable self.now.table → (S.store self.now.table.store).closed ≡ false
             → StopLeaves (S.store self.now.table.store) (Holds (S.store self.now.table.store).root
-            (length (S.store self.now.table.store).marks) self.now.table.pages.items (⟦<PagedTable<S> as Table>⟧.stored self.now.table)) }
+            (length (S.store self.now.table.store).marks) self.now.table.pages.items (stored_on_pages self.now.table)) }
     {}
 
     /// Does so many units of work, or fewer where the table is finished by then, and commits this root. A stop of the power
@@ -132,37 +133,37 @@ impl<S: Pages> CommittedTable<S> {
         root: &[u8; 512],
     ) -> Result<u32, StepFault>
         requires source { M.is_sound source.now }
-        requires limit { (⟦<PagedTable<S> as Table>⟧.counted self.old.table).known ≤ 2 ^ 24 }
-        ensures limit { (⟦<PagedTable<S> as Table>⟧.counted self.new.table).known ≤ 2 ^ 24 }
+        requires limit { (counted_on_pages self.old.table).known ≤ 2 ^ 24 }
+        ensures limit { (counted_on_pages self.new.table).known ≤ 2 ^ 24 }
         ensures honest { OnOk result
-            (⟦<PagedTable<S> as Table>⟧.is_honest self.old.table ↔ ⟦<PagedTable<S> as Table>⟧.is_honest self.new.table) }
-        ensures done { ⟦<PagedTable<S> as Table>⟧.is_honest self.old.table
-            → IsLocallySound (M.graph source.now) (M.is_wide source.now) (⟦<PagedTable<S> as Table>⟧.stored self.old.table)
+            (IsWholeTable self.old.table ↔ IsWholeTable self.new.table) }
+        ensures done { IsWholeTable self.old.table
+            → IsLocallySound (M.graph source.now) (M.is_wide source.now) (stored_on_pages self.old.table)
             → IfOk result (λ done. AreDone (M.graph source.now) (M.is_wide source.now) units
-            (⟦<PagedTable<S> as Table>⟧.stored self.old.table) done (⟦<PagedTable<S> as Table>⟧.stored self.new.table)) }
+            (stored_on_pages self.old.table) done (stored_on_pages self.new.table)) }
         ensures root { OnOk result ((S.store self.new.table.store).root ≡ root.now) }
         ensures kept_root { OnErr result ((S.store self.new.table.store).root ≡ (S.store self.old.table.store).root) }
         ensures kept_honest { OnErr result ((S.store self.new.table.store).closed ≡ false
-            → ⟦<PagedTable<S> as Table>⟧.is_honest self.old.table ↔ ⟦<PagedTable<S> as Table>⟧.is_honest self.new.table) }
-        ensures kept { ⟦<PagedTable<S> as Table>⟧.is_honest self.old.table → OnErr result ((S.store self.new.table.store).closed ≡ false
-            → ⟦<PagedTable<S> as Table>⟧.stored self.new.table ≡ ⟦<PagedTable<S> as Table>⟧.stored self.old.table) }
-        ensures stop { ⟦<PagedTable<S> as Table>⟧.is_honest self.old.table → (S.store self.old.table.store).closed ≡ false
-            → IsLocallySound (M.graph source.now) (M.is_wide source.now) (⟦<PagedTable<S> as Table>⟧.stored self.old.table)
+            → IsWholeTable self.old.table ↔ IsWholeTable self.new.table) }
+        ensures kept { IsWholeTable self.old.table → OnErr result ((S.store self.new.table.store).closed ≡ false
+            → stored_on_pages self.new.table ≡ stored_on_pages self.old.table) }
+        ensures stop { IsWholeTable self.old.table → (S.store self.old.table.store).closed ≡ false
+            → IsLocallySound (M.graph source.now) (M.is_wide source.now) (stored_on_pages self.old.table)
             → LeavesOnly (S.store self.old.table.store).disk (S.store self.new.table.store).disk
             (IsLeftByTurn (M.graph source.now) (M.is_wide source.now) units (S.store self.old.table.store) self.old.table.pages.items
-            (⟦<PagedTable<S> as Table>⟧.stored self.old.table) root.now) }
-        ensures kept_stop { ⟦<PagedTable<S> as Table>⟧.is_honest self.old.table
+            (stored_on_pages self.old.table) root.now) }
+        ensures kept_stop { IsWholeTable self.old.table
             → OnErr result ((S.store self.new.table.store).closed ≡ false
             → LeavesOnly (S.store self.old.table.store).disk (S.store self.new.table.store).disk
             (Holds (S.store self.old.table.store).root (length (S.store self.old.table.store).marks) self.old.table.pages.items
-            (⟦<PagedTable<S> as Table>⟧.stored self.old.table))) }
+            (stored_on_pages self.old.table))) }
         ensures cause { IfErr result (TurnCause self.old.table.torn (S.store self.old.table.store) (S.store self.new.table.store)) }
-        ensures refusal { ⟦<PagedTable<S> as Table>⟧.is_honest self.old.table
-            → IsLocallySound (M.graph source.now) (M.is_wide source.now) (⟦<PagedTable<S> as Table>⟧.stored self.old.table)
+        ensures refusal { IsWholeTable self.old.table
+            → IsLocallySound (M.graph source.now) (M.is_wide source.now) (stored_on_pages self.old.table)
             → IfErr result (λ fault. IsRefusal fault
-            → StopsWith (M.graph source.now) (M.is_wide source.now) (⟦<PagedTable<S> as Table>⟧.stored self.old.table) units fault) }
-        ensures consistent { ⟦<PagedTable<S> as Table>⟧.is_honest self.old.table
-            → IsLocallySound (M.graph source.now) (M.is_wide source.now) (⟦<PagedTable<S> as Table>⟧.stored self.old.table)
+            → StopsWith (M.graph source.now) (M.is_wide source.now) (stored_on_pages self.old.table) units fault) }
+        ensures consistent { IsWholeTable self.old.table
+            → IsLocallySound (M.graph source.now) (M.is_wide source.now) (stored_on_pages self.old.table)
             → result ≡ Err Inconsistent → ⊥ }
     {
         self.table.turn(alloc, source, units, root)

@@ -3,7 +3,7 @@ ghost use Rattle.std.specs.Prelude.{◌≡◌, ◌+◌, ◌-◌, ◌<◌, ◌≤
 ghost use Rattle.retrograde.specs.Changes.{fresh_record};
 ghost use Rattle.table.specs.InMemory.{stored_in};
 ghost use Rattle.paged_table.specs.Places.{IsPageThere};
-ghost use Rattle.paged_table.specs.Paged.{stored_of, counted_of, StaysWhole, IsHonest, Stays, PagedGoesOn, Fails};
+ghost use Rattle.paged_table.specs.Paged.{StaysWhole, IsHonest};
 ghost use Rattle.paged_table.specs.aid.Frames as frames;
 
 use crate::place::{fetch, put_again, put_new};
@@ -63,17 +63,19 @@ fn page_at(pages: &[u32], number: u32) -> Option<u32>
 }
 
 impl<S: Pages> Table for PagedTable<S> {
-    ghost stored = { λ t. stored_of (stored_in t.memory) t.pages.items (S.store t.store) };
+    ghost use Rattle.paged_table.specs.InPages.{stored_on_pages, counted_on_pages, IsWholeTable, StaysTable, GoesOnTable, FailsTable};
 
-    ghost is_honest = { λ t. IsHonest t.torn (S.store t.store) };
+    ghost stored = { stored_on_pages };
 
-    ghost counted = { λ t. counted_of (stored_in t.memory) t.expanded t.processed };
+    ghost is_honest = { IsWholeTable };
 
-    ghost stays = { λ was is. Stays was.torn was.pages.items (S.store was.store) is.torn is.pages.items (S.store is.store) };
+    ghost counted = { counted_on_pages };
 
-    ghost goes_on = { λ was is. PagedGoesOn was.torn (S.store was.store) is.torn (S.store is.store) };
+    ghost stays = { StaysTable };
 
-    ghost fails = { λ was is fault. Fails was.torn (S.store was.store) (S.store is.store) fault };
+    ghost goes_on = { GoesOnTable };
+
+    ghost fails = { FailsTable };
 
     ghost counts_are = { λ t honest.
         frames.counts_are (stored_in t.memory) t.expanded t.processed t.pages.items (S.store t.store) (t.whole honest) };

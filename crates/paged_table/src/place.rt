@@ -3,7 +3,7 @@ ghost use Rattle.std.specs.Prelude.{◌≡◌, ◌≢◌, ◌≤◌, ◌<◌, le
 ghost use Rattle.page_store.specs.Store.{reads, StoreWorks, IsUnchanged};
 ghost use Rattle.table.specs.declared.fault.TableFault.TheVariants.{Disk};
 ghost use Rattle.paged_table.specs.Page.{record_in};
-ghost use Rattle.paged_table.specs.Places.{fault_of, RecordReadCause, PlaceCause, IsRecordAdded, IsRenewed};
+ghost use Rattle.paged_table.specs.aid.Places.{fault_of, RecordReadCause, PlaceCause, IsRecordAdded, IsRenewed};
 
 use crate::page::{page_of, record_of};
 use page_store::{PageFault, Pages};

@@ -6,8 +6,7 @@ ghost use Rattle.retrograde.specs.Sound.{IsLocallySound};
 ghost use Rattle.frontier.specs.Causes.{IsRefusal};
 ghost use Rattle.frontier.specs.declared.fault.StepFault.TheVariants.{Inconsistent};
 ghost use Rattle.table_work.specs.Work.{AreDone, StopsWith};
-ghost use Rattle.table.specs.InMemory.{stored_in};
-ghost use Rattle.paged_table.specs.Paged.{IsHonest, stored_of};
+ghost use Rattle.paged_table.specs.InPages.{stored_on_pages, counted_on_pages, IsWholeTable};
 ghost use Rattle.paged_table.specs.Turns.{Holds, TurnCause, IsLeftByTurn};
 ghost use Rattle.paged_table.specs.aid.Turns.{IsGivenUp};
 
@@ -36,29 +35,29 @@ fn work_and_commit<M: MoveSource, S: Pages>(
     root: &[u8; 512],
 ) -> Result<u32, StepFault>
     requires source { M.is_sound source.now }
-    requires limit { (⟦<PagedTable<S> as Table>⟧.counted table.old).known ≤ 2 ^ 24 }
-    ensures limit { OnOk result ((⟦<PagedTable<S> as Table>⟧.counted table.new).known ≤ 2 ^ 24) }
-    ensures honest { OnOk result (⟦<PagedTable<S> as Table>⟧.is_honest table.old ↔ ⟦<PagedTable<S> as Table>⟧.is_honest table.new) }
-    ensures done { ⟦<PagedTable<S> as Table>⟧.is_honest table.old
-        → IsLocallySound (M.graph source.now) (M.is_wide source.now) (⟦<PagedTable<S> as Table>⟧.stored table.old)
+    requires limit { (counted_on_pages table.old).known ≤ 2 ^ 24 }
+    ensures limit { OnOk result ((counted_on_pages table.new).known ≤ 2 ^ 24) }
+    ensures honest { OnOk result (IsWholeTable table.old ↔ IsWholeTable table.new) }
+    ensures done { IsWholeTable table.old
+        → IsLocallySound (M.graph source.now) (M.is_wide source.now) (stored_on_pages table.old)
         → IfOk result (λ done. AreDone (M.graph source.now) (M.is_wide source.now) units
-        (⟦<PagedTable<S> as Table>⟧.stored table.old) done (⟦<PagedTable<S> as Table>⟧.stored table.new)) }
+        (stored_on_pages table.old) done (stored_on_pages table.new)) }
     ensures calm { IsCalm (S.store table.old.store) → OnOk result (IsCalm (S.store table.new.store)) }
     ensures root { OnOk result ((S.store table.new.store).root ≡ root.now) }
     ensures left { OnErr result (IsGivenUp (S.store table.old.store) (S.store table.new.store)) }
-    ensures stop { ⟦<PagedTable<S> as Table>⟧.is_honest table.old → (S.store table.old.store).closed ≡ false
+    ensures stop { IsWholeTable table.old → (S.store table.old.store).closed ≡ false
         → IsCalm (S.store table.old.store)
-        → IsLocallySound (M.graph source.now) (M.is_wide source.now) (⟦<PagedTable<S> as Table>⟧.stored table.old)
+        → IsLocallySound (M.graph source.now) (M.is_wide source.now) (stored_on_pages table.old)
         → LeavesOnly (S.store table.old.store).disk (S.store table.new.store).disk
         (IsLeftByTurn (M.graph source.now) (M.is_wide source.now) units (S.store table.old.store) table.old.pages.items
-        (⟦<PagedTable<S> as Table>⟧.stored table.old) root.now) }
+        (stored_on_pages table.old) root.now) }
     ensures cause { IfErr result (TurnCause table.old.torn (S.store table.old.store) (S.store table.new.store)) }
-    ensures refusal { ⟦<PagedTable<S> as Table>⟧.is_honest table.old
-        → IsLocallySound (M.graph source.now) (M.is_wide source.now) (⟦<PagedTable<S> as Table>⟧.stored table.old)
+    ensures refusal { IsWholeTable table.old
+        → IsLocallySound (M.graph source.now) (M.is_wide source.now) (stored_on_pages table.old)
         → IfErr result (λ fault. IsRefusal fault
-        → StopsWith (M.graph source.now) (M.is_wide source.now) (⟦<PagedTable<S> as Table>⟧.stored table.old) units fault) }
-    ensures consistent { ⟦<PagedTable<S> as Table>⟧.is_honest table.old
-        → IsLocallySound (M.graph source.now) (M.is_wide source.now) (⟦<PagedTable<S> as Table>⟧.stored table.old)
+        → StopsWith (M.graph source.now) (M.is_wide source.now) (stored_on_pages table.old) units fault) }
+    ensures consistent { IsWholeTable table.old
+        → IsLocallySound (M.graph source.now) (M.is_wide source.now) (stored_on_pages table.old)
         → result ≡ Err Inconsistent → ⊥ }
 {
     let done = work(alloc, source, table, units)?;
@@ -84,37 +83,37 @@ impl<S: Pages> PagedTable<S> {
         root: &[u8; 512],
     ) -> Result<u32, StepFault>
         requires source { M.is_sound source.now }
-        requires limit { (⟦<PagedTable<S> as Table>⟧.counted self.old).known ≤ 2 ^ 24 }
+        requires limit { (counted_on_pages self.old).known ≤ 2 ^ 24 }
         requires calm { IsCalm (S.store self.old.store) }
-        ensures limit { (⟦<PagedTable<S> as Table>⟧.counted self.new).known ≤ 2 ^ 24 }
+        ensures limit { (counted_on_pages self.new).known ≤ 2 ^ 24 }
         ensures calm { IsCalm (S.store self.new.store) }
-        ensures honest { OnOk result (⟦<PagedTable<S> as Table>⟧.is_honest self.old ↔ ⟦<PagedTable<S> as Table>⟧.is_honest self.new) }
-        ensures done { ⟦<PagedTable<S> as Table>⟧.is_honest self.old
-            → IsLocallySound (M.graph source.now) (M.is_wide source.now) (⟦<PagedTable<S> as Table>⟧.stored self.old)
+        ensures honest { OnOk result (IsWholeTable self.old ↔ IsWholeTable self.new) }
+        ensures done { IsWholeTable self.old
+            → IsLocallySound (M.graph source.now) (M.is_wide source.now) (stored_on_pages self.old)
             → IfOk result (λ done. AreDone (M.graph source.now) (M.is_wide source.now) units
-            (⟦<PagedTable<S> as Table>⟧.stored self.old) done (⟦<PagedTable<S> as Table>⟧.stored self.new)) }
+            (stored_on_pages self.old) done (stored_on_pages self.new)) }
         ensures root { OnOk result ((S.store self.new.store).root ≡ root.now) }
         ensures kept_root { OnErr result ((S.store self.new.store).root ≡ (S.store self.old.store).root) }
         ensures kept_honest { OnErr result ((S.store self.new.store).closed ≡ false
-            → ⟦<PagedTable<S> as Table>⟧.is_honest self.old ↔ ⟦<PagedTable<S> as Table>⟧.is_honest self.new) }
-        ensures kept { ⟦<PagedTable<S> as Table>⟧.is_honest self.old → OnErr result ((S.store self.new.store).closed ≡ false
-            → ⟦<PagedTable<S> as Table>⟧.stored self.new ≡ ⟦<PagedTable<S> as Table>⟧.stored self.old) }
-        ensures stop { ⟦<PagedTable<S> as Table>⟧.is_honest self.old → (S.store self.old.store).closed ≡ false
-            → IsLocallySound (M.graph source.now) (M.is_wide source.now) (⟦<PagedTable<S> as Table>⟧.stored self.old)
+            → IsWholeTable self.old ↔ IsWholeTable self.new) }
+        ensures kept { IsWholeTable self.old → OnErr result ((S.store self.new.store).closed ≡ false
+            → stored_on_pages self.new ≡ stored_on_pages self.old) }
+        ensures stop { IsWholeTable self.old → (S.store self.old.store).closed ≡ false
+            → IsLocallySound (M.graph source.now) (M.is_wide source.now) (stored_on_pages self.old)
             → LeavesOnly (S.store self.old.store).disk (S.store self.new.store).disk
             (IsLeftByTurn (M.graph source.now) (M.is_wide source.now) units (S.store self.old.store) self.old.pages.items
-            (⟦<PagedTable<S> as Table>⟧.stored self.old) root.now) }
-        ensures kept_stop { ⟦<PagedTable<S> as Table>⟧.is_honest self.old → OnErr result ((S.store self.new.store).closed ≡ false
+            (stored_on_pages self.old) root.now) }
+        ensures kept_stop { IsWholeTable self.old → OnErr result ((S.store self.new.store).closed ≡ false
             → LeavesOnly (S.store self.old.store).disk (S.store self.new.store).disk
             (Holds (S.store self.old.store).root (length (S.store self.old.store).marks) self.old.pages.items
-            (⟦<PagedTable<S> as Table>⟧.stored self.old))) }
+            (stored_on_pages self.old))) }
         ensures cause { IfErr result (TurnCause self.old.torn (S.store self.old.store) (S.store self.new.store)) }
-        ensures refusal { ⟦<PagedTable<S> as Table>⟧.is_honest self.old
-            → IsLocallySound (M.graph source.now) (M.is_wide source.now) (⟦<PagedTable<S> as Table>⟧.stored self.old)
+        ensures refusal { IsWholeTable self.old
+            → IsLocallySound (M.graph source.now) (M.is_wide source.now) (stored_on_pages self.old)
             → IfErr result (λ fault. IsRefusal fault
-            → StopsWith (M.graph source.now) (M.is_wide source.now) (⟦<PagedTable<S> as Table>⟧.stored self.old) units fault) }
-        ensures consistent { ⟦<PagedTable<S> as Table>⟧.is_honest self.old
-            → IsLocallySound (M.graph source.now) (M.is_wide source.now) (⟦<PagedTable<S> as Table>⟧.stored self.old)
+            → StopsWith (M.graph source.now) (M.is_wide source.now) (stored_on_pages self.old) units fault) }
+        ensures consistent { IsWholeTable self.old
+            → IsLocallySound (M.graph source.now) (M.is_wide source.now) (stored_on_pages self.old)
             → result ≡ Err Inconsistent → ⊥ }
     {
         let memory = self.memory.copy()?;

@@ -5,8 +5,7 @@ use Rattle.std.specs.List.{flat_map}
 use Rattle.std.proofs.lemmas.List.Concat.{flat_map-cons}
 use Rattle.std.proofs.lemmas.List.{flat_map_more, length_push, map_push}
 use Rattle.position_pack.specs.Texts.{with_commas}
-use Rattle.position_pack.specs.Spelled.{IsCut, IsWritten}
-use Rattle.position_pack.specs.aid.Spelled.{AreWritten}
+use Rattle.position_pack.specs.aid.Spelled.{IsCut, IsWritten, AreWritten}
 use Rattle.position_pack.proofs.TellLemmas.{Lacks, lacks, before, commas}
 use Rattle.position_pack.proofs.WordLemmas.{not_cut}
 use Rattle.position_pack.proofs.ValueBytes.{one_more}

@@ -5,7 +5,8 @@ use Rattle.std.proofs.lemmas.List.{length-append, take-append-drop}
 use Rattle.rbg_game.specs.declared.position.Position.{Position}
 use Rattle.position_pack.specs.Shape.{Shape}
 use Rattle.position_pack.specs.Fields.{role_code}
-use Rattle.position_pack.specs.Bytes.{AreValues, IsPacked}
+use Rattle.position_pack.specs.Bytes.{IsPacked}
+use Rattle.position_pack.specs.aid.Bytes.{AreValues}
 use Rattle.position_pack.proofs.ValueBytes.{spelled, spelled-cons}
 
 pub length-spelled : (vs : List ℕ) → length (spelled vs) ≡ 3 * length vs

@@ -10,8 +10,8 @@ use Rattle.rbg_game.specs.Sound.{IsSoundGame}
 use Rattle.rbg_game.specs.Names.{HasProperNames}
 use Rattle.rbg_game.specs.declared.position.Position.{Position}
 use Rattle.position_pack.specs.Texts.{piece_name, vertex_name, role_text, with_commas}
-use Rattle.position_pack.specs.Spelled.{IsSpelled, AreWords, IsDecimal, IsVertex}
-use Rattle.position_pack.specs.aid.Spelled.{ArePieces, AreNumbers}
+use Rattle.position_pack.specs.Spelled.{IsSpelled}
+use Rattle.position_pack.specs.aid.Spelled.{AreWords, IsDecimal, IsVertex, ArePieces, AreNumbers}
 use Rattle.position_pack.proofs.ShapeLemmas.{small_shape, bound_is}
 use Rattle.position_pack.proofs.TellLemmas.{Lacks, lacks, before, digits_lack, role_lacks, vertex_lacks, pieces_space, place_low, nested}
 

@@ -6,7 +6,7 @@ use Rattle.std.specs.Str.Parse.{IsNumeral, AllDigits, digits_value, without_lead
 use Rattle.std.proofs.lemmas.Fmt.{decimal_digit, decimal_is_IsNumeral, decimal-digits_value, first_decimal}
 use Rattle.std.proofs.lemmas.Str.Parse.{IsNumeralModel, numerals_by_value, tells_digits, without_leading_plus_none}
 use Rattle.std.proofs.lemmas.List.{get_or_at, length-append}
-use Rattle.position_pack.specs.Spelled.{IsCut, AreWords}
+use Rattle.position_pack.specs.aid.Spelled.{IsCut, AreWords}
 use Rattle.position_pack.proofs.TellLemmas.{before, lacks}
 
 -- a text without the byte is not cut

@@ -1,5 +1,5 @@
 -- A position as bytes, by packing 1.
-use Rattle.std.specs.Prelude.{◌≡◌, ℕ, ◌≤◌, List, ◌∷◌, ◌++◌, length, EachIndex, slice_index}
+use Rattle.std.specs.Prelude.{◌≡◌, ℕ, List, ◌∷◌, ◌++◌}
 use Rattle.std.specs.List.{flat_map}
 use Rattle.std.specs.Int.{bytes_high_first}
 use Rattle.rbg_game.specs.declared.position.Position.{Position}
@@ -11,12 +11,6 @@ abbrev pub bytes_of : Position → List ℕ
 bytes_of at =
     at.state.pieces.items ++ flat_map
     (bytes_high_first 3) at.state.values.items ++ at.state.vertex ∷ role_code at.state.mover ∷ bytes_high_first 2 at.place
-
--- the bytes are three for each value, and each value is within its bound
-pub record AreValues (bytes bounds values : List ℕ) : Type 0 where
-  pub bytes_are : bytes ≡ flat_map (bytes_high_first 3) values
-  pub as_many : length values ≡ length bounds
-  pub within : EachIndex values (λ v. slice_index values v ≤ slice_index bounds v)
 
 -- the bytes are those of the position, whose fields are in their ranges
 pub record IsPacked (shape : Shape) (at : Position) (bytes : List ℕ) : Type 0 where

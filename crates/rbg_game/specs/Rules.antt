@@ -29,7 +29,7 @@ abbrev pub cat_all : List Regex → Regex
 cat_all [] = empty
 cat_all (a ∷ rest) = fold cat a rest
 
--- one of them, from the left: (a + b) + c; one branch alone is itself
+-- one of them, from the left: (a + b) + c; one branch alone is itself; no text has a sum of no branches, which is the empty word here
 abbrev pub alt_all : List Regex → Regex
 alt_all [] = empty
 alt_all (a ∷ rest) = fold alt a rest

@@ -3,8 +3,7 @@ use Rattle.std.proofs.Common.{◌≡◌, List, [], ◌∷◌, map, Some, Vec, Gl
 use Rattle.std.specs.Prelude.{option_map}
 use Rattle.rbg_text.specs.Said.{declaration_view, vertex_view}
 use Rattle.rbg_text.specs.View.{step_view}
-use Rattle.rbg_read.specs.Parts.{only, at_most_one, parts_of, parts_view}
-use Rattle.rbg_read.specs.aid.Parts.{kinds_view}
+use Rattle.rbg_read.specs.aid.Parts.{only, at_most_one, parts_of, parts_view, kinds_view}
 use Rattle.rbg_read.specs.declared.parts.Parts.{Parts}
 use Rattle.rbg_read.specs.declared.parts.Sections.{Sections}
 

@@ -14,9 +14,9 @@ use Rattle.rbg_text.proofs.Splitting.{splits-lex, lex-splits}
 use Rattle.rbg_text.proofs.ExpressionsComplete.{state}
 use Rattle.rbg_text.proofs.ReadSections.{spelled, unspelled}
 use Rattle.rbg_game.specs.Games.{Game}
-use Rattle.rbg_read.specs.Parts.{Parts, collected, known_of}
-use Rattle.rbg_read.specs.Flat.{flat_cause}
-use Rattle.rbg_read.specs.Build.{flat_game}
+use Rattle.rbg_read.specs.aid.Parts.{Parts, collected, known_of}
+use Rattle.rbg_read.specs.aid.Flat.{flat_cause}
+use Rattle.rbg_read.specs.aid.Build.{flat_game}
 use Rattle.rbg_read.specs.Reading.{Reads, Fault, too_long, stray_byte, nested, grammar}
 use Rattle.rbg_read.specs.declared.fault.GameFault.{GameFault}
 use Rattle.rbg_read.specs.declared.fault.GameFault.TheVariants as cause

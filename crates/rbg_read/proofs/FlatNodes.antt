@@ -12,7 +12,7 @@ use Rattle.rbg_game.specs.declared.rules.Rules.{Rules, Rules-F, out-Rules, out-r
 use Rattle.rbg_game.specs.declared.rules.Rules.TheVariants as r
 use Rattle.rbg_game.proofs.MeaningLemmas.{expression_of-Sum, expression_of-Product, regex_of-Concat, regex_of-Sum}
 use Rattle.rbg_game.proofs.DepthLemmas.{deepest_push, expression_depth-Sum, expression_depth-Product, rules_depth-Concat, rules_depth-Sum}
-use Rattle.rbg_read.specs.Depths.{Depths, sum_of, product_of, expression_depths, rules_depths, action_depth, expression_level, depths_of_expression, rules_level, depths_of_rules, AreWithin, IsFlatExpression, AreFlatRules}
+use Rattle.rbg_read.specs.aid.Depths.{Depths, sum_of, product_of, expression_depths, rules_depths, action_depth, expression_level, depths_of_expression, rules_level, depths_of_rules, AreWithin, IsFlatExpression, AreFlatRules}
 use Rattle.rbg_read.proofs.StepSizes.{fold_push}
 
 -- ---- depths

@@ -10,8 +10,7 @@ use Rattle.rbg_text.specs.Token.{Text}
 use Rattle.rbg_read.specs.Means.{first_appearances}
 use Rattle.rbg_text.specs.Said.{arrow_view, vertex_view}
 use Rattle.rbg_text.specs.declared.sections.Vertex.{Vertex}
-use Rattle.rbg_read.specs.Parts.{labels_in}
-use Rattle.rbg_read.specs.aid.Parts.{with_label}
+use Rattle.rbg_read.specs.aid.Parts.{labels_in, with_label}
 use Rattle.rbg_read.proofs.Lists.{map_map}
 
 is_new : List Text → Text → Bool

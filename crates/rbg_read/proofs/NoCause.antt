@@ -5,8 +5,8 @@ use Rattle.std.specs.List.{list_any}
 use Rattle.std.proofs.lemmas.Bool.{or_parts, eqb-true, ltb-false, not-false}
 use Rattle.std.proofs.lemmas.List.{length-map, length-append}
 use Rattle.rbg_text.specs.Said.{declaration_view}
-use Rattle.rbg_read.specs.Flat.{flat_cause, uses_unknown, repeats_name, has_large, is_past_a_limit, is_large_number, has_large_bound}
-use Rattle.rbg_read.specs.Parts.{Parts, Known, known_of, AreFew, parts_view}
+use Rattle.rbg_read.specs.aid.Flat.{flat_cause, uses_unknown, repeats_name, has_large, is_past_a_limit, is_large_number, has_large_bound}
+use Rattle.rbg_read.specs.aid.Parts.{Parts, Known, known_of, AreFew, parts_view}
 use Rattle.rbg_read.specs.declared.fault.GameFault.{GameFault}
 use Rattle.rbg_read.specs.declared.parts.Parts.{Parts as CodeParts}
 use Rattle.rbg_read.proofs.Lists.{any_map}

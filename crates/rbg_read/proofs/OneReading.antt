@@ -12,9 +12,9 @@ use Rattle.rbg_text.proofs.SectionsNesting.{all_shallow}
 use Rattle.rbg_game.specs.Games.{Game}
 use Rattle.rbg_read.specs.Causes.{first_cause}
 use Rattle.rbg_read.specs.Means.{Means}
-use Rattle.rbg_read.specs.Parts.{Parts, collected, known_of}
-use Rattle.rbg_read.specs.Flat.{flat_cause}
-use Rattle.rbg_read.specs.Build.{flat_game}
+use Rattle.rbg_read.specs.aid.Parts.{Parts, collected, known_of}
+use Rattle.rbg_read.specs.aid.Flat.{flat_cause}
+use Rattle.rbg_read.specs.aid.Build.{flat_game}
 use Rattle.rbg_read.specs.Reading.{Reads, reads, Fault, too_long, stray_byte, nested, grammar, first}
 use Rattle.rbg_read.specs.declared.fault.GameFault.{GameFault}
 use Rattle.rbg_read.specs.declared.fault.GameFault.TheVariants as cause

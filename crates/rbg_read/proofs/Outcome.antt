@@ -12,9 +12,9 @@ use Rattle.rbg_text.specs.declared.fault.ReadError.TheVariants.{Memory, Syntax}
 use Rattle.rbg_game.specs.Games.{Game}
 use Rattle.rbg_read.specs.Causes.{has_wrong_sections, first_cause}
 use Rattle.rbg_read.specs.Means.{Means}
-use Rattle.rbg_read.specs.Parts.{Parts, Known, collected, known_of}
-use Rattle.rbg_read.specs.Flat.{flat_cause}
-use Rattle.rbg_read.specs.Build.{flat_game}
+use Rattle.rbg_read.specs.aid.Parts.{Parts, Known, collected, known_of}
+use Rattle.rbg_read.specs.aid.Flat.{flat_cause}
+use Rattle.rbg_read.specs.aid.Build.{flat_game}
 use Rattle.rbg_read.specs.ReadFaults.{fault_of}
 use Rattle.rbg_read.specs.Reading.{Reads, reads, Fault, first}
 use Rattle.rbg_read.specs.declared.fault.GameFault.{GameFault}

@@ -1,12 +1,13 @@
 -- The names of a game that a text reads to are proper.
-use Rattle.std.proofs.Common.{◌≡◌, ◌≢◌, ℕ, zero, suc, ◌+◌, ◌<◌, Bool, true, false, List, [], ◌∷◌, ◌++◌, length, get_or, map, All, refl, sym, ap, ◌∙◌, subst, inl, inr, arith}
-use Rattle.std.specs.Prelude.{⊤, ◌||◌, AllPairs, IsTrue, None}
+use Rattle.std.proofs.Common.{◌≡◌, ◌≢◌, ℕ, zero, suc, ◌+◌, ◌<◌, Bool, true, false, List, [], ◌∷◌, ◌++◌, length, get_or, map, filter, All, refl, sym, ap, ◌∙◌, subst, inl, inr, arith}
+use Rattle.std.specs.Prelude.{⊤, ◌||◌, not, AllPairs, IsTrue, None}
 use Rattle.std.specs.List.{flat_map, list_all, list_any}
 use Rattle.std.specs.Str.{bytes_eq}
 use Rattle.std.proofs.lemmas.Bool.{or_parts, not_from_true, cases_Bool}
 use Rattle.std.proofs.lemmas.List.{map-append}
 use Rattle.std.proofs.lemmas.List.Concat.{flat_map-cons}
-use Rattle.std.proofs.lemmas.List.Elements.{All-nil, All-cons, All-map, All-append}
+use Rattle.std.proofs.lemmas.List.Elements.{All-nil, All-cons, All-head, All-tail, All-map, All-append, All-filter, filter_passes}
+use Rattle.std.proofs.lemmas.List.Kept.{AllPairs-cons, AllPairs-filter}
 use Rattle.std.proofs.lemmas.List.Folds.{list_any_at, list_all_at}
 use Rattle.std.proofs.lemmas.Slice.Eq.{bytes_eq-Decides}
 use Rattle.rbg_game.specs.Games.{Game}
@@ -16,7 +17,7 @@ use Rattle.rbg_text.specs.Syntax as g
 use Rattle.rbg_text.specs.Syntax.{Tokens, Declaration, Section, Further, after_comma, at_once}
 use Rattle.rbg_text.specs.Said.{further_vertex}
 use Rattle.rbg_text.specs.declared.token.Sign.TheVariants.{Plus, Minus, Star, CloseParen, CloseBracket, CloseBrace}
-use Rattle.rbg_read.specs.Means.{names_of, values_of, players_of, pieces_of, variables_of, vertices_of, declared, vertex, Names}
+use Rattle.rbg_read.specs.Means.{names_of, values_of, players_of, pieces_of, variables_of, vertices_of, declared, vertex, Names, first_appearances}
 use Rattle.rbg_read.specs.Causes.{has_repeat, has_wrong_sections, has_not_two_players, has_unknown_name, has_repeated_name, first_cause}
 use Rattle.rbg_read.proofs.SoundGames.{passed}
 use Rattle.rbg_read.specs.Reading.{Reads, reads}
@@ -123,27 +124,33 @@ arrow_behind : (a : g.WrittenArrow) (rest : Tokens) → Fine (g.arrow a rest) �
 unfolding Fine
 arrow_behind a rest h = (h.0, h.1.1.1)
 
-vertex_behind : (v : g.WrittenVertex) (rest : Tokens) → Fine (g.vertex v rest) → Named v.name × Fine rest
-unfolding Fine
-vertex_behind v rest h = (h.0, (commas_behind g.arrow (λ a. Named a.label) arrow_behind v.arrows (g.mark CloseBrace rest) h.1.1.1.1.1).1.1)
+-- the names of a vertex and of the labels at it
+abbrev NamedVertex : g.WrittenVertex → Type 0
+NamedVertex v = Named v.name × All (λ a. Named a.label) v.arrows
 
-vertices_behind : (more : List Further) (rest : Tokens) → Fine (g.further_vertices more rest) → All (λ v. Named v.name) (map further_vertex more) × Fine rest
+vertex_behind : (v : g.WrittenVertex) (rest : Tokens) → Fine (g.vertex v rest) → NamedVertex v × Fine rest
 unfolding Fine
-vertices_behind [] rest h = (All-nil (λ v. Named v.name), h)
+vertex_behind v rest h =
+    let arrows = commas_behind g.arrow (λ a. Named a.label) arrow_behind v.arrows (g.mark CloseBrace rest) h.1.1.1.1.1 in
+    ((h.0, arrows.0), arrows.1.1)
+
+vertices_behind : (more : List Further) (rest : Tokens) → Fine (g.further_vertices more rest) → All NamedVertex (map further_vertex more) × Fine rest
+unfolding Fine
+vertices_behind [] rest h = (All-nil NamedVertex, h)
 vertices_behind (after_comma v ∷ more) rest h =
     let one = vertex_behind v (g.further_vertices more rest) h.1 in
     let rest2 = vertices_behind more rest one.1 in
-    (All-cons (λ x. Named x.name) v (map further_vertex more) one.0 rest2.0, rest2.1)
+    (All-cons NamedVertex v (map further_vertex more) one.0 rest2.0, rest2.1)
 vertices_behind (at_once v ∷ more) rest h =
     let one = vertex_behind v (g.further_vertices more rest) h in
     let rest2 = vertices_behind more rest one.1 in
-    (All-cons (λ x. Named x.name) v (map further_vertex more) one.0 rest2.0, rest2.1)
+    (All-cons NamedVertex v (map further_vertex more) one.0 rest2.0, rest2.1)
 
 record AreNamed (players : List Declaration) (pieces : List Text) (variables : List Declaration) (vertices : List g.WrittenVertex) : Type 0 where
   players_are : All (λ d. Named d.name) players
   pieces_are : All Named pieces
   variables_are : All (λ d. Named d.name) variables
-  vertices_are : All (λ v. Named v.name) vertices
+  vertices_are : All NamedVertex vertices
 
 abbrev SectionNamed : Section → Type 0
 SectionNamed s = AreNamed (players_of s) (pieces_of s) (variables_of s) (vertices_of s)
@@ -154,8 +161,8 @@ no_declarations = All-nil (λ (d : Declaration). Named d.name)
 no_names : All Named []
 no_names = All-nil Named
 
-no_vertices : All (λ (v : g.WrittenVertex). Named v.name) []
-no_vertices = All-nil (λ (v : g.WrittenVertex). Named v.name)
+no_vertices : All NamedVertex []
+no_vertices = All-nil NamedVertex
 
 section_behind : (s : Section) (rest : Tokens) → Fine (g.section s rest) → SectionNamed s × Fine rest
 unfolding Fine
@@ -171,7 +178,7 @@ section_behind (g.variables all) rest h =
 section_behind (g.board head more) rest h =
     let one = vertex_behind head (g.further_vertices more rest) h.1.1.1 in
     let others = vertices_behind more rest one.1 in
-    (record { players_are = no_declarations; pieces_are = no_names; variables_are = no_declarations; vertices_are = All-cons (λ v. Named v.name) head (map further_vertex more) one.0 others.0 }, others.1)
+    (record { players_are = no_declarations; pieces_are = no_names; variables_are = no_declarations; vertices_are = All-cons NamedVertex head (map further_vertex more) one.0 others.0 }, others.1)
 section_behind (g.rules s) rest h =
     (record { players_are = no_declarations; pieces_are = no_names; variables_are = no_declarations; vertices_are = no_vertices }, sum_behind s rest h.1.1.1)
 
@@ -188,7 +195,7 @@ text_named (s ∷ all) h =
       players_are = more_of (λ d. Named d.name) players_of s all one.0.players_are rest.players_are;
       pieces_are = more_of Named pieces_of s all one.0.pieces_are rest.pieces_are;
       variables_are = more_of (λ d. Named d.name) variables_of s all one.0.variables_are rest.variables_are;
-      vertices_are = more_of (λ v. Named v.name) vertices_of s all one.0.vertices_are rest.vertices_are;
+      vertices_are = more_of NamedVertex vertices_of s all one.0.vertices_are rest.vertices_are;
     }
 
 -- ---- plain names
@@ -218,7 +225,36 @@ differ (x ∷ names) h (suc i) (suc j) d lt within same =
     let parts = or_parts (list_any (bytes_eq x) names) (has_repeat names) h in
     differ names parts.1 i j d (omega (arith, lt)) (omega (arith, within)) same
 
+-- each name that appears is among the first appearances, and none of them twice
+first_named : (P : Text → Type 0) (names : List Text) → All P names → All P (first_appearances names)
+first_named P [] h = h
+first_named P (x ∷ names) h =
+    All-cons P x (filter (λ y. not (bytes_eq x y)) (first_appearances names)) (All-head P x names h)
+    (All-filter (λ y. not (bytes_eq x y)) P (first_appearances names) (first_named P names (All-tail P x names h)))
+
+first_differ : (names : List Text) → AllPairs ◌≢◌ (first_appearances names)
+first_differ [] i j d lt within same = absurd (omega (arith, within))
+first_differ (x ∷ names) =
+    let others = first_appearances names in
+    let apart : All (λ y. x ≢ y) (filter (λ y. not (bytes_eq x y)) others) = λ k d lt same.
+        let passes = filter_passes (λ y. not (bytes_eq x y)) others k d lt in
+        let equal = (bytes_eq-Decides x (get_or (filter (λ y. not (bytes_eq x y)) others) k d)).1 same in
+        cc (passes, equal)
+    in
+    AllPairs-cons ◌≢◌ x (filter (λ y. not (bytes_eq x y)) others) apart
+    (AllPairs-filter ◌≢◌ (λ y. not (bytes_eq x y)) others (first_differ names))
+
 -- ---- the whole
+
+abbrev labels_at : g.WrittenVertex → List Text
+labels_at v = map (λ a. a.label) v.arrows
+
+labels_named : (vs : List g.WrittenVertex) → All NamedVertex vs → All Named (flat_map labels_at vs)
+labels_named [] h = no_names
+labels_named (v ∷ vs) h =
+    subst (All Named) (sym (flat_map-cons labels_at v vs))
+    (All-append Named (labels_at v) (flat_map labels_at vs)
+        (All-map Named (λ a. a.label) v.arrows (All-head NamedVertex v vs h).1) (labels_named vs (All-tail NamedVertex v vs h)))
 
 vertex_names : (names : Names) (vs : List g.WrittenVertex) → map (λ v. v.name) (map (vertex names) vs) ≡ map (λ v. v.name) vs
 vertex_names names [] = refl
@@ -247,12 +283,14 @@ proper text game (reads {ts = ts} {all = all} short flat parses fine means) =
     let board_names : map (λ v. v.name) game.vertices ≡ map (λ v. v.name) vertices = ap (map (λ v. v.name)) means.vertices ∙ vertex_names (names_of all) vertices in
     record {
       pieces_plain = subst (All IsPlainName) (sym means.pieces) (all_plain (flat_map pieces_of all) named.pieces_are);
-      vertices_plain = subst (All IsPlainName) (sym board_names) (all_plain (map (λ v. v.name) vertices) (All-map Named (λ v. v.name) vertices named.vertices_are));
+      vertices_plain = subst (All IsPlainName) (sym board_names) (all_plain (map (λ v. v.name) vertices) (All-map Named (λ v. v.name) vertices (λ k d lt. (named.vertices_are k d lt).0)));
       variables_plain = subst (All IsPlainName) (sym value_names) (all_plain (values_of (names_of all))
           (All-append Named (map (λ d. d.name) players) (map (λ d. d.name) variables) (All-map Named (λ d. d.name) players named.players_are) (All-map Named (λ d. d.name) variables named.variables_are)));
+      labels_plain = subst (All IsPlainName) (sym means.labels) (all_plain (names_of all).labels (first_named Named (flat_map labels_at vertices) (labels_named vertices named.vertices_are)));
       pieces_differ = subst (AllPairs ◌≢◌) (sym means.pieces) (differ (flat_map pieces_of all) first_two.1);
       vertices_differ = subst (AllPairs ◌≢◌) (sym board_names) (differ (map (λ v. v.name) vertices) first_three.1);
       variables_differ = subst (AllPairs ◌≢◌) (sym value_names) (differ (values_of (names_of all)) first_two.0);
+      labels_differ = subst (AllPairs ◌≢◌) (sym means.labels) (first_differ (flat_map labels_at vertices));
     }
   where
     not_repeated : (all : List Section) → first_cause all ≡ None → has_repeated_name all ≡ false

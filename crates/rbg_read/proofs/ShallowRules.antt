@@ -12,7 +12,7 @@ use Rattle.rbg_game.specs.Rules.{Regex, cat}
 use Rattle.rbg_game.specs.Games.{Game}
 use Rattle.rbg_read.specs.Means.{Names, names_of, expression, product_expression, factor_expression, atom_expression, assignment, sum_rules, concat_rules, element_rules, base_rules, rules_of}
 use Rattle.rbg_read.specs.Reading.{Reads, reads}
-use Rattle.rbg_read.specs.Depths.{plain, sum_of, product_of, expression_depths, rules_depths, AreWithin}
+use Rattle.rbg_read.specs.aid.Depths.{plain, sum_of, product_of, expression_depths, rules_depths, AreWithin}
 
 module _ (names : Names) where
   -- ---- expressions

@@ -9,8 +9,8 @@ use Rattle.rbg_text.specs.Postfix.{expr_onto, term_onto, factor_onto, atom_onto,
 use Rattle.rbg_game.specs.Rules.{Regex, Action}
 use Rattle.rbg_read.specs.Means.{Names, values_of, index_of, expression, product_expression, factor_expression, atom_expression, sum_rules, concat_rules, element_rules, base_rules}
 use Rattle.rbg_read.specs.Means as means
-use Rattle.rbg_read.specs.Parts.{Known}
-use Rattle.rbg_read.specs.Resolve.{Stack, empty_stack, push_expression, push_rules, push_action, finished_set, finished, performed, after_step, first_rules, resolved}
+use Rattle.rbg_read.specs.aid.Parts.{Known}
+use Rattle.rbg_read.specs.aid.Resolve.{Stack, empty_stack, push_expression, push_rules, push_action, finished_set, finished, performed, after_step, first_rules, resolved}
 use Rattle.rbg_read.proofs.StepTests.{known_from}
 use Rattle.rbg_read.proofs.StepSizes.{fold_push}
 

@@ -11,7 +11,7 @@ use Rattle.rbg_text.specs.Syntax.{Expr, Assignment, Sum, Concat, Element, Base}
 use Rattle.rbg_text.specs.Parse.{ParseStep}
 use Rattle.rbg_text.specs.Postfix.{expr_onto, term_onto, factor_onto, atom_onto, among_onto, assignment_onto, assignments_onto, sum_onto, concat_onto, element_onto, base_onto}
 use Rattle.rbg_read.specs.Causes.{max_size, size, term_size, factor_size, atom_size, is_large, is_large_term, is_large_factor, is_large_atom, actions_in, actions_in_concat, actions_in_element, actions_in_base, expressions_of}
-use Rattle.rbg_read.specs.Sizes.{next_sizes, has_large_size}
+use Rattle.rbg_read.specs.aid.Sizes.{next_sizes, has_large_size}
 
 pub fold_push : {X Y : Type 0} (f : Y → X → Y) (a : Y) (xs : List X) (x : X) → fold f a (xs ++ x ∷ []) ≡ f (fold f a xs) x
 fold_push f a [] x = refl

@@ -9,7 +9,7 @@ use Rattle.rbg_text.specs.Syntax.{Expr, Assignment, Sum, Concat, Element, Base}
 use Rattle.rbg_text.specs.Parse.{ParseStep}
 use Rattle.rbg_text.specs.Postfix.{expr_onto, term_onto, factor_onto, atom_onto, among_onto, assignment_onto, assignments_onto, sum_onto, concat_onto, element_onto, base_onto}
 use Rattle.rbg_read.specs.Causes.{actions_in, actions_in_concat, actions_in_element, actions_in_base, is_switch, has_switch_inside}
-use Rattle.rbg_read.specs.Switches.{next_flags, has_inner_switch}
+use Rattle.rbg_read.specs.aid.Switches.{next_flags, has_inner_switch}
 use Rattle.rbg_read.proofs.StepSizes.{fold_push}
 
 abbrev Flags : Type 0

@@ -12,8 +12,8 @@ use Rattle.rbg_text.specs.Postfix.{expr_onto, term_onto, factor_onto, atom_onto,
 use Rattle.rbg_game.specs.declared.rules.Comparison.{Comparison}
 use Rattle.rbg_read.specs.Means.{Names, values_of}
 use Rattle.rbg_read.specs.Causes.{names_in, names_in_term, names_in_factor, names_in_atom, literals_in, literals_in_term, literals_in_factor, literals_in_atom, actions_in, actions_in_concat, actions_in_element, actions_in_base, expressions_of, is_unknown, uses_unknown_value, action_uses_unknown, is_too_large, action_count}
-use Rattle.rbg_read.specs.Flat.{step_uses_unknown, is_large_number, is_action}
-use Rattle.rbg_read.specs.Parts.{Known}
+use Rattle.rbg_read.specs.aid.Flat.{step_uses_unknown, is_large_number, is_action}
+use Rattle.rbg_read.specs.aid.Parts.{Known}
 use Rattle.rbg_read.proofs.Lists.{any_map}
 
 -- ---- tests

@@ -13,11 +13,11 @@ use Rattle.rbg_text.specs.Parse.{ParseStep}
 use Rattle.rbg_text.specs.Postfix.{sum_onto}
 use Rattle.rbg_read.specs.Means.{Names, names_of, values_of, players_of, pieces_of, variables_of, vertices_of, rules_of, sum_rules, Means}
 use Rattle.rbg_read.specs.Causes.{actions_in, expressions_of, all_actions, all_expressions, is_players, is_pieces, is_variables, is_board, is_rules, has_wrong_sections, has_not_two_players, vertex_uses_unknown, has_repeated_name, is_large, is_too_large, literals_in, action_uses_unknown, has_switch_inside, action_count, bounds_of, first_cause}
-use Rattle.rbg_read.specs.Parts.{Parts, Kinds, kinds_of, parts_of, collected, players_said, pieces_said, variables_said, board_said, rules_said, known_of}
-use Rattle.rbg_read.specs.Flat.{flat_cause, step_uses_unknown, is_large_number, is_action, bounds}
-use Rattle.rbg_read.specs.Build.{flat_game}
-use Rattle.rbg_read.specs.Sizes.{has_large_size}
-use Rattle.rbg_read.specs.Switches.{has_inner_switch}
+use Rattle.rbg_read.specs.aid.Parts.{Parts, Kinds, kinds_of, parts_of, collected, players_said, pieces_said, variables_said, board_said, rules_said, known_of}
+use Rattle.rbg_read.specs.aid.Flat.{flat_cause, step_uses_unknown, is_large_number, is_action, bounds}
+use Rattle.rbg_read.specs.aid.Build.{flat_game}
+use Rattle.rbg_read.specs.aid.Sizes.{has_large_size}
+use Rattle.rbg_read.specs.aid.Switches.{has_inner_switch}
 use Rattle.rbg_read.specs.declared.fault.GameFault.{GameFault}
 use Rattle.rbg_read.specs.declared.fault.GameFault.TheVariants as cause
 use Rattle.rbg_read.proofs.StepTests.{unknown_names, large_numbers, count_in}

@@ -1,15 +1,8 @@
-pub mod Build
 pub mod Causes
 pub mod Codes
-pub mod Depths
 pub mod Example
-pub mod Flat
 pub mod Means
-pub mod Parts
 pub mod ReadFaults
 pub mod Reading
-pub mod Resolve
-pub mod Sizes
-pub mod Switches
 pub mod TakeText
 pub mod aid

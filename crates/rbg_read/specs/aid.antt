@@ -1,3 +1,6 @@
+pub mod Build
+pub mod Depths
+pub mod Flat
 pub mod Parts
 pub mod Resolve
 pub mod Sizes

@@ -2,7 +2,7 @@
 
 ghost use Rattle.std.specs.Prelude.{◌≡◌, map, reverse, drop, IfOk, if◌then◌else◌};
 ghost use Rattle.rbg_text.specs.View.{step_view};
-ghost use Rattle.rbg_read.specs.Switches as spec;
+ghost use Rattle.rbg_read.specs.aid.Switches as spec;
 ghost use Rattle.rbg_read.specs.aid.Switches.{flags_made};
 
 use rbg_text::parser::Step;

@@ -8,7 +8,7 @@ use Rattle.retrograde.specs.View.{View, HasNumber}
 use Rattle.retrograde.specs.Stored.{Stored, IsTable, view_of}
 use Rattle.retrograde.specs.Audit.{AreSuccessors, AreItsMoves, HasItsMoves, EdgesAreMoves}
 use Rattle.retrograde.specs.Sound.{IsLocallySoundAt, IsLocallySound}
-use Rattle.retrograde.specs.aid.ByEdges.{CountsItsEdges, IsSoundByEdgesAt}
+use Rattle.retrograde.specs.ByEdges.{CountsItsEdges, IsSoundByEdgesAt}
 use Rattle.retrograde.proofs.Finished.{element}
 use Rattle.retrograde.proofs.Listing.{IsOnce, once_from_pairs, pairs_from_once, all_from_contains, count_listed, length_listed, count_alike, length_alike, number_in, position_in, as_many, numbers_once, positions_once, Those, those}
 

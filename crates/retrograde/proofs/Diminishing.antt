@@ -16,7 +16,7 @@ use Rattle.retrograde.specs.Local.{end_value, IsMoveValue, IsLocalValue, at_end,
 use Rattle.retrograde.specs.Stored.{Stored, HasRecord, FitsState, IsTable, is_expanded, is_processed, is_settled, processed_in, value_of, view_of, expanded_count, processed_count, count_below}
 use Rattle.retrograde.specs.Audit.{IsReached}
 use Rattle.retrograde.specs.Sound.{IsLocallySound}
-use Rattle.retrograde.specs.aid.ByEdges.{CountsItsEdges, IsSoundByEdgesAt}
+use Rattle.retrograde.specs.ByEdges.{CountsItsEdges, IsSoundByEdgesAt}
 use Rattle.retrograde.specs.Steps.{IsLocallyRight, IsDue, ProcessesNext}
 use Rattle.retrograde.specs.Processing.{has_turn, is_open, is_due, lowered, processed_record, with_processed_alone, IsNextSettled}
 use Rattle.retrograde.specs.aid.Processing.{with_processed}

@@ -19,7 +19,7 @@ use Rattle.retrograde.specs.Local.{end_value, IsMoveValue, IsLocalValue, at_end,
 use Rattle.retrograde.specs.Stored.{Stored, HasRecord, FitsState, IsTable, is_expanded, is_processed, is_settled, processed_in, value_of, view_of, expanded_count, processed_count, settled_count, count_below}
 use Rattle.retrograde.specs.Audit.{IsReached, EdgesAreMoves}
 use Rattle.retrograde.specs.Sound.{IsLocallySound}
-use Rattle.retrograde.specs.aid.ByEdges.{CountsItsEdges, IsSoundByEdgesAt}
+use Rattle.retrograde.specs.ByEdges.{CountsItsEdges, IsSoundByEdgesAt}
 use Rattle.retrograde.specs.Successors.{IsSuccessorList}
 use Rattle.retrograde.specs.Changes.{fresh_record, with_record}
 use Rattle.retrograde.specs.Expands.{expanded_record, won_record}

@@ -14,7 +14,7 @@ use Rattle.retrograde.specs.Local.{IsLocalValue, at_end, by_moves, HasLocalValue
 use Rattle.retrograde.specs.Stored.{Stored, HasRecord, FitsState, is_expanded, is_processed, processed_in, value_of, view_of, expanded_count, processed_count, count_below}
 use Rattle.retrograde.specs.Audit.{IsReached}
 use Rattle.retrograde.specs.Sound.{IsLocallySound}
-use Rattle.retrograde.specs.aid.ByEdges.{CountsItsEdges, IsSoundByEdgesAt}
+use Rattle.retrograde.specs.ByEdges.{CountsItsEdges, IsSoundByEdgesAt}
 use Rattle.retrograde.proofs.Finished.{is_some_at, element}
 use Rattle.retrograde.proofs.Local.{right, full_from_some, end_value_some}
 use Rattle.retrograde.proofs.Counting.{counted, some_counted, only_one}

@@ -6,6 +6,7 @@ pub mod Local
 pub mod Stored
 pub mod Audit
 pub mod Sound
+pub mod ByEdges
 pub mod Verdicts
 pub mod aid
 pub mod Successors

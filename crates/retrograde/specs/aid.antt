@@ -1,3 +1,2 @@
-pub mod ByEdges
 pub mod Expansion
 pub mod Processing

@@ -13,7 +13,7 @@ ghost use Rattle.retrograde.specs.Stored.{Stored, IsTable, view_of, loaded, expa
 ghost use Rattle.retrograde.specs.Audit.{AreSuccessors, AreItsMoves, HasItsMoves, HasItsEdges};
 ghost use Rattle.retrograde.specs.Sound.{IsLocallySoundAt, IsLocallySound};
 ghost use Rattle.retrograde.specs.Verdicts.{Verdict, right, IsVerdict, IsVerdictOf};
-ghost use Rattle.retrograde.specs.aid.ByEdges.{IsSoundByEdgesAt};
+ghost use Rattle.retrograde.specs.ByEdges.{IsSoundByEdgesAt};
 ghost use Rattle.retrograde.specs.Play.{IsPlay};
 ghost use Rattle.retrograde.specs.Units.{UnitsOfWork};
 ghost use Rattle.retrograde.specs.Successors.{packed_cmp};

@@ -8,8 +8,7 @@ use Rattle.sector_disk.specs.declared.log.Event.{Event}
 use Rattle.sector_disk.specs.declared.log.Event.TheVariants.{Wrote, Synced}
 use Rattle.sector_disk.specs.Disk.{Picture, sector, MayLeave}
 use Rattle.sector_disk.specs.Past.{before, undone, synced_after, memory_disk}
-use Rattle.sector_disk.specs.Log.{IsLastSyncOf, IsAsAtSync}
-use Rattle.sector_disk.specs.aid.Log.{last_by}
+use Rattle.sector_disk.specs.aid.Log.{IsLastSyncOf, IsAsAtSync, last_by}
 use Rattle.sector_disk.specs.Stops.{IsLastSync, IsPickedBy, unsynced_below, digit, torn, left_at}
 use Rattle.sector_disk.proofs.Kept.{synced_after-push, stop_leaves}
 

@@ -1,8 +1,7 @@
 //! What a disk in memory keeps of its past: each write with the bytes that it wrote over, and each sync.
 ghost use Rattle.std.specs.Prelude.{◌≡◌, ◌<◌, ℕ, true, length, slice_index_or, IfOk};
 ghost use Rattle.sector_disk.specs.Past.{before, synced_after, synced_by};
-ghost use Rattle.sector_disk.specs.Log.{IsAsAtSync, IsLastSyncOf};
-ghost use Rattle.sector_disk.specs.aid.Log.{last_by};
+ghost use Rattle.sector_disk.specs.aid.Log.{IsAsAtSync, IsLastSyncOf, last_by};
 
 use std::alloc::{AllocError, Global};
 

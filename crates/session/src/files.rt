@@ -36,7 +36,7 @@ const LEAST_PAGES: u32 = 16;
 const PAGE: u64 = 4_096;
 
 /// Makes a file of so many pages and the empty table in it. A table that is there is not touched, and with too few pages
-/// no file is made or changed.
+/// no file is made or changed. A new file goes again if no table came to be in it.
 pub fn create_file(rt: &HostRuntime, alloc: Global, name: &str, pages: u32) -> u8 {
     let found = match opened(rt, name) {
         Ok(mut file) => match begins_as_a_table(&mut file) {
@@ -55,10 +55,21 @@ pub fn create_file(rt: &HostRuntime, alloc: Global, name: &str, pages: u32) -> u
     if pages < LEAST_PAGES {
         return refused_for(rt, name, Refused::TooSmall, SolverFault::TooSmall);
     }
-    match sized(rt, name, found, u64::from(pages) * PAGE) {
-        Ok(file) => command_on_file(rt, alloc, name, file, FileCommand::Create).status,
-        Err(error) => refused_file(rt, name, &error),
+    let (file, is_new) = match found {
+        Some(file) => (file, false),
+        None => match new_file(rt, name) {
+            Ok(file) => (file, true),
+            Err(error) => return refused_file(rt, name, &error),
+        },
+    };
+    let outcome = match sized(rt, name, &file, u64::from(pages) * PAGE) {
+        Ok(()) => command_on_file(rt, alloc, name, file, FileCommand::Create),
+        Err(error) => undone(refused_file(rt, name, &error), SolverFault::Disk),
+    };
+    if is_new && outcome.refused.is_some() {
+        let _ = fs::remove_file(rt, name);
     }
+    outcome.status
 }
 
 /// Loads the game of a text into the table of a file. The text is read first.
@@ -107,10 +118,12 @@ fn command_on_file(
     command: FileCommand,
 ) -> Outcome {
     let Ok(disk) = FileDisk::new(file) else {
-        return undone(refused_for(rt, name, Refused::Disk, SolverFault::Disk));
+        let status = refused_for(rt, name, Refused::Disk, SolverFault::Disk);
+        return undone(status, SolverFault::Disk);
     };
     let Ok(mut out) = BufWriter::new(alloc, io::writer(rt)) else {
-        return undone(status_of_refused(rt, Refused::OutOfMemory));
+        let status = status_of_refused(rt, Refused::OutOfMemory);
+        return undone(status, SolverFault::OutOfMemory);
     };
     let (outcome, _disk) = command_on(alloc, disk, command, &mut out);
     match outcome.refused {
@@ -120,11 +133,11 @@ fn command_on_file(
     outcome
 }
 
-/// What came of a command before a table was looked for, where all is said.
-fn undone(status: u8) -> Outcome {
+/// What came of a command that was refused before a table was looked for, where all is said.
+fn undone(status: u8, fault: SolverFault) -> Outcome {
     Outcome {
         status,
-        refused: None,
+        refused: Some(fault),
     }
 }
 
@@ -138,20 +151,19 @@ fn begins_as_a_table(file: &mut File) -> io::Result<bool> {
     }
 }
 
-/// The file with this length: the one that was found, or else a new one, whose name is on the disk then.
-fn sized(rt: &HostRuntime, name: &str, found: Option<File>, length: u64) -> io::Result<File> {
-    if let Some(file) = found {
-        file.set_len(length)?;
-        return Ok(file);
-    }
-    let file = OpenOptions::new()
+/// A file that was not there.
+fn new_file(rt: &HostRuntime, name: &str) -> io::Result<File> {
+    OpenOptions::new()
         .read(true)
         .write(true)
         .create_new(true)
-        .open(rt, name)?;
+        .open(rt, name)
+}
+
+/// Gives the file this length, and its name a place on the disk.
+fn sized(rt: &HostRuntime, name: &str, file: &File, length: u64) -> io::Result<()> {
     file.set_len(length)?;
-    folder_of(rt, name)?.sync_all()?;
-    Ok(file)
+    folder_of(rt, name)?.sync_all()
 }
 
 /// The folder that a file is in.

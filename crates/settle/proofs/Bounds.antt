@@ -8,7 +8,7 @@ use Rattle.retrograde.specs.Edges.{IsAfter, IsNextEdge, HasNoMoreEdges}
 use Rattle.retrograde.specs.aid.Processing.{lower_at, lowered_below}
 use Rattle.retrograde.proofs.Counting.{true_or_false}
 use Rattle.retrograde.proofs.Lowering.{AreLowered, below_keeps}
-use Rattle.settle.specs.Stuck.{IsStuck, IsStuckAt}
+use Rattle.settle.specs.aid.Stuck.{IsStuck, IsStuckAt}
 
 -- the least number that a look behind this one can give
 abbrev pub bound_of : Option ℕ → ℕ

@@ -26,7 +26,7 @@ use Rattle.retrograde.proofs.Sound.{distance_within_place, value_needs_record}
 use Rattle.retrograde.proofs.Working.{processed_works}
 use Rattle.frontier.specs.Done.{IsUnitDone}
 use Rattle.frontier.proofs.DoneLemmas.{unit_done}
-use Rattle.settle.specs.Stuck.{IsStuckAt}
+use Rattle.settle.specs.aid.Stuck.{IsStuckAt}
 use Rattle.settle.proofs.Bounds.{keeps}
 
 -- a settled number is known, and has a winner

@@ -1,1 +1,1 @@
-pub mod Stuck
+pub mod aid

@@ -6,7 +6,7 @@ ghost use Rattle.retrograde.specs.Changes.{with_record, with_settled};
 ghost use Rattle.retrograde.specs.aid.Processing.{lower_at, lowered_below};
 ghost use Rattle.frontier.specs.Causes.{IsRefusal, Leaves};
 ghost use Rattle.frontier.specs.declared.fault.StepFault.TheVariants.{Inconsistent};
-ghost use Rattle.settle.specs.Stuck.{IsStuck, IsStuckAt};
+ghost use Rattle.settle.specs.aid.Stuck.{IsStuck, IsStuckAt};
 
 use crate::turn::{has_the_turn, waits};
 use frontier::StepFault;

@@ -7,7 +7,7 @@ use Rattle.std.proofs.lemmas.Bool.{cases_lt, cases_eq, ltb-true, lt-ltb}
 use Rattle.retrograde.specs.declared.records.Record.{Record}
 use Rattle.retrograde.specs.Stored.{is_settled}
 use Rattle.std.specs.Prelude.{Option, IfSome, count_by}
-use Rattle.table.specs.Fitting.{IsSettledAs, OrderFits, RecordsFit, PartsFit}
+use Rattle.table.specs.aid.Fitting.{IsSettledAs, OrderFits, RecordsFit, PartsFit}
 
 -- the numbers before this place are settled, differ, and are exactly the marked ones
 pub record IsListed (processed : ℕ) (records : List Record) (order : List ℕ) (place : ℕ) (marks : List Bool) : Type 0 where

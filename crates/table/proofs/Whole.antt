@@ -13,7 +13,8 @@ use Rattle.retrograde.specs.declared.records.State.TheVariants.{Known, Expanded,
 use Rattle.retrograde.specs.declared.records.Record.{Record}
 use Rattle.retrograde.specs.Stored.{Stored, FitsState, IsTable, is_expanded, is_processed, is_settled, value_of, processed_in, view_of}
 use Rattle.table.specs.Memory.{bytes_of_each, position_cmp, edge_cmp, AreNumbered, AreBetweenKnown}
-use Rattle.table.specs.Fitting.{IsSettledAs, PartsFit, FitsTogether}
+use Rattle.table.specs.Fitting.{FitsTogether}
+use Rattle.table.specs.aid.Fitting.{IsSettledAs, PartsFit}
 use Rattle.retrograde.proofs.Sound.{map_some}
 use Rattle.table.proofs.NumberLemmas.{at_bytes}
 

@@ -1,7 +1,9 @@
 -- What a table in memory stores.
 use Rattle.std.specs.Prelude.{ℕ, List}
 use Rattle.std.specs.BTreeSet.{contains}
+use Rattle.retrograde.specs.declared.records.Counts.{Counts}
 use Rattle.retrograde.specs.Stored.{Stored}
+use Rattle.retrograde.specs.Changes.{counts_of}
 use Rattle.table.specs.Memory.{bytes_of_each, edge_cmp}
 use Rattle.table.specs.declared.memory.MemTable.{MemTable}
 
@@ -13,3 +15,7 @@ stored_in t = record {
   has_edge = λ i p. contains edge_cmp t.edges (i, p);
   order = t.order.items;
 }
+
+-- how many positions of it are known, expanded, settled and processed
+abbrev pub counted_in : MemTable → Counts
+counted_in t = counts_of (stored_in t)

@@ -83,9 +83,11 @@ fn recounted(count: u32, was: bool, is: bool) -> u32
 }
 
 impl MemTable {
+    ghost use Rattle.table.specs.InMemory.{stored_in, counted_in};
+
     /// The table of a game that was just loaded: its start, and no more.
     pub fn new(alloc: Global, start: &Packed) -> Result<MemTable, TableFault>
-        ensures loaded { IfOk result (λ t. ⟦<MemTable as Table>⟧.stored t ≡ loaded start.now.items) }
+        ensures loaded { IfOk result (λ t. stored_in t ≡ loaded start.now.items) }
         ensures honest { IfOk result (λ t. ⟦<MemTable as Table>⟧.is_honest t) }
         ensures memory { IfErr result (λ fault. fault ≡ OutOfMemory) }
     {
@@ -104,8 +106,8 @@ impl MemTable {
 
     /// The same table once more.
     pub fn copy(&self) -> Result<MemTable, TableFault>
-        ensures same { IfOk result (λ t. ⟦<MemTable as Table>⟧.stored t ≡ ⟦<MemTable as Table>⟧.stored self.now) }
-        ensures small { IfOk result (λ t. (⟦<MemTable as Table>⟧.counted t).known ≤ 2 ^ 24) }
+        ensures same { IfOk result (λ t. stored_in t ≡ stored_in self.now) }
+        ensures small { IfOk result (λ t. (counted_in t).known ≤ 2 ^ 24) }
         ensures memory { IfErr result (λ fault. fault ≡ OutOfMemory) }
     {
         let positions = self.positions.clone()?;
@@ -126,14 +128,14 @@ impl MemTable {
 
     /// Its positions, by number.
     pub fn positions(&self) -> &[Packed]
-        ensures { bytes_of_each result.now ≡ (⟦<MemTable as Table>⟧.stored self.now).positions }
+        ensures { bytes_of_each result.now ≡ (stored_in self.now).positions }
     {
         &self.positions
     }
 
     /// Whether its parts fit together, and each position has so many bytes.
     pub fn fits(&self, alloc: Global, packed: u32) -> Result<bool, AllocError>
-        ensures { IfOk result (λ fits. (fits ≡ true) ↔ FitsTogether packed (⟦<MemTable as Table>⟧.stored self.now)) }
+        ensures { IfOk result (λ fits. (fits ≡ true) ↔ FitsTogether packed (stored_in self.now)) }
     {
         let long = are_long(&self.positions, packed);
         let fit = parts_fit(
@@ -161,21 +163,13 @@ impl MemTable {
 }
 
 impl Table for MemTable {
-    ghost stored = { λ t. record {
-      positions = bytes_of_each t.positions.items;
-      records = t.records.items;
-      has_edge = λ i p. contains edge_cmp t.edges (i, p);
-      order = t.order.items;
-    } };
+    ghost use Rattle.table.specs.InMemory.{stored_in, counted_in};
+
+    ghost stored = { stored_in };
 
     ghost is_honest = { λ t. Unit {0} };
 
-    ghost counted = { λ t. counts_of (record {
-      positions = bytes_of_each t.positions.items;
-      records = t.records.items;
-      has_edge = λ i p. contains edge_cmp t.edges (i, p);
-      order = t.order.items;
-    }) };
+    ghost counted = { counted_in };
 
     ghost stays = { λ was is. Unit {0} };
 

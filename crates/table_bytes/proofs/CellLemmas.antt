@@ -11,8 +11,7 @@ use Rattle.table_bytes.specs.Spelled.{AreSpelled}
 use Rattle.table_bytes.specs.aid.Items.{spelled_more, spelled_next}
 use Rattle.table_bytes.specs.aid.Laws.{long_pairs}
 use Rattle.table_bytes.specs.aid.Parts.{fixed_cells}
-use Rattle.table_bytes.specs.Reading.{AreCells, KeepsRest, IsFirstEntry}
-use Rattle.table_bytes.specs.aid.Reading.{AddsCell}
+use Rattle.table_bytes.specs.aid.Reading.{AreCells, KeepsRest, IsFirstEntry, AddsCell}
 
 pairs_more : {A B : Type 0} (xs : List A) (ys : List B) (x : A) (y : B) → length ys ≡ length xs → zip (xs ++ x ∷ []) (ys ++ y ∷ []) ≡ zip xs ys ++ (x, y) ∷ []
 pairs_more [] [] x y same = refl

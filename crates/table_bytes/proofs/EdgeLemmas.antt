@@ -15,8 +15,7 @@ use Rattle.table_bytes.specs.Bytes.{IsEdge}
 use Rattle.table_bytes.specs.Spelled.{AreSpelled}
 use Rattle.table_bytes.specs.aid.Items.{spelled_more, spelled_next}
 use Rattle.table_bytes.specs.aid.Parts.{fixed_edges}
-use Rattle.table_bytes.specs.Reading.{ChangesEdges}
-use Rattle.table_bytes.specs.aid.Reading.{IsPast}
+use Rattle.table_bytes.specs.aid.Reading.{ChangesEdges, IsPast}
 
 -- the order of edges by their numbers
 abbrev pub ComesFirst : ℕ × ℕ → ℕ × ℕ → Type 0

@@ -5,7 +5,7 @@ use Rattle.retrograde.specs.Changes.{with_settled}
 use Rattle.table_bytes.specs.Bytes.{IsNumber}
 use Rattle.table_bytes.specs.Spelled.{AreSpelled}
 use Rattle.table_bytes.specs.aid.Items.{spelled_more}
-use Rattle.table_bytes.specs.Reading.{AddsOrder}
+use Rattle.table_bytes.specs.aid.Reading.{AddsOrder}
 
 -- one more settled number
 pub one_more_number : (bytes one : List ℕ) (count n : ℕ) (first old new : Stored (List ℕ)) → AddsOrder bytes count first old → IsNumber one n → new ≡ with_settled old n

@@ -7,7 +7,7 @@ use Rattle.table_bytes.specs.Spelled.{AreSpelled, SpellsTable}
 use Rattle.table_bytes.specs.aid.Items.{same_fronts}
 use Rattle.table_bytes.specs.aid.Laws.{PartLengths, part_lengths, long_pairs}
 use Rattle.table_bytes.specs.aid.Parts.{fixed_cells}
-use Rattle.table_bytes.specs.Reading.{AreCells, AreEdges, ChangesEdges, AddsOrder}
+use Rattle.table_bytes.specs.aid.Reading.{AreCells, AreEdges, ChangesEdges, AddsOrder}
 use Rattle.table_bytes.specs.declared.sizes.Sizes.{Sizes}
 use Rattle.table_bytes.proofs.Splits.{both_parts}
 

@@ -6,7 +6,7 @@ use Rattle.table_bytes.specs.Bytes.{IsCell, IsPlainCell, IsEdge, IsNumber}
 use Rattle.table_bytes.specs.Spelled.{AreSpelled, SpellsTable, BeginsPlainly}
 use Rattle.table_bytes.specs.aid.Items.{spelled_long}
 use Rattle.table_bytes.specs.aid.Parts.{fixed_edges}
-use Rattle.table_bytes.specs.Writing.{Writes, WritesEdges}
+use Rattle.table_bytes.specs.aid.Writing.{Writes, WritesEdges}
 use Rattle.table_bytes.specs.declared.sizes.Sizes.{Sizes}
 
 -- what is written plainly is a cell

@@ -2,9 +2,10 @@
 ghost use Rattle.std.specs.Prelude.{◌≡◌, ◌+◌, ℕ, List, length, take, drop, IfOk, OnOk, Err};
 ghost use Rattle.retrograde.specs.Stored.{Stored, IsTable};
 ghost use Rattle.table_bytes.specs.Numbers.{AreWithinLimits, bytes_in};
-ghost use Rattle.table_bytes.specs.Reading.{IsFirstEntry};
+ghost use Rattle.table_bytes.specs.aid.Reading.{IsFirstEntry};
 ghost use Rattle.table_bytes.specs.Spelled.{SpellsTable};
 ghost use Rattle.table_bytes.specs.declared.fault.BytesFault.TheVariants.{Damaged};
+ghost use Rattle.table.specs.InMemory.{stored_in};
 
 use crate::read_cells::{read_cells, read_first};
 use crate::read_edges::{read_edges, read_order};
@@ -38,7 +39,7 @@ pub fn read_table(alloc: Global, sizes: &Sizes, bytes: &[u8]) -> Result<MemTable
     requires limits { AreWithinLimits sizes.now }
     requires long { length bytes.now ≡ bytes_in sizes.now }
     ensures spelled { IfOk result (λ table. SpellsTable sizes.now bytes.now (take sizes.now.text bytes.now)
-        (⟦<MemTable as Table>⟧.stored table)) }
+        (stored_in table)) }
     ensures damaged { result ≡ Err Damaged → (text : List ℕ) (stored : Stored (List ℕ)) → IsTable stored
         → ¬ SpellsTable sizes.now bytes.now text stored }
 {

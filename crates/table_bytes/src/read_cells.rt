@@ -3,9 +3,9 @@ ghost use Rattle.std.specs.Prelude.{◌≡◌, ◌+◌, ◌-◌, ◌*◌, ◌^�
 ghost use Rattle.retrograde.specs.declared.records.Record.{Record};
 ghost use Rattle.retrograde.specs.Stored.{Stored, IsTable, loaded};
 ghost use Rattle.table_bytes.specs.Bytes.{IsCell, IsRecord};
-ghost use Rattle.table_bytes.specs.Reading.{AreCells, KeepsRest, IsFirstEntry};
-ghost use Rattle.table_bytes.specs.aid.Reading.{AddsCell};
+ghost use Rattle.table_bytes.specs.aid.Reading.{AreCells, KeepsRest, IsFirstEntry, AddsCell};
 ghost use Rattle.table_bytes.specs.declared.fault.BytesFault.TheVariants.{Damaged};
+ghost use Rattle.table.specs.InMemory.{stored_in};
 
 use crate::BytesFault;
 use crate::record::{RECORD_BYTES, read_record};
@@ -41,7 +41,7 @@ fn read_first_record<T: Table>(table: &mut T, packed: usize, cell: &[u8]) -> Res
 pub fn read_first(alloc: Global, packed: usize, cell: &[u8]) -> Result<MemTable, BytesFault>
     requires packed { packed ≤ 240 }
     requires long { length cell.now ≡ packed + 16 }
-    ensures first { IfOk result (λ table. IsFirstEntry packed cell.now (⟦<MemTable as Table>⟧.stored table)) }
+    ensures first { IfOk result (λ table. IsFirstEntry packed cell.now (stored_in table)) }
     ensures damaged { result ≡ Err Damaged → (x : List ℕ × Record) → IsCell packed cell.now x → ⊥ }
 {
     let mut table = MemTable::new(alloc, &position_of(&cell[..packed]))?;

@@ -6,7 +6,7 @@ ghost use Rattle.retrograde.specs.declared.records.State.{State};
 ghost use Rattle.retrograde.specs.declared.records.Record.{Record};
 ghost use Rattle.table.specs.declared.fault.TableFault.TheVariants.{OutOfMemory};
 ghost use Rattle.table_bytes.specs.Bytes.{state_byte, winner_byte, IsRecord, IsPlainRecord};
-ghost use Rattle.table_bytes.specs.Writing.{WritesOne};
+ghost use Rattle.table_bytes.specs.aid.Writing.{WritesOne};
 
 use byteorder::{BigEndian, ByteOrder};
 use rbg_game::roles::Player;

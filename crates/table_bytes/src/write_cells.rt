@@ -3,8 +3,7 @@ ghost use Rattle.std.specs.Prelude.{◌≡◌, ◌↔◌, ◌<◌, ℕ, List, le
 ghost use Rattle.retrograde.specs.Stored.{HasRecord};
 ghost use Rattle.table.specs.declared.fault.TableFault.TheVariants.{OutOfMemory};
 ghost use Rattle.table_bytes.specs.Bytes.{IsPlainCell, IsNumber};
-ghost use Rattle.table_bytes.specs.Writing.{Writes, WritesOne};
-ghost use Rattle.table_bytes.specs.aid.Writing.{WritesCell};
+ghost use Rattle.table_bytes.specs.aid.Writing.{Writes, WritesOne, WritesCell};
 
 use crate::record::{push_number, push_record};
 use table::{Table, TableFault};

@@ -2,7 +2,7 @@
 ghost use Rattle.std.specs.Prelude.{◌≡◌, ◌↔◌, ◌+◌, ◌≤◌, ◌<◌, ℕ, List, length, IfErr, OnOk};
 ghost use Rattle.table.specs.declared.fault.TableFault.TheVariants.{OutOfMemory};
 ghost use Rattle.table_bytes.specs.Bytes.{IsEdge};
-ghost use Rattle.table_bytes.specs.Writing.{WritesOne, WritesEdges};
+ghost use Rattle.table_bytes.specs.aid.Writing.{WritesOne, WritesEdges};
 
 use crate::record::push_number;
 use table::{Table, TableFault};

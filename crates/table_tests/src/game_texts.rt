@@ -125,7 +125,7 @@ pub const SMALL: [(&str, &str); 24] = [
     ),
     (
         "n(9)",
-        "[$n=9] ->white (([$n=n-1]+[$n=n-2]+[$n=n-3])[$white=1][$black=0] ->black ([$n=n-1]+[$n=n-2]+[$n=n-3])[$black=1][$white=0] ->white)*",
+        "[$n=9] ->white (([$n=n-1]+[$n=n-2]+[$n=n-3])[$white=1, black=0] ->black ([$n=n-1]+[$n=n-2]+[$n=n-3])[$black=1, white=0] ->white)*",
     ),
     (
         "n(6)",

@@ -12,7 +12,7 @@ use Rattle.recover.specs.Headline.{IsPart, LeavesAPrefix}
 use Rattle.recover.specs.Histories.{Sitting, History, was_made, was_reopened, was_not_opened, IsSitting, IsFound, no_call, by_closing}
 use Rattle.recover.specs.Machine.{Command}
 use Rattle.recover.specs.Opening.{IsCreated, IsOpened}
-use Rattle.witness.specs.Sittings.{IsOwn, AreOwn, IsOwnSitting, IsBehindSittings, EndsOwnSitting}
+use Rattle.witness.specs.aid.Sittings.{IsOwn, AreOwn, IsOwnSitting, IsBehindSittings, EndsOwnSitting}
 
 fresh_size : (disk : Disk) → IsFresh 256 disk → size disk ≡ 256
 fresh_size disk fresh = let zeros : List ℕ = replicate 512 0 in ap length fresh.contents ∙ length-replicate 256 zeros

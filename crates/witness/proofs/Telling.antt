@@ -41,7 +41,8 @@ use Rattle.recover.specs.Opening.{IsOpened, OpenCause, CreateCause}
 use Rattle.recover.specs.Queries.{OfKept, Tells, HasValueAt, AskCause, NumberCause, IsThere}
 use Rattle.recover.specs.Steps.{IsDone, IsRefused}
 use Rattle.witness.specs.Game.{witness_text, witness_game}
-use Rattle.witness.specs.Sittings.{IsWantOfRoom, IsOwn, AreOwn, IsOwnSitting, IsBehindSittings, IsFoundBehind, IsNoneOrIt, IsIt, IsItFinished, HasTable}
+use Rattle.witness.specs.Sittings.{IsWantOfRoom}
+use Rattle.witness.specs.aid.Sittings.{IsOwn, AreOwn, IsOwnSitting, IsBehindSittings, IsFoundBehind, IsNoneOrIt, IsIt, IsItFinished, HasTable}
 use Rattle.witness.proofs.Finishing.{no_nine_units}
 use Rattle.witness.proofs.Positions.{graph}
 use Rattle.witness.proofs.Reading.{witness_read}

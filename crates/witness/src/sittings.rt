@@ -8,8 +8,9 @@ ghost use Rattle.recover.specs.Held.{IsSound};
 ghost use Rattle.recover.specs.Solvers.{state, IsReady};
 ghost use Rattle.recover.specs.Units.{units_in};
 ghost use Rattle.witness.specs.Game.{witness_text};
-ghost use Rattle.witness.specs.Sittings.{IsWantOfRoom, IsBehindSittings, IsFoundBehind};
-ghost use Rattle.witness.specs.Sittings.{EndsOwnSitting, HasTable, IsNoneOrIt, IsIt};
+ghost use Rattle.witness.specs.Sittings.{IsWantOfRoom};
+ghost use Rattle.witness.specs.aid.Sittings.{IsBehindSittings, IsFoundBehind};
+ghost use Rattle.witness.specs.aid.Sittings.{EndsOwnSitting, HasTable, IsNoneOrIt, IsIt};
 
 use best_line::Value;
 use game_file::GameFile;

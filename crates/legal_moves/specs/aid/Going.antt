@@ -4,7 +4,7 @@ use Rattle.rbg_game.specs.Rules.{Regex}
 use Rattle.rbg_game.specs.Games.{Game}
 use Rattle.rbg_game.specs.declared.roles.Role.TheVariants.{Keeper}
 use Rattle.rbg_game.specs.declared.position.SemiState.{SemiState}
-use Rattle.legal_moves.specs.Configurations.{AreFound, IsFollowed, IsSeen}
+use Rattle.legal_moves.specs.aid.Configurations.{AreFound, IsFollowed, IsSeen}
 use Rattle.legal_moves.specs.declared.configuration.Configuration.{Configuration}
 use Rattle.legal_moves.specs.declared.found.Found.{Found}
 

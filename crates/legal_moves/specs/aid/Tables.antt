@@ -1,13 +1,26 @@
 -- What adding an expression does to the draft of a table.
-use Rattle.std.specs.Prelude.{◌≡◌, ℕ, suc, ◌+◌, ◌⊎◌, ◌↔◌, List, ◌++◌, length}
+use Rattle.std.specs.Prelude.{◌≡◌, ℕ, ◌+◌, ◌↔◌, Bool, false, List, ◌++◌, length, Some, suc, ◌⊎◌}
 use Rattle.std.specs.List.{AllZip}
-use Rattle.rbg_game.specs.Rules.{Regex, count, Action}
+use Rattle.rbg_game.specs.Rules.{Regex, one, count, Action, is_switch, is_modifier}
+use Rattle.rbg_game.specs.Meaning.{action_of}
 use Rattle.legal_moves.specs.Glushkov.{IsNext}
 use Rattle.legal_moves.specs.Relations.{IsRelated}
+use Rattle.legal_moves.specs.declared.table.Step.{Step}
+use Rattle.legal_moves.specs.declared.table.Step.TheVariants.{Act, Ask}
 use Rattle.legal_moves.specs.declared.table.Ends.{Ends}
 use Rattle.legal_moves.specs.declared.table.Table.{Table}
-use Rattle.legal_moves.specs.declared.table.Draft.{Draft}
 use Rattle.legal_moves.specs.Tables.{actions_of, inner_of, IsStep, IsEnds, AreTables}
+use Rattle.legal_moves.specs.declared.table.Draft.{Draft}
+
+-- the step is a switch
+abbrev pub switches : Step → Bool
+switches (Act x) = is_switch (Some (action_of x))
+switches (Ask positive i) = false
+
+-- the step is one that a shown move names
+abbrev pub modifies : Step → Bool
+modifies (Act x) = is_modifier (Some (action_of x))
+modifies (Ask positive i) = false
 
 -- the expression is added to a draft, and the tables of its patterns to the tables
 pub record IsAdded (e : Regex) (tables tables' : List Table) (draft draft' : Draft) (ends : Ends) : Type 0 where

@@ -4,7 +4,8 @@ use Rattle.retrograde.specs.Stored.{Stored, IsTable, view_of}
 use Rattle.retrograde.proofs.Adding.{push_before}
 use Rattle.retrograde.proofs.Finished.{is_some_at}
 use Rattle.best_line.specs.Causes.{IsLineCause}
-use Rattle.best_line.specs.Lines.{IsBestStep, HasNoStep}
+use Rattle.best_line.specs.Lines.{IsBestStep}
+use Rattle.best_line.specs.aid.Lines.{HasNoStep}
 use Rattle.best_line.specs.declared.fault.LineFault.{LineFault}
 use Rattle.best_line.proofs.LineLemmas.{IsLineTo, line_value, line_push, line_done}
 use Rattle.best_line.proofs.StepLemmas.{step_cause}

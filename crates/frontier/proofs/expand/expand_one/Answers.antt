@@ -11,7 +11,7 @@ use Rattle.retrograde.specs.Successors.{packed_cmp, IsSuccessorList}
 use Rattle.retrograde.specs.aid.Expansion.{AreNoted}
 use Rattle.retrograde.specs.Expands.{IsTooMany}
 use Rattle.retrograde.proofs.Expands.{choice, no_choice}
-use Rattle.frontier.specs.Numbering.{AreNumbersOf}
+use Rattle.frontier.specs.aid.Numbering.{AreNumbersOf}
 use Rattle.frontier.proofs.NumberLemmas.{too_many}
 use Rattle.frontier.proofs.ExpandLemmas.{IsDone, successor_list, done, fits, room}
 use Rattle.frontier.proofs.expand.expand_one.Given

@@ -1,6 +1,6 @@
 use Rattle.std.proofs.Common.{◌≡◌, ◌↔◌, ◌+◌, ◌<◌, ◌≤◌, All, length, take}
 use Rattle.table.specs.Memory.{bytes_of_each}
-use Rattle.frontier.specs.Numbering.{AreNumbersOf}
+use Rattle.frontier.specs.aid.Numbering.{AreNumbersOf}
 use Rattle.frontier.proofs.numbers.numbers_of.Given as goal
 
 abbrev pub invariant-loop-position : goal.invariant-loop-position

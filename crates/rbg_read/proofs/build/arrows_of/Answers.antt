@@ -3,8 +3,8 @@ use Rattle.rbg_text.specs.Said.{arrow_view}
 use Rattle.rbg_text.specs.declared.sections.Arrow.{Arrow as SaidArrow}
 use Rattle.rbg_game.specs.Meaning.{arrow_of}
 use Rattle.rbg_game.specs.declared.game.Arrow.{Arrow}
-use Rattle.rbg_read.specs.Parts.{known_view}
-use Rattle.rbg_read.specs.Build.{placed_arrow}
+use Rattle.rbg_read.specs.aid.Parts.{known_view}
+use Rattle.rbg_read.specs.aid.Build.{placed_arrow}
 use Rattle.rbg_read.proofs.Lists.{map_turn}
 use Rattle.rbg_read.proofs.build.arrows_of.Goals as goal
 

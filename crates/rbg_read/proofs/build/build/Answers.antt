@@ -4,10 +4,10 @@ use Rattle.rbg_text.specs.View.{step_view}
 use Rattle.rbg_text.specs.Said.{declaration_view, vertex_view}
 use Rattle.rbg_game.specs.Meaning.{variable_of}
 use Rattle.rbg_read.specs.Means.{declared}
-use Rattle.rbg_read.specs.Flat.{has_large_bound, is_large_number}
-use Rattle.rbg_read.specs.Parts.{parts_view, known_view}
-use Rattle.rbg_read.specs.Build.{placed_vertex}
-use Rattle.rbg_read.specs.Resolve.{resolved}
+use Rattle.rbg_read.specs.aid.Flat.{has_large_bound, is_large_number}
+use Rattle.rbg_read.specs.aid.Parts.{parts_view, known_view}
+use Rattle.rbg_read.specs.aid.Build.{placed_vertex}
+use Rattle.rbg_read.specs.aid.Resolve.{resolved}
 use Rattle.rbg_read.proofs.NoCause.{no_cause, no_large, few}
 use Rattle.rbg_read.proofs.Lists.{map_map, two_maps}
 use Rattle.rbg_read.proofs.build.build.Goals as goal

@@ -1,8 +1,8 @@
 use Rattle.std.proofs.Common.{◌≡◌, map, ap, sym, ◌∙◌}
 use Rattle.rbg_text.specs.Said.{arrow_view}
 use Rattle.rbg_game.specs.Meaning.{arrow_of}
-use Rattle.rbg_read.specs.Parts.{known_view}
-use Rattle.rbg_read.specs.Build.{placed_arrow}
+use Rattle.rbg_read.specs.aid.Parts.{known_view}
+use Rattle.rbg_read.specs.aid.Build.{placed_arrow}
 use Rattle.rbg_read.proofs.Lists.{map_map}
 use Rattle.rbg_read.proofs.build.vertex_of.Goals as goal
 

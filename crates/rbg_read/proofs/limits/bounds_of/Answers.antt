@@ -1,7 +1,7 @@
 use Rattle.std.proofs.Common.{◌++◌, map, sym, ap, ◌∙◌}
 use Rattle.std.specs.List.{list_any}
 use Rattle.rbg_text.specs.Said.{declaration_view}
-use Rattle.rbg_read.specs.Flat.{has_large_bound}
+use Rattle.rbg_read.specs.aid.Flat.{has_large_bound}
 use Rattle.rbg_read.specs.Means.{decimal}
 use Rattle.rbg_read.proofs.NoCause.{no_large}
 use Rattle.rbg_read.proofs.Lists.{two_maps}

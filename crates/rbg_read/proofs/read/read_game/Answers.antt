@@ -4,7 +4,7 @@ use Rattle.rbg_text.specs.Said.{section_view}
 use Rattle.rbg_text.specs.NestingCount.{nesting}
 use Rattle.std.specs.Prelude.{option_map}
 use Rattle.rbg_game.specs.Meaning.{game_of}
-use Rattle.rbg_read.specs.Parts.{parts_view, known_view}
+use Rattle.rbg_read.specs.aid.Parts.{parts_view, known_view}
 use Rattle.rbg_read.specs.Reading.{too_long, stray_byte, nested, grammar}
 use Rattle.rbg_read.proofs.Outcome.{passed_on, kept_on, lacks, refused, read}
 use Rattle.rbg_read.proofs.SoundGames.{read_sound}

@@ -1,8 +1,7 @@
 use Rattle.std.proofs.Common.{◌≡◌, take, map, fold}
 use Rattle.rbg_text.specs.View.{step_view}
-use Rattle.rbg_read.specs.Parts.{known_view}
-use Rattle.rbg_read.specs.Resolve.{after_step, empty_stack}
-use Rattle.rbg_read.specs.aid.Resolve.{stack_of}
+use Rattle.rbg_read.specs.aid.Parts.{known_view}
+use Rattle.rbg_read.specs.aid.Resolve.{after_step, empty_stack, stack_of}
 use Rattle.rbg_read.proofs.resolve.resolve.Given as goal
 
 abbrev pub invariant-loop-step : goal.invariant-loop-step

@@ -1,9 +1,9 @@
 use Rattle.std.proofs.Common.{get_or, [], Some, None, refl, sym, ap, ◌∙◌, not, is_some}
 use Rattle.std.proofs.lemmas.Bool.{cond-true, cond-false}
 use Rattle.rbg_text.specs.View.{step_view}
-use Rattle.rbg_read.specs.Flat.{is_large_number}
-use Rattle.rbg_read.specs.Parts.{known_view}
-use Rattle.rbg_read.specs.Sizes.{next_sizes, has_large_size}
+use Rattle.rbg_read.specs.aid.Flat.{is_large_number}
+use Rattle.rbg_read.specs.aid.Parts.{known_view}
+use Rattle.rbg_read.specs.aid.Sizes.{next_sizes, has_large_size}
 use Rattle.rbg_read.proofs.Defaults.{no_step}
 use Rattle.rbg_read.proofs.Lists.{fold_turn, fold_stops, fold_end, none_at}
 use Rattle.rbg_read.proofs.sizes.has_large_size.Goals as goal

@@ -1,7 +1,7 @@
 use Rattle.std.proofs.Common.{get_or, [], Some, None, refl, sym, ap, ◌∙◌, not, is_some}
 use Rattle.std.proofs.lemmas.Bool.{cond-true, cond-false}
 use Rattle.rbg_text.specs.View.{step_view}
-use Rattle.rbg_read.specs.Switches.{next_flags, has_inner_switch}
+use Rattle.rbg_read.specs.aid.Switches.{next_flags, has_inner_switch}
 use Rattle.rbg_read.proofs.Defaults.{no_step}
 use Rattle.rbg_read.proofs.Lists.{fold_turn, fold_stops, fold_end}
 use Rattle.rbg_read.proofs.switches.has_inner_switch.Goals as goal

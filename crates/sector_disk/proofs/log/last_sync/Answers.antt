@@ -2,8 +2,7 @@ use Rattle.std.proofs.Common.{◌≡◌, ◌+◌, ℕ, List, [], arith, length, 
 use Rattle.std.proofs.lemmas.List.{take_more, length-take-le}
 use Rattle.sector_disk.specs.declared.log.Event.{Event}
 use Rattle.sector_disk.specs.declared.log.Event.TheVariants.{Wrote}
-use Rattle.sector_disk.specs.Log.{IsLastSyncOf}
-use Rattle.sector_disk.specs.aid.Log.{last_by}
+use Rattle.sector_disk.specs.aid.Log.{IsLastSyncOf, last_by}
 use Rattle.sector_disk.proofs.Stopping.{last_next}
 use Rattle.sector_disk.proofs.log.last_sync.Goals as goal
 

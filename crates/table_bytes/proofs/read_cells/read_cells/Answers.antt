@@ -1,5 +1,5 @@
 use Rattle.std.proofs.Common.{◌++◌, subst, List, ℕ, arith, rules}
-use Rattle.table_bytes.specs.Reading.{AreCells}
+use Rattle.table_bytes.specs.aid.Reading.{AreCells}
 use Rattle.table_bytes.proofs.CellLemmas.{cells_more, keeps_rest, rest_then, one_longer, cell_refused, left_after}
 use Rattle.table_bytes.proofs.Splits.{split_on, split_between}
 use Rattle.table_bytes.proofs.read_cells.read_cells.Goals as goal

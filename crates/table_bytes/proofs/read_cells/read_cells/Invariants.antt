@@ -1,5 +1,5 @@
 use Rattle.std.proofs.Common.{◌≡◌, ◌-◌, ◌*◌, ◌+◌, ℕ, List, ◌++◌, length}
-use Rattle.table_bytes.specs.Reading.{AreCells, KeepsRest}
+use Rattle.table_bytes.specs.aid.Reading.{AreCells, KeepsRest}
 use Rattle.table_bytes.proofs.read_cells.read_cells.Given as goal
 
 abbrev pub invariant-loop-number : goal.invariant-loop-number

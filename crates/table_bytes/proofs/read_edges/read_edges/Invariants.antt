@@ -1,5 +1,5 @@
 use Rattle.std.proofs.Common.{◌≡◌, ◌-◌, ◌*◌, ℕ, List, ◌++◌, length}
-use Rattle.table_bytes.specs.Reading.{ChangesEdges}
+use Rattle.table_bytes.specs.aid.Reading.{ChangesEdges}
 use Rattle.table_bytes.proofs.EdgeLemmas.{EdgesSoFar}
 use Rattle.table_bytes.proofs.read_edges.read_edges.Given as goal
 

@@ -1,5 +1,5 @@
 use Rattle.std.proofs.Common.{◌≡◌, ◌-◌, ◌*◌, ℕ, List, ◌++◌, length}
-use Rattle.table_bytes.specs.Reading.{AddsOrder}
+use Rattle.table_bytes.specs.aid.Reading.{AddsOrder}
 use Rattle.table_bytes.proofs.read_edges.read_order.Given as goal
 
 abbrev pub invariant-loop-place : goal.invariant-loop-place

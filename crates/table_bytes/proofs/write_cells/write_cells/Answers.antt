@@ -4,8 +4,7 @@ use Rattle.retrograde.specs.declared.records.Counts.{Counts}
 use Rattle.retrograde.specs.Stored.{Stored}
 use Rattle.table_bytes.specs.Bytes.{IsPlainCell}
 use Rattle.table_bytes.specs.aid.Laws.{long_pairs}
-use Rattle.table_bytes.specs.Writing.{Writes}
-use Rattle.table_bytes.specs.aid.Writing.{WritesCell}
+use Rattle.table_bytes.specs.aid.Writing.{Writes, WritesCell}
 use Rattle.table_bytes.proofs.WritingLemmas.{writes_cell, take_all}
 use Rattle.table_bytes.proofs.write_cells.write_cells.Goals as goal
 

@@ -1,6 +1,6 @@
 use Rattle.std.proofs.Common.{◌≡◌, ◌↔◌, take}
 use Rattle.table_bytes.specs.Bytes.{IsNumber}
-use Rattle.table_bytes.specs.Writing.{Writes}
+use Rattle.table_bytes.specs.aid.Writing.{Writes}
 use Rattle.table_bytes.proofs.write_cells.write_order.Given as goal
 
 abbrev pub invariant-loop-place : goal.invariant-loop-place

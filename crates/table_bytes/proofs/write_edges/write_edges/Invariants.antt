@@ -1,5 +1,5 @@
 use Rattle.std.proofs.Common.{◌≡◌, ◌↔◌, ◌≤◌, length}
-use Rattle.table_bytes.specs.Writing.{WritesEdges}
+use Rattle.table_bytes.specs.aid.Writing.{WritesEdges}
 use Rattle.table_bytes.proofs.write_edges.write_edges.Given as goal
 
 abbrev pub invariant-loop-successor : goal.invariant-loop-successor

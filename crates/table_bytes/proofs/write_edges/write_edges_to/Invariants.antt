@@ -1,5 +1,5 @@
 use Rattle.std.proofs.Common.{◌≡◌, ◌↔◌, ◌-◌, ◌≤◌, ℕ, List, length}
-use Rattle.table_bytes.specs.Writing.{WritesEdges}
+use Rattle.table_bytes.specs.aid.Writing.{WritesEdges}
 use Rattle.table_bytes.proofs.WritingLemmas.{bound_of}
 use Rattle.table_bytes.proofs.write_edges.write_edges_to.Given as goal
 

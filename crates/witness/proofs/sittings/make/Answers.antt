@@ -1,5 +1,5 @@
 use Rattle.std.proofs.Common.{sym, subst}
-use Rattle.witness.specs.Sittings.{IsBehindSittings}
+use Rattle.witness.specs.aid.Sittings.{IsBehindSittings}
 use Rattle.witness.proofs.Behind.{behind_create}
 use Rattle.witness.proofs.Telling.{not_made}
 use Rattle.witness.proofs.sittings.make.Goals as goal

@@ -1,5 +1,5 @@
 use Rattle.std.proofs.Common.{sym, subst}
-use Rattle.witness.specs.Sittings.{IsBehindSittings}
+use Rattle.witness.specs.aid.Sittings.{IsBehindSittings}
 use Rattle.witness.proofs.Behind.{behind_sitting, behind_no_sitting}
 use Rattle.witness.proofs.Telling.{opened_again}
 use Rattle.witness.proofs.sittings.use_table.Goals as goal

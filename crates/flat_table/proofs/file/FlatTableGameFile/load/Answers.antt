@@ -1,8 +1,5 @@
 use Rattle.std.proofs.Common.{◌≡◌, rules, refl}
-use Rattle.flat_table.specs.File.{File}
-use Rattle.flat_table.specs.declared.file.FlatTable.{FlatTable}
-use Rattle.flat_table.specs.contracts.file.FlatTableTableFile.TheImpl as it
-use Rattle.flat_table.proofs.file.FlatTableGameFile.load.Given as Given
+use Rattle.flat_table.specs.InFile.{file_in}
 use Rattle.std.proofs.lemmas.Result.{IfErr-weaker}
 use Rattle.flat_table.proofs.Drafting.{load_cause}
 use Rattle.flat_table.proofs.Passing.{so_refused}
@@ -19,7 +16,4 @@ pub returns-clause-cause : goal.returns-clause-cause
 returns-clause-cause g c = λ whole none is_open.
     let text : c.in_ok-text.text.items ≡ c.args.text.now = search rules in
     let cause = rw (c.len.ensures.value, text, c.in_ok-table.ensures.loaded) at c.replace.ensures.cause whole.0 in
-    IfErr-weaker c.replace.result _ _ (λ fault cause. load_cause _ _ (file g c.args.self.now) (file g c.replace.new.self) whole.0 none is_open fault cause) cause
-  where
-    file : (g : Given.Over) → FlatTable g.row.D.Denot g.D.SectorDisk → File
-    file g t = (it.ghosts g.row.D g.D.SectorDisk g.D.SectorDisk-dict).file t
+    IfErr-weaker c.replace.result _ _ (λ fault cause. load_cause _ _ (file_in c.args.self.now) (file_in c.replace.new.self) whole.0 none is_open fault cause) cause

@@ -1,6 +1,6 @@
 use Rattle.std.proofs.Common.{◌≡◌, ◌≤◌, ◌-◌, sym, subst, length, All, arith}
 use Rattle.rbg_game.specs.Meaning.{game_of}
-use Rattle.legal_moves.specs.Configurations.{IsReady}
+use Rattle.legal_moves.specs.aid.Configurations.{IsReady}
 use Rattle.rbg_game.specs.Positions.{IsStateOf}
 use Rattle.legal_moves.specs.Listed.{AreMoves, IsShortestMove}
 use Rattle.legal_moves.proofs.CompiledLemmas.{rules_search, rules_ready}

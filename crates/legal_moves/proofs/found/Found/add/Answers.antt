@@ -1,6 +1,6 @@
 use Rattle.std.proofs.Common.{◌≡◌, length, inr, sym, ◌∙◌, subst, arith, Some}
 use Rattle.std.specs.BTreeMap.{Updates}
-use Rattle.legal_moves.specs.Configurations.{packed_cmp, IsSeen}
+use Rattle.legal_moves.specs.aid.Configurations.{packed_cmp, IsSeen}
 use Rattle.legal_moves.proofs.SeenLemmas.{IsGrown-there, IsNew-by_none, IsSeen-push}
 use Rattle.legal_moves.proofs.found.Found.add.Goals as goal
 

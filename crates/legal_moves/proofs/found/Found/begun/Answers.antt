@@ -1,5 +1,5 @@
 use Rattle.std.proofs.Common.{◌∷◌, [], ◌++◌, sym, ap, ◌∙◌, subst}
-use Rattle.legal_moves.specs.Configurations.{opening, IsSeen}
+use Rattle.legal_moves.specs.aid.Configurations.{opening, IsSeen}
 use Rattle.legal_moves.proofs.SeenLemmas.{IsSeen-push, IsSeen-none, IsSeen-none_at}
 use Rattle.legal_moves.proofs.found.Found.begun.Goals as goal
 

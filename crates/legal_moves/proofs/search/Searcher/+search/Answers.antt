@@ -3,7 +3,7 @@ use Rattle.rbg_game.specs.Positions.{IsStateOf}
 use Rattle.rbg_game.specs.Meaning.{game_of}
 use Rattle.legal_moves.specs.Effects.{EffectAt}
 use Rattle.legal_moves.specs.declared.fault.MoveFault.TheVariants as MoveFault
-use Rattle.legal_moves.specs.Configurations.{expression_at, AsksTooMuch, OccurrenceLeads, IsFollowed, IsSearch}
+use Rattle.legal_moves.specs.aid.Configurations.{expression_at, AsksTooMuch, OccurrenceLeads, IsFollowed, IsSearch}
 use Rattle.legal_moves.specs.aid.Going.{began, IsGoing}
 use Rattle.std.specs.Option.{IfSome, IfNone}
 use Rattle.rbg_game.specs.declared.position.SemiState.{SemiState}

@@ -1,6 +1,6 @@
 use Rattle.std.proofs.Common.{◌≡◌, ◌+◌, ◌-◌, ◌*◌, slice_get}
 use Rattle.rbg_game.specs.Meaning.{game_of}
-use Rattle.legal_moves.specs.Configurations.{expression_at, IsFollowed}
+use Rattle.legal_moves.specs.aid.Configurations.{expression_at, IsFollowed}
 use Rattle.legal_moves.specs.aid.Going.{began, IsGoing}
 use Rattle.legal_moves.proofs.search.Searcher.+search.Given as goal
 

@@ -1,7 +1,7 @@
 use Rattle.std.proofs.Common.{◌≡◌, ◌<◌, ℕ, Option, None, length, get_or, ap, sym, ◌∙◌, subst, refl, arith}
 use Rattle.std.specs.Prelude.{MatchOption, All}
 use Rattle.rbg_game.specs.declared.position.Position.{Position}
-use Rattle.position_pack.specs.Bytes.{AreValues}
+use Rattle.position_pack.specs.aid.Bytes.{AreValues}
 use Rattle.position_pack.proofs.PartLemmas.{Cut, small_others, cut_at, parts_of, pieces_below, values_there, others_are, place_spelled, made}
 use Rattle.position_pack.proofs.packed.Packing.unpack.Goals as goal
 

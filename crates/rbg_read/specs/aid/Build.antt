@@ -3,8 +3,8 @@ use Rattle.std.specs.Prelude.{◌++◌, map}
 use Rattle.rbg_text.specs.Syntax as syntax
 use Rattle.rbg_game.specs.Games.{Game, Vertex, Arrow}
 use Rattle.rbg_read.specs.Means.{declared, index_of}
-use Rattle.rbg_read.specs.Parts.{Parts, Known}
-use Rattle.rbg_read.specs.Resolve.{resolved}
+use Rattle.rbg_read.specs.aid.Parts.{Parts, Known}
+use Rattle.rbg_read.specs.aid.Resolve.{resolved}
 
 -- an arrow with its names by their places
 abbrev pub placed_arrow : Known → syntax.WrittenArrow → Arrow

@@ -6,13 +6,11 @@ use Rattle.rbg_text.specs.Syntax.{Declaration, WrittenVertex}
 use Rattle.rbg_text.specs.Parse.{ParseStep}
 use Rattle.rbg_read.specs.Means.{decimal}
 use Rattle.rbg_read.specs.Causes.{is_unknown, has_repeat, is_too_large}
-use Rattle.rbg_read.specs.Parts.{Parts, Known}
-use Rattle.rbg_read.specs.Sizes.{has_large_size}
-use Rattle.rbg_read.specs.Switches.{has_inner_switch}
+use Rattle.rbg_read.specs.aid.Parts.{Parts, Known}
+use Rattle.rbg_read.specs.aid.Sizes.{has_large_size}
+use Rattle.rbg_read.specs.aid.Switches.{has_inner_switch}
 use Rattle.rbg_read.specs.declared.fault.GameFault.{GameFault}
 use Rattle.rbg_read.specs.declared.fault.GameFault.TheVariants as cause
-
--- ---- names
 
 -- the step names what is not declared
 abbrev pub step_uses_unknown : Known → ParseStep → Bool
@@ -41,8 +39,6 @@ abbrev pub repeats_name : Known → Parts → Bool
 repeats_name known p =
     has_repeat known.values || has_repeat known.pieces || has_repeat known.vertices || list_any repeats_label p.vertices
 
--- ---- numbers
-
 -- the bound is over the limit
 abbrev pub has_large_bound : Declaration → Bool
 has_large_bound d = is_too_large d.bound
@@ -59,8 +55,6 @@ has_large p = list_any has_large_bound p.players || list_any has_large_bound p.v
 -- the bounds of the players and the variables
 abbrev pub bounds : Parts → List ℕ
 bounds p = map (λ d. decimal d.bound) (p.players ++ p.variables)
-
--- ---- limits
 
 -- the step stands for an action
 abbrev pub is_action : ParseStep → Bool
@@ -80,8 +74,6 @@ abbrev pub is_past_a_limit : Known → Parts → Bool
 is_past_a_limit known p =
     nat_lt 128 (length known.vertices) || nat_lt 64 (length known.labels) || nat_lt 64 (length known.pieces)
     || nat_lt 32 (length p.variables) || nat_lt 4096 (count_by is_action p.steps)
-
--- ---- the first that applies, where each section stands once
 
 -- the first that applies, in the order of the codes
 abbrev pub flat_cause : Known → Parts → Option GameFault
