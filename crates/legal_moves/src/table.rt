@@ -17,7 +17,7 @@ pub enum Step {
 
 impl Step {
     ghost use Rattle.std.specs.Prelude.{◌≡◌};
-    ghost use Rattle.legal_moves.specs.Tables.{switches, modifies};
+    ghost use Rattle.legal_moves.specs.aid.Tables.{switches, modifies};
 
     pub fn is_switch(&self) -> bool
         ensures { result ≡ switches self.now }
