@@ -233,7 +233,7 @@ first_named P (x ∷ names) h =
     (All-filter (λ y. not (bytes_eq x y)) P (first_appearances names) (first_named P names (All-tail P x names h)))
 
 first_differ : (names : List Text) → AllPairs ◌≢◌ (first_appearances names)
-first_differ [] i j d lt within same = absurd (omega (arith, within))
+first_differ [] = λ i j d lt within same. absurd (omega (arith, within))
 first_differ (x ∷ names) =
     let others = first_appearances names in
     let apart : All (λ y. x ≢ y) (filter (λ y. not (bytes_eq x y)) others) = λ k d lt same.

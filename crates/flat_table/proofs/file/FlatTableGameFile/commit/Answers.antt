@@ -34,7 +34,7 @@ returns-clause-cause g c = λ was kept whole is goes_on.
     let stored = rw (sym c.take.ensures.value ∙ c.in-Some.is) at c.begin.ensures.stored in
     let unwritten = subst (λ (f : File). IsUnwrittenFile (file_in was) f) (sym c.begin.ensures.same) goes_on in
     rw (sym stored)
-    (why_not_committed _ _ ((it.ghosts g.row.D g.D.SectorDisk g.D.SectorDisk-dict).file c.keep.new.self) kept _ whole.0 is unwritten c.keep.result c.keep.ensures.cause)
+    (why_not_committed _ _ (file_in c.keep.new.self) kept _ whole.0 is unwritten c.keep.result c.keep.ensures.cause)
 
 pub returns-clause-still : goal.returns-clause-still
 returns-clause-still g c = λ was goes_on.
