@@ -10,17 +10,16 @@ use Rattle.legal_moves.specs.Effects.{EffectAt}
 use Rattle.legal_moves.specs.Glushkov.{IsNextAt}
 use Rattle.legal_moves.specs.Relations.{row_of}
 use Rattle.legal_moves.specs.Searches.{place_at, IsWideFrom}
-use Rattle.legal_moves.specs.aid.Configurations.{expression_at, IsReady, AsksTooMuch, OccurrenceLeads, opening, AreFound, IsMet, IsFollowed, IsSeen, IsNew, IsGrown}
-use Rattle.legal_moves.specs.aid.Going.{IsGoing}
+use Rattle.legal_moves.specs.aid.Configurations.{expression_at, IsReady, AsksTooMuch, OccurrenceLeads, opening, AreFound, IsMet, IsFollowed, IsNew, IsGrown}
+use Rattle.legal_moves.specs.aid.Going.{IsGoing, IsTaken}
 use Rattle.legal_moves.specs.declared.table.Table.{Table}
 use Rattle.legal_moves.specs.declared.configuration.Configuration.{Configuration}
-use Rattle.legal_moves.specs.declared.found.Found.{Found}
 use Rattle.legal_moves.proofs.EffectLemmas.{EffectAt-functional}
 use Rattle.legal_moves.proofs.SearchLemmas.{next_in_range, no_switch_at_0}
 use Rattle.legal_moves.proofs.StepLemmas.{EffectAt-keeps}
 use Rattle.legal_moves.proofs.FoundLemmas.{same_at, count_whole, IsFollowed-more}
 use Rattle.legal_moves.proofs.WidthLemmas.{wide_by_pattern}
-use Rattle.legal_moves.proofs.GoingLemmas.{taken, too_wide}
+use Rattle.legal_moves.proofs.GoingLemmas.{taken, taken_by_bytes, new_positions, too_wide}
 use Rattle.legal_moves.proofs.ReadyLemmas.{next_by_mark, mark_by_next}
 
 -- the flag of a configuration says whether its last action is a switch
@@ -69,33 +68,32 @@ number_small game tables index ready p k next =
     omega (arith, count_whole (expression_at game index), ready.small)
 
 -- on to the next configuration
-pub going_next : (game : Game) (e : Regex) (place : ℕ) (S : SemiState) (found : Found) (at : ℕ) → IsGoing game e place S found at → at < length found.configurations.items → ((n : ℕ) → IsFollowed game e place found.configurations.items at n) → IsGoing game e place S found (at + 1)
-going_next game e place S found at h inside here = record {
+pub going_next : (game : Game) (e : Regex) (place : ℕ) (S : SemiState) (cs : List Configuration) (at : ℕ) → IsGoing game e place S cs at → at < length cs → ((n : ℕ) → IsFollowed game e place cs at n) → IsGoing game e place S cs (at + 1)
+going_next game e place S cs at h inside here = record {
   found_are = h.found_are;
-  seen_is = h.seen_is;
   parents_are = λ i c at_c. let p = h.parents_are i c at_c in omega arith;
   expanded = λ j n less. go j n (cases_lt j at) less;
   within = omega arith;
 }
   where
-    go : (j n : ℕ) → (j < at) ⊎ (at ≤ j) → j < at + 1 → IsFollowed game e place found.configurations.items j n
+    go : (j n : ℕ) → (j < at) ⊎ (at ≤ j) → j < at + 1 → IsFollowed game e place cs j n
     go j n (inl less) le = h.expanded j n less
     go j n (inr past) le =
         let same : j ≡ at = omega arith in
-        subst (λ k. IsFollowed game e place found.configurations.items k n) (sym same) (here n)
+        subst (λ k. IsFollowed game e place cs k n) (sym same) (here n)
 
-module _ (game : Game) (tables : List Table) (index : ℕ) (ready : IsReady game tables index) (place : ℕ) (S : SemiState) (found : Found) (at n : ℕ) (b : Configuration) (going : IsGoing game (expression_at game index) place S found at) (here : IsFollowed game (expression_at game index) place found.configurations.items at n) (at_b : slice_get found.configurations.items at ≡ Some b) (plain : is_switch (action_at (expression_at game index) 1 b.at.place) ≡ false) where
+module _ (game : Game) (tables : List Table) (index : ℕ) (ready : IsReady game tables index) (place : ℕ) (S : SemiState) (cs : List Configuration) (at n : ℕ) (b : Configuration) (going : IsGoing game (expression_at game index) place S cs at) (here : IsFollowed game (expression_at game index) place cs at n) (at_b : slice_get cs at ≡ Some b) (plain : is_switch (action_at (expression_at game index) 1 b.at.place) ≡ false) where
   e : Regex
   e = expression_at game index
 
-  pub more_skipped : ¬ IsNextAt (expression_at game index) (place_at place b.at.place) n → IsFollowed game (expression_at game index) place found.configurations.items at (n + 1)
-  more_skipped none = IsFollowed-more game (expression_at game index) place S found.configurations.items at n b at_b here (λ U next step. absurd (none next)) (λ next. absurd (none next))
+  pub more_skipped : ¬ IsNextAt (expression_at game index) (place_at place b.at.place) n → IsFollowed game (expression_at game index) place cs at (n + 1)
+  more_skipped none = IsFollowed-more game (expression_at game index) place S cs at n b at_b here (λ U next step. absurd (none next)) (λ next. absurd (none next))
 
-  pub more_invalid : ((U : SemiState) → ¬ EffectAt game (expression_at game index) 1 n b.at.state U) → ¬ AsksTooMuch game (expression_at game index) n b.at.state → IsFollowed game (expression_at game index) place found.configurations.items at (n + 1)
-  more_invalid none narrow = IsFollowed-more game (expression_at game index) place S found.configurations.items at n b at_b here (λ U next step. absurd (none U step)) (λ next. narrow)
+  pub more_invalid : ((U : SemiState) → ¬ EffectAt game (expression_at game index) 1 n b.at.state U) → ¬ AsksTooMuch game (expression_at game index) n b.at.state → IsFollowed game (expression_at game index) place cs at (n + 1)
+  more_invalid none narrow = IsFollowed-more game (expression_at game index) place S cs at n b at_b here (λ U next step. absurd (none U step)) (λ next. narrow)
 
   pub asked : IsNextAt (expression_at game index) (place_at place b.at.place) n → AsksTooMuch game (expression_at game index) n b.at.state → IsWideFrom game (expression_at game index) place S
-  asked next asks = wide_by_pattern game (expression_at game index) place S found.configurations.items b at n going.found_are at_b plain next asks
+  asked next asks = wide_by_pattern game (expression_at game index) place S cs b at n going.found_are at_b plain next asks
 
   module _ (c : Configuration) (next : IsNextAt (expression_at game index) (place_at place b.at.place) n) (leads : OccurrenceLeads game (expression_at game index) n b.at.state c) (parent : c.parent ≡ at) where
     next_c : IsNextAt (expression_at game index) (place_at place b.at.place) c.at.place
@@ -108,24 +106,31 @@ module _ (game : Game) (tables : List Table) (index : ℕ) (ready : IsReady game
     state_c = EffectAt-keeps game (expression_at game index) n b.at.state c.at.state ready.sound ready.expression_is (going.found_are.states_are at b at_b) leads.step
 
     -- after the turn
-    pub record HasTurned (found' : Found) : Type 0 where
-      pub goes : IsGoing game (expression_at game index) place S found' at
-      pub expands : IsFollowed game (expression_at game index) place found'.configurations.items at (n + 1)
-      pub b_at : slice_get found'.configurations.items at ≡ Some b
+    pub record HasTurned (cs' : List Configuration) : Type 0 where
+      pub goes : IsGoing game (expression_at game index) place S cs' at
+      pub expands : IsFollowed game (expression_at game index) place cs' at (n + 1)
+      pub b_at : slice_get cs' at ≡ Some b
 
-    pub turned : (found' : Found) → ¬ AsksTooMuch game (expression_at game index) n b.at.state → IsGrown found.configurations.items c found'.configurations.items → IsSeen found'.configurations.items found'.seen → HasTurned found'
-    turned found' narrow grown seen =
-        let t = taken game (expression_at game index) place S ready.sound ready.small found at b c going at_b plain next_c leads_c parent state_c found' grown seen in
+    pub turned : (cs' : List Configuration) → ¬ AsksTooMuch game (expression_at game index) n b.at.state → IsTaken cs c cs' → HasTurned cs'
+    turned cs' narrow taken_c =
+        let t = taken game (expression_at game index) place S ready.sound ready.small cs at b c going at_b plain next_c leads_c parent state_c cs' taken_c in
         record {
           goes = t.goes;
-          expands = IsFollowed-more game (expression_at game index) place S found'.configurations.items at n b t.b_at (t.kept n here) (λ U next step. met found' U t.met step) (λ next. narrow);
+          expands = IsFollowed-more game (expression_at game index) place S cs' at n b t.b_at (t.kept n here) (λ U next step. met cs' U t.met step) (λ next. narrow);
           b_at = t.b_at;
         }
       where
-        met : (found' : Found) (U : SemiState) → IsMet found'.configurations.items at c.at.state c.at.place → EffectAt game (expression_at game index) 1 n b.at.state U → IsMet found'.configurations.items at U n
-        met found' U m step =
+        met : (cs' : List Configuration) (U : SemiState) → IsMet cs' at c.at.state c.at.place → EffectAt game (expression_at game index) 1 n b.at.state U → IsMet cs' at U n
+        met cs' U m step =
             let same = EffectAt-functional game (expression_at game index) 1 n b.at.state c.at.state U leads.step step in
-            subst (λ k. IsMet found'.configurations.items at U k) leads.place_is (subst (λ V. IsMet found'.configurations.items at V c.at.place) same m)
+            subst (λ k. IsMet cs' at U k) leads.place_is (subst (λ V. IsMet cs' at V c.at.place) same m)
 
-    pub full : 65536 ≤ length found.configurations.items → IsNew found.configurations.items c → IsWideFrom game (expression_at game index) place S
-    full many new = too_wide game (expression_at game index) place S ready.sound ready.small found at b c going at_b plain next_c leads_c parent state_c many new
+    -- one with new bytes is at a new position
+    pub by_bytes : (cs' : List Configuration) → IsGrown cs c cs' → IsTaken cs c cs'
+    by_bytes cs' grown = taken_by_bytes game (expression_at game index) place S ready.sound ready.small cs at b c going at_b plain next_c leads_c parent state_c cs' grown
+
+    pub new_by_bytes : IsNew cs c → (i : ℕ) (d : Configuration) → slice_get cs i ≡ Some d → ¬ (d.at ≡ c.at)
+    new_by_bytes new = new_positions game (expression_at game index) place S ready.sound ready.small cs at b c going at_b plain next_c leads_c parent state_c new
+
+    pub full : 65536 ≤ length cs → ((i : ℕ) (d : Configuration) → slice_get cs i ≡ Some d → ¬ (d.at ≡ c.at)) → IsWideFrom game (expression_at game index) place S
+    full many new = too_wide game (expression_at game index) place S ready.sound ready.small cs at b c going at_b plain next_c leads_c parent state_c many new

@@ -1,5 +1,5 @@
 -- What the table of an expression says of its occurrences.
-use Rattle.std.proofs.Common.{◌≡◌, ℕ, zero, suc, ◌+◌, ◌-◌, ◌<◌, ◌≤◌, Bool, true, false, List, [], ◌∷◌, length, take, get_or, Some, slice_get, unwrap_or, Contains, refl, sym, ap, ◌∙◌, subst, arith}
+use Rattle.std.proofs.Common.{◌≡◌, ℕ, zero, suc, ◌+◌, ◌-◌, ◌<◌, ◌≤◌, Bool, true, false, List, [], ◌∷◌, length, take, get_or, Option, Some, None, slice_get, unwrap_or, Contains, refl, sym, ap, ◌∙◌, subst, arith}
 use Rattle.std.specs.Bool.{OnTrue, OnFalse, MatchBool}
 use mathlib.Core.Bool.{beq}
 use Rattle.std.proofs.lemmas.Option.{slice_get-get_or}
@@ -10,6 +10,10 @@ use Rattle.rbg_game.specs.Sound.{IsSoundRegex, IsSoundAction, LacksSwitch}
 use Rattle.rbg_game.specs.Positions.{IsStateOf}
 use Rattle.rbg_game.specs.declared.position.SemiState.{SemiState}
 use Rattle.legal_moves.specs.Plain.{IsPlain}
+use Rattle.legal_moves.specs.aid.Looking.{at_vertex, IsLook, Tells, TellsAt}
+use Rattle.legal_moves.specs.declared.effect.Glance.{Glance}
+use Rattle.legal_moves.specs.declared.effect.Glance.TheVariants.{Fails, At, Writes}
+use Rattle.std.specs.Option.{IfSome, IfNone}
 use Rattle.legal_moves.specs.Effects.{Effect, EffectAt}
 use Rattle.legal_moves.specs.Glushkov.{IsNextAt, IsLast}
 use Rattle.legal_moves.specs.Marks.{IsMarkSet}
@@ -128,6 +132,22 @@ module _ (game : Game) (tables : List Table) (index : ℕ) (ready : IsReady game
             same : (b : Action) → action_at (expression_at game index) 1 number ≡ Some b → b ≡ action_of x
             same b h = let both : Some b ≡ Some (action_of x) = sym h ∙ at_number in cc
 
+        act_never : (S : SemiState) → ((T : SemiState) → ¬ Effect game (action_of x) S T) → (U : SemiState) → ¬ EffectAt game (expression_at game index) 1 number S U
+        act_never S never = act_refused S false never
+
+        pub act_some : (S : SemiState) (o : Option SemiState) → IfSome o (Effect game (action_of x) S) → IfSome o (EffectAt game (expression_at game index) 1 number S)
+        act_some S None h = h
+        act_some S (Some T) h = EffectAt-by_action game (expression_at game index) 1 number (action_of x) S T at_number h
+
+        pub act_none : (S : SemiState) (o : Option SemiState) → IfNone o ((T : SemiState) → ¬ Effect game (action_of x) S T) → IfNone o ((U : SemiState) → ¬ EffectAt game (expression_at game index) 1 number S U)
+        act_none S None h = act_never S h
+        act_none S (Some T) h = h
+
+        pub act_tells : (S : SemiState) (g : Glance) → Tells game (action_of x) S g → TellsAt game (expression_at game index) number S g
+        act_tells S Fails h = act_never S h
+        act_tells S (At v) h = (EffectAt-by_action game (expression_at game index) 1 number (action_of x) S (at_vertex S v) at_number h.0, subst IsLook (sym at_number) h.1)
+        act_tells S Writes h = tt
+
         pub act_narrow : (S : SemiState) → ¬ AsksTooMuch game (expression_at game index) number S
         act_narrow S asks =
             let both : Some (pattern asks.0 asks.1) ≡ Some has_action.action = sym asks.2 ∙ has_action.action_is in
@@ -198,6 +218,15 @@ module _ (game : Game) (tables : List Table) (index : ℕ) (ready : IsReady game
             let effect : Effect game (pattern positive (expression_at game i)) S U = subst (λ x. Effect game x S U) same a.2 in
             let never : false ≡ true = e (not_both S b positive h effect.1) in
             cc
+
+        pub ask_some : (S : SemiState) (b : Bool) → MatchBool b (IsLegal game (expression_at game i) S) (¬ IsLegal game (expression_at game i) S) → b ≡ positive → EffectAt game (expression_at game index) 1 number S S
+        ask_some S b h same = ask_valid S b true h (λ _. same)
+
+        pub ask_none : (S : SemiState) (b : Bool) → MatchBool b (IsLegal game (expression_at game i) S) (¬ IsLegal game (expression_at game i) S) → ¬ (b ≡ positive) → (U : SemiState) → ¬ EffectAt game (expression_at game index) 1 number S U
+        ask_none S b h differ = ask_refused S b false h (λ same. absurd (differ same))
+
+        pub ask_look : IsLook (action_at (expression_at game index) 1 number)
+        ask_look = subst IsLook (sym ask_is) (refl, refl)
 
 pub OnTrue-at : (r : Bool) (P : Type 0) → r ≡ true → OnTrue r P → P
 OnTrue-at true P e h = h

@@ -1,4 +1,5 @@
 pub mod Configurations
 pub mod Going
+pub mod Looking
 pub mod Searches
 pub mod Tables

@@ -34,3 +34,11 @@ pub fn is_shown(action: &Action) -> bool
         Action::Pattern(_, _) => false,
     }
 }
+
+/// Whether the action changes the vertex alone, and asks no pattern.
+pub fn is_look(action: &Action) -> bool {
+    matches!(
+        action,
+        Action::Shift(_) | Action::On(_) | Action::Comparison(_, _, _)
+    )
+}

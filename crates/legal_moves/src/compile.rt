@@ -27,10 +27,12 @@ pub fn add_table(alloc: Global, tables: &mut Vec<Table>, rules: &Rules) -> Resul
     let Draft { steps, mut follows } = draft;
     follows.relate_all(alloc, &[0], &ends.first)?;
     let index = tables.len();
+    let looks = steps.iter().all(|step| step.is_look(tables));
     tables.push(Table {
         steps,
         follows,
         ends,
+        looks,
     })?;
     Ok(index)
 }

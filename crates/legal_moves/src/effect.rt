@@ -1,16 +1,31 @@
 //! What an action does to a semi-state.
-ghost use Rattle.std.specs.Prelude.{◌≡◌, ◌↔◌, ◌<◌, ◌==◌, IsTrue, option_map, find, length, ℕ};
+ghost use Rattle.std.specs.Prelude.{◌≡◌, ◌↔◌, ◌<◌, ◌==◌, IsTrue, option_map, find, length, ℕ, IfOk, IfSome};
 ghost use Rattle.std.specs.Bool.{OnTrue, OnFalse};
+ghost use Rattle.std.specs.Option.{IfNone};
 ghost use Rattle.rbg_game.specs.Meaning.{game_of, action_of};
 ghost use Rattle.rbg_game.specs.declared.position.SemiState.{SemiState};
 ghost use Rattle.legal_moves.specs.Effects.{Compares, Effect};
 ghost use Rattle.rbg_game.specs.Positions.{IsStateOf};
 ghost use Rattle.legal_moves.specs.Plain.{IsPlain};
+ghost use Rattle.legal_moves.specs.aid.Looking.{at_vertex, Tells};
 
+use crate::copies::copied_state;
 use rbg_game::game::{Game, Vertex};
 use rbg_game::position::SemiState;
 use rbg_game::rules::{Action, Comparison};
 use rbg_game::value::value;
+use std::alloc::AllocError;
+
+/// What a glance at an action tells.
+#[derive(Clone, Copy, PartialEq, Eq, Debug)]
+pub enum Glance {
+    /// It is not valid.
+    Fails,
+    /// It leads to this vertex, and changes nothing else.
+    At(u8),
+    /// It may change more than the vertex.
+    Writes,
+}
 
 /// Whether the comparison holds of the two numbers.
 pub fn compares(comparison: Comparison, left: i64, right: i64) -> bool
@@ -81,5 +96,67 @@ pub fn act(game: &Game, action: &Action, state: &mut SemiState) -> bool
             true
         }
         Action::Pattern(_, _) => unreachable!(),
+    }
+}
+
+/// What the action comes to at this vertex, where it can be said without a copy of the semi-state.
+pub fn at_a_glance(game: &Game, action: &Action, state: &SemiState, vertex: u8) -> Glance
+    requires state { IsStateOf (game_of game.now) (at_vertex state.now vertex) }
+    requires plain { IsPlain state.now.values.items (action_of action.now) }
+    ensures { Tells (game_of game.now) (action_of action.now) (at_vertex state.now vertex) result }
+{
+    match action {
+        Action::Shift(label) => match neighbour(&game.vertices[usize::from(vertex)], *label) {
+            Some(to) => Glance::At(to),
+            None => Glance::Fails,
+        },
+        Action::On(pieces) => {
+            if pieces.contains(&state.pieces[usize::from(vertex)]) {
+                Glance::At(vertex)
+            } else {
+                Glance::Fails
+            }
+        }
+        Action::Comparison(left, comparison, right) => {
+            if compares(
+                *comparison,
+                value(left, &state.values),
+                value(right, &state.values),
+            ) {
+                Glance::At(vertex)
+            } else {
+                Glance::Fails
+            }
+        }
+        _ => Glance::Writes,
+    }
+}
+
+/// The semi-state that the action leads to, if it is valid.
+pub fn acted(
+    game: &Game,
+    action: &Action,
+    state: &SemiState,
+) -> Result<Option<SemiState>, AllocError>
+    requires state { IsStateOf (game_of game.now) state.now }
+    requires plain { IsPlain state.now.values.items (action_of action.now) }
+    ensures some { IfOk result (λ after. IfSome after (Effect (game_of game.now) (action_of action.now) state.now)) }
+    ensures none { IfOk result (λ after. IfNone after ((T : SemiState) → ¬ Effect (game_of game.now) (action_of action.now) state.now T)) }
+{
+    match at_a_glance(game, action, state, state.vertex) {
+        Glance::Fails => Ok(None),
+        Glance::At(vertex) => {
+            let mut after = copied_state(state)?;
+            after.vertex = vertex;
+            Ok(Some(after))
+        }
+        Glance::Writes => {
+            let mut after = copied_state(state)?;
+            if act(game, action, &mut after) {
+                Ok(Some(after))
+            } else {
+                Ok(None)
+            }
+        }
     }
 }

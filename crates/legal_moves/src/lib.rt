@@ -11,6 +11,7 @@ pub mod fault;
 mod fields;
 mod found;
 pub mod laws;
+mod looks;
 mod marks;
 pub mod moves;
 mod relation;

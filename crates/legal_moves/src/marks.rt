@@ -1,5 +1,5 @@
 //! Rows of marks.
-ghost use Rattle.std.specs.Prelude.{◌≡◌, ℕ, ◌⊎◌, ◌↔◌, OnOk};
+ghost use Rattle.std.specs.Prelude.{◌≡◌, ℕ, ◌⊎◌, ◌↔◌, OnOk, false, slice_index_or};
 ghost use Rattle.legal_moves.specs.Marks.{IsMarkSet};
 
 use std::alloc::AllocError;
@@ -13,4 +13,11 @@ pub fn mark(row: &mut Vec<bool>, at: usize) -> Result<(), AllocError>
     }
     row[at] = true;
     Ok(())
+}
+
+/// Whether the place of a row is marked.
+pub fn is_marked(row: &[bool], at: usize) -> bool
+    ensures { result ≡ slice_index_or row.now at false }
+{
+    row.get(at).copied().unwrap_or(false)
 }

@@ -1,7 +1,7 @@
 //! Expressions made ready for a search: the steps by their numbers, and which can follow which.
 ghost use Rattle.std.specs.Prelude.{◌≡◌, ◌-◌, ◌≤◌, length, ◌&&◌, ◌||◌, [], ◌∷◌, ◌++◌, if◌then◌else◌, IfOk, Some, slice_get, false};
 
-use crate::actions::{ends_move, is_shown};
+use crate::actions::{ends_move, is_look, is_shown};
 use crate::relation::Relation;
 use rbg_game::rules::Action;
 use std::alloc::{AllocError, Global};
@@ -25,6 +25,14 @@ impl Step {
         match self {
             Step::Act(action) => ends_move(action),
             Step::Ask(_, _) => false,
+        }
+    }
+
+    /// Whether it only looks, where these are the tables of patterns.
+    pub fn is_look(&self, tables: &[Table]) -> bool {
+        match self {
+            Step::Act(action) => is_look(action),
+            Step::Ask(_, inner) => tables.get(*inner).is_some_and(|table| table.looks),
         }
     }
 
@@ -134,6 +142,8 @@ pub struct Table {
     /// Which number can stand right after which; after 0, which can stand first.
     pub follows: Relation,
     pub ends: Ends,
+    /// Whether all steps only look, as far as was seen: a search that only looks is tried first then.
+    pub looks: bool,
 }
 
 impl Table {

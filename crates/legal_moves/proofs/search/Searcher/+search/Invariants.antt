@@ -1,7 +1,9 @@
 use Rattle.std.proofs.Common.{◌≡◌, ◌+◌, ◌-◌, ◌*◌, slice_get}
+use Rattle.rbg_game.specs.Rules.{count}
 use Rattle.rbg_game.specs.Meaning.{game_of}
-use Rattle.legal_moves.specs.aid.Configurations.{expression_at, IsFollowed}
+use Rattle.legal_moves.specs.aid.Configurations.{expression_at, IsFollowed, IsSeen}
 use Rattle.legal_moves.specs.aid.Going.{began, IsGoing}
+use Rattle.legal_moves.specs.aid.Looking.{at_vertex, seen_from, AreMarked}
 use Rattle.legal_moves.proofs.search.Searcher.+search.Given as goal
 
 abbrev pub decreases-holds : goal.decreases-holds
@@ -10,25 +12,54 @@ decreases-holds l = 5 * l.index + 5
 abbrev pub decreases-search : goal.decreases-search
 decreases-search l = 5 * l.index + 4
 
+abbrev pub decreases-look : goal.decreases-look
+decreases-look l = 5 * l.index + 4
+
 abbrev pub decreases-expand : goal.decreases-expand
 decreases-expand l = 5 * l.index + 3
+
+abbrev pub decreases-look_on : goal.decreases-look_on
+decreases-look_on l = 5 * l.index + 3
 
 abbrev pub decreases-after : goal.decreases-after
 decreases-after l = 5 * l.index + 2
 
-abbrev pub decreases-passes : goal.decreases-passes
-decreases-passes l = 5 * l.index + 1
+abbrev pub decreases-passed : goal.decreases-passed
+decreases-passed l = 5 * l.index + 1
+
+abbrev pub decreases-glance_at : goal.decreases-glance_at
+decreases-glance_at l = 5 * l.index + 2
 
 abbrev pub invariant-expand-loop-number : goal.invariant-expand-loop-number
 invariant-expand-loop-number l = record {
-  going : IsGoing (game_of l.self.game.now) (expression_at (game_of l.self.game.now) l.index) l.place (began l.initial.found.configurations.items) l.found l.at;
+  seen : IsSeen l.found.configurations.items l.found.seen;
+  going : IsGoing (game_of l.self.game.now) (expression_at (game_of l.self.game.now) l.index) l.place (began l.initial.found.configurations.items) l.found.configurations.items l.at;
   here : IsFollowed (game_of l.self.game.now) (expression_at (game_of l.self.game.now) l.index) l.place l.found.configurations.items l.at l.number;
   before : slice_get l.found.configurations.items l.at ≡ slice_get l.initial.found.configurations.items l.at;
 }
 
 abbrev pub invariant-search-loop-at : goal.invariant-search-loop-at
-invariant-search-loop-at l =
-    IsGoing (game_of l.self.game.now) (expression_at (game_of l.self.game.now) l.index) l.place l.fn.state l.found l.at
+invariant-search-loop-at l = record {
+  seen : IsSeen l.found.configurations.items l.found.seen;
+  going : IsGoing (game_of l.self.game.now) (expression_at (game_of l.self.game.now) l.index) l.place l.fn.state l.found.configurations.items l.at;
+}
 
 abbrev pub decreases-search-loop-at : goal.decreases-search-loop-at
 decreases-search-loop-at l = 65536 - l.at
+
+abbrev pub invariant-look_on-loop-number : goal.invariant-look_on-loop-number
+invariant-look_on-loop-number l = record {
+  marked : AreMarked (count (expression_at (game_of l.self.game.now) l.index) + 1) l.looks;
+  going : IsGoing (game_of l.self.game.now) (expression_at (game_of l.self.game.now) l.index) 0 (began (seen_from l.state l.initial.looks.looks.items)) (seen_from l.state l.looks.looks.items) l.at;
+  here : IsFollowed (game_of l.self.game.now) (expression_at (game_of l.self.game.now) l.index) 0 (seen_from l.state l.looks.looks.items) l.at l.number;
+  before : slice_get l.looks.looks.items l.at ≡ slice_get l.initial.looks.looks.items l.at;
+}
+
+abbrev pub invariant-look-loop-at : goal.invariant-look-loop-at
+invariant-look-loop-at l = record {
+  marked : AreMarked (count (expression_at (game_of l.self.game.now) l.index) + 1) l.looks;
+  going : IsGoing (game_of l.self.game.now) (expression_at (game_of l.self.game.now) l.index) 0 (at_vertex l.state l.vertex) (seen_from l.state l.looks.looks.items) l.at;
+}
+
+abbrev pub decreases-look-loop-at : goal.decreases-look-loop-at
+decreases-look-loop-at l = 65536 - l.at

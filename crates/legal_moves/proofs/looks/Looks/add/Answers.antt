@@ -1,0 +1,18 @@
+use Rattle.std.proofs.Common.{◌≡◌, ◌+◌, ◌*◌, ◌⊎◌, ℕ, refl, sym, ap, ◌∙◌, subst, arith, true, false, slice_index_or}
+use Rattle.legal_moves.specs.Marks.{IsMarkSet}
+use Rattle.legal_moves.specs.aid.Looking.{AreMarked, mark_of}
+use Rattle.legal_moves.proofs.LookLemmas.{there, new_look, marked_more}
+use Rattle.legal_moves.proofs.looks.Looks.add.Goals as goal
+
+pub returns-then-is_marked-clause-added : goal.returns-then-is_marked-clause-added
+returns-then-is_marked-clause-added c =
+    let at : c.from.result * c.args.self.now.numbers + c.from-2.result ≡ mark_of c.args.self.now.numbers c.args.look = rw (c.from.ensures, c.from-2.ensures) refl in
+    let set : IsMarkSet c.args.self.now.marks.items (mark_of c.args.self.now.numbers c.args.look) =
+    subst (λ j. IsMarkSet c.args.self.now.marks.items j) at (subst (λ xs. IsMarkSet xs (c.from.result * c.args.self.now.numbers + c.from-2.result)) c.deref.ensures.value (sym c.is_marked.ensures ∙ c.if-is_marked.true)) in
+    there c.args.self.now.numbers c.args.self.now c.args.look c.requires.marked c.requires.within set
+
+pub returns-clause-marked : goal.returns-clause-marked
+returns-clause-marked c =
+    let at : c.from.result * c.args.self.now.numbers + c.from-2.result ≡ mark_of c.args.self.now.numbers c.args.look = rw (c.from.ensures, c.from-2.ensures) refl in
+    marked_more c.args.self.now.numbers c.args.self.now c.args.look c.requires.marked c.requires.within _ c.in_ok-push.ensures.items refl
+    (subst (λ m. (j : ℕ) → (IsMarkSet c.mark.new.row.items j → IsMarkSet c.args.self.now.marks.items j ⊎ (j ≡ m)) × (IsMarkSet c.args.self.now.marks.items j ⊎ (j ≡ m) → IsMarkSet c.mark.new.row.items j)) at c.in_ok-mark.ensures)

@@ -1,0 +1,80 @@
+//! What a search that only looks has come to: it writes nothing, and so the vertex alone changes.
+ghost use Rattle.std.specs.Prelude.{◌≡◌, ◌≤◌, ◌<◌, [], ◌∷◌, length, IfOk, OnOk, Err};
+
+use crate::fault::MoveFault;
+use crate::found::WIDEST;
+use crate::marks::{is_marked, mark};
+use std::alloc::{AllocError, Global};
+
+/// A vertex, with the number of the last action, and how the search came to it.
+#[derive(Clone, Copy)]
+pub struct Look {
+    pub vertex: u8,
+    /// 0 at the opening.
+    pub place: u16,
+    /// The index of the look before the last action.
+    pub parent: usize,
+}
+
+/// The looks in the order in which they were found.
+#[derive(Drop)]
+pub struct Looks {
+    pub looks: Vec<Look>,
+    /// For each vertex a row of marks, one for each number.
+    pub marks: Vec<bool>,
+    /// How many numbers a row has.
+    pub numbers: usize,
+}
+
+impl Looks {
+    ghost use Rattle.legal_moves.specs.aid.Looking.{AreMarked, IsNewLook, IsLookAdded};
+
+    /// The opening alone, with room for the marks of so many vertices.
+    pub fn begun(
+        alloc: Global,
+        vertices: usize,
+        numbers: usize,
+        vertex: u8,
+    ) -> Result<Looks, AllocError>
+        requires vertices { vertices ≤ 128 }
+        requires some { 1 ≤ numbers }
+        requires few { numbers ≤ 4097 }
+        ensures opening { IfOk result (λ looks. looks.looks.items ≡ record { vertex = vertex; place = 0; parent = 0 } ∷ []) }
+        ensures marked { IfOk result (AreMarked numbers) }
+    {
+        let mut looks = Vec::new(alloc);
+        let mut marks = vec![in alloc; false; vertices * numbers]?;
+        mark(&mut marks, usize::from(vertex) * numbers)?;
+        looks.push(Look {
+            vertex,
+            place: 0,
+            parent: 0,
+        })?;
+        Ok(Looks {
+            looks,
+            marks,
+            numbers,
+        })
+    }
+
+    /// Adds a look if it is new.
+    pub fn add(&mut self, look: Look) -> Result<(), MoveFault>
+        requires few { self.old.numbers ≤ 4097 }
+        requires within { look.place < self.old.numbers }
+        requires marked { AreMarked self.old.numbers self.old }
+        ensures marked { OnOk result (AreMarked self.old.numbers self.new) }
+        ensures added { OnOk result (IsLookAdded self.old.looks.items look self.new.looks.items) }
+        ensures wide { result ≡ Err MoveFault.TooWide → 65536 ≤ length self.old.looks.items × IsNewLook self.old.looks.items look }
+    {
+        let at = usize::from(look.vertex) * self.numbers + usize::from(look.place);
+        if is_marked(&self.marks, at) {
+            return Ok(());
+        }
+        if self.looks.len() >= WIDEST {
+            return Err(MoveFault::TooWide);
+        }
+        mark(&mut self.marks, at)?;
+        self.looks.push(look)?;
+        Ok(())
+    }
+}
