@@ -1,0 +1,11 @@
+pub mod Found
+pub mod Keeping
+pub mod Laws
+pub mod Next
+pub mod Once
+pub mod Order
+pub mod Parts
+pub mod Putting
+pub mod Taking
+pub mod Unchanged
+pub mod Way
