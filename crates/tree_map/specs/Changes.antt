@@ -2,9 +2,9 @@
 use Rattle.std.specs.Prelude.{◌≡◌, ◌⊎◌, ℕ, true, List, length, Contains, IsTrue}
 use Rattle.sector_disk.specs.Disk.{Grew}
 use Rattle.page_store.specs.declared.fault.PageFault.{PageFault}
-use Rattle.page_store.specs.declared.fault.PageFault.TheVariants.{Disk, NotATable, Damaged, TableFull, OutOfMemory, Closed}
+use Rattle.page_store.specs.declared.fault.PageFault.TheVariants.{Disk, Damaged, TableFull, Closed}
 use Rattle.page_store.specs.declared.marks.Mark.{Mark}
-use Rattle.page_store.specs.declared.marks.Mark.TheVariants.{Committed, Waiting, Fresh, Free}
+use Rattle.page_store.specs.declared.marks.Mark.TheVariants.{Committed, Fresh, Free}
 use Rattle.page_store.specs.Marks.{mark, let_go, free_count}
 use Rattle.page_store.specs.Store.{Store, reads}
 use Rattle.tree_page.specs.Page.{Item}
@@ -31,34 +31,14 @@ pub record TakePlace (pages others : List ℕ) (old new : Store) : Type 0 where
 -- a map is not read: the disk failed; below this root is no map, as far as the disk is honest; or the store is closed
 abbrev pub MapReadCause : Widths → ℕ → Store → Store → PageFault → Type 0
 MapReadCause w root old new Disk = Grew old.failures new.failures
-MapReadCause w root old new NotATable = ⊥
 MapReadCause w root old new Damaged = IsTrue old.disk.honest → (pages : List ℕ) (es : List Item) → ¬ HoldsMap w old root pages es
-MapReadCause w root old new TableFull = ⊥
-MapReadCause w root old new OutOfMemory = ⊥
 MapReadCause w root old new Closed = old.closed ≡ true
+MapReadCause w root old new _ = ⊥
 
 -- an entry is not put: as a map is not read, or a page is needed and none is free
 abbrev pub MapPutCause : Widths → ℕ → Store → Store → PageFault → Type 0
 MapPutCause w root old new Disk = Grew old.failures new.failures
-MapPutCause w root old new NotATable = ⊥
 MapPutCause w root old new Damaged = IsTrue old.disk.honest → (pages : List ℕ) (es : List Item) → ¬ HoldsMap w old root pages es
 MapPutCause w root old new TableFull = free_count new.marks ≡ 0
-MapPutCause w root old new OutOfMemory = ⊥
 MapPutCause w root old new Closed = old.closed ≡ true
-
--- a map is not walked: as it is not read, where its pages waited to be marked
-abbrev pub MapWalkCause : Widths → ℕ → Store → Store → PageFault → Type 0
-MapWalkCause w root old new Disk = Grew old.failures new.failures
-MapWalkCause w root old new NotATable = ⊥
-MapWalkCause w root old new Damaged =
-    IsTrue old.disk.honest → (pages : List ℕ) (es : List Item) → HoldsMap w old root pages es
-    → ((p : ℕ) → Contains pages p → mark old.marks p ≡ Waiting) → ⊥
-MapWalkCause w root old new TableFull = ⊥
-MapWalkCause w root old new OutOfMemory = Unit {0}
-MapWalkCause w root old new Closed = old.closed ≡ true
-
--- pages that waited are marked, and no others
-pub record AreMarked (pages : List ℕ) (old new : Store) : Type 0 where
-  pub waited : (p : ℕ) → Contains pages p → mark old.marks p ≡ Waiting
-  pub marked : (p : ℕ) → Contains pages p → mark new.marks p ≡ Committed
-  pub kept : (p : ℕ) → ¬ Contains pages p → mark new.marks p ≡ mark old.marks p
+MapPutCause w root old new _ = ⊥

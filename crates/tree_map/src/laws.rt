@@ -40,7 +40,8 @@ pub fn a_map_is_prepared()
 /// A map on pages that are marked is one that the committed root may need.
 pub fn a_map_stands()
     ensures { (w : Widths) (capacity root : ℕ) (pages : List ℕ) (es : List Item) (store : Store)
-        → capacity ≤ length store.marks → IsMap w capacity root pages es (reads store) → ((p : ℕ) → Contains pages p → mark store.marks p ≡ Committed)
+        → capacity ≤ length store.marks → IsMap w capacity root pages es (reads store)
+        → ((p : ℕ) → Contains pages p → mark store.marks p ≡ Committed)
         → Stands (λ p. Contains pages p) (IsMap w capacity root pages es) store }
 {}
 

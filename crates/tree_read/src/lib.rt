@@ -1,0 +1,10 @@
+//! Maps that are trees of pages are read: the value at a key, and the entry with the next greater key.
+#![tactic(auto)]
+
+mod entry;
+mod leaf;
+mod read;
+mod way;
+
+pub use entry::{Bytes, Entry, copied};
+pub use read::{get, next_after};

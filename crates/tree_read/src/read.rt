@@ -1,0 +1,65 @@
+//! A map is asked for a key.
+ghost use Rattle.std.specs.Prelude.{◌≡◌, ℕ, List, IfOk, IfErr, IsTrue};
+ghost use Rattle.page_store.specs.Store.{StoreWorks, IsUnchanged};
+ghost use Rattle.tree_page.specs.Page.{Item};
+ghost use Rattle.tree_map.specs.Changes.{HoldsMap, MapReadCause};
+ghost use Rattle.tree_map.specs.Entries.{find_entry, next_after as next_in};
+ghost use Rattle.tree_read.specs.Answers.{found_bytes, found_entry};
+
+use crate::entry::{Bytes, Entry};
+use crate::leaf::{entry_after, value_in};
+use crate::way::reach_leaf;
+use page_store::{PageFault, Pages};
+use tree_page::Widths;
+
+/// The value at this key in the map below this root. `Damaged` only where below it is no map, or the disk is not honest.
+pub fn get<P: Pages>(
+    store: &mut P,
+    widths: Widths,
+    root: u32,
+    key: &[u8],
+) -> Result<Option<Bytes>, PageFault>
+    ensures found { IsTrue (P.store store.old).disk.honest → IfOk result (λ found. (pages : List ℕ) (es : List Item)
+        → HoldsMap widths (P.store store.old) root pages es → found_bytes found ≡ find_entry es key.now) }
+    ensures unchanged { IsUnchanged (P.store store.old) (P.store store.new) }
+    ensures works { StoreWorks (P.store store.old) (P.store store.new) }
+    ensures cause { IfErr result (MapReadCause widths root (P.store store.old) (P.store store.new)) }
+{
+    if root == 0 {
+        return Ok(None);
+    }
+    let mut leaf = [0; 4096];
+    let _behind = reach_leaf(store, widths, root, key, &mut leaf)?;
+    Ok(value_in(widths, &leaf, key))
+}
+
+/// The entry with the least key that is greater than this one, in the map below this root. `Damaged` only where below it
+/// is no map, or the disk is not honest.
+pub fn next_after<P: Pages>(
+    store: &mut P,
+    widths: Widths,
+    root: u32,
+    key: &[u8],
+) -> Result<Option<Entry>, PageFault>
+    ensures found { IsTrue (P.store store.old).disk.honest → IfOk result (λ found. (pages : List ℕ) (es : List Item)
+        → HoldsMap widths (P.store store.old) root pages es → found_entry found ≡ next_in es key.now) }
+    ensures unchanged { IsUnchanged (P.store store.old) (P.store store.new) }
+    ensures works { StoreWorks (P.store store.old) (P.store store.new) }
+    ensures cause { IfErr result (MapReadCause widths root (P.store store.old) (P.store store.new)) }
+{
+    if root == 0 {
+        return Ok(None);
+    }
+    let mut leaf = [0; 4096];
+    let behind = reach_leaf(store, widths, root, key, &mut leaf)?;
+    if let Some(entry) = entry_after(widths, &leaf, key) {
+        return Ok(Some(entry));
+    }
+    let Some(next) = behind else {
+        return Ok(None);
+    };
+    match get(store, widths, root, &next)? {
+        Some(value) => Ok(Some(Entry { key: next, value })),
+        None => Err(PageFault::Damaged),
+    }
+}
