@@ -1,0 +1,6 @@
+mod Failing
+mod Listing
+mod Placing
+mod Rising
+mod Rooting
+mod Writing
