@@ -73,7 +73,7 @@ module _ (es : List Item) (key : List ℕ) (n : ℕ) (place : IsPlace es key n) 
           let less : is_lt (key_cmp key f.0) ≡ false = ap is_lt (nat_list_cmp_total.antisymm key f.0) ∙ not_less (key_cmp f.0 key) all.0 in
           (λ i. cond (less i) (Some f) (next_after (fs ++ gs) key)) ∙ skip fs gs all.1
 
-take_got : {X : Type 0} (es : List X) (i : ℕ) (e : X) → slice_get es i ≡ Some e → take (suc i) es ≡ take i es ++ e ∷ []
+pub take_got : {X : Type 0} (es : List X) (i : ℕ) (e : X) → slice_get es i ≡ Some e → take (suc i) es ≡ take i es ++ e ∷ []
 take_got [] i e got = absurd (cc)
 take_got (x ∷ es) zero e got = let same : x ≡ e = cc in λ k. same k ∷ []
 take_got (x ∷ es) (suc i) e got = ap (λ rest. x ∷ rest) (take_got es i e got)

@@ -1,0 +1,75 @@
+-- Pages are marked, one after another.
+use Rattle.std.proofs.Common.{◌≡◌, ◌⊎◌, inl, inr, ℕ, IsTrue, refl, sym, ◌∙◌, ap, subst}
+use Rattle.std.proofs.lemmas.Bool.{cases_eq}
+use Rattle.sector_disk.specs.Disk.{Shown, Disk, LeavesOnly, MayLeave}
+use Rattle.sector_disk.specs.aid.Moments.{still_honest, leaves_now, leaves_then, leaves_more}
+use Rattle.page_store.specs.declared.marks.Mark.TheVariants.{Committed}
+use Rattle.page_store.specs.Marks.{mark, IsMarked}
+use Rattle.page_store.specs.Page.{page}
+use Rattle.page_store.specs.Store.{Store, reads, StoreWorks, IsUnchanged}
+use Rattle.page_store.specs.aid.Works.{works_refl, works_then}
+use Rattle.tree_walk.specs.aid.Taking.{MarksOnly}
+
+pub marks_none : (store : Store) → MarksOnly store store
+marks_none store = record {
+  works = works_refl store;
+  shown = λ honest. refl;
+  leaves = λ honest. leaves_now store.disk (λ picture left. left);
+  closed = refl;
+  others = λ p. inl refl;
+}
+
+pub marks_then : {old mid new : Store} → MarksOnly old mid → MarksOnly mid new → MarksOnly old new
+marks_then {old} {mid} {new} first second = record {
+  works = works_then first.works second.works;
+  shown = λ honest. second.shown (still_honest first.works.goes_on honest) ∙ first.shown honest;
+  leaves = λ honest.
+      leaves_then second.works.goes_on (first.leaves honest)
+      (leaves_more (λ picture left. subst (λ (s : Shown). MayLeave s picture) (first.shown honest) left) (second.leaves (still_honest first.works.goes_on honest)));
+  closed = second.closed ∙ first.closed;
+  others = each;
+}
+  where
+    each : (p : ℕ) → (mark new.marks p ≡ mark old.marks p) ⊎ (mark new.marks p ≡ Committed)
+    each p = elim (second.others p) [
+      | inr is ↦ inr is
+      | inl same ↦ elim (first.others p) [
+        | inl was ↦ inl (same ∙ was)
+        | inr is ↦ inr (same ∙ is)
+      ]
+    ]
+
+-- a read marks nothing
+pub marks_read : {old new : Store} → StoreWorks old new → IsUnchanged old new → MarksOnly old new
+marks_read {old} {new} works same = record {
+  works = works;
+  shown = same.shown;
+  leaves = same.leaves;
+  closed = same.closed;
+  others = λ p. inl (λ i. mark (same.marks i) p);
+}
+
+-- what a stop leaves where the disk was at first as it was
+leaves_same : (old mid new : Disk) → mid ≡ old → (IsTrue mid.honest → LeavesOnly mid new (MayLeave mid.now)) → IsTrue old.honest → LeavesOnly old new (MayLeave old.now)
+leaves_same old mid new same leaves honest = subst (λ (d : Disk). LeavesOnly d new (MayLeave d.now)) same (leaves (subst (λ (d : Disk). IsTrue d.honest) (sym same) honest))
+
+-- one page is marked, and then read
+pub marks_one : (at : ℕ) (old mid new : Store) → StoreWorks old mid → mid.disk ≡ old.disk → mid.closed ≡ old.closed → IsMarked at Committed old.marks mid.marks
+    → StoreWorks mid new → IsUnchanged mid new → MarksOnly old new
+marks_one at old mid new marking disk closed marked reading same = record {
+  works = works_then marking reading;
+  shown = λ honest. same.shown (still_honest marking.goes_on honest) ∙ ap (λ (d : Disk). d.now) disk;
+  leaves = leaves_same old.disk mid.disk new.disk disk same.leaves;
+  closed = same.closed ∙ closed;
+  others = each;
+}
+  where
+    each : (p : ℕ) → (mark new.marks p ≡ mark old.marks p) ⊎ (mark new.marks p ≡ Committed)
+    each p = elim (cases_eq p at) [
+      | inl is ↦ inr ((λ i. mark (same.marks i) p) ∙ ap (mark mid.marks) is ∙ marked.is)
+      | inr other ↦ inl ((λ i. mark (same.marks i) p) ∙ marked.others p other)
+    ]
+
+-- each page reads as it did
+pub reads_marked : (old new : Store) → IsTrue old.disk.honest → MarksOnly old new → reads new ≡ reads old
+reads_marked old new honest marks = ap (λ (s : Shown). λ (p : ℕ). page s.contents p) (marks.shown honest)

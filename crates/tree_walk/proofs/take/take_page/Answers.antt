@@ -1,0 +1,12 @@
+use Rattle.tree_walk.proofs.Marking.{marks_one}
+use Rattle.tree_walk.proofs.take.take_page.Goals as goal
+
+pub returns-in-Some-clause-marks : goal.returns-in-Some-clause-marks
+returns-in-Some-clause-marks g c =
+    marks_one c.args.page _ (g.P.Pages.store c.mark.new.self) _ c.mark.ensures.works c.mark.ensures.others.disk c.mark.ensures.others.closed c.in_ok-mark.ensures.ok
+    c.in_ok-read_page.ensures.works c.in_ok-read_page.ensures.unchanged
+
+pub returns-in_default-clause-marks : goal.returns-in_default-clause-marks
+returns-in_default-clause-marks g c =
+    marks_one c.args.page _ (g.P.Pages.store c.mark.new.self) _ c.mark.ensures.works c.mark.ensures.others.disk c.mark.ensures.others.closed c.in_ok-mark.ensures.ok
+    c.in_ok-read_page.ensures.works c.in_ok-read_page.ensures.unchanged

@@ -1,0 +1,41 @@
+-- What a walk does to a store, and why a map is not walked.
+use Rattle.std.specs.Prelude.{◌≡◌, ℕ, true, List, ◌∷◌, ◌++◌, Contains, IsTrue}
+use Rattle.sector_disk.specs.Disk.{Grew}
+use Rattle.page_store.specs.declared.fault.PageFault.TheVariants.{Disk, Damaged, Closed}
+use Rattle.page_store.specs.declared.marks.Mark.TheVariants.{Committed, Waiting}
+use Rattle.page_store.specs.Marks.{mark}
+use Rattle.page_store.specs.Store.{Store as StoreStated}
+use Rattle.tree_page.specs.declared.widths.Widths.{Widths}
+use Rattle.tree_page.specs.Page.{Item}
+use Rattle.tree_map.specs.Changes.{HoldsMap}
+use Rattle.tree_walk.specs.declared.fault.WalkFault.{WalkFault}
+use Rattle.tree_walk.specs.declared.fault.WalkFault.TheVariants.{Store, Refused}
+
+-- these pages wait to be marked
+abbrev pub AreWaiting : List ℕ → StoreStated → Type 0
+AreWaiting pages store = (p : ℕ) → Contains pages p → mark store.marks p ≡ Waiting
+
+-- pages that waited are marked, and no others
+pub record AreMarked (pages : List ℕ) (old new : StoreStated) : Type 0 where
+  pub waited : AreWaiting pages old
+  pub marked : (p : ℕ) → Contains pages p → mark new.marks p ≡ Committed
+  pub kept : (p : ℕ) → ¬ Contains pages p → mark new.marks p ≡ mark old.marks p
+
+-- a visitor that was told of `told` is then told of the first of these entries, up to one that it refuses
+pub record IsRefused (refuses : List Item → Item → Type 0) (told es : List Item) : Type 0 where
+  pub front : List Item
+  pub entry : Item
+  pub back : List Item
+  pub is : es ≡ front ++ entry ∷ back
+  pub refused : refuses (told ++ front) entry
+
+-- a map is not walked: the disk failed; below this root is no map on pages that wait, as far as the disk is honest; the
+-- store is closed; or the visitor refused one of its entries
+abbrev pub WalkCause : Widths → ℕ → (List Item → Item → Type 0) → List Item → StoreStated → StoreStated → WalkFault → Type 0
+WalkCause w root refuses told old new (Store Disk) = Grew old.failures new.failures
+WalkCause w root refuses told old new (Store Damaged) = IsTrue old.disk.honest → (pages : List ℕ) (es : List Item)
+    → HoldsMap w old root pages es → AreWaiting pages old → ⊥
+WalkCause w root refuses told old new (Store Closed) = old.closed ≡ true
+WalkCause w root refuses told old new (Store _) = ⊥
+WalkCause w root refuses told old new Refused = IsTrue old.disk.honest → (pages : List ℕ) (es : List Item)
+    → HoldsMap w old root pages es → IsRefused refuses told es

@@ -1,0 +1,26 @@
+//! One page of a tree is marked and read.
+ghost use Rattle.std.specs.Prelude.{OnOk, IfErr};
+ghost use Rattle.tree_walk.specs.aid.Taking.{IsTaken, MarksOnly, TakeCause};
+
+use page_store::{PageFault, Pages};
+use tree_page::{Kind, Widths, kind_of};
+
+/// Marks this page and reads it. It has to be of this kind.
+pub fn take_page<P: Pages>(
+    store: &mut P,
+    widths: Widths,
+    kind: Kind,
+    page: u32,
+    bytes: &mut [u8; 4096],
+) -> Result<(), PageFault>
+    ensures taken { OnOk result (IsTaken widths kind page bytes.new (P.store store.old) (P.store store.new)) }
+    ensures marks { MarksOnly (P.store store.old) (P.store store.new) }
+    ensures cause { IfErr result (TakeCause widths kind page (P.store store.old) (P.store store.new)) }
+{
+    store.mark(page)?;
+    store.read_page(page, bytes)?;
+    match kind_of(widths, bytes) {
+        Some(found) if found == kind => Ok(()),
+        _ => Err(PageFault::Damaged),
+    }
+}
