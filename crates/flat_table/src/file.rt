@@ -169,7 +169,8 @@ impl<D: SectorDisk> GameFile for FlatTable<D> {
         (tt, both.0, both.1) };
 
     ghost whole_stays = { λ old new whole stays. (
-      (stays.unwritten.stands whole.0, stays.idle whole.1), unwritten_asked (file_in old) (file_in new) whole.0 stays.unwritten,
+      (stays.unwritten.stands whole.0, stays.idle whole.1),
+      unwritten_asked (file_in old) (file_in new) whole.0 stays.unwritten,
     ) };
 
     ghost goes_ahead = { λ old new goes_on. unwritten_ahead (file_in old) (file_in new) goes_on };

@@ -237,9 +237,9 @@ first_differ [] = λ i j d lt within same. absurd (omega (arith, within))
 first_differ (x ∷ names) =
     let others = first_appearances names in
     let apart : All (λ y. x ≢ y) (filter (λ y. not (bytes_eq x y)) others) = λ k d lt same.
-        let passes = filter_passes (λ y. not (bytes_eq x y)) others k d lt in
-        let equal = (bytes_eq-Decides x (get_or (filter (λ y. not (bytes_eq x y)) others) k d)).1 same in
-        cc (passes, equal)
+    let passes = filter_passes (λ y. not (bytes_eq x y)) others k d lt in
+    let equal = (bytes_eq-Decides x (get_or (filter (λ y. not (bytes_eq x y)) others) k d)).1 same in
+    cc (passes, equal)
     in
     AllPairs-cons ◌≢◌ x (filter (λ y. not (bytes_eq x y)) others) apart
     (AllPairs-filter ◌≢◌ (λ y. not (bytes_eq x y)) others (first_differ names))
@@ -254,7 +254,7 @@ labels_named [] h = no_names
 labels_named (v ∷ vs) h =
     subst (All Named) (sym (flat_map-cons labels_at v vs))
     (All-append Named (labels_at v) (flat_map labels_at vs)
-        (All-map Named (λ a. a.label) v.arrows (All-head NamedVertex v vs h).1) (labels_named vs (All-tail NamedVertex v vs h)))
+    (All-map Named (λ a. a.label) v.arrows (All-head NamedVertex v vs h).1) (labels_named vs (All-tail NamedVertex v vs h)))
 
 vertex_names : (names : Names) (vs : List g.WrittenVertex) → map (λ v. v.name) (map (vertex names) vs) ≡ map (λ v. v.name) vs
 vertex_names names [] = refl

@@ -11,9 +11,10 @@ undone : (shape : Shape) (at : Position) (bytes : List ℕ) → IsSmall shape �
 undone shape at bytes small fits = (to, λ each. ((each at).1 refl).bytes_are)
   where
     to : bytes ≡ bytes_of at → (other : Position) → IsPacked shape other bytes ↔ (other ≡ at)
-    to same other =
-        ((λ packed. tell shape other at small packed.fits fits (sym packed.bytes_are ∙ same)),
-        (λ is. subst (λ x. IsPacked shape x bytes) (sym is) (record { fits = fits; bytes_are = same })))
+    to same other = (
+      (λ packed. tell shape other at small packed.fits fits (sym packed.bytes_are ∙ same)),
+      (λ is. subst (λ x. IsPacked shape x bytes) (sym is) (record { fits = fits; bytes_are = same })),
+    )
 
 pub returns : goal.returns
 returns c = undone
