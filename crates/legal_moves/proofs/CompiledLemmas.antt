@@ -13,11 +13,10 @@ use Rattle.rbg_game.specs.Sound.{IsSoundGame, IsSoundRegex, IsSoundVertex, whole
 use Rattle.rbg_game.specs.Positions.{IsPositionOf}
 use Rattle.legal_moves.specs.Moves.{start_of}
 use Rattle.legal_moves.specs.Tables.{inner_of, AreTables}
-use Rattle.legal_moves.specs.Configurations.{expressions_of}
+use Rattle.legal_moves.specs.Configurations.{expressions_of, Configuration}
 use Rattle.legal_moves.specs.aid.Configurations.{expression_at, IsReady, IsSearch}
 use Rattle.legal_moves.specs.Searches.{IsWideFrom}
 use Rattle.rbg_game.specs.declared.position.SemiState.{SemiState}
-use Rattle.legal_moves.specs.declared.configuration.Configuration.{Configuration}
 use Rattle.legal_moves.specs.declared.table.Table.{Table}
 use Rattle.legal_moves.proofs.GetLemmas.{slice_get-end}
 

@@ -1,26 +1,27 @@
 -- One turn of the loop over the numbers that can follow a configuration.
-use Rattle.std.proofs.Common.{◌≡◌, ℕ, zero, suc, ◌+◌, ◌<◌, ◌≤◌, ◌⊎◌, inl, inr, Bool, true, false, List, length, get_or, Some, slice_get, refl, sym, ap, ◌∙◌, subst, arith}
+use Rattle.std.proofs.Common.{◌≡◌, ℕ, zero, suc, ◌+◌, ◌<◌, ◌≤◌, ◌⊎◌, inl, inr, false, List, length, Some, slice_get, refl, sym, ap, ◌∙◌, subst, arith}
 use Rattle.std.proofs.lemmas.Bool.{cases_lt}
-use Rattle.std.proofs.lemmas.List.{get_or_past}
 use Rattle.rbg_game.specs.Rules.{Regex, count, action_at, is_switch}
 use Rattle.rbg_game.specs.Games.{Game}
 use Rattle.rbg_game.specs.Positions.{IsStateOf}
 use Rattle.rbg_game.specs.declared.position.SemiState.{SemiState}
 use Rattle.legal_moves.specs.Effects.{EffectAt}
 use Rattle.legal_moves.specs.Glushkov.{IsNextAt}
-use Rattle.legal_moves.specs.Relations.{row_of}
+use Rattle.legal_moves.specs.Listing.{AreListed, list_at}
+use Rattle.legal_moves.proofs.ListingLemmas.{past, none_between, none_past}
 use Rattle.legal_moves.specs.Searches.{place_at, IsWideFrom}
-use Rattle.legal_moves.specs.aid.Configurations.{expression_at, IsReady, AsksTooMuch, OccurrenceLeads, opening, AreFound, IsMet, IsFollowed, IsNew, IsGrown}
-use Rattle.legal_moves.specs.aid.Going.{IsGoing, IsTaken}
+use Rattle.legal_moves.specs.aid.Configurations.{expression_at, IsReady, AsksTooMuch, OccurrenceLeads, opening, AreFound, IsMet, IsFollowed}
+use Rattle.legal_moves.specs.aid.Going.{state_at, IsGoing, IsTaken, IsTried, IsFull}
 use Rattle.legal_moves.specs.declared.table.Table.{Table}
-use Rattle.legal_moves.specs.declared.configuration.Configuration.{Configuration}
+use Rattle.legal_moves.specs.Configurations.{Configuration}
 use Rattle.legal_moves.proofs.EffectLemmas.{EffectAt-functional}
 use Rattle.legal_moves.proofs.SearchLemmas.{next_in_range, no_switch_at_0}
 use Rattle.legal_moves.proofs.StepLemmas.{EffectAt-keeps}
 use Rattle.legal_moves.proofs.FoundLemmas.{same_at, count_whole, IsFollowed-more}
 use Rattle.legal_moves.proofs.WidthLemmas.{wide_by_pattern}
-use Rattle.legal_moves.proofs.GoingLemmas.{taken, taken_by_bytes, new_positions, too_wide}
-use Rattle.legal_moves.proofs.ReadyLemmas.{next_by_mark, mark_by_next}
+use Rattle.legal_moves.proofs.GoingLemmas.{taken, too_wide}
+use Rattle.legal_moves.proofs.AttemptLemmas.{state_of}
+use Rattle.legal_moves.proofs.ReadyLemmas.{followers_listed}
 
 -- the flag of a configuration says whether its last action is a switch
 pub ends_at : (game : Game) (e : Regex) (place : ℕ) (S : SemiState) (cs : List Configuration) → AreFound game e place S cs → (i : ℕ) (c : Configuration) → slice_get cs i ≡ Some c → c.ends ≡ is_switch (action_at e 1 c.at.place)
@@ -38,22 +39,19 @@ pub place_last : (place last : ℕ) → (last ≡ 0 → ⊥) → last ≡ place_
 place_last place zero h = absurd (h refl)
 place_last place (suc last) h = refl
 
--- what a row says of the numbers that can follow
-module _ (game : Game) (tables : List Table) (index : ℕ) (ready : IsReady game tables index) (table : Table) (table_at : slice_get tables index ≡ Some table) (row : List Bool) (from p : ℕ) (row_is : row ≡ row_of table.follows from) (from_is : from ≡ p) where
-  rows : row ≡ row_of table.follows p
-  rows = row_is ∙ ap (row_of table.follows) from_is
+-- what a list says of the numbers that can follow
+module _ (game : Game) (tables : List Table) (index : ℕ) (ready : IsReady game tables index) (table : Table) (table_at : slice_get tables index ≡ Some table) (ks : List ℕ) (from p : ℕ) (ks_is : ks ≡ list_at table.follows.items from) (from_is : from ≡ p) where
+  listed : AreListed (IsNextAt (expression_at game index) p) ks
+  listed = subst (AreListed (IsNextAt (expression_at game index) p)) (sym (ks_is ∙ ap (list_at table.follows.items) from_is)) (followers_listed game tables index ready table table_at p)
 
-  pub marked_next : (k : ℕ) → get_or row k false ≡ true → IsNextAt (expression_at game index) p k
-  marked_next k h = next_by_mark game tables index ready table table_at p k (subst (λ xs. get_or xs k false ≡ true) rows h)
+  pub listed_next : (i k : ℕ) → slice_get ks i ≡ Some k → IsNextAt (expression_at game index) p k
+  listed_next = listed.only
 
-  pub next_marked : (k : ℕ) → IsNextAt (expression_at game index) p k → get_or row k false ≡ true
-  next_marked k h = subst (λ xs. get_or xs k false ≡ true) (sym rows) (mark_by_next game tables index ready table table_at p k h)
+  pub skipped : (i k m : ℕ) → slice_get ks i ≡ Some k → past ks i ≤ m → m < k → ¬ IsNextAt (expression_at game index) p m
+  skipped = none_between (IsNextAt (expression_at game index) p) ks listed
 
-  pub unmarked_not : (k : ℕ) → get_or row k false ≡ false → ¬ IsNextAt (expression_at game index) p k
-  unmarked_not k h next = let never : true ≡ false = sym (next_marked k next) ∙ h in cc
-
-  pub past_not : (k : ℕ) → length row ≤ k → ¬ IsNextAt (expression_at game index) p k
-  past_not k past next = let never : true ≡ false = sym (next_marked k next) ∙ get_or_past row k false past in cc
+  pub past_not : (i m : ℕ) → i ≡ length ks → past ks i ≤ m → ¬ IsNextAt (expression_at game index) p m
+  past_not i m end from_past = none_past (IsNextAt (expression_at game index) p) ks listed m (subst (λ j. past ks j ≤ m) end from_past)
 
 -- a number that can follow is one of the occurrences
 pub number_from : (e : Regex) (p k : ℕ) → IsNextAt e p k → 1 ≤ k
@@ -86,14 +84,17 @@ module _ (game : Game) (tables : List Table) (index : ℕ) (ready : IsReady game
   e : Regex
   e = expression_at game index
 
-  pub more_skipped : ¬ IsNextAt (expression_at game index) (place_at place b.at.place) n → IsFollowed game (expression_at game index) place cs at (n + 1)
-  more_skipped none = IsFollowed-more game (expression_at game index) place S cs at n b at_b here (λ U next step. absurd (none next)) (λ next. absurd (none next))
-
   pub more_invalid : ((U : SemiState) → ¬ EffectAt game (expression_at game index) 1 n b.at.state U) → ¬ AsksTooMuch game (expression_at game index) n b.at.state → IsFollowed game (expression_at game index) place cs at (n + 1)
   more_invalid none narrow = IsFollowed-more game (expression_at game index) place S cs at n b at_b here (λ U next step. absurd (none U step)) (λ next. narrow)
 
   pub asked : IsNextAt (expression_at game index) (place_at place b.at.place) n → AsksTooMuch game (expression_at game index) n b.at.state → IsWideFrom game (expression_at game index) place S
   asked next asks = wide_by_pattern game (expression_at game index) place S cs b at n going.found_are at_b plain next asks
+
+  -- after the turn
+  pub record HasTurned (cs' : List Configuration) : Type 0 where
+    pub goes : IsGoing game (expression_at game index) place S cs' at
+    pub expands : IsFollowed game (expression_at game index) place cs' at (n + 1)
+    pub b_at : slice_get cs' at ≡ Some b
 
   module _ (c : Configuration) (next : IsNextAt (expression_at game index) (place_at place b.at.place) n) (leads : OccurrenceLeads game (expression_at game index) n b.at.state c) (parent : c.parent ≡ at) where
     next_c : IsNextAt (expression_at game index) (place_at place b.at.place) c.at.place
@@ -105,15 +106,9 @@ module _ (game : Game) (tables : List Table) (index : ℕ) (ready : IsReady game
     state_c : IsStateOf game c.at.state
     state_c = EffectAt-keeps game (expression_at game index) n b.at.state c.at.state ready.sound ready.expression_is (going.found_are.states_are at b at_b) leads.step
 
-    -- after the turn
-    pub record HasTurned (cs' : List Configuration) : Type 0 where
-      pub goes : IsGoing game (expression_at game index) place S cs' at
-      pub expands : IsFollowed game (expression_at game index) place cs' at (n + 1)
-      pub b_at : slice_get cs' at ≡ Some b
-
     pub turned : (cs' : List Configuration) → ¬ AsksTooMuch game (expression_at game index) n b.at.state → IsTaken cs c cs' → HasTurned cs'
     turned cs' narrow taken_c =
-        let t = taken game (expression_at game index) place S ready.sound ready.small cs at b c going at_b plain next_c leads_c parent state_c cs' taken_c in
+        let t = taken game (expression_at game index) place S cs at b c going at_b plain next_c leads_c parent state_c cs' taken_c in
         record {
           goes = t.goes;
           expands = IsFollowed-more game (expression_at game index) place S cs' at n b t.b_at (t.kept n here) (λ U next step. met cs' U t.met step) (λ next. narrow);
@@ -125,12 +120,24 @@ module _ (game : Game) (tables : List Table) (index : ℕ) (ready : IsReady game
             let same = EffectAt-functional game (expression_at game index) 1 n b.at.state c.at.state U leads.step step in
             subst (λ k. IsMet cs' at U k) leads.place_is (subst (λ V. IsMet cs' at V c.at.place) same m)
 
-    -- one with new bytes is at a new position
-    pub by_bytes : (cs' : List Configuration) → IsGrown cs c cs' → IsTaken cs c cs'
-    by_bytes cs' grown = taken_by_bytes game (expression_at game index) place S ready.sound ready.small cs at b c going at_b plain next_c leads_c parent state_c cs' grown
-
-    pub new_by_bytes : IsNew cs c → (i : ℕ) (d : Configuration) → slice_get cs i ≡ Some d → ¬ (d.at ≡ c.at)
-    new_by_bytes new = new_positions game (expression_at game index) place S ready.sound ready.small cs at b c going at_b plain next_c leads_c parent state_c new
-
     pub full : 65536 ≤ length cs → ((i : ℕ) (d : Configuration) → slice_get cs i ≡ Some d → ¬ (d.at ≡ c.at)) → IsWideFrom game (expression_at game index) place S
-    full many new = too_wide game (expression_at game index) place S ready.sound ready.small cs at b c going at_b plain next_c leads_c parent state_c many new
+    full many new = too_wide game (expression_at game index) place S cs at b c going at_b plain next_c leads_c parent state_c many new
+
+  -- the semi-state from which the occurrence was tried
+  state_is : state_at cs at ≡ b.at.state
+  state_is = state_of cs at b at_b
+
+  pub tried : (cs' : List Configuration) → IsNextAt (expression_at game index) (place_at place b.at.place) n → ¬ AsksTooMuch game (expression_at game index) n (state_at cs at) → IsTried game (expression_at game index) n at cs cs' → HasTurned cs'
+  tried cs' next narrow (inl t) =
+      let never = subst (λ T. (U : SemiState) → ¬ EffectAt game (expression_at game index) 1 n T U) state_is t.1 in
+      record {
+        goes = subst (λ xs. IsGoing game (expression_at game index) place S xs at) (sym t.0) going;
+        expands = subst (λ xs. IsFollowed game (expression_at game index) place xs at (n + 1)) (sym t.0) (more_invalid never (subst (λ T. ¬ AsksTooMuch game (expression_at game index) n T) state_is narrow));
+        b_at = subst (λ xs. slice_get xs at ≡ Some b) (sym t.0) at_b;
+      }
+  tried cs' next narrow (inr t) =
+      turned t.0 next (subst (λ T. OccurrenceLeads game (expression_at game index) n T t.0) state_is t.1) t.2 cs' (subst (λ T. ¬ AsksTooMuch game (expression_at game index) n T) state_is narrow) t.3
+
+  pub tried_wide : IsNextAt (expression_at game index) (place_at place b.at.place) n → AsksTooMuch game (expression_at game index) n (state_at cs at) ⊎ IsFull game (expression_at game index) n at cs → IsWideFrom game (expression_at game index) place S
+  tried_wide next (inl asks) = asked next (subst (AsksTooMuch game (expression_at game index) n) state_is asks)
+  tried_wide next (inr f) = full f.0 next (subst (λ T. OccurrenceLeads game (expression_at game index) n T f.0) state_is f.1) f.2 f.3 f.4

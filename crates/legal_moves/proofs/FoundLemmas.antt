@@ -3,17 +3,18 @@ use Rattle.std.proofs.Common.{◌≡◌, ℕ, zero, suc, ◌+◌, ◌<◌, ◌�
 use Rattle.std.proofs.lemmas.Bool.{cases_lt}
 use Rattle.rbg_game.specs.Rules.{Regex, one, empty, cat, alt, star, count, action_at, is_switch}
 use Rattle.rbg_game.specs.Games.{Game}
-use Rattle.rbg_game.specs.Sound.{whole_count}
+use Rattle.rbg_game.specs.Sound.{IsSoundGame, whole_count}
 use Rattle.rbg_game.specs.Positions.{IsStateOf}
 use Rattle.rbg_game.specs.declared.position.SemiState.{SemiState}
 use Rattle.legal_moves.specs.Effects.{EffectAt}
 use Rattle.legal_moves.specs.Glushkov.{IsNextAt}
 use Rattle.legal_moves.specs.Searches.{place_at}
-use Rattle.legal_moves.specs.aid.Configurations.{AsksTooMuch, IsLinked, opening, AreFound, IsMet, IsFollowed}
+use Rattle.legal_moves.specs.aid.Configurations.{AsksTooMuch, IsLinked, opening, AreFound, IsMet, IsFollowed, HaveOwnBytes}
 use Rattle.legal_moves.specs.aid.Going.{began}
-use Rattle.legal_moves.specs.declared.configuration.Configuration.{Configuration}
+use Rattle.legal_moves.specs.Configurations.{Configuration}
 use Rattle.legal_moves.proofs.GetLemmas.{slice_get-append, slice_get-push, slice_get-within}
 use Rattle.legal_moves.proofs.SearchLemmas.{next_in_range}
+use Rattle.legal_moves.proofs.PackLemmas.{bytes_tell}
 
 -- ---- numbers are few
 
@@ -140,23 +141,23 @@ module _ (game : Game) (e : Regex) (place : ℕ) (S : SemiState) where
           let is : k ≡ n = omega arith in
           λ asks. narrow (subst (λ m. IsNextAt e (place_at place b.at.place) m) is (subst (λ z. IsNextAt e (place_at place z.at.place) k) same next)) (subst (λ m. AsksTooMuch game e m b.at.state) is (subst (λ z. AsksTooMuch game e k z.at.state) same asks))
 
-  -- beyond all numbers
-  pub IsFollowed-all : (cs : List Configuration) (j n m : ℕ) (b : Configuration) → slice_get cs j ≡ Some b → IsFollowed game e place cs j n → ((k : ℕ) → n ≤ k → ¬ IsNextAt e (place_at place b.at.place) k) → IsFollowed game e place cs j m
-  IsFollowed-all cs j n m b at_b h none = record {
-    met = λ c k U at plain less next step. go c k U at plain next step (cases_lt k n);
-    narrow = λ c k at plain less next. ask c k at plain next (cases_lt k n);
+  -- up to m, where no number from n on can follow
+  pub IsFollowed-upto : (cs : List Configuration) (j n m : ℕ) (b : Configuration) → slice_get cs j ≡ Some b → IsFollowed game e place cs j n → ((k : ℕ) → n ≤ k → k < m → ¬ IsNextAt e (place_at place b.at.place) k) → IsFollowed game e place cs j m
+  IsFollowed-upto cs j n m b at_b h none = record {
+    met = λ c k U at plain less next step. go c k U at plain less next step (cases_lt k n);
+    narrow = λ c k at plain less next. ask c k at plain less next (cases_lt k n);
   }
     where
-      never : (c : Configuration) (k : ℕ) → slice_get cs j ≡ Some c → IsNextAt e (place_at place c.at.place) k → n ≤ k → ⊥
-      never c k at next past = none k past (subst (λ z. IsNextAt e (place_at place z.at.place) k) (same_at cs j c b at at_b) next)
+      never : (c : Configuration) (k : ℕ) → slice_get cs j ≡ Some c → IsNextAt e (place_at place c.at.place) k → n ≤ k → k < m → ⊥
+      never c k at next past less = none k past less (subst (λ z. IsNextAt e (place_at place z.at.place) k) (same_at cs j c b at at_b) next)
 
-      go : (c : Configuration) (k : ℕ) (U : SemiState) → slice_get cs j ≡ Some c → is_switch (action_at e 1 c.at.place) ≡ false → IsNextAt e (place_at place c.at.place) k → EffectAt game e 1 k c.at.state U → (k < n) ⊎ (n ≤ k) → IsMet cs j U k
-      go c k U at plain next step (inl less) = h.met c k U at plain less next step
-      go c k U at plain next step (inr past) = absurd (never c k at next past)
+      go : (c : Configuration) (k : ℕ) (U : SemiState) → slice_get cs j ≡ Some c → is_switch (action_at e 1 c.at.place) ≡ false → k < m → IsNextAt e (place_at place c.at.place) k → EffectAt game e 1 k c.at.state U → (k < n) ⊎ (n ≤ k) → IsMet cs j U k
+      go c k U at plain less next step (inl before) = h.met c k U at plain before next step
+      go c k U at plain less next step (inr past) = absurd (never c k at next past less)
 
-      ask : (c : Configuration) (k : ℕ) → slice_get cs j ≡ Some c → is_switch (action_at e 1 c.at.place) ≡ false → IsNextAt e (place_at place c.at.place) k → (k < n) ⊎ (n ≤ k) → ¬ AsksTooMuch game e k c.at.state
-      ask c k at plain next (inl less) = h.narrow c k at plain less next
-      ask c k at plain next (inr past) = absurd (never c k at next past)
+      ask : (c : Configuration) (k : ℕ) → slice_get cs j ≡ Some c → is_switch (action_at e 1 c.at.place) ≡ false → k < m → IsNextAt e (place_at place c.at.place) k → (k < n) ⊎ (n ≤ k) → ¬ AsksTooMuch game e k c.at.state
+      ask c k at plain less next (inl before) = h.narrow c k at plain before next
+      ask c k at plain less next (inr past) = absurd (never c k at next past less)
 
   -- the semi-state in which the search began is that of the opening
   pub began_is : (cs : List Configuration) → slice_get cs 0 ≡ Some (opening S) → began cs ≡ S
@@ -173,3 +174,8 @@ module _ (game : Game) (e : Regex) (place : ℕ) (S : SemiState) where
       let link = h.linked (suc i) c at (omega arith) in
       let r = next_in_range e (place_at place link.before.at.place) c.at.place link.next in
       omega (arith, count_whole e, r.1)
+
+-- different configurations have different bytes
+pub own_bytes : (game : Game) (e : Regex) (place : ℕ) (S : SemiState) (cs : List Configuration) → IsSoundGame game → whole_count e ≤ 4096 → AreFound game e place S cs → HaveOwnBytes cs
+own_bytes game e place S cs sound small h i j c d at_c at_d same =
+    h.different i j c d at_c at_d (bytes_tell game c.at d.at sound (h.states_are i c at_c) (h.states_are j d at_d) (places_few game e place S cs h small i c at_c) (places_few game e place S cs h small j d at_d) same)

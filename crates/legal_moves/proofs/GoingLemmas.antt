@@ -2,34 +2,20 @@
 use Rattle.std.proofs.Common.{◌≡◌, ℕ, ◌<◌, ◌≤◌, ◌⊎◌, inl, inr, false, List, [], ◌∷◌, ◌++◌, length, Some, slice_get, refl, sym, ap, subst, arith, length-append}
 use Rattle.rbg_game.specs.Rules.{Regex, action_at, is_switch}
 use Rattle.rbg_game.specs.Games.{Game}
-use Rattle.rbg_game.specs.Sound.{IsSoundGame, whole_count}
 use Rattle.rbg_game.specs.Positions.{IsStateOf}
 use Rattle.rbg_game.specs.declared.position.SemiState.{SemiState}
-use Rattle.position_pack.specs.Bytes.{bytes_of}
 use Rattle.legal_moves.specs.Glushkov.{IsNextAt}
 use Rattle.legal_moves.specs.Searches.{place_at, IsWideFrom}
-use Rattle.legal_moves.specs.aid.Configurations.{OccurrenceLeads, IsLinked, AreFound, IsMet, IsFollowed, IsNew, IsGrown}
+use Rattle.legal_moves.specs.aid.Configurations.{OccurrenceLeads, IsLinked, AreFound, IsMet, IsFollowed}
 use Rattle.legal_moves.specs.aid.Going.{IsGoing, IsTaken}
-use Rattle.legal_moves.specs.declared.configuration.Configuration.{Configuration}
+use Rattle.legal_moves.specs.Configurations.{Configuration}
 use Rattle.legal_moves.proofs.GetLemmas.{slice_get-append, slice_get-push, slice_get-end, slice_get-within}
-use Rattle.legal_moves.proofs.FoundLemmas.{count_whole, AreFound-push, IsFollowed-push, places_few}
-use Rattle.legal_moves.proofs.SearchLemmas.{next_in_range}
-use Rattle.legal_moves.proofs.PackLemmas.{bytes_tell}
+use Rattle.legal_moves.proofs.FoundLemmas.{AreFound-push, IsFollowed-push}
 use Rattle.legal_moves.proofs.WidthLemmas.{wide_by_one_more}
 
-module _ (game : Game) (e : Regex) (place : ℕ) (S : SemiState) (sound : IsSoundGame game) (small : whole_count e ≤ 4096) (cs : List Configuration) (at : ℕ) (b c : Configuration) (going : IsGoing game e place S cs at) (at_b : slice_get cs at ≡ Some b) (plain : is_switch (action_at e 1 b.at.place) ≡ false) (next : IsNextAt e (place_at place b.at.place) c.at.place) (leads : OccurrenceLeads game e c.at.place b.at.state c) (parent : c.parent ≡ at) (state : IsStateOf game c.at.state) where
-  c_few : c.at.place ≤ 4096
-  c_few = let r = next_in_range e (place_at place b.at.place) c.at.place next in omega (arith, count_whole e, r.1)
-
+module _ (game : Game) (e : Regex) (place : ℕ) (S : SemiState) (cs : List Configuration) (at : ℕ) (b c : Configuration) (going : IsGoing game e place S cs at) (at_b : slice_get cs at ≡ Some b) (plain : is_switch (action_at e 1 b.at.place) ≡ false) (next : IsNextAt e (place_at place b.at.place) c.at.place) (leads : OccurrenceLeads game e c.at.place b.at.state c) (parent : c.parent ≡ at) (state : IsStateOf game c.at.state) where
   inside : at < length cs
   inside = slice_get-within cs at b at_b
-
-  -- one with the same bytes is the same position
-  same_bytes : (i : ℕ) (d : Configuration) → slice_get cs i ≡ Some d → bytes_of d.at ≡ bytes_of c.at → d.at ≡ c.at
-  same_bytes i d at_d same = bytes_tell game d.at c.at sound (going.found_are.states_are i d at_d) state (places_few game e place S cs going.found_are small i d at_d) c_few same
-
-  pub new_positions : IsNew cs c → (i : ℕ) (d : Configuration) → slice_get cs i ≡ Some d → ¬ (d.at ≡ c.at)
-  new_positions new i d at_d same = new i d at_d (ap bytes_of same)
 
   link : IsLinked game e place cs (length cs) c
   link = record {
@@ -81,10 +67,6 @@ module _ (game : Game) (e : Regex) (place : ℕ) (S : SemiState) (sound : IsSoun
   pub taken : (cs' : List Configuration) → IsTaken cs c cs' → HasTaken cs'
   taken cs' (inl g) = taken_same cs' g.0 g.1 g.2 g.3 g.4
   taken cs' (inr g) = taken_new cs' g.0 g.1 g.2
-
-  pub taken_by_bytes : (cs' : List Configuration) → IsGrown cs c cs' → IsTaken cs c cs'
-  taken_by_bytes cs' (inl g) = inl (g.0, g.1, g.2, g.3, same_bytes g.1 g.2 g.3 g.4)
-  taken_by_bytes cs' (inr g) = inr (g.0, g.1, new_positions g.2)
 
   pub too_wide : 65536 ≤ length cs → ((i : ℕ) (d : Configuration) → slice_get cs i ≡ Some d → ¬ (d.at ≡ c.at)) → IsWideFrom game e place S
   too_wide full new =

@@ -7,7 +7,7 @@ use Rattle.rbg_game.specs.declared.position.Position.{Position}
 use Rattle.position_pack.specs.Bytes.{bytes_of}
 use Rattle.retrograde.specs.Graph.{IsEnded, IsReachable}
 use Rattle.legal_moves.specs.Moves.{IsSuccessor, HasNoMove, Reach, start_of}
-use Rattle.legal_moves.specs.Sources.{IsAt, IsMoveBetween, graph_of}
+use Rattle.legal_moves.specs.Sources.{IsAt, graph_of}
 use Rattle.legal_moves.proofs.CompiledLemmas.{start_position}
 use Rattle.legal_moves.proofs.ReachLemmas.{position_of}
 use Rattle.legal_moves.proofs.SourceLemmas.{one_position}

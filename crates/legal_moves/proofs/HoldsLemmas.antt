@@ -11,7 +11,7 @@ use Rattle.legal_moves.specs.Glushkov.{IsLast}
 use Rattle.legal_moves.specs.aid.Searches.{IsLegal}
 use Rattle.legal_moves.specs.aid.Configurations.{expression_at, IsReady, IsSearch}
 use Rattle.legal_moves.specs.declared.table.Table.{Table}
-use Rattle.legal_moves.specs.declared.configuration.Configuration.{Configuration}
+use Rattle.legal_moves.specs.Configurations.{Configuration}
 use Rattle.legal_moves.proofs.EffectLemmas.{option_or-cases, action_at-one}
 use Rattle.legal_moves.proofs.SearchLemmas.{HasEnd, HasEnd-by_legal, legal-by_HasEnd, Searched-by_Reaches}
 use Rattle.legal_moves.proofs.LevelLemmas.{complete}

@@ -7,7 +7,7 @@ use Rattle.legal_moves.specs.Effects.{EffectAt}
 use Rattle.legal_moves.specs.Glushkov.{IsNextAt}
 use Rattle.legal_moves.specs.Searches.{place_at, Searched, begun, gone}
 use Rattle.legal_moves.specs.aid.Configurations.{opening, AreFound, IsFollowed}
-use Rattle.legal_moves.specs.declared.configuration.Configuration.{Configuration}
+use Rattle.legal_moves.specs.Configurations.{Configuration}
 use Rattle.legal_moves.proofs.GetLemmas.{slice_get-within}
 use Rattle.legal_moves.proofs.FoundLemmas.{same_at}
 

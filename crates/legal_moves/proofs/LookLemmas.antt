@@ -1,5 +1,5 @@
 -- A search that only looks, by its marks and as configurations.
-use Rattle.std.proofs.Common.{◌≡◌, ℕ, zero, suc, ◌+◌, ◌*◌, ◌<◌, ◌≤◌, ◌⊎◌, ◌==◌, ◌||◌, inl, inr, Bool, true, false, List, [], ◌∷◌, ◌++◌, length, get_or, map, replicate, Option, Some, None, slice_get, slice_index_or, refl, sym, ap, ◌∙◌, subst, arith}
+use Rattle.std.proofs.Common.{◌≡◌, ℕ, zero, suc, ◌+◌, ◌*◌, ◌<◌, ◌⊎◌, ◌==◌, ◌||◌, inl, inr, false, List, [], ◌∷◌, ◌++◌, length, map, replicate, Some, slice_get, refl, sym, ap, ◌∙◌, subst, arith}
 use Rattle.std.proofs.Math.Nat.{suc-mul}
 use Rattle.std.proofs.lemmas.Bool.{cases_lt}
 use Rattle.std.proofs.lemmas.List.{get_or-replicate, get_or_past, length-replicate, length-map}
@@ -14,7 +14,7 @@ use Rattle.legal_moves.specs.aid.Configurations.{opening, OccurrenceLeads}
 use Rattle.legal_moves.specs.declared.effect.Glance.TheVariants.{At}
 use Rattle.legal_moves.specs.aid.Looking.{at_vertex, TellsAt, looked, seen_from, mark_of, AreMarked, IsNewLook, IsLookAdded}
 use Rattle.legal_moves.specs.aid.Going.{IsGoing, IsTaken}
-use Rattle.legal_moves.specs.declared.configuration.Configuration.{Configuration}
+use Rattle.legal_moves.specs.Configurations.{Configuration}
 use Rattle.legal_moves.specs.declared.looks.Look.{Look}
 use Rattle.legal_moves.specs.declared.looks.Looks.{Looks}
 use Rattle.legal_moves.proofs.GetLemmas.{slice_get-append, slice_get-push, slice_get-end}

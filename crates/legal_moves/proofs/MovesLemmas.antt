@@ -1,38 +1,12 @@
 -- The loops over what a search for moves has found.
-use Rattle.std.proofs.Common.{◌≡◌, ℕ, zero, suc, ◌<◌, Bool, true, false, cond, List, [], ◌∷◌, ◌++◌, length, map, reverse, take, drop, Some, option_map, unwrap_or, slice_get, refl, sym, ap, ◌∙◌, arith, append_assoc, append-nil}
+use Rattle.std.proofs.Common.{◌≡◌, ℕ, zero, suc, ◌<◌, true, false, cond, List, [], ◌∷◌, ◌++◌, length, map, reverse, take, drop, Some, option_map, unwrap_or, slice_get, refl, sym, ap, ◌∙◌, arith, append_assoc, append-nil}
 use Rattle.std.proofs.lemmas.List.{map-append, reverse-append, take_all, drop_all, length-reverse}
 use Rattle.arrayvec.specs.ArrayVec.{ArrayVec}
-use Rattle.legal_moves.specs.Shown.{vertex_at, ends_in, shown_to, shown_of, moves_of, ComeFromBefore}
+use Rattle.legal_moves.specs.Shown.{vertex_at, shown_to, shown_of, ComeFromBefore}
 use Rattle.legal_moves.specs.Listed.{ShownMove}
-use Rattle.legal_moves.specs.declared.configuration.Configuration.{Configuration}
+use Rattle.legal_moves.specs.Configurations.{Configuration}
 use Rattle.legal_moves.specs.declared.successor.Successor.{Successor}
 use Rattle.legal_moves.proofs.ShownLemmas.{shown_more}
-
-pub ends_is : (cs : List Configuration) (i : ℕ) (c : Configuration) → slice_get cs i ≡ Some c → ends_in cs i ≡ c.ends
-ends_is cs i c at = ap (λ o. unwrap_or (option_map (λ x. x.ends) o) false) at
-
--- one more entry
-moves_of-push : (cs : List Configuration) (ps : List (ArrayVec ℕ × ℕ)) (p : ArrayVec ℕ × ℕ) → moves_of cs (ps ++ p ∷ []) ≡ moves_of cs ps ++ cond (ends_in cs p.1) (shown_of cs (record { packed = p.0; index = p.1 }) ∷ []) []
-moves_of-push cs [] p = refl
-moves_of-push cs (q ∷ ps) p =
-    ap (λ xs. cond (ends_in cs q.1) (shown_of cs (record { packed = q.0; index = q.1 }) ∷ xs) xs) (moves_of-push cs ps p) ∙ over (ends_in cs q.1)
-  where
-    over : (t : Bool) → cond t (shown_of cs (record { packed = q.0; index = q.1 }) ∷ (moves_of cs ps ++ cond (ends_in cs p.1) (shown_of cs (record { packed = p.0; index = p.1 }) ∷ []) [])) (moves_of cs ps ++ cond (ends_in cs p.1) (shown_of cs (record { packed = p.0; index = p.1 }) ∷ []) []) ≡ cond t (shown_of cs (record { packed = q.0; index = q.1 }) ∷ moves_of cs ps) (moves_of cs ps) ++ cond (ends_in cs p.1) (shown_of cs (record { packed = p.0; index = p.1 }) ∷ []) []
-    over true = refl
-    over false = refl
-
-pub moves_of-skip : (cs : List Configuration) (ps : List (ArrayVec ℕ × ℕ)) (p : ArrayVec ℕ × ℕ) → ends_in cs p.1 ≡ false → moves_of cs ps ≡ moves_of cs (ps ++ p ∷ [])
-moves_of-skip cs ps p ends =
-    sym (append-nil (moves_of cs ps)) ∙ ap (λ t. moves_of cs ps ++ cond t (shown_of cs (record { packed = p.0; index = p.1 }) ∷ []) []) (sym ends) ∙ sym (moves_of-push cs ps p)
-
-pub moves_of-more : (cs : List Configuration) (ss : List Successor) (ps : List (ArrayVec ℕ × ℕ)) (p : ArrayVec ℕ × ℕ) (ss' : List Successor) → map (shown_of cs) ss ≡ moves_of cs ps → ends_in cs p.1 ≡ true → ss' ≡ ss ++ record { packed = p.0; index = p.1 } ∷ [] → map (shown_of cs) ss' ≡ moves_of cs (ps ++ p ∷ [])
-moves_of-more cs ss ps p ss' same ends pushed =
-    let s : Successor = record { packed = p.0; index = p.1 } in
-    ap (map (shown_of cs)) pushed
-    ∙ map-append (shown_of cs) ss (s ∷ [])
-    ∙ ap (λ xs. xs ++ shown_of cs s ∷ []) same
-    ∙ ap (λ t. moves_of cs ps ++ cond t (shown_of cs s ∷ []) []) (sym ends)
-    ∙ sym (moves_of-push cs ps p)
 
 -- ---- back along the parents
 

@@ -10,14 +10,13 @@ use Rattle.rbg_game.specs.Sound.{IsSoundRegex, IsSoundAction, LacksSwitch}
 use Rattle.rbg_game.specs.Positions.{IsStateOf}
 use Rattle.rbg_game.specs.declared.position.SemiState.{SemiState}
 use Rattle.legal_moves.specs.Plain.{IsPlain}
-use Rattle.legal_moves.specs.aid.Looking.{at_vertex, IsLook, Tells, TellsAt}
+use Rattle.legal_moves.specs.aid.Looking.{at_vertex, IsLook, IsNoPattern, Tells, TellsAt}
 use Rattle.legal_moves.specs.declared.effect.Glance.{Glance}
 use Rattle.legal_moves.specs.declared.effect.Glance.TheVariants.{Fails, At, Writes}
 use Rattle.std.specs.Option.{IfSome, IfNone}
 use Rattle.legal_moves.specs.Effects.{Effect, EffectAt}
 use Rattle.legal_moves.specs.Glushkov.{IsNextAt, IsLast}
-use Rattle.legal_moves.specs.Marks.{IsMarkSet}
-use Rattle.legal_moves.specs.Relations.{row_of}
+use Rattle.legal_moves.specs.Listing.{AreListed, list_at}
 use Rattle.legal_moves.specs.Searches.{IsWideFrom}
 use Rattle.legal_moves.specs.aid.Searches.{IsLegal}
 use Rattle.legal_moves.specs.Tables.{is_pattern, actions_of, IsStep, IsExpressionTable}
@@ -75,12 +74,9 @@ module _ (game : Game) (tables : List Table) (index : ℕ) (ready : IsReady game
     pub count_steps : length table.steps.items ≡ count (expression_at game index)
     count_steps = length_steps _ table.steps.items (actions_of (expression_at game index)) is_table.steps_are ∙ length_actions (expression_at game index)
 
-    -- a mark in a row
-    pub next_by_mark : (p k : ℕ) → IsMarkSet (row_of table.follows p) k → IsNextAt (expression_at game index) p k
-    next_by_mark p k h = (is_table.follows_is p k).0 h
-
-    pub mark_by_next : (p k : ℕ) → IsNextAt (expression_at game index) p k → IsMarkSet (row_of table.follows p) k
-    mark_by_next p k h = (is_table.follows_is p k).1 h
+    -- the numbers that can stand next
+    pub followers_listed : (p : ℕ) → AreListed (IsNextAt (expression_at game index) p) (list_at table.follows.items p)
+    followers_listed p = is_table.follows_are p
 
     pub contains_ends : (k : ℕ) → (Contains table.ends.last.items k → IsLast (expression_at game index) 1 k) × (IsLast (expression_at game index) 1 k → Contains table.ends.last.items k)
     contains_ends k = subst (λ xs. (Contains xs k → IsLast (expression_at game index) 1 k) × (IsLast (expression_at game index) 1 k → Contains xs k)) (sym is_table.ends_are.last_is) (contains_last (expression_at game index) 1 k)
@@ -146,7 +142,7 @@ module _ (game : Game) (tables : List Table) (index : ℕ) (ready : IsReady game
         pub act_tells : (S : SemiState) (g : Glance) → Tells game (action_of x) S g → TellsAt game (expression_at game index) number S g
         act_tells S Fails h = act_never S h
         act_tells S (At v) h = (EffectAt-by_action game (expression_at game index) 1 number (action_of x) S (at_vertex S v) at_number h.0, subst IsLook (sym at_number) h.1)
-        act_tells S Writes h = tt
+        act_tells S Writes h = subst IsNoPattern (sym at_number) h
 
         pub act_narrow : (S : SemiState) → ¬ AsksTooMuch game (expression_at game index) number S
         act_narrow S asks =
@@ -174,6 +170,9 @@ module _ (game : Game) (tables : List Table) (index : ℕ) (ready : IsReady game
 
         sound_pattern : LacksSwitch (expression_at game i) × IsSoundRegex game (expression_at game i)
         sound_pattern = sound_at game (expression_at game index) 1 number (pattern positive (expression_at game i)) ready.expression_is ask_is
+
+        pub ask_pattern : ¬ IsNoPattern (action_at (expression_at game index) 1 number)
+        ask_pattern none = let plain = subst IsNoPattern ask_is none in let never : true ≡ false = plain in cc
 
         pub ask_lacks : LacksSwitch (expression_at game i)
         ask_lacks = sound_pattern.0
@@ -231,6 +230,10 @@ module _ (game : Game) (tables : List Table) (index : ℕ) (ready : IsReady game
 pub OnTrue-at : (r : Bool) (P : Type 0) → r ≡ true → OnTrue r P → P
 OnTrue-at true P e h = h
 OnTrue-at false P e h = absurd (cc)
+
+pub OnFalse-at : (r : Bool) (P : Type 0) → r ≡ false → OnFalse r P → P
+OnFalse-at true P e h = absurd (cc)
+OnFalse-at false P e h = h
 
 pub beq_true : (a b : Bool) → beq a b ≡ true → a ≡ b
 beq_true true true e = refl

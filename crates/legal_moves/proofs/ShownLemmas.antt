@@ -9,7 +9,7 @@ use Rattle.legal_moves.specs.Moves.{IsMove, IsShortest, ShowsFrom}
 use Rattle.legal_moves.specs.Searches.{Searched, gone}
 use Rattle.legal_moves.specs.Shown.{vertex_at, shown_to, ComeFromBefore}
 use Rattle.legal_moves.specs.aid.Configurations.{opening, AreFound, IsSearch}
-use Rattle.legal_moves.specs.declared.configuration.Configuration.{Configuration}
+use Rattle.legal_moves.specs.Configurations.{Configuration}
 use Rattle.legal_moves.proofs.FoundLemmas.{same_at}
 use Rattle.legal_moves.proofs.ExpandLemmas.{ends_at}
 use Rattle.legal_moves.proofs.SearchLemmas.{Searched-by_move, move-by_Searched}

@@ -4,6 +4,8 @@ use Rattle.std.specs.List.{AllZip}
 use Rattle.rbg_game.specs.Rules.{Regex, one, empty, cat, alt, star, count, Action, pattern}
 use Rattle.legal_moves.specs.Glushkov.{is_nullable, IsFirst, IsLast, IsNext, IsNextAt}
 use Rattle.legal_moves.specs.Relations.{IsRelated}
+use Rattle.legal_moves.specs.Listing.{AreListed, list_at}
+use Rattle.legal_moves.proofs.ListingLemmas.{listed_by}
 use Rattle.legal_moves.specs.Tables.{actions_of, inner_of, inner_in, first_of, last_of, IsStep, IsExpressionTable, AreTables}
 use Rattle.legal_moves.specs.aid.Tables.{IsAdded}
 use Rattle.legal_moves.specs.declared.relation.Relation.{Relation}
@@ -221,16 +223,9 @@ IsAdded-one a tables0 tables1 draft0 D step E made pushed same f l = record {
 
 -- ---- a whole table
 
-pub IsExpressionTable-made : (es : List Regex) (e : Regex) (T T' : List Table) (draft0 D : Draft) (E : Ends) (table : Table) → AreTables es T → IsAdded e T T' draft0 D E → E.nullable ≡ is_nullable e → draft0.steps.items ≡ [] → ((i j : ℕ) → ¬ IsRelated draft0.follows i j) → table.steps ≡ D.steps → table.ends ≡ E → ((i j : ℕ) → IsRelated table.follows i j ↔ (IsRelated D.follows i j ⊎ Contains (0 ∷ []) i × Contains E.first.items j)) → IsExpressionTable (es ++ inner_of e) table e
-IsExpressionTable-made es e T T' draft0 D E table t h null none bare steps ends related = record {
-  steps_are = subst (λ ss. AllZip (IsStep (es ++ inner_of e)) ss.items (actions_of e)) (sym steps) (h.steps_are es [] t (subst (λ ss. AllZip (IsStep es) ss []) (sym none) tt));
-  follows_is = λ i j. ((λ k. there i j ((related i j).0 k)), (λ k. (related i j).1 (back i j k)));
-  ends_are = record {
-    first_is = ap (λ x. x.first.items) ends ∙ h.ends_are.first_is ∙ ap (first_of e) from_1;
-    last_is = ap (λ x. x.last.items) ends ∙ h.ends_are.last_is ∙ ap (last_of e) from_1;
-  };
-  nullable_is = ap (λ x. x.nullable) ends ∙ null;
-}
+-- what is related can follow
+pub next_by_related : (e : Regex) (T T' : List Table) (draft0 D : Draft) (E : Ends) (R : Relation) → IsAdded e T T' draft0 D E → draft0.steps.items ≡ [] → ((i j : ℕ) → ¬ IsRelated draft0.follows i j) → ((i j : ℕ) → IsRelated R i j ↔ (IsRelated D.follows i j ⊎ Contains (0 ∷ []) i × Contains E.first.items j)) → (i j : ℕ) → IsRelated R i j → IsNextAt e i j
+next_by_related e T T' draft0 D E R h none bare related i j k = there i j ((related i j).0 k)
   where
     from_1 : suc (length draft0.steps.items) ≡ 1
     from_1 = ap (λ xs. suc (length xs)) none
@@ -249,6 +244,23 @@ IsExpressionTable-made es e T T' draft0 D E table t h null none bare steps ends 
         again (inl g) = absurd (bare i j g)
         again (inr g) = inr (subst (λ m. IsNext e m i j) from_1 g)
     there i j (inr k) = inl (is_0 i k.0, (begins j).0 k.1)
+
+pub IsExpressionTable-made : (es : List Regex) (e : Regex) (T T' : List Table) (draft0 D : Draft) (E : Ends) (R : Relation) (table : Table) → AreTables es T → IsAdded e T T' draft0 D E → E.nullable ≡ is_nullable e → draft0.steps.items ≡ [] → ((i j : ℕ) → ¬ IsRelated draft0.follows i j) → table.steps ≡ D.steps → table.ends ≡ E → ((i j : ℕ) → IsRelated R i j ↔ (IsRelated D.follows i j ⊎ Contains (0 ∷ []) i × Contains E.first.items j)) → ((i : ℕ) → AreListed (IsRelated R i) (list_at table.follows.items i)) → IsExpressionTable (es ++ inner_of e) table e
+IsExpressionTable-made es e T T' draft0 D E R table t h null none bare steps ends related lists = record {
+  steps_are = subst (λ ss. AllZip (IsStep (es ++ inner_of e)) ss.items (actions_of e)) (sym steps) (h.steps_are es [] t (subst (λ ss. AllZip (IsStep es) ss []) (sym none) tt));
+  follows_are = λ i. listed_by (IsRelated R i) (IsNextAt e i) (list_at table.follows.items i) (λ k m. next_by_related e T T' draft0 D E R h none bare related i k m) (λ k n. (related i k).1 (back i k n)) (lists i);
+  ends_are = record {
+    first_is = ap (λ x. x.first.items) ends ∙ h.ends_are.first_is ∙ ap (first_of e) from_1;
+    last_is = ap (λ x. x.last.items) ends ∙ h.ends_are.last_is ∙ ap (last_of e) from_1;
+  };
+  nullable_is = ap (λ x. x.nullable) ends ∙ null;
+}
+  where
+    from_1 : suc (length draft0.steps.items) ≡ 1
+    from_1 = ap (λ xs. suc (length xs)) none
+
+    begins : (j : ℕ) → Contains E.first.items j ↔ IsFirst e 1 j
+    begins j = subst (λ xs. Contains xs j ↔ IsFirst e 1 j) (sym (h.ends_are.first_is ∙ ap (first_of e) from_1)) (contains_first e 1 j)
 
     back : (i j : ℕ) → IsNextAt e i j → IsRelated D.follows i j ⊎ Contains (0 ∷ []) i × Contains E.first.items j
     back i j (inl k) = inr ((0, omega arith, sym k.0), (begins j).1 k.1)

@@ -10,7 +10,7 @@ use Rattle.legal_moves.specs.Effects.{EffectAt}
 use Rattle.legal_moves.specs.Glushkov.{IsNextAt}
 use Rattle.legal_moves.specs.Searches.{place_at, Reaches, IsWideFrom, many, within}
 use Rattle.legal_moves.specs.aid.Configurations.{AsksTooMuch, AreFound, IsSearch}
-use Rattle.legal_moves.specs.declared.configuration.Configuration.{Configuration}
+use Rattle.legal_moves.specs.Configurations.{Configuration}
 use Rattle.legal_moves.proofs.GetLemmas.{slice_get-push, slice_get-within}
 use Rattle.legal_moves.proofs.SearchLemmas.{Searched-by_Reaches, Reaches-by_Searched, StandsNext, StandsNext-by_path, path-by_StandsNext}
 use Rattle.legal_moves.proofs.Distinct.{distinct-le}

@@ -9,7 +9,6 @@ use Rattle.rbg_game.specs.declared.position.SemiState.{SemiState}
 use Rattle.rbg_game.specs.declared.position.Position.{Position}
 use Rattle.legal_moves.specs.Words.{CanFollow}
 use Rattle.legal_moves.specs.Effects.{Effect, EffectAt}
-use Rattle.position_pack.specs.Bytes.{bytes_of}
 use Rattle.retrograde.specs.Graph.{IsEnded, IsReachable}
 use Rattle.legal_moves.specs.Moves.{IsMove, IsSuccessor, IsAhead, HasNoMove, Reach}
 use Rattle.legal_moves.specs.Sources.{IsAt, role_in, leader_in, graph_of}

@@ -5,6 +5,7 @@ pub mod Searches
 pub mod Listed
 pub mod Marks
 pub mod Relations
+pub mod Listing
 pub mod Tables
 pub mod Configurations
 pub mod Shown

@@ -1,18 +1,14 @@
 -- What is shown of the configurations at which a search for moves ended.
-use Rattle.std.specs.Prelude.{◌≡◌, ℕ, zero, suc, ◌≤◌, Bool, false, List, [], ◌∷◌, ◌++◌, Some, slice_get, option_map, unwrap_or}
+use Rattle.std.specs.Prelude.{◌≡◌, ℕ, zero, suc, ◌≤◌, List, [], ◌∷◌, ◌++◌, map, Some, slice_get, option_map, unwrap_or}
 use Rattle.std.specs.Prelude.{if◌then◌else◌}
 use Rattle.arrayvec.specs.ArrayVec.{ArrayVec}
 use Rattle.legal_moves.specs.Listed.{ShownMove}
-use Rattle.legal_moves.specs.declared.configuration.Configuration.{Configuration}
+use Rattle.legal_moves.specs.Configurations.{Configuration}
 use Rattle.legal_moves.specs.declared.successor.Successor.{Successor}
 
 -- the vertex that is current at an index
 abbrev pub vertex_at : List Configuration → ℕ → ℕ
 vertex_at cs i = unwrap_or (option_map (λ c. c.at.state.vertex) (slice_get cs i)) 0
-
--- whether the last action at an index is a switch
-abbrev pub ends_in : List Configuration → ℕ → Bool
-ends_in cs i = unwrap_or (option_map (λ c. c.ends) (slice_get cs i)) false
 
 -- the modifiers on the way to an index, each with the vertex that was current, at most n actions back
 abbrev pub shown_to : List Configuration → ℕ → ℕ → List (ℕ × ℕ)
@@ -26,11 +22,9 @@ shown_to cs (suc n) (suc i) =
 abbrev pub shown_of : List Configuration → Successor → ShownMove
 shown_of cs s = record { next = s.packed.items; shown = shown_to cs s.index s.index }
 
--- what is shown of the ends among the indices, with their bytes
+-- what is shown of the configurations at indices, with their bytes
 abbrev pub moves_of : List Configuration → List (ArrayVec ℕ × ℕ) → List ShownMove
-moves_of cs [] = []
-moves_of cs (p ∷ ps) =
-    if ends_in cs p.1 then shown_of cs (record { packed = p.0; index = p.1 }) ∷ moves_of cs ps else moves_of cs ps
+moves_of cs ps = map (λ p. shown_of cs (record { packed = p.0; index = p.1 })) ps
 
 -- each is after the one that it comes from
 abbrev pub ComeFromBefore : List Configuration → Type 0

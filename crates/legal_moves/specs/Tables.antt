@@ -1,10 +1,10 @@
 -- Expressions as tables.
-use Rattle.std.specs.Prelude.{◌≡◌, ℕ, ◌+◌, ◌↔◌, Bool, true, false, List, [], ◌∷◌, ◌++◌, length, take, Some, slice_get, if◌then◌else◌}
+use Rattle.std.specs.Prelude.{◌≡◌, ℕ, ◌+◌, Bool, true, false, List, [], ◌∷◌, ◌++◌, length, take, Some, slice_get, if◌then◌else◌}
 use Rattle.std.specs.List.{AllZip}
 use Rattle.rbg_game.specs.Rules.{Regex, one, empty, cat, alt, star, count, Action, pattern}
 use Rattle.rbg_game.specs.Meaning.{action_of}
 use Rattle.legal_moves.specs.Glushkov.{is_nullable, IsNextAt}
-use Rattle.legal_moves.specs.Relations.{IsRelated}
+use Rattle.legal_moves.specs.Listing.{AreListed, list_at}
 use Rattle.legal_moves.specs.declared.table.Step.{Step}
 use Rattle.legal_moves.specs.declared.table.Step.TheVariants.{Act, Ask}
 use Rattle.legal_moves.specs.declared.table.Ends.{Ends}
@@ -67,7 +67,7 @@ pub record IsEnds (ends : Ends) (e : Regex) (n : ℕ) : Type 0 where
 -- the table of an expression; those of its patterns are among es
 pub record IsExpressionTable (es : List Regex) (table : Table) (e : Regex) : Type 0 where
   pub steps_are : AllZip (IsStep es) table.steps.items (actions_of e)
-  pub follows_is : (i j : ℕ) → IsRelated table.follows i j ↔ IsNextAt e i j
+  pub follows_are : (i : ℕ) → AreListed (IsNextAt e i) (list_at table.follows.items i)
   pub ends_are : IsEnds table.ends e 1
   pub nullable_is : table.ends.nullable ≡ is_nullable e
 

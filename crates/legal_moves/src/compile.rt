@@ -26,6 +26,7 @@ pub fn add_table(alloc: Global, tables: &mut Vec<Table>, rules: &Rules) -> Resul
     let ends = add_rules(alloc, tables, &mut draft, rules)?;
     let Draft { steps, mut follows } = draft;
     follows.relate_all(alloc, &[0], &ends.first)?;
+    let follows = follows.lists(alloc)?;
     let index = tables.len();
     let looks = steps.iter().all(|step| step.is_look(tables));
     tables.push(Table {

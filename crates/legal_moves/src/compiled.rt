@@ -102,14 +102,13 @@ impl Compiled {
     {
         let searcher = Searcher {
             game: &self.game,
-            packing: &self.packing,
             tables: &self.tables,
             alloc,
         };
         let rules = self.tables.len() - 1;
         let state = copied_state(&at.state)?;
         let found = searcher.search(rules, at.place, state)?;
-        let moves = Moves::of(alloc, found)?;
+        let moves = Moves::of(alloc, &self.packing, found)?;
         Ok(moves)
     }
 }

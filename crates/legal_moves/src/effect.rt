@@ -1,7 +1,6 @@
 //! What an action does to a semi-state.
 ghost use Rattle.std.specs.Prelude.{◌≡◌, ◌↔◌, ◌<◌, ◌==◌, IsTrue, option_map, find, length, ℕ, IfOk, IfSome};
 ghost use Rattle.std.specs.Bool.{OnTrue, OnFalse};
-ghost use Rattle.std.specs.Option.{IfNone};
 ghost use Rattle.rbg_game.specs.Meaning.{game_of, action_of};
 ghost use Rattle.rbg_game.specs.declared.position.SemiState.{SemiState};
 ghost use Rattle.legal_moves.specs.Effects.{Compares, Effect};
@@ -9,12 +8,10 @@ ghost use Rattle.rbg_game.specs.Positions.{IsStateOf};
 ghost use Rattle.legal_moves.specs.Plain.{IsPlain};
 ghost use Rattle.legal_moves.specs.aid.Looking.{at_vertex, Tells};
 
-use crate::copies::copied_state;
 use rbg_game::game::{Game, Vertex};
 use rbg_game::position::SemiState;
 use rbg_game::rules::{Action, Comparison};
 use rbg_game::value::value;
-use std::alloc::AllocError;
 
 /// What a glance at an action tells.
 #[derive(Clone, Copy, PartialEq, Eq, Debug)]
@@ -129,34 +126,5 @@ pub fn at_a_glance(game: &Game, action: &Action, state: &SemiState, vertex: u8) 
             }
         }
         _ => Glance::Writes,
-    }
-}
-
-/// The semi-state that the action leads to, if it is valid.
-pub fn acted(
-    game: &Game,
-    action: &Action,
-    state: &SemiState,
-) -> Result<Option<SemiState>, AllocError>
-    requires state { IsStateOf (game_of game.now) state.now }
-    requires plain { IsPlain state.now.values.items (action_of action.now) }
-    ensures some { IfOk result (λ after. IfSome after (Effect (game_of game.now) (action_of action.now) state.now)) }
-    ensures none { IfOk result (λ after. IfNone after ((T : SemiState) → ¬ Effect (game_of game.now) (action_of action.now) state.now T)) }
-{
-    match at_a_glance(game, action, state, state.vertex) {
-        Glance::Fails => Ok(None),
-        Glance::At(vertex) => {
-            let mut after = copied_state(state)?;
-            after.vertex = vertex;
-            Ok(Some(after))
-        }
-        Glance::Writes => {
-            let mut after = copied_state(state)?;
-            if act(game, action, &mut after) {
-                Ok(Some(after))
-            } else {
-                Ok(None)
-            }
-        }
     }
 }

@@ -2,9 +2,10 @@
 #![tactic(auto)]
 
 mod actions;
+mod bucket;
+mod chains;
 mod compile;
 pub mod compiled;
-mod configuration;
 mod copies;
 pub mod effect;
 pub mod fault;

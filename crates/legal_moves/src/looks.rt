@@ -6,6 +6,9 @@ use crate::found::WIDEST;
 use crate::marks::{is_marked, mark};
 use std::alloc::{AllocError, Global};
 
+/// How many looks there is room for at first.
+const ROOM: usize = 32;
+
 /// A vertex, with the number of the last action, and how the search came to it.
 #[derive(Clone, Copy)]
 pub struct Look {
@@ -42,7 +45,7 @@ impl Looks {
         ensures opening { IfOk result (λ looks. looks.looks.items ≡ record { vertex = vertex; place = 0; parent = 0 } ∷ []) }
         ensures marked { IfOk result (AreMarked numbers) }
     {
-        let mut looks = Vec::new(alloc);
+        let mut looks = Vec::with_capacity(alloc, ROOM)?;
         let mut marks = vec![in alloc; false; vertices * numbers]?;
         mark(&mut marks, usize::from(vertex) * numbers)?;
         looks.push(Look {

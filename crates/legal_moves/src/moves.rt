@@ -1,11 +1,14 @@
 //! The moves of one position.
-ghost use Rattle.std.specs.Prelude.{◌≡◌, ◌<◌, length, IfOk, All, map, slice_get, Some, option_map};
-ghost use Rattle.legal_moves.specs.Shown.{shown_of, moves_of, ComeFromBefore};
+ghost use Rattle.std.specs.Prelude.{◌≡◌, ◌<◌, length, IfOk, map, slice_get, Some, option_map};
+ghost use Rattle.legal_moves.specs.Shown.{ComeFromBefore};
+ghost use Rattle.legal_moves.specs.aid.Configurations.{AreEnds, AreEndsShown, HaveOwnBytes};
+ghost use Rattle.legal_moves.specs.aid.Standing.{stood, configurations_of, AllStand, AreKept};
 
-use crate::configuration::Configuration;
-use crate::found::Found;
+use crate::copies::copied_state;
+use crate::found::{Found, Stand};
 use crate::successor::Successor;
-use position_pack::Packed;
+use position_pack::{Packed, Packing};
+use rbg_game::position::{Position, SemiState};
 use smallvec::SmallVec;
 use std::alloc::{AllocError, Global};
 use std::collections::BTreeMap;
@@ -21,7 +24,8 @@ pub struct Modifier {
 /// The moves of a position, by ascending bytes of their successors.
 #[derive(Drop)]
 pub struct Moves {
-    configurations: Vec<Configuration>,
+    boards: Vec<SemiState>,
+    stands: Vec<Stand>,
     successors: Vec<Successor>,
 }
 
@@ -32,27 +36,30 @@ impl Model for Moves {
     ghost Value = { List ShownMove };
 
     ghost use Rattle.legal_moves.specs.Shown.{shown_of, ComeFromBefore};
+    ghost use Rattle.legal_moves.specs.aid.Standing.{stood};
 
-    ghost view = { λ m. map (shown_of m.configurations.items) m.successors.items };
+    ghost view = { λ m. map (shown_of (map (stood m.boards.items) m.stands.items)) m.successors.items };
 
-    ghost invariant = { λ m. ComeFromBefore m.configurations.items
-        × All (λ s. s.index < length m.configurations.items) m.successors.items };
+    ghost invariant = { λ m. ComeFromBefore (map (stood m.boards.items) m.stands.items)
+        × All (λ s. s.index < length m.stands.items) m.successors.items };
 }
 
 impl Moves {
     /// The moves to the configurations at which a search ended.
-    pub fn of(alloc: Global, found: Found) -> Result<Moves, AllocError>
-        requires before { ComeFromBefore found.configurations.items }
-        requires within { All (λ p. p.1 < length found.configurations.items) found.seen.entries }
-        ensures { IfOk result (λ moves. moves ≡ moves_of found.configurations.items found.seen.entries) }
+    pub fn of(alloc: Global, packing: &Packing, found: Found) -> Result<Moves, AllocError>
+        requires before { ComeFromBefore (configurations_of found) }
+        requires kept { AreKept found }
+        requires apart { HaveOwnBytes (configurations_of found) }
+        ensures { IfOk result (AreEndsShown (configurations_of found)) }
     {
-        let Found {
-            configurations,
-            seen,
-        } = found;
-        let successors = ends_of(alloc, &configurations, seen)?;
+        let ends = ends_by_bytes(alloc, packing, &found.boards, &found.stands)?;
+        let successors = ends
+            .into_iter()
+            .map(|(packed, index)| Successor { packed, index })
+            .collect(alloc)?;
         Ok(Moves {
-            configurations,
+            boards: found.boards,
+            stands: found.stands,
             successors,
         })
     }
@@ -80,13 +87,17 @@ impl Moves {
         let mut word = SmallVec::new(alloc);
         let mut at = self.successors[k].index;
         while at != 0 {
-            let configuration = &self.configurations[at];
-            at = configuration.parent;
-            if !configuration.shows {
+            let Stand {
+                parent,
+                shows,
+                place: number,
+                ..
+            } = self.stands[at];
+            at = parent;
+            if !shows {
                 continue;
             }
-            let number = configuration.at.place;
-            let vertex = self.configurations[at].at.state.vertex;
+            let vertex = self.stands[at].vertex;
             word.push(Modifier { number, vertex })?;
         }
         word.as_mut_slice().reverse();
@@ -104,22 +115,29 @@ impl Moves {
     }
 }
 
-/// The ends among the configurations, in the order of their bytes.
-fn ends_of(
+/// The index of each configuration at which a move ends, by its bytes.
+fn ends_by_bytes(
     alloc: Global,
-    configurations: &[Configuration],
-    seen: BTreeMap<Packed, usize>,
-) -> Result<Vec<Successor>, AllocError>
-    requires { All (λ p. p.1 < length configurations.now) seen.entries }
-    ensures ends { IfOk result (λ ends. map (shown_of configurations.now) ends.items ≡ moves_of configurations.now seen.entries) }
-    ensures within { IfOk result (λ ends. All (λ s. s.index < length configurations.now) ends.items) }
+    packing: &Packing,
+    boards: &[SemiState],
+    stands: &[Stand],
+) -> Result<BTreeMap<Packed, usize>, AllocError>
+    requires within { AllStand boards.now stands.now }
+    requires apart { HaveOwnBytes (map (stood boards.now) stands.now) }
+    ensures { IfOk result (AreEnds (map (stood boards.now) stands.now) (length stands.now)) }
 {
-    let mut ends = Vec::new(alloc);
-    for (packed, index) in seen {
-        if !configurations[index].ends {
+    let mut ends = BTreeMap::new(alloc);
+    for (index, stand) in stands.iter().enumerate() {
+        if !stand.ends {
             continue;
         }
-        ends.push(Successor { packed, index })?;
+        let mut state = copied_state(&boards[stand.board])?;
+        state.vertex = stand.vertex;
+        let at = Position {
+            state,
+            place: stand.place,
+        };
+        ends.insert(packing.pack(&at), index)?;
     }
     Ok(ends)
 }

@@ -1,8 +1,14 @@
 //! A relation on small numbers.
-ghost use Rattle.std.specs.Prelude.{◌≡◌, ℕ, ◌⊎◌, ◌↔◌, OnOk};
+ghost use Rattle.std.specs.Prelude.{IfOk};
+ghost use Rattle.legal_moves.specs.Marks.{IsMarkSet};
+ghost use Rattle.legal_moves.specs.Listing.{AreListed};
 
 use crate::marks::mark;
+use smallvec::SmallVec;
 use std::alloc::{AllocError, Global};
+
+/// Numbers in ascending order.
+pub type Followers = SmallVec<u16, 8>;
 
 /// For each number on the left a row of marks, at the numbers that are related to it.
 #[derive(Drop)]
@@ -11,8 +17,9 @@ pub struct Relation {
 }
 
 impl Relation {
-    ghost use Rattle.std.specs.Prelude.{◌≡◌, ℕ, ◌<◌, ◌⊎◌, ◌↔◌, length, OnOk, Contains};
+    ghost use Rattle.std.specs.Prelude.{◌≡◌, ℕ, ◌<◌, ◌⊎◌, ◌↔◌, length, IfOk, OnOk, Contains};
     ghost use Rattle.legal_moves.specs.Relations.{IsRelated, row_of};
+    ghost use Rattle.legal_moves.specs.Listing.{list_at, AreListed};
 
     pub fn new(alloc: Global) -> Relation
         ensures { (i j : ℕ) → ¬ IsRelated result i j }
@@ -79,4 +86,31 @@ impl Relation {
         }
         Ok(())
     }
+
+    /// For each number on the left the numbers that are related to it.
+    pub fn lists(&self, alloc: Global) -> Result<Vec<Followers>, AllocError>
+        ensures { IfOk result (λ lists. (i : ℕ) → AreListed (IsRelated self.now i) (list_at lists.items i)) }
+    {
+        let mut lists = Vec::new(alloc);
+        for row in &self.rows {
+            lists.push(listed(alloc, row)?)?;
+        }
+        Ok(lists)
+    }
+}
+
+/// The numbers that are marked in a row. There is no list of numbers beyond 65,535, which no game within its limits has.
+fn listed(alloc: Global, row: &[bool]) -> Result<Followers, AllocError>
+    ensures { IfOk result (λ list. AreListed (IsMarkSet row.now) list.items) }
+{
+    let mut list = Followers::new(alloc);
+    for (number, is_marked) in row.iter().enumerate() {
+        if *is_marked {
+            let Ok(number) = u16::try_from(number) else {
+                return Err(AllocError);
+            };
+            list.push(number)?;
+        }
+    }
+    Ok(list)
 }

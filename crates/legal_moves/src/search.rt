@@ -1,37 +1,32 @@
 //! The search for the configurations that valid actions lead to.
-ghost use Rattle.std.specs.Prelude.{◌≡◌, ◌==◌, ◌+◌, ◌≤◌, ◌<◌, length, Err, IsOk, IfOk, OnOk, IfSome, MatchBool};
+ghost use Rattle.std.specs.Prelude.{◌≡◌, ◌==◌, ◌+◌, ◌≤◌, ◌<◌, ◌⊎◌, length, Err, IsOk, IfOk, OnOk, IfSome, MatchBool};
 ghost use Rattle.std.specs.Bool.{OnTrue};
 ghost use Rattle.std.specs.List.{list_any};
-ghost use Rattle.std.specs.Option.{IfNone};
-ghost use Rattle.rbg_game.specs.Rules.{count};
+ghost use Rattle.rbg_game.specs.Rules.{count, action_at};
 ghost use Rattle.rbg_game.specs.Meaning.{game_of};
 ghost use Rattle.rbg_game.specs.Sound.{LacksSwitch};
 ghost use Rattle.rbg_game.specs.Positions.{IsStateOf};
-ghost use Rattle.rbg_game.specs.declared.position.SemiState.{SemiState};
-ghost use Rattle.legal_moves.specs.Effects.{EffectAt};
 ghost use Rattle.legal_moves.specs.Searches.{IsWideFrom};
 ghost use Rattle.legal_moves.specs.aid.Searches.{IsLegal};
-ghost use Rattle.legal_moves.specs.aid.Configurations.{expression_at, IsReady, AsksTooMuch, OccurrenceLeads, IsSeen, IsSearch};
-ghost use Rattle.legal_moves.specs.aid.Going.{began, IsGoing};
-ghost use Rattle.legal_moves.specs.aid.Looking.{at_vertex, seen_from, AreMarked, TellsAt};
+ghost use Rattle.legal_moves.specs.aid.Configurations.{expression_at, IsReady, AsksTooMuch, IsSearch};
+ghost use Rattle.legal_moves.specs.aid.Going.{began, state_at, IsGoing, IsTried, IsFull};
+ghost use Rattle.legal_moves.specs.aid.Looking.{at_vertex, seen_from, AreMarked, IsNoPattern, TellsAt};
+ghost use Rattle.legal_moves.specs.aid.Standing.{configurations_of, AreKept};
 
-use crate::configuration::Configuration;
 use crate::copies::copied_state;
-use crate::effect::{Glance, acted, at_a_glance};
+use crate::effect::{Glance, act, at_a_glance};
 use crate::fault::MoveFault;
-use crate::found::Found;
+use crate::found::{Found, Stand};
 use crate::looks::{Look, Looks};
 use crate::table::{Step, Table};
-use position_pack::Packing;
 use rbg_game::game::Game;
-use rbg_game::position::{Position, SemiState};
+use rbg_game::position::SemiState;
 use std::alloc::Global;
 
 /// What a search looks things up in.
 #[derive(Clone, Copy)]
 pub struct Searcher<'a> {
     pub game: &'a Game,
-    pub packing: &'a Packing,
     pub tables: &'a [Table],
     pub alloc: Global,
 }
@@ -43,14 +38,14 @@ impl Searcher<'_> {
         requires ready { IsReady (game_of self.now.game.now) self.now.tables.now index }
         requires state { IsStateOf (game_of self.now.game.now) state }
         ensures found { let game = game_of self.now.game.now in let e = expression_at game index in IfOk result
-            (λ f. IsSearch game e place state f.configurations.items) }
-        ensures seen { IfOk result (λ f. IsSeen f.configurations.items f.seen) }
+            (λ f. IsSearch game e place state (configurations_of f)) }
+        ensures kept { IfOk result AreKept }
         ensures wide { let game = game_of self.now.game.now in let e = expression_at game index in result ≡ Err MoveFault.TooWide
             → IsWideFrom game e place state }
     {
-        let mut found = Found::begun(self.alloc, self.packing, state)?;
+        let mut found = Found::begun(self.alloc, state)?;
         let mut at = 0;
-        while at < found.configurations.len() {
+        while at < found.stands.len() {
             self.expand(index, place, &mut found, at)?;
             at += 1;
         }
@@ -67,114 +62,116 @@ impl Searcher<'_> {
         at: usize,
     ) -> Result<(), MoveFault>
         requires ready { IsReady (game_of self.now.game.now) self.now.tables.now index }
-        requires at { at < length found.old.configurations.items }
-        requires seen { IsSeen found.old.configurations.items found.old.seen }
+        requires at { at < length found.old.stands.items }
+        requires kept { AreKept found.old }
         requires going { let game = game_of self.now.game.now in let e = expression_at game index in IsGoing game e place
-            (began found.old.configurations.items) found.old.configurations.items at }
-        ensures seen { OnOk result (IsSeen found.new.configurations.items found.new.seen) }
+            (began (configurations_of found.old)) (configurations_of found.old) at }
+        ensures kept { OnOk result (AreKept found.new) }
         ensures going { let game = game_of self.now.game.now in let e = expression_at game index in OnOk result
-            (IsGoing game e place (began found.old.configurations.items) found.new.configurations.items (at + 1)) }
+            (IsGoing game e place (began (configurations_of found.old)) (configurations_of found.new) (at + 1)) }
         ensures wide { let game = game_of self.now.game.now in let e = expression_at game index in result ≡ Err MoveFault.TooWide
-            → IsWideFrom game e place (began found.old.configurations.items) }
+            → IsWideFrom game e place (began (configurations_of found.old)) }
     {
-        let before = &found.configurations[at];
-        if before.ends {
+        let Stand {
+            place: last, ends, ..
+        } = found.stands[at];
+        if ends {
             return Ok(());
         }
-        let last = before.at.place;
         let from = if last == 0 { place } else { last };
-        for (number, follows) in self.tables[index]
-            .follows
-            .row(usize::from(from))
-            .iter()
-            .enumerate()
-        {
-            if *follows {
-                let state = &found.configurations[at].at.state;
-                let after = self.after(index, state, at, number as u16)?;
-                match after {
-                    Some(configuration) => found.add(self.packing, configuration)?,
-                    None => {}
-                }
-            }
+        let followers = self.tables[index].followers(from);
+        for number in followers {
+            self.attempt(index, found, at, *number)?;
         }
         Ok(())
     }
 
-    /// What the occurrence with the number leads to from here, if it is valid.
+    /// Adds what the occurrence with the number leads to from the configuration at the index, if it is valid there.
     #[cycle(search)]
-    fn after(
+    fn attempt(
         &self,
         index: usize,
-        state: &SemiState,
-        parent: usize,
+        found: &mut Found,
+        at: usize,
         number: u16,
-    ) -> Result<Option<Configuration>, MoveFault>
+    ) -> Result<(), MoveFault>
         requires ready { IsReady (game_of self.now.game.now) self.now.tables.now index }
-        requires state { IsStateOf (game_of self.now.game.now) state.now }
+        requires at { at < length found.old.stands.items }
+        requires kept { AreKept found.old }
+        requires state { IsStateOf (game_of self.now.game.now) (state_at (configurations_of found.old) at) }
         requires from { 1 ≤ number }
         requires upto { number ≤ count (expression_at (game_of self.now.game.now) index) }
-        ensures some { let game = game_of self.now.game.now in let e = expression_at game index in IfOk result
-            (λ o. IfSome o (λ c. OccurrenceLeads game e number state.now c × (c.parent ≡ parent))) }
-        ensures none { let game = game_of self.now.game.now in let e = expression_at game index in IfOk result
-            (λ o. IfNone o ((U : SemiState) → ¬ EffectAt game e 1 number state.now U)) }
+        ensures kept { OnOk result (AreKept found.new) }
+        ensures tried { let game = game_of self.now.game.now in let e = expression_at game index in OnOk result
+            (IsTried game e number at (configurations_of found.old) (configurations_of found.new)) }
         ensures narrow { let game = game_of self.now.game.now in let e = expression_at game index in IsOk result
-            → ¬ AsksTooMuch game e number state.now }
+            → ¬ AsksTooMuch game e number (state_at (configurations_of found.old) at) }
         ensures wide { let game = game_of self.now.game.now in let e = expression_at game index in result ≡ Err MoveFault.TooWide
-            → AsksTooMuch game e number state.now }
+            → AsksTooMuch game e number (state_at (configurations_of found.old) at) ⊎ IsFull game e number at (configurations_of found.old) }
     {
-        let Some(state) = self.passed(index, number, state)? else {
-            return Ok(None);
-        };
-        let step = self.tables[index].step(number);
-        Ok(Some(Configuration {
-            at: Position {
-                state,
+        let Stand { board, vertex, .. } = found.stands[at];
+        match self.glance_at(index, &found.boards[board], vertex, number)? {
+            Glance::Fails => Ok(()),
+            Glance::At(vertex) => found.add(Stand {
+                board,
+                vertex,
                 place: number,
-            },
-            parent,
-            shows: step.is_modifier(),
-            ends: step.is_switch(),
-        }))
+                parent: at,
+                shows: false,
+                ends: false,
+            }),
+            Glance::Writes => self.write(index, found, at, number),
+        }
     }
 
-    /// The semi-state that the occurrence leads to from here, if it is valid.
-    #[cycle(search)]
-    fn passed(
+    /// The same of an occurrence that is no pattern, on a copy of the semi-state.
+    fn write(
         &self,
         index: usize,
+        found: &mut Found,
+        at: usize,
         number: u16,
-        state: &SemiState,
-    ) -> Result<Option<SemiState>, MoveFault>
+    ) -> Result<(), MoveFault>
         requires ready { IsReady (game_of self.now.game.now) self.now.tables.now index }
-        requires state { IsStateOf (game_of self.now.game.now) state.now }
+        requires at { at < length found.old.stands.items }
+        requires kept { AreKept found.old }
+        requires state { IsStateOf (game_of self.now.game.now) (state_at (configurations_of found.old) at) }
         requires from { 1 ≤ number }
         requires upto { number ≤ count (expression_at (game_of self.now.game.now) index) }
-        ensures some { let game = game_of self.now.game.now in let e = expression_at game index in IfOk result
-            (λ o. IfSome o (EffectAt game e 1 number state.now)) }
-        ensures none { let game = game_of self.now.game.now in let e = expression_at game index in IfOk result
-            (λ o. IfNone o ((U : SemiState) → ¬ EffectAt game e 1 number state.now U)) }
-        ensures narrow { let game = game_of self.now.game.now in let e = expression_at game index in IsOk result
-            → ¬ AsksTooMuch game e number state.now }
+        requires writes { IsNoPattern (action_at (expression_at (game_of self.now.game.now) index) 1 number) }
+        ensures kept { OnOk result (AreKept found.new) }
+        ensures tried { let game = game_of self.now.game.now in let e = expression_at game index in OnOk result
+            (IsTried game e number at (configurations_of found.old) (configurations_of found.new)) }
         ensures wide { let game = game_of self.now.game.now in let e = expression_at game index in result ≡ Err MoveFault.TooWide
-            → AsksTooMuch game e number state.now }
+            → IsFull game e number at (configurations_of found.old) }
     {
-        match self.tables[index].step(number) {
-            Step::Act(action) => Ok(acted(self.game, action, state)?),
-            Step::Ask(positive, inner) => {
-                let holds = self.holds(*inner, state, state.vertex)?;
-                if holds == *positive {
-                    Ok(Some(copied_state(state)?))
-                } else {
-                    Ok(None)
-                }
-            }
+        let Stand { board, vertex, .. } = found.stands[at];
+        let mut state = copied_state(&found.boards[board])?;
+        state.vertex = vertex;
+        let step = self.tables[index].step(number);
+        let valid = match step {
+            Step::Act(action) => act(self.game, action, &mut state),
+            Step::Ask(_, _) => unreachable!(),
+        };
+        if !valid {
+            return Ok(());
         }
+        let vertex = state.vertex;
+        let board = found.number_of(state)?;
+        found.add(Stand {
+            board,
+            vertex,
+            place: number,
+            parent: at,
+            shows: step.is_modifier(),
+            ends: step.is_switch(),
+        })
     }
 
     /// Whether some word of the expression is legal from here, at this vertex. A pattern that only looks is searched by
     /// vertices alone.
     #[cycle(search)]
+    #[inline(never)]
     fn holds(&self, index: usize, state: &SemiState, vertex: u8) -> Result<bool, MoveFault>
         requires ready { IsReady (game_of self.now.game.now) self.now.tables.now index }
         requires state { IsStateOf (game_of self.now.game.now) (at_vertex state.now vertex) }
@@ -196,7 +193,7 @@ impl Searcher<'_> {
         state.vertex = vertex;
         let found = self.search(index, 0, state)?;
         let ends = &self.tables[index].ends;
-        Ok(ends.nullable || any_stands_last(&found.configurations, &ends.last))
+        Ok(ends.nullable || any_stands_last(&found.stands, &ends.last))
     }
 
     /// All that a search of the pattern from here comes to, where it only looks; none if it meets an action that writes.
@@ -249,23 +246,17 @@ impl Searcher<'_> {
             place: from,
             ..
         } = looks.looks[at];
-        for (number, follows) in self.tables[index]
-            .follows
-            .row(usize::from(from))
-            .iter()
-            .enumerate()
-        {
-            if *follows {
-                let place = number as u16;
-                match self.glance_at(index, state, vertex, place)? {
-                    Glance::Fails => {}
-                    Glance::At(vertex) => looks.add(Look {
-                        vertex,
-                        place,
-                        parent: at,
-                    })?,
-                    Glance::Writes => return Ok(false),
-                }
+        let followers = self.tables[index].followers(from);
+        for number in followers {
+            let place = *number;
+            match self.glance_at(index, state, vertex, place)? {
+                Glance::Fails => {}
+                Glance::At(vertex) => looks.add(Look {
+                    vertex,
+                    place,
+                    parent: at,
+                })?,
+                Glance::Writes => return Ok(false),
             }
         }
         Ok(true)
@@ -306,12 +297,12 @@ impl Searcher<'_> {
 }
 
 /// Whether the last action of some configuration is one of those.
-fn any_stands_last(configurations: &[Configuration], last: &[usize]) -> bool
-    ensures { result ≡ list_any (λ c. list_any (λ k. k == c.at.place) last.now) configurations.now }
+fn any_stands_last(stands: &[Stand], last: &[usize]) -> bool
+    ensures { result ≡ list_any (λ s. list_any (λ k. k == s.place) last.now) stands.now }
 {
-    configurations
+    stands
         .iter()
-        .any(|c| last.contains(&usize::from(c.at.place)))
+        .any(|stand| last.contains(&usize::from(stand.place)))
 }
 
 /// Whether the last action of some look is one of those.

@@ -2,7 +2,7 @@
 ghost use Rattle.std.specs.Prelude.{◌≡◌, ◌-◌, ◌≤◌, length, ◌&&◌, ◌||◌, [], ◌∷◌, ◌++◌, if◌then◌else◌, IfOk, Some, slice_get, false};
 
 use crate::actions::{ends_move, is_look, is_shown};
-use crate::relation::Relation;
+use crate::relation::{Followers, Relation};
 use rbg_game::rules::Action;
 use std::alloc::{AllocError, Global};
 
@@ -139,14 +139,16 @@ impl Ends {
 #[derive(Drop)]
 pub struct Table {
     pub steps: Vec<Step>,
-    /// Which number can stand right after which; after 0, which can stand first.
-    pub follows: Relation,
+    /// For each number those that can stand right after it; for 0 those that can stand first.
+    pub follows: Vec<Followers>,
     pub ends: Ends,
     /// Whether all steps only look, as far as was seen: a search that only looks is tried first then.
     pub looks: bool,
 }
 
 impl Table {
+    ghost use Rattle.legal_moves.specs.Listing.{list_at};
+
     /// The step with this number.
     pub fn step(&self, number: u16) -> &Step
         requires from { 1 ≤ number }
@@ -154,6 +156,16 @@ impl Table {
         ensures { slice_get self.now.steps.items (number - 1) ≡ Some result.now }
     {
         &self.steps[usize::from(number) - 1]
+    }
+
+    /// The numbers that can stand right after this one, in ascending order.
+    pub fn followers(&self, number: u16) -> &[u16]
+        ensures { result.now ≡ list_at self.now.follows.items number }
+    {
+        match self.follows.get(usize::from(number)) {
+            Some(list) => list.as_slice(),
+            None => &[],
+        }
     }
 }
 

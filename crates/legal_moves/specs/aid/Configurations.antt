@@ -1,5 +1,5 @@
 -- What a search finds.
-use Rattle.std.specs.Prelude.{◌≡◌, ℕ, ◌≤◌, ◌<◌, ◌⊎◌, Bool, false, List, [], ◌∷◌, ◌++◌, length, Some, slice_get, unwrap_or}
+use Rattle.std.specs.Prelude.{◌≡◌, ℕ, ◌≤◌, ◌<◌, Bool, true, false, List, length, Some, slice_get, unwrap_or}
 use Rattle.std.specs.BTreeMap.{BTreeMap, get, IsOrdered}
 use Rattle.std.specs.Cmp.Lexicographic.{slice_cmp}
 use Rattle.std.specs.Ordering.{nat_cmp}
@@ -14,10 +14,11 @@ use Rattle.position_pack.specs.Bytes.{bytes_of}
 use Rattle.legal_moves.specs.Effects.{EffectAt}
 use Rattle.legal_moves.specs.Glushkov.{IsNextAt}
 use Rattle.legal_moves.specs.Searches.{IsWideFrom, place_at}
+use Rattle.legal_moves.specs.Listed.{ShownMove}
+use Rattle.legal_moves.specs.Shown.{moves_of}
 use Rattle.legal_moves.specs.Tables.{AreTables}
 use Rattle.legal_moves.specs.declared.table.Table.{Table}
-use Rattle.legal_moves.specs.declared.configuration.Configuration.{Configuration}
-use Rattle.legal_moves.specs.Configurations.{expressions_of}
+use Rattle.legal_moves.specs.Configurations.{Configuration, expressions_of}
 
 abbrev pub expression_at : Game → ℕ → Regex
 expression_at game index = unwrap_or (slice_get (expressions_of game) index) empty
@@ -85,23 +86,23 @@ pub record IsFollowed (game : Game) (e : Regex) (place : ℕ) (cs : List Configu
 abbrev pub packed_cmp : ArrayVec ℕ → ArrayVec ℕ → Ordering
 packed_cmp x y = slice_cmp nat_cmp x.items y.items
 
--- the map has the index of each configuration at its bytes, and nothing else
-pub record IsSeen (cs : List Configuration) (seen : BTreeMap (ArrayVec ℕ) ℕ) : Type 0 where
-  pub all : (i : ℕ) (c : Configuration) → slice_get cs i ≡ Some c → get packed_cmp seen (record { items = bytes_of c.at }) ≡ Some i
-  pub only : (x : ArrayVec ℕ) (i : ℕ) → get packed_cmp seen x ≡ Some i → (c : Configuration) × (slice_get cs i ≡ Some c)
-      × (x.items ≡ bytes_of c.at)
-  pub ordered : IsOrdered packed_cmp seen
+-- the map has, by its bytes, the index of each configuration below n at which a move ends, and nothing else
+pub record AreEnds (cs : List Configuration) (n : ℕ) (ends : BTreeMap (ArrayVec ℕ) ℕ) : Type 0 where
+  pub all : (i : ℕ) (c : Configuration) → i < n → slice_get cs i ≡ Some c → c.ends ≡ true → get packed_cmp ends (record { items = bytes_of c.at }) ≡ Some i
+  pub only : (x : ArrayVec ℕ) (i : ℕ) → get packed_cmp ends x ≡ Some i → (c : Configuration) × (slice_get cs i ≡ Some c)
+      × (c.ends ≡ true) × (i < n) × (x.items ≡ bytes_of c.at)
+  pub ordered : IsOrdered packed_cmp ends
 
--- none has the same bytes
-abbrev pub IsNew : List Configuration → Configuration → Type 0
-IsNew cs c =
-    (i : ℕ) (d : Configuration) → slice_get cs i ≡ Some d → ¬ (bytes_of d.at ≡ bytes_of c.at)
+-- shown of exactly the configurations at which a move ends, in the order of their bytes
+pub record AreEndsShown (cs : List Configuration) (moves : List ShownMove) : Type 0 where
+  pub ends : BTreeMap (ArrayVec ℕ) ℕ
+  pub ends_are : AreEnds cs (length cs) ends
+  pub moves_are : moves ≡ moves_of cs ends.entries
 
--- the configuration was added, or one with the same bytes is there
-abbrev pub IsGrown : List Configuration → Configuration → List Configuration → Type 0
-IsGrown cs c cs' =
-    ((cs' ≡ cs) × (i : ℕ) × (d : Configuration) × (slice_get cs i ≡ Some d) × (bytes_of d.at ≡ bytes_of c.at))
-    ⊎ ((cs' ≡ cs ++ c ∷ []) × (length cs < 65536) × IsNew cs c)
+-- no two have the same bytes
+abbrev pub HaveOwnBytes : List Configuration → Type 0
+HaveOwnBytes cs =
+    (i j : ℕ) (c d : Configuration) → slice_get cs i ≡ Some c → slice_get cs j ≡ Some d → bytes_of c.at ≡ bytes_of d.at → i ≡ j
 
 -- a whole search
 pub record IsSearch (game : Game) (e : Regex) (place : ℕ) (S : SemiState) (cs : List Configuration) : Type 0 where

@@ -1,11 +1,12 @@
 -- A search that is going on.
-use Rattle.std.specs.Prelude.{◌≡◌, ℕ, ◌≤◌, ◌<◌, ◌⊎◌, List, [], ◌∷◌, ◌++◌, length, Some, slice_get}
+use Rattle.std.specs.Prelude.{◌≡◌, ℕ, ◌≤◌, ◌<◌, ◌⊎◌, List, [], ◌∷◌, ◌++◌, length, Some, slice_get, option_map, unwrap_or}
 use Rattle.rbg_game.specs.Rules.{Regex}
 use Rattle.rbg_game.specs.Games.{Game}
 use Rattle.rbg_game.specs.declared.roles.Role.TheVariants.{Keeper}
 use Rattle.rbg_game.specs.declared.position.SemiState.{SemiState}
-use Rattle.legal_moves.specs.aid.Configurations.{AreFound, IsFollowed}
-use Rattle.legal_moves.specs.declared.configuration.Configuration.{Configuration}
+use Rattle.legal_moves.specs.Effects.{EffectAt}
+use Rattle.legal_moves.specs.aid.Configurations.{OccurrenceLeads, AreFound, IsFollowed}
+use Rattle.legal_moves.specs.Configurations.{Configuration}
 
 -- the semi-state in which the search began
 abbrev pub began : List Configuration → SemiState
@@ -29,3 +30,19 @@ abbrev pub IsTaken : List Configuration → Configuration → List Configuration
 IsTaken cs c cs' =
     ((cs' ≡ cs) × (i : ℕ) × (d : Configuration) × (slice_get cs i ≡ Some d) × (d.at ≡ c.at))
     ⊎ ((cs' ≡ cs ++ c ∷ []) × (length cs < 65536) × ((i : ℕ) (d : Configuration) → slice_get cs i ≡ Some d → ¬ (d.at ≡ c.at)))
+
+-- the semi-state of the configuration at the index
+abbrev pub state_at : List Configuration → ℕ → SemiState
+state_at cs at = unwrap_or (option_map (λ c. c.at.state) (slice_get cs at)) (began [])
+
+-- the occurrence k is not valid in the configuration at the index, or what it leads to is taken
+abbrev pub IsTried : Game → Regex → ℕ → ℕ → List Configuration → List Configuration → Type 0
+IsTried game e k at cs cs' =
+    ((cs' ≡ cs) × ((U : SemiState) → ¬ EffectAt game e 1 k (state_at cs at) U))
+    ⊎ ((c : Configuration) × OccurrenceLeads game e k (state_at cs at) c × (c.parent ≡ at) × IsTaken cs c cs')
+
+-- what the occurrence k leads to is new, and there are too many
+abbrev pub IsFull : Game → Regex → ℕ → ℕ → List Configuration → Type 0
+IsFull game e k at cs =
+    (c : Configuration) × OccurrenceLeads game e k (state_at cs at) c × (c.parent ≡ at) × (65536 ≤ length cs)
+    × ((i : ℕ) (d : Configuration) → slice_get cs i ≡ Some d → ¬ (d.at ≡ c.at))

@@ -1,11 +1,12 @@
 -- A search that only looks: from one configuration to the next the vertex alone changes.
-use Rattle.std.specs.Prelude.{◌≡◌, ℕ, ◌+◌, ◌*◌, ◌<◌, ◌⊎◌, false, List, [], ◌∷◌, ◌++◌, map, length, Option, Some, slice_get}
+use Rattle.std.specs.Prelude.{◌≡◌, ℕ, ◌+◌, ◌*◌, ◌<◌, ◌⊎◌, false, List, [], ◌∷◌, ◌++◌, map, length, Option, None, Some, slice_get}
 use Rattle.rbg_game.specs.Rules.{Regex, Action, action_at, is_switch, is_modifier}
 use Rattle.rbg_game.specs.Games.{Game}
 use Rattle.rbg_game.specs.declared.position.SemiState.{SemiState}
 use Rattle.legal_moves.specs.Effects.{Effect, EffectAt}
 use Rattle.legal_moves.specs.Marks.{IsMarkSet}
-use Rattle.legal_moves.specs.declared.configuration.Configuration.{Configuration}
+use Rattle.legal_moves.specs.Tables.{is_pattern}
+use Rattle.legal_moves.specs.Configurations.{Configuration}
 use Rattle.legal_moves.specs.declared.effect.Glance.{Glance}
 use Rattle.legal_moves.specs.declared.effect.Glance.TheVariants.{Fails, At, Writes}
 use Rattle.legal_moves.specs.declared.looks.Look.{Look}
@@ -19,17 +20,22 @@ at_vertex S v = record S { vertex = v }
 abbrev pub IsLook : Option Action → Type 0
 IsLook a = (is_switch a ≡ false) × (is_modifier a ≡ false)
 
+-- no pattern: a semi-state tells what it does
+abbrev pub IsNoPattern : Option Action → Type 0
+IsNoPattern None = ⊥
+IsNoPattern (Some a) = is_pattern a ≡ false
+
 -- what a glance at an action says of it
 abbrev pub Tells : Game → Action → SemiState → Glance → Type 0
 Tells game a S Fails = (T : SemiState) → ¬ Effect game a S T
 Tells game a S (At v) = Effect game a S (at_vertex S v) × IsLook (Some a)
-Tells game a S Writes = Unit {0}
+Tells game a S Writes = IsNoPattern (Some a)
 
 -- the same of an occurrence
 abbrev pub TellsAt : Game → Regex → ℕ → SemiState → Glance → Type 0
 TellsAt game e k S Fails = (T : SemiState) → ¬ EffectAt game e 1 k S T
 TellsAt game e k S (At v) = EffectAt game e 1 k S (at_vertex S v) × IsLook (action_at e 1 k)
-TellsAt game e k S Writes = Unit {0}
+TellsAt game e k S Writes = IsNoPattern (action_at e 1 k)
 
 -- the configuration that a look stands for
 abbrev pub looked : SemiState → Look → Configuration

@@ -1,7 +1,7 @@
 -- What adding an expression does to the draft of a table.
 use Rattle.std.specs.Prelude.{◌≡◌, ℕ, ◌+◌, ◌↔◌, Bool, false, List, ◌++◌, length, Some, suc, ◌⊎◌}
 use Rattle.std.specs.List.{AllZip}
-use Rattle.rbg_game.specs.Rules.{Regex, one, count, Action, is_switch, is_modifier}
+use Rattle.rbg_game.specs.Rules.{Regex, count, Action, is_switch, is_modifier}
 use Rattle.rbg_game.specs.Meaning.{action_of}
 use Rattle.legal_moves.specs.Glushkov.{IsNext}
 use Rattle.legal_moves.specs.Relations.{IsRelated}

@@ -1,6 +1,5 @@
 use Rattle.std.proofs.Common.{◌≡◌, Some, None, refl, sym, ap, ◌∙◌, subst, arith, get_or}
 use Rattle.std.proofs.lemmas.List.{length-map}
-use Rattle.rbg_game.specs.Rules.{Action, is_switch, is_modifier}
 use Rattle.rbg_game.specs.Meaning.{game_of, action_of, vertex_of}
 use Rattle.rbg_game.proofs.MeaningLemmas.{action_of-Shift}
 use Rattle.legal_moves.specs.Effects.{Effect}

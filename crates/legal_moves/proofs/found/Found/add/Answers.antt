@@ -1,23 +1,11 @@
-use Rattle.std.proofs.Common.{◌≡◌, length, inr, sym, ◌∙◌, subst, arith, Some}
-use Rattle.std.specs.BTreeMap.{Updates}
-use Rattle.legal_moves.specs.aid.Configurations.{packed_cmp, IsSeen}
-use Rattle.legal_moves.proofs.SeenLemmas.{IsGrown-there, IsNew-by_none, IsSeen-push}
+use Rattle.std.proofs.Common.{◌∷◌, [], ◌++◌, map, refl, subst}
+use Rattle.legal_moves.specs.aid.Chains.{AreChained}
+use Rattle.legal_moves.specs.aid.Standing.{bucket_at}
+use Rattle.legal_moves.proofs.StandingLemmas.{kept_stand}
 use Rattle.legal_moves.proofs.found.Found.add.Goals as goal
 
-pub returns-then-contains_key-clause-grown : goal.returns-then-contains_key-clause-grown
-returns-then-contains_key-clause-grown c =
-    IsGrown-there c.args.self.now.configurations.items c.args.self.now.seen c.args.configuration c.pack-key.result c.requires c.pack-key.ensures (sym c.contains_key.ensures ∙ c.if-contains_key.true)
-
-pub returns-then-index-ge-WIDEST-clause-wide : goal.returns-then-index-ge-WIDEST-clause-wide
-returns-then-index-ge-WIDEST-clause-wide c =
-    λ same. (omega arith, IsNew-by_none c.args.self.now.configurations.items c.args.self.now.seen c.args.configuration c.pack-key.result c.requires c.pack-key.ensures (sym c.contains_key.ensures ∙ c.if-contains_key.false))
-
-pub returns-clause-seen : goal.returns-clause-seen
-returns-clause-seen c =
-    let count : c.len-index.result ≡ length c.args.self.now.configurations.items = omega arith in
-    subst (λ cs. IsSeen cs c.insert.new.self) (sym c.in_ok-push.ensures.items)
-    (IsSeen-push c.args.self.now.configurations.items c.args.self.now.seen c.insert.new.self c.args.configuration c.pack-key.result c.requires c.pack-key.ensures (sym c.contains_key.ensures ∙ c.if-contains_key.false) (subst (λ n. Updates packed_cmp c.args.self.now.seen c.insert.new.self c.pack-key.result (Some n)) count c.in_ok-insert.ensures.updates) c.in_ok-insert.ensures.ordered)
-
-pub returns-clause-grown : goal.returns-clause-grown
-returns-clause-grown c =
-    inr (c.in_ok-push.ensures.items, omega arith, IsNew-by_none c.args.self.now.configurations.items c.args.self.now.seen c.args.configuration c.pack-key.result c.requires c.pack-key.ensures (sym c.contains_key.ensures ∙ c.if-contains_key.false))
+pub returns-clause-kept : goal.returns-clause-kept
+returns-clause-kept c =
+    let old = c.args.self.now in
+    kept_stand old _ c.args.stand c.requires.kept c.requires.board refl c.in_ok-push-2.ensures.items
+    (subst (λ b. AreChained (map bucket_at old.stands.items ++ b ∷ []) c.push.new.self) c.stand_bucket-bucket.ensures.is (c.in_ok-push.ensures (map bucket_at old.stands.items) c.requires.kept.stands_are)) refl

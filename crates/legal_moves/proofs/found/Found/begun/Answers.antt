@@ -1,10 +1,16 @@
-use Rattle.std.proofs.Common.{◌∷◌, [], ◌++◌, sym, ap, ◌∙◌, subst}
-use Rattle.legal_moves.specs.aid.Configurations.{opening, IsSeen}
-use Rattle.legal_moves.proofs.SeenLemmas.{IsSeen-push, IsSeen-none, IsSeen-none_at}
+use Rattle.std.proofs.Common.{◌∷◌, [], ◌++◌, ap, ◌∙◌, subst}
+use Rattle.legal_moves.specs.aid.Chains.{AreChained}
+use Rattle.legal_moves.proofs.StandingLemmas.{first_stand, begun_configurations, begun_kept}
 use Rattle.legal_moves.proofs.found.Found.begun.Goals as goal
 
-pub returns-clause-seen : goal.returns-clause-seen
-returns-clause-seen c =
-    let pushed = c.in_ok-push.ensures.items ∙ ap (λ xs. xs ++ opening c.args.state ∷ []) c.new-configurations.ensures.items in
-    subst (λ cs. IsSeen cs c.insert.new.self) (sym pushed)
-    (IsSeen-push [] c.new-seen.result c.insert.new.self (opening c.args.state) c.pack.result (IsSeen-none c.new-seen.result c.new-seen.ensures.empty c.new-seen.ensures.ordered) c.pack.ensures (IsSeen-none_at c.new-seen.result c.pack.result c.new-seen.ensures.empty) c.in_ok-insert.ensures.updates c.in_ok-insert.ensures.ordered)
+pub returns-clause-kept : goal.returns-clause-kept
+returns-clause-kept c =
+    let S = c.args.state in
+    begun_kept _ S (c.in_ok-push-2.ensures.items ∙ ap (λ xs. xs ++ S ∷ []) c.in_ok-with_capacity.ensures.items) (c.in_ok-push-4.ensures.items ∙ ap (λ xs. xs ++ first_stand S ∷ []) c.in_ok-with_capacity-2.ensures.items)
+    (subst (λ b. AreChained (b ∷ []) c.push.new.self) c.board_bucket.ensures.is (c.in_ok-push.ensures [] c.in_ok-new.ensures))
+    (subst (λ b. AreChained (b ∷ []) c.push-3.new.self) c.stand_bucket.ensures.is (c.in_ok-push-3.ensures [] c.in_ok-new-2.ensures))
+
+pub returns-clause-opening : goal.returns-clause-opening
+returns-clause-opening c =
+    let S = c.args.state in
+    begun_configurations c.push-2.new.self.items c.push-4.new.self.items S (c.in_ok-push-2.ensures.items ∙ ap (λ xs. xs ++ S ∷ []) c.in_ok-with_capacity.ensures.items) (c.in_ok-push-4.ensures.items ∙ ap (λ xs. xs ++ first_stand S ∷ []) c.in_ok-with_capacity-2.ensures.items)

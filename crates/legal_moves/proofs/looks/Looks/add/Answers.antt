@@ -1,7 +1,7 @@
-use Rattle.std.proofs.Common.{◌≡◌, ◌+◌, ◌*◌, ◌⊎◌, ℕ, refl, sym, ap, ◌∙◌, subst, arith, true, false, slice_index_or}
+use Rattle.std.proofs.Common.{◌≡◌, ◌+◌, ◌*◌, ◌⊎◌, ℕ, refl, sym, ◌∙◌, subst}
 use Rattle.legal_moves.specs.Marks.{IsMarkSet}
-use Rattle.legal_moves.specs.aid.Looking.{AreMarked, mark_of}
-use Rattle.legal_moves.proofs.LookLemmas.{there, new_look, marked_more}
+use Rattle.legal_moves.specs.aid.Looking.{mark_of}
+use Rattle.legal_moves.proofs.LookLemmas.{there, marked_more}
 use Rattle.legal_moves.proofs.looks.Looks.add.Goals as goal
 
 pub returns-then-is_marked-clause-added : goal.returns-then-is_marked-clause-added

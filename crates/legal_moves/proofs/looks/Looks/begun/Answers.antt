@@ -1,4 +1,4 @@
-use Rattle.std.proofs.Common.{◌≡◌, ◌+◌, ◌*◌, ◌⊎◌, false, List, [], ◌∷◌, ◌++◌, replicate, slice_get, Some, ℕ, refl, sym, ap, ◌∙◌, subst, arith}
+use Rattle.std.proofs.Common.{◌≡◌, ◌*◌, ◌⊎◌, [], slice_get, Some, ℕ, refl, subst, arith}
 use Rattle.legal_moves.specs.Marks.{IsMarkSet}
 use Rattle.legal_moves.specs.aid.Looking.{AreMarked, mark_of}
 use Rattle.legal_moves.specs.declared.looks.Look.{Look}
@@ -13,8 +13,8 @@ pub returns-clause-marked : goal.returns-clause-marked
 returns-clause-marked c =
     let numbers = c.args.numbers in
     let first : Look = record { vertex = c.args.vertex; place = 0; parent = 0 } in
-    let before : Looks = record { looks = c.new-looks.result; marks = c.in_ok-marks.marks; numbers = numbers } in
-    let none = c.new-looks.ensures.items in
+    let before : Looks = record { looks = c.in_ok-looks.looks; marks = c.in_ok-marks.marks; numbers = numbers } in
+    let none = c.in_ok-looks.ensures.items in
     let unset = c.in_ok-marks.ensures.items_if_clones_equal (λ y h. h) in
     let at : c.from.result * numbers ≡ mark_of numbers first = rw c.from.ensures (omega arith) in
     let empty : AreMarked numbers before = record {

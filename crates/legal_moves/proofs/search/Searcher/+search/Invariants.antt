@@ -1,8 +1,10 @@
 use Rattle.std.proofs.Common.{◌≡◌, ◌+◌, ◌-◌, ◌*◌, slice_get}
 use Rattle.rbg_game.specs.Rules.{count}
 use Rattle.rbg_game.specs.Meaning.{game_of}
-use Rattle.legal_moves.specs.aid.Configurations.{expression_at, IsFollowed, IsSeen}
+use Rattle.legal_moves.specs.aid.Configurations.{expression_at, IsFollowed}
+use Rattle.legal_moves.proofs.ListingLemmas.{past}
 use Rattle.legal_moves.specs.aid.Going.{began, IsGoing}
+use Rattle.legal_moves.specs.aid.Standing.{configurations_of, AreKept}
 use Rattle.legal_moves.specs.aid.Looking.{at_vertex, seen_from, AreMarked}
 use Rattle.legal_moves.proofs.search.Searcher.+search.Given as goal
 
@@ -21,27 +23,24 @@ decreases-expand l = 5 * l.index + 3
 abbrev pub decreases-look_on : goal.decreases-look_on
 decreases-look_on l = 5 * l.index + 3
 
-abbrev pub decreases-after : goal.decreases-after
-decreases-after l = 5 * l.index + 2
-
-abbrev pub decreases-passed : goal.decreases-passed
-decreases-passed l = 5 * l.index + 1
+abbrev pub decreases-attempt : goal.decreases-attempt
+decreases-attempt l = 5 * l.index + 2
 
 abbrev pub decreases-glance_at : goal.decreases-glance_at
-decreases-glance_at l = 5 * l.index + 2
+decreases-glance_at l = 5 * l.index + 1
 
 abbrev pub invariant-expand-loop-number : goal.invariant-expand-loop-number
 invariant-expand-loop-number l = record {
-  seen : IsSeen l.found.configurations.items l.found.seen;
-  going : IsGoing (game_of l.self.game.now) (expression_at (game_of l.self.game.now) l.index) l.place (began l.initial.found.configurations.items) l.found.configurations.items l.at;
-  here : IsFollowed (game_of l.self.game.now) (expression_at (game_of l.self.game.now) l.index) l.place l.found.configurations.items l.at l.number;
-  before : slice_get l.found.configurations.items l.at ≡ slice_get l.initial.found.configurations.items l.at;
+  kept : AreKept l.found;
+  going : IsGoing (game_of l.self.game.now) (expression_at (game_of l.self.game.now) l.index) l.place (began (configurations_of l.initial.found)) (configurations_of l.found) l.at;
+  here : IsFollowed (game_of l.self.game.now) (expression_at (game_of l.self.game.now) l.index) l.place (configurations_of l.found) l.at (past l.followers l.number-index);
+  before : slice_get (configurations_of l.found) l.at ≡ slice_get (configurations_of l.initial.found) l.at;
 }
 
 abbrev pub invariant-search-loop-at : goal.invariant-search-loop-at
 invariant-search-loop-at l = record {
-  seen : IsSeen l.found.configurations.items l.found.seen;
-  going : IsGoing (game_of l.self.game.now) (expression_at (game_of l.self.game.now) l.index) l.place l.fn.state l.found.configurations.items l.at;
+  kept : AreKept l.found;
+  going : IsGoing (game_of l.self.game.now) (expression_at (game_of l.self.game.now) l.index) l.place l.fn.state (configurations_of l.found) l.at;
 }
 
 abbrev pub decreases-search-loop-at : goal.decreases-search-loop-at
@@ -51,7 +50,7 @@ abbrev pub invariant-look_on-loop-number : goal.invariant-look_on-loop-number
 invariant-look_on-loop-number l = record {
   marked : AreMarked (count (expression_at (game_of l.self.game.now) l.index) + 1) l.looks;
   going : IsGoing (game_of l.self.game.now) (expression_at (game_of l.self.game.now) l.index) 0 (began (seen_from l.state l.initial.looks.looks.items)) (seen_from l.state l.looks.looks.items) l.at;
-  here : IsFollowed (game_of l.self.game.now) (expression_at (game_of l.self.game.now) l.index) 0 (seen_from l.state l.looks.looks.items) l.at l.number;
+  here : IsFollowed (game_of l.self.game.now) (expression_at (game_of l.self.game.now) l.index) 0 (seen_from l.state l.looks.looks.items) l.at (past l.followers l.number-index);
   before : slice_get l.looks.looks.items l.at ≡ slice_get l.initial.looks.looks.items l.at;
 }
 

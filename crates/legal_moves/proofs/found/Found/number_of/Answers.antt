@@ -1,0 +1,29 @@
+use Rattle.std.proofs.Common.{◌≡◌, ◌∷◌, [], ◌++◌, length, Some, slice_get, map, refl, sym, ap, ◌∙◌, subst, arith, length-append}
+use Rattle.legal_moves.specs.aid.Buckets.{bucket_of_board}
+use Rattle.legal_moves.specs.aid.Chains.{AreChained}
+use Rattle.legal_moves.specs.aid.Looking.{at_vertex}
+use Rattle.legal_moves.proofs.GetLemmas.{slice_get-end}
+use Rattle.legal_moves.proofs.StandingLemmas.{kept_board, same_configurations, board_is, unlike_by}
+use Rattle.legal_moves.proofs.found.Found.number_of.Goals as goal
+
+pub returns-in_ok-push-in-None-2-clause-kept : goal.returns-in_ok-push-in-None-2-clause-kept
+returns-in_ok-push-in-None-2-clause-kept c =
+    let old = c.args.self.now in
+    let unlike = unlike_by old.boards.items c.args.state c.like.result c.like.ensures.none c.in-None.is in
+    kept_board old _ c.args.state c.requires.kept refl c.in_ok-push-in-None-2.ensures.items unlike
+    (subst (λ b. AreChained (map bucket_of_board old.boards.items ++ b ∷ []) c.push.new.self) c.board_bucket-bucket.ensures.is (c.in_ok-push-in-None.ensures (map bucket_of_board old.boards.items) c.requires.kept.boards_are)) refl
+
+pub returns-in_ok-push-in-None-2-clause-same : goal.returns-in_ok-push-in-None-2-clause-same
+returns-in_ok-push-in-None-2-clause-same c =
+    same_configurations c.args.self.now.boards.items c.push-in-None.new.self.items c.args.self.now.stands.items c.args.state c.requires.kept.within c.in_ok-push-in-None-2.ensures.items
+
+pub returns-in_ok-push-in-None-2-clause-number : goal.returns-in_ok-push-in-None-2-clause-number
+returns-in_ok-push-in-None-2-clause-number c =
+    let boards = c.args.self.now.boards.items in
+    let pushed = c.in_ok-push-in-None-2.ensures.items in
+    let many : c.len-number.result ≡ length boards = omega (arith, c.len-number.ensures) in
+    let at = subst (λ i. slice_get (boards ++ c.args.state ∷ []) i ≡ Some c.args.state) (sym many) (slice_get-end boards c.args.state) in
+    (
+      omega (arith, many, ap length pushed, length-append boards (c.args.state ∷ [])),
+      ap (λ A. at_vertex A c.args.state.vertex) (board_is c.push-in-None.new.self.items c.len-number.result c.args.state (ap (λ bs. slice_get bs c.len-number.result) pushed ∙ at)),
+    )

@@ -1,0 +1,7 @@
+use Rattle.std.proofs.Common.{map}
+use Rattle.legal_moves.specs.aid.Configurations.{AreEnds}
+use Rattle.legal_moves.specs.aid.Standing.{stood}
+use Rattle.legal_moves.proofs.moves.ends_by_bytes.Given as goal
+
+abbrev pub invariant-loop-index : goal.invariant-loop-index
+invariant-loop-index l = AreEnds (map (stood l.boards) l.stands) l.index l.ends

@@ -1,0 +1,57 @@
+//! The bucket by which a search finds again what it has kept.
+ghost use Rattle.std.specs.Prelude.{◌≡◌, ◌<◌, fold};
+ghost use Rattle.legal_moves.specs.aid.Buckets.{mixed, bucket_of_board, bucket_of_stand};
+
+use crate::chains::BUCKETS;
+use rbg_game::position::SemiState;
+
+/// That of a board, by its pieces and values.
+pub fn board_bucket(board: &SemiState) -> usize
+    ensures is { result ≡ bucket_of_board board.now }
+    ensures small { result < 1024 }
+{
+    hash_of_values(hash_of_pieces(&board.pieces), &board.values) % BUCKETS
+}
+
+/// That of a board's number, a vertex and the number of the last action.
+pub fn stand_bucket(board: usize, vertex: u8, place: u16) -> usize
+    ensures is { result ≡ bucket_of_stand board vertex place }
+    ensures small { result < 1024 }
+{
+    let hash = mixed_with(board % 65536, usize::from(vertex));
+    mixed_with(hash, usize::from(place)) % BUCKETS
+}
+
+/// One number mixed into a hash.
+fn mixed_with(hash: usize, number: usize) -> usize
+    requires hash { hash < 65536 }
+    requires number { number < 4294967296 }
+    ensures is { result ≡ mixed hash number }
+    ensures small { result < 65536 }
+{
+    (hash * 31 + number) % 65536
+}
+
+fn hash_of_pieces(pieces: &[u8]) -> usize
+    ensures is { result ≡ fold mixed 0 pieces.now }
+    ensures small { result < 65536 }
+{
+    let mut hash = 0;
+    for piece in pieces {
+        hash = mixed_with(hash, usize::from(*piece));
+    }
+    hash
+}
+
+/// With the hash of what comes before the values.
+fn hash_of_values(before: usize, values: &[u32]) -> usize
+    requires { before < 65536 }
+    ensures is { result ≡ fold mixed before values.now }
+    ensures small { result < 65536 }
+{
+    let mut hash = before;
+    for value in values {
+        hash = mixed_with(hash, *value as usize);
+    }
+    hash
+}

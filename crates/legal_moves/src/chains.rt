@@ -1,0 +1,53 @@
+//! Chains of what has the same bucket, from the latest down, to find again what was kept.
+ghost use Rattle.std.specs.Prelude.{◌≡◌, ◌<◌, length, [], ◌∷◌, ◌++◌, List, ℕ, IfOk, OnOk, slice_index};
+
+use std::alloc::{AllocError, Global};
+
+/// How many chains there are.
+pub const BUCKETS: usize = 1024;
+
+/// How many indices there is room for at first.
+const ROOM: usize = 64;
+
+/// The indices that were given out so far, chained by their buckets. 0 ends a chain, and one more than an index stands for the index.
+#[derive(Drop)]
+pub struct Chains {
+    /// For each bucket the latest index that has it.
+    pub heads: Vec<usize>,
+    /// For each index the latest one before it with the same bucket.
+    pub befores: Vec<usize>,
+    ghost all_buckets: { length heads.items ≡ 1024 },
+}
+
+impl Chains {
+    ghost use Rattle.legal_moves.specs.aid.Chains.{AreChained};
+
+    /// Chains of nothing.
+    pub fn new(alloc: Global) -> Result<Chains, AllocError>
+        ensures { IfOk result (AreChained []) }
+    {
+        Ok(Chains {
+            heads: vec![in alloc; 0; BUCKETS]?,
+            befores: Vec::with_capacity(alloc, ROOM)?,
+        })
+    }
+
+    /// The latest index that has the bucket.
+    pub fn latest(&self, bucket: usize) -> usize
+        requires { bucket < 1024 }
+        ensures { result ≡ slice_index self.now.heads.items bucket }
+    {
+        self.heads[bucket]
+    }
+
+    /// Chains the next index, which has the bucket.
+    pub fn push(&mut self, bucket: usize) -> Result<(), AllocError>
+        requires { bucket < 1024 }
+        ensures { (buckets : List ℕ) → AreChained buckets self.old → OnOk result (AreChained (buckets ++ bucket ∷ []) self.new) }
+    {
+        let before = self.heads[bucket];
+        self.befores.push(before)?;
+        self.heads[bucket] = self.befores.len();
+        Ok(())
+    }
+}
