@@ -1,10 +1,12 @@
 //! Puts keys into a map that is a tree of pages, and reads them back, for `tools/bench` to time.
 #![tactic(auto)]
 
+mod counted_disk;
 mod keys;
 mod measure;
 mod plain_disk;
 
+use crate::counted_disk::CountedDisk;
 use crate::measure::measure;
 use crate::plain_disk::PlainDisk;
 use page_store::{PageStore, Pages};
@@ -53,16 +55,19 @@ fn sectors_for(keys: u64) -> u64 {
     8 * (keys.min(MOST_KEYS) / 100 + 2_000)
 }
 
-/// Makes an empty table on the disk and measures there.
+/// Makes an empty table on the disk and measures there. What is found goes to standard output, and how long it took to
+/// standard error.
 fn measure_on<D: SectorDisk + Drop>(rt: &HostRuntime, disk: D, keys: u64) -> anyhow::Result<bool> {
-    let mut disk = disk;
+    let mut disk = CountedDisk::new(disk);
     create(&mut disk, &[0; 512])?;
-    match PageStore::open(rt.alloc(), disk) {
-        Ok(store) => {
-            let mut store = store;
-            store.seal();
-            measure(rt, &mut store, keys)
-        }
-        Err(refused) => Err(refused.fault.into()),
-    }
+    let mut store = match PageStore::open(rt.alloc(), disk) {
+        Ok(store) => store,
+        Err(refused) => return Err(refused.fault.into()),
+    };
+    store.seal();
+    let measured = measure(rt, &mut store, keys)?;
+    let written = store.into_disk().written();
+    eprintln!(rt; "{}", measured.times)?;
+    println!(rt; "{} written {written}", measured.counts)?;
+    Ok(measured.counts.found == keys && measured.counts.ascending == keys)
 }

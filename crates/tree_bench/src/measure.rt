@@ -3,6 +3,7 @@
 use crate::keys::{key_of, value_of};
 use byteorder::{BigEndian, ByteOrder};
 use page_store::{PageFault, Pages};
+use std::fmt::{self, Display, Formatter, Write};
 use std::time::Instant;
 use tree_page::{Kind, Widths, item_at, kind_of};
 use tree_put::put;
@@ -17,9 +18,53 @@ const BATCH: u64 = 256;
 /// How many levels a tree has at most.
 const LEVELS: u32 = 24;
 
-/// Puts so many keys, reads each, and goes through all. What is found goes to standard output, and how many microseconds
-/// each of the three took to standard error. Answers whether each key was found with its value, and in order.
-pub fn measure<P: Pages>(rt: &HostRuntime, store: &mut P, keys: u64) -> anyhow::Result<bool> {
+/// How many microseconds each part took.
+#[derive(Drop)]
+pub struct Times {
+    put: u128,
+    get: u128,
+    next: u128,
+}
+
+impl Display for Times {
+    fn fmt<W: Write>(&self, f: &mut Formatter<W>) -> fmt::Result {
+        write!(f, "put {} get {} next {}", self.put, self.get, self.next)
+    }
+}
+
+/// What is found.
+#[derive(Drop)]
+pub struct Counts {
+    /// How many keys were put.
+    pub keys: u64,
+    /// How many levels the tree has, and how many pages are in use.
+    pub levels: u32,
+    pub pages: u32,
+    /// How many keys were found with their values.
+    pub found: u64,
+    /// How many were found one behind the other, in order.
+    pub ascending: u64,
+}
+
+impl Display for Counts {
+    fn fmt<W: Write>(&self, f: &mut Formatter<W>) -> fmt::Result {
+        write!(
+            f,
+            "keys {} levels {} pages {} found {} ascending {}",
+            self.keys, self.levels, self.pages, self.found, self.ascending
+        )
+    }
+}
+
+/// What is found, and how long it took.
+#[derive(Drop)]
+pub struct Measured {
+    pub times: Times,
+    pub counts: Counts,
+}
+
+/// Puts so many keys, reads each, and goes through all.
+pub fn measure<P: Pages>(rt: &HostRuntime, store: &mut P, keys: u64) -> anyhow::Result<Measured> {
     let start = Instant::now(rt)?;
     let root = put_all(store, keys)?;
     let putting = start.elapsed(rt)?.as_micros();
@@ -29,11 +74,19 @@ pub fn measure<P: Pages>(rt: &HostRuntime, store: &mut P, keys: u64) -> anyhow::
     let start = Instant::now(rt)?;
     let ascending = count_ascending(store, root, keys)?;
     let going = start.elapsed(rt)?.as_micros();
-    eprintln!(rt; "put {putting} get {getting} next {going}")?;
-    let levels = levels_of(store, root)?;
-    let pages = store.capacity().saturating_sub(store.free_pages());
-    println!(rt; "keys {keys} levels {levels} pages {pages} found {found} ascending {ascending}")?;
-    Ok(found == keys && ascending == keys)
+    let counts = Counts {
+        keys,
+        levels: levels_of(store, root)?,
+        pages: store.capacity().saturating_sub(store.free_pages()),
+        found,
+        ascending,
+    };
+    let times = Times {
+        put: putting,
+        get: getting,
+        next: going,
+    };
+    Ok(Measured { times, counts })
 }
 
 /// The slot of a root: the page of the map in its first bytes.
