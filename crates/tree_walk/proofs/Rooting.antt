@@ -109,7 +109,12 @@ module _ (w : Widths) (root depth : ℕ) (old mid new : StoreStated) (some : roo
   below_fails refuses told last none (Store TableFull) never = absurd never
   below_fails refuses told last none (Store OutOfMemory) never = absurd never
   below_fails refuses told last none (Store Closed) closed = sym unchanged.closed ∙ closed
-  below_fails refuses told last none Refused refused = λ honest. of_map honest (λ ps fs. IsRefused refuses told fs) (refused (still_honest works.goes_on honest))
+  below_fails refuses told last none Refused refused = λ honest.
+      let same : reads mid ≡ reads old = unchanged_reads old mid honest unchanged in record {
+        depth = depth;
+        refused = subst (λ (bytes : ℕ → List ℕ). IsRefused refuses told (entries_below w bytes depth root)) same (refused (still_honest works.goes_on honest));
+        of_map = of_map honest (λ ps fs. fs ≡ entries_below w (reads old) depth root) (λ i. entries_below w (same i) depth root);
+      }
 
   pub map_walked : (first last now : List ℕ) (told more : List Item) → depth < 24 → IsTrue old.disk.honest → (IsTrue mid.disk.honest → IsWalked w (reads mid) depth root first mid new last now told more)
       → (pages : List ℕ) × (es : List Item) × HoldsMap w old root pages es × AreMarked pages old new × (more ≡ told ++ es)

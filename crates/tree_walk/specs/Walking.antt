@@ -4,10 +4,11 @@ use Rattle.sector_disk.specs.Disk.{Grew}
 use Rattle.page_store.specs.declared.fault.PageFault.TheVariants.{Disk, Damaged, Closed}
 use Rattle.page_store.specs.declared.marks.Mark.TheVariants.{Committed, Waiting}
 use Rattle.page_store.specs.Marks.{mark}
-use Rattle.page_store.specs.Store.{Store as StoreStated}
+use Rattle.page_store.specs.Store.{Store as StoreStated, reads}
 use Rattle.tree_page.specs.declared.widths.Widths.{Widths}
 use Rattle.tree_page.specs.Page.{Item}
 use Rattle.tree_map.specs.Changes.{HoldsMap}
+use Rattle.tree_map.specs.Tree.{entries_below}
 use Rattle.tree_walk.specs.declared.fault.WalkFault.{WalkFault}
 use Rattle.tree_walk.specs.declared.fault.WalkFault.TheVariants.{Store, Refused}
 
@@ -29,13 +30,18 @@ pub record IsRefused (refuses : List Item → Item → Type 0) (told es : List I
   pub is : es ≡ front ++ entry ∷ back
   pub refused : refuses (told ++ front) entry
 
+-- the visitor refused one of the entries that stand below this root, and they are those of the map, where there is one
+pub record IsRefusedBelow (w : Widths) (root : ℕ) (refuses : List Item → Item → Type 0) (told : List Item) (store : StoreStated) : Type 0 where
+  pub depth : ℕ
+  pub refused : IsRefused refuses told (entries_below w (reads store) depth root)
+  pub of_map : (pages : List ℕ) (es : List Item) → HoldsMap w store root pages es → es ≡ entries_below w (reads store) depth root
+
 -- a map is not walked: the disk failed; below this root is no map on pages that wait, as far as the disk is honest; the
--- store is closed; or the visitor refused one of its entries
+-- store is closed; or the visitor refused an entry
 abbrev pub WalkCause : Widths → ℕ → (List Item → Item → Type 0) → List Item → StoreStated → StoreStated → WalkFault → Type 0
 WalkCause w root refuses told old new (Store Disk) = Grew old.failures new.failures
 WalkCause w root refuses told old new (Store Damaged) = IsTrue old.disk.honest → (pages : List ℕ) (es : List Item)
     → HoldsMap w old root pages es → AreWaiting pages old → ⊥
 WalkCause w root refuses told old new (Store Closed) = old.closed ≡ true
 WalkCause w root refuses told old new (Store _) = ⊥
-WalkCause w root refuses told old new Refused = IsTrue old.disk.honest → (pages : List ℕ) (es : List Item)
-    → HoldsMap w old root pages es → IsRefused refuses told es
+WalkCause w root refuses told old new Refused = IsTrue old.disk.honest → IsRefusedBelow w root refuses told old

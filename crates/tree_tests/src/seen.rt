@@ -1,0 +1,43 @@
+//! What a walk tells is kept.
+ghost use Rattle.std.specs.Prelude.{List, map, ⊤};
+ghost use Rattle.tree_page.specs.Page.{Item};
+ghost use Rattle.tree_read.specs.declared.entry.Entry.{Entry};
+
+use std::alloc::Global;
+use tree_read::{Entry, copied};
+use tree_walk::{Refused, Visitor};
+
+/// The entries that were told of.
+#[derive(Drop)]
+pub struct Seen {
+    pub entries: Vec<Entry>,
+}
+
+impl Seen {
+    /// Nothing is told yet.
+    pub fn new(alloc: Global) -> Self {
+        Seen {
+            entries: Vec::new(alloc),
+        }
+    }
+}
+
+impl Visitor for Seen {
+    ghost told = { λ v. map (λ e. (e.key.items, e.value.items)) v.entries.items };
+
+    ghost refuses = { λ _ _ _. ⊤ };
+
+    fn entry(&mut self, key: &[u8], value: &[u8]) -> Result<(), Refused> {
+        if key.len() > 256 || value.len() > 256 {
+            return Err(Refused);
+        }
+        let entry = Entry {
+            key: copied(key),
+            value: copied(value),
+        };
+        match self.entries.push(entry) {
+            Ok(()) => Ok(()),
+            Err(_) => Err(Refused),
+        }
+    }
+}
