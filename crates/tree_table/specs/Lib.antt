@@ -1,0 +1,4 @@
+pub mod Trees
+pub mod Entries
+pub mod Forest
+pub mod Spelled

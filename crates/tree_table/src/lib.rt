@@ -1,0 +1,9 @@
+//! A game's table on four trees of pages, one for its positions, one for its records, one for its edges and one for the
+//! settled order.
+#![tactic(auto)]
+
+mod slot;
+mod tree;
+
+pub use slot::TreeSlot;
+pub use tree::{Roots, Tree, widths_of};
