@@ -31,3 +31,11 @@ with_root roots Positions root = record roots { positions = root }
 with_root roots Records root = record roots { records = root }
 with_root roots Edges root = record roots { edges = root }
 with_root roots Order root = record roots { order = root }
+
+-- for this tree that, and for each other what it was
+abbrev pub with_at : {A : Type 0} → (Tree → A) → Tree → A → Tree → A
+with_at f Positions x Positions = x
+with_at f Records x Records = x
+with_at f Edges x Edges = x
+with_at f Order x Order = x
+with_at f t x u = f u

@@ -2,6 +2,10 @@
 //! settled order.
 #![tactic(auto)]
 
+mod bytes;
+mod change;
+mod fault;
+mod read;
 mod slot;
 mod tree;
 

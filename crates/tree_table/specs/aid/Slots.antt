@@ -1,0 +1,21 @@
+-- What changes of a slot.
+use Rattle.std.specs.Prelude.{◌≡◌, ℕ, ◌+◌, ◌-◌, ◌^◌, Bool, true, false, min}
+use Rattle.tree_table.specs.declared.slot.TreeSlot.{TreeSlot}
+
+-- only roots differ
+pub record IsSameButRoots (old new : TreeSlot) : Type 0 where
+  pub first : new.first ≡ old.first
+  pub sizes : new.sizes ≡ old.sizes
+
+-- the text is the same, and so is how many bytes a position has
+pub record IsSameFrame (old new : TreeSlot) : Type 0 where
+  pub first : new.first ≡ old.first
+  pub text : new.sizes.text ≡ old.sizes.text
+  pub packed : new.sizes.packed ≡ old.sizes.packed
+
+-- how many there are, once one that was counted or not is counted or not
+abbrev pub recounted : ℕ → Bool → Bool → ℕ
+recounted count true false = count - 1
+recounted count false true = min (count + 1) (2 ^ 32 - 1)
+recounted count true true = count
+recounted count false false = count
