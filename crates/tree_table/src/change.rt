@@ -9,7 +9,7 @@ ghost use Rattle.tree_table.specs.declared.tree.Tree.{Tree};
 ghost use Rattle.tree_table.specs.Causes.{HasNoForest, HasNoTable, ChangeCause};
 ghost use Rattle.tree_table.specs.Trees.{key_width, value_width};
 ghost use Rattle.tree_table.specs.Working.{HoldsForest, HoldsTable, with_entry};
-ghost use Rattle.tree_table.specs.aid.Slots.{IsSameButRoots, recounted, IsSameFrame};
+ghost use Rattle.tree_table.specs.aid.Slots.{IsSameButRoots, IsSameFrame, counts_with, recounted};
 
 use crate::bytes::{cell_bytes, key_behind, number_key};
 use crate::fault::table_fault;
@@ -112,6 +112,7 @@ fn recounted(count: u32, was: bool, is: bool) -> u32
 
 /// The counts, once a record that was in the one state is in the other.
 fn counts_with(counts: Counts, was: State, is: State) -> Counts
+    ensures { result ≡ counts_with counts was is }
 {
     Counts {
         known: counts.known,

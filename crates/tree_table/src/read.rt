@@ -1,5 +1,5 @@
 //! What a slot names is read.
-ghost use Rattle.std.specs.Prelude.{◌≡◌, ◌≤◌, ◌<◌, ℕ, List, Some, IfOk, IfErr, IfSome, IfNone, IsTrue, slice_get};
+ghost use Rattle.std.specs.Prelude.{◌≡◌, ◌↔◌, ◌≤◌, ◌<◌, ℕ, List, Some, IfOk, IfErr, IfSome, IfNone, IsTrue, slice_get};
 ghost use Rattle.page_store.specs.Store.{StoreWorks, IsUnchanged};
 ghost use Rattle.retrograde.specs.Edges.{IsAfter, IsNextEdge, HasNoMoreEdges};
 ghost use Rattle.retrograde.specs.Stored.{Stored, HasRecord};
@@ -121,8 +121,7 @@ pub fn number_of<P: Pages>(
 
 /// Whether the number comes after the one given, if one was.
 fn is_after(after: Option<u32>, number: u32) -> bool
-    ensures { IsTrue result → IsAfter after number }
-    ensures not { (IsAfter after number) → IsTrue result }
+    ensures { IsTrue result ↔ IsAfter after number }
 {
     match after {
         Some(given) => given < number,

@@ -1,5 +1,8 @@
 -- What changes of a slot.
 use Rattle.std.specs.Prelude.{◌≡◌, ℕ, ◌+◌, ◌-◌, ◌^◌, Bool, true, false, min}
+use Rattle.retrograde.specs.declared.records.Counts.{Counts}
+use Rattle.retrograde.specs.declared.records.State.{State}
+use Rattle.retrograde.specs.Stored.{is_expanded, is_processed}
 use Rattle.tree_table.specs.declared.slot.TreeSlot.{TreeSlot}
 
 -- only roots differ
@@ -19,3 +22,10 @@ recounted count true false = count - 1
 recounted count false true = min (count + 1) (2 ^ 32 - 1)
 recounted count true true = count
 recounted count false false = count
+
+-- the counts, once a record that was in the one state is in the other
+abbrev pub counts_with : Counts → State → State → Counts
+counts_with counts was is = record counts {
+  expanded = recounted counts.expanded (is_expanded was) (is_expanded is);
+  processed = recounted counts.processed (is_processed was) (is_processed is);
+}
