@@ -1,0 +1,3 @@
+mod Forests
+mod Rooted
+mod Faults

@@ -4,4 +4,5 @@ pub mod Forest
 pub mod Spelled
 pub mod Working
 pub mod Causes
+pub mod InTrees
 pub mod aid

@@ -43,6 +43,10 @@ pub record Work : Type 0 where
   pub torn : Bool
   pub store : Store
 
+-- the table at work of these parts
+abbrev pub work_of : TreeSlot → List ℕ → Bool → Store → Work
+work_of s x b p = record { slot = s; text = x; torn = b; store = p }
+
 -- the table that it has come to
 abbrev pub table_now : Work → Stored (List ℕ)
 table_now work = table_in work.slot (reads work.store)

@@ -8,6 +8,8 @@ mod fault;
 mod read;
 mod slot;
 mod tree;
+mod working;
 
 pub use slot::TreeSlot;
 pub use tree::{Roots, Tree, widths_of};
+pub use working::TreeTable;
