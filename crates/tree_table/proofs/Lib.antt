@@ -1,3 +1,7 @@
 mod Forests
 mod Rooted
 mod Faults
+mod Numbers
+mod Puts
+mod Lists
+mod ByKey

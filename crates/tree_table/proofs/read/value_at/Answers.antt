@@ -1,3 +1,6 @@
+use Rattle.tree_table.proofs.ByKey.{number_pushed}
+use Rattle.tree_table.proofs.Numbers.{same_edge}
+use Rattle.tree_table.proofs.Puts.{one_more}
 use Rattle.std.proofs.Common.{sym, subst}
 use Rattle.table.specs.declared.fault.TableFault.{TableFault}
 use Rattle.tree_table.specs.Causes.{HasNoForest, ReadCause}
