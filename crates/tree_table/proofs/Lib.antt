@@ -5,3 +5,4 @@ mod Numbers
 mod Puts
 mod Lists
 mod ByKey
+mod Tables

@@ -1,10 +1,11 @@
 -- Lists in which one element is another, or that have one more.
-use Rattle.std.proofs.Common.{◌≡◌, ◌⊎◌, inl, inr, ⊎_elim, ℕ, zero, suc, ◌+◌, ◌<◌, Bool, true, false, cond, List, [], ◌∷◌, ◌++◌, length, set, zip, Some, None, Option, Contains, refl, sym, ◌∙◌, ap, arith}
+use Rattle.std.proofs.Common.{◌≡◌, ◌⊎◌, inl, inr, ⊎_elim, ℕ, zero, suc, ◌+◌, ◌^◌, ◌<◌, ◌≤◌, Bool, true, false, cond, List, [], ◌∷◌, ◌++◌, length, set, zip, Some, None, Option, Contains, refl, sym, ◌∙◌, ap, arith}
 use Rattle.std.specs.Prelude.{slice_get, count_by}
 use Rattle.std.proofs.lemmas.Option.{same_Some, slice_get_within, slice_get-get_or, get_or_from_slice_get}
 use Rattle.std.proofs.lemmas.List.Sums.{sum_by-set, sum_by-append, sum_by-cons, count_by-le-length}
 use Rattle.std.proofs.lemmas.List.{length-set}
 use Rattle.retrograde.specs.declared.records.Record.{Record}
+use Rattle.tree_table.specs.aid.Slots.{recounted}
 
 -- what is at a place once an element is another
 pub set_cases : {A : Type 0} (xs : List A) (i : ℕ) (y : A) (j : ℕ) (x : A) → slice_get (set xs i y) j ≡ Some x → ((j ≡ i) × (y ≡ x)) ⊎ ((j ≡ i → ⊥) × (slice_get xs j ≡ Some x))
@@ -69,3 +70,30 @@ same_list (x ∷ xs) [] long same = absurd (cc)
 same_list (x ∷ xs) (y ∷ ys) long same =
     let first : y ≡ x = same_Some y x (same 0 x refl) in
     λ i. sym first i ∷ same_list xs ys (omega (arith, long)) (λ k z is. same (suc k) z is) i
+
+-- how many pass a test once one record is another
+pub count_set : (test : Record → Bool) (xs : List Record) (i : ℕ) (x y : Record) → slice_get xs i ≡ Some x
+    → count_by test (set xs i y) + cond (test x) 1 0 ≡ count_by test xs + cond (test y) 1 0
+count_set test xs i x y is =
+    ap (λ (r : Record). count_by test (set xs i y) + cond (test r) 1 0) (sym (get_or_from_slice_get xs i x x is))
+    ∙ sum_by-set (λ r. cond (test r) 1 0) xs i y x (slice_get_within xs i x is)
+
+-- one more that fails
+pub count_push : (test : Record → Bool) (xs : List Record) (y : Record) → test y ≡ false → count_by test (xs ++ y ∷ []) ≡ count_by test xs
+count_push test xs y fails =
+    let total : count_by test (xs ++ y ∷ []) ≡ count_by test xs + count_by test (y ∷ []) = sum_by-append (λ z. cond (test z) 1 0) xs (y ∷ []) in
+    let one : count_by test (y ∷ []) ≡ cond (test y) 1 0 + 0 = sum_by-cons (λ z. cond (test z) 1 0) y [] in
+    let none : ◌≡◌ {A = ℕ} (cond (test y) 1 0) 0 = ap (λ (b : Bool). cond b 1 0) fails in
+    omega (arith, total, one, none)
+
+-- the count of those that pass, as it is kept
+recount : (count now : ℕ) (was is : Bool) → now + cond was 1 0 ≡ count + cond is 1 0 → count ≤ 2 ^ 24 → recounted count was is ≡ now
+recount count now true true same few = omega (arith, same)
+recount count now true false same few = omega (arith, same)
+recount count now false true same few = omega (arith, same, few)
+recount count now false false same few = omega (arith, same)
+
+pub recounted_is : (test : Record → Bool) (xs : List Record) (i : ℕ) (x y : Record) → slice_get xs i ≡ Some x → length xs ≤ 2 ^ 24
+    → recounted (count_by test xs) (test x) (test y) ≡ count_by test (set xs i y)
+recounted_is test xs i x y is few =
+    recount (count_by test xs) (count_by test (set xs i y)) (test x) (test y) (count_set test xs i x y is) (omega (arith, few, count_by-le-length test xs))

@@ -1,3 +1,4 @@
+use Rattle.tree_table.proofs.Tables.{plain_cell}
 use Rattle.tree_table.proofs.ByKey.{number_pushed}
 use Rattle.tree_table.proofs.Numbers.{same_edge}
 use Rattle.tree_table.proofs.Puts.{one_more}
