@@ -6,3 +6,5 @@ mod Puts
 mod Lists
 mod ByKey
 mod Tables
+mod Few
+mod Found

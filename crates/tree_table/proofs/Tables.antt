@@ -1,5 +1,5 @@
 -- A table held by pages, once an entry was put into its trees.
-use Rattle.std.proofs.Common.{◌≡◌, ◌≢◌, ℕ, ◌+◌, ◌^◌, ◌<◌, ◌≤◌, List, [], ◌∷◌, ◌++◌, length, set, zip, Bool, true, false, ◌||◌, ◌&&◌, ◌==◌, Some, None, Option, refl, sym, ◌∙◌, ap, subst, arith}
+use Rattle.std.proofs.Common.{◌≡◌, ◌≢◌, ℕ, ◌+◌, ◌^◌, ◌<◌, ◌≤◌, List, [], ◌∷◌, ◌++◌, length, set, zip, Bool, true, false, ◌||◌, ◌&&◌, ◌==◌, Some, None, Option, refl, sym, ◌∙◌, ap, subst, arith, length-append}
 use Rattle.std.specs.Prelude.{slice_get}
 use Rattle.std.proofs.lemmas.List.{length-set}
 use Rattle.page_store.specs.Store.{Store, reads}
@@ -47,6 +47,10 @@ edges_as sizes n = record sizes { edges = n }
 -- what is written of a cell is a cell
 pub plain_cell : (packed : ℕ) (bytes : List ℕ) (cell : List ℕ × Record) → IsPlainCell packed bytes cell → IsCell packed bytes cell
 plain_cell packed bytes cell plain = record { long = plain.long; behind = plain.behind; is = plain.is; is_record = plain.is_record.is }
+
+-- how long it is
+pub plain_long : (packed : ℕ) (bytes : List ℕ) (cell : List ℕ × Record) → IsPlainCell packed bytes cell → length bytes ≡ packed + 16
+plain_long packed bytes cell plain = omega (arith, ap length plain.is, length-append cell.0 plain.behind, plain.long, plain.is_record.is.long)
 
 -- pages tell nothing of counts
 pub forest_as : (first : ℕ) (sizes others : Sizes) (roots : Roots) (text : List ℕ) (entries : Tree → List Item) (store : Store) → others.packed ≡ sizes.packed

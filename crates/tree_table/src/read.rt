@@ -1,5 +1,5 @@
 //! What a slot names is read.
-ghost use Rattle.std.specs.Prelude.{◌≡◌, ◌↔◌, ◌≤◌, ◌<◌, ℕ, List, Some, IfOk, IfErr, IfSome, IfNone, IsTrue, slice_get};
+ghost use Rattle.std.specs.Prelude.{◌≡◌, ◌↔◌, ◌≤◌, ◌<◌, ℕ, List, Some, IfOk, IfErr, IfSome, IfNone, IsTrue, length, slice_get};
 ghost use Rattle.page_store.specs.Store.{StoreWorks, IsUnchanged};
 ghost use Rattle.retrograde.specs.Edges.{IsAfter, IsNextEdge, HasNoMoreEdges};
 ghost use Rattle.retrograde.specs.Stored.{Stored, HasRecord};
@@ -80,13 +80,17 @@ pub fn cell_at<P: Pages>(
     ensures kept { IsTrue (P.store store.old).disk.honest → (text : List ℕ) (table : Stored (List ℕ))
         → HoldsTable slot.now text table (P.store store.old)
         → IfOk result (λ cell. HasRecord table number cell.kept) }
+    ensures long { IfOk result (λ cell. length cell.position.items ≡ slot.now.sizes.packed) }
     ensures unchanged { IsUnchanged (P.store store.old) (P.store store.new) }
     ensures works { StoreWorks (P.store store.old) (P.store store.new) }
     ensures cause { IfErr result (ReadCause HasNoTable slot.now (P.store store.old) (P.store store.new)) }
 {
     let key = number_key(number);
-    match value_at(store, slot, Tree::Records, &key)? {
-        Some(value) => cell_in(&value, slot.sizes.packed).ok_or(TableFault::Damaged),
+    let Some(value) = value_at(store, slot, Tree::Records, &key)? else {
+        return Err(TableFault::Damaged);
+    };
+    match cell_in(&value, slot.sizes.packed) {
+        Some(cell) => Ok(cell),
         None => Err(TableFault::Damaged),
     }
 }
@@ -110,12 +114,16 @@ pub fn number_of<P: Pages>(
     ensures works { StoreWorks (P.store store.old) (P.store store.new) }
     ensures cause { IfErr result (ReadCause HasNoTable slot.now (P.store store.old) (P.store store.new)) }
 {
-    match value_at(store, slot, Tree::Positions, packed)? {
-        Some(value) => match number_in(&value) {
-            Some(number) if number < slot.sizes.counts.known => Ok(Some(number)),
-            _ => Err(TableFault::Damaged),
-        },
-        None => Ok(None),
+    let Some(value) = value_at(store, slot, Tree::Positions, packed)? else {
+        return Ok(None);
+    };
+    let Some(number) = number_in(&value) else {
+        return Err(TableFault::Damaged);
+    };
+    if number < slot.sizes.counts.known {
+        Ok(Some(number))
+    } else {
+        Err(TableFault::Damaged)
     }
 }
 
@@ -161,7 +169,10 @@ pub fn edge_after<P: Pages>(
     if next != successor {
         return Ok(None);
     }
-    if predecessor < slot.sizes.counts.known && is_after(after, predecessor) {
+    if predecessor >= slot.sizes.counts.known {
+        return Err(TableFault::Damaged);
+    }
+    if is_after(after, predecessor) {
         Ok(Some(predecessor))
     } else {
         Err(TableFault::Damaged)
@@ -185,8 +196,11 @@ pub fn settled_at<P: Pages>(
     ensures cause { IfErr result (ReadCause HasNoTable slot.now (P.store store.old) (P.store store.new)) }
 {
     let key = number_key(place);
-    match value_at(store, slot, Tree::Order, &key)? {
-        Some(value) => number_in(&value).ok_or(TableFault::Damaged),
+    let Some(value) = value_at(store, slot, Tree::Order, &key)? else {
+        return Err(TableFault::Damaged);
+    };
+    match number_in(&value) {
+        Some(number) => Ok(number),
         None => Err(TableFault::Damaged),
     }
 }
