@@ -8,3 +8,5 @@ mod ByKey
 mod Tables
 mod Few
 mod Found
+mod KeyOrder
+mod Reading

@@ -1,3 +1,5 @@
+use Rattle.tree_table.proofs.KeyOrder.{keys_cmp}
+use Rattle.tree_table.proofs.Reading.{cell_read}
 use Rattle.tree_table.proofs.Tables.{plain_cell}
 use Rattle.tree_table.proofs.ByKey.{number_pushed}
 use Rattle.tree_table.proofs.Numbers.{same_edge}
