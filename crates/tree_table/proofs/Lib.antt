@@ -10,3 +10,4 @@ mod Few
 mod Found
 mod KeyOrder
 mod Reading
+mod Spelling

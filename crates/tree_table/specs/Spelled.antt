@@ -19,7 +19,7 @@ use Rattle.tree_table.specs.Trees.{key_width, value_width, root_of}
 use Rattle.tree_table.specs.Entries.{number_key, edge_key}
 
 -- the entries below this page as its first byte tells its kind, so many levels down at most
-pub entries_down : ℕ → ℕ → (ℕ → List ℕ) → ℕ → ℕ → List Item
+unfoldable pub entries_down : ℕ → ℕ → (ℕ → List ℕ) → ℕ → ℕ → List Item
 entries_down key value bytes zero page = []
 entries_down key value bytes (suc levels) page =
     if slice_index (bytes page) 0 == 1 then items_of key value (count_in (bytes page)) (drop 4 (bytes page))
