@@ -11,3 +11,4 @@ mod Found
 mod KeyOrder
 mod Reading
 mod Spelling
+mod Holding

@@ -1,3 +1,4 @@
+use Rattle.tree_table.proofs.Holding.{now_held}
 use Rattle.tree_table.proofs.Spelling.{spelled_is}
 use Rattle.tree_table.proofs.KeyOrder.{keys_cmp}
 use Rattle.tree_table.proofs.Reading.{cell_read}
