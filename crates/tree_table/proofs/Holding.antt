@@ -1,11 +1,13 @@
 -- A table at work after a call.
-use Rattle.std.proofs.Common.{◌≡◌, ◌≢◌, ℕ, ◌^◌, ◌≤◌, List, Option, Some, None, Result, Ok, Err, IsTrue, refl, sym, ◌∙◌, ap, subst}
+use Rattle.std.proofs.Common.{◌≡◌, ◌≢◌, ℕ, ◌^◌, ◌≤◌, Bool, true, List, Option, Some, None, Result, Ok, Err, IsTrue, refl, sym, ◌∙◌, ap, subst}
 use Rattle.std.specs.Result.{IfOk, IfErr}
 use Rattle.std.specs.Option.{IfSome, IfNone}
 use mathlib.Core.Logic.{∥∥₁_elim, ∥∥₁_prop}
 use mathlib.Core.HLevel.{Unit-prop}
 use denote.Struct.Props.{props}
 use Rattle.page_store.specs.Store.{Store, StoreWorks, IsUnchanged, reads}
+use Rattle.retrograde.specs.declared.records.Record.{Record}
+use Rattle.retrograde.specs.Edges.{IsAfter, IsNextEdge, HasNoMoreEdges}
 use Rattle.retrograde.specs.Stored.{Stored}
 use Rattle.table.specs.Faults.{NeedsNoPage}
 use Rattle.table.specs.declared.fault.TableFault.{TableFault}
@@ -13,7 +15,7 @@ use Rattle.table.specs.declared.fault.TableFault.TheVariants.{Disk, Damaged, Tab
 use Rattle.tree_table.specs.declared.slot.TreeSlot.{TreeSlot}
 use Rattle.tree_table.specs.Causes.{HasNoTable, ReadCause, ChangeCause}
 use Rattle.tree_table.specs.Spelled.{table_in}
-use Rattle.tree_table.specs.Working.{Work, table_now, IsHonestWork, HoldsTable, HoldsWork, WorkStays, WorkGoesOn, WorkCause, WorkFails}
+use Rattle.tree_table.specs.Working.{Work, work_of, table_now, IsHonestWork, HoldsTable, HoldsWork, WorkStays, WorkGoesOn, WorkCause, WorkFails}
 use Rattle.tree_table.specs.aid.Frames.{honest_before, honest_on, holds_still}
 use Rattle.tree_table.proofs.Spelling.{table_is}
 
@@ -85,3 +87,44 @@ some_prop P None each = Unit-prop
 pub none_prop : {X : Type 0} (P : Type 0) (o : Option X) → IsProp P → IsProp (IfNone o P)
 none_prop P (Some x) is = Unit-prop
 none_prop P None is = is
+
+-- positions, records and numbers that were or were not there
+pub position_prop : (o p : Option (List ℕ)) → IsProp (o ≡ p)
+position_prop o p = hlevel props
+
+pub record_prop : (o p : Option Record) → IsProp (o ≡ p)
+record_prop o p = hlevel props
+
+pub number_prop : (o p : Option ℕ) → IsProp (o ≡ p)
+number_prop o p = hlevel props
+
+pub never_prop : {A : Type 0} → IsProp (A → ⊥)
+never_prop = hlevel props
+
+-- a call that only read
+pub only_read : (slot : TreeSlot) (text : List ℕ) (torn : Bool) (old new : Store) → StoreWorks old new → IsUnchanged old new
+    → WorkStays (work_of slot text torn old) (work_of slot text torn new)
+only_read slot text torn old new works same = record { works = works; unchanged = same; slot = refl; text = refl; torn = refl }
+
+-- and was refused
+pub read_refused : {X : Type 0} (a b : Work) (r : Result X TableFault) → WorkStays a b → IfErr r (ReadCause HasNoTable a.slot a.store b.store) → IfErr r (WorkFails a b)
+read_refused a b (Ok x) stays cause = tt
+read_refused a b (Err fault) stays cause = read_fails_so a b fault stays cause
+
+pub read_without_page : {X : Type 0} (slot : TreeSlot) (old new : Store) (r : Result X TableFault) → IfErr r (ReadCause HasNoTable slot old new) → IfErr r NeedsNoPage
+read_without_page slot old new (Ok x) cause = tt
+read_without_page slot old new (Err fault) cause = needs_no_page slot old new fault cause
+
+-- whether there is one more edge
+after_prop : (after : Option ℕ) (p : ℕ) → IsProp (IsAfter after p)
+after_prop None p = Unit-prop
+after_prop (Some q) p = hlevel props
+
+pub next_prop : (table : Stored (List ℕ)) (i : ℕ) (after : Option ℕ) (p : ℕ) → IsProp (IsNextEdge table i after p)
+next_prop table i after p x y =
+    let edge : IsProp (table.has_edge i p ≡ true) = hlevel props in
+    let least : IsProp ((q : ℕ) → table.has_edge i q ≡ true → IsAfter after q → p ≤ q) = hlevel props in
+    λ k. record { edge = edge x.edge y.edge k; later = after_prop after p x.later y.later k; least = least x.least y.least k }
+
+pub no_more_prop : (table : Stored (List ℕ)) (i : ℕ) (after : Option ℕ) → IsProp (HasNoMoreEdges table i after)
+no_more_prop table i after = hlevel props
