@@ -27,10 +27,10 @@ number_pushed {A} IsOf es xs x v few are new = record { each = each; only = only
           let (value, found, of) = are.each i y was in
           (value, others_are_found es (number_key (length xs)) v (number_key i) (λ same. let e : i ≡ length xs = same_number i (length xs) (omega (arith, low, few)) few same in omega (arith, e, low)) ∙ found, of)
       | inr last ↦ (
-          v,
-          ap (λ (k : ℕ). find_entry (put_entry es (number_key (length xs)) v) (number_key k)) last.0 ∙ a_put_is_found es (number_key (length xs)) v,
-          subst (λ (z : A). IsOf v z) last.1 new,
-        )
+        v,
+        ap (λ (k : ℕ). find_entry (put_entry es (number_key (length xs)) v) (number_key k)) last.0 ∙ a_put_is_found es (number_key (length xs)) v,
+        subst (λ (z : A). IsOf v z) last.1 new,
+      )
     ]
 
     only : (k value : List ℕ) → find_entry (put_entry es (number_key (length xs)) v) k ≡ Some value → (i : ℕ) × (k ≡ number_key i) × (i < length (xs ++ x ∷ []))

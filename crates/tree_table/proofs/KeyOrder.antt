@@ -47,7 +47,7 @@ low v = omega arith
 last : (v : ℕ) → v % 256 ≡ v % 65536 % 256
 last v = omega arith
 
-number_cmp : (v w : ℕ) → v < 2 ^ 32 → w < 2 ^ 32 → key_cmp (number_key v) (number_key w) ≡ nat_cmp v w
+pub number_cmp : (v w : ℕ) → v < 2 ^ 32 → w < 2 ^ 32 → key_cmp (number_key v) (number_key w) ≡ nat_cmp v w
 number_cmp v w hv hw =
     four_then (nat_cmp (v / 16777216 % 256) (w / 16777216 % 256)) (nat_cmp (v / 65536 % 256) (w / 65536 % 256)) (nat_cmp (v / 256 % 256) (w / 256 % 256)) (nat_cmp (v % 256) (w % 256))
     ∙ (λ i. ordering_then (ordering_then (nat_cmp (top v i) (top w i)) (nat_cmp (v / 65536 % 256) (w / 65536 % 256))) (ordering_then (nat_cmp (low v i) (low w i)) (nat_cmp (last v i) (last w i))))

@@ -10,5 +10,6 @@ mod Few
 mod Found
 mod KeyOrder
 mod Reading
+mod NextEdges
 mod Spelling
 mod Holding

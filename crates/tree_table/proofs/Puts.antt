@@ -18,6 +18,7 @@ keys_same a b = by_order (key_cmp a b) refl
     differ o is other same =
         let tie : key_cmp a b ≡ Equal = ap (key_cmp a) (sym same) ∙ tied_itself nat_list_cmp_total a in
         let e : true ≡ false = ap is_eq (sym tie ∙ is) ∙ other in cc
+
     by_order : (o : Ordering) → key_cmp a b ≡ o → (a ≡ b) ⊎ (a ≢ b)
     by_order Less is = inr (differ Less is refl)
     by_order Equal is = inl (same_key a b is)

@@ -1,5 +1,5 @@
 //! Numbers, edges and cells as bytes of entries.
-ghost use Rattle.std.specs.Prelude.{◌≡◌, ◌≤◌, ◌++◌, ℕ, List, Some, IfSome, IfNone, length};
+ghost use Rattle.std.specs.Prelude.{◌≡◌, ◌≤◌, ◌<◌, ◌^◌, ◌++◌, ℕ, List, Some, IfSome, IfNone, length};
 ghost use Rattle.retrograde.specs.declared.records.Record.{Record};
 ghost use Rattle.table_bytes.specs.Bytes.{IsCell, IsNumber, IsPlainCell};
 ghost use Rattle.tree_table.specs.Entries.{number_key, edge_key};
@@ -44,7 +44,8 @@ pub fn number_in(bytes: &[u8]) -> Option<u32>
 
 /// The bytes of a number, and those of another behind, if there is one.
 pub fn key_behind(first: u32, second: Option<u32>) -> Bytes
-    ensures { result.items ≡ key_behind first second }
+    ensures bytes { result.items ≡ key_behind first second }
+    ensures small { IfSome second (λ n. n < 2 ^ 32) }
 {
     let mut key = copied(&number_key(first));
     if let Some(number) = second {

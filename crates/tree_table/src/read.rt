@@ -66,11 +66,7 @@ fn entry_after<P: Pages>(
 }
 
 /// The position with a number, and its record.
-pub fn cell_at<P: Pages>(
-    store: &mut P,
-    slot: &TreeSlot,
-    number: u32,
-) -> Result<Cell, TableFault>
+pub fn cell_at<P: Pages>(store: &mut P, slot: &TreeSlot, number: u32) -> Result<Cell, TableFault>
     requires some { 1 ≤ slot.now.sizes.packed }
     requires short { slot.now.sizes.packed ≤ 240 }
     requires known { number < slot.now.sizes.counts.known }
@@ -180,11 +176,7 @@ pub fn edge_after<P: Pages>(
 }
 
 /// The number at a place of the settled order.
-pub fn settled_at<P: Pages>(
-    store: &mut P,
-    slot: &TreeSlot,
-    place: u32,
-) -> Result<u32, TableFault>
+pub fn settled_at<P: Pages>(store: &mut P, slot: &TreeSlot, place: u32) -> Result<u32, TableFault>
     requires some { 1 ≤ slot.now.sizes.packed }
     requires short { slot.now.sizes.packed ≤ 240 }
     requires settled { place < slot.now.sizes.counts.settled }

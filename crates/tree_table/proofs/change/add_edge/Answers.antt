@@ -31,7 +31,7 @@ returns-then-is_some-clause-table g c = λ honest text table h.
     let old = g.P.Pages.store c.args.store.now in
     let new = g.P.Pages.store c.value_at.new.store in
     let read = c.in_ok-value_at.ensures in
-    let key : c.deref.result.now ≡ edge_key c.args.successor c.args.predecessor = c.deref.ensures.0 ∙ c.key_behind-key.ensures in
+    let key : c.deref.result.now ≡ edge_key c.args.successor c.args.predecessor = c.deref.ensures.0 ∙ c.key_behind-key.ensures.bytes in
     let (value, is) = some_found c.in_ok-value_at.field-0 _ c.if-is_some.ensures (read.found honest text h.entries h.forest) in
     edge_stays c.args.slot text table old (omega (arith, c.requires.few)) h c.args.successor c.args.predecessor value new c.requires.successor c.requires.predecessor
     (ap (find_entry (h.entries Edges)) (sym key) ∙ is)
@@ -62,8 +62,8 @@ returns-clause-table g c = λ honest text table h.
     let mid = g.P.Pages.store c.value_at.new.store in
     let new = g.P.Pages.store c.put_in.new.store in
     let read = c.in_ok-value_at.ensures in
-    let key : c.deref.result.now ≡ edge_key c.args.successor c.args.predecessor = c.deref.ensures.0 ∙ c.key_behind-key.ensures in
-    let key_two : c.deref-2.result.now ≡ edge_key c.args.successor c.args.predecessor = c.deref-2.ensures.0 ∙ c.key_behind-key.ensures in
+    let key : c.deref.result.now ≡ edge_key c.args.successor c.args.predecessor = c.deref.ensures.0 ∙ c.key_behind-key.ensures.bytes in
+    let key_two : c.deref-2.result.now ≡ edge_key c.args.successor c.args.predecessor = c.deref-2.ensures.0 ∙ c.key_behind-key.ensures.bytes in
     let none = none_found c.in_ok-value_at.field-0 _ c.if-is_some.ensures (read.found honest text h.entries h.forest) in
     let sizes : last.sizes ≡ slot.sizes = c.in_ok-slot.ensures.slot.sizes in
     let back : slot.sizes ≡ last.sizes = sym sizes in

@@ -1,11 +1,3 @@
-use Rattle.tree_table.proofs.Holding.{now_held}
-use Rattle.tree_table.proofs.Spelling.{spelled_is}
-use Rattle.tree_table.proofs.KeyOrder.{keys_cmp}
-use Rattle.tree_table.proofs.Reading.{cell_read}
-use Rattle.tree_table.proofs.Tables.{plain_cell}
-use Rattle.tree_table.proofs.ByKey.{number_pushed}
-use Rattle.tree_table.proofs.Numbers.{same_edge}
-use Rattle.tree_table.proofs.Puts.{one_more}
 use Rattle.std.proofs.Common.{sym, subst}
 use Rattle.table.specs.declared.fault.TableFault.{TableFault}
 use Rattle.tree_table.specs.Causes.{HasNoForest, ReadCause}
