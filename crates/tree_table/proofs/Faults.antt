@@ -1,16 +1,12 @@
 -- Faults that are handed on.
-use Rattle.std.proofs.Common.{◌≡◌, ◌⊎◌, inl, inr, ℕ, ◌≤◌, Result, Ok, Err, refl, sym, ◌∙◌, subst, arith}
+use Rattle.std.proofs.Common.{◌≡◌, Result, Ok, Err, sym, ◌∙◌, subst}
 use Rattle.std.specs.Result.{IsErr, IfErr, IsErrAnd}
-use Rattle.sector_disk.specs.Disk.{Grew}
-use Rattle.sector_disk.specs.aid.Moments.{still_honest}
-use Rattle.page_store.specs.Store.{Store, StoreWorks, IsUnchanged}
-use Rattle.page_store.specs.declared.fault.PageFault.{PageFault}
-use Rattle.page_store.specs.declared.fault.PageFault.TheVariants as page
+use Rattle.page_store.specs.Store.{Store, StoreWorks}
 use Rattle.table.specs.declared.fault.TableFault.{TableFault}
 use Rattle.table.specs.declared.fault.TableFault.TheVariants.{Disk, Damaged, TableFull, OutOfMemory, Closed}
 use Rattle.tree_map.specs.aid.Unchanged.{grew_before}
 use Rattle.tree_table.specs.declared.slot.TreeSlot.{TreeSlot}
-use Rattle.tree_table.specs.Causes.{HasNoForest, HasNoTable, ReadCause, ChangeCause}
+use Rattle.tree_table.specs.Causes.{ReadCause, ChangeCause}
 
 -- a fault is passed on
 pub passed_on : {X E : Type 0} (Cause : E → Type 0) (r : Result X E) (fault : E) → IsErr r × IsErrAnd r (λ f. f ≡ fault) → Cause fault → IfErr r Cause

@@ -1,5 +1,5 @@
 -- A map has no more entries than its pages have room for.
-use Rattle.std.proofs.Common.{◌≡◌, ℕ, zero, suc, ◌+◌, ◌*◌, ◌<◌, ◌≤◌, List, [], ◌∷◌, length, Contains, subst, ap, sym, arith, length-append}
+use Rattle.std.proofs.Common.{◌≡◌, ℕ, zero, suc, ◌+◌, ◌*◌, ◌≤◌, List, [], ◌∷◌, length, subst, ap, sym, arith, length-append}
 use Rattle.std.specs.Prelude.{All}
 use Rattle.std.specs.List.{flat_map}
 use Rattle.std.proofs.lemmas.List.Elements.{All-head, All-tail, All-weaker}
@@ -7,9 +7,9 @@ use Rattle.std.proofs.Math.Nat.{mul-le-mul_left}
 use Rattle.tree_page.specs.aid.Items.{length-items}
 use Rattle.tree_page.specs.declared.kind.Kind.TheVariants.{Leaf, Inner}
 use Rattle.tree_page.specs.declared.widths.Widths.{Widths}
-use Rattle.tree_page.specs.Page.{Item, items_in, child_of, count_in, item_width}
+use Rattle.tree_page.specs.Page.{Item, items_in, child_of, count_in}
 use Rattle.tree_map.specs.Entries.{first_key}
-use Rattle.tree_map.specs.Tree.{entries_below, pages_below, IsTree, IsMap, IsRooted}
+use Rattle.tree_map.specs.Tree.{entries_below, pages_below, IsTree, IsMap}
 use Rattle.tree_map.specs.aid.Keeping.{few_pages}
 use Rattle.std.proofs.Common.{inl, inr, Some}
 

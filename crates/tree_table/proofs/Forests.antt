@@ -1,5 +1,5 @@
 -- Four trees and a text in a store: what is read of them, and what an entry that is put into one leaves.
-use Rattle.std.proofs.Common.{◌≡◌, ◌≢◌, ◌⊎◌, inl, inr, ℕ, List, Option, length, Contains, IsTrue, refl, sym, ◌∙◌, ap, subst}
+use Rattle.std.proofs.Common.{◌≡◌, ◌≢◌, ◌⊎◌, inl, inr, ℕ, List, length, Contains, IsTrue, refl, sym, ◌∙◌, subst}
 use Rattle.page_store.specs.Store.{Store, reads, StoreWorks}
 use Rattle.page_store.specs.declared.fault.PageFault.{PageFault}
 use Rattle.page_store.specs.declared.fault.PageFault.TheVariants as page
@@ -15,16 +15,13 @@ use Rattle.tree_table.specs.Trees.{key_width, value_width, root_of}
 use Rattle.tree_table.specs.Causes.{HasNoForest, ReadCause, ChangeCause}
 use Rattle.tree_table.specs.Working.{HoldsForest}
 use Rattle.tree_table.specs.aid.Faults.{fault_of}
-use Rattle.std.specs.Prelude.{None}
 use Rattle.page_chain.specs.aid.Resting.{a_chain_rests_on_its_pages}
 use Rattle.page_chain.specs.Chain.{IsChain}
-use Rattle.tree_map.specs.Entries.{put_entry}
 use Rattle.tree_map.specs.aid.Keeping.{another_map_stays, not_taken}
 use Rattle.tree_table.specs.declared.tree.Tree.TheVariants.{Positions, Records, Edges, Order}
 use Rattle.tree_table.specs.declared.tree.Roots.{Roots}
 use Rattle.tree_table.specs.Forest.{AreApart, IsTreeOf}
 use Rattle.tree_table.specs.Trees.{with_root, with_at}
-use Rattle.tree_table.specs.Working.{with_entry}
 use Rattle.tree_table.proofs.Rooted.{map_of}
 
 -- the map of one of the trees

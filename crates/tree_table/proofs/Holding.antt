@@ -1,5 +1,5 @@
 -- A table at work after a call.
-use Rattle.std.proofs.Common.{◌≡◌, ◌≢◌, ℕ, ◌^◌, ◌≤◌, Bool, true, List, Option, Some, None, Result, Ok, Err, IsTrue, refl, sym, ◌∙◌, ap, subst}
+use Rattle.std.proofs.Common.{◌≡◌, ◌≢◌, ℕ, ◌^◌, ◌≤◌, Bool, true, List, Option, Some, None, Result, Ok, Err, refl, sym, subst}
 use Rattle.std.specs.Result.{IfOk, IfErr}
 use Rattle.std.specs.Option.{IfSome, IfNone}
 use mathlib.Core.Logic.{∥∥₁_elim, ∥∥₁_prop}
@@ -16,7 +16,7 @@ use Rattle.tree_table.specs.declared.slot.TreeSlot.{TreeSlot}
 use Rattle.tree_table.specs.Causes.{HasNoTable, ReadCause, ChangeCause}
 use Rattle.tree_table.specs.Spelled.{table_in}
 use Rattle.tree_table.specs.Working.{Work, work_of, table_now, IsHonestWork, HoldsTable, HoldsWork, WorkStays, WorkGoesOn, WorkCause, WorkFails}
-use Rattle.tree_table.specs.aid.Frames.{honest_before, honest_on, holds_still}
+use Rattle.tree_table.specs.aid.Frames.{honest_before, holds_still}
 use Rattle.tree_table.proofs.Spelling.{table_is}
 
 -- a table in memory is a set of one value: two ways in which two are the same are one

@@ -1,5 +1,5 @@
 -- What is read of pages that hold a table.
-use Rattle.std.proofs.Common.{◌≡◌, ◌≢◌, ℕ, ◌+◌, ◌^◌, ◌<◌, ◌≤◌, List, [], ◌∷◌, ◌++◌, length, zip, get_or, Some, None, Option, refl, sym, ◌∙◌, ap, subst, arith}
+use Rattle.std.proofs.Common.{◌≡◌, ℕ, ◌<◌, List, [], length, get_or, Some, None, sym, ◌∙◌, ap, subst, arith}
 use Rattle.std.specs.Prelude.{slice_get}
 use Rattle.std.proofs.lemmas.Option.{slice_get_within, slice_get-get_or, same_Some}
 use Rattle.page_store.specs.Store.{Store}
@@ -11,8 +11,7 @@ use Rattle.table_bytes.specs.aid.Parts.{one_cell}
 use Rattle.tree_page.specs.Page.{Item}
 use Rattle.tree_map.specs.Entries.{find_entry}
 use Rattle.tree_table.specs.declared.slot.TreeSlot.{TreeSlot}
-use Rattle.tree_table.specs.declared.tree.Tree.{Tree}
-use Rattle.tree_table.specs.declared.tree.Tree.TheVariants.{Positions, Records, Edges, Order}
+use Rattle.tree_table.specs.declared.tree.Tree.TheVariants.{Positions, Records, Order}
 use Rattle.tree_table.specs.Entries.{number_key, AreByNumber}
 use Rattle.tree_table.specs.Working.{HoldsTable}
 use Rattle.tree_table.proofs.Lists.{zip_got}

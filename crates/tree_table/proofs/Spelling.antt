@@ -1,15 +1,15 @@
 -- The table that pages hold is the one that they spell.
-use Rattle.std.proofs.Common.{◌≡◌, ◌≢◌, inl, inr, ℕ, zero, suc, ◌+◌, ◌^◌, ◌<◌, ◌≤◌, ◌==◌, ◌&&◌, nat_lt, List, [], ◌∷◌, ◌++◌, length, map, take, drop, get_or, Contains, slice_index, Bool, true, false, Option, Some, None, refl, sym, ◌∙◌, ap, subst, arith}
+use Rattle.std.proofs.Common.{◌≡◌, inl, inr, ℕ, zero, suc, ◌^◌, ◌<◌, ◌≤◌, ◌==◌, ◌&&◌, nat_lt, List, [], ◌∷◌, ◌++◌, length, map, take, drop, get_or, Contains, slice_index, Bool, true, false, Option, Some, None, refl, sym, ◌∙◌, ap, subst, arith}
 use Rattle.std.specs.Prelude.{slice_get, All, unwrap_or, if◌then◌else◌}
 use Rattle.std.specs.List.{flat_map, range_with_len}
 use Rattle.std.specs.Option.{is_some, option_map}
-use Rattle.std.proofs.lemmas.Bool.{eqb-true, eq-eqb, ltb-true, lt-ltb}
+use Rattle.std.proofs.lemmas.Bool.{eq-eqb, ltb-true, lt-ltb}
 use Rattle.std.proofs.lemmas.Bool.Decides.{eqb_tells}
 use Rattle.std.proofs.lemmas.List.{take_at, drop_at}
 use Rattle.retrograde.specs.Changes.{fresh_record as no_record}
 use Rattle.std.proofs.lemmas.List.Elements.{All-head, All-tail, All-weaker}
 use Rattle.std.proofs.lemmas.List.FromFn.{get_or-range_with_len, length-range_with_len, length-map-range_with_len}
-use Rattle.std.proofs.lemmas.Option.{slice_get_within, slice_get-get_or, slice_get-map, same_Some}
+use Rattle.std.proofs.lemmas.Option.{slice_get_within, slice_get-get_or, slice_get-map}
 use Rattle.byteorder.specs.Endian.{big_number}
 use Rattle.page_store.specs.Store.{Store, reads}
 use Rattle.rbg_game.specs.declared.roles.Player.{Player}
@@ -20,7 +20,7 @@ use Rattle.retrograde.specs.declared.records.Record.{Record}
 use Rattle.retrograde.specs.Stored.{Stored}
 use Rattle.table_bytes.specs.declared.sizes.Sizes.{Sizes}
 use Rattle.table_bytes.specs.Bytes.{state_byte, winner_byte, IsRecord, IsCell}
-use Rattle.tree_page.specs.declared.kind.Kind.TheVariants.{Leaf, Inner}
+use Rattle.tree_page.specs.declared.kind.Kind.TheVariants.{Inner}
 use Rattle.tree_page.specs.declared.widths.Widths.{Widths}
 use Rattle.tree_page.specs.Page.{Item, items_in, items_of, count_in, child_of}
 use Rattle.tree_map.specs.Entries.{find_entry, first_key}
@@ -28,11 +28,11 @@ use Rattle.tree_map.specs.Tree.{entries_below, IsTree, IsMap}
 use Rattle.tree_map.specs.aid.Laws.{contains_root}
 use Rattle.tree_table.specs.declared.slot.TreeSlot.{TreeSlot}
 use Rattle.tree_table.specs.declared.tree.Tree.{Tree}
-use Rattle.tree_table.specs.declared.tree.Tree.TheVariants.{Positions, Records, Edges, Order}
-use Rattle.tree_table.specs.Entries.{number_key, edge_key, AreEntriesOf}
+use Rattle.tree_table.specs.declared.tree.Tree.TheVariants.{Records, Edges, Order}
+use Rattle.tree_table.specs.Entries.{edge_key, AreEntriesOf}
 use Rattle.tree_table.specs.Forest.{IsTreeOf}
 use Rattle.tree_table.specs.Spelled.{entries_down, entries_at, state_in, winner_in, record_in, value_at, table_of, entries_in, table_in}
-use Rattle.tree_table.specs.Trees.{key_width, value_width, root_of}
+use Rattle.tree_table.specs.Trees.{root_of}
 use Rattle.tree_table.specs.Working.{HoldsTable}
 use Rattle.tree_table.proofs.Lists.{same_list, zip_got}
 use Rattle.tree_table.proofs.Numbers.{same_edge}

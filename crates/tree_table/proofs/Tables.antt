@@ -1,12 +1,12 @@
 -- A table held by pages, once an entry was put into its trees.
-use Rattle.std.proofs.Common.{◌≡◌, ◌≢◌, ℕ, ◌+◌, ◌^◌, ◌<◌, ◌≤◌, List, [], ◌∷◌, ◌++◌, length, set, zip, Bool, true, false, ◌||◌, ◌&&◌, ◌==◌, Some, None, Option, refl, sym, ◌∙◌, ap, subst, arith, length-append}
+use Rattle.std.proofs.Common.{◌≡◌, ℕ, ◌+◌, ◌^◌, ◌<◌, ◌≤◌, List, [], ◌∷◌, ◌++◌, length, zip, Some, None, refl, sym, ◌∙◌, ap, subst, arith, length-append}
 use Rattle.std.specs.Prelude.{slice_get}
 use Rattle.std.proofs.lemmas.List.{length-set}
 use Rattle.page_store.specs.Store.{Store, reads}
 use Rattle.retrograde.specs.declared.records.Counts.{Counts}
 use Rattle.retrograde.specs.declared.records.Record.{Record}
 use Rattle.retrograde.specs.Stored.{Stored, HasRecord, is_expanded, is_processed}
-use Rattle.retrograde.specs.Changes.{counts_of, fresh_record, with_position, with_record, with_edge, with_settled}
+use Rattle.retrograde.specs.Changes.{fresh_record, with_position, with_record, with_edge, with_settled}
 use Rattle.table_bytes.specs.Bytes.{IsCell, IsNumber, IsPlainCell}
 use Rattle.table_bytes.specs.declared.sizes.Sizes.{Sizes}
 use Rattle.tree_page.specs.Page.{Item}
@@ -15,12 +15,12 @@ use Rattle.tree_table.specs.declared.slot.TreeSlot.{TreeSlot}
 use Rattle.tree_table.specs.declared.tree.Roots.{Roots}
 use Rattle.tree_table.specs.declared.tree.Tree.{Tree}
 use Rattle.tree_table.specs.declared.tree.Tree.TheVariants.{Positions, Records, Edges, Order}
-use Rattle.tree_table.specs.Entries.{number_key, edge_key, AreByNumber, AreByEdge, AreEntriesOf}
+use Rattle.tree_table.specs.Entries.{number_key, edge_key, AreByNumber}
 use Rattle.tree_table.specs.Forest.{IsForest}
 use Rattle.tree_table.specs.Working.{HoldsForest, HoldsTable, with_entry}
 use Rattle.tree_table.specs.aid.Slots.{counts_with, recounted}
 use Rattle.tree_table.proofs.ByKey.{number_pushed, number_set, position_pushed, edge_added, edge_again, edges_fit}
-use Rattle.tree_table.proofs.Lists.{push_long, zip_push, zip_long, zip_got, zip_set, count_push, recounted_is}
+use Rattle.tree_table.proofs.Lists.{push_long, zip_push, zip_long, zip_set, count_push, recounted_is}
 use Rattle.tree_table.proofs.Numbers.{key_number}
 use Rattle.tree_table.proofs.Puts.{one_more}
 

@@ -1,5 +1,4 @@
 -- What is stated of a table on trees.
-use Rattle.std.specs.Prelude.{List, ℕ}
 use Rattle.page_store.specs.declared.pages.Pages.{Ghosts as OfPages}
 use Rattle.tree_table.specs.declared.working.TreeTable.{TreeTable}
 use Rattle.tree_table.specs.Working.{Work, work_of}

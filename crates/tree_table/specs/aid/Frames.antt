@@ -1,9 +1,9 @@
 -- One call after another.
-use Rattle.std.proofs.Common.{◌≡◌, inl, inr, ℕ, ◌≤◌, Bool, List, length, IsTrue, refl, sym, ◌∙◌, subst, arith}
+use Rattle.std.proofs.Common.{◌≡◌, ℕ, Bool, List, length, IsTrue, refl, sym, ◌∙◌, subst}
 use mathlib.Core.Logic.{∥∥₁_elim}
 use denote.Struct.Props.{props}
 use Rattle.sector_disk.specs.aid.Moments.{still_honest}
-use Rattle.page_store.specs.Store.{Store, StoreWorks, IsUnchanged, reads}
+use Rattle.page_store.specs.Store.{Store, StoreWorks, reads}
 use Rattle.page_store.specs.aid.Works.{works_refl, works_then}
 use Rattle.retrograde.specs.declared.records.Counts.{Counts}
 use Rattle.retrograde.specs.Stored.{Stored}

@@ -1,4 +1,4 @@
-use Rattle.std.proofs.Common.{◌≡◌, ◌∙◌, ◌+◌, ◌≤◌, [], List, length, sym, ap, subst, arith}
+use Rattle.std.proofs.Common.{◌≡◌, ◌∙◌, ◌+◌, ◌≤◌, [], length, sym, ap, subst, arith}
 use Rattle.sector_disk.specs.aid.Moments.{still_honest}
 use Rattle.page_store.specs.Store.{reads}
 use Rattle.page_store.specs.aid.Works.{works_then}

@@ -2,7 +2,6 @@ use Rattle.std.proofs.Common.{sym, subst}
 use Rattle.table.specs.declared.fault.TableFault.{TableFault}
 use Rattle.tree_map.specs.Entries.{put_entry}
 use Rattle.tree_table.specs.declared.tree.Roots.{Roots}
-use Rattle.tree_table.specs.declared.slot.TreeSlot.{TreeSlot}
 use Rattle.tree_table.specs.Causes.{HasNoForest, ChangeCause}
 use Rattle.tree_table.specs.Working.{HoldsForest, with_entry}
 use Rattle.tree_table.proofs.Forests.{map_in, put_fails, put_holds}

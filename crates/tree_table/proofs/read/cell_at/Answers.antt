@@ -1,9 +1,9 @@
-use Rattle.std.proofs.Common.{◌≡◌, ◌∙◌, ℕ, List, None, Some, sym, ap, subst, arith}
-use Rattle.table_bytes.specs.Bytes.{IsCell, IsNumber}
+use Rattle.std.proofs.Common.{◌∙◌, ℕ, List, sym, ap, subst}
+use Rattle.table_bytes.specs.Bytes.{IsCell}
 use Rattle.retrograde.specs.declared.records.Record.{Record}
 use Rattle.tree_map.specs.Entries.{find_entry}
 use Rattle.tree_read.specs.Answers.{found_bytes}
-use Rattle.tree_table.specs.declared.tree.Tree.TheVariants.{Positions, Records, Order}
+use Rattle.tree_table.specs.declared.tree.Tree.TheVariants.{Records}
 use Rattle.tree_table.specs.Causes.{HasNoForest, HasNoTable}
 use Rattle.tree_table.proofs.Faults.{passed_on, read_for}
 use Rattle.tree_table.proofs.Reading.{cell_read, cell_absent, cell_broken}

@@ -1,4 +1,4 @@
-use Rattle.std.proofs.Common.{◌≡◌, ◌∙◌, ◌++◌, ◌<◌, ◌≤◌, ◌^◌, ℕ, List, None, Some, false, true, length, sym, ap, subst, arith}
+use Rattle.std.proofs.Common.{◌≡◌, ◌∙◌, ◌++◌, ◌<◌, ◌≤◌, ◌^◌, ℕ, Some, false, true, length, sym, ap, subst, arith}
 use Rattle.table_bytes.specs.Bytes.{IsNumber}
 use Rattle.tree_table.specs.Causes.{HasNoForest, HasNoTable}
 use Rattle.tree_table.proofs.Faults.{passed_on, read_for}

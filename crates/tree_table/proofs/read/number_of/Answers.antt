@@ -1,9 +1,8 @@
-use Rattle.std.proofs.Common.{◌≡◌, ◌∙◌, ℕ, List, None, Some, sym, ap, subst, arith}
-use Rattle.table_bytes.specs.Bytes.{IsCell, IsNumber}
-use Rattle.retrograde.specs.declared.records.Record.{Record}
+use Rattle.std.proofs.Common.{◌∙◌, ℕ, List, sym, ap, subst, arith}
+use Rattle.table_bytes.specs.Bytes.{IsNumber}
 use Rattle.tree_map.specs.Entries.{find_entry}
 use Rattle.tree_read.specs.Answers.{found_bytes}
-use Rattle.tree_table.specs.declared.tree.Tree.TheVariants.{Positions, Records, Order}
+use Rattle.tree_table.specs.declared.tree.Tree.TheVariants.{Positions}
 use Rattle.tree_table.specs.Causes.{HasNoForest, HasNoTable}
 use Rattle.tree_table.proofs.Faults.{passed_on, read_for}
 use Rattle.tree_table.proofs.Reading.{position_there, position_read, position_absent}

@@ -1,4 +1,4 @@
-use Rattle.std.proofs.Common.{◌≡◌, ◌+◌, ◌≤◌, ◌^◌, refl, arith}
+use Rattle.std.proofs.Common.{◌≤◌, ◌^◌, refl, arith}
 use Rattle.retrograde.specs.Changes.{with_position}
 use Rattle.tree_table.specs.Working.{work_of, table_now, HoldsTable, HoldsWork, IsHonestWork}
 use Rattle.tree_table.proofs.Holding.{now_held, now_stored, now_goes_on}

@@ -1,4 +1,4 @@
-use Rattle.std.proofs.Common.{◌≡◌, ◌+◌, ◌≤◌, ◌^◌, refl, sym, subst, arith}
+use Rattle.std.proofs.Common.{◌≤◌, ◌^◌, refl, sym, subst, arith}
 use Rattle.retrograde.specs.declared.records.Counts.{Counts}
 use Rattle.retrograde.specs.Changes.{with_edge}
 use Rattle.tree_table.specs.Working.{work_of, table_now, HoldsTable, HoldsWork, IsHonestWork}

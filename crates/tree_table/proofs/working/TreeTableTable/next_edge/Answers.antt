@@ -1,8 +1,6 @@
-use Rattle.std.proofs.Common.{◌≡◌, ℕ, ◌+◌, ◌≤◌, ◌^◌, Some, None, List, subst, arith, sym, refl}
 use mathlib.Core.Logic.{∥∥₁_elim}
-use Rattle.std.specs.Prelude.{slice_get}
 use Rattle.tree_table.specs.Working.{work_of, table_now, HoldsWork}
-use Rattle.tree_table.proofs.Holding.{only_read, still_held, read_refused, read_without_page, position_prop, record_prop, number_prop, never_prop, ok_prop, some_prop, none_prop}
+use Rattle.tree_table.proofs.Holding.{only_read, still_held, read_refused, read_without_page, ok_prop, some_prop, none_prop}
 use Rattle.tree_table.proofs.Holding.{next_prop, no_more_prop}
 use Rattle.tree_table.proofs.working.TreeTableTable.next_edge.Goals as goal
 

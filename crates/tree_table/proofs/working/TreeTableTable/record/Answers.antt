@@ -1,8 +1,8 @@
-use Rattle.std.proofs.Common.{◌≡◌, ℕ, ◌+◌, ◌≤◌, ◌^◌, Some, None, List, subst, arith, sym, refl}
+use Rattle.std.proofs.Common.{Some}
 use mathlib.Core.Logic.{∥∥₁_elim}
 use Rattle.std.specs.Prelude.{slice_get}
 use Rattle.tree_table.specs.Working.{work_of, table_now, HoldsWork}
-use Rattle.tree_table.proofs.Holding.{only_read, still_held, read_refused, read_without_page, position_prop, record_prop, number_prop, never_prop, ok_prop, some_prop, none_prop}
+use Rattle.tree_table.proofs.Holding.{only_read, still_held, record_prop}
 use Rattle.tree_table.proofs.working.TreeTableTable.record.Goals as goal
 
 pub invariant_of-self : goal.invariant_of-self
