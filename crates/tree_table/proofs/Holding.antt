@@ -17,7 +17,7 @@ use Rattle.tree_table.specs.Causes.{HasNoTable, ReadCause, ChangeCause}
 use Rattle.tree_table.specs.Spelled.{table_in}
 use Rattle.tree_table.specs.Working.{Work, work_of, table_now, IsHonestWork, HoldsTable, HoldsWork, WorkStays, WorkGoesOn, WorkCause, WorkFails}
 use Rattle.tree_table.specs.aid.Frames.{honest_before, holds_still}
-use Rattle.tree_table.proofs.Spelling.{table_is}
+use Rattle.tree_table.specs.aid.Spelling.{table_is}
 
 -- a table in memory is a set of one value: two ways in which two are the same are one
 stored_prop : (s t : Stored (List ℕ)) → IsProp (s ≡ t)

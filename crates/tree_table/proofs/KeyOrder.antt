@@ -6,7 +6,7 @@ use Rattle.std.specs.declared.cmp.Ordering.{Ordering}
 use Rattle.std.specs.declared.cmp.Ordering.TheVariants.{Less, Equal, Greater}
 use Rattle.tree_page.specs.Page.{key_cmp}
 use Rattle.tree_table.specs.Entries.{number_key}
-use Rattle.tree_table.proofs.Numbers.{key_long}
+use Rattle.tree_table.specs.aid.Numbers.{key_long}
 
 then_then : (a b c : Ordering) → ordering_then (ordering_then a b) c ≡ ordering_then a (ordering_then b c)
 then_then Less b c = refl

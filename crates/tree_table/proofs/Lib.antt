@@ -1,9 +1,7 @@
 mod Forests
 mod Rooted
 mod Faults
-mod Numbers
 mod Puts
-mod Lists
 mod ByKey
 mod Tables
 mod Few
@@ -11,5 +9,4 @@ mod Found
 mod KeyOrder
 mod Reading
 mod NextEdges
-mod Spelling
 mod Holding

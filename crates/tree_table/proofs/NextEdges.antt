@@ -27,7 +27,7 @@ use Rattle.tree_table.specs.Trees.{root_of}
 use Rattle.tree_table.specs.Working.{HoldsTable}
 use Rattle.tree_table.specs.aid.Keys.{key_behind}
 use Rattle.tree_table.proofs.KeyOrder.{keys_cmp, number_cmp}
-use Rattle.tree_table.proofs.Numbers.{key_long, key_back, edge_long}
+use Rattle.tree_table.specs.aid.Numbers.{key_long, key_back, edge_long}
 
 -- what is found is there, and what is there is found
 is_there : (es : List Item) (key value : List ℕ) → find_entry es key ≡ Some value → Contains es (key, value)

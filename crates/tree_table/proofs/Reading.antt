@@ -14,7 +14,7 @@ use Rattle.tree_table.specs.declared.slot.TreeSlot.{TreeSlot}
 use Rattle.tree_table.specs.declared.tree.Tree.TheVariants.{Positions, Records, Order}
 use Rattle.tree_table.specs.Entries.{number_key, AreByNumber}
 use Rattle.tree_table.specs.Working.{HoldsTable}
-use Rattle.tree_table.proofs.Lists.{zip_got}
+use Rattle.tree_table.specs.aid.Lists.{zip_got}
 
 -- numbers that four bytes are
 one_number : (v : List ℕ) (m n : ℕ) → IsNumber v m → IsNumber v n → m ≡ n

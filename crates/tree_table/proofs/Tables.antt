@@ -20,8 +20,8 @@ use Rattle.tree_table.specs.Forest.{IsForest}
 use Rattle.tree_table.specs.Working.{HoldsForest, HoldsTable, with_entry}
 use Rattle.tree_table.specs.aid.Slots.{counts_with, recounted}
 use Rattle.tree_table.proofs.ByKey.{number_pushed, number_set, position_pushed, edge_added, edge_again, edges_fit}
-use Rattle.tree_table.proofs.Lists.{push_long, zip_push, zip_long, zip_set, count_push, recounted_is}
-use Rattle.tree_table.proofs.Numbers.{key_number}
+use Rattle.tree_table.specs.aid.Lists.{push_long, zip_push, zip_long, zip_set, count_push, recounted_is}
+use Rattle.tree_table.specs.aid.Numbers.{key_number}
 use Rattle.tree_table.proofs.Puts.{one_more}
 
 -- the slot with these roots and sizes

@@ -2,6 +2,8 @@ pub mod Trees
 pub mod Entries
 pub mod Forest
 pub mod Spelled
+pub mod Slot
+pub mod Held
 pub mod Working
 pub mod Causes
 pub mod InTrees

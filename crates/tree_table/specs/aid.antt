@@ -1,4 +1,8 @@
 pub mod Faults
 pub mod Frames
 pub mod Keys
+pub mod Lists
+pub mod Numbers
+pub mod OneTable
 pub mod Slots
+pub mod Spelling

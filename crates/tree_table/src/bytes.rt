@@ -56,7 +56,8 @@ pub fn key_behind(first: u32, second: Option<u32>) -> Bytes
 
 /// The two numbers of these bytes, if there are eight.
 pub fn edge_in(bytes: &[u8]) -> Option<(u32, u32)>
-    ensures some { IfSome result (λ edge. (front back : List ℕ) × (bytes.now ≡ front ++ back) × IsNumber front edge.0 × IsNumber back edge.1) }
+    ensures some { IfSome result (λ edge. (front back : List ℕ) × (bytes.now ≡ front ++ back) × IsNumber front edge.0 × IsNumber back
+        edge.1) }
     ensures none { IfNone result (length bytes.now ≡ 8 → ⊥) }
 {
     if bytes.len() != 2 * NUMBER_BYTES {

@@ -5,6 +5,7 @@
 mod bytes;
 mod change;
 mod fault;
+pub mod laws;
 mod read;
 mod slot;
 mod tree;

@@ -30,5 +30,6 @@ edge_long i p = omega (arith, length-append (number_key i) (number_key p), key_l
 pub same_edge : (i p j q : ℕ) → i < 2 ^ 32 → p < 2 ^ 32 → j < 2 ^ 32 → q < 2 ^ 32 → edge_key i p ≡ edge_key j q → (i ≡ j) × (p ≡ q)
 same_edge i p j q a b c d same = (
   sym (key_read i (number_key p) a) ∙ ap (big_number 4) same ∙ key_read j (number_key q) c,
-  same_number p q b d (sym (drop_at (number_key i) (number_key p) 4 (key_long i)) ∙ ap (drop 4) same ∙ drop_at (number_key j) (number_key q) 4 (key_long j)),
+  same_number p q b d (sym (drop_at (number_key i) (number_key p) 4 (key_long i)) ∙ ap (drop 4) same
+      ∙ drop_at (number_key j) (number_key q) 4 (key_long j)),
 )
