@@ -4,6 +4,7 @@ pub mod Forest
 pub mod Spelled
 pub mod Slot
 pub mod Held
+pub mod Keeping
 pub mod Working
 pub mod Causes
 pub mod InTrees

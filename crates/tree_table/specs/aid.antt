@@ -1,5 +1,6 @@
 pub mod Faults
 pub mod Frames
+pub mod Keeping
 pub mod Keys
 pub mod Lists
 pub mod Numbers

@@ -7,10 +7,12 @@ mod change;
 mod fault;
 pub mod laws;
 mod read;
+mod saving;
 mod slot;
 mod tree;
 mod working;
 
-pub use slot::TreeSlot;
+pub use saving::commit;
+pub use slot::{Slot, TreeSlot, empty_slot, game_slot, read_slot};
 pub use tree::{Roots, Tree, widths_of};
 pub use working::TreeTable;
