@@ -1,5 +1,4 @@
 pub mod Passing
-pub mod Words
 pub mod Whole
 pub mod Reading
 pub mod SlotReading

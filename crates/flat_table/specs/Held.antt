@@ -1,5 +1,5 @@
 -- The table that a picture of the disk holds, as far as that can be told without the game's rules.
-use Rattle.std.specs.Prelude.{◌≡◌, ℕ, ◌/◌, ◌≤◌, min, List, length, Option, None, Some}
+use Rattle.std.specs.Prelude.{◌≡◌, ℕ, ◌≤◌, List, Option, None, Some}
 use Rattle.sector_disk.specs.Disk.{Picture}
 use Rattle.root_pair.specs.Root.{HoldsRoot}
 use Rattle.page_store.specs.Page.{page}
@@ -9,6 +9,7 @@ use Rattle.retrograde.specs.Changes.{counts_of}
 use Rattle.table_bytes.specs.Numbers.{AreWithinLimits, bytes_in}
 use Rattle.table_bytes.specs.Spelled.{SpellsTable}
 use Rattle.game_file.specs.Kept.{Kept}
+pub use Rattle.root_slot.specs.Fields.{capacity_of}
 use Rattle.flat_table.specs.Slot.{layout_in, packing_in, first_in, sizes_in, IsEmptySlot}
 
 -- the chain of pages that the slot names spells the text and a table whose parts fit together, and the slot counts it right
@@ -27,10 +28,6 @@ pub record KeepsGame (root : List ℕ) (capacity : ℕ) (kept : Kept) (bytes : �
 abbrev pub KeepsTable : List ℕ → ℕ → Option Kept → (ℕ → List ℕ) → Type 0
 KeepsTable root capacity None bytes = IsEmptySlot root
 KeepsTable root capacity (Some kept) bytes = KeepsGame root capacity kept bytes
-
--- so many pages are used of a picture: those that it has room for, 1,048,576 at most
-abbrev pub capacity_of : Picture → ℕ
-capacity_of picture = min (length picture / 8) 1048576
 
 -- the picture is a table of 16 pages or more: it begins as each does, its gate picks a slot, and what that slot and
 -- the pages named from it spell is this

@@ -4,8 +4,7 @@ ghost use Rattle.table_bytes.specs.Numbers.{AreWithinLimits};
 ghost use Rattle.flat_table.specs.Slot.{word_at as word_in, long_at as long_in, layout_in, packing_in, commits_in, first_in};
 ghost use Rattle.flat_table.specs.Slot.{sizes_in as sizes_of, IsEmptySlot, AreZero, Says, IsNoSlot};
 
-use byteorder::{BigEndian, ByteOrder};
-use retrograde::Counts;
+use root_slot::{are_within_limits, are_zero, long_at, put_long, put_word, sizes_in, word_at};
 use table_bytes::Sizes;
 
 /// The number of this layout.
@@ -13,15 +12,6 @@ const LAYOUT: u32 = 1;
 
 /// The number of the packing that a table with a game has.
 const PACKING: u32 = 1;
-
-/// The most bytes that a game text has.
-const MOST_TEXT: u32 = 65_536;
-
-/// The most bytes that a packed position has.
-const MOST_PACKED: u32 = 240;
-
-/// The most positions that a table knows.
-const MOST_KNOWN: u32 = 16_777_216;
 
 /// More edges than this no file has room for.
 const MOST_EDGES: u64 = 4_294_967_296;
@@ -43,88 +33,11 @@ pub struct Slot {
     pub game: Option<GameSlot>,
 }
 
-/// The number in the four bytes from there on.
-fn word_at(root: &[u8; 512], at: usize) -> u32
-    requires { at ≤ 508 }
-    ensures { result ≡ word_in root.now at }
-{
-    BigEndian::read_u32(&root[at..])
-}
-
-/// Puts a number into the four bytes from there on.
-fn put_word(root: &mut [u8; 512], at: usize, number: u32)
-    requires { at ≤ 508 }
-    ensures is { word_in root.new at ≡ number }
-    ensures before { (k : ℕ) → k + 4 ≤ at → word_in root.new k ≡ word_in root.old k }
-    ensures ahead { (k : ℕ) → k < at → slice_index root.new k ≡ slice_index root.old k }
-    ensures behind { (k : ℕ) → at + 4 ≤ k → slice_index root.new k ≡ slice_index root.old k }
-{
-    BigEndian::write_u32(&mut root[at..at + 4], number);
-}
-
-/// Puts a number into the eight bytes from there on.
-fn put_long(root: &mut [u8; 512], at: usize, number: u64)
-    requires { at ≤ 504 }
-    ensures is { long_in root.new at ≡ number }
-    ensures before { (k : ℕ) → k + 4 ≤ at → word_in root.new k ≡ word_in root.old k }
-    ensures ahead { (k : ℕ) → k < at → slice_index root.new k ≡ slice_index root.old k }
-    ensures behind { (k : ℕ) → at + 8 ≤ k → slice_index root.new k ≡ slice_index root.old k }
-{
-    BigEndian::write_u64(&mut root[at..at + 8], number);
-}
-
-/// The number in the eight bytes from there on.
-fn long_at(root: &[u8; 512], at: usize) -> u64
-    requires { at ≤ 504 }
-    ensures { result ≡ long_in root.now at }
-{
-    BigEndian::read_u64(&root[at..])
-}
-
-/// How much of each the slot says that there is.
-fn sizes_in(root: &[u8; 512]) -> Sizes
-    ensures { result ≡ sizes_of root.now }
-{
-    Sizes {
-        text: word_at(root, 20),
-        packed: word_at(root, 24),
-        counts: Counts {
-            known: word_at(root, 28),
-            expanded: word_at(root, 32),
-            settled: word_at(root, 36),
-            processed: word_at(root, 40),
-        },
-        edges: long_at(root, 60),
-    }
-}
-
-/// Whether the numbers are in order and within their limits.
-fn are_within_limits(sizes: &Sizes) -> bool
-    ensures { (result ≡ true) ↔ AreWithinLimits sizes.now }
-{
-    let counts = sizes.counts;
-    sizes.text <= MOST_TEXT
-        && sizes.packed <= MOST_PACKED
-        && (1..=MOST_KNOWN).contains(&counts.known)
-        && counts.expanded <= counts.known
-        && counts.settled <= counts.expanded
-        && counts.processed <= counts.settled
-}
-
 /// Whether all fields of the layout are zero.
 fn is_blank(root: &[u8; 512]) -> bool
     ensures { (result ≡ true) ↔ (AreZero 16 44 root.now × AreZero 60 68 root.now) }
 {
     are_zero(root, 16, 44) & are_zero(root, 60, 68)
-}
-
-/// Whether the bytes from one place on up to another are zero.
-fn are_zero(root: &[u8; 512], from: usize, to: usize) -> bool
-    requires from { from ≤ to }
-    requires to { to ≤ 512 }
-    ensures { (result ≡ true) ↔ AreZero from to root.now }
-{
-    (from..to).all(|at| root[at] == 0)
 }
 
 /// What the slot says; none where that is no table of this layout.

@@ -14,5 +14,6 @@ mod write_edges;
 
 pub use fault::BytesFault;
 pub use read::read_table;
+pub use record::{RECORD_BYTES, read_record, record_bytes};
 pub use sizes::Sizes;
 pub use write::{Written, write_table};

@@ -1,6 +1,6 @@
 //! The bytes of a record.
-ghost use Rattle.std.specs.Prelude.{◌≡◌, ◌++◌, Option, length, IfSome, IfNone, IfErr, OnOk};
-ghost use Rattle.byteorder.specs.Endian.{big_bytes};
+ghost use Rattle.std.specs.Prelude.{◌≡◌, ◌+◌, ◌≤◌, ◌<◌, ◌++◌, ℕ, Option, length, drop, slice_index, IfSome, IfNone, IfErr, OnOk};
+ghost use Rattle.byteorder.specs.Endian.{big_bytes, big_number};
 ghost use Rattle.rbg_game.specs.declared.roles.Player.{Player};
 ghost use Rattle.retrograde.specs.declared.records.State.{State};
 ghost use Rattle.retrograde.specs.declared.records.Record.{Record};
@@ -94,14 +94,34 @@ pub fn push_number(bytes: &mut Vec<u8>, number: u32) -> Result<(), TableFault>
     Ok(())
 }
 
-/// Puts the 16 bytes of a record behind others. The third and the fourth are zero.
+/// Puts a number into the four bytes from there on.
+fn put_word(bytes: &mut [u8; 16], at: usize, number: u32)
+    requires { at ≤ 12 }
+    ensures is { big_number 4 (drop at bytes.new) ≡ number }
+    ensures before { (k : ℕ) → k + 4 ≤ at → big_number 4 (drop k bytes.new) ≡ big_number 4 (drop k bytes.old) }
+    ensures ahead { (k : ℕ) → k < at → slice_index bytes.new k ≡ slice_index bytes.old k }
+{
+    BigEndian::write_u32(&mut bytes[at..at + 4], number);
+}
+
+/// The 16 bytes of a record. The third and the fourth are zero.
+pub fn record_bytes(kept: &Record) -> [u8; 16]
+    ensures { IsPlainRecord result kept.now }
+{
+    let mut bytes = [0; RECORD_BYTES];
+    bytes[0] = state_byte(kept.state);
+    bytes[1] = winner_byte(kept.winner);
+    put_word(&mut bytes, 4, kept.distance);
+    put_word(&mut bytes, 8, kept.left);
+    put_word(&mut bytes, 12, kept.successors);
+    bytes
+}
+
+/// Puts the 16 bytes of a record behind others.
 pub fn push_record(bytes: &mut Vec<u8>, kept: &Record) -> Result<(), TableFault>
     ensures bytes { OnOk result (WritesOne IsPlainRecord kept.now bytes.old.items bytes.new.items) }
     ensures memory { IfErr result (λ fault. fault ≡ OutOfMemory) }
 {
-    let head = [state_byte(kept.state), winner_byte(kept.winner), 0, 0];
-    bytes.extend_from_slice(&head)?;
-    push_number(bytes, kept.distance)?;
-    push_number(bytes, kept.left)?;
-    push_number(bytes, kept.successors)
+    bytes.extend_from_slice(&record_bytes(kept))?;
+    Ok(())
 }

@@ -1,5 +1,5 @@
 //! An entry is put below a page: down to its leaf the pages are read, and on the way back each is written anew.
-ghost use Rattle.std.specs.Prelude.{◌≡◌, ◌≤◌, ℕ, false, length, OnOk, IfOk, IfErr, IsTrue};
+ghost use Rattle.std.specs.Prelude.{◌≡◌, ◌≢◌, ◌≤◌, ℕ, false, length, OnOk, IfOk, IfErr, IsTrue};
 ghost use Rattle.page_store.specs.Store.{StoreWorks};
 ghost use Rattle.tree_page.specs.declared.kind.Kind.TheVariants.{Inner};
 ghost use Rattle.tree_put.specs.aid.Causes.{BelowCause};
@@ -31,6 +31,7 @@ pub fn put_below<P: Pages>(
     ensures whole { IfOk result (λ tops. AreWhole widths Inner tops) }
     ensures open { OnOk result ((P.store store.new).closed ≡ false) }
     ensures works { StoreWorks (P.store store.old) (P.store store.new) }
+    ensures still { IfErr result (λ fault. fault ≢ PageFault.Disk → (P.store store.new).closed ≡ (P.store store.old).closed) }
     ensures cause { IfErr result (BelowCause widths levels page (P.store store.old) (P.store store.new)) }
 {
     let mut bytes = [0; 4096];

@@ -1,5 +1,5 @@
 //! An entry is put into a map, which may get a new root.
-ghost use Rattle.std.specs.Prelude.{◌≡◌, ◌≤◌, ◌<◌, [], ◌∷◌, ℕ, List, length, IfOk, IfErr, IsTrue};
+ghost use Rattle.std.specs.Prelude.{◌≡◌, ◌≢◌, ◌≤◌, ◌<◌, [], ◌∷◌, ℕ, false, List, length, OnOk, IfOk, IfErr, IsTrue};
 ghost use Rattle.page_store.specs.Store.{reads, StoreWorks};
 ghost use Rattle.tree_page.specs.Page.{Item, least_of, items_in, IsPage};
 ghost use Rattle.tree_map.specs.Changes.{HoldsMap, AreHeld, TakePlace, MapPutCause};
@@ -31,7 +31,9 @@ pub fn put<P: Pages>(
         → AreHeld (P.store store.old).marks pages
         → IfOk result (λ next. (others : List ℕ) × HoldsMap widths (P.store store.new) next others (put_entry es key.now value.now)
         × TakePlace pages others (P.store store.old) (P.store store.new)) }
+    ensures open { OnOk result ((P.store store.new).closed ≡ false) }
     ensures works { StoreWorks (P.store store.old) (P.store store.new) }
+    ensures still { IfErr result (λ fault. fault ≢ PageFault.Disk → (P.store store.new).closed ≡ (P.store store.old).closed) }
     ensures cause { IfErr result (MapPutCause widths root (P.store store.old) (P.store store.new)) }
 {
     if root == 0 {
@@ -62,7 +64,9 @@ fn on_new_page<P: Pages>(
     ensures page { IsTrue (P.store store.old).disk.honest → IfOk result (λ page. IsPage widths kind (reads (P.store store.new) page)) }
     ensures items { IsTrue (P.store store.old).disk.honest → IfOk result (λ page.
         items_in widths kind (reads (P.store store.new) page) ≡ listed widths kind items.now) }
+    ensures open { OnOk result ((P.store store.new).closed ≡ false) }
     ensures works { StoreWorks (P.store store.old) (P.store store.new) }
+    ensures still { IfErr result (λ fault. fault ≢ PageFault.Disk → (P.store store.new).closed ≡ (P.store store.old).closed) }
     ensures cause { IfErr result (WriteCause (P.store store.old) (P.store store.new)) }
 {
     let page = store.new_page()?;

@@ -50,6 +50,7 @@ pub fn write_on<P: Pages>(
     ensures marks { (P.store store.new).marks ≡ (P.store store.old).marks }
     ensures open { OnOk result ((P.store store.new).closed ≡ false) }
     ensures works { StoreWorks (P.store store.old) (P.store store.new) }
+    ensures still { IfErr result (λ fault. fault ≢ PageFault.Disk → (P.store store.new).closed ≡ (P.store store.old).closed) }
     ensures cause { IfErr result (WriteCause (P.store store.old) (P.store store.new)) }
 {
     let bytes = page_of(widths, kind, count, items);

@@ -1,5 +1,5 @@
 //! The items of a page are written, on one page or on two.
-ghost use Rattle.std.specs.Prelude.{◌≡◌, ◌≤◌, ◌<◌, false, length, OnOk, IfOk, IfErr, IsTrue};
+ghost use Rattle.std.specs.Prelude.{◌≡◌, ◌≢◌, ◌≤◌, ◌<◌, false, length, OnOk, IfOk, IfErr, IsTrue};
 ghost use Rattle.page_store.specs.Store.{StoreWorks};
 ghost use Rattle.tree_page.specs.declared.kind.Kind.TheVariants.{Inner};
 ghost use Rattle.tree_page.specs.Page.{least_of};
@@ -31,6 +31,7 @@ pub fn write_items<P: Pages>(
     ensures whole { IfOk result (λ tops. AreWhole widths Inner tops) }
     ensures open { OnOk result ((P.store store.new).closed ≡ false) }
     ensures works { StoreWorks (P.store store.old) (P.store store.new) }
+    ensures still { IfErr result (λ fault. fault ≢ PageFault.Disk → (P.store store.new).closed ≡ (P.store store.old).closed) }
     ensures cause { IfErr result (WriteCause (P.store store.old) (P.store store.new)) }
 {
     let first = renewed(store, page)?;

@@ -1,6 +1,6 @@
 use Rattle.std.proofs.Common.{◌≡◌, ◌∙◌, ◌≤◌, ℕ, arith}
 use Rattle.std.specs.Prelude.{slice_index}
-use Rattle.flat_table.proofs.Words.{word_zero, long_zero, zeros}
+use Rattle.root_slot.specs.aid.Words.{word_zero, long_zero, zeros}
 use Rattle.flat_table.proofs.slot.empty_slot.Goals as goal
 
 pub returns-clause-empty : goal.returns-clause-empty

@@ -1,6 +1,6 @@
 use Rattle.std.proofs.Common.{◌≡◌, ◌∙◌, arith}
 use Rattle.flat_table.specs.Slot.{word_at, sizes_in}
-use Rattle.flat_table.proofs.Words.{long_same}
+use Rattle.root_slot.specs.aid.Words.{long_same}
 use Rattle.flat_table.proofs.slot.game_slot.Goals as goal
 
 pub returns-clause-layout : goal.returns-clause-layout

@@ -1,6 +1,6 @@
 use Rattle.std.proofs.Common.{arith, ◌+◌, ◌-◌}
-use Rattle.flat_table.proofs.Words.{word_before, long_there}
-use Rattle.flat_table.proofs.slot.put_long.Goals as goal
+use Rattle.root_slot.specs.aid.Words.{word_before, long_there}
+use Rattle.root_slot.proofs.fields.put_long.Goals as goal
 
 pub returns-clause-is : goal.returns-clause-is
 returns-clause-is c =

@@ -1,0 +1,6 @@
+//! The fields of a root slot, which stand at the same places in all layouts of a file.
+#![tactic(auto)]
+
+mod fields;
+
+pub use fields::{are_within_limits, are_zero, long_at, put_long, put_word, sizes_in, word_at};

@@ -1,0 +1,130 @@
+-- A table at work after a call.
+use Rattle.std.proofs.Common.{◌≡◌, ◌≢◌, ℕ, ◌^◌, ◌≤◌, Bool, true, List, Option, Some, None, Result, Ok, Err, refl, sym, subst}
+use Rattle.std.specs.Result.{IfOk, IfErr}
+use Rattle.std.specs.Option.{IfSome, IfNone}
+use mathlib.Core.Logic.{∥∥₁_elim, ∥∥₁_prop}
+use mathlib.Core.HLevel.{Unit-prop}
+use denote.Struct.Props.{props}
+use Rattle.page_store.specs.Store.{Store, StoreWorks, IsUnchanged, reads}
+use Rattle.retrograde.specs.declared.records.Record.{Record}
+use Rattle.retrograde.specs.Edges.{IsAfter, IsNextEdge, HasNoMoreEdges}
+use Rattle.retrograde.specs.Stored.{Stored}
+use Rattle.table.specs.Faults.{NeedsNoPage}
+use Rattle.table.specs.declared.fault.TableFault.{TableFault}
+use Rattle.table.specs.declared.fault.TableFault.TheVariants.{Disk, Damaged, TableFull, OutOfMemory, Closed}
+use Rattle.tree_table.specs.declared.slot.TreeSlot.{TreeSlot}
+use Rattle.tree_table.specs.Causes.{HasNoTable, ReadCause, ChangeCause}
+use Rattle.tree_table.specs.Spelled.{table_in}
+use Rattle.tree_table.specs.Working.{Work, work_of, table_now, IsHonestWork, HoldsTable, HoldsWork, WorkStays, WorkGoesOn, WorkCause, WorkFails}
+use Rattle.tree_table.specs.aid.Frames.{honest_before, holds_still}
+use Rattle.tree_table.specs.aid.Spelling.{table_is}
+
+-- a table in memory is a set of one value: two ways in which two are the same are one
+stored_prop : (s t : Stored (List ℕ)) → IsProp (s ≡ t)
+stored_prop s t = hlevel props
+
+-- pages that hold a table hold the one that they spell
+pub holds_itself : (slot : TreeSlot) (text : List ℕ) (table : Stored (List ℕ)) (store : Store) → slot.sizes.counts.known ≤ 2 ^ 24 → HoldsTable slot text table store
+    → HoldsTable slot text (table_in slot (reads store)) store
+holds_itself slot text table store few h = subst (λ (t : Stored (List ℕ)). HoldsTable slot text t store) (sym (table_is slot text table store few h)) h
+
+-- a call that writes
+module _ (a b : Work) (now : Stored (List ℕ)) (few : b.slot.sizes.counts.known ≤ 2 ^ 24) (works : StoreWorks a.store b.store) (torn : b.torn ≡ a.torn) (text : b.text ≡ a.text)
+    (changed : IsHonestWork a → HoldsWork a → HoldsTable b.slot b.text now b.store) where
+  now_holds : IsHonestWork a → HoldsWork a → HoldsWork b
+  now_holds honest h = holds_itself b.slot b.text now b.store few (changed honest h)
+
+  pub now_held : (IsHonestWork a → ∥ HoldsWork a ∥₁) → IsHonestWork b → ∥ HoldsWork b ∥₁
+  now_held holds honest =
+      let before = honest_before {a = a} {b = b} works torn honest in
+      ∥∥₁_elim (holds before) ∥∥₁_prop (λ (h : HoldsWork a). ∣ now_holds before h ∣₁)
+
+  pub now_stored : (IsHonestWork a → ∥ HoldsWork a ∥₁) → IsHonestWork a → table_now b ≡ now
+  now_stored holds honest = ∥∥₁_elim (holds honest) (stored_prop (table_now b) now) (λ (h : HoldsWork a). table_is b.slot b.text now b.store few (changed honest h))
+
+  pub now_goes_on : b.store.closed ≡ a.store.closed → WorkGoesOn a b
+  now_goes_on still = record { works = works; still = still; text = text; torn = torn; holds = now_holds }
+
+-- a call that reads
+pub still_held : (a b : Work) → WorkStays a b → (IsHonestWork a → ∥ HoldsWork a ∥₁) → IsHonestWork b → ∥ HoldsWork b ∥₁
+still_held a b stays holds honest =
+    let before = honest_before {a = a} {b = b} stays.works stays.torn honest in
+    ∥∥₁_elim (holds before) ∥∥₁_prop (λ (h : HoldsWork a). ∣ holds_still a b stays before.disk h ∣₁)
+
+-- why one fails
+pub read_fails_so : (a b : Work) (fault : TableFault) → WorkStays a b → ReadCause HasNoTable a.slot a.store b.store fault → WorkFails a b fault
+read_fails_so a b fault stays cause = record { works = stays.works; still = λ other. stays.unchanged.closed; cause = so fault cause }
+  where
+    so : (f : TableFault) → ReadCause HasNoTable a.slot a.store b.store f → WorkCause a b f
+    so Disk grew = grew
+    so Damaged none = λ is. none is.0.disk a.text (table_now a) is.1
+    so TableFull never = absurd never
+    so OutOfMemory never = absurd never
+    so Closed shut = shut
+
+pub needs_no_page : (slot : TreeSlot) (old new : Store) (fault : TableFault) → ReadCause HasNoTable slot old new fault → NeedsNoPage fault
+needs_no_page slot old new fault cause = λ is. subst (λ (f : TableFault). ReadCause HasNoTable slot old new f) is cause
+
+pub change_fails_so : (a b : Work) (fault : TableFault) → StoreWorks a.store b.store → (fault ≢ Disk → b.store.closed ≡ a.store.closed) → ChangeCause HasNoTable a.slot a.store b.store fault → WorkFails a b fault
+change_fails_so a b fault works still cause = record { works = works; still = still; cause = so fault cause }
+  where
+    so : (f : TableFault) → ChangeCause HasNoTable a.slot a.store b.store f → WorkCause a b f
+    so Disk grew = grew
+    so Damaged none = λ is. none is.0.disk a.text (table_now a) is.1
+    so TableFull none = none
+    so OutOfMemory cause = tt
+    so Closed shut = shut
+
+-- answers of which there is one proof
+pub ok_prop : {X E : Type 0} (P : X → Type 0) (r : Result X E) → ((x : X) → IsProp (P x)) → IsProp (IfOk r P)
+ok_prop P (Ok x) each = each x
+ok_prop P (Err e) each = Unit-prop
+
+pub some_prop : {X : Type 0} (P : X → Type 0) (o : Option X) → ((x : X) → IsProp (P x)) → IsProp (IfSome o P)
+some_prop P (Some x) each = each x
+some_prop P None each = Unit-prop
+
+pub none_prop : {X : Type 0} (P : Type 0) (o : Option X) → IsProp P → IsProp (IfNone o P)
+none_prop P (Some x) is = Unit-prop
+none_prop P None is = is
+
+-- positions, records and numbers that were or were not there
+pub position_prop : (o p : Option (List ℕ)) → IsProp (o ≡ p)
+position_prop o p = hlevel props
+
+pub record_prop : (o p : Option Record) → IsProp (o ≡ p)
+record_prop o p = hlevel props
+
+pub number_prop : (o p : Option ℕ) → IsProp (o ≡ p)
+number_prop o p = hlevel props
+
+pub never_prop : {A : Type 0} → IsProp (A → ⊥)
+never_prop = hlevel props
+
+-- a call that only read
+pub only_read : (slot : TreeSlot) (text : List ℕ) (torn : Bool) (old new : Store) → StoreWorks old new → IsUnchanged old new
+    → WorkStays (work_of slot text torn old) (work_of slot text torn new)
+only_read slot text torn old new works same = record { works = works; unchanged = same; slot = refl; text = refl; torn = refl }
+
+-- and was refused
+pub read_refused : {X : Type 0} (a b : Work) (r : Result X TableFault) → WorkStays a b → IfErr r (ReadCause HasNoTable a.slot a.store b.store) → IfErr r (WorkFails a b)
+read_refused a b (Ok x) stays cause = tt
+read_refused a b (Err fault) stays cause = read_fails_so a b fault stays cause
+
+pub read_without_page : {X : Type 0} (slot : TreeSlot) (old new : Store) (r : Result X TableFault) → IfErr r (ReadCause HasNoTable slot old new) → IfErr r NeedsNoPage
+read_without_page slot old new (Ok x) cause = tt
+read_without_page slot old new (Err fault) cause = needs_no_page slot old new fault cause
+
+-- whether there is one more edge
+after_prop : (after : Option ℕ) (p : ℕ) → IsProp (IsAfter after p)
+after_prop None p = Unit-prop
+after_prop (Some q) p = hlevel props
+
+pub next_prop : (table : Stored (List ℕ)) (i : ℕ) (after : Option ℕ) (p : ℕ) → IsProp (IsNextEdge table i after p)
+next_prop table i after p x y =
+    let edge : IsProp (table.has_edge i p ≡ true) = hlevel props in
+    let least : IsProp ((q : ℕ) → table.has_edge i q ≡ true → IsAfter after q → p ≤ q) = hlevel props in
+    λ k. record { edge = edge x.edge y.edge k; later = after_prop after p x.later y.later k; least = least x.least y.least k }
+
+pub no_more_prop : (table : Stored (List ℕ)) (i : ℕ) (after : Option ℕ) → IsProp (HasNoMoreEdges table i after)
+no_more_prop table i after = hlevel props

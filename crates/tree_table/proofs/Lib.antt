@@ -1,0 +1,12 @@
+mod Forests
+mod Rooted
+mod Faults
+mod Puts
+mod ByKey
+mod Tables
+mod Few
+mod Found
+mod KeyOrder
+mod Reading
+mod NextEdges
+mod Holding

@@ -1,0 +1,49 @@
+use Rattle.std.proofs.Common.{◌≤◌, ◌^◌, refl, arith}
+use Rattle.retrograde.specs.Changes.{with_position}
+use Rattle.tree_table.specs.Working.{work_of, table_now, HoldsTable, HoldsWork, IsHonestWork}
+use Rattle.tree_table.proofs.Holding.{now_held, now_stored, now_goes_on}
+use Rattle.tree_table.proofs.working.TreeTableTable.add.Goals as goal
+
+pub invariant_of-self-2 : goal.invariant_of-self-2
+invariant_of-self-2 g c =
+    let self = c.args.self.now in
+    let text = self.text.items in
+    let old = work_of self.slot text self.torn (g.P.Pages.store self.store) in
+    let new = work_of c.in_ok-self.field-0 text self.torn (g.P.Pages.store c.add_position.new.store) in
+    let done = c.in_ok-self.ensures in
+    let now = with_position (table_now old) c.args.packed.now.items in
+    let few : c.in_ok-self.field-0.sizes.counts.known ≤ 2 ^ 24 = omega (arith, done.known, c.requires.room) in
+    let changed : IsHonestWork old → HoldsWork old → HoldsTable c.in_ok-self.field-0 text now (g.P.Pages.store c.add_position.new.store) =
+    λ honest h. done.table honest.disk text (table_now old) h (c.requires.unknown honest) in
+    record {
+      some = omega (arith, self.some, done.slot.packed);
+      short = omega (arith, self.short, done.slot.packed);
+      few = few;
+      holds = now_held old new now few done.works refl refl changed self.holds;
+    }
+
+pub returns-clause-added : goal.returns-clause-added
+returns-clause-added g c = λ honest.
+    let self = c.args.self.now in
+    let text = self.text.items in
+    let old = work_of self.slot text self.torn (g.P.Pages.store self.store) in
+    let new = work_of c.in_ok-self.field-0 text self.torn (g.P.Pages.store c.add_position.new.store) in
+    let done = c.in_ok-self.ensures in
+    let now = with_position (table_now old) c.args.packed.now.items in
+    let few : c.in_ok-self.field-0.sizes.counts.known ≤ 2 ^ 24 = omega (arith, done.known, c.requires.room) in
+    let changed : IsHonestWork old → HoldsWork old → HoldsTable c.in_ok-self.field-0 text now (g.P.Pages.store c.add_position.new.store) =
+    λ honest h. done.table honest.disk text (table_now old) h (c.requires.unknown honest) in
+    now_stored old new now few done.works refl refl changed self.holds honest
+
+pub returns-clause-ahead : goal.returns-clause-ahead
+returns-clause-ahead g c =
+    let self = c.args.self.now in
+    let text = self.text.items in
+    let old = work_of self.slot text self.torn (g.P.Pages.store self.store) in
+    let new = work_of c.in_ok-self.field-0 text self.torn (g.P.Pages.store c.add_position.new.store) in
+    let done = c.in_ok-self.ensures in
+    let now = with_position (table_now old) c.args.packed.now.items in
+    let few : c.in_ok-self.field-0.sizes.counts.known ≤ 2 ^ 24 = omega (arith, done.known, c.requires.room) in
+    let changed : IsHonestWork old → HoldsWork old → HoldsTable c.in_ok-self.field-0 text now (g.P.Pages.store c.add_position.new.store) =
+    λ honest h. done.table honest.disk text (table_now old) h (c.requires.unknown honest) in
+    now_goes_on old new now few done.works refl refl changed done.open

@@ -1,0 +1,50 @@
+use Rattle.std.proofs.Common.{◌≤◌, ◌^◌, refl, sym, subst, arith}
+use Rattle.retrograde.specs.declared.records.Counts.{Counts}
+use Rattle.retrograde.specs.Changes.{with_edge}
+use Rattle.tree_table.specs.Working.{work_of, table_now, HoldsTable, HoldsWork, IsHonestWork}
+use Rattle.tree_table.proofs.Holding.{now_held, now_stored, now_goes_on}
+use Rattle.tree_table.proofs.working.TreeTableTable.add_edge.Goals as goal
+
+pub invariant_of-self-2 : goal.invariant_of-self-2
+invariant_of-self-2 g c =
+    let self = c.args.self.now in
+    let text = self.text.items in
+    let old = work_of self.slot text self.torn (g.P.Pages.store self.store) in
+    let new = work_of c.in_ok-self.field-0 text self.torn (g.P.Pages.store c.add_edge.new.store) in
+    let done = c.in_ok-self.ensures in
+    let now = with_edge (table_now old) c.args.successor c.args.predecessor in
+    let few : c.in_ok-self.field-0.sizes.counts.known ≤ 2 ^ 24 = subst (λ (k : Counts). k.known ≤ 2 ^ 24) (sym done.counts) self.few in
+    let changed : IsHonestWork old → HoldsWork old → HoldsTable c.in_ok-self.field-0 text now (g.P.Pages.store c.add_edge.new.store) =
+    λ honest h. done.table honest.disk text (table_now old) h in
+    record {
+      some = omega (arith, self.some, done.slot.packed);
+      short = omega (arith, self.short, done.slot.packed);
+      few = few;
+      holds = now_held old new now few done.works refl refl changed self.holds;
+    }
+
+pub returns-clause-added : goal.returns-clause-added
+returns-clause-added g c = λ honest.
+    let self = c.args.self.now in
+    let text = self.text.items in
+    let old = work_of self.slot text self.torn (g.P.Pages.store self.store) in
+    let new = work_of c.in_ok-self.field-0 text self.torn (g.P.Pages.store c.add_edge.new.store) in
+    let done = c.in_ok-self.ensures in
+    let now = with_edge (table_now old) c.args.successor c.args.predecessor in
+    let few : c.in_ok-self.field-0.sizes.counts.known ≤ 2 ^ 24 = subst (λ (k : Counts). k.known ≤ 2 ^ 24) (sym done.counts) self.few in
+    let changed : IsHonestWork old → HoldsWork old → HoldsTable c.in_ok-self.field-0 text now (g.P.Pages.store c.add_edge.new.store) =
+    λ honest h. done.table honest.disk text (table_now old) h in
+    now_stored old new now few done.works refl refl changed self.holds honest
+
+pub returns-clause-ahead : goal.returns-clause-ahead
+returns-clause-ahead g c =
+    let self = c.args.self.now in
+    let text = self.text.items in
+    let old = work_of self.slot text self.torn (g.P.Pages.store self.store) in
+    let new = work_of c.in_ok-self.field-0 text self.torn (g.P.Pages.store c.add_edge.new.store) in
+    let done = c.in_ok-self.ensures in
+    let now = with_edge (table_now old) c.args.successor c.args.predecessor in
+    let few : c.in_ok-self.field-0.sizes.counts.known ≤ 2 ^ 24 = subst (λ (k : Counts). k.known ≤ 2 ^ 24) (sym done.counts) self.few in
+    let changed : IsHonestWork old → HoldsWork old → HoldsTable c.in_ok-self.field-0 text now (g.P.Pages.store c.add_edge.new.store) =
+    λ honest h. done.table honest.disk text (table_now old) h in
+    now_goes_on old new now few done.works refl refl changed done.open

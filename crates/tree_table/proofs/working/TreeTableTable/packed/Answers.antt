@@ -1,0 +1,25 @@
+use Rattle.std.proofs.Common.{Some}
+use mathlib.Core.Logic.{∥∥₁_elim}
+use Rattle.std.specs.Prelude.{slice_get}
+use Rattle.tree_table.specs.Working.{work_of, table_now, HoldsWork}
+use Rattle.tree_table.proofs.Holding.{only_read, still_held, position_prop}
+use Rattle.tree_table.proofs.working.TreeTableTable.packed.Goals as goal
+
+pub invariant_of-self : goal.invariant_of-self
+invariant_of-self g c =
+    let self = c.args.self.now in
+    let old = g.P.Pages.store self.store in
+    let new = g.P.Pages.store c.cell_at.new.store in
+    let stays = only_read self.slot self.text.items self.torn old new c.cell_at.ensures.works c.cell_at.ensures.unchanged in
+    record {
+      some = self.some;
+      short = self.short;
+      few = self.few;
+      holds = still_held (work_of self.slot self.text.items self.torn old) (work_of self.slot self.text.items self.torn new) stays self.holds;
+    }
+
+pub returns-clause-position : goal.returns-clause-position
+returns-clause-position g c = λ honest.
+    let self = c.args.self.now in
+    let old = work_of self.slot self.text.items self.torn (g.P.Pages.store self.store) in
+    ∥∥₁_elim (self.holds honest) (position_prop (slice_get (table_now old).positions c.args.number) (Some c.in_ok-cell.cell.position.items)) (λ (h : HoldsWork old). c.in_ok-cell.ensures.position honest.disk self.text.items (table_now old) h)

@@ -1,0 +1,36 @@
+-- Why what a slot names is not read or changed.
+use Rattle.std.specs.Prelude.{◌≡◌, ℕ, true, List, IsTrue}
+use Rattle.sector_disk.specs.Disk.{Grew}
+use Rattle.page_store.specs.Marks.{free_count}
+use Rattle.page_store.specs.Store.{Store}
+use Rattle.retrograde.specs.Stored.{Stored}
+use Rattle.table.specs.declared.fault.TableFault.{TableFault}
+use Rattle.table.specs.declared.fault.TableFault.TheVariants.{Disk, Damaged, TableFull, OutOfMemory, Closed}
+use Rattle.tree_page.specs.Page.{Item}
+use Rattle.tree_table.specs.declared.slot.TreeSlot.{TreeSlot}
+use Rattle.tree_table.specs.declared.tree.Tree.{Tree}
+use Rattle.tree_table.specs.Working.{HoldsForest, HoldsTable}
+
+-- no four trees are there, as far as the disk is honest
+abbrev pub HasNoForest : TreeSlot → Store → Type 0
+HasNoForest slot store = IsTrue store.disk.honest → (text : List ℕ) (entries : Tree → List Item) → ¬ HoldsForest slot text entries store
+
+-- no table is there, as far as the disk is honest
+abbrev pub HasNoTable : TreeSlot → Store → Type 0
+HasNoTable slot store = IsTrue store.disk.honest → (text : List ℕ) (table : Stored (List ℕ)) → ¬ HoldsTable slot text table store
+
+-- nothing is read: the disk failed, such a thing is not there, or the store is closed
+abbrev pub ReadCause : (TreeSlot → Store → Type 0) → TreeSlot → Store → Store → TableFault → Type 0
+ReadCause HasNone slot old new Disk = Grew old.failures new.failures
+ReadCause HasNone slot old new Damaged = HasNone slot old
+ReadCause HasNone slot old new TableFull = ⊥
+ReadCause HasNone slot old new OutOfMemory = ⊥
+ReadCause HasNone slot old new Closed = old.closed ≡ true
+
+-- nothing is changed: or a page is needed and none is free, or memory is short
+abbrev pub ChangeCause : (TreeSlot → Store → Type 0) → TreeSlot → Store → Store → TableFault → Type 0
+ChangeCause HasNone slot old new Disk = Grew old.failures new.failures
+ChangeCause HasNone slot old new Damaged = HasNone slot old
+ChangeCause HasNone slot old new TableFull = free_count new.marks ≡ 0
+ChangeCause HasNone slot old new OutOfMemory = Unit {0}
+ChangeCause HasNone slot old new Closed = old.closed ≡ true

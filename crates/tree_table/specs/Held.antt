@@ -1,0 +1,41 @@
+-- The table that a picture of the disk holds in layout 2, as far as that can be told without the game's rules.
+use Rattle.std.specs.Prelude.{◌≡◌, ℕ, ◌≤◌, List, length, Option, None, Some}
+use Rattle.sector_disk.specs.Disk.{Picture}
+use Rattle.root_pair.specs.Root.{HoldsRoot}
+use Rattle.page_store.specs.Page.{page}
+use Rattle.retrograde.specs.Stored.{IsTable}
+use Rattle.retrograde.specs.Changes.{counts_of}
+use Rattle.root_slot.specs.Fields.{capacity_of, first_in, sizes_in}
+use Rattle.game_file.specs.Kept.{Kept}
+use Rattle.tree_page.specs.Page.{Item}
+use Rattle.tree_table.specs.declared.tree.Tree.{Tree}
+use Rattle.tree_table.specs.Entries.{AreEntriesOf}
+use Rattle.tree_table.specs.Forest.{IsForest}
+use Rattle.tree_table.specs.Slot.{roots_in, IsEmptyTreeSlot, IsGameTreeSlot}
+
+-- the slot is that of a table with a game, and the pages that it names, each of them below the capacity and named once, hold
+-- this text as a chain and four trees whose entries are those of this table. The table's parts fit together, and the slot counts
+-- them right
+pub record KeepsGameTrees (root : List ℕ) (capacity : ℕ) (kept : Kept) (bytes : ℕ → List ℕ) : Type 0 where
+  pub slot : IsGameTreeSlot root
+  pub text_pages : List ℕ
+  pub pages : Tree → List ℕ
+  pub entries : Tree → List Item
+  pub forest : IsForest (sizes_in root).packed capacity (first_in root) (roots_in root) kept.text text_pages pages entries bytes
+  pub text : length kept.text ≡ (sizes_in root).text
+  pub spelled : AreEntriesOf (sizes_in root) entries kept.table
+  pub table : IsTable kept.table
+  pub counts : counts_of kept.table ≡ (sizes_in root).counts
+
+-- the slot and the pages spell this table, or an empty one
+abbrev pub KeepsTrees : List ℕ → ℕ → Option Kept → (ℕ → List ℕ) → Type 0
+KeepsTrees root capacity None bytes = IsEmptyTreeSlot root
+KeepsTrees root capacity (Some kept) bytes = KeepsGameTrees root capacity kept bytes
+
+-- the picture is a table of 16 pages or more: it begins as each does, its gate picks a slot, and what that slot and the pages
+-- named from it spell is this
+pub record StoresTrees (picture : Picture) (kept : Option Kept) : Type 0 where
+  pub root : List ℕ
+  pub holds : HoldsRoot root picture
+  pub room : 16 ≤ capacity_of picture
+  pub keeps : KeepsTrees root (capacity_of picture) kept (page picture)

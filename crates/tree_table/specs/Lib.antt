@@ -1,0 +1,11 @@
+pub mod Trees
+pub mod Entries
+pub mod Forest
+pub mod Spelled
+pub mod Slot
+pub mod Held
+pub mod Keeping
+pub mod Working
+pub mod Causes
+pub mod InTrees
+pub mod aid

@@ -1,0 +1,93 @@
+-- A table on trees in a store of pages: what it is there, and what is left of it by its calls.
+use Rattle.std.specs.Prelude.{◌≡◌, ◌≢◌, ℕ, Bool, true, false, List, length, IsTrue}
+use Rattle.sector_disk.specs.Disk.{Grew}
+use Rattle.page_store.specs.Marks.{free_count}
+use Rattle.page_store.specs.Store.{Store, reads, StoreWorks, IsUnchanged}
+use Rattle.retrograde.specs.Stored.{Stored}
+use Rattle.retrograde.specs.Changes.{counts_of}
+use Rattle.table.specs.declared.fault.TableFault.{TableFault}
+use Rattle.table.specs.declared.fault.TableFault.TheVariants.{Disk, Damaged, TableFull, OutOfMemory, Closed}
+use Rattle.tree_page.specs.Page.{Item}
+use Rattle.tree_map.specs.Changes.{AreHeld}
+use Rattle.tree_map.specs.Entries.{put_entry}
+use Rattle.tree_table.specs.declared.slot.TreeSlot.{TreeSlot}
+use Rattle.tree_table.specs.declared.tree.Tree.{Tree}
+use Rattle.tree_table.specs.Trees.{with_at}
+use Rattle.tree_table.specs.Entries.{AreEntriesOf}
+use Rattle.tree_table.specs.Forest.{IsForest}
+use Rattle.tree_table.specs.Spelled.{table_in}
+
+-- in this store the slot names the pages of this text and of four trees with these entries, and they are in use
+pub record HoldsForest (slot : TreeSlot) (text : List ℕ) (entries : Tree → List Item) (store : Store) : Type 0 where
+  pub text_pages : List ℕ
+  pub pages : Tree → List ℕ
+  pub forest : IsForest slot.sizes.packed (length store.marks) slot.first slot.roots text text_pages pages entries (reads store)
+  pub text_held : AreHeld store.marks text_pages
+  pub held : (t : Tree) → AreHeld store.marks (pages t)
+
+-- and the trees are those of this table, which the slot counts right
+pub record HoldsTable (slot : TreeSlot) (text : List ℕ) (table : Stored (List ℕ)) (store : Store) : Type 0 where
+  pub entries : Tree → List Item
+  pub forest : HoldsForest slot text entries store
+  pub spelled : AreEntriesOf slot.sizes entries table
+  pub counts : counts_of table ≡ slot.sizes.counts
+
+-- these entries, with this value at this key of this tree
+abbrev pub with_entry : (Tree → List Item) → Tree → List ℕ → List ℕ → Tree → List Item
+with_entry entries tree key value = with_at entries tree (put_entry (entries tree) key value)
+
+-- a table at work: what its slot says, the game's text, whether a call that writes has stopped half way, and its pages
+pub record Work : Type 0 where
+  pub slot : TreeSlot
+  pub text : List ℕ
+  pub torn : Bool
+  pub store : Store
+
+-- the table at work of these parts
+abbrev pub work_of : TreeSlot → List ℕ → Bool → Store → Work
+work_of s x b p = record { slot = s; text = x; torn = b; store = p }
+
+-- the table that it has come to
+abbrev pub table_now : Work → Stored (List ℕ)
+table_now work = table_in work.slot (reads work.store)
+
+-- its disk keeps to its word, and no call that writes has stopped half way
+pub record IsHonestWork (work : Work) : Type 0 where
+  pub disk : IsTrue work.store.disk.honest
+  pub whole : work.torn ≡ false
+
+-- its pages hold the table that it has come to
+abbrev pub HoldsWork : Work → Type 0
+HoldsWork work = HoldsTable work.slot work.text (table_now work) work.store
+
+-- after calls that only read: nothing changed
+pub record WorkStays (old new : Work) : Type 0 where
+  pub works : StoreWorks old.store new.store
+  pub unchanged : IsUnchanged old.store new.store
+  pub slot : new.slot ≡ old.slot
+  pub text : new.text ≡ old.text
+  pub torn : new.torn ≡ old.torn
+
+-- after calls that were answered: nothing is committed, the store is as open as it was, the text is the same, and pages that
+-- held the table hold what it has come to
+pub record WorkGoesOn (old new : Work) : Type 0 where
+  pub works : StoreWorks old.store new.store
+  pub still : new.store.closed ≡ old.store.closed
+  pub text : new.text ≡ old.text
+  pub torn : new.torn ≡ old.torn
+  pub holds : IsHonestWork old → HoldsWork old → HoldsWork new
+
+-- why a call gives no answer: the disk failed; what was there is no honest table; no page is free; memory is short, or a
+-- position has not as many bytes as the others; the store was closed
+abbrev pub WorkCause : Work → Work → TableFault → Type 0
+WorkCause old new Disk = Grew old.store.failures new.store.failures
+WorkCause old new Damaged = ¬ (IsHonestWork old × HoldsWork old)
+WorkCause old new TableFull = free_count new.store.marks ≡ 0
+WorkCause old new OutOfMemory = Unit {0}
+WorkCause old new Closed = old.store.closed ≡ true
+
+-- then nothing is committed either, and only a disk that failed closes the store
+pub record WorkFails (old new : Work) (fault : TableFault) : Type 0 where
+  pub works : StoreWorks old.store new.store
+  pub still : fault ≢ Disk → new.store.closed ≡ old.store.closed
+  pub cause : WorkCause old new fault

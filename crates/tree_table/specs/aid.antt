@@ -1,0 +1,9 @@
+pub mod Faults
+pub mod Frames
+pub mod Keeping
+pub mod Keys
+pub mod Lists
+pub mod Numbers
+pub mod OneTable
+pub mod Slots
+pub mod Spelling

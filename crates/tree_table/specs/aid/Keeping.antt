@@ -1,0 +1,232 @@
+-- What pages hold they hold wherever their bytes are the same, below each greater capacity, and after a commit.
+use Rattle.std.specs.Prelude.{◌≡◌, ◌⊎◌, ◌≢◌, ℕ, ◌*◌, ◌≤◌, ◌<◌, true, List, length, Option, None, Some, Contains, IsTrue}
+use Rattle.std.proofs.Common.{inl, inr, refl, sym, ◌∙◌, ap, subst, arith}
+use Rattle.std.proofs.Math.Nat.{le-min, le-div_iff_mul-le}
+use Rattle.sector_disk.specs.Disk.{Picture, LeavesOnly}
+use Rattle.sector_disk.specs.aid.Moments.{leaves_more}
+use Rattle.page_store.specs.Page.{page}
+use Rattle.page_store.specs.declared.marks.Mark.{Mark}
+use Rattle.page_store.specs.declared.marks.Mark.TheVariants.{Committed, Fresh}
+use Rattle.page_store.specs.Marks.{mark, keeps}
+use Rattle.page_store.specs.Spelling.{SpelledBy, Stands, Spells, IsPrepared, IsCarried}
+use Rattle.page_store.specs.Store.{Store, reads, StoreWorks, Commits, IsSafe, IsCommitted, IsUnchanged}
+use Rattle.page_store.specs.aid.Carrying.{commit_carries, stop_leaves, works_stands}
+use Rattle.page_chain.specs.aid.Resting.{a_chain_rests_on_its_pages, a_chain_fits_more}
+use Rattle.retrograde.specs.Stored.{Stored, IsTable}
+use Rattle.root_slot.specs.Fields.{capacity_of, sizes_in}
+use Rattle.game_file.specs.Kept.{Kept, kept_as}
+use Rattle.game_file.specs.Stops.{LeavesEither, LeavesNow, LeavesTable}
+use Rattle.tree_page.specs.Page.{Item}
+use Rattle.tree_page.specs.declared.widths.Widths.{Widths}
+use Rattle.tree_map.specs.Tree.{IsMap}
+use Rattle.tree_map.specs.aid.Laws.{a_map_rests_on_its_pages, a_map_is_prepared}
+use Rattle.tree_table.specs.declared.slot.TreeSlot.{TreeSlot}
+use Rattle.tree_table.specs.declared.tree.Tree.{Tree}
+use Rattle.tree_table.specs.declared.tree.Roots.{Roots}
+use Rattle.retrograde.specs.Changes.{counts_of}
+use Rattle.tree_table.specs.Entries.{AreEntriesOf}
+use Rattle.tree_table.specs.Forest.{IsForest, IsTreeOf}
+use Rattle.tree_table.specs.Held.{KeepsGameTrees, KeepsTrees, StoresTrees}
+use Rattle.tree_table.specs.Keeping.{IsOneOf, IsKeptInTrees}
+use Rattle.tree_table.specs.Slot.{slot_in, IsGameTreeSlot}
+use Rattle.tree_table.specs.Trees.{root_of}
+use Rattle.tree_table.specs.Working.{HoldsTable}
+
+-- other bytes that agree on the named pages
+pub forest_rests : (packed capacity first : ℕ) (roots : Roots) (text text_pages : List ℕ) (pages : Tree → List ℕ) (entries : Tree
+    → List Item)
+    (bytes : ℕ → List ℕ) → IsForest packed capacity first roots text text_pages pages entries bytes → (other : ℕ → List ℕ)
+    → ((p : ℕ) → IsOneOf text_pages pages p → other p ≡ bytes p)
+    → IsForest packed capacity first roots text text_pages pages entries other
+forest_rests packed capacity first roots text text_pages pages entries bytes it other same = record {
+  chain = (a_chain_rests_on_its_pages capacity first text_pages text bytes it.chain).anywhere other (λ p here. same p (inl here));
+  trees = λ t.
+      let tree = it.trees t in
+      record {
+        widths = tree.widths;
+        keys = tree.keys;
+        values = tree.values;
+        map = (a_map_rests_on_its_pages tree.widths capacity (root_of roots t) (pages t) (entries t) bytes tree.map).anywhere other
+            (λ p here. same p (inr (t, here)));
+      };
+  text_apart = it.text_apart;
+  apart = it.apart;
+}
+
+-- a map below one capacity is below each that is greater
+map_fits_more : (w : Widths) (fewer more root : ℕ) (pages : List ℕ) (es : List Item) (bytes : ℕ → List ℕ) → fewer ≤ more
+    → IsMap w fewer root pages es bytes → IsMap w more root pages es bytes
+map_fits_more w fewer more root pages es bytes le (inl empty) = inl empty
+map_fits_more w fewer more root pages es bytes le (inr map) = inr (record {
+  depth = map.depth;
+  shallow = map.shallow;
+  tree = map.tree;
+  pages_are = map.pages_are;
+  entries_are = map.entries_are;
+  ascending = map.ascending;
+  within = λ p here. let (some, low) = map.within p here in (some, omega (arith, low, le));
+  once = map.once;
+})
+
+forest_fits_more : (packed fewer more first : ℕ) (roots : Roots) (text text_pages : List ℕ) (pages : Tree → List ℕ)
+    (entries : Tree → List Item) (bytes : ℕ → List ℕ) → fewer ≤ more
+    → IsForest packed fewer first roots text text_pages pages entries bytes
+    → IsForest packed more first roots text text_pages pages entries bytes
+forest_fits_more packed fewer more first roots text text_pages pages entries bytes le it = record {
+  chain = a_chain_fits_more fewer more first text_pages text bytes le it.chain;
+  trees = λ t.
+      let tree = it.trees t in
+      record {
+        widths = tree.widths;
+        keys = tree.keys;
+        values = tree.values;
+        map = map_fits_more tree.widths fewer more (root_of roots t) (pages t) (entries t) bytes le tree.map;
+      };
+  text_apart = it.text_apart;
+  apart = it.apart;
+}
+
+-- what is kept in fewer pages is kept in more
+pub keeps_in_more_trees : (root : List ℕ) (fewer more : ℕ) (kept : Option Kept) (bytes : ℕ → List ℕ) → fewer ≤ more
+    → KeepsTrees root fewer kept bytes → KeepsTrees root more kept bytes
+keeps_in_more_trees root fewer more None bytes le it = it
+keeps_in_more_trees root fewer more (Some kept) bytes le it = record {
+  slot = it.slot;
+  text_pages = it.text_pages;
+  pages = it.pages;
+  entries = it.entries;
+  forest = forest_fits_more (sizes_in root).packed fewer more _ _ kept.text it.text_pages it.pages it.entries bytes le it.forest;
+  text = it.text;
+  spelled = it.spelled;
+  table = it.table;
+  counts = it.counts;
+}
+
+-- so many pages are within what a picture with room for them has
+within_capacity : (picture : Picture) (c : ℕ) → 8 * c ≤ length picture → c ≤ 1048576 → c ≤ capacity_of picture
+within_capacity picture c room few = le-min ((le-div_iff_mul-le (omega arith)).1 (omega (arith, room))) few
+
+-- a picture with this root whose pages spell this stores it
+pub spells_stores_trees : (root : List ℕ) (c : ℕ) (kept : Option Kept) (picture : Picture) → 16 ≤ c → c ≤ 1048576
+    → Spells root c (KeepsTrees root c kept) picture → StoresTrees picture kept
+spells_stores_trees root c kept picture enough few it =
+    let fits = within_capacity picture c it.room few in
+    record {
+      root = root;
+      holds = it.holds;
+      room = omega (arith, enough, fits);
+      keeps = keeps_in_more_trees root c (capacity_of picture) kept (page picture) fits it.spelt;
+    }
+
+kept_mark : (m : Mark) → (m ≡ Committed) ⊎ (m ≡ Fresh) → keeps m ≡ true
+kept_mark m (inl is) = ap keeps is
+kept_mark m (inr is) = ap keeps is
+
+-- a slot of these bytes, where the pages hold a table, is prepared for the next commit
+module _ (root : List ℕ) (slot : TreeSlot) (text : List ℕ) (table : Stored (List ℕ)) (store : Store) (is_game : IsGameTreeSlot root)
+    (is : slot_in root ≡ slot) (long : length text ≡ slot.sizes.text) (whole : IsTable table) (h : HoldsTable slot text table store) where
+  keeps_as : (capacity : ℕ) → capacity ≡ length store.marks → (bytes : ℕ → List ℕ)
+      → IsForest slot.sizes.packed (length store.marks) slot.first slot.roots text h.forest.text_pages h.forest.pages h.entries bytes
+      → KeepsTrees root capacity (Some (kept_as text table)) bytes
+  keeps_as capacity same bytes forest =
+      subst (λ (n : ℕ). KeepsTrees root n (Some (kept_as text table)) bytes) (sym same)
+      (let back : slot ≡ slot_in root = sym is in
+      record {
+        slot = is_game;
+        text_pages = h.forest.text_pages;
+        pages = h.forest.pages;
+        entries = h.entries;
+        forest = subst (λ (s : TreeSlot). IsForest s.sizes.packed (length store.marks) s.first s.roots text h.forest.text_pages
+            h.forest.pages
+            h.entries bytes) back forest;
+        text = subst (λ (s : TreeSlot). length text ≡ s.sizes.text) back long;
+        spelled = subst (λ (s : TreeSlot). AreEntriesOf s.sizes h.entries table) back h.spelled;
+        table = whole;
+        counts = subst (λ (s : TreeSlot). counts_of table ≡ s.sizes.counts) back h.counts;
+      })
+
+  pub table_is_prepared : (capacity : ℕ) → capacity ≡ length store.marks
+      → IsPrepared (IsOneOf h.forest.text_pages h.forest.pages) (KeepsTrees root capacity (Some (kept_as text table))) store
+  table_is_prepared capacity same = record {
+    spelled = record {
+      anywhere = λ other agree. keeps_as capacity same other
+          (forest_rests slot.sizes.packed (length store.marks) slot.first slot.roots text h.forest.text_pages h.forest.pages h.entries
+          (reads store) h.forest.forest other agree);
+    };
+    kept = λ p named. elim named [
+      | inl here ↦
+          let (some, low) = h.forest.forest.chain.within p here in
+          (some, low, kept_mark (mark store.marks p) (h.forest.text_held p here))
+      | inr (t, here) ↦
+          let tree = h.forest.forest.trees t in
+          (a_map_is_prepared tree.widths (length store.marks) (root_of slot.roots t) (h.forest.pages t) (h.entries t) store (omega arith)
+          tree.map
+          (h.forest.held t)).kept p here
+    ];
+  }
+
+  -- work and then a commit of it: a stop leaves what was kept, or this
+  module _ (begun new : Store) (was : Option Kept) (honest : IsTrue begun.disk.honest) (safe : IsSafe begun) (kept : IsKeptInTrees begun
+      was)
+      (works : StoreWorks begun store) (commits : Commits root store new) (enough : 16 ≤ length begun.marks)
+      (few : length begun.marks ≤ 1048576) where
+    carried : IsCarried root (IsOneOf kept.text_pages kept.pages) (KeepsTrees begun.root (length begun.marks) was)
+        (IsOneOf h.forest.text_pages h.forest.pages) (KeepsTrees root (length begun.marks) (Some (kept_as text table))) begun store new
+    carried =
+        commit_carries root begun store new honest safe kept.stands works (table_is_prepared (length begun.marks) (sym works.same_pages))
+        commits
+
+    pub stop_stores : LeavesEither StoresTrees begun.disk new.disk was (Some (kept_as text table))
+    stop_stores =
+        leaves_more (λ picture left. elim left [
+          | inl old ↦ inl (spells_stores_trees begun.root (length begun.marks) was picture enough few old)
+          | inr now ↦ inr (spells_stores_trees root (length begun.marks) (Some (kept_as text table)) picture enough few now)
+        ]) carried.stop
+
+    pub committed_keeps : IsCommitted root store new → IsKeptInTrees new (Some (kept_as text table))
+    committed_keeps committed =
+        let same : length new.marks ≡ length begun.marks = committed.marks.same_length ∙ works.same_pages in
+        record {
+          text_pages = h.forest.text_pages;
+          pages = h.forest.pages;
+          stands = subst (λ (X : Type 0). X)
+              (λ i. Stands (IsOneOf h.forest.text_pages h.forest.pages)
+              (KeepsTrees (sym committed.is i) (sym same i) (Some (kept_as text table))) new) (carried.done committed);
+        }
+
+    -- where the commit left the store as it was, what was kept still is
+    pub unchanged_keeps : IsUnchanged store new → IsKeptInTrees new was
+    unchanged_keeps unchanged =
+        let same : length new.marks ≡ length begun.marks = ap length unchanged.marks ∙ works.same_pages in
+        let root_is : new.root ≡ begun.root = unchanged.root ∙ works.root in
+        record {
+          text_pages = kept.text_pages;
+          pages = kept.pages;
+          stands = subst (λ (X : Type 0). X)
+              (λ i. Stands (IsOneOf kept.text_pages kept.pages) (KeepsTrees (sym root_is i) (sym same i) was) new) (carried.left unchanged);
+        }
+
+    pub unchanged_stop : IsUnchanged store new → LeavesTable StoresTrees begun.disk new.disk was
+    unchanged_stop unchanged =
+        leaves_more (λ picture left. spells_stores_trees begun.root (length begun.marks) was picture enough few left)
+        (carried.left_stop unchanged)
+
+-- a call that commits nothing keeps what is kept
+pub works_keeps : (old new : Store) (kept : Option Kept) → IsTrue old.disk.honest → StoreWorks old new → IsKeptInTrees old kept
+    → IsKeptInTrees new kept
+works_keeps old new kept honest works it = record {
+  text_pages = it.text_pages;
+  pages = it.pages;
+  stands = subst (λ (X : Type 0). X)
+      (λ i. Stands (IsOneOf it.text_pages it.pages) (KeepsTrees (sym works.root i) (length_is i) kept) new)
+      (works_stands old new honest works it.stands);
+}
+  where
+    length_is : length old.marks ≡ length new.marks
+    length_is = sym works.same_pages
+
+-- and a stop leaves it
+pub kept_stays : (store : Store) (kept : Option Kept) → 16 ≤ length store.marks → length store.marks ≤ 1048576 → IsKeptInTrees store kept
+    → IsSafe store → LeavesNow StoresTrees store.disk kept
+kept_stays store kept enough few it safe picture left =
+    spells_stores_trees store.root (length store.marks) kept picture enough few (stop_leaves store it.stands safe picture left)

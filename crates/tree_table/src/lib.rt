@@ -1,0 +1,18 @@
+//! A game's table on four trees of pages, one for its positions, one for its records, one for its edges and one for the
+//! settled order.
+#![tactic(auto)]
+
+mod bytes;
+mod change;
+mod fault;
+pub mod laws;
+mod read;
+mod saving;
+mod slot;
+mod tree;
+mod working;
+
+pub use saving::commit;
+pub use slot::{Slot, TreeSlot, empty_slot, game_slot, read_slot};
+pub use tree::{Roots, Tree, widths_of};
+pub use working::TreeTable;

@@ -1,0 +1,198 @@
+//! What a slot names is read.
+ghost use Rattle.std.specs.Prelude.{◌≡◌, ◌↔◌, ◌≤◌, ◌<◌, ℕ, List, Some, IfOk, IfErr, IfSome, IfNone, IsTrue, length, slice_get};
+ghost use Rattle.page_store.specs.Store.{StoreWorks, IsUnchanged};
+ghost use Rattle.retrograde.specs.Edges.{IsAfter, IsNextEdge, HasNoMoreEdges};
+ghost use Rattle.retrograde.specs.Stored.{Stored, HasRecord};
+ghost use Rattle.tree_page.specs.Page.{Item};
+ghost use Rattle.tree_map.specs.Entries.{find_entry, next_after as next_in};
+ghost use Rattle.tree_read.specs.Answers.{found_bytes, found_entry};
+ghost use Rattle.tree_table.specs.declared.tree.Tree.{Tree};
+ghost use Rattle.tree_table.specs.Causes.{HasNoForest, HasNoTable, ReadCause};
+ghost use Rattle.tree_table.specs.Working.{HoldsForest, HoldsTable};
+
+use crate::bytes::{Cell, cell_in, edge_in, key_behind, number_in, number_key};
+use crate::fault::table_fault;
+use crate::slot::TreeSlot;
+use crate::tree::{Tree, widths_of};
+use page_store::Pages;
+use position_pack::Packed;
+use table::TableFault;
+use tree_read::{Bytes, Entry, get, next_after};
+
+/// What stands at this key of this tree.
+pub fn value_at<P: Pages>(
+    store: &mut P,
+    slot: &TreeSlot,
+    tree: Tree,
+    key: &[u8],
+) -> Result<Option<Bytes>, TableFault>
+    requires some { 1 ≤ slot.now.sizes.packed }
+    requires short { slot.now.sizes.packed ≤ 240 }
+    ensures found { IsTrue (P.store store.old).disk.honest → (text : List ℕ) (entries : Tree → List Item)
+        → HoldsForest slot.now text entries (P.store store.old)
+        → IfOk result (λ found. found_bytes found ≡ find_entry (entries tree) key.now) }
+    ensures unchanged { IsUnchanged (P.store store.old) (P.store store.new) }
+    ensures works { StoreWorks (P.store store.old) (P.store store.new) }
+    ensures cause { IfErr result (ReadCause HasNoForest slot.now (P.store store.old) (P.store store.new)) }
+{
+    let widths = widths_of(slot.sizes.packed, tree);
+    match get(store, widths, slot.roots.root(tree), key) {
+        Ok(found) => Ok(found),
+        Err(fault) => Err(table_fault(fault)),
+    }
+}
+
+/// The entry with the least key of this tree that is greater than this one.
+fn entry_after<P: Pages>(
+    store: &mut P,
+    slot: &TreeSlot,
+    tree: Tree,
+    key: &[u8],
+) -> Result<Option<Entry>, TableFault>
+    requires some { 1 ≤ slot.now.sizes.packed }
+    requires short { slot.now.sizes.packed ≤ 240 }
+    ensures found { IsTrue (P.store store.old).disk.honest → (text : List ℕ) (entries : Tree → List Item)
+        → HoldsForest slot.now text entries (P.store store.old)
+        → IfOk result (λ found. found_entry found ≡ next_in (entries tree) key.now) }
+    ensures unchanged { IsUnchanged (P.store store.old) (P.store store.new) }
+    ensures works { StoreWorks (P.store store.old) (P.store store.new) }
+    ensures cause { IfErr result (ReadCause HasNoForest slot.now (P.store store.old) (P.store store.new)) }
+{
+    let widths = widths_of(slot.sizes.packed, tree);
+    match next_after(store, widths, slot.roots.root(tree), key) {
+        Ok(found) => Ok(found),
+        Err(fault) => Err(table_fault(fault)),
+    }
+}
+
+/// The position with a number, and its record.
+pub fn cell_at<P: Pages>(store: &mut P, slot: &TreeSlot, number: u32) -> Result<Cell, TableFault>
+    requires some { 1 ≤ slot.now.sizes.packed }
+    requires short { slot.now.sizes.packed ≤ 240 }
+    requires known { number < slot.now.sizes.counts.known }
+    ensures position { IsTrue (P.store store.old).disk.honest → (text : List ℕ) (table : Stored (List ℕ))
+        → HoldsTable slot.now text table (P.store store.old)
+        → IfOk result (λ cell. slice_get table.positions number ≡ Some cell.position.items) }
+    ensures kept { IsTrue (P.store store.old).disk.honest → (text : List ℕ) (table : Stored (List ℕ))
+        → HoldsTable slot.now text table (P.store store.old)
+        → IfOk result (λ cell. HasRecord table number cell.kept) }
+    ensures long { IfOk result (λ cell. length cell.position.items ≡ slot.now.sizes.packed) }
+    ensures unchanged { IsUnchanged (P.store store.old) (P.store store.new) }
+    ensures works { StoreWorks (P.store store.old) (P.store store.new) }
+    ensures cause { IfErr result (ReadCause HasNoTable slot.now (P.store store.old) (P.store store.new)) }
+{
+    let key = number_key(number);
+    let Some(value) = value_at(store, slot, Tree::Records, &key)? else {
+        return Err(TableFault::Damaged);
+    };
+    match cell_in(&value, slot.sizes.packed) {
+        Some(cell) => Ok(cell),
+        None => Err(TableFault::Damaged),
+    }
+}
+
+/// The number of a position, if it is known.
+pub fn number_of<P: Pages>(
+    store: &mut P,
+    slot: &TreeSlot,
+    packed: &Packed,
+) -> Result<Option<u32>, TableFault>
+    requires some { 1 ≤ slot.now.sizes.packed }
+    requires short { slot.now.sizes.packed ≤ 240 }
+    ensures found { IsTrue (P.store store.old).disk.honest → (text : List ℕ) (table : Stored (List ℕ))
+        → HoldsTable slot.now text table (P.store store.old)
+        → IfOk result (λ r. IfSome r (λ i. slice_get table.positions i ≡ Some packed.now.items)) }
+    ensures unknown { IsTrue (P.store store.old).disk.honest → (text : List ℕ) (table : Stored (List ℕ))
+        → HoldsTable slot.now text table (P.store store.old)
+        → IfOk result (λ r. IfNone r ((i : ℕ) → slice_get table.positions i ≡ Some packed.now.items → ⊥)) }
+    ensures within { IfOk result (λ r. IfSome r (λ i. i < slot.now.sizes.counts.known)) }
+    ensures unchanged { IsUnchanged (P.store store.old) (P.store store.new) }
+    ensures works { StoreWorks (P.store store.old) (P.store store.new) }
+    ensures cause { IfErr result (ReadCause HasNoTable slot.now (P.store store.old) (P.store store.new)) }
+{
+    let Some(value) = value_at(store, slot, Tree::Positions, packed)? else {
+        return Ok(None);
+    };
+    let Some(number) = number_in(&value) else {
+        return Err(TableFault::Damaged);
+    };
+    if number < slot.sizes.counts.known {
+        Ok(Some(number))
+    } else {
+        Err(TableFault::Damaged)
+    }
+}
+
+/// Whether the number comes after the one given, if one was.
+fn is_after(after: Option<u32>, number: u32) -> bool
+    ensures { IsTrue result ↔ IsAfter after number }
+{
+    match after {
+        Some(given) => given < number,
+        None => true,
+    }
+}
+
+/// The least number that leads to this one, or the least after the number given.
+pub fn edge_after<P: Pages>(
+    store: &mut P,
+    slot: &TreeSlot,
+    successor: u32,
+    after: Option<u32>,
+) -> Result<Option<u32>, TableFault>
+    requires some { 1 ≤ slot.now.sizes.packed }
+    requires short { slot.now.sizes.packed ≤ 240 }
+    requires few { slot.now.sizes.counts.known ≤ 16777216 }
+    ensures next { IsTrue (P.store store.old).disk.honest → (text : List ℕ) (table : Stored (List ℕ))
+        → HoldsTable slot.now text table (P.store store.old)
+        → IfOk result (λ r. IfSome r (IsNextEdge table successor after)) }
+    ensures none { IsTrue (P.store store.old).disk.honest → (text : List ℕ) (table : Stored (List ℕ))
+        → HoldsTable slot.now text table (P.store store.old)
+        → IfOk result (λ r. IfNone r (HasNoMoreEdges table successor after)) }
+    ensures within { IfOk result (λ r. IfSome r (λ p. p < slot.now.sizes.counts.known)) }
+    ensures later { IfOk result (λ r. IfSome r (IsAfter after)) }
+    ensures unchanged { IsUnchanged (P.store store.old) (P.store store.new) }
+    ensures works { StoreWorks (P.store store.old) (P.store store.new) }
+    ensures cause { IfErr result (ReadCause HasNoTable slot.now (P.store store.old) (P.store store.new)) }
+{
+    let key = key_behind(successor, after);
+    let Some(entry) = entry_after(store, slot, Tree::Edges, &key)? else {
+        return Ok(None);
+    };
+    let Some((next, predecessor)) = edge_in(&entry.key) else {
+        return Err(TableFault::Damaged);
+    };
+    if next != successor {
+        return Ok(None);
+    }
+    if predecessor >= slot.sizes.counts.known {
+        return Err(TableFault::Damaged);
+    }
+    if is_after(after, predecessor) {
+        Ok(Some(predecessor))
+    } else {
+        Err(TableFault::Damaged)
+    }
+}
+
+/// The number at a place of the settled order.
+pub fn settled_at<P: Pages>(store: &mut P, slot: &TreeSlot, place: u32) -> Result<u32, TableFault>
+    requires some { 1 ≤ slot.now.sizes.packed }
+    requires short { slot.now.sizes.packed ≤ 240 }
+    requires settled { place < slot.now.sizes.counts.settled }
+    ensures number { IsTrue (P.store store.old).disk.honest → (text : List ℕ) (table : Stored (List ℕ))
+        → HoldsTable slot.now text table (P.store store.old)
+        → IfOk result (λ i. slice_get table.order place ≡ Some i) }
+    ensures unchanged { IsUnchanged (P.store store.old) (P.store store.new) }
+    ensures works { StoreWorks (P.store store.old) (P.store store.new) }
+    ensures cause { IfErr result (ReadCause HasNoTable slot.now (P.store store.old) (P.store store.new)) }
+{
+    let key = number_key(place);
+    let Some(value) = value_at(store, slot, Tree::Order, &key)? else {
+        return Err(TableFault::Damaged);
+    };
+    match number_in(&value) {
+        Some(number) => Ok(number),
+        None => Err(TableFault::Damaged),
+    }
+}

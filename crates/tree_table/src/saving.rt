@@ -1,0 +1,35 @@
+//! What has become of a table is committed.
+ghost use Rattle.std.specs.Prelude.{◌≡◌, false, Option, Some, OnOk, OnErr, IfErr};
+ghost use Rattle.page_store.specs.Causes.{StoreCommitCause};
+ghost use Rattle.page_store.specs.Store.{Store};
+ghost use Rattle.game_file.specs.Kept.{Kept};
+ghost use Rattle.game_file.specs.Stops.{LeavesEither, LeavesTable};
+ghost use Rattle.root_slot.specs.Fields.{commits_in};
+ghost use Rattle.tree_table.specs.Held.{StoresTrees};
+ghost use Rattle.tree_table.specs.Keeping.{IsKeptInTrees, IsWorkedOn};
+ghost use Rattle.tree_table.specs.Slot.{slot_in};
+
+use crate::slot::{TreeSlot, game_slot};
+use page_store::{PageFault, Pages};
+
+/// Commits the table that this slot names in the place of the one that the committed root names. The new root tells this
+/// count of commits. A stop of the power since the work began leaves the old table or the new one; after `Ok` the new is
+/// kept, and after a refusal that leaves the store open the old.
+pub fn commit<P: Pages>(store: &mut P, commits: u64, slot: &TreeSlot) -> Result<(), PageFault>
+    ensures commits { OnOk result (commits_in (P.store store.new).root ≡ commits) }
+    ensures slot { OnOk result (slot_in (P.store store.new).root ≡ slot.now) }
+    ensures stop { (begun : Store) (was : Option Kept) (is : Kept) → IsWorkedOn slot.now begun (P.store store.old) was is
+        → LeavesEither StoresTrees begun.disk (P.store store.new).disk was (Some is) }
+    ensures done { (begun : Store) (was : Option Kept) (is : Kept) → IsWorkedOn slot.now begun (P.store store.old) was is
+        → OnOk result (IsKeptInTrees (P.store store.new) (Some is)) }
+    ensures kept { (begun : Store) (was : Option Kept) (is : Kept) → IsWorkedOn slot.now begun (P.store store.old) was is
+        → OnErr result ((P.store store.new).closed ≡ false → IsKeptInTrees (P.store store.new) was) }
+    ensures kept_stop { (begun : Store) (was : Option Kept) (is : Kept) → IsWorkedOn slot.now begun (P.store store.old) was is
+        → OnErr result ((P.store store.new).closed ≡ false
+        → LeavesTable StoresTrees begun.disk (P.store store.new).disk was) }
+    ensures open { OnOk result ((P.store store.new).closed ≡ false) }
+    ensures cause { IfErr result (StoreCommitCause (P.store store.old) (P.store store.new)) }
+{
+    let root = game_slot(commits, slot);
+    store.commit(&root)
+}

@@ -1,0 +1,120 @@
+//! A game's table on trees of pages.
+ghost use Rattle.std.specs.Prelude.{◌≡◌, ◌≤◌, ◌^◌};
+ghost use Rattle.tree_table.specs.Working.{HoldsWork, IsHonestWork, table_now, work_of};
+ghost use Rattle.tree_table.specs.Working as work;
+ghost use Rattle.tree_table.specs.aid.Frames as frames;
+
+use crate::change::{add_edge, add_position, push_settled, set_record};
+use crate::read::{cell_at, edge_after, number_of, settled_at};
+use crate::slot::TreeSlot;
+use page_store::Pages;
+use position_pack::Packed;
+use retrograde::{Counts, Record};
+use table::{Table, TableFault};
+
+/// A game's table on trees of pages. Where the disk is honest and no call that writes has stopped half way, the pages that
+/// its slot names hold it.
+#[derive(Drop)]
+pub struct TreeTable<P: Pages> {
+    pub(crate) store: P,
+    /// Which pages there are, and how much of each is in the table.
+    pub(crate) slot: TreeSlot,
+    /// The text of the game.
+    pub(crate) text: Vec<u8>,
+    /// A call that writes has stopped half way.
+    pub(crate) torn: bool,
+    ghost some: { 1 ≤ slot.sizes.packed },
+    ghost short: { slot.sizes.packed ≤ 240 },
+    ghost few: { slot.sizes.counts.known ≤ 2 ^ 24 },
+    ghost holds: { IsHonestWork (work_of slot text.items torn (P.store store))
+        → ∥ HoldsWork (work_of slot text.items torn (P.store store)) ∥₁ },
+}
+
+impl<P: Pages> Table for TreeTable<P> {
+    ghost use Rattle.tree_table.specs.InTrees.{work_in};
+
+    ghost stored = { λ t. table_now (work_in t) };
+
+    ghost is_honest = { λ t. IsHonestWork (work_in t) };
+
+    ghost counted = { λ t. t.slot.sizes.counts };
+
+    ghost stays = { λ was is. work.WorkStays (work_in was) (work_in is) };
+
+    ghost goes_on = { λ was is. work.WorkGoesOn (work_in was) (work_in is) };
+
+    ghost fails = { λ was is fault. work.WorkFails (work_in was) (work_in is) fault };
+
+    ghost counts_are = { λ t honest. frames.counts_are (work_in t) (t.holds honest) };
+
+    ghost stays_here = { λ t. frames.stays_here (work_in t) };
+
+    ghost stays_then = { λ a b c first second. frames.stays_then first second };
+
+    ghost stays_goes_on = { λ a b it. frames.stays_goes_on it };
+
+    ghost goes_on_then = { λ a b c first second. frames.goes_on_then first second };
+
+    ghost fails_since = { λ a b c fault first it. frames.fails_since fault first it };
+
+    ghost memory_fails = { λ a b ahead. frames.memory_fails ahead };
+
+    fn counts(&self) -> Counts {
+        self.slot.sizes.counts
+    }
+
+    fn number_of(&mut self, packed: &Packed) -> Result<Option<u32>, TableFault> {
+        number_of(&mut self.store, &self.slot, packed)
+    }
+
+    fn packed(&mut self, number: u32) -> Result<Packed, TableFault> {
+        let cell = cell_at(&mut self.store, &self.slot, number)?;
+        Ok(cell.position)
+    }
+
+    fn record(&mut self, number: u32) -> Result<Record, TableFault> {
+        let cell = cell_at(&mut self.store, &self.slot, number)?;
+        Ok(cell.kept)
+    }
+
+    fn add(&mut self, packed: &Packed) -> Result<u32, TableFault> {
+        let number = self.slot.sizes.counts.known;
+        let torn = self.torn;
+        self.torn = true;
+        self.slot = add_position(&mut self.store, self.slot, packed)?;
+        self.torn = torn;
+        Ok(number)
+    }
+
+    fn set_record(&mut self, number: u32, kept: Record) -> Result<(), TableFault> {
+        let torn = self.torn;
+        self.torn = true;
+        self.slot = set_record(&mut self.store, self.slot, number, kept)?;
+        self.torn = torn;
+        Ok(())
+    }
+
+    fn add_edge(&mut self, successor: u32, predecessor: u32) -> Result<(), TableFault> {
+        let torn = self.torn;
+        self.torn = true;
+        self.slot = add_edge(&mut self.store, self.slot, successor, predecessor)?;
+        self.torn = torn;
+        Ok(())
+    }
+
+    fn next_edge(&mut self, successor: u32, after: Option<u32>) -> Result<Option<u32>, TableFault> {
+        edge_after(&mut self.store, &self.slot, successor, after)
+    }
+
+    fn push_settled(&mut self, number: u32) -> Result<(), TableFault> {
+        let torn = self.torn;
+        self.torn = true;
+        self.slot = push_settled(&mut self.store, self.slot, number)?;
+        self.torn = torn;
+        Ok(())
+    }
+
+    fn settled_at(&mut self, place: u32) -> Result<u32, TableFault> {
+        settled_at(&mut self.store, &self.slot, place)
+    }
+}
