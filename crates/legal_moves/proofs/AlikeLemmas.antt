@@ -4,7 +4,7 @@ use Rattle.std.specs.List.{AllZip}
 use Rattle.std.proofs.lemmas.List.{take_more, take_all, length-map, get_or-map}
 use Rattle.rbg_game.specs.Rules.{Regex, empty, cat, alt, count, cat_all, alt_all}
 use Rattle.legal_moves.specs.Glushkov.{is_nullable, IsNext}
-use Rattle.legal_moves.specs.Relations.{IsRelated}
+use Rattle.legal_moves.specs.aid.Relations.{IsRelated}
 use Rattle.legal_moves.specs.Tables.{actions_of, inner_of, first_of, last_of, IsStep, AreTables}
 use Rattle.legal_moves.specs.aid.Tables.{IsAdded}
 use Rattle.legal_moves.specs.declared.table.Ends.{Ends}

@@ -5,8 +5,8 @@ use Rattle.std.proofs.lemmas.Option.{slice_get-get_or, get_or_from_slice_get}
 use Rattle.std.proofs.lemmas.Option.{slice_get_past}
 use Rattle.std.proofs.Common.{Vec, Global}
 use Rattle.smallvec.specs.SmallVec.{SmallVec}
-use Rattle.legal_moves.specs.Marks.{IsMarkSet}
-use Rattle.legal_moves.specs.Relations.{row_of, IsRelated}
+use Rattle.legal_moves.specs.aid.Marks.{IsMarkSet}
+use Rattle.legal_moves.specs.aid.Relations.{row_of, IsRelated}
 use Rattle.legal_moves.specs.declared.relation.Relation.{Relation}
 use Rattle.legal_moves.specs.Listing.{AreListed, list_at}
 use Rattle.legal_moves.proofs.GetLemmas.{slice_get-append, slice_get-push, slice_get-end, slice_get-within}

@@ -8,7 +8,7 @@ use Rattle.std.specs.List.{list_any}
 use Rattle.rbg_game.specs.Rules.{Regex}
 use Rattle.rbg_game.specs.Games.{Game}
 use Rattle.rbg_game.specs.Positions.{IsStateOf}
-use Rattle.legal_moves.specs.Marks.{IsMarkSet}
+use Rattle.legal_moves.specs.aid.Marks.{IsMarkSet}
 use Rattle.legal_moves.specs.Searches.{place_at}
 use Rattle.legal_moves.specs.aid.Configurations.{opening, OccurrenceLeads}
 use Rattle.legal_moves.specs.declared.effect.Glance.TheVariants.{At}

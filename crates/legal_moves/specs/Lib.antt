@@ -3,8 +3,6 @@ pub mod Effects
 pub mod Moves
 pub mod Searches
 pub mod Listed
-pub mod Marks
-pub mod Relations
 pub mod Listing
 pub mod Tables
 pub mod Configurations

@@ -3,6 +3,8 @@ pub mod Chains
 pub mod Configurations
 pub mod Going
 pub mod Looking
+pub mod Marks
+pub mod Relations
 pub mod Standing
 pub mod Searches
 pub mod Tables

@@ -1,6 +1,6 @@
 //! Rows of marks.
 ghost use Rattle.std.specs.Prelude.{◌≡◌, ℕ, ◌⊎◌, ◌↔◌, OnOk, false, slice_index_or};
-ghost use Rattle.legal_moves.specs.Marks.{IsMarkSet};
+ghost use Rattle.legal_moves.specs.aid.Marks.{IsMarkSet};
 
 use std::alloc::AllocError;
 

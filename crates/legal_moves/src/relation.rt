@@ -1,6 +1,6 @@
 //! A relation on small numbers.
 ghost use Rattle.std.specs.Prelude.{IfOk};
-ghost use Rattle.legal_moves.specs.Marks.{IsMarkSet};
+ghost use Rattle.legal_moves.specs.aid.Marks.{IsMarkSet};
 ghost use Rattle.legal_moves.specs.Listing.{AreListed};
 
 use crate::marks::mark;
@@ -18,7 +18,7 @@ pub struct Relation {
 
 impl Relation {
     ghost use Rattle.std.specs.Prelude.{◌≡◌, ℕ, ◌<◌, ◌⊎◌, ◌↔◌, length, IfOk, OnOk, Contains};
-    ghost use Rattle.legal_moves.specs.Relations.{IsRelated, row_of};
+    ghost use Rattle.legal_moves.specs.aid.Relations.{IsRelated, row_of};
     ghost use Rattle.legal_moves.specs.Listing.{list_at, AreListed};
 
     pub fn new(alloc: Global) -> Relation

@@ -73,7 +73,9 @@ impl Searcher<'_> {
             → IsWideFrom game e place (began (configurations_of found.old)) }
     {
         let Stand {
-            place: last, ends, ..
+            place: last,
+            ends,
+            ..
         } = found.stands[at];
         if ends {
             return Ok(());

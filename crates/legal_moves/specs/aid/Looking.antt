@@ -4,7 +4,7 @@ use Rattle.rbg_game.specs.Rules.{Regex, Action, action_at, is_switch, is_modifie
 use Rattle.rbg_game.specs.Games.{Game}
 use Rattle.rbg_game.specs.declared.position.SemiState.{SemiState}
 use Rattle.legal_moves.specs.Effects.{Effect, EffectAt}
-use Rattle.legal_moves.specs.Marks.{IsMarkSet}
+use Rattle.legal_moves.specs.aid.Marks.{IsMarkSet}
 use Rattle.legal_moves.specs.Tables.{is_pattern}
 use Rattle.legal_moves.specs.Configurations.{Configuration}
 use Rattle.legal_moves.specs.declared.effect.Glance.{Glance}

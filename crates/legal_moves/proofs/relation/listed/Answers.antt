@@ -1,5 +1,5 @@
 use Rattle.std.proofs.Common.{◌≡◌, ◌∙◌, ◌+◌, ◌<◌, ◌++◌, ◌∷◌, [], true, false, sym, subst, arith}
-use Rattle.legal_moves.specs.Marks.{IsMarkSet}
+use Rattle.legal_moves.specs.aid.Marks.{IsMarkSet}
 use Rattle.legal_moves.specs.Listing.{AreListed}
 use Rattle.legal_moves.proofs.ListingLemmas.{listed_by, listed_skip, listed_more, marked_within}
 use Rattle.legal_moves.proofs.relation.listed.Goals as goal

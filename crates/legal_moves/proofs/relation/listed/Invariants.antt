@@ -1,5 +1,5 @@
 use Rattle.std.proofs.Common.{◌<◌}
-use Rattle.legal_moves.specs.Marks.{IsMarkSet}
+use Rattle.legal_moves.specs.aid.Marks.{IsMarkSet}
 use Rattle.legal_moves.specs.Listing.{AreListed}
 use Rattle.legal_moves.proofs.relation.listed.Given as goal
 

@@ -22,8 +22,7 @@ returns-in_ok-push-in-None-2-clause-number c =
     let boards = c.args.self.now.boards.items in
     let pushed = c.in_ok-push-in-None-2.ensures.items in
     let many : c.len-number.result ≡ length boards = omega (arith, c.len-number.ensures) in
-    let at = subst (λ i. slice_get (boards ++ c.args.state ∷ []) i ≡ Some c.args.state) (sym many) (slice_get-end boards c.args.state) in
-    (
+    let at = subst (λ i. slice_get (boards ++ c.args.state ∷ []) i ≡ Some c.args.state) (sym many) (slice_get-end boards c.args.state) in (
       omega (arith, many, ap length pushed, length-append boards (c.args.state ∷ [])),
       ap (λ A. at_vertex A c.args.state.vertex) (board_is c.push-in-None.new.self.items c.len-number.result c.args.state (ap (λ bs. slice_get bs c.len-number.result) pushed ∙ at)),
     )

@@ -1,5 +1,5 @@
 use Rattle.std.proofs.Common.{◌≡◌, ◌+◌, ◌*◌, ◌⊎◌, ℕ, refl, sym, ◌∙◌, subst}
-use Rattle.legal_moves.specs.Marks.{IsMarkSet}
+use Rattle.legal_moves.specs.aid.Marks.{IsMarkSet}
 use Rattle.legal_moves.specs.aid.Looking.{mark_of}
 use Rattle.legal_moves.proofs.LookLemmas.{there, marked_more}
 use Rattle.legal_moves.proofs.looks.Looks.add.Goals as goal

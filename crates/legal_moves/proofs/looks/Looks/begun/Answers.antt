@@ -1,5 +1,5 @@
 use Rattle.std.proofs.Common.{◌≡◌, ◌*◌, ◌⊎◌, [], slice_get, Some, ℕ, refl, subst, arith}
-use Rattle.legal_moves.specs.Marks.{IsMarkSet}
+use Rattle.legal_moves.specs.aid.Marks.{IsMarkSet}
 use Rattle.legal_moves.specs.aid.Looking.{AreMarked, mark_of}
 use Rattle.legal_moves.specs.declared.looks.Look.{Look}
 use Rattle.legal_moves.specs.declared.looks.Looks.{Looks}

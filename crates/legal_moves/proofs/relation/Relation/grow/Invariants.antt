@@ -1,5 +1,5 @@
 use Rattle.std.proofs.Common.{◌≡◌, ℕ, suc, ◌-◌, length}
-use Rattle.legal_moves.specs.Relations.{row_of}
+use Rattle.legal_moves.specs.aid.Relations.{row_of}
 use Rattle.legal_moves.proofs.relation.Relation.grow.Given as goal
 
 abbrev pub invariant-loop-alloc : goal.invariant-loop-alloc

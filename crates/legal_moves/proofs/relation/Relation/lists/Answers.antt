@@ -1,7 +1,7 @@
 use Rattle.std.proofs.Common.{◌≡◌, ◌∙◌, ◌+◌, ◌≤◌, ◌∷◌, [], inl, inr, sym, ap, subst, arith, length, Some, slice_get, length-append}
 use Rattle.std.proofs.lemmas.Bool.{cases_lt}
-use Rattle.legal_moves.specs.Marks.{IsMarkSet}
-use Rattle.legal_moves.specs.Relations.{IsRelated, row_of}
+use Rattle.legal_moves.specs.aid.Marks.{IsMarkSet}
+use Rattle.legal_moves.specs.aid.Relations.{IsRelated, row_of}
 use Rattle.legal_moves.specs.Listing.{AreListed}
 use Rattle.legal_moves.proofs.ReadyLemmas.{read_at}
 use Rattle.legal_moves.proofs.ListingLemmas.{listed_none, lists_more, list_past, row_is, row_past}

@@ -1,5 +1,5 @@
 use Rattle.std.proofs.Common.{◌≡◌, ℕ, ◌<◌, length}
-use Rattle.legal_moves.specs.Relations.{IsRelated}
+use Rattle.legal_moves.specs.aid.Relations.{IsRelated}
 use Rattle.legal_moves.specs.Listing.{AreListed, list_at}
 use Rattle.legal_moves.proofs.relation.Relation.lists.Given as goal
 

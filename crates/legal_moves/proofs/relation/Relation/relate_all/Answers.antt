@@ -1,6 +1,6 @@
 use Rattle.std.proofs.Common.{get_or, Contains, arith}
 use Rattle.std.proofs.lemmas.List.{get_or_default}
-use Rattle.legal_moves.specs.Relations.{IsRelated}
+use Rattle.legal_moves.specs.aid.Relations.{IsRelated}
 use Rattle.legal_moves.proofs.RelationLemmas.{all_more, all_all}
 use Rattle.legal_moves.proofs.relation.Relation.relate_all.Goals as goal
 

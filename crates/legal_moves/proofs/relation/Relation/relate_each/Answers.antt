@@ -1,6 +1,6 @@
 use Rattle.std.proofs.Common.{get_or, arith}
 use Rattle.std.proofs.lemmas.List.{get_or_default}
-use Rattle.legal_moves.specs.Relations.{IsRelated}
+use Rattle.legal_moves.specs.aid.Relations.{IsRelated}
 use Rattle.legal_moves.proofs.RelationLemmas.{each_more, each_all}
 use Rattle.legal_moves.proofs.relation.Relation.relate_each.Goals as goal
 

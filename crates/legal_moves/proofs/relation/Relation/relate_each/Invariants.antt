@@ -1,5 +1,5 @@
 use Rattle.std.proofs.Common.{◌≡◌, ℕ, ◌⊎◌, ◌↔◌, Contains, take}
-use Rattle.legal_moves.specs.Relations.{IsRelated}
+use Rattle.legal_moves.specs.aid.Relations.{IsRelated}
 use Rattle.legal_moves.proofs.relation.Relation.relate_each.Given as goal
 
 abbrev pub invariant-loop-right : goal.invariant-loop-right

@@ -1,6 +1,6 @@
 -- Relations of numbers as rows of marks.
 use Rattle.std.specs.Prelude.{ℕ, Bool, List, [], option_map, unwrap_or, slice_get}
-use Rattle.legal_moves.specs.Marks.{IsMarkSet}
+use Rattle.legal_moves.specs.aid.Marks.{IsMarkSet}
 use Rattle.legal_moves.specs.declared.relation.Relation.{Relation}
 
 -- the marks of the numbers that are related to this one
