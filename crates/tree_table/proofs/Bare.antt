@@ -1,7 +1,6 @@
 -- A slot that names no page names the pages of no text and of an empty table.
-use Rattle.std.proofs.Common.{◌≡◌, inl, ℕ, ◌+◌, ◌≤◌, List, [], length, refl, arith, Contains}
+use Rattle.std.proofs.Common.{inl, ℕ, ◌+◌, ◌≤◌, List, [], length, refl, arith}
 use Rattle.page_store.specs.Store.{Store, reads}
-use Rattle.tree_page.specs.declared.widths.Widths.{Widths}
 use Rattle.tree_map.specs.aid.Laws.{none_contained}
 use Rattle.tree_table.specs.declared.tree.Tree.{Tree}
 use Rattle.tree_table.specs.declared.tree.Tree.TheVariants.{Positions, Records, Edges, Order}

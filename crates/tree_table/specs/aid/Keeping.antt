@@ -1,14 +1,14 @@
 -- What pages hold they hold wherever their bytes are the same, below each greater capacity, and after a commit.
-use Rattle.std.specs.Prelude.{◌≡◌, ◌⊎◌, ◌≢◌, ℕ, ◌*◌, ◌≤◌, ◌<◌, true, false, List, length, Option, None, Some, Contains, IsTrue}
-use Rattle.std.proofs.Common.{inl, inr, refl, sym, ◌∙◌, ap, subst, arith}
+use Rattle.std.specs.Prelude.{◌≡◌, ◌⊎◌, ℕ, ◌*◌, ◌≤◌, true, false, List, length, Option, None, Some, IsTrue}
+use Rattle.std.proofs.Common.{inl, inr, sym, ◌∙◌, ap, subst, arith}
 use Rattle.std.proofs.Math.Nat.{le-min, le-div_iff_mul-le}
-use Rattle.sector_disk.specs.Disk.{Picture, LeavesOnly}
+use Rattle.sector_disk.specs.Disk.{Picture}
 use Rattle.sector_disk.specs.aid.Moments.{leaves_more}
 use Rattle.page_store.specs.Page.{page}
 use Rattle.page_store.specs.declared.marks.Mark.{Mark}
 use Rattle.page_store.specs.declared.marks.Mark.TheVariants.{Committed, Fresh, Free}
 use Rattle.page_store.specs.Marks.{mark, keeps, needs, IsKept, IsNeeded}
-use Rattle.page_store.specs.Spelling.{SpelledBy, Stands, Spells, IsPrepared, IsCarried, IsCalm}
+use Rattle.page_store.specs.Spelling.{Stands, Spells, IsPrepared, IsCarried, IsCalm}
 use Rattle.page_store.specs.Store.{Store, reads, StoreWorks, Commits, IsSafe, IsCommitted, IsUnchanged}
 use Rattle.page_store.specs.aid.Carrying.{commit_carries, stop_leaves}
 use Rattle.page_store.specs.aid.Works.{still_needed}
@@ -28,7 +28,7 @@ use Rattle.tree_table.specs.declared.tree.Tree.{Tree}
 use Rattle.tree_table.specs.declared.tree.Roots.{Roots}
 use Rattle.retrograde.specs.Changes.{counts_of}
 use Rattle.tree_table.specs.Entries.{AreEntriesOf}
-use Rattle.tree_table.specs.Forest.{IsForest, IsTreeOf}
+use Rattle.tree_table.specs.Forest.{IsForest}
 use Rattle.tree_table.specs.Held.{KeepsOnPages, KeepsTrees, StoresTrees}
 use Rattle.tree_table.specs.Keeping.{IsOneOf, KeepsOn, IsKeptInTrees}
 use Rattle.tree_table.specs.Slot.{slot_in, roots_in, IsGameTreeSlot}

@@ -1,16 +1,13 @@
 -- A picture of the disk stores one table at most.
-use Rattle.std.specs.Prelude.{◌≡◌, ℕ, ◌≤◌, List, length, Option, None, Some}
+use Rattle.std.specs.Prelude.{◌≡◌, ℕ, List, Option, None, Some}
 use Rattle.std.proofs.Common.{refl, sym, ◌∙◌, subst, arith}
 use Rattle.sector_disk.specs.Disk.{Picture}
 use Rattle.page_store.specs.Page.{page}
 use Rattle.page_chain.specs.aid.Resting.{a_chain_has_one_content}
-use Rattle.root_slot.specs.Fields.{capacity_of, first_in, sizes_in}
+use Rattle.root_slot.specs.Fields.{capacity_of, first_in}
 use Rattle.game_file.specs.Kept.{Kept}
-use Rattle.retrograde.specs.Stored.{Stored}
-use Rattle.tree_page.specs.Page.{Item}
-use Rattle.tree_table.specs.declared.tree.Tree.{Tree}
 use Rattle.tree_table.specs.Held.{KeepsTrees, StoresTrees}
-use Rattle.tree_table.specs.Slot.{slot_in, roots_in}
+use Rattle.tree_table.specs.Slot.{slot_in}
 use Rattle.tree_table.specs.Spelled.{table_in}
 use Rattle.tree_table.specs.aid.Spelling.{forest_spells}
 

@@ -1,17 +1,16 @@
-use Rattle.std.proofs.Common.{◌≡◌, ◌≢◌, ◌∙◌, ◌⊎◌, inl, inr, ℕ, ◌≤◌, List, length, false, true, Option, Some, Result, Ok, Err, sym, ap, subst, arith}
+use Rattle.std.proofs.Common.{◌≡◌, ◌≢◌, ◌∙◌, inl, inr, ℕ, ◌≤◌, List, length, false, true, Some, Result, Ok, Err, sym, ap, subst, arith}
 use Rattle.std.specs.Prelude.{OnOk, OnErr, IfErr}
 use Rattle.page_store.specs.Causes.{StoreCommitCause}
 use Rattle.page_store.specs.Store.{Store, IsUnchanged, IsCommitted}
 use Rattle.page_store.specs.declared.fault.PageFault.{PageFault}
 use Rattle.page_store.specs.declared.fault.PageFault.TheVariants.{Disk, NotATable, Damaged, TableFull, OutOfMemory, Closed}
-use Rattle.game_file.specs.Kept.{Kept}
 use Rattle.game_file.specs.Stops.{LeavesTable}
 use Rattle.table_bytes.specs.Numbers.{AreWithinLimits}
 use Rattle.root_slot.specs.Fields.{layout_in, packing_in}
 use Rattle.tree_map.specs.aid.Unchanged.{unchanged_refl}
 use Rattle.tree_table.specs.declared.slot.TreeSlot.{TreeSlot}
 use Rattle.tree_table.specs.Held.{StoresTrees}
-use Rattle.tree_table.specs.Keeping.{IsKeptInTrees, IsWorkedOn}
+use Rattle.tree_table.specs.Keeping.{IsKeptInTrees}
 use Rattle.tree_table.specs.Slot.{slot_in, IsGameTreeSlot}
 use Rattle.tree_table.specs.aid.Keeping.{stop_stores, committed_keeps, unchanged_keeps, unchanged_stop}
 use Rattle.tree_table.proofs.Limits.{within_limits}

@@ -1,4 +1,4 @@
-use Rattle.std.proofs.Common.{◌≡◌, ◌≤◌, ◌^◌, ℕ, List, refl, sym, subst, arith}
+use Rattle.std.proofs.Common.{◌≤◌, ◌^◌, ℕ, List, refl, sym, subst, arith}
 use Rattle.tree_table.specs.Working.{bare_slot, nothing, HoldsTable}
 use Rattle.tree_table.specs.aid.Spelling.{table_is}
 use Rattle.tree_table.proofs.Bare.{bare_holds}
