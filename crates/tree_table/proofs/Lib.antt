@@ -10,3 +10,5 @@ mod KeyOrder
 mod Reading
 mod NextEdges
 mod Holding
+mod Limits
+mod Bare

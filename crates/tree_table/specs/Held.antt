@@ -13,19 +13,24 @@ use Rattle.tree_table.specs.Entries.{AreEntriesOf}
 use Rattle.tree_table.specs.Forest.{IsForest}
 use Rattle.tree_table.specs.Slot.{roots_in, IsEmptyTreeSlot, IsGameTreeSlot}
 
--- the slot is that of a table with a game, and the pages that it names, each of them below the capacity and named once, hold
+-- the slot is that of a table with a game, and these pages, which it names, each of them below the capacity and named once, hold
 -- this text as a chain and four trees whose entries are those of this table. The table's parts fit together, and the slot counts
 -- them right
-pub record KeepsGameTrees (root : List ℕ) (capacity : ℕ) (kept : Kept) (bytes : ℕ → List ℕ) : Type 0 where
+pub record KeepsOnPages (root : List ℕ) (capacity : ℕ) (kept : Kept) (text_pages : List ℕ) (pages : Tree → List ℕ) (bytes : ℕ → List ℕ)
+    : Type 0 where
   pub slot : IsGameTreeSlot root
-  pub text_pages : List ℕ
-  pub pages : Tree → List ℕ
   pub entries : Tree → List Item
   pub forest : IsForest (sizes_in root).packed capacity (first_in root) (roots_in root) kept.text text_pages pages entries bytes
   pub text : length kept.text ≡ (sizes_in root).text
   pub spelled : AreEntriesOf (sizes_in root) entries kept.table
   pub table : IsTable kept.table
   pub counts : counts_of kept.table ≡ (sizes_in root).counts
+
+-- so on some pages
+pub record KeepsGameTrees (root : List ℕ) (capacity : ℕ) (kept : Kept) (bytes : ℕ → List ℕ) : Type 0 where
+  pub text_pages : List ℕ
+  pub pages : Tree → List ℕ
+  pub keeps : KeepsOnPages root capacity kept text_pages pages bytes
 
 -- the slot and the pages spell this table, or an empty one
 abbrev pub KeepsTrees : List ℕ → ℕ → Option Kept → (ℕ → List ℕ) → Type 0

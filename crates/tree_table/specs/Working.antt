@@ -1,5 +1,5 @@
 -- A table on trees in a store of pages: what it is there, and what is left of it by its calls.
-use Rattle.std.specs.Prelude.{◌≡◌, ◌≢◌, ℕ, Bool, true, false, List, length, IsTrue}
+use Rattle.std.specs.Prelude.{◌≡◌, ◌≢◌, ℕ, Bool, true, false, List, [], length, IsTrue}
 use Rattle.sector_disk.specs.Disk.{Grew}
 use Rattle.page_store.specs.Marks.{free_count}
 use Rattle.page_store.specs.Store.{Store, reads, StoreWorks, IsUnchanged}
@@ -91,3 +91,15 @@ pub record WorkFails (old new : Work) (fault : TableFault) : Type 0 where
   pub works : StoreWorks old.store new.store
   pub still : fault ≢ Disk → new.store.closed ≡ old.store.closed
   pub cause : WorkCause old new fault
+
+-- no position, and nothing else
+abbrev pub nothing : Stored (List ℕ)
+nothing = record { positions = []; records = []; has_edge = λ i p. false; order = [] }
+
+-- the slot that names no page, for positions of so many bytes
+abbrev pub bare_slot : ℕ → TreeSlot
+bare_slot n = record {
+  first = 0;
+  sizes = record { text = 0; packed = n; counts = record { known = 0; expanded = 0; settled = 0; processed = 0 }; edges = 0 };
+  roots = record { positions = 0; records = 0; edges = 0; order = 0 };
+}

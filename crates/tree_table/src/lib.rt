@@ -12,7 +12,7 @@ mod slot;
 mod tree;
 mod working;
 
-pub use saving::commit;
+pub use saving::{commit, discard};
 pub use slot::{Slot, TreeSlot, empty_slot, game_slot, read_slot};
 pub use tree::{Roots, Tree, widths_of};
 pub use working::TreeTable;

@@ -1,16 +1,19 @@
 //! A game's table on trees of pages.
-ghost use Rattle.std.specs.Prelude.{◌≡◌, ◌≤◌, ◌^◌};
-ghost use Rattle.tree_table.specs.Working.{HoldsWork, IsHonestWork, table_now, work_of};
+ghost use Rattle.std.specs.Prelude.{◌≡◌, ◌↔◌, ◌≤◌, ◌^◌, [], false, IsTrue};
+ghost use Rattle.tree_table.specs.Working.{HoldsWork, IsHonestWork, bare_slot, nothing, table_now, work_of};
 ghost use Rattle.tree_table.specs.Working as work;
 ghost use Rattle.tree_table.specs.aid.Frames as frames;
 
 use crate::change::{add_edge, add_position, push_settled, set_record};
 use crate::read::{cell_at, edge_after, number_of, settled_at};
 use crate::slot::TreeSlot;
+use crate::tree::Roots;
 use page_store::Pages;
 use position_pack::Packed;
 use retrograde::{Counts, Record};
+use std::alloc::Global;
 use table::{Table, TableFault};
+use table_bytes::Sizes;
 
 /// A game's table on trees of pages. Where the disk is honest and no call that writes has stopped half way, the pages that
 /// its slot names hold it.
@@ -28,6 +31,48 @@ pub struct TreeTable<P: Pages> {
     ghost few: { slot.sizes.counts.known ≤ 2 ^ 24 },
     ghost holds: { IsHonestWork (work_of slot text.items torn (P.store store))
         → ∥ HoldsWork (work_of slot text.items torn (P.store store)) ∥₁ },
+}
+
+impl<P: Pages> TreeTable<P> {
+    ghost use Rattle.tree_table.specs.InTrees.{work_in};
+
+    /// The table of no game in this store, for positions of so many bytes.
+    pub fn empty(alloc: Global, store: P, packed: u32) -> Self
+        requires some { 1 ≤ packed }
+        requires short { packed ≤ 240 }
+        ensures nothing { IsTrue (P.store store).disk.honest → table_now (work_in result) ≡ nothing }
+        ensures honest { IsTrue (P.store store).disk.honest ↔ IsHonestWork (work_in result) }
+        ensures work { work_in result ≡ work_of (bare_slot packed) [] false (P.store store) }
+    {
+        let counts = Counts {
+            known: 0,
+            expanded: 0,
+            settled: 0,
+            processed: 0,
+        };
+        let sizes = Sizes {
+            text: 0,
+            packed,
+            counts,
+            edges: 0,
+        };
+        let roots = Roots {
+            positions: 0,
+            records: 0,
+            edges: 0,
+            order: 0,
+        };
+        TreeTable {
+            store,
+            slot: TreeSlot {
+                first: 0,
+                sizes,
+                roots,
+            },
+            text: Vec::new(alloc),
+            torn: false,
+        }
+    }
 }
 
 impl<P: Pages> Table for TreeTable<P> {

@@ -1,19 +1,22 @@
 -- What pages hold they hold wherever their bytes are the same, below each greater capacity, and after a commit.
-use Rattle.std.specs.Prelude.{◌≡◌, ◌⊎◌, ◌≢◌, ℕ, ◌*◌, ◌≤◌, ◌<◌, true, List, length, Option, None, Some, Contains, IsTrue}
-use Rattle.std.proofs.Common.{inl, inr, refl, sym, ◌∙◌, ap, subst, arith}
+use Rattle.std.specs.Prelude.{◌≡◌, ◌⊎◌, ℕ, ◌*◌, ◌≤◌, true, false, List, length, Option, None, Some, IsTrue}
+use Rattle.std.proofs.Common.{inl, inr, sym, ◌∙◌, ap, subst, arith}
 use Rattle.std.proofs.Math.Nat.{le-min, le-div_iff_mul-le}
-use Rattle.sector_disk.specs.Disk.{Picture, LeavesOnly}
+use Rattle.sector_disk.specs.Disk.{Picture}
 use Rattle.sector_disk.specs.aid.Moments.{leaves_more}
 use Rattle.page_store.specs.Page.{page}
 use Rattle.page_store.specs.declared.marks.Mark.{Mark}
-use Rattle.page_store.specs.declared.marks.Mark.TheVariants.{Committed, Fresh}
-use Rattle.page_store.specs.Marks.{mark, keeps}
-use Rattle.page_store.specs.Spelling.{SpelledBy, Stands, Spells, IsPrepared, IsCarried}
+use Rattle.page_store.specs.declared.marks.Mark.TheVariants.{Committed, Fresh, Free}
+use Rattle.page_store.specs.Marks.{mark, keeps, needs, IsKept, IsNeeded}
+use Rattle.page_store.specs.Spelling.{Stands, Spells, IsPrepared, IsCarried, IsCalm}
 use Rattle.page_store.specs.Store.{Store, reads, StoreWorks, Commits, IsSafe, IsCommitted, IsUnchanged}
-use Rattle.page_store.specs.aid.Carrying.{commit_carries, stop_leaves, works_stands}
+use Rattle.page_store.specs.aid.Carrying.{commit_carries, stop_leaves}
+use Rattle.page_store.specs.aid.Works.{still_needed}
+use Rattle.sector_disk.specs.aid.Moments.{still_honest}
+use Rattle.tree_map.specs.aid.Unchanged.{unchanged_reads}
 use Rattle.page_chain.specs.aid.Resting.{a_chain_rests_on_its_pages, a_chain_fits_more}
 use Rattle.retrograde.specs.Stored.{Stored, IsTable}
-use Rattle.root_slot.specs.Fields.{capacity_of, sizes_in}
+use Rattle.root_slot.specs.Fields.{capacity_of, first_in, sizes_in}
 use Rattle.game_file.specs.Kept.{Kept, kept_as}
 use Rattle.game_file.specs.Stops.{LeavesEither, LeavesNow, LeavesTable}
 use Rattle.tree_page.specs.Page.{Item}
@@ -25,10 +28,10 @@ use Rattle.tree_table.specs.declared.tree.Tree.{Tree}
 use Rattle.tree_table.specs.declared.tree.Roots.{Roots}
 use Rattle.retrograde.specs.Changes.{counts_of}
 use Rattle.tree_table.specs.Entries.{AreEntriesOf}
-use Rattle.tree_table.specs.Forest.{IsForest, IsTreeOf}
-use Rattle.tree_table.specs.Held.{KeepsGameTrees, KeepsTrees, StoresTrees}
-use Rattle.tree_table.specs.Keeping.{IsOneOf, IsKeptInTrees}
-use Rattle.tree_table.specs.Slot.{slot_in, IsGameTreeSlot}
+use Rattle.tree_table.specs.Forest.{IsForest}
+use Rattle.tree_table.specs.Held.{KeepsOnPages, KeepsTrees, StoresTrees}
+use Rattle.tree_table.specs.Keeping.{IsOneOf, KeepsOn, IsKeptInTrees}
+use Rattle.tree_table.specs.Slot.{slot_in, roots_in, IsGameTreeSlot}
 use Rattle.tree_table.specs.Trees.{root_of}
 use Rattle.tree_table.specs.Working.{HoldsTable}
 
@@ -90,17 +93,22 @@ forest_fits_more packed fewer more first roots text text_pages pages entries byt
 pub keeps_in_more_trees : (root : List ℕ) (fewer more : ℕ) (kept : Option Kept) (bytes : ℕ → List ℕ) → fewer ≤ more
     → KeepsTrees root fewer kept bytes → KeepsTrees root more kept bytes
 keeps_in_more_trees root fewer more None bytes le it = it
-keeps_in_more_trees root fewer more (Some kept) bytes le it = record {
-  slot = it.slot;
-  text_pages = it.text_pages;
-  pages = it.pages;
-  entries = it.entries;
-  forest = forest_fits_more (sizes_in root).packed fewer more _ _ kept.text it.text_pages it.pages it.entries bytes le it.forest;
-  text = it.text;
-  spelled = it.spelled;
-  table = it.table;
-  counts = it.counts;
-}
+keeps_in_more_trees root fewer more (Some kept) bytes le it =
+    let keeps = it.keeps in
+    record {
+      text_pages = it.text_pages;
+      pages = it.pages;
+      keeps = record {
+        slot = keeps.slot;
+        entries = keeps.entries;
+        forest = forest_fits_more (sizes_in root).packed fewer more _ _ kept.text it.text_pages it.pages keeps.entries bytes le
+            keeps.forest;
+        text = keeps.text;
+        spelled = keeps.spelled;
+        table = keeps.table;
+        counts = keeps.counts;
+      };
+    }
 
 -- so many pages are within what a picture with room for them has
 within_capacity : (picture : Picture) (c : ℕ) → 8 * c ≤ length picture → c ≤ 1048576 → c ≤ capacity_of picture
@@ -122,47 +130,128 @@ kept_mark : (m : Mark) → (m ≡ Committed) ⊎ (m ≡ Fresh) → keeps m ≡ t
 kept_mark m (inl is) = ap keeps is
 kept_mark m (inr is) = ap keeps is
 
+-- the same pages with other bytes elsewhere
+pub keeps_rests : (text_pages : List ℕ) (pages : Tree → List ℕ) (root : List ℕ) (capacity : ℕ) (kept : Option Kept) (bytes other : ℕ
+    → List ℕ)
+    → ((p : ℕ) → IsOneOf text_pages pages p → other p ≡ bytes p) → KeepsOn text_pages pages root capacity kept bytes
+    → KeepsOn text_pages pages root capacity kept other
+keeps_rests text_pages pages root capacity None bytes other same it = it
+keeps_rests text_pages pages root capacity (Some kept) bytes other same it = record {
+  slot = it.slot;
+  entries = it.entries;
+  forest = forest_rests (sizes_in root).packed capacity (first_in root) (roots_in root) kept.text text_pages pages it.entries bytes
+      it.forest
+      other same;
+  text = it.text;
+  spelled = it.spelled;
+  table = it.table;
+  counts = it.counts;
+}
+
+keeps_some : (text_pages : List ℕ) (pages : Tree → List ℕ) (root : List ℕ) (capacity : ℕ) (kept : Option Kept) (bytes : ℕ → List ℕ)
+    → KeepsOn text_pages pages root capacity kept bytes → KeepsTrees root capacity kept bytes
+keeps_some text_pages pages root capacity None bytes it = it
+keeps_some text_pages pages root capacity (Some kept) bytes it = record { text_pages = text_pages; pages = pages; keeps = it }
+
+keeps_as : (text_pages : List ℕ) (pages : Tree → List ℕ) (root root_now : List ℕ) (capacity capacity_now : ℕ) (kept : Option Kept)
+    (bytes : ℕ → List ℕ) → root ≡ root_now → capacity ≡ capacity_now → KeepsOn text_pages pages root capacity kept bytes
+    → KeepsOn text_pages pages root_now capacity_now kept bytes
+keeps_as text_pages pages root root_now capacity capacity_now kept bytes roots capacities it =
+    subst (λ (r : List ℕ). KeepsOn text_pages pages r capacity_now kept bytes) roots
+    (subst (λ (n : ℕ). KeepsOn text_pages pages root n kept bytes) capacities it)
+
+-- what is kept stands
+pub kept_stands : (store : Store) (kept : Option Kept) (it : IsKeptInTrees store kept)
+    → Stands (IsOneOf it.text_pages it.pages) (KeepsTrees store.root (length store.marks) kept) store
+kept_stands store kept it = record {
+  spelled = record {
+    anywhere = λ other same. keeps_some it.text_pages it.pages store.root (length store.marks) kept other
+        (keeps_rests it.text_pages it.pages store.root (length store.marks) kept (reads store) other same it.keeps);
+  };
+  needed = it.needed;
+}
+
+-- a call that commits nothing keeps what is kept
+pub works_keeps : (old new : Store) (kept : Option Kept) → IsTrue old.disk.honest → StoreWorks old new → IsKeptInTrees old kept
+    → IsKeptInTrees new kept
+works_keeps old new kept honest works it = record {
+  text_pages = it.text_pages;
+  pages = it.pages;
+  keeps = keeps_as it.text_pages it.pages old.root new.root (length old.marks) (length new.marks) kept (reads new) (sym works.root)
+      (sym works.same_pages)
+      (keeps_rests it.text_pages it.pages old.root (length old.marks) kept (reads old) (reads new)
+      (λ p here. works.reads honest p (it.needed p here)) it.keeps);
+  needed = λ p here. still_needed works p (it.needed p here);
+}
+
+-- and a stop leaves it
+pub kept_stays : (store : Store) (kept : Option Kept) → 16 ≤ length store.marks → length store.marks ≤ 1048576 → IsKeptInTrees store kept
+    → IsSafe store → LeavesNow StoresTrees store.disk kept
+kept_stays store kept enough few it safe picture left =
+    spells_stores_trees store.root (length store.marks) kept picture enough few
+    (stop_leaves store (kept_stands store kept it) safe picture left)
+
+calm_held : (m : Mark) → (m ≡ Committed) ⊎ (m ≡ Free) → needs m ≡ true → m ≡ Committed
+calm_held m (inl is) needed = is
+calm_held m (inr is) needed = let never : false ≡ true = ap needs (sym is) ∙ needed in absurd (cc)
+
+-- between commands what is kept is held by pages in use
+pub kept_is_held : (store : Store) (kept : Kept) → IsCalm store → IsKeptInTrees store (Some kept)
+    → HoldsTable (slot_in store.root) kept.text kept.table store
+kept_is_held store kept calm it = record {
+  entries = it.keeps.entries;
+  forest = record {
+    text_pages = it.text_pages;
+    pages = it.pages;
+    forest = it.keeps.forest;
+    text_held = λ p here. inl (calm_held (mark store.marks p) (calm.each p) (it.needed p (inl here)).2);
+    held = λ t p here. inl (calm_held (mark store.marks p) (calm.each p) (it.needed p (inr (t, here))).2);
+  };
+  spelled = it.keeps.spelled;
+  counts = it.keeps.counts;
+}
+
 -- a slot of these bytes, where the pages hold a table, is prepared for the next commit
 module _ (root : List ℕ) (slot : TreeSlot) (text : List ℕ) (table : Stored (List ℕ)) (store : Store) (is_game : IsGameTreeSlot root)
     (is : slot_in root ≡ slot) (long : length text ≡ slot.sizes.text) (whole : IsTable table) (h : HoldsTable slot text table store) where
-  keeps_as : (capacity : ℕ) → capacity ≡ length store.marks → (bytes : ℕ → List ℕ)
-      → IsForest slot.sizes.packed (length store.marks) slot.first slot.roots text h.forest.text_pages h.forest.pages h.entries bytes
-      → KeepsTrees root capacity (Some (kept_as text table)) bytes
-  keeps_as capacity same bytes forest =
-      subst (λ (n : ℕ). KeepsTrees root n (Some (kept_as text table)) bytes) (sym same)
-      (let back : slot ≡ slot_in root = sym is in
+  held_keeps : KeepsOnPages root (length store.marks) (kept_as text table) h.forest.text_pages h.forest.pages (reads store)
+  held_keeps =
+      let back : slot ≡ slot_in root = sym is in
       record {
         slot = is_game;
-        text_pages = h.forest.text_pages;
-        pages = h.forest.pages;
         entries = h.entries;
         forest = subst (λ (s : TreeSlot). IsForest s.sizes.packed (length store.marks) s.first s.roots text h.forest.text_pages
             h.forest.pages
-            h.entries bytes) back forest;
+            h.entries (reads store)) back h.forest.forest;
         text = subst (λ (s : TreeSlot). length text ≡ s.sizes.text) back long;
         spelled = subst (λ (s : TreeSlot). AreEntriesOf s.sizes h.entries table) back h.spelled;
         table = whole;
         counts = subst (λ (s : TreeSlot). counts_of table ≡ s.sizes.counts) back h.counts;
-      })
+      }
+
+  named_kept : (p : ℕ) → IsOneOf h.forest.text_pages h.forest.pages p → IsKept store.marks p
+  named_kept p (inl here) =
+      let (some, low) = h.forest.forest.chain.within p here in
+      (some, low, kept_mark (mark store.marks p) (h.forest.text_held p here))
+  named_kept p (inr (t, here)) =
+      let tree = h.forest.forest.trees t in
+      (a_map_is_prepared tree.widths (length store.marks) (root_of slot.roots t) (h.forest.pages t) (h.entries t) store (omega arith)
+      tree.map
+      (h.forest.held t)).kept p here
 
   pub table_is_prepared : (capacity : ℕ) → capacity ≡ length store.marks
       → IsPrepared (IsOneOf h.forest.text_pages h.forest.pages) (KeepsTrees root capacity (Some (kept_as text table))) store
   table_is_prepared capacity same = record {
     spelled = record {
-      anywhere = λ other agree. keeps_as capacity same other
-          (forest_rests slot.sizes.packed (length store.marks) slot.first slot.roots text h.forest.text_pages h.forest.pages h.entries
-          (reads store) h.forest.forest other agree);
+      anywhere = λ other agree. subst (λ (n : ℕ). KeepsTrees root n (Some (kept_as text table)) other) (sym same) (record {
+        text_pages = h.forest.text_pages;
+        pages = h.forest.pages;
+        keeps = keeps_rests h.forest.text_pages h.forest.pages root (length store.marks) (Some (kept_as text table)) (reads store) other
+            agree
+            held_keeps;
+      });
     };
-    kept = λ p named. elim named [
-      | inl here ↦
-          let (some, low) = h.forest.forest.chain.within p here in
-          (some, low, kept_mark (mark store.marks p) (h.forest.text_held p here))
-      | inr (t, here) ↦
-          let tree = h.forest.forest.trees t in
-          (a_map_is_prepared tree.widths (length store.marks) (root_of slot.roots t) (h.forest.pages t) (h.entries t) store (omega arith)
-          tree.map
-          (h.forest.held t)).kept p here
-    ];
+    kept = named_kept;
   }
 
   -- work and then a commit of it: a stop leaves what was kept, or this
@@ -173,8 +262,8 @@ module _ (root : List ℕ) (slot : TreeSlot) (text : List ℕ) (table : Stored (
     carried : IsCarried root (IsOneOf kept.text_pages kept.pages) (KeepsTrees begun.root (length begun.marks) was)
         (IsOneOf h.forest.text_pages h.forest.pages) (KeepsTrees root (length begun.marks) (Some (kept_as text table))) begun store new
     carried =
-        commit_carries root begun store new honest safe kept.stands works (table_is_prepared (length begun.marks) (sym works.same_pages))
-        commits
+        commit_carries root begun store new honest safe (kept_stands begun was kept) works
+        (table_is_prepared (length begun.marks) (sym works.same_pages)) commits
 
     pub stop_stores : LeavesEither StoresTrees begun.disk new.disk was (Some (kept_as text table))
     stop_stores =
@@ -184,49 +273,32 @@ module _ (root : List ℕ) (slot : TreeSlot) (text : List ℕ) (table : Stored (
         ]) carried.stop
 
     pub committed_keeps : IsCommitted root store new → IsKeptInTrees new (Some (kept_as text table))
-    committed_keeps committed =
-        let same : length new.marks ≡ length begun.marks = committed.marks.same_length ∙ works.same_pages in
-        record {
-          text_pages = h.forest.text_pages;
-          pages = h.forest.pages;
-          stands = subst (λ (X : Type 0). X)
-              (λ i. Stands (IsOneOf h.forest.text_pages h.forest.pages)
-              (KeepsTrees (sym committed.is i) (sym same i) (Some (kept_as text table))) new) (carried.done committed);
-        }
+    committed_keeps committed = record {
+      text_pages = h.forest.text_pages;
+      pages = h.forest.pages;
+      keeps = keeps_as h.forest.text_pages h.forest.pages root new.root (length store.marks) (length new.marks) (Some (kept_as text table))
+          (reads new) (sym committed.is) (sym committed.marks.same_length)
+          (keeps_rests h.forest.text_pages h.forest.pages root (length store.marks) (Some (kept_as text table)) (reads store) (reads new)
+          (λ p here. committed.reads (still_honest works.goes_on honest) p (named_kept p here).0) held_keeps);
+      needed = λ p here. (carried.done committed).needed p here;
+    }
 
     -- where the commit left the store as it was, what was kept still is
     pub unchanged_keeps : IsUnchanged store new → IsKeptInTrees new was
     unchanged_keeps unchanged =
-        let same : length new.marks ≡ length begun.marks = ap length unchanged.marks ∙ works.same_pages in
-        let root_is : new.root ≡ begun.root = unchanged.root ∙ works.root in
+        let mid = works_keeps begun store was honest works kept in
+        let now = still_honest works.goes_on honest in
         record {
-          text_pages = kept.text_pages;
-          pages = kept.pages;
-          stands = subst (λ (X : Type 0). X)
-              (λ i. Stands (IsOneOf kept.text_pages kept.pages) (KeepsTrees (sym root_is i) (sym same i) was) new) (carried.left unchanged);
+          text_pages = mid.text_pages;
+          pages = mid.pages;
+          keeps = keeps_as mid.text_pages mid.pages store.root new.root (length store.marks) (length new.marks) was (reads new)
+              (sym unchanged.root) (sym (ap length unchanged.marks))
+              (keeps_rests mid.text_pages mid.pages store.root (length store.marks) was (reads store) (reads new)
+              (λ p here. ap (λ (bytes : ℕ → List ℕ). bytes p) (unchanged_reads store new now unchanged)) mid.keeps);
+          needed = λ p here. subst (λ (ms : List Mark). IsNeeded ms p) (sym unchanged.marks) (mid.needed p here);
         }
 
     pub unchanged_stop : IsUnchanged store new → LeavesTable StoresTrees begun.disk new.disk was
     unchanged_stop unchanged =
         leaves_more (λ picture left. spells_stores_trees begun.root (length begun.marks) was picture enough few left)
         (carried.left_stop unchanged)
-
--- a call that commits nothing keeps what is kept
-pub works_keeps : (old new : Store) (kept : Option Kept) → IsTrue old.disk.honest → StoreWorks old new → IsKeptInTrees old kept
-    → IsKeptInTrees new kept
-works_keeps old new kept honest works it = record {
-  text_pages = it.text_pages;
-  pages = it.pages;
-  stands = subst (λ (X : Type 0). X)
-      (λ i. Stands (IsOneOf it.text_pages it.pages) (KeepsTrees (sym works.root i) (length_is i) kept) new)
-      (works_stands old new honest works it.stands);
-}
-  where
-    length_is : length old.marks ≡ length new.marks
-    length_is = sym works.same_pages
-
--- and a stop leaves it
-pub kept_stays : (store : Store) (kept : Option Kept) → 16 ≤ length store.marks → length store.marks ≤ 1048576 → IsKeptInTrees store kept
-    → IsSafe store → LeavesNow StoresTrees store.disk kept
-kept_stays store kept enough few it safe picture left =
-    spells_stores_trees store.root (length store.marks) kept picture enough few (stop_leaves store it.stands safe picture left)

@@ -1,16 +1,13 @@
 -- A picture of the disk stores one table at most.
-use Rattle.std.specs.Prelude.{◌≡◌, ℕ, ◌≤◌, List, length, Option, None, Some}
+use Rattle.std.specs.Prelude.{◌≡◌, ℕ, List, Option, None, Some}
 use Rattle.std.proofs.Common.{refl, sym, ◌∙◌, subst, arith}
 use Rattle.sector_disk.specs.Disk.{Picture}
 use Rattle.page_store.specs.Page.{page}
 use Rattle.page_chain.specs.aid.Resting.{a_chain_has_one_content}
-use Rattle.root_slot.specs.Fields.{capacity_of, first_in, sizes_in}
+use Rattle.root_slot.specs.Fields.{capacity_of, first_in}
 use Rattle.game_file.specs.Kept.{Kept}
-use Rattle.retrograde.specs.Stored.{Stored}
-use Rattle.tree_page.specs.Page.{Item}
-use Rattle.tree_table.specs.declared.tree.Tree.{Tree}
 use Rattle.tree_table.specs.Held.{KeepsTrees, StoresTrees}
-use Rattle.tree_table.specs.Slot.{slot_in, roots_in}
+use Rattle.tree_table.specs.Slot.{slot_in}
 use Rattle.tree_table.specs.Spelled.{table_in}
 use Rattle.tree_table.specs.aid.Spelling.{forest_spells}
 
@@ -19,16 +16,18 @@ pub a_root_keeps_one_tree_table : (root : List ℕ) (capacity : ℕ) (one other 
     → KeepsTrees root capacity one bytes
     → KeepsTrees root capacity other bytes → one ≡ other
 a_root_keeps_one_tree_table root capacity None None bytes a b = refl
-a_root_keeps_one_tree_table root capacity None (Some l) bytes a b = absurd (omega (arith, a.packing, b.slot.packing))
-a_root_keeps_one_tree_table root capacity (Some k) None bytes a b = absurd (omega (arith, a.slot.packing, b.packing))
+a_root_keeps_one_tree_table root capacity None (Some l) bytes a b = absurd (omega (arith, a.packing, b.keeps.slot.packing))
+a_root_keeps_one_tree_table root capacity (Some k) None bytes a b = absurd (omega (arith, a.keeps.slot.packing, b.packing))
 a_root_keeps_one_tree_table root capacity (Some k) (Some l) bytes a b =
     let texts =
-    a_chain_has_one_content capacity (first_in root) a.text_pages b.text_pages k.text l.text bytes a.forest.chain b.forest.chain (a.text
-    ∙ sym b.text) in
+    a_chain_has_one_content capacity (first_in root) a.text_pages b.text_pages k.text l.text bytes a.keeps.forest.chain b.keeps.forest.chain
+    (a.keeps.text ∙ sym b.keeps.text) in
     let one : table_in (slot_in root) bytes ≡ k.table =
-    forest_spells (slot_in root) capacity a.pages a.entries bytes k.table a.slot.limits.known a.forest.trees a.spelled in
+    forest_spells (slot_in root) capacity a.pages a.keeps.entries bytes k.table a.keeps.slot.limits.known a.keeps.forest.trees
+    a.keeps.spelled in
     let other : table_in (slot_in root) bytes ≡ l.table =
-    forest_spells (slot_in root) capacity b.pages b.entries bytes l.table b.slot.limits.known b.forest.trees b.spelled in
+    forest_spells (slot_in root) capacity b.pages b.keeps.entries bytes l.table b.keeps.slot.limits.known b.keeps.forest.trees
+    b.keeps.spelled in
     let tables : k.table ≡ l.table = sym one ∙ other in
     λ i. Some (record { text = texts.1 i; table = tables i })
 

@@ -1,19 +1,19 @@
-use Rattle.std.proofs.Common.{◌≡◌, ◌≢◌, ◌∙◌, ◌⊎◌, inl, inr, ℕ, ◌≤◌, List, length, false, true, Option, Some, Result, Ok, Err, sym, ap, subst, arith}
+use Rattle.std.proofs.Common.{◌≡◌, ◌≢◌, ◌∙◌, inl, inr, ℕ, ◌≤◌, List, length, false, true, Some, Result, Ok, Err, sym, ap, subst, arith}
 use Rattle.std.specs.Prelude.{OnOk, OnErr, IfErr}
 use Rattle.page_store.specs.Causes.{StoreCommitCause}
 use Rattle.page_store.specs.Store.{Store, IsUnchanged, IsCommitted}
 use Rattle.page_store.specs.declared.fault.PageFault.{PageFault}
 use Rattle.page_store.specs.declared.fault.PageFault.TheVariants.{Disk, NotATable, Damaged, TableFull, OutOfMemory, Closed}
-use Rattle.game_file.specs.Kept.{Kept}
 use Rattle.game_file.specs.Stops.{LeavesTable}
 use Rattle.table_bytes.specs.Numbers.{AreWithinLimits}
 use Rattle.root_slot.specs.Fields.{layout_in, packing_in}
 use Rattle.tree_map.specs.aid.Unchanged.{unchanged_refl}
 use Rattle.tree_table.specs.declared.slot.TreeSlot.{TreeSlot}
 use Rattle.tree_table.specs.Held.{StoresTrees}
-use Rattle.tree_table.specs.Keeping.{IsKeptInTrees, IsWorkedOn}
+use Rattle.tree_table.specs.Keeping.{IsKeptInTrees}
 use Rattle.tree_table.specs.Slot.{slot_in, IsGameTreeSlot}
 use Rattle.tree_table.specs.aid.Keeping.{stop_stores, committed_keeps, unchanged_keeps, unchanged_stop}
+use Rattle.tree_table.proofs.Limits.{within_limits}
 use Rattle.tree_table.proofs.saving.commit.Goals as goal
 
 on_ok : {X E : Type 0} (P Q : Type 0) (r : Result X E) → (P → Q) → OnOk r P → OnOk r Q
@@ -59,7 +59,7 @@ returns-clause-stop g c = λ begun was is it.
     let told = c.game_slot-root.ensures in
     let old = g.P.Pages.store c.args.store.now in
     let few : length begun.marks ≤ 1048576 = omega (arith, (g.met.P.Pages.sound c.args.store.now).few, it.works.same_pages) in
-    stop_stores root c.args.slot.now is.text is.table old (game root c.args.slot.now told.layout told.packing told.slot it.limits it.some) told.slot it.text it.table it.holds
+    stop_stores root c.args.slot.now is.text is.table old (game root c.args.slot.now told.layout told.packing told.slot (within_limits is.table c.args.slot.now.sizes it.table it.holds.counts it.short it.packed it.few) it.some) told.slot it.text it.table it.holds
     begun (g.P.Pages.store c.commit.new.self) was it.honest it.safe it.kept it.works c.commit.ensures.commits it.enough few
 
 pub returns-clause-done : goal.returns-clause-done
@@ -70,7 +70,7 @@ returns-clause-done g c = λ begun was is it.
     let new = g.P.Pages.store c.commit.new.self in
     let few : length begun.marks ≤ 1048576 = omega (arith, (g.met.P.Pages.sound c.args.store.now).few, it.works.same_pages) in
     on_ok (IsCommitted root old new) (IsKeptInTrees new (Some is)) c.commit.result
-    (committed_keeps root c.args.slot.now is.text is.table old (game root c.args.slot.now told.layout told.packing told.slot it.limits it.some) told.slot it.text it.table it.holds
+    (committed_keeps root c.args.slot.now is.text is.table old (game root c.args.slot.now told.layout told.packing told.slot (within_limits is.table c.args.slot.now.sizes it.table it.holds.counts it.short it.packed it.few) it.some) told.slot it.text it.table it.holds
     begun new was it.honest it.safe it.kept it.works c.commit.ensures.commits it.enough few) c.commit.ensures.ok
 
 pub returns-clause-kept : goal.returns-clause-kept
@@ -82,7 +82,7 @@ returns-clause-kept g c = λ begun was is it.
     let few : length begun.marks ≤ 1048576 = omega (arith, (g.met.P.Pages.sound c.args.store.now).few, it.works.same_pages) in
     on_err (new.closed ≡ false → IsUnchanged old new) (new.closed ≡ false → IsKeptInTrees new was) c.commit.result
     (λ so is_open.
-    unchanged_keeps root c.args.slot.now is.text is.table old (game root c.args.slot.now told.layout told.packing told.slot it.limits it.some) told.slot it.text it.table it.holds
+    unchanged_keeps root c.args.slot.now is.text is.table old (game root c.args.slot.now told.layout told.packing told.slot (within_limits is.table c.args.slot.now.sizes it.table it.holds.counts it.short it.packed it.few) it.some) told.slot it.text it.table it.holds
     begun new was it.honest it.safe it.kept it.works c.commit.ensures.commits it.enough few (so is_open))
     (refused old new c.commit.result c.commit.ensures.cause c.commit.ensures.untouched)
 
@@ -95,6 +95,6 @@ returns-clause-kept_stop g c = λ begun was is it.
     let few : length begun.marks ≤ 1048576 = omega (arith, (g.met.P.Pages.sound c.args.store.now).few, it.works.same_pages) in
     on_err (new.closed ≡ false → IsUnchanged old new) (new.closed ≡ false → LeavesTable StoresTrees begun.disk new.disk was) c.commit.result
     (λ so is_open.
-    unchanged_stop root c.args.slot.now is.text is.table old (game root c.args.slot.now told.layout told.packing told.slot it.limits it.some) told.slot it.text it.table it.holds
+    unchanged_stop root c.args.slot.now is.text is.table old (game root c.args.slot.now told.layout told.packing told.slot (within_limits is.table c.args.slot.now.sizes it.table it.holds.counts it.short it.packed it.few) it.some) told.slot it.text it.table it.holds
     begun new was it.honest it.safe it.kept it.works c.commit.ensures.commits it.enough few (so is_open))
     (refused old new c.commit.result c.commit.ensures.cause c.commit.ensures.untouched)

@@ -1,8 +1,7 @@
 use Rattle.std.proofs.Common.{◌≡◌, ◌∙◌, arith}
 use Rattle.root_slot.specs.Fields.{word_at, long_at}
 use Rattle.root_slot.specs.aid.Words.{long_same}
-use Rattle.tree_table.specs.Slot.{roots_in, slot_in}
-use Rattle.tree_table.specs.declared.tree.Roots.{Roots}
+use Rattle.tree_table.specs.Slot.{slot_in}
 use Rattle.tree_table.proofs.slot.game_slot.Goals as goal
 
 pub returns-clause-layout : goal.returns-clause-layout

@@ -1,0 +1,5 @@
+//! Tests of tables on trees of pages.
+#![tactic(auto)]
+
+#[cfg(test)]
+mod take_tests;
