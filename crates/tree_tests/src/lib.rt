@@ -12,6 +12,8 @@ mod depth_tests;
 #[cfg(test)]
 mod form_tests;
 #[cfg(test)]
+mod full_tests;
+#[cfg(test)]
 mod growth_tests;
 #[cfg(test)]
 mod pages;
