@@ -216,5 +216,5 @@ put_fails slot old new w tree root page.NotATable keys values is cause = absurd 
 put_fails slot old new w tree root page.Damaged keys values is cause =
     λ honest text entries h. cause honest (h.pages tree) (entries tree) (map_in slot text entries old w tree root keys values is h)
 put_fails slot old new w tree root page.TableFull keys values is cause = cause
-put_fails slot old new w tree root page.OutOfMemory keys values is cause = tt
+put_fails slot old new w tree root page.OutOfMemory keys values is cause = absurd cause
 put_fails slot old new w tree root page.Closed keys values is cause = cause

@@ -1,5 +1,5 @@
 -- Why what a slot names is not read or changed.
-use Rattle.std.specs.Prelude.{◌≡◌, ℕ, true, List, IsTrue}
+use Rattle.std.specs.Prelude.{◌≡◌, ◌≢◌, ℕ, true, List, length, IsTrue}
 use Rattle.sector_disk.specs.Disk.{Grew}
 use Rattle.page_store.specs.Marks.{free_count}
 use Rattle.page_store.specs.Store.{Store}
@@ -27,10 +27,15 @@ ReadCause HasNone slot old new TableFull = ⊥
 ReadCause HasNone slot old new OutOfMemory = ⊥
 ReadCause HasNone slot old new Closed = old.closed ≡ true
 
--- nothing is changed: or a page is needed and none is free, or memory is short
+-- nothing is changed: or a page is needed and none is free
 abbrev pub ChangeCause : (TreeSlot → Store → Type 0) → TreeSlot → Store → Store → TableFault → Type 0
 ChangeCause HasNone slot old new Disk = Grew old.failures new.failures
 ChangeCause HasNone slot old new Damaged = HasNone slot old
 ChangeCause HasNone slot old new TableFull = free_count new.marks ≡ 0
-ChangeCause HasNone slot old new OutOfMemory = Unit {0}
+ChangeCause HasNone slot old new OutOfMemory = ⊥
 ChangeCause HasNone slot old new Closed = old.closed ≡ true
+
+-- no position is added: or it has not as many bytes as the others, which is told as want of memory
+abbrev pub AddCause : List ℕ → TreeSlot → Store → Store → TableFault → Type 0
+AddCause position slot old new OutOfMemory = length position ≢ slot.sizes.packed
+AddCause position slot old new fault = ChangeCause HasNoTable slot old new fault

@@ -6,7 +6,7 @@ ghost use Rattle.retrograde.specs.Stored.{Stored};
 ghost use Rattle.table.specs.declared.fault.TableFault.TheVariants.{Disk};
 ghost use Rattle.tree_page.specs.Page.{Item};
 ghost use Rattle.tree_table.specs.declared.tree.Tree.{Tree};
-ghost use Rattle.tree_table.specs.Causes.{HasNoForest, HasNoTable, ChangeCause};
+ghost use Rattle.tree_table.specs.Causes.{HasNoForest, HasNoTable, AddCause, ChangeCause};
 ghost use Rattle.tree_table.specs.Trees.{key_width, value_width};
 ghost use Rattle.tree_table.specs.Working.{HoldsForest, HoldsTable, with_entry};
 ghost use Rattle.tree_table.specs.aid.Slots.{IsSameButRoots, IsSameFrame, counts_with, recounted};
@@ -85,7 +85,7 @@ pub fn add_position<P: Pages>(
     ensures works { StoreWorks (P.store store.old) (P.store store.new) }
     ensures open { OnOk result ((P.store store.new).closed ≡ (P.store store.old).closed) }
     ensures still { IfErr result (λ fault. fault ≢ Disk → (P.store store.new).closed ≡ (P.store store.old).closed) }
-    ensures cause { IfErr result (ChangeCause HasNoTable slot (P.store store.old) (P.store store.new)) }
+    ensures cause { IfErr result (AddCause packed.now.items slot (P.store store.old) (P.store store.new)) }
 {
     if packed.len() != slot.sizes.packed as usize {
         return Err(TableFault::OutOfMemory);

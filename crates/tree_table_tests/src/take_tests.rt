@@ -40,7 +40,12 @@ fn on_trees(alloc: Global, source: &Source) -> Result<TreeTable<PageStore<MemDis
 }
 
 /// Does so many units of work, or fewer where the table is finished.
-fn worked<T: Table>(alloc: Global, source: &Source, table: &mut T, units: u32) -> Result<u32, Fail> {
+fn worked<T: Table>(
+    alloc: Global,
+    source: &Source,
+    table: &mut T,
+    units: u32,
+) -> Result<u32, Fail> {
     if table.counts().known > MAX_POSITIONS {
         return Err("there are too many positions".into());
     }
@@ -95,17 +100,22 @@ fn expect_order<T: Table>(table: &mut T, order: &[u32]) -> Result<(), Fail> {
     Ok(())
 }
 
+/// Expects of the table of a game that was just loaded what the table in memory says, after each unit of work up to the last
+/// of fourteen.
+fn expect_units<T: Table>(alloc: Global, source: &Source, table: &mut T) -> Result<(), Fail> {
+    let mut memory = MemTable::new(alloc, &source.start())?;
+    for done in 0..=14 {
+        expect_same(table, &mut memory)?;
+        let more = worked(alloc, source, table, 1)?;
+        expect(more, if done < 14 { 1 } else { 0 }, done)?;
+        worked(alloc, source, &mut memory, 1)?;
+    }
+    expect_order(table, &ORDER)
+}
+
 #[test]
 fn takes_on_trees_are_takes_in_memory(rt: HostRuntime) -> Result<(), Fail> {
-    let alloc = rt.alloc();
-    let source = Source::read(alloc, TAKE.as_bytes())?;
-    let mut memory = MemTable::new(alloc, &source.start())?;
-    let mut table = on_trees(alloc, &source)?;
-    for done in 0..=14 {
-        expect_same(&mut table, &mut memory)?;
-        let more = worked(alloc, &source, &mut table, 1)?;
-        expect(more, if done < 14 { 1 } else { 0 }, done)?;
-        worked(alloc, &source, &mut memory, 1)?;
-    }
-    expect_order(&mut table, &ORDER)
+    let source = Source::read(rt.alloc(), TAKE.as_bytes())?;
+    let mut table = on_trees(rt.alloc(), &source)?;
+    expect_units(rt.alloc(), &source, &mut table)
 }

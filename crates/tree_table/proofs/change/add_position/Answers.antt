@@ -7,7 +7,7 @@ use Rattle.tree_table.specs.Working.{HoldsForest, HoldsTable, with_entry}
 use Rattle.page_store.specs.aid.Works.{works_refl, works_then}
 use Rattle.sector_disk.specs.aid.Moments.{still_honest}
 use Rattle.tree_table.specs.Causes.{HasNoForest, HasNoTable}
-use Rattle.tree_table.proofs.Faults.{passed_on, change_for, change_since}
+use Rattle.tree_table.proofs.Faults.{passed_on, change_for, change_since, add_for}
 use Rattle.tree_table.proofs.Tables.{plain_cell, slot_of, known_as, position_added}
 use Rattle.tree_table.proofs.change.add_position.Goals as goal
 
@@ -17,8 +17,9 @@ returns-then-len-slot-clause-works g c = works_refl _
 pub returns-in_err-slot-clause-cause : goal.returns-in_err-slot-clause-cause
 returns-in_err-slot-clause-cause g c =
     passed_on _ c.from_residual.result _ c.from_residual.ensures
+    (add_for c.args.packed.now.items c.args.slot (g.P.Pages.store c.args.store.now) (g.P.Pages.store c.put_in.new.store) _
     (change_for HasNoForest HasNoTable c.args.slot c.args.slot (g.P.Pages.store c.args.store.now) (g.P.Pages.store c.put_in.new.store) _ (λ none honest text table h. none honest text h.entries h.forest)
-    c.in_err-slot.ensures.cause)
+    c.in_err-slot.ensures.cause))
 
 pub returns-in_err-slot-2-clause-works : goal.returns-in_err-slot-2-clause-works
 returns-in_err-slot-2-clause-works g c = works_then c.in_ok-slot.ensures.works c.in_err-slot-2.ensures.works
@@ -27,9 +28,10 @@ pub returns-in_err-slot-2-clause-cause : goal.returns-in_err-slot-2-clause-cause
 returns-in_err-slot-2-clause-cause g c =
     let works = c.in_ok-slot.ensures.works in
     passed_on _ c.from_residual-in_err-slot-2.result _ c.from_residual-in_err-slot-2.ensures
+    (add_for c.args.packed.now.items c.args.slot (g.P.Pages.store c.args.store.now) (g.P.Pages.store c.put_in-2.new.store) _
     (change_since HasNoForest HasNoTable c.args.slot c.in_ok-slot.slot (g.P.Pages.store c.args.store.now) (g.P.Pages.store c.put_in.new.store) (g.P.Pages.store c.put_in-2.new.store) _ works c.in_ok-slot.ensures.open
     (λ none honest text table h. none (still_honest works.goes_on honest) text _ (c.in_ok-slot.ensures.map honest text h.entries h.forest))
-    c.in_err-slot-2.ensures.cause)
+    c.in_err-slot-2.ensures.cause))
 
 pub returns-clause-works : goal.returns-clause-works
 returns-clause-works g c = works_then c.in_ok-slot.ensures.works c.in_ok-slot-2.ensures.works
