@@ -93,6 +93,7 @@ pub trait Pages {
         ensures after { IsTrue (store self.old).disk.honest
             → OnOk result (StopLeaves (store self.new) (SavedAs root.now (store self.old))) }
         ensures ok { OnOk result (IsCommitted root.now (store self.old) (store self.new)) }
+        ensures kept_pages { IsTrue (store self.old).disk.honest → (p : ℕ) → 1 ≤ p → reads (store self.new) p ≡ reads (store self.old) p }
         ensures kept_root { OnErr result ((store self.new).root ≡ (store self.old).root) }
         ensures kept_marks { OnErr result ((store self.new).marks ≡ (store self.old).marks) }
         ensures untouched { IfErr result (λ fault. fault ≢ PageFault.Disk → store self.new ≡ store self.old) }

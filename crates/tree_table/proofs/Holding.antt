@@ -42,8 +42,8 @@ module _ (a b : Work) (now : Stored (List ℕ)) (few : b.slot.sizes.counts.known
   pub now_stored : (IsHonestWork a → ∥ HoldsWork a ∥₁) → IsHonestWork a → table_now b ≡ now
   now_stored holds honest = ∥∥₁_elim (holds honest) (stored_prop (table_now b) now) (λ (h : HoldsWork a). table_is b.slot b.text now b.store few (changed honest h))
 
-  pub now_goes_on : b.store.closed ≡ a.store.closed → WorkGoesOn a b
-  now_goes_on still = record { works = works; still = still; text = text; torn = torn; holds = now_holds }
+  pub now_goes_on : b.store.closed ≡ a.store.closed → b.slot.sizes.text ≡ a.slot.sizes.text → WorkGoesOn a b
+  now_goes_on still long = record { works = works; still = still; text = text; torn = torn; long = long; holds = now_holds }
 
 -- a call that reads
 pub still_held : (a b : Work) → WorkStays a b → (IsHonestWork a → ∥ HoldsWork a ∥₁) → IsHonestWork b → ∥ HoldsWork b ∥₁
@@ -53,7 +53,7 @@ still_held a b stays holds honest =
 
 -- why one fails
 pub read_fails_so : (a b : Work) (fault : TableFault) → WorkStays a b → ReadCause HasNoTable a.slot a.store b.store fault → WorkFails a b fault
-read_fails_so a b fault stays cause = record { works = stays.works; still = λ other. stays.unchanged.closed; cause = so fault cause }
+read_fails_so a b fault stays cause = record { works = stays.works; still = λ other. stays.unchanged.closed; text = stays.text; cause = so fault cause }
   where
     so : (f : TableFault) → ReadCause HasNoTable a.slot a.store b.store f → WorkCause a b f
     so Disk grew = grew
@@ -65,8 +65,8 @@ read_fails_so a b fault stays cause = record { works = stays.works; still = λ o
 pub needs_no_page : (slot : TreeSlot) (old new : Store) (fault : TableFault) → ReadCause HasNoTable slot old new fault → NeedsNoPage fault
 needs_no_page slot old new fault cause = λ is. subst (λ (f : TableFault). ReadCause HasNoTable slot old new f) is cause
 
-pub change_fails_so : (a b : Work) (fault : TableFault) → StoreWorks a.store b.store → (fault ≢ Disk → b.store.closed ≡ a.store.closed) → ChangeCause HasNoTable a.slot a.store b.store fault → WorkFails a b fault
-change_fails_so a b fault works still cause = record { works = works; still = still; cause = so fault cause }
+pub change_fails_so : (a b : Work) (fault : TableFault) → StoreWorks a.store b.store → (fault ≢ Disk → b.store.closed ≡ a.store.closed) → b.text ≡ a.text → ChangeCause HasNoTable a.slot a.store b.store fault → WorkFails a b fault
+change_fails_so a b fault works still text cause = record { works = works; still = still; text = text; cause = so fault cause }
   where
     so : (f : TableFault) → ChangeCause HasNoTable a.slot a.store b.store f → WorkCause a b f
     so Disk grew = grew

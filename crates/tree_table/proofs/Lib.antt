@@ -11,4 +11,5 @@ mod Reading
 mod NextEdges
 mod Holding
 mod Limits
+mod Committing
 mod Bare

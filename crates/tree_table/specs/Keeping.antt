@@ -1,14 +1,20 @@
 -- What the committed root of a store keeps in layout 2.
-use Rattle.std.specs.Prelude.{◌≡◌, ◌⊎◌, ℕ, ◌≤◌, ◌^◌, List, length, Option, None, Some, Contains, IsTrue}
-use Rattle.page_store.specs.Marks.{IsNeeded}
+use Rattle.std.specs.Prelude.{◌≡◌, ◌⊎◌, ℕ, ◌≤◌, ◌^◌, List, [], length, Option, None, Some, Contains, IsTrue}
+use Rattle.sector_disk.specs.Disk.{GoesOn}
+use Rattle.page_store.specs.declared.marks.Mark.TheVariants.{Waiting}
+use Rattle.page_store.specs.Marks.{mark, needs, IsNeeded}
 use Rattle.page_store.specs.Store.{Store, StoreWorks, IsSafe, reads}
-use Rattle.retrograde.specs.Stored.{IsTable}
+use Rattle.retrograde.specs.Changes.{counts_of}
+use Rattle.retrograde.specs.Stored.{Stored, IsTable}
+use Rattle.tree_page.specs.Page.{Item}
 use Rattle.tree_table.specs.declared.slot.TreeSlot.{TreeSlot}
 use Rattle.game_file.specs.Kept.{Kept}
 use Rattle.tree_table.specs.declared.tree.Tree.{Tree}
+use Rattle.tree_table.specs.Entries.{AreEntriesOf}
+use Rattle.tree_table.specs.Forest.{IsForest}
 use Rattle.tree_table.specs.Held.{KeepsOnPages}
 use Rattle.tree_table.specs.Slot.{IsEmptyTreeSlot}
-use Rattle.tree_table.specs.Working.{HoldsTable}
+use Rattle.tree_table.specs.Working.{HoldsTable, bare_slot}
 
 -- it is a page of the text, or of one of the trees
 abbrev pub IsOneOf : List ℕ → (Tree → List ℕ) → ℕ → Type 0
@@ -41,3 +47,44 @@ pub record IsWorkedOn (slot : TreeSlot) (begun now : Store) (was : Option Kept) 
   pub packed : slot.sizes.packed ≤ 240
   pub some : 1 ≤ slot.sizes.packed
   pub few : slot.sizes.counts.known ≤ 2 ^ 24
+
+-- a later state of the same store: the root, and the pages that it needs, are as they were
+pub record IsStill (old new : Store) : Type 0 where
+  pub goes_on : GoesOn old.disk new.disk
+  pub root : new.root ≡ old.root
+  pub same_pages : length new.marks ≡ length old.marks
+  pub needed : (p : ℕ) → needs (mark new.marks p) ≡ needs (mark old.marks p)
+  pub waiting : (p : ℕ) → mark new.marks p ≡ Waiting → mark old.marks p ≡ Waiting
+  pub reads : IsTrue old.disk.honest → (p : ℕ) → IsNeeded old.marks p → reads new p ≡ reads old p
+
+-- the pages that this slot names hold this text and a table, which it counts right, and the committed root needs each of them
+pub record StandsInTrees (slot : TreeSlot) (text : List ℕ) (store : Store) : Type 0 where
+  pub table : Stored (List ℕ)
+  pub text_pages : List ℕ
+  pub pages : Tree → List ℕ
+  pub entries : Tree → List Item
+  pub forest : IsForest slot.sizes.packed (length store.marks) slot.first slot.roots text text_pages pages entries (reads store)
+  pub spelled : AreEntriesOf slot.sizes entries table
+  pub counts : counts_of table ≡ slot.sizes.counts
+  pub needed : (p : ℕ) → IsOneOf text_pages pages p → IsNeeded store.marks p
+
+-- so of the game that is loaded, if one is
+abbrev pub StandsFor : Option TreeSlot → List ℕ → Store → Type 0
+StandsFor None text store = text ≡ []
+StandsFor (Some slot) text store = StandsInTrees slot text store
+
+-- lengths and counts that a table may have
+pub record IsSizedSlot (slot : TreeSlot) : Type 0 where
+  pub some : 1 ≤ slot.sizes.packed
+  pub short : slot.sizes.packed ≤ 240
+  pub few : slot.sizes.counts.known ≤ 2 ^ 24
+
+-- so of the game that is loaded, if one is
+abbrev pub AreSized : Option TreeSlot → Type 0
+AreSized None = Unit {0}
+AreSized (Some slot) = IsSizedSlot slot
+
+-- the slot of a table with a game, or the one that names no page
+abbrev pub slot_or_bare : Option TreeSlot → TreeSlot
+slot_or_bare None = bare_slot 1
+slot_or_bare (Some slot) = slot

@@ -68,13 +68,14 @@ pub record WorkStays (old new : Work) : Type 0 where
   pub text : new.text ≡ old.text
   pub torn : new.torn ≡ old.torn
 
--- after calls that were answered: nothing is committed, the store is as open as it was, the text is the same, and pages that
--- held the table hold what it has come to
+-- after calls that were answered: nothing is committed, the store is as open as it was, the text is the same and as long as the slot
+-- says, and pages that held the table hold what it has come to
 pub record WorkGoesOn (old new : Work) : Type 0 where
   pub works : StoreWorks old.store new.store
   pub still : new.store.closed ≡ old.store.closed
   pub text : new.text ≡ old.text
   pub torn : new.torn ≡ old.torn
+  pub long : new.slot.sizes.text ≡ old.slot.sizes.text
   pub holds : IsHonestWork old → HoldsWork old → HoldsWork new
 
 -- why a call gives no answer: the disk failed; what was there is no honest table; no page is free; memory is short, or a
@@ -86,10 +87,11 @@ WorkCause old new TableFull = free_count new.store.marks ≡ 0
 WorkCause old new OutOfMemory = Unit {0}
 WorkCause old new Closed = old.store.closed ≡ true
 
--- then nothing is committed either, and only a disk that failed closes the store
+-- then nothing is committed either, the text is the same, and only a disk that failed closes the store
 pub record WorkFails (old new : Work) (fault : TableFault) : Type 0 where
   pub works : StoreWorks old.store new.store
   pub still : fault ≢ Disk → new.store.closed ≡ old.store.closed
+  pub text : new.text ≡ old.text
   pub cause : WorkCause old new fault
 
 -- no position, and nothing else

@@ -7,3 +7,4 @@ pub mod Numbers
 pub mod OneTable
 pub mod Slots
 pub mod Spelling
+pub mod Standing

@@ -5,6 +5,7 @@
 mod bytes;
 mod change;
 mod fault;
+mod keeping;
 pub mod laws;
 mod read;
 mod saving;
@@ -12,6 +13,7 @@ mod slot;
 mod tree;
 mod working;
 
+pub use keeping::bare_slot;
 pub use saving::{commit, discard};
 pub use slot::{Slot, TreeSlot, empty_slot, game_slot, read_slot};
 pub use tree::{Roots, Tree, widths_of};

@@ -1,13 +1,14 @@
 //! What has become of a table is committed, or given up.
-ghost use Rattle.std.specs.Prelude.{◌≡◌, false, Option, Some, OnOk, OnErr, IfErr, IfSome, IfNone, IsTrue};
+ghost use Rattle.std.specs.Prelude.{◌≡◌, ◌≢◌, ◌≤◌, ℕ, List, length, false, Option, Some, OnOk, OnErr, IfErr, IfSome, IfNone, IsTrue};
+ghost use Rattle.sector_disk.specs.Disk.{GoesOn, size};
 ghost use Rattle.page_store.specs.Causes.{StoreCommitCause};
 ghost use Rattle.page_store.specs.Spelling.{IsCalm};
-ghost use Rattle.page_store.specs.Store.{Store, StoreWorks};
+ghost use Rattle.page_store.specs.Store.{Store, StoreWorks, IsCommitted, reads};
 ghost use Rattle.game_file.specs.Kept.{Kept};
 ghost use Rattle.game_file.specs.Stops.{LeavesEither, LeavesTable};
 ghost use Rattle.root_slot.specs.Fields.{commits_in};
 ghost use Rattle.tree_table.specs.Held.{StoresTrees};
-ghost use Rattle.tree_table.specs.Keeping.{IsKeptInTrees, IsWorkedOn};
+ghost use Rattle.tree_table.specs.Keeping.{IsKeptInTrees, IsStill, IsWorkedOn};
 ghost use Rattle.tree_table.specs.Slot.{slot_in, IsNoTreeSlot, SaysTrees};
 ghost use Rattle.tree_table.specs.Working.{HoldsTable};
 
@@ -30,6 +31,17 @@ pub fn commit<P: Pages>(store: &mut P, commits: u64, slot: &TreeSlot) -> Result<
         → OnErr result ((P.store store.new).closed ≡ false
         → LeavesTable StoresTrees begun.disk (P.store store.new).disk was) }
     ensures open { OnOk result ((P.store store.new).closed ≡ false) }
+    ensures committed { OnOk result ((root : List ℕ) × IsCommitted root (P.store store.old) (P.store store.new)) }
+    ensures kept_marks { OnErr result ((P.store store.new).marks ≡ (P.store store.old).marks) }
+    ensures kept_pages { IsTrue (P.store store.old).disk.honest → (p : ℕ) → 1 ≤ p
+        → reads (P.store store.new) p ≡ reads (P.store store.old) p }
+    ensures left { OnErr result (IsStill (P.store store.old) (P.store store.new)) }
+    ensures time { GoesOn (P.store store.old).disk (P.store store.new).disk }
+    ensures same_size { size (P.store store.new).disk ≡ size (P.store store.old).disk }
+    ensures failures { (P.store store.old).failures ≤ (P.store store.new).failures }
+    ensures same_pages { length (P.store store.new).marks ≡ length (P.store store.old).marks }
+    ensures still { IfErr result (λ fault. fault ≢ PageFault.Disk → (P.store store.new).closed ≡ (P.store store.old).closed) }
+    ensures shut { (P.store store.new).closed ≡ false → (P.store store.old).closed ≡ false }
     ensures cause { IfErr result (StoreCommitCause (P.store store.old) (P.store store.new)) }
 {
     let root = game_slot(commits, slot);

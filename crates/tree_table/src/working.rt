@@ -1,31 +1,30 @@
 //! A game's table on trees of pages.
 ghost use Rattle.std.specs.Prelude.{◌≡◌, ◌↔◌, ◌≤◌, ◌^◌, [], false, IsTrue};
-ghost use Rattle.tree_table.specs.Working.{HoldsWork, IsHonestWork, bare_slot, nothing, table_now, work_of};
+ghost use Rattle.tree_table.specs.Working.{HoldsWork, IsHonestWork, bare_slot as bare, nothing, table_now, work_of};
 ghost use Rattle.tree_table.specs.Working as work;
 ghost use Rattle.tree_table.specs.aid.Frames as frames;
 
 use crate::change::{add_edge, add_position, push_settled, set_record};
+use crate::keeping::bare_slot;
 use crate::read::{cell_at, edge_after, number_of, settled_at};
 use crate::slot::TreeSlot;
-use crate::tree::Roots;
 use page_store::Pages;
 use position_pack::Packed;
 use retrograde::{Counts, Record};
 use std::alloc::Global;
 use table::{Table, TableFault};
-use table_bytes::Sizes;
 
 /// A game's table on trees of pages. Where the disk is honest and no call that writes has stopped half way, the pages that
 /// its slot names hold it.
 #[derive(Drop)]
 pub struct TreeTable<P: Pages> {
-    pub(crate) store: P,
+    pub store: P,
     /// Which pages there are, and how much of each is in the table.
-    pub(crate) slot: TreeSlot,
+    pub slot: TreeSlot,
     /// The text of the game.
-    pub(crate) text: Vec<u8>,
+    pub text: Vec<u8>,
     /// A call that writes has stopped half way.
-    pub(crate) torn: bool,
+    pub torn: bool,
     ghost some: { 1 ≤ slot.sizes.packed },
     ghost short: { slot.sizes.packed ≤ 240 },
     ghost few: { slot.sizes.counts.known ≤ 2 ^ 24 },
@@ -42,33 +41,11 @@ impl<P: Pages> TreeTable<P> {
         requires short { packed ≤ 240 }
         ensures nothing { IsTrue (P.store store).disk.honest → table_now (work_in result) ≡ nothing }
         ensures honest { IsTrue (P.store store).disk.honest ↔ IsHonestWork (work_in result) }
-        ensures work { work_in result ≡ work_of (bare_slot packed) [] false (P.store store) }
+        ensures work { work_in result ≡ work_of (bare packed) [] false (P.store store) }
     {
-        let counts = Counts {
-            known: 0,
-            expanded: 0,
-            settled: 0,
-            processed: 0,
-        };
-        let sizes = Sizes {
-            text: 0,
-            packed,
-            counts,
-            edges: 0,
-        };
-        let roots = Roots {
-            positions: 0,
-            records: 0,
-            edges: 0,
-            order: 0,
-        };
         TreeTable {
             store,
-            slot: TreeSlot {
-                first: 0,
-                sizes,
-                roots,
-            },
+            slot: bare_slot(packed),
             text: Vec::new(alloc),
             torn: false,
         }

@@ -1,5 +1,5 @@
 -- One call after another.
-use Rattle.std.proofs.Common.{◌≡◌, ℕ, Bool, List, length, IsTrue, refl, sym, ◌∙◌, subst}
+use Rattle.std.proofs.Common.{◌≡◌, ℕ, Bool, List, length, IsTrue, refl, sym, ◌∙◌, ap, subst}
 use mathlib.Core.Logic.{∥∥₁_elim}
 use denote.Struct.Props.{props}
 use Rattle.sector_disk.specs.aid.Moments.{still_honest}
@@ -99,6 +99,7 @@ stays_goes_on {a} {b} it = record {
   still = it.unchanged.closed;
   text = it.text;
   torn = it.torn;
+  long = ap (λ (s : TreeSlot). s.sizes.text) it.slot;
   holds = λ honest h.
       holds_still a b it honest.disk h;
 }
@@ -109,6 +110,7 @@ goes_on_then first second = record {
   still = second.still ∙ first.still;
   text = second.text ∙ first.text;
   torn = second.torn ∙ first.torn;
+  long = second.long ∙ first.long;
   holds = λ honest h. second.holds (honest_on first.works first.torn honest) (first.holds honest h);
 }
 
@@ -116,6 +118,7 @@ pub fails_since : {a b c : Work} (fault : TableFault) → WorkGoesOn a b → Wor
 fails_since {a} {b} {c} fault first it = record {
   works = works_then first.works it.works;
   still = λ other. it.still other ∙ first.still;
+  text = it.text ∙ first.text;
   cause = since fault it.cause;
 }
   where
@@ -128,4 +131,4 @@ fails_since {a} {b} {c} fault first it = record {
 
 -- want of memory
 pub memory_fails : {a b : Work} → WorkGoesOn a b → WorkFails a b OutOfMemory
-memory_fails ahead = record { works = ahead.works; still = λ other. ahead.still; cause = tt }
+memory_fails ahead = record { works = ahead.works; still = λ other. ahead.still; text = ahead.text; cause = tt }

@@ -153,7 +153,7 @@ keeps_some : (text_pages : List ℕ) (pages : Tree → List ℕ) (root : List �
 keeps_some text_pages pages root capacity None bytes it = it
 keeps_some text_pages pages root capacity (Some kept) bytes it = record { text_pages = text_pages; pages = pages; keeps = it }
 
-keeps_as : (text_pages : List ℕ) (pages : Tree → List ℕ) (root root_now : List ℕ) (capacity capacity_now : ℕ) (kept : Option Kept)
+pub keeps_as : (text_pages : List ℕ) (pages : Tree → List ℕ) (root root_now : List ℕ) (capacity capacity_now : ℕ) (kept : Option Kept)
     (bytes : ℕ → List ℕ) → root ≡ root_now → capacity ≡ capacity_now → KeepsOn text_pages pages root capacity kept bytes
     → KeepsOn text_pages pages root_now capacity_now kept bytes
 keeps_as text_pages pages root root_now capacity capacity_now kept bytes roots capacities it =

@@ -13,16 +13,9 @@ use Rattle.tree_table.specs.Held.{StoresTrees}
 use Rattle.tree_table.specs.Keeping.{IsKeptInTrees}
 use Rattle.tree_table.specs.Slot.{slot_in, IsGameTreeSlot}
 use Rattle.tree_table.specs.aid.Keeping.{stop_stores, committed_keeps, unchanged_keeps, unchanged_stop}
+use Rattle.tree_table.proofs.Committing.{on_ok, on_err, commit_left, commit_pages, commit_shut}
 use Rattle.tree_table.proofs.Limits.{within_limits}
 use Rattle.tree_table.proofs.saving.commit.Goals as goal
-
-on_ok : {X E : Type 0} (P Q : Type 0) (r : Result X E) → (P → Q) → OnOk r P → OnOk r Q
-on_ok P Q (Ok x) so is = so is
-on_ok P Q (Err e) so is = tt
-
-on_err : {X E : Type 0} (P Q : Type 0) (r : Result X E) → (P → Q) → OnErr r P → OnErr r Q
-on_err P Q (Ok x) so is = tt
-on_err P Q (Err e) so is = so is
 
 -- a commit that fails leaves the store as it was, or closed
 left : (old new : Store) (fault : PageFault) → StoreCommitCause old new fault → (fault ≢ Disk → new ≡ old) → new.closed ≡ false → IsUnchanged old new
@@ -98,3 +91,15 @@ returns-clause-kept_stop g c = λ begun was is it.
     unchanged_stop root c.args.slot.now is.text is.table old (game root c.args.slot.now told.layout told.packing told.slot (within_limits is.table c.args.slot.now.sizes it.table it.holds.counts it.short it.packed it.few) it.some) told.slot it.text it.table it.holds
     begun new was it.honest it.safe it.kept it.works c.commit.ensures.commits it.enough few (so is_open))
     (refused old new c.commit.result c.commit.ensures.cause c.commit.ensures.untouched)
+
+pub returns-clause-committed : goal.returns-clause-committed
+returns-clause-committed g c = on_ok (IsCommitted c.game_slot-root.result (g.P.Pages.store c.args.store.now) (g.P.Pages.store c.commit.new.self)) _ c.commit.result (λ done. (c.game_slot-root.result, done)) c.commit.ensures.ok
+
+pub returns-clause-left : goal.returns-clause-left
+returns-clause-left g c = commit_left (g.P.Pages.store c.args.store.now) (g.P.Pages.store c.commit.new.self) c.commit.result c.commit.ensures.commits.goes_on c.commit.ensures.kept_root c.commit.ensures.kept_marks c.commit.ensures.kept_pages
+
+pub returns-clause-same_pages : goal.returns-clause-same_pages
+returns-clause-same_pages g c = commit_pages c.game_slot-root.result (g.P.Pages.store c.args.store.now) (g.P.Pages.store c.commit.new.self) c.commit.result c.commit.ensures.ok c.commit.ensures.kept_marks
+
+pub returns-clause-shut : goal.returns-clause-shut
+returns-clause-shut g c = commit_shut (g.P.Pages.store c.args.store.now) (g.P.Pages.store c.commit.new.self) c.commit.result c.commit.ensures.closed c.commit.ensures.untouched

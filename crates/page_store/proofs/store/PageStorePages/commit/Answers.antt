@@ -2,7 +2,7 @@ use Rattle.std.proofs.Common.{rules, refl, inl, inr, arith}
 use Rattle.sector_disk.specs.aid.Moments.{goes_on_refl, leaves_now, leaves_more}
 use Rattle.page_store.specs.Store.{store_of}
 use Rattle.page_store.specs.aid.Works.{safe_saves}
-use Rattle.page_store.proofs.Keeping.{old_or_new, published_reads, published_leaves, published_grew}
+use Rattle.page_store.proofs.Keeping.{old_or_new, pages_kept, published_reads, published_leaves, published_grew}
 use Rattle.page_store.proofs.store.PageStorePages.commit.Goals as goal
 
 pub returns-then-self-clause-commits : goal.returns-then-self-clause-commits
@@ -52,3 +52,12 @@ returns-in-Err-clause-commits g c = record {
 
 pub returns-in-Err-clause-cause : goal.returns-in-Err-clause-cause
 returns-in-Err-clause-cause g c = (published_grew _ _ _ c.in-Err.ensures.fault, inr refl)
+
+pub returns-in-Ok-clause-kept_pages : goal.returns-in-Ok-clause-kept_pages
+returns-in-Ok-clause-kept_pages g c = λ honest. pages_kept _ _ (c.publish.ensures.pages honest)
+
+pub returns-in-Err-Read-clause-kept_pages : goal.returns-in-Err-Read-clause-kept_pages
+returns-in-Err-Read-clause-kept_pages g c = λ honest. pages_kept _ _ (c.publish.ensures.pages honest)
+
+pub returns-in-Err-clause-kept_pages : goal.returns-in-Err-clause-kept_pages
+returns-in-Err-clause-kept_pages g c = λ honest. pages_kept _ _ (c.publish.ensures.pages honest)

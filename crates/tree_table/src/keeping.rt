@@ -1,0 +1,125 @@
+//! A table at work is committed, given up, or begun anew.
+ghost use Rattle.std.specs.Prelude.{◌≡◌, ◌≢◌, ◌≤◌, ℕ, [], length, false, Option, None, Some, OnOk, OnErr, IfErr, IsTrue};
+ghost use Rattle.sector_disk.specs.Disk.{GoesOn, size};
+ghost use Rattle.page_store.specs.declared.marks.Mark.TheVariants.{Waiting};
+ghost use Rattle.page_store.specs.Causes.{StoreCommitCause};
+ghost use Rattle.page_store.specs.Marks.{mark as mark_of};
+ghost use Rattle.page_store.specs.Spelling.{IsCalm};
+ghost use Rattle.page_store.specs.Store.{Store, IsRemarked};
+ghost use Rattle.game_file.specs.Kept.{Kept};
+ghost use Rattle.game_file.specs.Stops.{LeavesEither, LeavesTable};
+ghost use Rattle.root_slot.specs.Fields.{commits_in};
+ghost use Rattle.tree_table.specs.Held.{StoresTrees};
+ghost use Rattle.tree_table.specs.Keeping.{IsKeptInTrees, IsStill, IsWorkedOn, StandsInTrees, StandsFor, AreSized};
+ghost use Rattle.tree_table.specs.Slot.{slot_in};
+ghost use Rattle.tree_table.specs.Keeping.{slot_or_bare as slot_of};
+ghost use Rattle.tree_table.specs.Working.{bare_slot as bare};
+
+use crate::saving::commit;
+use crate::slot::TreeSlot;
+use crate::tree::Roots;
+use crate::working::TreeTable;
+use page_store::{PageFault, Pages};
+use retrograde::Counts;
+use table_bytes::Sizes;
+
+/// The slot that names no page, for positions of so many bytes.
+pub fn bare_slot(packed: u32) -> TreeSlot
+    ensures { result ≡ bare packed }
+{
+    let counts = Counts {
+        known: 0,
+        expanded: 0,
+        settled: 0,
+        processed: 0,
+    };
+    let sizes = Sizes {
+        text: 0,
+        packed,
+        counts,
+        edges: 0,
+    };
+    let roots = Roots {
+        positions: 0,
+        records: 0,
+        edges: 0,
+        order: 0,
+    };
+    TreeSlot {
+        first: 0,
+        sizes,
+        roots,
+    }
+}
+
+/// The slot of the game that is loaded, or the one that names no page.
+fn slot_or_bare(game: &Option<TreeSlot>) -> TreeSlot
+    ensures { result ≡ slot_of game.now }
+{
+    match game {
+        Some(slot) => *slot,
+        None => bare_slot(1),
+    }
+}
+
+impl<P: Pages> TreeTable<P> {
+    ghost use Rattle.tree_table.specs.InTrees.{work_in};
+
+    /// Gives up what was done since the last commit: the table is again the one that this slot of the committed root names, or
+    /// none where no game is loaded. It takes no memory and always answers, of a closed store too.
+    pub fn restore(&mut self, game: &Option<TreeSlot>)
+        requires sized { AreSized game.now }
+        requires sealed { (p : ℕ) → mark_of (work_in self.old).store.marks p ≡ Waiting → ⊥ }
+        requires stands { IsTrue (work_in self.old).store.disk.honest
+            → ∥ StandsFor game.now (work_in self.old).text (work_in self.old).store ∥₁ }
+        ensures slot { (work_in self.new).slot ≡ slot_of game.now }
+        ensures text { (work_in self.new).text ≡ (work_in self.old).text }
+        ensures torn { (work_in self.new).torn ≡ false }
+        ensures still { IsStill (work_in self.old).store (work_in self.new).store }
+        ensures calm { IsCalm (work_in self.new).store }
+        ensures others { IsRemarked (work_in self.old).store (work_in self.new).store }
+    {
+        self.torn = true;
+        self.store.discard();
+        self.slot = slot_or_bare(game);
+        self.torn = false;
+    }
+
+    /// Commits the table that a command has come to, as `commit` does. The new root tells this count of commits.
+    pub fn save(&mut self, commits: u64) -> Result<(), PageFault>
+        ensures slot { (work_in self.new).slot ≡ (work_in self.old).slot }
+        ensures text { (work_in self.new).text ≡ (work_in self.old).text }
+        ensures torn { (work_in self.new).torn ≡ (work_in self.old).torn }
+        ensures commits { OnOk result (commits_in (work_in self.new).store.root ≡ commits) }
+        ensures root { OnOk result (slot_in (work_in self.new).store.root ≡ (work_in self.old).slot) }
+        ensures stop { (begun : Store) (was : Option Kept) (is : Kept)
+            → IsWorkedOn (work_in self.old).slot begun (work_in self.old).store was is
+            → LeavesEither StoresTrees begun.disk (work_in self.new).store.disk was (Some is) }
+        ensures done { (begun : Store) (was : Option Kept) (is : Kept)
+            → IsWorkedOn (work_in self.old).slot begun (work_in self.old).store was is
+            → OnOk result (IsKeptInTrees (work_in self.new).store (Some is)) }
+        ensures kept_stop { (begun : Store) (was : Option Kept) (is : Kept)
+            → IsWorkedOn (work_in self.old).slot begun (work_in self.old).store was is
+            → OnErr result ((work_in self.new).store.closed ≡ false
+            → LeavesTable StoresTrees begun.disk (work_in self.new).store.disk was) }
+        ensures stands { (work_in self.old).torn ≡ false → IsTrue (work_in self.old).store.disk.honest
+            → OnOk result (∥ StandsInTrees (work_in self.old).slot (work_in self.old).text (work_in self.new).store ∥₁) }
+        ensures calm { ((p : ℕ) → mark_of (work_in self.old).store.marks p ≡ Waiting → ⊥) → OnOk result (IsCalm (work_in self.new).store) }
+        ensures left { OnErr result (IsStill (work_in self.old).store (work_in self.new).store) }
+        ensures time { GoesOn (work_in self.old).store.disk (work_in self.new).store.disk }
+        ensures same_size { size (work_in self.new).store.disk ≡ size (work_in self.old).store.disk }
+        ensures failures { (work_in self.old).store.failures ≤ (work_in self.new).store.failures }
+        ensures same_pages { length (work_in self.new).store.marks ≡ length (work_in self.old).store.marks }
+        ensures open { OnOk result ((work_in self.new).store.closed ≡ false) }
+        ensures still { IfErr result (λ fault. fault ≢ PageFault.Disk
+            → (work_in self.new).store.closed ≡ (work_in self.old).store.closed) }
+        ensures shut { (work_in self.new).store.closed ≡ false → (work_in self.old).store.closed ≡ false }
+        ensures cause { IfErr result (StoreCommitCause (work_in self.old).store (work_in self.new).store) }
+    {
+        let torn = self.torn;
+        self.torn = true;
+        let result = commit(&mut self.store, commits, &self.slot);
+        self.torn = torn;
+        result
+    }
+}
