@@ -12,4 +12,5 @@ mod NextEdges
 mod Holding
 mod Limits
 mod Committing
+mod Loading
 mod Bare

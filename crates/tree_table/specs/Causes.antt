@@ -1,5 +1,5 @@
 -- Why what a slot names is not read or changed.
-use Rattle.std.specs.Prelude.{◌≡◌, ◌≢◌, ℕ, true, List, length, IsTrue}
+use Rattle.std.specs.Prelude.{◌≡◌, ◌≢◌, ◌⊎◌, ℕ, ◌*◌, ◌<◌, true, List, length, IsTrue}
 use Rattle.sector_disk.specs.Disk.{Grew}
 use Rattle.page_store.specs.Marks.{free_count}
 use Rattle.page_store.specs.Store.{Store}
@@ -39,3 +39,12 @@ ChangeCause HasNone slot old new Closed = old.closed ≡ true
 abbrev pub AddCause : List ℕ → TreeSlot → Store → Store → TableFault → Type 0
 AddCause position slot old new OutOfMemory = length position ≢ slot.sizes.packed
 AddCause position slot old new fault = ChangeCause HasNoTable slot old new fault
+
+-- no game is loaded: the disk failed, or is not honest; its text takes more pages than are free, or a page is needed then and none is
+-- free; memory ran out; the store was closed
+abbrev pub LoadCause : ℕ → Store → Store → TableFault → Type 0
+LoadCause long old new Disk = Grew old.failures new.failures
+LoadCause long old new Damaged = ¬ IsTrue old.disk.honest
+LoadCause long old new TableFull = (4092 * free_count old.marks < long) ⊎ (free_count new.marks ≡ 0)
+LoadCause long old new OutOfMemory = Unit {0}
+LoadCause long old new Closed = old.closed ≡ true

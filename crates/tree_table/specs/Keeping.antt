@@ -88,3 +88,10 @@ AreSized (Some slot) = IsSizedSlot slot
 abbrev pub slot_or_bare : Option TreeSlot → TreeSlot
 slot_or_bare None = bare_slot 1
 slot_or_bare (Some slot) = slot
+
+-- no game is loaded, and one can be: the disk is honest, a stop leaves what is there, and there are 16 pages or more
+pub record IsVacant (store : Store) : Type 0 where
+  pub honest : IsTrue store.disk.honest
+  pub safe : IsSafe store
+  pub kept : IsKeptInTrees store None
+  pub enough : 16 ≤ length store.marks

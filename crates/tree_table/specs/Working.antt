@@ -98,10 +98,14 @@ pub record WorkFails (old new : Work) (fault : TableFault) : Type 0 where
 abbrev pub nothing : Stored (List ℕ)
 nothing = record { positions = []; records = []; has_edge = λ i p. false; order = [] }
 
--- the slot that names no page, for positions of so many bytes
-abbrev pub bare_slot : ℕ → TreeSlot
-bare_slot n = record {
-  first = 0;
-  sizes = record { text = 0; packed = n; counts = record { known = 0; expanded = 0; settled = 0; processed = 0 }; edges = 0 };
+-- the slot of a text of so many bytes, from this page on, and of no position; positions have so many bytes
+abbrev pub text_slot : ℕ → ℕ → ℕ → TreeSlot
+text_slot first text n = record {
+  first = first;
+  sizes = record { text = text; packed = n; counts = record { known = 0; expanded = 0; settled = 0; processed = 0 }; edges = 0 };
   roots = record { positions = 0; records = 0; edges = 0; order = 0 };
 }
+
+-- the slot that names no page, for positions of so many bytes
+abbrev pub bare_slot : ℕ → TreeSlot
+bare_slot n = text_slot 0 0 n

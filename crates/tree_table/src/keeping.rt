@@ -6,21 +6,28 @@ ghost use Rattle.page_store.specs.Causes.{StoreCommitCause};
 ghost use Rattle.page_store.specs.Marks.{mark as mark_of};
 ghost use Rattle.page_store.specs.Spelling.{IsCalm};
 ghost use Rattle.page_store.specs.Store.{Store, IsRemarked};
-ghost use Rattle.game_file.specs.Kept.{Kept};
+ghost use Rattle.retrograde.specs.Stored.{loaded};
+ghost use Rattle.table.specs.declared.fault.TableFault.TheVariants.{Disk};
+ghost use Rattle.game_file.specs.Kept.{Kept, kept_as};
 ghost use Rattle.game_file.specs.Stops.{LeavesEither, LeavesTable};
 ghost use Rattle.root_slot.specs.Fields.{commits_in};
 ghost use Rattle.tree_table.specs.Held.{StoresTrees};
-ghost use Rattle.tree_table.specs.Keeping.{IsKeptInTrees, IsStill, IsWorkedOn, StandsInTrees, StandsFor, AreSized};
+ghost use Rattle.tree_table.specs.Keeping.{IsKeptInTrees, IsStill, IsVacant, IsWorkedOn, StandsInTrees, StandsFor, AreSized};
+ghost use Rattle.tree_table.specs.Causes.{LoadCause};
 ghost use Rattle.tree_table.specs.Slot.{slot_in};
 ghost use Rattle.tree_table.specs.Keeping.{slot_or_bare as slot_of};
 ghost use Rattle.tree_table.specs.Working.{bare_slot as bare};
 
+use crate::begin::load;
 use crate::saving::commit;
 use crate::slot::TreeSlot;
 use crate::tree::Roots;
 use crate::working::TreeTable;
 use page_store::{PageFault, Pages};
+use position_pack::Packed;
 use retrograde::Counts;
+use std::alloc::Global;
+use table::TableFault;
 use table_bytes::Sizes;
 
 /// The slot that names no page, for positions of so many bytes.
@@ -121,5 +128,50 @@ impl<P: Pages> TreeTable<P> {
         let result = commit(&mut self.store, commits, &self.slot);
         self.torn = torn;
         result
+    }
+
+    /// Puts a game with this text and start in the place of none, and commits, as `load` does. After a refusal the table has stopped
+    /// half way, and goes back by `restore`.
+    pub fn start(
+        &mut self,
+        alloc: Global,
+        commits: u64,
+        text: Vec<u8>,
+        start: &Packed,
+    ) -> Result<(), TableFault>
+        requires some { 1 ≤ length start.now.items }
+        requires text { length text.items ≤ 65536 }
+        ensures text { OnOk result ((work_in self.new).text ≡ text.items) }
+        ensures kept_text { OnErr result ((work_in self.new).text ≡ (work_in self.old).text) }
+        ensures torn { OnOk result ((work_in self.new).torn ≡ false) }
+        ensures commits { OnOk result (commits_in (work_in self.new).store.root ≡ commits) }
+        ensures root { OnOk result (slot_in (work_in self.new).store.root ≡ (work_in self.new).slot) }
+        ensures stop { IsVacant (work_in self.old).store
+            → LeavesEither StoresTrees (work_in self.old).store.disk (work_in self.new).store.disk None
+            (Some (kept_as text.items (loaded start.now.items))) }
+        ensures done { IsVacant (work_in self.old).store
+            → OnOk result (IsKeptInTrees (work_in self.new).store (Some (kept_as text.items (loaded start.now.items)))) }
+        ensures kept_stop { IsVacant (work_in self.old).store → OnErr result ((work_in self.new).store.closed ≡ false
+            → LeavesTable StoresTrees (work_in self.old).store.disk (work_in self.new).store.disk None) }
+        ensures stands { IsTrue (work_in self.old).store.disk.honest
+            → OnOk result (StandsInTrees (work_in self.new).slot text.items (work_in self.new).store) }
+        ensures calm { ((p : ℕ) → mark_of (work_in self.old).store.marks p ≡ Waiting → ⊥) → OnOk result (IsCalm (work_in self.new).store) }
+        ensures left { OnErr result (IsStill (work_in self.old).store (work_in self.new).store) }
+        ensures time { GoesOn (work_in self.old).store.disk (work_in self.new).store.disk }
+        ensures same_size { size (work_in self.new).store.disk ≡ size (work_in self.old).store.disk }
+        ensures failures { (work_in self.old).store.failures ≤ (work_in self.new).store.failures }
+        ensures same_pages { length (work_in self.new).store.marks ≡ length (work_in self.old).store.marks }
+        ensures open { OnOk result ((work_in self.new).store.closed ≡ false) }
+        ensures still { IfErr result (λ fault. fault ≢ Disk
+            → (work_in self.new).store.closed ≡ (work_in self.old).store.closed) }
+        ensures shut { (work_in self.new).store.closed ≡ false → (work_in self.old).store.closed ≡ false }
+        ensures cause { IfErr result (LoadCause (length text.items) (work_in self.old).store (work_in self.new).store) }
+    {
+        self.torn = true;
+        let slot = load(alloc, &mut self.store, commits, &text, start)?;
+        self.slot = slot;
+        self.text = text;
+        self.torn = false;
+        Ok(())
     }
 }

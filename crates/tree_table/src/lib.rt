@@ -2,6 +2,7 @@
 //! settled order.
 #![tactic(auto)]
 
+mod begin;
 mod bytes;
 mod change;
 mod fault;
@@ -13,6 +14,7 @@ mod slot;
 mod tree;
 mod working;
 
+pub use begin::load;
 pub use keeping::bare_slot;
 pub use saving::{commit, discard};
 pub use slot::{Slot, TreeSlot, empty_slot, game_slot, read_slot};
