@@ -1,17 +1,17 @@
 -- The empty table is made, and opened.
 use Rattle.std.specs.Prelude.{min, Result, Ok, Err}
-use Rattle.std.specs.Result.{IfOk}
-use Rattle.std.proofs.Common.{◌≡◌, ◌⊎◌, inl, inr, ◌≤◌, ◌/◌, ℕ, false, true, List, None, IsTrue, sym, ◌∙◌, ap, subst, arith}
+use Rattle.std.specs.Result.{IfOk, IfErr}
+use Rattle.std.proofs.Common.{◌≡◌, ◌≢◌, ◌⊎◌, inl, inr, ◌≤◌, ◌/◌, ℕ, false, true, List, None, IsTrue, refl, sym, ◌∙◌, ap, subst, arith}
 use Rattle.std.proofs.Math.Nat.{le-min, le-div_iff_mul-le}
 use Rattle.sector_disk.specs.Disk.{Picture, Disk, size, GoesOn, LeavesOnly, MayLeave, AllSynced}
 use Rattle.sector_disk.specs.aid.Moments.{goes_on_trans, leaves_then, leaves_more, still_honest}
 use Rattle.root_pair.specs.aid.Rest.{rest_leaves, synced_rests}
 use Rattle.root_pair.specs.Root.{Begins, HoldsRoot, IsMade, OldOrNoneOrNew}
 use Rattle.flat_table.specs.Slot.{commits_in, IsEmptySlot}
-use Rattle.flat_table.specs.Held.{Stores}
+use Rattle.flat_table.specs.Held.{Stores, IsOlder}
 use Rattle.flat_table.specs.aid.ReadLaws.{a_picture_stores_one_table}
 use Rattle.game_file.specs.declared.fault.FileFault.{FileFault}
-use Rattle.game_file.specs.declared.fault.FileFault.TheVariants.{Disk as DiskFailed, NotATable, AlreadyATable, Damaged, TooSmall, TableFull, OutOfMemory, Closed, Inconsistent}
+use Rattle.game_file.specs.declared.fault.FileFault.TheVariants.{Disk as DiskFailed, NotATable, AlreadyATable, Damaged, OldLayout, TooSmall, TableFull, OutOfMemory, Closed, Inconsistent}
 use Rattle.game_file.specs.Calls.{IsOpenedFile, IsNotOpened, IsCreatedFile, IsNotCreated}
 use Rattle.game_file.specs.Causes.{FileOpenCause, FileCreateCause}
 use Rattle.game_file.specs.State.{State, GoesFrom}
@@ -38,6 +38,11 @@ old_or_empty {root} empty disk picture either = λ table. each (either table)
 pub both_ok : {X E : Type 0} (r : Result X E) (P Q R : X → Type 0) → ((x : X) → P x → Q x → R x) → IfOk r P → IfOk r Q → IfOk r R
 both_ok (Ok x) P Q R f p q = f x p q
 both_ok (Err e) P Q R f p q = tt
+
+-- and two of a refusal
+pub both_err : {X E : Type 0} (r : Result X E) (P Q R : E → Type 0) → ((e : E) → P e → Q e → R e) → IfErr r P → IfErr r Q → IfErr r R
+both_err (Ok x) P Q R f p q = tt
+both_err (Err e) P Q R f p q = f e p q
 
 -- no is not yes
 pub never : false ≡ true → ⊥
@@ -99,13 +104,14 @@ module _ {root : List ℕ} (empty : IsEmptySlot root) (disk mid : Disk) (count m
     kept = λ honest begins. absurd (laid.fresh honest begins);
   }
 
-  pub create_cause : (now : ℕ) (fault : FileFault) → FileOpenCause Stores mid middle now fault → FileCreateCause disk count now fault
-  create_cause now DiskFailed cause = grew_from more cause
-  create_cause now NotATable cause = λ honest. cause (still_honest laid.goes_on honest) (laid.holds honest).table
-  create_cause now AlreadyATable cause = absurd cause
-  create_cause now Damaged cause = λ honest. cause (still_honest laid.goes_on honest) None (stored_empty honest)
-  create_cause now TooSmall cause = absurd cause
-  create_cause now TableFull cause = absurd cause
-  create_cause now OutOfMemory cause = tt
-  create_cause now Closed cause = absurd cause
-  create_cause now Inconsistent cause = absurd cause
+  pub create_cause : (now : ℕ) (fault : FileFault) → FileOpenCause Stores IsOlder mid middle now fault → fault ≢ OldLayout → FileCreateCause disk count now fault
+  create_cause now DiskFailed cause first = grew_from more cause
+  create_cause now NotATable cause first = λ honest. cause (still_honest laid.goes_on honest) (laid.holds honest).table
+  create_cause now AlreadyATable cause first = absurd cause
+  create_cause now Damaged cause first = λ honest. (cause (still_honest laid.goes_on honest)).0 None (stored_empty honest)
+  create_cause now OldLayout cause first = absurd (first refl)
+  create_cause now TooSmall cause first = absurd cause
+  create_cause now TableFull cause first = absurd cause
+  create_cause now OutOfMemory cause first = tt
+  create_cause now Closed cause first = absurd cause
+  create_cause now Inconsistent cause first = absurd cause

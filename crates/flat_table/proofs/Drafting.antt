@@ -12,7 +12,7 @@ use Rattle.game_file.specs.Kept.{Kept, kept_as}
 use Rattle.game_file.specs.State.{State, count_behind}
 use Rattle.flat_table.specs.Slot.{commits_in}
 use Rattle.game_file.specs.declared.fault.FileFault.{FileFault}
-use Rattle.game_file.specs.declared.fault.FileFault.TheVariants.{Disk, NotATable, AlreadyATable, Damaged, TooSmall, TableFull, OutOfMemory, Closed, Inconsistent}
+use Rattle.game_file.specs.declared.fault.FileFault.TheVariants.{Disk, NotATable, AlreadyATable, Damaged, OldLayout, TooSmall, TableFull, OutOfMemory, Closed, Inconsistent}
 use Rattle.flat_table.specs.declared.game.Game.{Game}
 use Rattle.flat_table.specs.File.{File, IsFile, AreGames, kept_in, kept_of}
 use Rattle.flat_table.specs.Held.{Stores}
@@ -101,6 +101,7 @@ module _ (was mid new : File) (kept : Kept) (now : Stored (List ℕ)) (whole : I
   commit_cause g it has keeps NotATable cause = cause
   commit_cause g it has keeps AlreadyATable cause = cause
   commit_cause g it has keeps Damaged cause = absurd cause
+  commit_cause g it has keeps OldLayout cause = cause
   commit_cause g it has keeps TooSmall cause = cause
   commit_cause g it has keeps TableFull cause = tt
   commit_cause g it has keeps OutOfMemory cause = tt
@@ -132,6 +133,7 @@ load_cause text start old new it none is_open Disk cause = cause
 load_cause text start old new it none is_open NotATable cause = cause
 load_cause text start old new it none is_open AlreadyATable cause = cause
 load_cause text start old new it none is_open Damaged cause = absurd cause
+load_cause text start old new it none is_open OldLayout cause = cause
 load_cause text start old new it none is_open TooSmall cause = cause
 load_cause text start old new it none is_open TableFull cause = loading_room text start old.store.marks (it.backed.free is_open none) cause
 load_cause text start old new it none is_open OutOfMemory cause = tt

@@ -9,7 +9,7 @@ use Rattle.page_store.specs.Page.{page as bytes_of}
 use Rattle.page_store.specs.Store.{Store, IsOpened as IsFound, reads}
 use Rattle.flat_table.specs.declared.game.Game.{Game}
 use Rattle.flat_table.specs.File.{IsBacked, kept_of, pages_of}
-use Rattle.flat_table.specs.Held.{KeepsTable, capacity_of, Stores}
+use Rattle.flat_table.specs.Held.{KeepsTable, capacity_of, Stores, IsOlder}
 use Rattle.game_file.specs.Kept.{Kept}
 use Rattle.flat_table.specs.ReadCauses.{GameReadCause}
 use Rattle.game_file.specs.Calls.{IsOpenedFile}
@@ -89,12 +89,15 @@ module _ (disk : Disk) (count : ℕ) (found now : Store) (at_first : IsFound dis
       (subst (λ (root : List ℕ). KeepsTable root (capacity_of disk.now.contents) kept (bytes_of disk.now.contents)) same_root stores.keeps))
 
   -- why it is not opened
-  pub open_cause : (fault : PageFault) → GameReadCause found now fault → FileOpenCause Stores disk count now.failures (of_pages fault)
+  pub open_cause : (fault : PageFault) → GameReadCause found now fault → FileOpenCause Stores IsOlder disk count now.failures (of_pages fault)
   open_cause page.Disk cause = grew_from at_first.failures cause
   open_cause page.NotATable cause = absurd cause
-  open_cause page.Damaged cause = λ honest kept stores.
-      let less = cause (still_honest at_first.goes_on honest) at_first.marks kept (kept_there kept honest stores) in
-      omega (arith, less, stores.room, at_first.capacity)
+  open_cause page.Damaged cause = λ honest. (
+    λ kept stores.
+        let less = cause (still_honest at_first.goes_on honest) at_first.marks kept (kept_there kept honest stores) in
+        omega (arith, less, stores.room, at_first.capacity),
+    λ older. older,
+  )
   open_cause page.TableFull cause = absurd cause
   open_cause page.OutOfMemory cause = tt
   open_cause page.Closed cause = absurd (apart _ at_first.closed cause)

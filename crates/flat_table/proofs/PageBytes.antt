@@ -9,7 +9,7 @@ use Rattle.flat_table.specs.SaveCauses.{SaveCause}
 use Rattle.flat_table.specs.Saving.{AreBytesOf}
 use Rattle.game_file.specs.Faults.{of_pages}
 use Rattle.game_file.specs.declared.fault.FileFault.{FileFault}
-use Rattle.game_file.specs.declared.fault.FileFault.TheVariants.{Disk, NotATable, AlreadyATable, Damaged, TooSmall, TableFull, OutOfMemory, Closed, Inconsistent}
+use Rattle.game_file.specs.declared.fault.FileFault.TheVariants.{Disk, NotATable, AlreadyATable, Damaged, OldLayout, TooSmall, TableFull, OutOfMemory, Closed, Inconsistent}
 use Rattle.flat_table.specs.aid.Bytes.{BytesCause}
 use Rattle.flat_table.specs.aid.Causes.{PutCause}
 
@@ -19,6 +19,7 @@ bytes_cause kept packed store Disk cause = absurd cause
 bytes_cause kept packed store NotATable cause = absurd cause
 bytes_cause kept packed store AlreadyATable cause = absurd cause
 bytes_cause kept packed store Damaged cause = absurd cause
+bytes_cause kept packed store OldLayout cause = absurd cause
 bytes_cause kept packed store TooSmall cause = absurd cause
 bytes_cause kept packed store TableFull cause = absurd cause
 bytes_cause kept packed store OutOfMemory cause = tt

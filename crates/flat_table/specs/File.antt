@@ -1,6 +1,5 @@
 -- What is stated of a table's file.
-use Rattle.std.specs.Prelude.{◌≡◌, ◌⊎◌, ℕ, ◌≤◌, ◌<◌, ◌^◌, false, Bool, List, [], length, Option, None, Some, option_map, Contains, IsTrue}
-use Rattle.sector_disk.specs.Disk.{Picture, Disk}
+use Rattle.std.specs.Prelude.{◌≡◌, ℕ, ◌≤◌, ◌<◌, ◌^◌, false, List, [], length, Option, None, Some, Contains, IsTrue}
 use Rattle.page_store.specs.declared.marks.Mark.TheVariants.{Free}
 use Rattle.page_store.specs.Marks.{mark}
 use Rattle.page_store.specs.Spelling.{Stands, IsCalm}

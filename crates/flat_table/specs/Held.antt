@@ -6,9 +6,9 @@ use Rattle.page_store.specs.Page.{page}
 use Rattle.page_chain.specs.Chain.{IsChain}
 use Rattle.retrograde.specs.Stored.{IsTable}
 use Rattle.retrograde.specs.Changes.{counts_of}
-use Rattle.table_bytes.specs.Numbers.{AreWithinLimits, bytes_in}
+use Rattle.table_bytes.specs.Numbers.{AreWithinLimits}
 use Rattle.table_bytes.specs.Spelled.{SpellsTable}
-use Rattle.game_file.specs.Kept.{Kept}
+use Rattle.game_file.specs.Kept.{Kept, Older}
 pub use Rattle.root_slot.specs.Fields.{capacity_of}
 use Rattle.flat_table.specs.Slot.{layout_in, packing_in, first_in, sizes_in, IsEmptySlot}
 
@@ -36,3 +36,7 @@ pub record Stores (picture : Picture) (kept : Option Kept) : Type 0 where
   pub holds : HoldsRoot root picture
   pub room : 16 ≤ capacity_of picture
   pub keeps : KeepsTable root (capacity_of picture) kept (page picture)
+
+-- no picture holds a table of an earlier layout: this one is the first
+abbrev pub IsOlder : Older
+IsOlder picture = ⊥

@@ -9,7 +9,7 @@ ghost use Rattle.game_file.specs.Kept.{kept_as};
 ghost use Rattle.game_file.specs.State.{count_behind};
 ghost use Rattle.flat_table.specs.declared.game.Game.{Game as Loaded};
 ghost use Rattle.flat_table.specs.File.{File, IsFile, kept_of, pages_of};
-ghost use Rattle.flat_table.specs.Held.{Stores};
+ghost use Rattle.flat_table.specs.Held.{Stores, IsOlder};
 ghost use Rattle.flat_table.specs.aid.StoredLaws.{a_file_is_kept};
 ghost use Rattle.flat_table.specs.aid.ReadLaws.{a_picture_stores_one_table};
 ghost use Rattle.flat_table.specs.Saving.{StoreGoesAhead};
@@ -58,7 +58,9 @@ impl<D: SectorDisk> FlatTable<D> {
         ensures root { IfOk result (λ t. IsTrue (D.disk disk).honest
             → HoldsRoot (file_in t).store.root (D.disk disk).now.contents) }
         ensures refused { IfErr result (λ back. IsNotOpened (D.disk disk) (D.failures disk) (D.disk back.disk) (D.failures back.disk)) }
-        ensures cause { IfErr result (λ back. FileOpenCause Stores (D.disk disk) (D.failures disk) (D.failures back.disk) back.fault) }
+        ensures cause { IfErr result (λ back. FileOpenCause Stores IsOlder (D.disk disk) (D.failures disk)
+            (D.failures back.disk) back.fault) }
+        ensures first { IfErr result (λ back. back.fault ≢ FileFault.OldLayout) }
     {
         let mut store = match PageStore::open(alloc, disk) {
             Ok(store) => store,
@@ -154,11 +156,15 @@ impl<D: SectorDisk> GameFile for FlatTable<D> {
 
     ghost stores = { Stores };
 
+    ghost is_older = { IsOlder };
+
     ghost state = { λ t. state_of (file_in t) };
 
     ghost is_whole = { λ t. IsFile (file_in t) × (t.draft ≡ None) };
 
     ghost stores_one = { λ picture one other first second. a_picture_stores_one_table picture one other first second };
+
+    ghost older_stores_none = { λ picture kept older it. older };
 
     ghost stores_begins = { λ picture kept it. it.holds.table };
 

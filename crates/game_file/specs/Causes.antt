@@ -6,19 +6,22 @@ use Rattle.retrograde.specs.Stored.{Stored, loaded}
 use Rattle.table.specs.Fitting.{FitsTogether}
 use Rattle.table.specs.declared.fault.TableFault.{TableFault}
 use Rattle.table.specs.declared.fault.TableFault.TheVariants as table
-use Rattle.game_file.specs.Kept.{Kept, Layout}
+use Rattle.game_file.specs.Kept.{Kept, Layout, Older}
 use Rattle.game_file.specs.State.{State}
 use Rattle.game_file.specs.declared.fault.FileFault.{FileFault}
-use Rattle.game_file.specs.declared.fault.FileFault.TheVariants.{Disk as DiskFailed, NotATable, AlreadyATable, Damaged, TooSmall, TableFull}
-use Rattle.game_file.specs.declared.fault.FileFault.TheVariants.{OutOfMemory, Closed, Inconsistent}
+use Rattle.game_file.specs.declared.fault.FileFault.TheVariants.{Disk as DiskFailed, NotATable, AlreadyATable, Damaged, OldLayout, TooSmall}
+use Rattle.game_file.specs.declared.fault.FileFault.TheVariants.{TableFull, OutOfMemory, Closed, Inconsistent}
 
--- `open`: the disk failed; it is no table; it stores none; or memory ran out
-abbrev pub FileOpenCause : Layout → Disk → ℕ → ℕ → FileFault → Type 0
-FileOpenCause Stores disk before now DiskFailed = Grew before now
-FileOpenCause Stores disk before now NotATable = IsTrue disk.honest → ¬ IsTablePicture disk.now.contents
-FileOpenCause Stores disk before now Damaged = IsTrue disk.honest → (kept : Option Kept) → ¬ Stores disk.now.contents kept
-FileOpenCause Stores disk before now OutOfMemory = Unit {0}
-FileOpenCause Stores disk before now _ = ⊥
+-- `open`: the disk failed; it is no table; it stores none, and none of an earlier layout; it holds one of an earlier layout; or
+-- memory ran out
+abbrev pub FileOpenCause : Layout → Older → Disk → ℕ → ℕ → FileFault → Type 0
+FileOpenCause Stores IsOlder disk before now DiskFailed = Grew before now
+FileOpenCause Stores IsOlder disk before now NotATable = IsTrue disk.honest → ¬ IsTablePicture disk.now.contents
+FileOpenCause Stores IsOlder disk before now Damaged =
+    IsTrue disk.honest → ((kept : Option Kept) → ¬ Stores disk.now.contents kept) × (¬ IsOlder disk.now.contents)
+FileOpenCause Stores IsOlder disk before now OldLayout = IsTrue disk.honest → IsOlder disk.now.contents
+FileOpenCause Stores IsOlder disk before now OutOfMemory = Unit {0}
+FileOpenCause Stores IsOlder disk before now _ = ⊥
 
 -- `create`: the disk failed; a table is there; there is room for fewer than 16 pages, and no table; or memory ran out
 abbrev pub FileCreateCause : Disk → ℕ → ℕ → FileFault → Type 0

@@ -20,3 +20,7 @@ text_kept (Some kept) = Some kept.text
 -- which picture of a disk stores which table, or that none of a game is there: each layout of a file says it in its own way
 abbrev pub Layout : Type 1
 Layout = Picture → Option Kept → Type 0
+
+-- which picture of a disk holds a table of an earlier layout: each layout of a file says it in its own way
+abbrev pub Older : Type 1
+Older = Picture → Type 0

@@ -21,6 +21,9 @@ pub enum FileFault {
     /// What is there spells no table whose parts fit together (E4).
     #[error("the table is damaged")]
     Damaged,
+    /// The table is in a file of an earlier layout, which is not opened (E5).
+    #[error("the table has an earlier layout")]
+    OldLayout,
     /// There is room for fewer than 16 pages (E6).
     #[error("there is room for fewer than 16 pages")]
     TooSmall,

@@ -5,7 +5,7 @@ ghost use Rattle.sector_disk.specs.Disk.{Picture};
 ghost use Rattle.root_pair.specs.Root.{IsTablePicture};
 ghost use Rattle.retrograde.specs.Stored.{IsTable, loaded};
 ghost use Rattle.table.specs.declared.fault.TableFault.{TableFault};
-ghost use Rattle.game_file.specs.Kept.{Kept, Layout, kept_as, text_kept};
+ghost use Rattle.game_file.specs.Kept.{Kept, Layout, Older, kept_as, text_kept};
 ghost use Rattle.game_file.specs.State.{State, GoesAhead};
 ghost use Rattle.game_file.specs.Stops.{LeavesNow};
 ghost use Rattle.game_file.specs.Calls.{IsOpenedFile, IsNotOpened, IsCreatedFile, IsNotCreated, IsPut, IsNotPut, IsKept, IsAsked};
@@ -29,6 +29,9 @@ pub trait GameFile: Table {
     /// Which pictures of the disk store which table: the layout of the file.
     ghost stores: { Layout };
 
+    /// Which pictures of the disk hold a table of an earlier layout, which is not opened.
+    ghost is_older: { Older };
+
     /// Its disk, and what the last commit keeps.
     ghost state: { Self → State };
 
@@ -44,13 +47,13 @@ pub trait GameFile: Table {
         ensures cause { IfErr result (λ back. FileCreateCause (Self.Device.disk disk) (Self.Device.failures disk)
             (Self.Device.failures back.disk) back.fault) };
 
-    /// Opens the table that this disk stores, after a sync: E1, E2, E4, E8.
+    /// Opens the table that this disk stores, after a sync: E1, E2, E4, E5, E8.
     fn open(alloc: Global, disk: Self::Device) -> Result<Self, Refused<Self::Device>>
         ensures whole { IfOk result is_whole }
         ensures ok { IfOk result (λ file. IsOpenedFile stores (Self.Device.disk disk) (Self.Device.failures disk) (state file)) }
         ensures refused { IfErr result (λ back. IsNotOpened (Self.Device.disk disk) (Self.Device.failures disk)
             (Self.Device.disk back.disk) (Self.Device.failures back.disk)) }
-        ensures cause { IfErr result (λ back. FileOpenCause stores (Self.Device.disk disk) (Self.Device.failures disk)
+        ensures cause { IfErr result (λ back. FileOpenCause stores is_older (Self.Device.disk disk) (Self.Device.failures disk)
             (Self.Device.failures back.disk) back.fault) };
 
     /// The text of the game, if one is loaded. It takes no memory and always answers.
@@ -109,6 +112,9 @@ pub trait GameFile: Table {
 
     /// A picture stores one table at most.
     ghost stores_one: { (picture : Picture) (one other : Option Kept) → stores picture one → stores picture other → one ≡ other };
+
+    /// A picture that holds a table of an earlier layout stores none.
+    ghost older_stores_none: { (picture : Picture) (kept : Option Kept) → is_older picture → stores picture kept → ⊥ };
 
     /// A picture that stores a table begins as each table does.
     ghost stores_begins: { (picture : Picture) (kept : Option Kept) → stores picture kept → IsTablePicture picture };

@@ -8,7 +8,7 @@ use Rattle.game_file.specs.Kept.{Kept, Layout}
 use Rattle.game_file.specs.State.{State}
 use Rattle.game_file.specs.Stops.{LeavesNow}
 use Rattle.recover.specs.declared.fault.SolverFault.{SolverFault}
-use Rattle.recover.specs.declared.fault.SolverFault.TheVariants.{Disk as DiskFailed, NotATable, AlreadyATable, Damaged, TooSmall, TableFull, OutOfMemory, Closed, Game as BadGame, NoGame, GameAlready, KeeperChooses, TooWide, TooManyPositions, Inconsistent, NoSuchPosition, NotSettled, BadPosition}
+use Rattle.recover.specs.declared.fault.SolverFault.TheVariants.{Disk as DiskFailed, NotATable, AlreadyATable, Damaged, OldLayout, TooSmall, TableFull, OutOfMemory, Closed, Game as BadGame, NoGame, GameAlready, KeeperChooses, TooWide, TooManyPositions, Inconsistent, NoSuchPosition, NotSettled, BadPosition}
 use Rattle.recover.specs.Headline.{IsUnlucky, Reopens, Headline}
 use Rattle.recover.specs.Held.{Holds, IsSound}
 use Rattle.recover.specs.Histories.{Sitting, LeadTo, History, was_made, was_reopened, was_not_opened}
@@ -61,6 +61,7 @@ module _ (Stores : Layout) where
     opens_or_fails disk before now kept NotATable honest holds cause = absurd (cause honest (begins disk.now.contents kept holds.stores))
     opens_or_fails disk before now kept AlreadyATable honest holds cause = absurd cause
     opens_or_fails disk before now kept Damaged honest holds cause = absurd (cause honest kept holds)
+    opens_or_fails disk before now kept OldLayout honest holds cause = absurd (cause honest kept holds.stores)
     opens_or_fails disk before now kept TooSmall honest holds cause = absurd cause
     opens_or_fails disk before now kept TableFull honest holds cause = absurd cause
     opens_or_fails disk before now kept OutOfMemory honest holds cause = inr refl

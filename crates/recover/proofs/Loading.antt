@@ -75,6 +75,7 @@ module _ (Stores : Layout) (text start : List ℕ) (game : Game) (reads : Reads 
   load_cause file.NotATable long cause = absurd cause
   load_cause file.AlreadyATable long cause = absurd cause
   load_cause file.Damaged long cause = cause
+  load_cause file.OldLayout long cause = absurd cause
   load_cause file.TooSmall long cause = absurd cause
   load_cause file.TableFull long cause = (cause, (game, reads))
   load_cause file.OutOfMemory long cause = tt

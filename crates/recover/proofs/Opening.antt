@@ -6,16 +6,16 @@ use Rattle.sector_disk.specs.Disk.{Picture, Disk, LeavesOnly, MayLeave, Grew}
 use Rattle.sector_disk.specs.aid.Moments.{goes_on_trans, leaves_then, leaves_more, still_honest}
 use Rattle.game_file.specs.Calls.{IsOpenedFile, IsNotOpened, IsCreatedFile, IsNotCreated, IsAsked}
 use Rattle.game_file.specs.Causes.{FileOpenCause, FileCreateCause}
-use Rattle.game_file.specs.Kept.{Kept, Layout}
+use Rattle.game_file.specs.Kept.{Kept, Layout, Older}
 use Rattle.game_file.specs.State.{State, GoesFrom}
 use Rattle.game_file.specs.Stops.{OldOrEmpty}
 use Rattle.game_file.specs.declared.fault.FileFault.{FileFault}
 use Rattle.game_file.specs.declared.fault.FileFault.TheVariants as file
 use Rattle.recover.specs.declared.fault.SolverFault.{SolverFault}
-use Rattle.recover.specs.declared.fault.SolverFault.TheVariants.{Disk as DiskFailed, NotATable, AlreadyATable, Damaged, TooSmall, TableFull, OutOfMemory, Closed, Game, NoGame, GameAlready, KeeperChooses, TooWide, TooManyPositions, Inconsistent, NoSuchPosition, NotSettled, BadPosition}
+use Rattle.recover.specs.declared.fault.SolverFault.TheVariants.{Disk as DiskFailed, NotATable, AlreadyATable, Damaged, OldLayout, TooSmall, TableFull, OutOfMemory, Closed, Game, NoGame, GameAlready, KeeperChooses, TooWide, TooManyPositions, Inconsistent, NoSuchPosition, NotSettled, BadPosition}
 use Rattle.recover.specs.Faults.{file_fault}
 use Rattle.recover.specs.Held.{IsOfAGame}
-use Rattle.recover.specs.Opening.{IsOpened, IsCreated, OpenCause, CreateCause}
+use Rattle.recover.specs.Opening.{IsOpened, IsCreated, OpenCause, LayoutCause, CreateCause}
 use Rattle.recover.specs.aid.Ready.{NoGameCause, IsHandedBack}
 use Rattle.recover.proofs.Loading.{Leaves}
 use Rattle.recover.proofs.Refusing.{apart}
@@ -23,6 +23,10 @@ use Rattle.recover.proofs.Refusing.{apart}
 -- a picture stores one table at most
 abbrev pub StoresOne : Layout → Type 0
 StoresOne Stores = (picture : Picture) (one other : Option Kept) → Stores picture one → Stores picture other → one ≡ other
+
+-- a picture of an earlier layout stores none
+abbrev pub OlderStoresNone : Layout → Older → Type 0
+OlderStoresNone Stores IsOlder = (picture : Picture) (kept : Option Kept) → IsOlder picture → Stores picture kept → ⊥
 
 -- a count that grew from a later one on grew
 grew_from : {before mid now : ℕ} → before ≤ mid → Grew mid now → Grew before now
@@ -84,6 +88,7 @@ module _ (Stores : Layout) (disk : Disk) (count : ℕ) (file : State) where
   no_game_opened now Damaged one found cause = λ honest kept holds.
       cause (still_honest found.from.goes_on honest)
       (subst (λ (k : Option Kept). IsOfAGame k) (one disk.now.contents kept file.kept holds.stores (found.stored honest)) holds.of_a_game)
+  no_game_opened now OldLayout one found cause = absurd cause
   no_game_opened now TooSmall one found cause = cause
   no_game_opened now TableFull one found cause = cause
   no_game_opened now OutOfMemory one found cause = tt
@@ -98,6 +103,13 @@ module _ (Stores : Layout) (disk : Disk) (count : ℕ) (file : State) where
   no_game_opened now NoSuchPosition one found cause = cause
   no_game_opened now NotSettled one found cause = cause
   no_game_opened now BadPosition one found cause = cause
+
+  -- its table has no earlier layout
+  pub no_game_older : (IsOlder : Older) → OlderStoresNone Stores IsOlder → (now : ℕ) (fault : SolverFault) → IsOpenedFile Stores disk count file
+      → NoGameCause file now fault → LayoutCause IsOlder disk fault
+  no_game_older IsOlder none now OldLayout found cause = absurd cause
+  no_game_older IsOlder none now Damaged found cause = λ honest older. none disk.now.contents file.kept older (found.stored honest)
+  no_game_older IsOlder none now fault found cause = tt
 
   -- what a stop since the making leaves
   created_since : IsCreatedFile Stores disk count file → {later : State} → IsAsked Stores file later → IsTrue disk.honest → LeavesOnly disk later.disk (OldOrEmpty Stores disk.now)
@@ -136,6 +148,7 @@ module _ (Stores : Layout) (disk : Disk) (count : ℕ) (file : State) where
   no_game_created now AlreadyATable made cause = absurd cause
   no_game_created now Damaged made cause = λ honest.
       cause (still_honest made.from.goes_on honest) (subst (λ (k : Option Kept). IsOfAGame k) (sym (made.empty honest)) tt)
+  no_game_created now OldLayout made cause = absurd cause
   no_game_created now TooSmall made cause = absurd cause
   no_game_created now TableFull made cause = cause
   no_game_created now OutOfMemory made cause = tt
@@ -151,23 +164,34 @@ module _ (Stores : Layout) (disk : Disk) (count : ℕ) (file : State) where
   no_game_created now NotSettled made cause = cause
   no_game_created now BadPosition made cause = cause
 
--- a file that is not opened is no solver
-pub open_cause : (Stores : Layout) (disk : Disk) (count now : ℕ) (fault : FileFault) → FileOpenCause Stores disk count now fault → OpenCause Stores disk count now (file_fault fault)
-open_cause Stores disk count now file.Disk cause = cause
-open_cause Stores disk count now file.NotATable cause = cause
-open_cause Stores disk count now file.AlreadyATable cause = cause
-open_cause Stores disk count now file.Damaged cause = λ honest kept holds. cause honest kept holds.stores
-open_cause Stores disk count now file.TooSmall cause = cause
-open_cause Stores disk count now file.TableFull cause = cause
-open_cause Stores disk count now file.OutOfMemory cause = cause
-open_cause Stores disk count now file.Closed cause = cause
-open_cause Stores disk count now file.Inconsistent cause = cause
+module _ (Stores : Layout) (IsOlder : Older) where
+  -- a file that is not opened is no solver
+  pub open_cause : OlderStoresNone Stores IsOlder → (disk : Disk) (count now : ℕ) (fault : FileFault) → FileOpenCause Stores IsOlder disk count now fault
+      → OpenCause Stores disk count now (file_fault fault)
+  open_cause none disk count now file.Disk cause = cause
+  open_cause none disk count now file.NotATable cause = cause
+  open_cause none disk count now file.AlreadyATable cause = cause
+  open_cause none disk count now file.Damaged cause = λ honest kept holds. (cause honest).0 kept holds.stores
+  open_cause none disk count now file.OldLayout cause = λ honest kept stores. none disk.now.contents kept (cause honest) stores
+  open_cause none disk count now file.TooSmall cause = cause
+  open_cause none disk count now file.TableFull cause = cause
+  open_cause none disk count now file.OutOfMemory cause = cause
+  open_cause none disk count now file.Closed cause = cause
+  open_cause none disk count now file.Inconsistent cause = cause
 
+  -- and which layout it has is told
+  pub open_older : (disk : Disk) (count now : ℕ) (fault : FileFault) → FileOpenCause Stores IsOlder disk count now fault → LayoutCause IsOlder disk (file_fault fault)
+  open_older disk count now file.Damaged cause = λ honest. (cause honest).1
+  open_older disk count now file.OldLayout cause = cause
+  open_older disk count now fault cause = tt
+
+-- a file that is not made is none
 pub create_cause : (disk : Disk) (count now : ℕ) (fault : FileFault) → FileCreateCause disk count now fault → CreateCause disk count now (file_fault fault)
 create_cause disk count now file.Disk cause = cause
 create_cause disk count now file.NotATable cause = cause
 create_cause disk count now file.AlreadyATable cause = cause
 create_cause disk count now file.Damaged cause = cause
+create_cause disk count now file.OldLayout cause = cause
 create_cause disk count now file.TooSmall cause = cause
 create_cause disk count now file.TableFull cause = cause
 create_cause disk count now file.OutOfMemory cause = cause

@@ -5,7 +5,7 @@ use Rattle.sector_disk.specs.aid.Moments.{goes_on_trans, leaves_more}
 use Rattle.game_file.specs.Kept.{Kept, Layout}
 use Rattle.game_file.specs.State.{State, GoesAhead}
 use Rattle.recover.specs.declared.fault.SolverFault.{SolverFault}
-use Rattle.recover.specs.declared.fault.SolverFault.TheVariants.{Disk as DiskFailed, NotATable, AlreadyATable, Damaged, TooSmall, TableFull, OutOfMemory, Closed, Game as BadGame, NoGame, GameAlready, KeeperChooses, TooWide, TooManyPositions, Inconsistent, NoSuchPosition, NotSettled, BadPosition}
+use Rattle.recover.specs.declared.fault.SolverFault.TheVariants.{Disk as DiskFailed, NotATable, AlreadyATable, Damaged, OldLayout, TooSmall, TableFull, OutOfMemory, Closed, Game as BadGame, NoGame, GameAlready, KeeperChooses, TooWide, TooManyPositions, Inconsistent, NoSuchPosition, NotSettled, BadPosition}
 use Rattle.recover.specs.declared.replies.Command.{Command as Asked}
 use Rattle.recover.specs.declared.replies.Reply.{Reply}
 use Rattle.recover.specs.declared.replies.Reply.TheVariants.{Refused}
@@ -21,6 +21,7 @@ is_disk DiskFailed was is still open_ shut = refl
 is_disk NotATable was is still open_ shut = absurd (apart was open_ (sym (still (λ e. cc)) ∙ shut))
 is_disk AlreadyATable was is still open_ shut = absurd (apart was open_ (sym (still (λ e. cc)) ∙ shut))
 is_disk Damaged was is still open_ shut = absurd (apart was open_ (sym (still (λ e. cc)) ∙ shut))
+is_disk OldLayout was is still open_ shut = absurd (apart was open_ (sym (still (λ e. cc)) ∙ shut))
 is_disk TooSmall was is still open_ shut = absurd (apart was open_ (sym (still (λ e. cc)) ∙ shut))
 is_disk TableFull was is still open_ shut = absurd (apart was open_ (sym (still (λ e. cc)) ∙ shut))
 is_disk OutOfMemory was is still open_ shut = absurd (apart was open_ (sym (still (λ e. cc)) ∙ shut))

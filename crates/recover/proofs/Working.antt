@@ -124,6 +124,7 @@ module _ (Stores : Layout) (old new : State) (source : Compiled) (k : Kept) (is_
   keep_cause file.NotATable cause = absurd cause
   keep_cause file.AlreadyATable cause = absurd cause
   keep_cause file.Damaged cause = cause
+  keep_cause file.OldLayout cause = absurd cause
   keep_cause file.TooSmall cause = absurd cause
   keep_cause file.TableFull cause = tt
   keep_cause file.OutOfMemory cause = tt

@@ -10,8 +10,8 @@ use Rattle.game_file.specs.declared.fault.FileFault.TheVariants as file
 use Rattle.best_line.specs.declared.fault.LineFault.{LineFault}
 use Rattle.best_line.specs.declared.fault.LineFault.TheVariants as line
 use Rattle.recover.specs.declared.fault.SolverFault.{SolverFault}
-use Rattle.recover.specs.declared.fault.SolverFault.TheVariants.{Disk, NotATable, AlreadyATable, Damaged, TooSmall, TableFull, OutOfMemory}
-use Rattle.recover.specs.declared.fault.SolverFault.TheVariants.{Closed, Game, NoGame, GameAlready, KeeperChooses, TooWide}
+use Rattle.recover.specs.declared.fault.SolverFault.TheVariants.{Disk, NotATable, AlreadyATable, Damaged, OldLayout, TooSmall, TableFull}
+use Rattle.recover.specs.declared.fault.SolverFault.TheVariants.{OutOfMemory, Closed, Game, NoGame, GameAlready, KeeperChooses, TooWide}
 use Rattle.recover.specs.declared.fault.SolverFault.TheVariants.{TooManyPositions, Inconsistent, NoSuchPosition, NotSettled, BadPosition}
 
 abbrev pub file_fault : FileFault → SolverFault
@@ -19,6 +19,7 @@ file_fault file.Disk = Disk
 file_fault file.NotATable = NotATable
 file_fault file.AlreadyATable = AlreadyATable
 file_fault file.Damaged = Damaged
+file_fault file.OldLayout = OldLayout
 file_fault file.TooSmall = TooSmall
 file_fault file.TableFull = TableFull
 file_fault file.OutOfMemory = OutOfMemory
@@ -53,6 +54,7 @@ code_of Disk = codes "E1"
 code_of NotATable = codes "E2"
 code_of AlreadyATable = codes "E3"
 code_of Damaged = codes "E4"
+code_of OldLayout = codes "E5"
 code_of TooSmall = codes "E6"
 code_of TableFull = codes "E7"
 code_of OutOfMemory = codes "E8"

@@ -2,12 +2,12 @@
 use Rattle.std.specs.Prelude.{◌≡◌, ◌<◌, ◌/◌, min, ℕ, false, Option, None, IsTrue}
 use Rattle.sector_disk.specs.Disk.{Disk, size, LeavesOnly, MayLeave, Grew}
 use Rattle.root_pair.specs.Root.{Begins, IsTablePicture}
-use Rattle.game_file.specs.Kept.{Kept, Layout}
+use Rattle.game_file.specs.Kept.{Kept, Layout, Older}
 use Rattle.game_file.specs.State.{State, GoesFrom}
 use Rattle.game_file.specs.Stops.{LeavesNow, OldOrEmpty}
 use Rattle.recover.specs.declared.fault.SolverFault.{SolverFault}
-use Rattle.recover.specs.declared.fault.SolverFault.TheVariants.{Disk as DiskFailed, NotATable, AlreadyATable, Damaged, TooSmall}
-use Rattle.recover.specs.declared.fault.SolverFault.TheVariants.{OutOfMemory}
+use Rattle.recover.specs.declared.fault.SolverFault.TheVariants.{Disk as DiskFailed, NotATable, AlreadyATable, Damaged, OldLayout}
+use Rattle.recover.specs.declared.fault.SolverFault.TheVariants.{TooSmall, OutOfMemory}
 use Rattle.recover.specs.Held.{Holds}
 
 module _ (Stores : Layout) where
@@ -33,13 +33,21 @@ module _ (Stores : Layout) where
     pub since : IsTrue disk.honest → LeavesOnly disk state.disk (OldOrEmpty Stores disk.now)
     pub now : IsTrue disk.honest → LeavesNow Stores state.disk None
 
-  -- why `open` is refused: the disk failed; no table is there; it holds none; or memory ran out
+  -- why `open` is refused: the disk failed; no table is there; it holds none; it has an earlier layout, so that it stores none; or
+  -- memory ran out
   abbrev pub OpenCause : Disk → ℕ → ℕ → SolverFault → Type 0
   OpenCause disk before now DiskFailed = Grew before now
   OpenCause disk before now NotATable = IsTrue disk.honest → ¬ IsTablePicture disk.now.contents
   OpenCause disk before now Damaged = IsTrue disk.honest → (kept : Option Kept) → ¬ Holds Stores disk.now.contents kept
+  OpenCause disk before now OldLayout = IsTrue disk.honest → (kept : Option Kept) → ¬ Stores disk.now.contents kept
   OpenCause disk before now OutOfMemory = Unit {0}
   OpenCause disk before now _ = ⊥
+
+-- `open` is refused for an earlier layout only where the disk holds a table of one, and as damaged only where it holds none of one
+abbrev pub LayoutCause : Older → Disk → SolverFault → Type 0
+LayoutCause IsOlder disk OldLayout = IsTrue disk.honest → IsOlder disk.now.contents
+LayoutCause IsOlder disk Damaged = IsTrue disk.honest → ¬ IsOlder disk.now.contents
+LayoutCause IsOlder disk _ = Unit {0}
 
 -- why `create` is refused: the disk failed; a table is there; there is room for fewer than 16 pages, and no table; or memory ran out
 abbrev pub CreateCause : Disk → ℕ → ℕ → SolverFault → Type 0

@@ -24,6 +24,9 @@ pub enum SolverFault {
     /// E4
     #[error("the table is damaged")]
     Damaged,
+    /// E5: it is in a file of an earlier layout, which is not opened.
+    #[error("the table has an earlier layout")]
+    OldLayout,
     /// E6
     #[error("there is room for fewer than 16 pages")]
     TooSmall,
@@ -88,6 +91,7 @@ impl SolverFault {
             SolverFault::NotATable => "E2",
             SolverFault::AlreadyATable => "E3",
             SolverFault::Damaged => "E4",
+            SolverFault::OldLayout => "E5",
             SolverFault::TooSmall => "E6",
             SolverFault::TableFull => "E7",
             SolverFault::OutOfMemory => "E8",
@@ -118,6 +122,7 @@ impl From<FileFault> for SolverFault {
             FileFault::NotATable => SolverFault::NotATable,
             FileFault::AlreadyATable => SolverFault::AlreadyATable,
             FileFault::Damaged => SolverFault::Damaged,
+            FileFault::OldLayout => SolverFault::OldLayout,
             FileFault::TooSmall => SolverFault::TooSmall,
             FileFault::TableFull => SolverFault::TableFull,
             FileFault::OutOfMemory => SolverFault::OutOfMemory,

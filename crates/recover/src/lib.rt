@@ -10,9 +10,11 @@ mod solver;
 mod with_game;
 
 pub use fault::{Refused, SolverFault};
-use flat_table::FlatTable;
 pub use replies::{Command, Reply, Units, Worked};
 pub use solver::FileSolver;
 
-/// A solver over the file of today's layout, on a disk.
-pub type Solver<D> = FileSolver<FlatTable<D>>;
+/// The file of today's layout, on a disk: no other line of the solver, the sessions and the program names a layout.
+pub type TableFile<D> = flat_table::FlatTable<D>;
+
+/// A solver over such a file.
+pub type Solver<D> = FileSolver<TableFile<D>>;

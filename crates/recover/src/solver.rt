@@ -9,7 +9,7 @@ ghost use Rattle.game_file.specs.Stops.{LeavesNow};
 ghost use Rattle.recover.specs.Headline.{IsUnlucky};
 ghost use Rattle.recover.specs.Held.{Holds, IsSound};
 ghost use Rattle.recover.specs.Machine.{load as load_it, work as work_on};
-ghost use Rattle.recover.specs.Opening.{IsOpened, IsCreated, OpenCause, CreateCause};
+ghost use Rattle.recover.specs.Opening.{IsOpened, IsCreated, OpenCause, LayoutCause, CreateCause};
 ghost use Rattle.recover.specs.Steps.{IsDone, IsRefused};
 ghost use Rattle.recover.specs.Units.{units_in};
 
@@ -54,7 +54,7 @@ impl<F: GameFile> FileSolver<F> {
         }
     }
 
-    /// Opens the table that this disk holds: E1, E2, E4, E8. Where it holds one, that is the one that is given, and only a failure
+    /// Opens the table that this disk holds: E1, E2, E4, E5, E8. Where it holds one, that is the one that is given, and only a failure
     /// of the disk or want of memory can refuse it.
     pub fn open(alloc: Global, disk: F::Device) -> Result<Self, Refused<F::Device>>
         ensures ready { IfOk result IsReady }
@@ -67,6 +67,7 @@ impl<F: GameFile> FileSolver<F> {
             (F.Device.failures back.disk)) }
         ensures cause { IfErr result (λ back. OpenCause F.stores (F.Device.disk disk) (F.Device.failures disk)
             (F.Device.failures back.disk) back.fault) }
+        ensures older { IfErr result (λ back. LayoutCause F.is_older (F.Device.disk disk) back.fault) }
     {
         match F::open(alloc, disk) {
             Ok(file) => with_game(alloc, file),

@@ -1,6 +1,6 @@
 use Rattle.std.proofs.lemmas.Result.{IfErr-weaker}
 use Rattle.sector_disk.specs.aid.Moments.{still_honest}
-use Rattle.flat_table.proofs.Creating.{IsLaidDown, never, counts_none, both_ok, created, not_created, create_cause}
+use Rattle.flat_table.proofs.Creating.{IsLaidDown, never, counts_none, both_ok, both_err, created, not_created, create_cause}
 use Rattle.flat_table.proofs.file.FlatTableGameFile.create.Goals as goal
 
 pub returns-in-Ok-clause-ok : goal.returns-in-Ok-clause-ok
@@ -46,4 +46,5 @@ returns-in-Ok-clause-cause g c =
       moments = made.moments;
       fresh = λ honest begins. never (made.table honest begins).0;
     } in
-    IfErr-weaker c.read.result _ _ (λ back cause. create_cause c.empty_slot.ensures.empty _ _ _ _ made.failures laid _ _ cause) c.read.ensures.cause
+    both_err c.read.result _ _ _ (λ back cause first. create_cause c.empty_slot.ensures.empty _ _ _ _ made.failures laid _ _ cause first)
+    c.read.ensures.cause c.read.ensures.first

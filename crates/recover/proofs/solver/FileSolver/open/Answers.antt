@@ -1,6 +1,6 @@
 use Rattle.std.proofs.lemmas.Result.{IfErr-weaker, IfOk-weaker}
 use Rattle.recover.proofs.Chains.{opened_so, opens_or_fails}
-use Rattle.recover.proofs.Opening.{opened_with, opened_back, no_game_opened, open_cause}
+use Rattle.recover.proofs.Opening.{opened_with, opened_back, no_game_opened, no_game_older, open_cause, open_older}
 use Rattle.recover.proofs.solver.FileSolver.open.Goals as goal
 
 pub returns-in-Ok-clause-opened : goal.returns-in-Ok-clause-opened
@@ -35,8 +35,18 @@ returns-in-Ok-clause-unlucky g c = λ kept honest holds.
 pub returns-in-Err-clause-unlucky : goal.returns-in-Err-clause-unlucky
 returns-in-Err-clause-unlucky g c = λ kept honest holds.
     opens_or_fails g.F.GameFile.stores g.met.F.GameFile.stores_begins (g.F.Device.SectorDisk.disk c.args.disk) (g.F.Device.SectorDisk.failures c.args.disk) _ kept _ honest holds
-    (rw c.into.ensures (open_cause g.F.GameFile.stores (g.F.Device.SectorDisk.disk c.args.disk) (g.F.Device.SectorDisk.failures c.args.disk) _ _ c.in-Err.ensures.cause))
+    (rw c.into.ensures (open_cause g.F.GameFile.stores g.F.GameFile.is_older g.met.F.GameFile.older_stores_none (g.F.Device.SectorDisk.disk c.args.disk) (g.F.Device.SectorDisk.failures c.args.disk) _ _ c.in-Err.ensures.cause))
 
 pub returns-in-Err-clause-cause : goal.returns-in-Err-clause-cause
 returns-in-Err-clause-cause g c =
-    rw c.into.ensures (open_cause g.F.GameFile.stores (g.F.Device.SectorDisk.disk c.args.disk) (g.F.Device.SectorDisk.failures c.args.disk) _ _ c.in-Err.ensures.cause)
+    rw c.into.ensures (open_cause g.F.GameFile.stores g.F.GameFile.is_older g.met.F.GameFile.older_stores_none (g.F.Device.SectorDisk.disk c.args.disk) (g.F.Device.SectorDisk.failures c.args.disk) _ _ c.in-Err.ensures.cause)
+
+pub returns-in-Ok-clause-older : goal.returns-in-Ok-clause-older
+returns-in-Ok-clause-older g c =
+    IfErr-weaker c.with_game.result _ _
+    (λ back cause. no_game_older _ _ _ _ g.F.GameFile.is_older g.met.F.GameFile.older_stores_none _ back.fault c.in-Ok.ensures.ok cause)
+    (c.with_game.ensures.cause c.in-Ok.ensures.whole)
+
+pub returns-in-Err-clause-older : goal.returns-in-Err-clause-older
+returns-in-Err-clause-older g c =
+    rw c.into.ensures (open_older g.F.GameFile.stores g.F.GameFile.is_older (g.F.Device.SectorDisk.disk c.args.disk) (g.F.Device.SectorDisk.failures c.args.disk) _ _ c.in-Err.ensures.cause)
