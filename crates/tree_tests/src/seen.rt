@@ -1,5 +1,5 @@
 //! What a walk tells is kept.
-ghost use Rattle.std.specs.Prelude.{List, map, ⊤};
+ghost use Rattle.std.specs.Prelude.{◌≡◌, List, map, ⊤};
 ghost use Rattle.tree_page.specs.Page.{Item};
 ghost use Rattle.tree_read.specs.declared.entry.Entry.{Entry};
 
@@ -23,7 +23,7 @@ impl Seen {
 }
 
 impl Visitor for Seen {
-    ghost told = { λ v. map (λ e. (e.key.items, e.value.items)) v.entries.items };
+    ghost told = { λ v es. es ≡ map (λ e. (e.key.items, e.value.items)) v.entries.items };
 
     ghost refuses = { λ _ _ _. ⊤ };
 

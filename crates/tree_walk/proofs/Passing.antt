@@ -20,7 +20,7 @@ two_marks : (m : Mark) → m ≡ Committed → m ≡ Waiting → ⊥
 two_marks m one two = cc
 
 -- one part after another
-module _ (ps qs : List ℕ) (es fs : List Item) (old mid new : Store) (last between now : List ℕ) (told more most : List Item) where
+module _ (ps qs : List ℕ) (es fs : List Item) (old mid new : Store) (last between now : List ℕ) (told more most : List Item → Type 0) where
   pub passed_then : length mid.marks ≡ length old.marks → ArePassed ps es old mid last between told more → ArePassed qs fs mid new between now more most
       → ArePassed (ps ++ qs) (es ++ fs) old new last now told most
   passed_then same one two = record {
@@ -47,7 +47,7 @@ module _ (ps qs : List ℕ) (es fs : List Item) (old mid new : Store) (last betw
       apart p was there = two_marks (mark mid.marks p) (one.marked.marked p was) (two.marked.waited p there)
 
 -- one page
-pub passed_page : (w : Widths) (kind : Kind) (page : ℕ) (body : List ℕ) (old new : Store) (last : List ℕ) (told : List Item) → IsTaken w kind page body old new
+pub passed_page : (w : Widths) (kind : Kind) (page : ℕ) (body : List ℕ) (old new : Store) (last : List ℕ) (told : List Item → Type 0) → IsTaken w kind page body old new
     → ArePassed (page ∷ []) [] old new last last told told
 passed_page w kind page body old new last told taken = record {
   marked = record {
@@ -69,7 +69,7 @@ module _ (ps qs : List ℕ) (es fs : List Item) (old : Store) (last : List ℕ) 
     ascending = from_front last es fs ready.ascending;
   }
 
-  pub ready_back : (mid : Store) (between : List ℕ) (told more : List Item) → ArePassed ps es old mid last between told more → AreReady qs fs mid between
+  pub ready_back : (mid : Store) (between : List ℕ) (told more : List Item → Type 0) → ArePassed ps es old mid last between told more → AreReady qs fs mid between
   ready_back mid between told more passed = record {
     waiting = λ p here. passed.marked.kept p (λ was. once_apart ps qs ready.once p was here) ∙ ready.waiting p (Contains-append_right ps qs p here);
     once = once_right ps qs ready.once;

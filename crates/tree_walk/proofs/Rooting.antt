@@ -49,18 +49,18 @@ past_tree w bytes (suc d) page tree =
     (items_in w Inner (bytes page)) tree.1)
 
 -- root 0 has no page and no entry
-pub none_walked : (w : Widths) (root : ℕ) (store : StoreStated) (told : List Item) → root ≡ 0
-    → (pages : List ℕ) × (es : List Item) × HoldsMap w store root pages es × AreMarked pages store store × (told ≡ told ++ es)
+pub none_walked : (w : Widths) (root : ℕ) (store : StoreStated) (told : List Item → Type 0) → root ≡ 0
+    → (pages : List ℕ) × (es : List Item) × HoldsMap w store root pages es × AreMarked pages store store × ((before : List Item) → told before → told (before ++ es))
 none_walked w root store told none = (
   [],
   [],
   inl (record { at_none = none; no_page = refl; no_entry = refl }),
   record { waited = λ p here. absurd (none_contained p here); marked = λ p here. absurd (none_contained p here); kept = λ p not. refl },
-  sym (append-nil told),
+  (λ before was. subst told (sym (append-nil before)) was),
 )
 
 -- the depth is not found
-pub no_depth : (w : Widths) (root : ℕ) (refuses : List Item → Item → Type 0) (told : List Item) (old new : StoreStated) (fault : PageFault) → MapReadCause w root old new fault → WalkCause w root refuses told old new (Store fault)
+pub no_depth : (w : Widths) (root : ℕ) (refuses : List Item → Item → Type 0) (told : List Item → Type 0) (old new : StoreStated) (fault : PageFault) → MapReadCause w root old new fault → WalkCause w root refuses told old new (Store fault)
 no_depth w root refuses told old new Disk grew = grew
 no_depth w root refuses told old new NotATable never = absurd never
 no_depth w root refuses told old new Damaged none = λ honest pages es holds waiting. none honest pages es holds
@@ -101,7 +101,7 @@ module _ (w : Widths) (root depth : ℕ) (old mid new : StoreStated) (some : roo
         ascending = ascends_from [] es both.0 map.ascending;
       })
 
-  pub below_fails : (refuses : List Item → Item → Type 0) (told : List Item) (last : List ℕ) → last ≡ [] → (fault : WalkFault) → BelowCause w depth root last refuses told mid new fault → WalkCause w root refuses told old new fault
+  pub below_fails : (refuses : List Item → Item → Type 0) (told : List Item → Type 0) (last : List ℕ) → last ≡ [] → (fault : WalkFault) → BelowCause w depth root last refuses told mid new fault → WalkCause w root refuses told old new fault
   below_fails refuses told last none (Store Disk) grew = grew_before old.failures mid.failures new.failures works.failures grew
   below_fails refuses told last none (Store NotATable) never = absurd never
   below_fails refuses told last none (Store Damaged) not = λ honest.
@@ -109,15 +109,15 @@ module _ (w : Widths) (root depth : ℕ) (old mid new : StoreStated) (some : roo
   below_fails refuses told last none (Store TableFull) never = absurd never
   below_fails refuses told last none (Store OutOfMemory) never = absurd never
   below_fails refuses told last none (Store Closed) closed = sym unchanged.closed ∙ closed
-  below_fails refuses told last none Refused refused = λ honest.
+  below_fails refuses told last none Refused refused = λ honest before was.
       let same : reads mid ≡ reads old = unchanged_reads old mid honest unchanged in record {
         depth = depth;
-        refused = subst (λ (bytes : ℕ → List ℕ). IsRefused refuses told (entries_below w bytes depth root)) same (refused (still_honest works.goes_on honest));
+        refused = subst (λ (bytes : ℕ → List ℕ). IsRefused refuses before (entries_below w bytes depth root)) same (refused (still_honest works.goes_on honest) before was);
         of_map = of_map honest (λ ps fs. fs ≡ entries_below w (reads old) depth root) (λ i. entries_below w (same i) depth root);
       }
 
-  pub map_walked : (first last now : List ℕ) (told more : List Item) → depth < 24 → IsTrue old.disk.honest → (IsTrue mid.disk.honest → IsWalked w (reads mid) depth root first mid new last now told more)
-      → (pages : List ℕ) × (es : List Item) × HoldsMap w old root pages es × AreMarked pages old new × (more ≡ told ++ es)
+  pub map_walked : (first last now : List ℕ) (told more : List Item → Type 0) → depth < 24 → IsTrue old.disk.honest → (IsTrue mid.disk.honest → IsWalked w (reads mid) depth root first mid new last now told more)
+      → (pages : List ℕ) × (es : List Item) × HoldsMap w old root pages es × AreMarked pages old new × ((before : List Item) → told before → more (before ++ es))
   map_walked first last now told more shallow honest walked_mid =
       let walked : IsWalked w (reads old) depth root first mid new last now told more =
       subst (λ (bytes : ℕ → List ℕ). IsWalked w bytes depth root first mid new last now told more) (unchanged_reads old mid honest unchanged) (walked_mid (still_honest works.goes_on honest)) in (

@@ -41,31 +41,31 @@ pub ascends_from : (last : List ℕ) (es : List Item) → Past es last → Ascen
 ascends_from last [] past ascend = tt
 ascends_from last (e ∷ es) past ascend = (past.0, ascends_from e.0 es (ascend_first e es ascend) (ascend_rest e es ascend))
 
-pub told_none : (last : List ℕ) (told : List Item) → IsTold [] last last told told
-told_none last told = record { ascending = tt; now_is = refl; told_is = sym (append-nil told) }
+pub told_none : (last : List ℕ) (told : List Item → Type 0) → IsTold [] last last told told
+told_none last told = record { ascending = tt; now_is = refl; told_is = λ before was. subst told (sym (append-nil before)) was }
 
-pub told_then : (es fs : List Item) (last mid now : List ℕ) (told more most : List Item) → IsTold es last mid told more → IsTold fs mid now more most → IsTold (es ++ fs) last now told most
+pub told_then : (es fs : List Item) (last mid now : List ℕ) (told more most : List Item → Type 0) → IsTold es last mid told more → IsTold fs mid now more most → IsTold (es ++ fs) last now told most
 told_then es fs last mid now told more most one two = record {
   ascending = from_both last es fs one.ascending (subst (λ (k : List ℕ). AscendFrom k fs) one.now_is two.ascending);
   now_is = two.now_is ∙ ap (λ (k : List ℕ). last_key k fs) one.now_is ∙ sym (last_more last es fs);
-  told_is = two.told_is ∙ ap (λ (ts : List Item). ts ++ fs) one.told_is ∙ append_assoc told es fs;
+  told_is = λ before was. subst most (append_assoc before es fs) (two.told_is (before ++ es) (one.told_is before was));
 }
 
 -- one that is refused among more
-pub refused_later : (refuses : List Item → Item → Type 0) (told more before es after all : List Item) → more ≡ told ++ before → all ≡ before ++ (es ++ after)
-    → IsRefused refuses more es → IsRefused refuses told all
-refused_later refuses told more before es after all told_is is refused = record {
-  front = before ++ refused.front;
+pub refused_later : (refuses : List Item → Item → Type 0) (told front es back all : List Item) → all ≡ front ++ (es ++ back)
+    → IsRefused refuses (told ++ front) es → IsRefused refuses told all
+refused_later refuses told front es back all is refused = record {
+  front = front ++ refused.front;
   entry = refused.entry;
-  back = refused.back ++ after;
-  is = is ∙ ap (λ (fs : List Item). before ++ (fs ++ after)) refused.is ∙ ap (λ (fs : List Item). before ++ fs) (append_assoc refused.front (refused.entry ∷ refused.back) after)
-      ∙ sym (append_assoc before refused.front (refused.entry ∷ (refused.back ++ after)));
-  refused = subst (λ (ts : List Item). refuses ts refused.entry) (ap (λ (ts : List Item). ts ++ refused.front) told_is ∙ append_assoc told before refused.front) refused.refused;
+  back = refused.back ++ back;
+  is = is ∙ ap (λ (fs : List Item). front ++ (fs ++ back)) refused.is ∙ ap (λ (fs : List Item). front ++ fs) (append_assoc refused.front (refused.entry ∷ refused.back) back)
+      ∙ sym (append_assoc front refused.front (refused.entry ∷ (refused.back ++ back)));
+  refused = subst (λ (ts : List Item). refuses ts refused.entry) (append_assoc told front refused.front) refused.refused;
 }
 
 -- one entry more is told, or is not
-module _ (items : List Item) (k : ℕ) (e : Item) (first last : List ℕ) (told more : List Item) (so_far : IsTold (take k items) first last told more) (got : slice_get items k ≡ Some e) where
-  pub told_more : (now : List ℕ) (most : List Item) → IsTold (e ∷ []) last now more most → IsTold (take (k + 1) items) first now told most
+module _ (items : List Item) (k : ℕ) (e : Item) (first last : List ℕ) (told more : List Item → Type 0) (so_far : IsTold (take k items) first last told more) (got : slice_get items k ≡ Some e) where
+  pub told_more : (now : List ℕ) (most : List Item → Type 0) → IsTold (e ∷ []) last now more most → IsTold (take (k + 1) items) first now told most
   told_more now most one =
       let on : k + 1 ≡ suc k = omega arith in
       subst (λ (es : List Item). IsTold es first now told most) (sym (ap (λ (n : ℕ). take n items) on ∙ take_got items k e got))
@@ -82,7 +82,8 @@ module _ (items : List Item) (k : ℕ) (e : Item) (first last : List ℕ) (told 
   tell_fails refuses (Store TableFull) cause = absurd cause
   tell_fails refuses (Store OutOfMemory) cause = absurd cause
   tell_fails refuses (Store Closed) cause = absurd cause
-  tell_fails refuses Refused cause = refused_later refuses told more (take k items) (e ∷ []) (drop (suc k) items) items so_far.told_is (split_got items k e got) cause
+  tell_fails refuses Refused cause = λ before was.
+      refused_later refuses before (take k items) (e ∷ []) (drop (suc k) items) items (split_got items k e got) (cause (before ++ take k items) (so_far.told_is before was))
 
-pub told_all : (items : List Item) (k : ℕ) (first last : List ℕ) (told more : List Item) → length items ≤ k → IsTold (take k items) first last told more → IsTold items first last told more
+pub told_all : (items : List Item) (k : ℕ) (first last : List ℕ) (told more : List Item → Type 0) → length items ≤ k → IsTold (take k items) first last told more → IsTold items first last told more
 told_all items k first last told more many so_far = subst (λ (es : List Item). IsTold es first last told more) (take_all k items many) so_far

@@ -23,7 +23,7 @@ use Rattle.tree_walk.specs.declared.fault.WalkFault.TheVariants.{Store, Refused}
 use Rattle.tree_walk.specs.Walking.{IsRefused}
 use Rattle.tree_walk.specs.aid.Passing.{AreReady, ArePassed, IsWalked, BelowCause}
 use Rattle.tree_walk.specs.aid.Taking.{IsTaken, MarksOnly, TakeCause}
-use Rattle.tree_walk.specs.aid.Telling.{IsTold}
+use Rattle.tree_walk.specs.aid.Telling.{AscendFrom, IsTold, TellCause}
 use Rattle.tree_walk.proofs.Marking.{reads_marked}
 use Rattle.tree_walk.proofs.Passing.{passed_page, passed_then, ready_back, ready_front}
 use Rattle.tree_walk.proofs.Telling.{refused_later}
@@ -44,11 +44,11 @@ module _ (w : Widths) where
   IsBranch bytes d c = IsTree w bytes d (child_of c) × (first_key (entries_below w bytes d (child_of c)) ≡ Some c.0)
 
 -- of the items of a page, the children of so many are walked
-pub record AreOver (w : Widths) (bytes : ℕ → List ℕ) (d page : ℕ) (items : List Item) (k : ℕ) (old now : StoreStated) (last between : List ℕ) (told more : List Item) : Type 0 where
+pub record AreOver (w : Widths) (bytes : ℕ → List ℕ) (d page : ℕ) (items : List Item) (k : ℕ) (old now : StoreStated) (last between : List ℕ) (told more : List Item → Type 0) : Type 0 where
   pub branches : All (IsBranch w bytes d) (take k items)
   pub passed : ArePassed (page ∷ flat_map (pages_at w bytes d) (take k items)) (flat_map (entries_at w bytes d) (take k items)) old now last between told more
 
-pub over_none : (w : Widths) (bytes : ℕ → List ℕ) (d page : ℕ) (items : List Item) (body : List ℕ) (old now : StoreStated) (last : List ℕ) (told : List Item)
+pub over_none : (w : Widths) (bytes : ℕ → List ℕ) (d page : ℕ) (items : List Item) (body : List ℕ) (old now : StoreStated) (last : List ℕ) (told : List Item → Type 0)
     → IsTaken w Inner page body old now → AreOver w bytes d page items 0 old now last last told told
 over_none w bytes d page items body old now last told taken = record {
   branches = All-nil (IsBranch w bytes d);
@@ -56,7 +56,7 @@ over_none w bytes d page items body old now last told taken = record {
 }
 
 -- one child more
-module _ (w : Widths) (bytes : ℕ → List ℕ) (d page : ℕ) (items : List Item) (k : ℕ) (c : Item) (old mid : StoreStated) (last between : List ℕ) (told more : List Item)
+module _ (w : Widths) (bytes : ℕ → List ℕ) (d page : ℕ) (items : List Item) (k : ℕ) (c : Item) (old mid : StoreStated) (last between : List ℕ) (told more : List Item → Type 0)
     (so_far : AreOver w bytes d page items k old mid last between told more) (got : slice_get items k ≡ Some c) where
   one_more : take (k + 1) items ≡ take k items ++ c ∷ []
   one_more = let on : k + 1 ≡ suc k = omega arith in ap (λ (n : ℕ). take n items) on ∙ take_got items k c got
@@ -64,7 +64,7 @@ module _ (w : Widths) (bytes : ℕ → List ℕ) (d page : ℕ) (items : List It
   flat_more : {X : Type 0} (f : Item → List X) → flat_map f (take (k + 1) items) ≡ flat_map f (take k items) ++ f c
   flat_more f = ap (flat_map f) one_more ∙ flat_map-append f (take k items) (c ∷ []) ∙ ap (λ rest. flat_map f (take k items) ++ rest) (append-nil (f c))
 
-  pub over_more : (new : StoreStated) (first now : List ℕ) (most : List Item) → length mid.marks ≡ length old.marks → first ≡ c.0
+  pub over_more : (new : StoreStated) (first now : List ℕ) (most : List Item → Type 0) → length mid.marks ≡ length old.marks → first ≡ c.0
       → IsWalked w bytes d (child_of c) first mid new between now more most → AreOver w bytes d page items (k + 1) old new last now told most
   over_more new first now most same is walked = record {
     branches = subst (All (IsBranch w bytes d)) (sym one_more)
@@ -88,13 +88,15 @@ module _ (w : Widths) (bytes : ℕ → List ℕ) (d page : ℕ) (items : List It
       (subst (λ (es : List Item). AreReady (page ∷ flat_map (pages_at w bytes d) items) es old last) (flat_at (entries_at w bytes d) items k c got) ready))
       mid between told more so_far.passed)
 
-  pub child_refused : (refuses : List Item → Item → Type 0) → IsRefused refuses more (entries_at w bytes d c) → IsRefused refuses told (flat_map (entries_at w bytes d) items)
-  child_refused refuses refused =
-      refused_later refuses told more (flat_map (entries_at w bytes d) (take k items)) (entries_at w bytes d c) (flat_map (entries_at w bytes d) (drop (suc k) items))
-      (flat_map (entries_at w bytes d) items) so_far.passed.entries.told_is (flat_at (entries_at w bytes d) items k c got) refused
+  pub child_refused : (refuses : List Item → Item → Type 0) → ((before : List Item) → more before → IsRefused refuses before (entries_at w bytes d c))
+      → (before : List Item) → told before → IsRefused refuses before (flat_map (entries_at w bytes d) items)
+  child_refused refuses refused before was =
+      refused_later refuses before (flat_map (entries_at w bytes d) (take k items)) (entries_at w bytes d c) (flat_map (entries_at w bytes d) (drop (suc k) items))
+      (flat_map (entries_at w bytes d) items) (flat_at (entries_at w bytes d) items k c got)
+      (refused (before ++ flat_map (entries_at w bytes d) (take k items)) (so_far.passed.entries.told_is before was))
 
 -- all children are walked
-pub over_all : (w : Widths) (bytes : ℕ → List ℕ) (d page : ℕ) (body : List ℕ) (k : ℕ) (old now : StoreStated) (last between : List ℕ) (told more : List Item) (first : List ℕ) → body ≡ bytes page
+pub over_all : (w : Widths) (bytes : ℕ → List ℕ) (d page : ℕ) (body : List ℕ) (k : ℕ) (old now : StoreStated) (last between : List ℕ) (told more : List Item → Type 0) (first : List ℕ) → body ≡ bytes page
     → IsPage w Inner body → length (items_in w Inner body) ≤ k → first_key (items_in w Inner body) ≡ Some first → AreOver w bytes d page (items_in w Inner body) k old now last between told more
     → IsWalked w bytes (suc d) page first old now last between told more
 over_all w bytes d page body k old now last between told more first is form many first_is over =
@@ -118,7 +120,7 @@ over_all w bytes d page body k old now last between told more first is form many
     }
 
 -- a leaf is walked
-pub leaf_walked : (w : Widths) (d page : ℕ) (body : List ℕ) (old new : StoreStated) (last now : List ℕ) (told more : List Item) (first : List ℕ) → d ≡ 0 → body ≡ reads old page → IsTaken w Leaf page body old new
+pub leaf_walked : (w : Widths) (d page : ℕ) (body : List ℕ) (old new : StoreStated) (last now : List ℕ) (told more : List Item → Type 0) (first : List ℕ) → d ≡ 0 → body ≡ reads old page → IsTaken w Leaf page body old new
     → first_key (items_in w Leaf body) ≡ Some first → IsTold (items_in w Leaf body) last now told more → IsWalked w (reads old) d page first old new last now told more
 leaf_walked w d page body old new last now told more first none is taken first_is all =
     let one = passed_page w Leaf page body old new last told taken in
@@ -128,12 +130,28 @@ leaf_walked w d page body old new last now told more first none is taken first_i
       passed = record { marked = one.marked; once = one.once; there = one.there; entries = subst (λ (b : List ℕ). IsTold (items_in w Leaf b) last now told more) is all };
     })
 
+-- the entries of a leaf are not told
+pub leaf_fails : (w : Widths) (d page : ℕ) (body last : List ℕ) (refuses : List Item → Item → Type 0) (told : List Item → Type 0) (old new : StoreStated) → d ≡ 0
+    → (IsTrue old.disk.honest → body ≡ reads old page) → (fault : WalkFault) → TellCause (items_in w Leaf body) last refuses told fault
+    → BelowCause w d page last refuses told old new fault
+leaf_fails w d page body last refuses told old new none is fault cause =
+    subst (λ (e : ℕ). BelowCause w e page last refuses told old new fault) (sym none) (each fault cause)
+  where
+    each : (fault : WalkFault) → TellCause (items_in w Leaf body) last refuses told fault → BelowCause w 0 page last refuses told old new fault
+    each (Store Disk) never = absurd never
+    each (Store NotATable) never = absurd never
+    each (Store Damaged) not = λ honest tree ready. not (subst (λ (b : List ℕ). AscendFrom last (items_in w Leaf b)) (sym (is honest)) ready.ascending)
+    each (Store TableFull) never = absurd never
+    each (Store OutOfMemory) never = absurd never
+    each (Store Closed) never = absurd never
+    each Refused refused = λ honest before was. subst (λ (b : List ℕ). IsRefused refuses before (items_in w Leaf b)) (is honest) (refused before was)
+
 -- one level down
 pub deeper : (d : ℕ) → d ≢ 0 → suc (d - 1) ≡ d
 deeper d some = omega (arith, some)
 
 -- an inner page is not taken
-pub not_taken : (w : Widths) (d page : ℕ) (last : List ℕ) (refuses : List Item → Item → Type 0) (told : List Item) (old new : StoreStated) → d ≢ 0 → (fault : PageFault)
+pub not_taken : (w : Widths) (d page : ℕ) (last : List ℕ) (refuses : List Item → Item → Type 0) (told : List Item → Type 0) (old new : StoreStated) → d ≢ 0 → (fault : PageFault)
     → TakeCause w Inner page old new fault → BelowCause w d page last refuses told old new (Store fault)
 not_taken w d page last refuses told old new some fault cause =
     subst (λ (e : ℕ). BelowCause w e page last refuses told old new (Store fault)) (deeper d some) (each fault cause)
@@ -147,7 +165,7 @@ not_taken w d page last refuses told old new some fault cause =
     each Closed closed = closed
 
 -- at one child of a page
-module _ (w : Widths) (d page : ℕ) (body : List ℕ) (k child : ℕ) (c : Item) (old mid new : StoreStated) (last between : List ℕ) (told more : List Item) (some : d ≢ 0) (marks : MarksOnly old mid)
+module _ (w : Widths) (d page : ℕ) (body : List ℕ) (k child : ℕ) (c : Item) (old mid new : StoreStated) (last between : List ℕ) (told more : List Item → Type 0) (some : d ≢ 0) (marks : MarksOnly old mid)
     (is : IsTrue old.disk.honest → body ≡ reads old page) (got : slice_get (items_in w Inner body) k ≡ Some c) (leads : child ≡ child_of c)
     (over : IsTrue old.disk.honest → AreOver w (reads old) (d - 1) page (items_in w Inner body) k old mid last between told more) where
   -- what is said of the child as it reads now holds as it read at first
@@ -175,12 +193,13 @@ module _ (w : Widths) (d page : ℕ) (body : List ℕ) (k child : ℕ) (c : Item
       each (Store TableFull) never = absurd never
       each (Store OutOfMemory) never = absurd never
       each (Store Closed) closed = sym marks.closed ∙ closed
-      each Refused refused = λ honest.
-          subst (λ (b : List ℕ). IsRefused refuses told (flat_map (entries_at w (reads old) (d - 1)) (items_in w Inner b))) (is honest)
+      each Refused refused = λ honest before was.
+          subst (λ (b : List ℕ). IsRefused refuses before (flat_map (entries_at w (reads old) (d - 1)) (items_in w Inner b))) (is honest)
           (child_refused w (reads old) (d - 1) page (items_in w Inner body) k c old mid last between told more (over honest) got refuses
-          (at_first honest (λ bytes q. IsRefused refuses more (entries_below w bytes (d - 1) q)) (refused (still_honest marks.works.goes_on honest))))
+          (at_first honest (λ bytes q. (after : List Item) → more after → IsRefused refuses after (entries_below w bytes (d - 1) q)) (refused (still_honest marks.works.goes_on honest)))
+          before was)
 
-  module _ (first now : List ℕ) (most : List Item) (walked : IsTrue mid.disk.honest → IsWalked w (reads mid) (d - 1) child first mid new between now more most) where
+  module _ (first now : List ℕ) (most : List Item → Type 0) (walked : IsTrue mid.disk.honest → IsWalked w (reads mid) (d - 1) child first mid new between now more most) where
     walked_first : IsTrue old.disk.honest → IsWalked w (reads old) (d - 1) (child_of c) first mid new between now more most
     walked_first honest = at_first honest (λ bytes q. IsWalked w bytes (d - 1) q first mid new between now more most) (walked (still_honest marks.works.goes_on honest))
 
@@ -194,7 +213,7 @@ module _ (w : Widths) (d page : ℕ) (body : List ℕ) (k child : ℕ) (c : Item
         other (cc))
 
 -- all children of a page are walked
-pub inner_walked : (w : Widths) (d page : ℕ) (body : List ℕ) (k : ℕ) (old now : StoreStated) (last between : List ℕ) (told more : List Item) (first : List ℕ) → d ≢ 0 → body ≡ reads old page
+pub inner_walked : (w : Widths) (d page : ℕ) (body : List ℕ) (k : ℕ) (old now : StoreStated) (last between : List ℕ) (told more : List Item → Type 0) (first : List ℕ) → d ≢ 0 → body ≡ reads old page
     → IsPage w Inner body → length (items_in w Inner body) ≤ k → first_key (items_in w Inner body) ≡ Some first
     → AreOver w (reads old) (d - 1) page (items_in w Inner body) k old now last between told more → IsWalked w (reads old) d page first old now last between told more
 inner_walked w d page body k old now last between told more first some is form many first_is over =

@@ -30,18 +30,19 @@ pub record IsRefused (refuses : List Item → Item → Type 0) (told es : List I
   pub is : es ≡ front ++ entry ∷ back
   pub refused : refuses (told ++ front) entry
 
--- the visitor refused one of the entries that stand below this root, and they are those of the map, where there is one
+-- the visitor, told of `told` before, refused one of the entries that stand below this root, and they are those of the
+-- map, where there is one
 pub record IsRefusedBelow (w : Widths) (root : ℕ) (refuses : List Item → Item → Type 0) (told : List Item) (store : StoreStated) : Type 0 where
   pub depth : ℕ
   pub refused : IsRefused refuses told (entries_below w (reads store) depth root)
   pub of_map : (pages : List ℕ) (es : List Item) → HoldsMap w store root pages es → es ≡ entries_below w (reads store) depth root
 
 -- a map is not walked: the disk failed; below this root is no map on pages that wait, as far as the disk is honest; the
--- store is closed; or the visitor refused an entry
-abbrev pub WalkCause : Widths → ℕ → (List Item → Item → Type 0) → List Item → StoreStated → StoreStated → WalkFault → Type 0
+-- store is closed; or the visitor refused an entry, whatever it may have been told of before
+abbrev pub WalkCause : Widths → ℕ → (List Item → Item → Type 0) → (List Item → Type 0) → StoreStated → StoreStated → WalkFault → Type 0
 WalkCause w root refuses told old new (Store Disk) = Grew old.failures new.failures
 WalkCause w root refuses told old new (Store Damaged) = IsTrue old.disk.honest → (pages : List ℕ) (es : List Item)
     → HoldsMap w old root pages es → AreWaiting pages old → ⊥
 WalkCause w root refuses told old new (Store Closed) = old.closed ≡ true
 WalkCause w root refuses told old new (Store _) = ⊥
-WalkCause w root refuses told old new Refused = IsTrue old.disk.honest → IsRefusedBelow w root refuses told old
+WalkCause w root refuses told old new Refused = IsTrue old.disk.honest → (before : List Item) → told before → IsRefusedBelow w root refuses before old

@@ -27,7 +27,7 @@ pub fn walk<P: Pages, V: Visitor>(
 ) -> Result<(), WalkFault>
     ensures map { IsTrue (P.store store.old).disk.honest → OnOk result ((pages : List ℕ) × (es : List Item)
         × HoldsMap widths (P.store store.old) root pages es × AreMarked pages (P.store store.old) (P.store store.new)
-        × (V.told visitor.new ≡ V.told visitor.old ++ es)) }
+        × ((before : List Item) → V.told visitor.old before → V.told visitor.new (before ++ es))) }
     ensures others { (p : ℕ) → (mark_of (P.store store.new).marks p ≡ mark_of (P.store store.old).marks p)
         ⊎ (mark_of (P.store store.new).marks p ≡ Committed) }
     ensures shown { IsTrue (P.store store.old).disk.honest → (P.store store.new).disk.now ≡ (P.store store.old).disk.now }

@@ -17,14 +17,15 @@ abbrev pub last_key : List ℕ → List Item → List ℕ
 last_key last [] = last
 last_key last (e ∷ es) = last_key e.0 es
 
--- the visitor was told of these entries, which ascend from the last key; `now` is the last key after them
-pub record IsTold (es : List Item) (last now : List ℕ) (told more : List Item) : Type 0 where
+-- the visitor was told of these entries, which ascend from the last key; `now` is the last key after them; `told` says
+-- of which entries it may have been told before, and `more` of which after
+pub record IsTold (es : List Item) (last now : List ℕ) (told more : List Item → Type 0) : Type 0 where
   pub ascending : AscendFrom last es
   pub now_is : now ≡ last_key last es
-  pub told_is : more ≡ told ++ es
+  pub told_is : (before : List Item) → told before → more (before ++ es)
 
 -- entries are not told: they do not ascend, or the visitor refuses one
-abbrev pub TellCause : List Item → List ℕ → (List Item → Item → Type 0) → List Item → WalkFault → Type 0
+abbrev pub TellCause : List Item → List ℕ → (List Item → Item → Type 0) → (List Item → Type 0) → WalkFault → Type 0
 TellCause es last refuses told (Store Damaged) = AscendFrom last es → ⊥
 TellCause es last refuses told (Store _) = ⊥
-TellCause es last refuses told Refused = IsRefused refuses told es
+TellCause es last refuses told Refused = (before : List Item) → told before → IsRefused refuses before es

@@ -3,12 +3,17 @@ use Rattle.tree_page.specs.aid.Items.{length-items}
 use Rattle.tree_page.specs.Page.{Item, count_in}
 use Rattle.tree_walk.proofs.Failing.{passed_on, passed_store}
 use Rattle.tree_walk.proofs.Marking.{marks_then}
-use Rattle.tree_walk.proofs.Walking.{child_fails, inner_walked, leaf_walked, not_taken, over_next, over_none, wrong_first}
+use Rattle.tree_walk.proofs.Walking.{child_fails, inner_walked, leaf_fails, leaf_walked, not_taken, over_next, over_none, wrong_first}
 use Rattle.tree_walk.proofs.below.+walk_below.Goals as goal
 
 pub returns-then-depth-eq0-clause-walked : goal.returns-then-depth-eq0-clause-walked
 returns-then-depth-eq0-clause-walked g t c = λ honest.
     leaf_walked _ _ _ c.take_page.new.bytes _ _ _ _ _ _ _ c.if-depth-eq0.true (c.in_ok-take_page.ensures.taken.is honest) c.in_ok-take_page.ensures.taken c.first_key.ensures c.in_ok-tell_leaf.ensures.told
+
+pub returns-in_err-tell_leaf-clause-cause : goal.returns-in_err-tell_leaf-clause-cause
+returns-in_err-tell_leaf-clause-cause g t c =
+    passed_on _ c.from_residual-in_err-tell_leaf.result _ c.from_residual-in_err-tell_leaf.ensures
+    (leaf_fails c.args.widths c.args.depth c.args.page c.take_page.new.bytes c.args.last.now.items (g.V.Visitor.refuses c.tell_leaf.new.visitor) (g.V.Visitor.told c.args.visitor.now) (g.P.Pages.store c.args.store.now) (g.P.Pages.store c.take_page.new.store) c.if-depth-eq0.true c.in_ok-take_page.ensures.taken.is _ c.in_err-tell_leaf.ensures.cause)
 
 pub returns-in_err-take_page-2-clause-cause : goal.returns-in_err-take_page-2-clause-cause
 returns-in_err-take_page-2-clause-cause g t c =
