@@ -16,7 +16,7 @@ ghost use Rattle.tree_table.specs.Keeping.{IsKeptInTrees, IsStill, IsVacant, IsW
 ghost use Rattle.tree_table.specs.Causes.{LoadCause};
 ghost use Rattle.tree_table.specs.Slot.{slot_in};
 ghost use Rattle.tree_table.specs.Keeping.{slot_or_bare as slot_of};
-ghost use Rattle.tree_table.specs.Working.{bare_slot as bare};
+ghost use Rattle.tree_table.specs.Working.{bare_slot as bare, work_of};
 
 use crate::begin::load;
 use crate::saving::commit;
@@ -71,6 +71,22 @@ fn slot_or_bare(game: &Option<TreeSlot>) -> TreeSlot
 
 impl<P: Pages> TreeTable<P> {
     ghost use Rattle.tree_table.specs.InTrees.{work_in};
+
+    /// The table that this slot of the committed root names, or none where no game is loaded, with the text of the game. Nothing is
+    /// handed out or released in this store.
+    pub fn standing(store: P, game: &Option<TreeSlot>, text: Vec<u8>) -> Self
+        requires sized { AreSized game.now }
+        requires calm { IsCalm (P.store store) }
+        requires stands { IsTrue (P.store store).disk.honest → ∥ StandsFor game.now text.items (P.store store) ∥₁ }
+        ensures work { work_in result ≡ work_of (slot_of game.now) text.items false (P.store store) }
+    {
+        TreeTable {
+            store,
+            slot: slot_or_bare(game),
+            text,
+            torn: false,
+        }
+    }
 
     /// Gives up what was done since the last commit: the table is again the one that this slot of the committed root names, or
     /// none where no game is loaded. It takes no memory and always answers, of a closed store too.
