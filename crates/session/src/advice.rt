@@ -10,6 +10,8 @@ pub fn advice(fault: SolverFault) -> &'static str {
         SolverFault::NotATable => "`rbgsolve create` makes one",
         SolverFault::AlreadyATable => "it stays as it is, so give the name of another file",
         SolverFault::Damaged => "go back to a copy of the file, or begin with a new one",
+        SolverFault::OldLayout =>
+            "open it with the version of rbgsolve that made it, or load the game into a new table",
         SolverFault::TooSmall => "give `--pages` 16 or more",
         SolverFault::TableFull =>
             "the table stays as it was, so work on it in a file with more pages",

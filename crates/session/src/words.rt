@@ -66,7 +66,8 @@ const LOAD_ABOUT: &str = "Loads a game into an empty table";
 const LOAD_LONG_ABOUT: &str = concat!(
     "Loads the game of a text into an empty table, and prints `loaded`.\n",
     "\n",
-    "The table then knows the start of the game. `session` solves it.",
+    "The table then knows the start of the game. `session` solves it. A table of an earlier layout is not opened: ",
+    "that is answered by `refused E5`, and it stays as it is.",
 );
 
 const SESSION_ABOUT: &str = "Works on a table and asks it, by commands on standard input";
@@ -77,7 +78,9 @@ const SESSION_LONG_ABOUT: &str = concat!(
     "\n",
     "Positions are numbered from 0, the start, in the order in which they came to be known. A unit of work looks ",
     "at one position: finds where its moves lead, or, once that is done for all, tells its predecessors who wins ",
-    "it. A table is finished when nothing is left to do. A table that may be read and not written can be asked.",
+    "it. A table is finished when nothing is left to do. A table that may be read and not written can be asked.\n",
+    "\n",
+    "A table of an earlier layout is not opened: that is answered by `refused E5`, and it stays as it is.",
 );
 
 /// The lines that a session takes, as its help shows them.

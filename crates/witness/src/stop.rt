@@ -6,8 +6,7 @@ ghost use Rattle.witness.specs.Sittings.{IsWantOfRoom};
 
 use crate::sittings::{make, use_table, value_of};
 use best_line::Value;
-use flat_table::FlatTable;
-use recover::SolverFault;
+use recover::{SolverFault, TableFile};
 use sector_disk::{FuseDisk, MemDisk};
 use std::alloc::Global;
 
@@ -23,9 +22,9 @@ pub fn value_after_a_stop(alloc: Global, calls: u64, pick: u64) -> Result<Value,
     ensures fault { IfErr result IsWantOfRoom }
 {
     let disk = MemDisk::new(alloc, SECTORS)?;
-    let made = make::<FlatTable<MemDisk>>(alloc, disk)?;
+    let made = make::<TableFile<MemDisk>>(alloc, disk)?;
     let fuse = FuseDisk::new(made, calls);
-    let used = use_table::<FlatTable<FuseDisk<MemDisk>>>(alloc, fuse)?;
+    let used = use_table::<TableFile<FuseDisk<MemDisk>>>(alloc, fuse)?;
     let found = used.into_inner().after_stop(alloc, pick)?;
-    value_of::<FlatTable<MemDisk>>(alloc, found)
+    value_of::<TableFile<MemDisk>>(alloc, found)
 }
