@@ -1,24 +1,22 @@
 -- A commit keeps what pages in use hold.
-use Rattle.std.proofs.Common.{◌≡◌, ◌≢◌, ◌⊎◌, inl, inr, ℕ, ◌≤◌, ◌<◌, ◌^◌, Bool, true, false, List, [], length, Option, None, Some, Result, Ok, Err, Contains, IsTrue, refl, sym, ◌∙◌, ap, subst, arith}
+use Rattle.std.proofs.Common.{◌≡◌, ◌≢◌, ◌⊎◌, inl, inr, ℕ, ◌≤◌, ◌<◌, ◌^◌, Bool, true, false, List, length, Option, None, Some, Result, Ok, Err, IsTrue, refl, sym, ◌∙◌, ap, subst, arith}
 use Rattle.std.specs.Prelude.{OnOk, OnErr, IfErr, IsErrOf}
-use mathlib.Core.Logic.{∥∥₁_elim, ∥∥₁_prop}
 use Rattle.sector_disk.specs.Disk.{GoesOn}
 use Rattle.page_store.specs.declared.fault.PageFault.{PageFault}
-use Rattle.page_store.specs.declared.fault.PageFault.TheVariants.{Disk, NotATable, Damaged, TableFull, OutOfMemory, Closed}
+use Rattle.page_store.specs.declared.fault.PageFault.TheVariants.{Disk, Closed}
 use Rattle.page_store.specs.declared.marks.Mark.{Mark}
 use Rattle.page_store.specs.declared.marks.Mark.TheVariants.{Committed, Waiting, Fresh, Released, Free}
 use Rattle.page_store.specs.Marks.{mark, needs, turned, IsNeeded, AreCommitted}
 use Rattle.page_store.specs.Spelling.{IsCalm}
-use Rattle.page_store.specs.Store.{Store, reads, Commits, IsCommitted}
+use Rattle.page_store.specs.Store.{Store, reads, IsCommitted}
 use Rattle.retrograde.specs.Stored.{Stored}
-use Rattle.tree_map.specs.Changes.{AreHeld}
 use Rattle.tree_page.specs.Page.{Item}
 use Rattle.tree_table.specs.declared.slot.TreeSlot.{TreeSlot}
 use Rattle.tree_table.specs.declared.tree.Tree.{Tree}
 use Rattle.tree_table.specs.Forest.{IsForest}
 use Rattle.tree_table.specs.Keeping.{IsOneOf, IsStill, StandsInTrees, StandsFor, IsSizedSlot, AreSized, slot_or_bare}
 use Rattle.tree_table.specs.Trees.{root_of}
-use Rattle.tree_table.specs.Working.{Work, work_of, table_now, nothing, bare_slot, HoldsForest, HoldsTable, HoldsWork, IsHonestWork}
+use Rattle.tree_table.specs.Working.{work_of, table_now, nothing, bare_slot, HoldsForest, HoldsTable, HoldsWork}
 use Rattle.tree_table.specs.aid.Keeping.{forest_rests}
 use Rattle.tree_table.specs.aid.Standing.{stands_held}
 use Rattle.tree_map.specs.aid.Laws.{a_map_is_prepared}

@@ -1,14 +1,12 @@
 -- The first table of a game.
-use Rattle.std.proofs.Common.{◌≡◌, ◌≢◌, ◌⊎◌, inl, inr, ℕ, zero, suc, ◌≤◌, ◌<◌, ◌^◌, Bool, true, false, List, [], ◌∷◌, length, Option, None, Some, Result, Ok, Err, Contains, IsTrue, refl, sym, ◌∙◌, ap, subst, arith}
-use Rattle.std.specs.Prelude.{OnOk, OnErr, IfErr, slice_get}
+use Rattle.std.proofs.Common.{◌≡◌, inl, inr, ℕ, zero, suc, ◌≤◌, true, false, List, length, Option, None, Some, Result, Ok, Err, IsTrue, refl, sym, ◌∙◌, ap, subst, arith}
+use Rattle.std.specs.Prelude.{OnErr, IfErr, slice_get}
 use Rattle.std.specs.Option.{IsSome}
 use Rattle.sector_disk.specs.aid.Moments.{leaves_more, still_honest}
-use Rattle.page_store.specs.declared.marks.Mark.TheVariants.{Fresh}
-use Rattle.page_store.specs.Marks.{mark}
 use Rattle.page_store.specs.Causes.{StoreCommitCause}
 use Rattle.page_store.specs.declared.fault.PageFault.{PageFault}
 use Rattle.page_store.specs.declared.fault.PageFault.TheVariants as page
-use Rattle.page_store.specs.Store.{Store, reads, IsSafe, StoreWorks}
+use Rattle.page_store.specs.Store.{Store, IsSafe, StoreWorks}
 use Rattle.page_chain.specs.Causes.{ChainWriteCause}
 use Rattle.table.specs.declared.fault.TableFault.{TableFault}
 use Rattle.table.specs.declared.fault.TableFault.TheVariants.{Disk, Damaged, TableFull, OutOfMemory, Closed}
@@ -16,19 +14,16 @@ use Rattle.tree_map.specs.aid.Unchanged.{grew_before}
 use Rattle.tree_table.specs.Causes.{AddCause, HasNoTable, LoadCause}
 use Rattle.tree_table.specs.aid.Faults.{fault_of}
 use Rattle.page_store.specs.aid.Carrying.{saved_spells}
-use Rattle.page_chain.specs.Chain.{IsChain}
 use Rattle.retrograde.specs.declared.records.Record.{Record}
 use Rattle.retrograde.specs.Changes.{fresh_record}
-use Rattle.retrograde.specs.Stored.{Stored, IsTable, HasRecord, FitsState, is_expanded, loaded, view_of, value_of}
+use Rattle.retrograde.specs.Stored.{IsTable, HasRecord, FitsState, is_expanded, loaded, view_of}
 use Rattle.game_file.specs.Kept.{Kept, kept_as}
 use Rattle.game_file.specs.Stops.{LeavesTable}
-use Rattle.tree_map.specs.aid.Laws.{none_contained}
 use Rattle.tree_table.specs.declared.slot.TreeSlot.{TreeSlot}
 use Rattle.tree_table.specs.Held.{StoresTrees}
 use Rattle.tree_table.specs.Keeping.{IsKeptInTrees, IsSizedSlot, IsVacant, IsWorkedOn}
-use Rattle.tree_table.specs.Working.{bare_slot, nothing, HoldsTable}
+use Rattle.tree_table.specs.Working.{HoldsTable}
 use Rattle.tree_table.specs.aid.Keeping.{kept_stands, spells_stores_trees}
-use Rattle.tree_table.proofs.Bare.{bare_holds}
 use Rattle.std.proofs.lemmas.Option.{same_Some}
 
 -- a call that commits nothing leaves what is kept, all the time

@@ -1,27 +1,20 @@
 -- What stands stays where the root and the pages that it needs are as they were.
-use Rattle.std.specs.Prelude.{◌≡◌, ◌⊎◌, ℕ, ◌≤◌, ◌<◌, ◌^◌, Bool, true, false, List, [], length, Option, None, Some, Contains, IsTrue}
+use Rattle.std.specs.Prelude.{◌≡◌, ◌⊎◌, ℕ, Bool, true, false, List, length, Option, None, Some, IsTrue}
 use Rattle.std.proofs.Common.{inl, inr, refl, sym, ◌∙◌, ap, subst, arith}
-use mathlib.Core.Logic.{∥∥₁_elim, ∥∥₁_prop}
 use Rattle.sector_disk.specs.aid.Moments.{goes_on_refl, goes_on_trans, still_honest}
 use Rattle.sector_disk.specs.Disk.{Disk, GoesOn}
 use Rattle.page_store.specs.Page.{page}
 use Rattle.page_store.specs.declared.marks.Mark.{Mark}
 use Rattle.page_store.specs.declared.marks.Mark.TheVariants.{Committed, Waiting, Fresh, Released, Free}
-use Rattle.page_store.specs.Marks.{mark, needs, keeps, turned, IsNeeded, AreDiscarded, AreCommitted}
+use Rattle.page_store.specs.Marks.{mark, needs, turned, IsNeeded, AreDiscarded}
 use Rattle.page_store.specs.Spelling.{IsCalm}
-use Rattle.page_store.specs.Store.{Store, reads, StoreWorks, IsRemarked, IsCommitted}
-use Rattle.retrograde.specs.Stored.{Stored}
+use Rattle.page_store.specs.Store.{Store, reads, StoreWorks, IsRemarked}
 use Rattle.game_file.specs.Kept.{Kept}
-use Rattle.tree_page.specs.Page.{Item}
 use Rattle.tree_table.specs.declared.slot.TreeSlot.{TreeSlot}
-use Rattle.tree_table.specs.declared.tree.Tree.{Tree}
 use Rattle.tree_table.specs.Forest.{IsForest}
-use Rattle.tree_table.specs.Keeping.{IsOneOf, KeepsOn, IsKeptInTrees, IsStill, StandsInTrees, StandsFor, AreSized, slot_or_bare}
-use Rattle.tree_table.specs.Slot.{slot_in}
-use Rattle.tree_table.specs.Spelled.{table_in}
-use Rattle.tree_table.specs.Working.{HoldsTable, bare_slot}
-use Rattle.tree_table.specs.aid.Keeping.{forest_rests, keeps_rests, keeps_as, kept_is_held}
-use Rattle.tree_table.specs.aid.Spelling.{table_is}
+use Rattle.tree_table.specs.Keeping.{IsKeptInTrees, IsStill, StandsInTrees, StandsFor}
+use Rattle.tree_table.specs.Working.{HoldsTable}
+use Rattle.tree_table.specs.aid.Keeping.{forest_rests, keeps_rests, keeps_as}
 
 -- a disk that is honest now was so before
 pub was_honest : {old new : Disk} → GoesOn old new → IsTrue new.honest → IsTrue old.honest
@@ -97,7 +90,8 @@ discarded_calm old new marks none = record {
 }
 
 -- what is kept is kept still
-pub still_keeps : (old new : Store) (kept : Option Kept) → IsTrue old.disk.honest → IsStill old new → IsKeptInTrees old kept → IsKeptInTrees new kept
+pub still_keeps : (old new : Store) (kept : Option Kept) → IsTrue old.disk.honest → IsStill old new → IsKeptInTrees old kept
+    → IsKeptInTrees new kept
 still_keeps old new kept honest still it = record {
   text_pages = it.text_pages;
   pages = it.pages;
@@ -109,7 +103,8 @@ still_keeps old new kept honest still it = record {
 }
 
 -- what stands stands still
-pub still_stands : (slot : TreeSlot) (text : List ℕ) (old new : Store) → IsTrue old.disk.honest → IsStill old new → StandsInTrees slot text old
+pub still_stands : (slot : TreeSlot) (text : List ℕ) (old new : Store) → IsTrue old.disk.honest → IsStill old new
+    → StandsInTrees slot text old
     → StandsInTrees slot text new
 still_stands slot text old new honest still it = record {
   table = it.table;

@@ -1,7 +1,6 @@
-use Rattle.std.proofs.Common.{◌≡◌, ◌≤◌, inl, inr, ℕ, List, length, Contains, Result, Ok, Err, IsTrue, refl, sym, ◌∙◌, ap, subst, arith}
-use Rattle.std.specs.Prelude.{IfOk, IfErr}
+use Rattle.std.proofs.Common.{◌≡◌, inr, ℕ, length, IsTrue, sym, ◌∙◌, ap, subst, arith}
 use Rattle.sector_disk.specs.aid.Moments.{still_honest}
-use Rattle.page_store.specs.Store.{Store, reads}
+use Rattle.page_store.specs.Store.{reads}
 use Rattle.page_store.specs.aid.Works.{works_then}
 use Rattle.page_chain.specs.Chain.{IsChain, first_of}
 use Rattle.tree_table.specs.declared.slot.TreeSlot.{TreeSlot}

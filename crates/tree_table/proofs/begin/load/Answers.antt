@@ -1,9 +1,7 @@
-use Rattle.std.proofs.Common.{◌≡◌, ◌⊎◌, inl, inr, ℕ, ◌≤◌, length, false, Option, None, Some, ap, sym, subst, arith}
-use Rattle.std.specs.Prelude.{OnOk, OnErr}
+use Rattle.std.proofs.Common.{◌≡◌, inl, false, None}
 use Rattle.sector_disk.specs.aid.Moments.{leaves_more, goes_on_trans, still_honest}
-use Rattle.page_store.specs.Spelling.{IsCalm}
 use Rattle.retrograde.specs.Stored.{loaded}
-use Rattle.game_file.specs.Kept.{Kept, kept_as}
+use Rattle.game_file.specs.Kept.{kept_as}
 use Rattle.game_file.specs.Stops.{LeavesTable}
 use Rattle.tree_table.specs.Held.{StoresTrees}
 use Rattle.tree_table.proofs.Committing.{held_on, committed_held, committed_calm, committed_stands}

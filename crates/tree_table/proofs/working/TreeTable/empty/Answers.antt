@@ -1,8 +1,8 @@
 use Rattle.std.proofs.Common.{◌≡◌, ◌≤◌, ◌^◌, ℕ, List, [], refl, sym, ◌∙◌, ap, subst, arith}
-use Rattle.page_store.specs.Store.{Store, reads}
+use Rattle.page_store.specs.Store.{reads}
 use Rattle.tree_table.specs.declared.slot.TreeSlot.{TreeSlot}
 use Rattle.tree_table.specs.Spelled.{table_in}
-use Rattle.tree_table.specs.Working.{bare_slot, nothing, work_of, HoldsTable, HoldsWork}
+use Rattle.tree_table.specs.Working.{bare_slot, nothing, HoldsTable}
 use Rattle.tree_table.specs.aid.Spelling.{table_is}
 use Rattle.tree_table.proofs.Bare.{bare_holds}
 use Rattle.tree_table.proofs.Holding.{holds_itself}

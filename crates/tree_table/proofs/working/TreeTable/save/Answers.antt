@@ -1,8 +1,7 @@
-use Rattle.std.proofs.Common.{◌≡◌, ℕ, List, length, Result, Ok, Err, IsTrue, sym, ap, subst}
-use Rattle.std.specs.Prelude.{OnOk}
+use Rattle.std.proofs.Common.{ℕ, List}
 use mathlib.Core.Logic.{∥∥₁_elim, ∥∥₁_prop}
 use Rattle.page_store.specs.Spelling.{IsCalm}
-use Rattle.page_store.specs.Store.{Store, IsCommitted}
+use Rattle.page_store.specs.Store.{IsCommitted}
 use Rattle.tree_table.specs.Keeping.{StandsInTrees}
 use Rattle.tree_table.specs.Working.{work_of, table_now, HoldsWork}
 use Rattle.tree_table.specs.aid.Standing.{was_honest}

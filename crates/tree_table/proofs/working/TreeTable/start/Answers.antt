@@ -1,15 +1,11 @@
-use Rattle.std.proofs.Common.{◌≡◌, ◌⊎◌, ◌≤◌, ◌^◌, ℕ, List, length, false, Option, None, Some, Result, Ok, Err, IsTrue, sym, ap, subst}
-use Rattle.std.specs.Prelude.{OnOk}
-use mathlib.Core.Logic.{∥∥₁_elim, ∥∥₁_prop}
+use Rattle.std.proofs.Common.{ℕ, List, None, Some, subst}
 use Rattle.retrograde.specs.Stored.{loaded}
-use Rattle.game_file.specs.Kept.{Kept, kept_as}
+use Rattle.game_file.specs.Kept.{kept_as}
 use Rattle.game_file.specs.Stops.{LeavesEither}
-use Rattle.tree_table.specs.declared.slot.TreeSlot.{TreeSlot}
 use Rattle.tree_table.specs.Held.{StoresTrees}
 use Rattle.tree_table.specs.Keeping.{IsKeptInTrees, StandsInTrees}
 use Rattle.tree_table.specs.Working.{HoldsTable}
 use Rattle.tree_table.specs.aid.Standing.{was_honest}
-use Rattle.tree_table.proofs.Committing.{on_ok}
 use Rattle.tree_table.proofs.Holding.{holds_itself}
 use Rattle.tree_table.proofs.working.TreeTable.start.Goals as goal
 

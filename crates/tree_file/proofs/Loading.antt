@@ -1,0 +1,64 @@
+-- A game is loaded into a file without one.
+use Rattle.std.proofs.Common.{◌≡◌, inl, ℕ, Bool, true, false, List, length, Option, None, Some, Result, Ok, Err, IsTrue, refl, sym, ap, subst, arith}
+use Rattle.std.specs.Prelude.{OnErr, nat_lt, if◌then◌else◌}
+use Rattle.std.specs.Option.{is_some}
+use Rattle.std.proofs.lemmas.Bool.{ltb-true}
+use Rattle.sector_disk.specs.Disk.{Grew}
+use Rattle.sector_disk.specs.aid.Moments.{leaves_more, leaves_now}
+use Rattle.page_store.specs.Store.{Store, IsRemarked, reads}
+use Rattle.page_store.specs.aid.Works.{works_refl}
+use Rattle.table.specs.declared.fault.TableFault.{TableFault}
+use Rattle.table.specs.declared.fault.TableFault.TheVariants as table
+use Rattle.game_file.specs.Calls.{IsNotPut}
+use Rattle.game_file.specs.Causes.{FileLoadCause}
+use Rattle.game_file.specs.declared.fault.FileFault.TheVariants.{TableFull, OutOfMemory}
+use Rattle.game_file.specs.Kept.{Kept}
+use Rattle.tree_table.specs.declared.slot.TreeSlot.{TreeSlot}
+use Rattle.tree_table.specs.Causes.{LoadCause}
+use Rattle.tree_table.specs.Held.{StoresTrees}
+use Rattle.tree_table.specs.Keeping.{IsKeptInTrees, IsVacant}
+use Rattle.tree_table.specs.aid.Standing.{works_still}
+use Rattle.tree_file.specs.File.{File, IsWholeFile, kept_of, kept_with, state_of}
+use Rattle.tree_file.specs.aid.Faults.{load_fault}
+use Rattle.tree_file.specs.aid.Whole.{whole_leaves}
+use Rattle.tree_file.proofs.Saving.{not_put}
+
+-- nothing is done
+pub nothing_put : (was : File) (is : Kept) → IsWholeFile was → IsNotPut StoresTrees is (state_of was) (state_of was)
+nothing_put was is whole =
+    not_put was was is whole (works_still (works_refl was.work.store)) refl refl whole.calm
+    (λ honest is_open. leaves_now was.work.store.disk (whole_leaves was whole honest is_open))
+    (λ honest is_open. leaves_more (λ picture stored. inl stored) (leaves_now was.work.store.disk (whole_leaves was whole honest is_open)))
+
+pub so_refused : {X E P : Type 0} (r : Result X E) → P → OnErr r P
+so_refused (Ok x) so = tt
+so_refused (Err f) so = so
+
+-- no game is loaded
+pub no_game : (game : Option TreeSlot) → is_some game ≡ false → game ≡ None
+no_game None is = refl
+no_game (Some s) is = absurd (cc)
+
+pub none_kept : (was : File) → was.game ≡ None → kept_of was ≡ None
+none_kept was none = ap (λ (g : Option TreeSlot). kept_with g was.work.text (reads was.work.store)) none
+
+pub vacant : (was : File) → IsWholeFile was → was.game ≡ None → IsTrue was.work.store.disk.honest → was.work.store.closed ≡ false → IsVacant was.work.store
+vacant was whole none honest is_open = record {
+  honest = honest;
+  safe = whole.sound.safe honest is_open;
+  kept = subst (λ (k : Option Kept). IsKeptInTrees was.work.store k) (none_kept was none) (whole.kept honest);
+  enough = whole.room;
+}
+
+-- why none is loaded
+pub why_not_loaded : (start : List ℕ) (long : ℕ) (was new : File) (left : Store) (fault : TableFault) (capacity : ℕ) → capacity ≡ length was.work.store.marks
+    → IsRemarked left new.work.store → LoadCause long was.work.store left fault → FileLoadCause start (state_of was) (state_of new) (load_fault fault capacity)
+why_not_loaded start long was new left table.Disk capacity same others cause = subst (λ (n : ℕ). Grew was.work.store.failures n) (sym others.failures) cause
+why_not_loaded start long was new left table.Damaged capacity same others cause = cause
+why_not_loaded start long was new left table.TableFull capacity same others cause = by_size (nat_lt capacity 24) refl
+  where
+    by_size : (b : Bool) → nat_lt capacity 24 ≡ b → FileLoadCause start (state_of was) (state_of new) (if b then TableFull else OutOfMemory)
+    by_size true is = omega (arith, ltb-true capacity 24 is, same)
+    by_size false is = tt
+why_not_loaded start long was new left table.OutOfMemory capacity same others cause = tt
+why_not_loaded start long was new left table.Closed capacity same others cause = cause

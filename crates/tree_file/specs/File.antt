@@ -1,0 +1,60 @@
+-- What is stated of a table's file of layout 2.
+use Rattle.std.specs.Prelude.{◌≡◌, ℕ, ◌≤◌, ◌<◌, false, List, length, Option, None, Some, IsTrue}
+use Rattle.page_store.specs.declared.marks.Mark.TheVariants.{Free}
+use Rattle.page_store.specs.Marks.{mark}
+use Rattle.page_store.specs.Spelling.{IsCalm}
+use Rattle.page_store.specs.Store.{IsSoundStore, reads}
+use Rattle.root_slot.specs.Fields.{commits_in}
+use Rattle.game_file.specs.Kept.{Kept, kept_as}
+use Rattle.game_file.specs.State.{State}
+use Rattle.tree_table.specs.declared.slot.TreeSlot.{TreeSlot}
+use Rattle.tree_table.specs.Keeping.{IsKeptInTrees, slot_or_bare}
+use Rattle.tree_table.specs.Slot.{slot_in, IsEmptyTreeSlot}
+use Rattle.tree_table.specs.Spelled.{table_in}
+use Rattle.tree_table.specs.Working.{Work}
+
+-- a file: the table that a command has come to, and the slot of the committed root, if a game is loaded
+pub record File : Type 0 where
+  pub work : Work
+  pub game : Option TreeSlot
+
+-- the file of these
+abbrev pub file_of : Work → Option TreeSlot → File
+file_of w g = record { work = w; game = g }
+
+-- this text, and the table that this slot and these pages spell, if a game is loaded
+abbrev pub kept_with : Option TreeSlot → List ℕ → (ℕ → List ℕ) → Option Kept
+kept_with None text bytes = None
+kept_with (Some slot) text bytes = Some (kept_as text (table_in slot bytes))
+
+-- the text and the table of the last commit, if a game is loaded
+abbrev pub kept_of : File → Option Kept
+kept_of file = kept_with file.game file.work.text (reads file.work.store)
+
+-- what is stated of it as of a table's file of any layout
+abbrev pub state_of : File → State
+state_of file = record {
+  disk = file.work.store.disk;
+  failures = file.work.store.failures;
+  capacity = length file.work.store.marks;
+  closed = file.work.store.closed;
+  commits = commits_in file.work.store.root;
+  kept = kept_of file;
+}
+
+-- the root is that of the empty table, or this is its slot
+abbrev pub Names : List ℕ → Option TreeSlot → Type 0
+Names root None = IsEmptyTreeSlot root
+Names root (Some slot) = slot ≡ slot_in root
+
+-- between commands: the table at work is that of the last commit, nothing is handed out or released, a file without a game uses no
+-- page, and the committed root and its pages spell what is kept
+pub record IsWholeFile (file : File) : Type 0 where
+  pub sound : IsSoundStore file.work.store
+  pub room : 16 ≤ length file.work.store.marks
+  pub whole : file.work.torn ≡ false
+  pub slot : file.work.slot ≡ slot_or_bare file.game
+  pub names : Names file.work.store.root file.game
+  pub calm : IsCalm file.work.store
+  pub free : file.game ≡ None → (p : ℕ) → 1 ≤ p → p < length file.work.store.marks → mark file.work.store.marks p ≡ Free
+  pub kept : IsTrue file.work.store.disk.honest → IsKeptInTrees file.work.store (kept_of file)

@@ -1,0 +1,4 @@
+pub mod Backed
+pub mod Faults
+pub mod Frames
+pub mod Whole

@@ -1,0 +1,10 @@
+//! A game's table in a file of layout 2: its text on a chain of pages, and four trees, of which a command writes what it changes.
+#![tactic(auto)]
+
+mod file;
+pub mod laws;
+mod on_disk;
+mod working;
+
+pub use file::TreeFile;
+pub use on_disk::PagesOnDisk;
