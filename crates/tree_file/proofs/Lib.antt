@@ -1,3 +1,4 @@
 mod Passing
 mod Saving
 mod Loading
+mod Creating

@@ -1,4 +1,5 @@
 pub mod Backed
 pub mod Faults
 pub mod Frames
+pub mod Making
 pub mod Whole

@@ -29,11 +29,11 @@ use tree_table::{TreeSlot, TreeTable};
 /// give the command up these pages are free again.
 #[derive(Drop)]
 pub struct TreeFile<P: PagesOnDisk> {
-    alloc: Global,
+    pub(crate) alloc: Global,
     /// The table that a command has come to.
     pub(crate) table: TreeTable<P>,
     /// Commits since the file was made, as the committed root tells them.
-    commits: u64,
+    pub(crate) commits: u64,
     /// The slot of the committed root, where a game is loaded.
     pub(crate) game: Option<TreeSlot>,
     ghost counted: { commits ≡ commits_in (work_in table).store.root },

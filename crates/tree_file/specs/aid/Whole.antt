@@ -5,7 +5,6 @@ use Rattle.std.proofs.lemmas.Option.{same_Some}
 use mathlib.Core.Logic.{∥∥₁_elim}
 use denote.Struct.Props.{props}
 use Rattle.sector_disk.specs.aid.Moments.{leaves_more, still_honest}
-use Rattle.sector_disk.specs.Disk.{Picture}
 use Rattle.page_store.specs.declared.marks.Mark.{Mark}
 use Rattle.page_store.specs.declared.marks.Mark.TheVariants.{Committed, Free}
 use Rattle.page_store.specs.Marks.{mark, needs}
