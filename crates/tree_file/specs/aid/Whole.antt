@@ -113,7 +113,12 @@ works_leaves was now whole works honest is_open =
 
 -- it is in a later state
 pub works_ahead : (old new : File) → StoreWorks old.work.store new.work.store → GoesAhead (state_of old) (state_of new)
-works_ahead old new works = record { goes_on = works.goes_on; same_size = works.same_size; failures = works.failures; capacity = works.same_pages }
+works_ahead old new works = record {
+  goes_on = works.goes_on;
+  same_size = works.same_size;
+  failures = works.failures;
+  capacity = works.same_pages;
+}
 
 -- the table of a whole file is what it keeps
 pub whole_stored : (file : File) (kept : Kept) → IsWholeFile file → IsTrue file.work.store.disk.honest → kept_of file ≡ Some kept
