@@ -1,5 +1,5 @@
 -- What a command has come to is committed, or given up.
-use Rattle.std.proofs.Common.{◌≡◌, inl, inr, ℕ, ◌≤◌, false, List, length, Option, None, Some, IsTrue, sym, ◌∙◌, ap, subst, arith}
+use Rattle.std.proofs.Common.{◌≢◌, ◌≡◌, inl, inr, ℕ, ◌≤◌, false, List, length, Option, None, Some, IsTrue, sym, ◌∙◌, ap, subst, arith}
 use Rattle.std.proofs.lemmas.Option.{same_Some}
 use Rattle.sector_disk.specs.Disk.{Disk, GoesOn, Grew, LeavesOnly, size}
 use Rattle.page_store.specs.Causes.{StoreCommitCause}
@@ -7,6 +7,8 @@ use Rattle.page_store.specs.declared.fault.PageFault.{PageFault}
 use Rattle.page_store.specs.declared.fault.PageFault.TheVariants as page
 use Rattle.game_file.specs.Causes.{FileCommitCause}
 use Rattle.game_file.specs.Faults.{of_pages}
+use Rattle.game_file.specs.declared.fault.FileFault.{FileFault}
+use Rattle.game_file.specs.declared.fault.FileFault.TheVariants.{OutOfMemory, TableFull}
 use Rattle.tree_map.specs.aid.Unchanged.{grew_before}
 use Rattle.sector_disk.specs.aid.Moments.{goes_on_trans}
 use Rattle.page_store.specs.declared.marks.Mark.TheVariants.{Committed, Waiting, Free}
@@ -28,7 +30,7 @@ use Rattle.tree_table.specs.Working.{HoldsTable, HoldsWork, table_now}
 use Rattle.tree_table.specs.aid.Keeping.{kept_is_held}
 use Rattle.tree_table.specs.aid.Standing.{still_then, was_honest, works_still}
 use Rattle.tree_file.specs.Calls.{FileGoesOn}
-use Rattle.tree_file.specs.File.{File, Names, IsWholeFile, kept_of, kept_with, state_of}
+use Rattle.tree_file.specs.File.{File, NamesSlot, IsWholeFile, kept_of, kept_with, state_of}
 use Rattle.tree_file.specs.aid.Whole.{again_kept, again_text, again_whole, kept_spells, works_leaves}
 
 -- the disk of a later state is that of another
@@ -76,7 +78,7 @@ module _ (was : File) (kept : Kept) (whole : IsWholeFile was) (is : kept_of was 
   its_slot : was.work.slot ≡ slot_in was.work.store.root
   its_slot = by_game was.game whole.slot whole.names is
     where
-      by_game : (game : Option TreeSlot) → was.work.slot ≡ slot_or_bare game → Names was.work.store.root game
+      by_game : (game : Option TreeSlot) → was.work.slot ≡ slot_or_bare game → NamesSlot was.work.store.root game
           → kept_with game was.work.text (reads was.work.store) ≡ Some kept → was.work.slot ≡ slot_in was.work.store.root
       by_game None slot names none = absurd (cc)
       by_game (Some s) slot names some = slot ∙ names
@@ -137,7 +139,7 @@ module _ (was new : File) (next : TreeSlot) (is : Kept) (game : new.game ≡ Som
     room = room;
     whole = torn;
     slot = slot ∙ ap slot_or_bare (sym game);
-    names = subst (λ (g : Option TreeSlot). Names new.work.store.root g) (sym game) (sym root);
+    names = subst (λ (g : Option TreeSlot). NamesSlot new.work.store.root g) (sym game) (sym root);
     calm = calm;
     free = λ none. absurd (no_game new.game game none);
     kept = λ honest.
@@ -186,3 +188,12 @@ calm_sealed store calm p waits = elim (calm.each p) [
   | inl is ↦ let never : Committed ≡ Waiting = sym is ∙ waits in cc
   | inr is ↦ let never : Free ≡ Waiting = sym is ∙ waits in cc
 ]
+
+-- neither memory nor a page is wanted
+pub no_want : (mid left : Store) (fault : PageFault) (told : FileFault) → told ≡ of_pages fault → StoreCommitCause mid left fault → (told ≢ OutOfMemory) × (told ≢ TableFull)
+no_want mid left page.Disk told is cause = (λ e. cc, λ e. cc)
+no_want mid left page.NotATable told is cause = absurd cause
+no_want mid left page.Damaged told is cause = absurd cause
+no_want mid left page.TableFull told is cause = absurd cause
+no_want mid left page.OutOfMemory told is cause = absurd cause
+no_want mid left page.Closed told is cause = (λ e. cc, λ e. cc)

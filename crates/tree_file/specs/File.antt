@@ -43,9 +43,9 @@ state_of file = record {
 }
 
 -- the root is that of the empty table, or this is its slot
-abbrev pub Names : List ℕ → Option TreeSlot → Type 0
-Names root None = IsEmptyTreeSlot root
-Names root (Some slot) = slot ≡ slot_in root
+abbrev pub NamesSlot : List ℕ → Option TreeSlot → Type 0
+NamesSlot root None = IsEmptyTreeSlot root
+NamesSlot root (Some slot) = slot ≡ slot_in root
 
 -- between commands: the table at work is that of the last commit, nothing is handed out or released, a file without a game uses no
 -- page, and the committed root and its pages spell what is kept
@@ -54,7 +54,7 @@ pub record IsWholeFile (file : File) : Type 0 where
   pub room : 16 ≤ length file.work.store.marks
   pub whole : file.work.torn ≡ false
   pub slot : file.work.slot ≡ slot_or_bare file.game
-  pub names : Names file.work.store.root file.game
+  pub names : NamesSlot file.work.store.root file.game
   pub calm : IsCalm file.work.store
   pub free : file.game ≡ None → (p : ℕ) → 1 ≤ p → p < length file.work.store.marks → mark file.work.store.marks p ≡ Free
   pub kept : IsTrue file.work.store.disk.honest → IsKeptInTrees file.work.store (kept_of file)

@@ -109,9 +109,9 @@ impl<P: PagesOnDisk> TreeFile<P> {
         }
     }
 
-    /// Commits the table that a command has come to since the file was whole: S6 if a call of the command has stopped half way, and E9,
-    /// E1. A refusal gives the command up, but that after E1 in a write or a sync the file is closed, and the disk has the table of
-    /// the last commit or this one.
+    /// Commits the table that a command has come to since the file was whole: E9, E1. Such a refusal gives the command up, but that after
+    /// E1 in a write or a sync the file is closed, and the disk has the table of the last commit or this one. S6 if no game is loaded, or
+    /// if a call of the command has stopped half way: then nothing is done.
     pub fn commit(&mut self) -> Result<(), FileFault>
         ensures ahead { GoesAhead (state_of (file_in self.old)) (state_of (file_in self.new)) }
         ensures ok { (was : File) (kept : Kept) → IsWholeFile was → kept_of was ≡ Some kept → FileGoesOn was (file_in self.old)
@@ -124,6 +124,7 @@ impl<P: PagesOnDisk> TreeFile<P> {
             (kept_as kept.text (table_now (file_in self.old).work)) (state_of was) (state_of (file_in self.new))) }
         ensures cause { (was : File) (kept : Kept) → IsWholeFile was → kept_of was ≡ Some kept → FileGoesOn was (file_in self.old)
             → IfErr result (FileCommitCause kept.table (table_now (file_in self.old).work) (state_of was) (state_of (file_in self.new))) }
+        ensures no_want { IfErr result (λ fault. (fault ≢ FileFault.OutOfMemory) × (fault ≢ FileFault.TableFull)) }
         ensures still { (was : File) → FileGoesOn was (file_in self.old) → IfErr result (λ fault. fault ≢ FileFault.Disk
             → (file_in self.new).work.store.closed ≡ was.work.store.closed) }
     {

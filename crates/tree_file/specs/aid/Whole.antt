@@ -30,7 +30,7 @@ use Rattle.tree_table.specs.aid.Keeping.{kept_is_held, kept_stands, kept_stays, 
 use Rattle.tree_table.specs.aid.Spelling.{table_is}
 use Rattle.tree_table.specs.aid.Standing.{still_keeps, works_still}
 use Rattle.tree_file.specs.Calls.{FileStays, FileFails}
-use Rattle.tree_file.specs.File.{File, Names, IsWholeFile, kept_of, kept_with, state_of}
+use Rattle.tree_file.specs.File.{File, NamesSlot, IsWholeFile, kept_of, kept_with, state_of}
 
 -- between commands a stop leaves what is kept
 pub whole_leaves : (file : File) → IsWholeFile file → IsTrue file.work.store.disk.honest → file.work.store.closed ≡ false
@@ -46,7 +46,7 @@ kept_spells store kept calm it =
 
 -- what this slot spells still is what was kept
 kept_same : (game : Option TreeSlot) (text : List ℕ) (old new : Store) → IsTrue old.disk.honest → IsStill old new → IsCalm new
-    → Names old.root game
+    → NamesSlot old.root game
     → IsKeptInTrees old (kept_with game text (reads old)) → kept_with game text (reads new) ≡ kept_with game text (reads old)
 kept_same None text old new honest still calm names it = refl
 kept_same (Some slot) text old new honest still calm names it =
@@ -90,7 +90,7 @@ module _ (was new : File) (whole : IsWholeFile was) (still : IsStill was.work.st
     room = omega (arith, whole.room, still.same_pages);
     whole = torn;
     slot = slot;
-    names = subst (λ (g : Option TreeSlot). Names new.work.store.root g) (sym game) (subst (λ (r : List ℕ). Names r was.game)
+    names = subst (λ (g : Option TreeSlot). NamesSlot new.work.store.root g) (sym game) (subst (λ (r : List ℕ). NamesSlot r was.game)
         (sym still.root) whole.names);
     calm = calm;
     free = λ none p some low.

@@ -16,7 +16,7 @@ use Rattle.tree_file.specs.File.{file_of, kept_of, state_of}
 use Rattle.tree_file.specs.InFile.{file_in}
 use Rattle.tree_file.specs.aid.Backed.{IsBackedFile, backed_still}
 use Rattle.tree_file.specs.aid.Whole.{again_whole}
-use Rattle.tree_file.proofs.Saving.{calm_sealed, kept_text_is, not_put, put_now, put_whole, same_disk, why_not, worked}
+use Rattle.tree_file.proofs.Saving.{no_want, calm_sealed, kept_text_is, not_put, put_now, put_whole, same_disk, why_not, worked}
 use Rattle.tree_file.proofs.file.TreeFile.commit.Goals as goal
 
 pub invariant_of-self : goal.invariant_of-self
@@ -102,3 +102,6 @@ returns-in-Err-clause-cause g c = λ was kept whole is ahead.
     let now = table_now (work_in self.table) in
     subst (λ (f : FileFault). FileCommitCause kept.table now (state_of was) (state_of new) f) (sym c.into.ensures)
     (why_not was (file_in self) new kept.table now (work_in c.save.new.self).store c.in-Err.fault ahead.work.works ahead.work.still c.restore.ensures.others c.in-Err.ensures.cause)
+
+pub returns-in-Err-clause-no_want : goal.returns-in-Err-clause-no_want
+returns-in-Err-clause-no_want g c = no_want (work_in c.args.self.now.table).store (work_in c.save.new.self).store c.in-Err.fault c.into.result c.into.ensures c.in-Err.ensures.cause
