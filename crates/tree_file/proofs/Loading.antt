@@ -14,7 +14,7 @@ use Rattle.game_file.specs.Causes.{FileLoadCause}
 use Rattle.game_file.specs.declared.fault.FileFault.TheVariants.{TableFull, OutOfMemory}
 use Rattle.game_file.specs.Kept.{Kept}
 use Rattle.tree_table.specs.declared.slot.TreeSlot.{TreeSlot}
-use Rattle.tree_table.specs.Causes.{LoadCause}
+use Rattle.tree_table.specs.Causes.{StartCause}
 use Rattle.tree_table.specs.Held.{StoresTrees}
 use Rattle.tree_table.specs.Keeping.{IsKeptInTrees, IsVacant}
 use Rattle.tree_table.specs.aid.Standing.{works_still}
@@ -52,7 +52,7 @@ vacant was whole none honest is_open = record {
 
 -- why none is loaded
 pub why_not_loaded : (start : List ℕ) (long : ℕ) (was new : File) (left : Store) (fault : TableFault) (capacity : ℕ) → capacity ≡ length was.work.store.marks
-    → IsRemarked left new.work.store → LoadCause long was.work.store left fault → FileLoadCause start (state_of was) (state_of new) (load_fault fault capacity)
+    → IsRemarked left new.work.store → StartCause long was.work.store left fault → FileLoadCause start (state_of was) (state_of new) (load_fault fault capacity)
 why_not_loaded start long was new left table.Disk capacity same others cause = subst (λ (n : ℕ). Grew was.work.store.failures n) (sym others.failures) cause
 why_not_loaded start long was new left table.Damaged capacity same others cause = cause
 why_not_loaded start long was new left table.TableFull capacity same others cause = by_size (nat_lt capacity 24) refl

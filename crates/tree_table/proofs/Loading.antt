@@ -11,7 +11,7 @@ use Rattle.page_chain.specs.Causes.{ChainWriteCause}
 use Rattle.table.specs.declared.fault.TableFault.{TableFault}
 use Rattle.table.specs.declared.fault.TableFault.TheVariants.{Disk, Damaged, TableFull, OutOfMemory, Closed}
 use Rattle.tree_map.specs.aid.Unchanged.{grew_before}
-use Rattle.tree_table.specs.Causes.{AddCause, HasNoTable, LoadCause}
+use Rattle.tree_table.specs.Causes.{AddCause, HasNoTable, StartCause}
 use Rattle.tree_table.specs.aid.Faults.{fault_of}
 use Rattle.page_store.specs.aid.Carrying.{saved_spells}
 use Rattle.retrograde.specs.declared.records.Record.{Record}
@@ -67,7 +67,7 @@ loaded_is_table x = record {
 }
 
 -- why the first table is not put
-pub chain_fails : (long : ℕ) (old new : Store) (fault : PageFault) → ChainWriteCause long old new fault → LoadCause long old new (fault_of fault)
+pub chain_fails : (long : ℕ) (old new : Store) (fault : PageFault) → ChainWriteCause long old new fault → StartCause long old new (fault_of fault)
 chain_fails long old new page.Disk cause = cause.0
 chain_fails long old new page.NotATable cause = absurd cause
 chain_fails long old new page.Damaged cause = absurd cause
@@ -76,7 +76,7 @@ chain_fails long old new page.OutOfMemory cause = tt
 chain_fails long old new page.Closed cause = cause
 
 pub add_fails : (long : ℕ) (x : List ℕ) (slot : TreeSlot) (old mid new : Store) (fault : TableFault) → StoreWorks old mid → mid.closed ≡ old.closed
-    → (IsTrue mid.disk.honest → HasNoTable slot mid → ⊥) → AddCause x slot mid new fault → LoadCause long old new fault
+    → (IsTrue mid.disk.honest → HasNoTable slot mid → ⊥) → AddCause x slot mid new fault → StartCause long old new fault
 add_fails long x slot old mid new Disk works still there cause = grew_before old.failures mid.failures new.failures works.failures cause
 add_fails long x slot old mid new Damaged works still there cause = λ honest. there (still_honest works.goes_on honest) cause
 add_fails long x slot old mid new TableFull works still there cause = inr cause
@@ -84,7 +84,7 @@ add_fails long x slot old mid new OutOfMemory works still there cause = tt
 add_fails long x slot old mid new Closed works still there cause = sym still ∙ cause
 
 pub commit_fails : (long : ℕ) (old mid new : Store) (fault : PageFault) → StoreWorks old mid → mid.closed ≡ old.closed → StoreCommitCause mid new fault
-    → LoadCause long old new (fault_of fault)
+    → StartCause long old new (fault_of fault)
 commit_fails long old mid new page.Disk works still cause = grew_before old.failures mid.failures new.failures works.failures cause.0
 commit_fails long old mid new page.NotATable works still cause = absurd cause
 commit_fails long old mid new page.Damaged works still cause = absurd cause

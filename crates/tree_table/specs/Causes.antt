@@ -42,9 +42,9 @@ AddCause position slot old new fault = ChangeCause HasNoTable slot old new fault
 
 -- no game is loaded: the disk failed, or is not honest; its text takes more pages than are free, or a page is needed then and none is
 -- free; memory ran out; the store was closed
-abbrev pub LoadCause : ℕ → Store → Store → TableFault → Type 0
-LoadCause long old new Disk = Grew old.failures new.failures
-LoadCause long old new Damaged = ¬ IsTrue old.disk.honest
-LoadCause long old new TableFull = (4092 * free_count old.marks < long) ⊎ (free_count new.marks ≡ 0)
-LoadCause long old new OutOfMemory = Unit {0}
-LoadCause long old new Closed = old.closed ≡ true
+abbrev pub StartCause : ℕ → Store → Store → TableFault → Type 0
+StartCause long old new Disk = Grew old.failures new.failures
+StartCause long old new Damaged = ¬ IsTrue old.disk.honest
+StartCause long old new TableFull = (4092 * free_count old.marks < long) ⊎ (free_count new.marks ≡ 0)
+StartCause long old new OutOfMemory = Unit {0}
+StartCause long old new Closed = old.closed ≡ true

@@ -10,7 +10,7 @@ ghost use Rattle.table.specs.declared.fault.TableFault.TheVariants.{Disk};
 ghost use Rattle.game_file.specs.Kept.{kept_as};
 ghost use Rattle.game_file.specs.Stops.{LeavesEither, LeavesTable};
 ghost use Rattle.root_slot.specs.Fields.{commits_in};
-ghost use Rattle.tree_table.specs.Causes.{LoadCause};
+ghost use Rattle.tree_table.specs.Causes.{StartCause};
 ghost use Rattle.tree_table.specs.Held.{StoresTrees};
 ghost use Rattle.tree_table.specs.Keeping.{IsKeptInTrees, IsSizedSlot, IsStill, IsVacant, StandsInTrees};
 ghost use Rattle.tree_table.specs.Slot.{slot_in};
@@ -61,7 +61,7 @@ fn first_table<P: Pages>(
     ensures works { StoreWorks (P.store store.old) (P.store store.new) }
     ensures open { OnOk result ((P.store store.new).closed ≡ (P.store store.old).closed) }
     ensures still { IfErr result (λ fault. fault ≢ Disk → (P.store store.new).closed ≡ (P.store store.old).closed) }
-    ensures cause { IfErr result (LoadCause (length text.now) (P.store store.old) (P.store store.new)) }
+    ensures cause { IfErr result (StartCause (length text.now) (P.store store.old) (P.store store.new)) }
 {
     let pages = match write_chain(alloc, store, text) {
         Ok(pages) => pages,
@@ -105,7 +105,7 @@ pub fn load<P: Pages>(
     ensures open { OnOk result ((P.store store.new).closed ≡ false) }
     ensures still { IfErr result (λ fault. fault ≢ Disk → (P.store store.new).closed ≡ (P.store store.old).closed) }
     ensures shut { (P.store store.new).closed ≡ false → (P.store store.old).closed ≡ false }
-    ensures cause { IfErr result (LoadCause (length text.now) (P.store store.old) (P.store store.new)) }
+    ensures cause { IfErr result (StartCause (length text.now) (P.store store.old) (P.store store.new)) }
 {
     let slot = first_table(alloc, store, text, start)?;
     match commit(store, commits, &slot) {

@@ -13,7 +13,7 @@ ghost use Rattle.game_file.specs.Stops.{LeavesEither, LeavesTable};
 ghost use Rattle.root_slot.specs.Fields.{commits_in};
 ghost use Rattle.tree_table.specs.Held.{StoresTrees};
 ghost use Rattle.tree_table.specs.Keeping.{IsKeptInTrees, IsStill, IsVacant, IsWorkedOn, StandsInTrees, StandsFor, AreSized};
-ghost use Rattle.tree_table.specs.Causes.{LoadCause};
+ghost use Rattle.tree_table.specs.Causes.{StartCause};
 ghost use Rattle.tree_table.specs.Slot.{slot_in};
 ghost use Rattle.tree_table.specs.Keeping.{slot_or_bare as slot_of};
 ghost use Rattle.tree_table.specs.Working.{bare_slot as bare, work_of};
@@ -181,7 +181,7 @@ impl<P: Pages> TreeTable<P> {
         ensures still { IfErr result (λ fault. fault ≢ Disk
             → (work_in self.new).store.closed ≡ (work_in self.old).store.closed) }
         ensures shut { (work_in self.new).store.closed ≡ false → (work_in self.old).store.closed ≡ false }
-        ensures cause { IfErr result (LoadCause (length text.items) (work_in self.old).store (work_in self.new).store) }
+        ensures cause { IfErr result (StartCause (length text.items) (work_in self.old).store (work_in self.new).store) }
     {
         self.torn = true;
         let slot = load(alloc, &mut self.store, commits, &text, start)?;

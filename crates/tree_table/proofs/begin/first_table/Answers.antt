@@ -4,7 +4,7 @@ use Rattle.page_store.specs.Store.{reads}
 use Rattle.page_store.specs.aid.Works.{works_then}
 use Rattle.page_chain.specs.Chain.{IsChain, first_of}
 use Rattle.tree_table.specs.declared.slot.TreeSlot.{TreeSlot}
-use Rattle.tree_table.specs.Causes.{AddCause, LoadCause}
+use Rattle.tree_table.specs.Causes.{AddCause, StartCause}
 use Rattle.tree_table.specs.Working.{nothing, text_slot, HoldsTable}
 use Rattle.tree_table.proofs.Bare.{text_holds}
 use Rattle.tree_table.proofs.Loading.{add_fails, on_error}
@@ -42,6 +42,6 @@ returns-clause-cause g c =
     let mid = g.P.Pages.store c.write_chain.new.store in
     let new = g.P.Pages.store c.add_position.new.store in
     let long = length c.args.text.now in
-    on_error (AddCause c.args.start.now.items c.text_slot-slot.result mid new) (LoadCause long old new) c.add_position.result
+    on_error (AddCause c.args.start.now.items c.text_slot-slot.result mid new) (StartCause long old new) c.add_position.result
     (λ fault cause. add_fails long c.args.start.now.items c.text_slot-slot.result old mid new fault c.write_chain.ensures.works c.in-Ok.ensures.closed
     (λ honest none. none honest c.args.text.now nothing (chain_held g c (was_honest c.write_chain.ensures.works.goes_on honest))) cause) c.add_position.ensures.cause
