@@ -1,0 +1,4 @@
+pub mod Counted
+pub mod Spelling
+pub mod Causes
+pub mod aid

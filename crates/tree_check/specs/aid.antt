@@ -1,0 +1,4 @@
+pub mod Counting
+pub mod AsMany
+pub mod Right
+pub mod Reading

@@ -1,0 +1,10 @@
+//! Whether the entries of four trees spell a table whose parts fit together.
+#![tactic(auto)]
+
+mod check;
+mod fits;
+mod number;
+mod places;
+mod window;
+
+pub use check::check_entries;
