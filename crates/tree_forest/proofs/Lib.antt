@@ -1,0 +1,4 @@
+mod Told
+mod Passing
+mod Walks
+mod Forests

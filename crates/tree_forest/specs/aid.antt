@@ -1,0 +1,4 @@
+pub mod Marking
+pub mod One
+pub mod OneTree
+pub mod Told
