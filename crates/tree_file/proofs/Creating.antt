@@ -56,7 +56,8 @@ made_stores {root} empty picture made = record {
   keeps = empty;
 }
 
-pub old_or_empty : {root : List ℕ} → IsEmptyTreeSlot root → (disk : Disk) (picture : Picture) → OldOrNoneOrNew disk.now root picture → OldOrEmpty StoresTrees disk.now picture
+pub old_or_empty : {root : List ℕ} → IsEmptyTreeSlot root → (disk : Disk) (picture : Picture) → OldOrNoneOrNew disk.now root picture
+    → OldOrEmpty StoresTrees disk.now picture
 old_or_empty {root} empty disk picture either = λ table. each (either table)
   where
     each : MayLeave disk.now picture ⊎ IsMade root picture → MayLeave disk.now picture ⊎ StoresTrees picture None
@@ -88,7 +89,8 @@ pub record IsLaidDown (root : List ℕ) (disk mid : Disk) : Type 0 where
   pub fresh : IsTrue disk.honest → ¬ Begins disk.now.contents
 
 -- if the slot that was laid down tells no commit, none is told
-pub counts_none : {root found : List ℕ} (disk mid : Disk) → IsLaidDown root disk mid → IsTrue disk.honest → HoldsRoot found mid.now.contents → commits_in root ≡ 0 → commits_in found ≡ 0
+pub counts_none : {root found : List ℕ} (disk mid : Disk) → IsLaidDown root disk mid → IsTrue disk.honest → HoldsRoot found mid.now.contents
+    → commits_in root ≡ 0 → commits_in found ≡ 0
 counts_none {root} {found} disk mid laid honest holds none = ap commits_in (sym holds.is ∙ (laid.holds honest).is) ∙ none
 
 module _ {root : List ℕ} (empty : IsEmptyTreeSlot root) (disk mid : Disk) (count middle : ℕ) (more : count ≤ middle) (laid : IsLaidDown root disk mid) where
@@ -110,7 +112,8 @@ module _ {root : List ℕ} (empty : IsEmptyTreeSlot root) (disk mid : Disk) (cou
     same_size = from.same_size ∙ laid.same_size;
   }
 
-  leaves_through : (later : Disk) → GoesOn mid later → (IsTrue mid.honest → LeavesOnly mid later (MayLeave mid.now)) → IsTrue disk.honest → LeavesOnly disk later (OldOrEmpty StoresTrees disk.now)
+  leaves_through : (later : Disk) → GoesOn mid later → (IsTrue mid.honest → LeavesOnly mid later (MayLeave mid.now)) → IsTrue disk.honest
+      → LeavesOnly disk later (OldOrEmpty StoresTrees disk.now)
   leaves_through later goes_on leaves honest =
       leaves_then goes_on (leaves_more (old_or_empty empty disk) (laid.moments honest))
       (leaves_more (λ picture left table. inr (left_empty honest picture left)) (leaves (still_honest laid.goes_on honest)))
@@ -159,7 +162,8 @@ found_mark disk count found at_first system (suc p) = elim (cases_lt (suc p) (le
 ]
 
 -- an empty table is found, and nothing of it is marked
-module _ (disk : Disk) (count : ℕ) (found new : Store) (at_first : IsFound disk count found) (marks : AreSealed found.marks new.marks) (others : IsRemarked found new)
+module _ (disk : Disk) (count : ℕ) (found new : Store) (at_first : IsFound disk count found) (marks : AreSealed found.marks new.marks)
+    (others : IsRemarked found new)
     (system : mark found.marks 0 ≡ Committed) (empty : IsEmptyTreeSlot found.root) (enough : 16 ≤ length found.marks) where
   pub begun_calm : IsCalm new
   begun_calm = record {
@@ -192,7 +196,8 @@ module _ (disk : Disk) (count : ℕ) (found new : Store) (at_first : IsFound dis
 
   pub begun_opened : IsOpenedFile StoresTrees disk count (state_of (file_of (work_of (slot_or_bare None) [] false new) None))
   begun_opened =
-      subst (λ (d : Disk). IsOpenedFile StoresTrees disk count (record (state_of (file_of (work_of (slot_or_bare None) [] false new) None)) { disk = d })) (sym others.disk)
+      subst (λ (d : Disk). IsOpenedFile StoresTrees disk count (record (state_of (file_of (work_of (slot_or_bare None) [] false new) None)) { disk = d }))
+      (sym others.disk)
       (record {
         from = record {
           goes_on = at_first.goes_on;

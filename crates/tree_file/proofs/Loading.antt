@@ -52,7 +52,8 @@ vacant was whole none honest is_open = record {
 
 -- why none is loaded
 pub why_not_loaded : (start : List ℕ) (long : ℕ) (was new : File) (left : Store) (fault : TableFault) (capacity : ℕ) → capacity ≡ length was.work.store.marks
-    → IsRemarked left new.work.store → StartCause long was.work.store left fault → FileLoadCause start (state_of was) (state_of new) (load_fault fault capacity)
+    → IsRemarked left new.work.store → StartCause long was.work.store left fault
+    → FileLoadCause start (state_of was) (state_of new) (load_fault fault capacity)
 why_not_loaded start long was new left table.Disk capacity same others cause = subst (λ (n : ℕ). Grew was.work.store.failures n) (sym others.failures) cause
 why_not_loaded start long was new left table.Damaged capacity same others cause = cause
 why_not_loaded start long was new left table.TableFull capacity same others cause = by_size (nat_lt capacity 24) refl

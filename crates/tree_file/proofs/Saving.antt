@@ -38,8 +38,10 @@ pub same_disk : (old : Disk) (mid new : Disk) (Such : List (List ℕ) → Type 0
 same_disk old mid new Such same leaves = subst (λ (d : Disk). LeavesOnly old d Such) (sym same) leaves
 
 -- the work since a file was whole is given up
-module _ (was mid new : File) (whole : IsWholeFile was) (works : StoreWorks was.work.store mid.work.store) (text : mid.work.text ≡ was.work.text) (game : mid.game ≡ was.game)
-    (still : IsStill mid.work.store new.work.store) (others : IsRemarked mid.work.store new.work.store) (new_text : new.work.text ≡ mid.work.text) (new_game : new.game ≡ mid.game)
+module _ (was mid new : File) (whole : IsWholeFile was) (works : StoreWorks was.work.store mid.work.store) (text : mid.work.text ≡ was.work.text)
+    (game : mid.game ≡ was.game)
+    (still : IsStill mid.work.store new.work.store) (others : IsRemarked mid.work.store new.work.store) (new_text : new.work.text ≡ mid.work.text)
+    (new_game : new.game ≡ mid.game)
     (torn : new.work.torn ≡ false) (slot : new.work.slot ≡ slot_or_bare new.game) (calm : IsCalm new.work.store) (sound : IsSoundStore new.work.store) where
   all_still : IsStill was.work.store new.work.store
   all_still = still_then (works_still works) still
@@ -97,7 +99,8 @@ module _ (was : File) (kept : Kept) (whole : IsWholeFile was) (is : kept_of was 
       (subst (λ (x : List ℕ). HoldsTable (slot_in was.work.store.root) x kept.table was.work.store) kept_text_is h))
 
   -- the table that a command has come to can be committed
-  module _ (mid : File) (ahead : FileGoesOn was mid) (sized : IsSizedSlot mid.work.slot) (fits : IsTrue was.work.store.disk.honest → IsTable (table_now mid.work)) where
+  module _ (mid : File) (ahead : FileGoesOn was mid) (sized : IsSizedSlot mid.work.slot) (fits : IsTrue was.work.store.disk.honest
+      → IsTable (table_now mid.work)) where
     pub worked : IsTrue was.work.store.disk.honest → was.work.store.closed ≡ false
         → IsWorkedOn mid.work.slot was.work.store mid.work.store (kept_of was) (kept_as kept.text (table_now mid.work))
     worked honest is_open =
@@ -121,7 +124,8 @@ module _ (was : File) (kept : Kept) (whole : IsWholeFile was) (is : kept_of was 
         }
 
 -- a table is put: this text and table are kept, by one commit more
-module _ (was new : File) (next : TreeSlot) (is : Kept) (game : new.game ≡ Some next) (slot : new.work.slot ≡ next) (root : slot_in new.work.store.root ≡ next) (text : new.work.text ≡ is.text)
+module _ (was new : File) (next : TreeSlot) (is : Kept) (game : new.game ≡ Some next) (slot : new.work.slot ≡ next)
+    (root : slot_in new.work.store.root ≡ next) (text : new.work.text ≡ is.text)
     (calm : IsCalm new.work.store) (goes_on : GoesOn was.work.store.disk new.work.store.disk)
     (done : IsTrue was.work.store.disk.honest → IsKeptInTrees new.work.store (Some is)) where
   pub put_kept : IsTrue was.work.store.disk.honest → kept_of new ≡ Some is
@@ -156,10 +160,13 @@ module _ (was new : File) (next : TreeSlot) (is : Kept) (game : new.game ≡ Som
   put_now commits is_open leaves = record { commits = commits; text = put_text; kept = put_kept; is_open = is_open; leaves = leaves }
 
 -- a table is not put: what was kept still is
-module _ (was new : File) (is : Kept) (whole : IsWholeFile was) (still : IsStill was.work.store new.work.store) (text : new.work.text ≡ was.work.text) (game : new.game ≡ was.game)
+module _ (was new : File) (is : Kept) (whole : IsWholeFile was) (still : IsStill was.work.store new.work.store) (text : new.work.text ≡ was.work.text)
+    (game : new.game ≡ was.game)
     (calm : IsCalm new.work.store) where
-  pub not_put : (IsTrue was.work.store.disk.honest → new.work.store.closed ≡ false → LeavesTable StoresTrees was.work.store.disk new.work.store.disk (kept_of was))
-      → (IsTrue was.work.store.disk.honest → was.work.store.closed ≡ false → LeavesEither StoresTrees was.work.store.disk new.work.store.disk (kept_of was) (Some is))
+  pub not_put : (IsTrue was.work.store.disk.honest → new.work.store.closed ≡ false
+      → LeavesTable StoresTrees was.work.store.disk new.work.store.disk (kept_of was))
+      → (IsTrue was.work.store.disk.honest → was.work.store.closed ≡ false
+      → LeavesEither StoresTrees was.work.store.disk new.work.store.disk (kept_of was) (Some is))
       → IsNotPut StoresTrees is (state_of was) (state_of new)
   not_put leaves either = record {
     commits = ap commits_in still.root;
@@ -190,7 +197,8 @@ calm_sealed store calm p waits = elim (calm.each p) [
 ]
 
 -- neither memory nor a page is wanted
-pub no_want : (mid left : Store) (fault : PageFault) (told : FileFault) → told ≡ of_pages fault → StoreCommitCause mid left fault → (told ≢ OutOfMemory) × (told ≢ TableFull)
+pub no_want : (mid left : Store) (fault : PageFault) (told : FileFault) → told ≡ of_pages fault → StoreCommitCause mid left fault
+    → (told ≢ OutOfMemory) × (told ≢ TableFull)
 no_want mid left page.Disk told is cause = (λ e. cc, λ e. cc)
 no_want mid left page.NotATable told is cause = absurd cause
 no_want mid left page.Damaged told is cause = absurd cause

@@ -3,3 +3,4 @@ pub mod Faults
 pub mod Frames
 pub mod Making
 pub mod Whole
+pub mod Reading

@@ -1,29 +1,29 @@
 //! A table in a file of layout 2.
-ghost use Rattle.std.specs.Prelude.{◌≡◌, ◌≢◌, ◌≤◌, ℕ, false, length, Option, None, Some, OnOk, OnErr, IfOk, IfErr, IfSome, IfNone, IsTrue};
-ghost use Rattle.retrograde.specs.Stored.{IsTable, loaded};
-ghost use Rattle.table.specs.declared.fault.TableFault.{TableFault};
+ghost use Rattle.std.specs.Prelude.{◌≡◌, ℕ, IfOk, IfErr, IsTrue};
+ghost use Rattle.root_pair.specs.Root.{HoldsRoot};
 ghost use Rattle.root_slot.specs.Fields.{commits_in};
-ghost use Rattle.game_file.specs.Calls.{IsPut, IsNotPut, IsKept};
-ghost use Rattle.game_file.specs.Causes.{FileLoadCause, FileCommitCause, FileTableCause};
-ghost use Rattle.game_file.specs.Kept.{Kept, kept_as, text_kept};
-ghost use Rattle.game_file.specs.State.{GoesAhead};
+ghost use Rattle.game_file.specs.Calls.{IsOpenedFile, IsNotOpened};
+ghost use Rattle.game_file.specs.Causes.{FileOpenCause};
 ghost use Rattle.tree_table.specs.Held.{StoresTrees};
 ghost use Rattle.tree_table.specs.InTrees.{work_in};
-ghost use Rattle.tree_table.specs.Working.{HoldsWork, IsHonestWork, table_now};
+ghost use Rattle.tree_table.specs.aid.OneTable.{a_picture_stores_one_tree_table};
 ghost use Rattle.tree_table.specs.Keeping.{AreSized, StandsFor};
-ghost use Rattle.tree_file.specs.Calls.{FileGoesOn, FileFails};
-ghost use Rattle.tree_file.specs.File.{File, IsWholeFile, kept_of, state_of};
+ghost use Rattle.tree_file.specs.File.{IsWholeFile, state_of};
 ghost use Rattle.tree_file.specs.aid.Backed.{are_sized_prop};
 ghost use Rattle.page_store.specs.declared.marks.Mark.TheVariants.{Waiting};
 ghost use Rattle.page_store.specs.Marks.{mark};
+ghost use Rattle.tree_file.specs.Older.{IsOlderTable};
 ghost use Rattle.tree_file.specs.aid.Faults.{load_fault};
+ghost use Rattle.tree_file.specs.aid.Whole.{whole_leaves, whole_stored, whole_stays, works_ahead, fails_for, older_none};
 
 use crate::on_disk::PagesOnDisk;
-use game_file::FileFault;
+use crate::open::{Opened, read_all};
+use game_file::{FileFault, GameFile, Refused};
 use position_pack::Packed;
+use root_pair::create;
 use std::alloc::Global;
 use table::TableFault;
-use tree_table::{TreeSlot, TreeTable};
+use tree_table::{TreeSlot, TreeTable, empty_slot};
 
 /// A game's table in a file. A command works on the trees themselves: it writes pages that the last commit does not need, and to
 /// give the command up these pages are free again.
@@ -55,39 +55,107 @@ fn load_fault(fault: TableFault, capacity: u32) -> FileFault
 impl<P: PagesOnDisk> TreeFile<P> {
     ghost use Rattle.tree_file.specs.InFile.{file_in};
 
-    /// The text of the game, if one is loaded. It takes no memory and always answers.
-    pub fn text(&self) -> Option<&[u8]>
-        ensures some { IfSome result (λ text. text_kept (state_of (file_in self.now)).kept ≡ Some text.now) }
-        ensures none { IfNone result ((state_of (file_in self.now)).kept ≡ None) }
+    /// Opens the table that this disk stores, after a sync: E1, E2, E4, E5, E8.
+    fn read(alloc: Global, disk: P::Device) -> Result<Self, Refused<P::Device>>
+        ensures whole { IfOk result (λ t. IsWholeFile (file_in t)) }
+        ensures ok { IfOk result (λ t. IsOpenedFile StoresTrees (P.Device.disk disk) (P.Device.failures disk) (state_of (file_in t))) }
+        ensures root { IfOk result (λ t. IsTrue (P.Device.disk disk).honest
+            → HoldsRoot (file_in t).work.store.root (P.Device.disk disk).now.contents) }
+        ensures refused { IfErr result (λ back. IsNotOpened (P.Device.disk disk) (P.Device.failures disk)
+            (P.Device.disk back.disk) (P.Device.failures back.disk)) }
+        ensures cause { IfErr result (λ back. FileOpenCause StoresTrees IsOlderTable (P.Device.disk disk) (P.Device.failures disk)
+            (P.Device.failures back.disk) back.fault) }
     {
+        let mut store = match P::find(alloc, disk) {
+            Ok(store) => store,
+            Err(refused) => {
+                return Err(Refused {
+                    disk: refused.disk,
+                    fault: refused.fault.into(),
+                });
+            }
+        };
+        match read_all(alloc, &mut store) {
+            Ok(
+                Opened {
+                    commits,
+                    game,
+                    text,
+                },
+            ) => Ok(TreeFile {
+                alloc,
+                table: TreeTable::standing(store, &game, text),
+                commits,
+                game,
+            }),
+            Err(fault) => Err(Refused {
+                disk: store.give_back(),
+                fault,
+            }),
+        }
+    }
+}
+
+impl<P: PagesOnDisk> GameFile for TreeFile<P> {
+    ghost use Rattle.tree_file.specs.InFile.{file_in};
+
+    type Device = P::Device;
+
+    ghost stores = { StoresTrees };
+
+    ghost is_older = { IsOlderTable };
+
+    ghost state = { λ t. state_of (file_in t) };
+
+    ghost is_whole = { λ t. IsWholeFile (file_in t) };
+
+    ghost stores_one = { λ picture one other first second. a_picture_stores_one_tree_table picture one other first second };
+
+    ghost older_stores_none = { λ picture kept older it. older_none picture kept older it };
+
+    ghost stores_begins = { λ picture kept it. it.holds.table };
+
+    ghost whole_leaves = { λ t whole honest is_open. whole_leaves (file_in t) whole honest is_open };
+
+    ghost whole_stored = { λ t kept whole honest is. whole_stored (file_in t) kept whole honest is };
+
+    ghost whole_stays = { λ old new whole stays. whole_stays (file_in old) (file_in new) (P.sound new.table.store) whole stays };
+
+    ghost goes_ahead = { λ old new goes_on. works_ahead (file_in old) (file_in new) goes_on.work.works };
+
+    ghost fails_ahead = { λ old new fault cause. works_ahead (file_in old) (file_in new) cause.work.works };
+
+    ghost fails_for = { λ old new fault whole cause. fails_for (file_in old) (file_in new) fault old.table.holds whole cause };
+
+    ghost few = { λ t. t.table.few };
+
+    fn create(alloc: Global, disk: P::Device) -> Result<Self, Refused<P::Device>> {
+        let mut disk = disk;
+        match create(&mut disk, &empty_slot()) {
+            Ok(()) => TreeFile::begin(alloc, disk),
+            Err(fault) => Err(Refused {
+                disk,
+                fault: fault.into(),
+            }),
+        }
+    }
+
+    fn open(alloc: Global, disk: P::Device) -> Result<Self, Refused<P::Device>> {
+        TreeFile::read(alloc, disk)
+    }
+
+    fn text(&self) -> Option<&[u8]> {
         match &self.game {
             Some(_) => Some(&self.table.text),
             None => None,
         }
     }
 
-    /// Whether a write or a sync has failed; the file has then to be opened again. It takes no memory and always answers.
-    pub fn is_closed(&self) -> bool
-        ensures { result ≡ (state_of (file_in self.now)).closed }
-    {
+    fn is_closed(&self) -> bool {
         self.table.store.is_closed()
     }
 
-    /// Commits the table of a game that is loaded now, its start and no more, where none was: E9, E1, E7, E8. After a refusal there
-    /// is still none, but that after E1 in a write or a sync the file is closed, and the disk has the one or the other.
-    pub fn load(&mut self, text: &[u8], start: &Packed) -> Result<(), FileFault>
-        requires { length text.now ≤ 65536 }
-        ensures ahead { GoesAhead (state_of (file_in self.old)) (state_of (file_in self.new)) }
-        ensures whole { IsWholeFile (file_in self.old) → IsWholeFile (file_in self.new) }
-        ensures ok { IsWholeFile (file_in self.old) → kept_of (file_in self.old) ≡ None → OnOk result (IsPut StoresTrees
-            (kept_as text.now (loaded start.now.items)) (state_of (file_in self.old)) (state_of (file_in self.new))) }
-        ensures err { IsWholeFile (file_in self.old) → kept_of (file_in self.old) ≡ None → OnErr result (IsNotPut StoresTrees
-            (kept_as text.now (loaded start.now.items)) (state_of (file_in self.old)) (state_of (file_in self.new))) }
-        ensures cause { IsWholeFile (file_in self.old) → kept_of (file_in self.old) ≡ None → (file_in self.old).work.store.closed ≡ false
-            → IfErr result (FileLoadCause start.now.items (state_of (file_in self.old)) (state_of (file_in self.new))) }
-        ensures still { IfErr result (λ fault. fault ≢ FileFault.Disk
-            → (file_in self.new).work.store.closed ≡ (file_in self.old).work.store.closed) }
-    {
+    fn load(&mut self, text: &[u8], start: &Packed) -> Result<(), FileFault> {
         if self.game.is_some() {
             return Err(FileFault::Inconsistent);
         }
@@ -109,25 +177,7 @@ impl<P: PagesOnDisk> TreeFile<P> {
         }
     }
 
-    /// Commits the table that a command has come to since the file was whole: E9, E1. Such a refusal gives the command up, but that after
-    /// E1 in a write or a sync the file is closed, and the disk has the table of the last commit or this one. S6 if no game is loaded, or
-    /// if a call of the command has stopped half way: then nothing is done.
-    pub fn commit(&mut self) -> Result<(), FileFault>
-        ensures ahead { GoesAhead (state_of (file_in self.old)) (state_of (file_in self.new)) }
-        ensures ok { (was : File) (kept : Kept) → IsWholeFile was → kept_of was ≡ Some kept → FileGoesOn was (file_in self.old)
-            → (IsTrue was.work.store.disk.honest → IsTable (table_now (file_in self.old).work))
-            → OnOk result (IsWholeFile (file_in self.new) × IsPut StoresTrees
-            (kept_as kept.text (table_now (file_in self.old).work)) (state_of was) (state_of (file_in self.new))) }
-        ensures err { (was : File) (kept : Kept) → IsWholeFile was → kept_of was ≡ Some kept → FileGoesOn was (file_in self.old)
-            → (IsTrue was.work.store.disk.honest → IsTable (table_now (file_in self.old).work))
-            → OnErr result (IsWholeFile (file_in self.new) × IsNotPut StoresTrees
-            (kept_as kept.text (table_now (file_in self.old).work)) (state_of was) (state_of (file_in self.new))) }
-        ensures cause { (was : File) (kept : Kept) → IsWholeFile was → kept_of was ≡ Some kept → FileGoesOn was (file_in self.old)
-            → IfErr result (FileCommitCause kept.table (table_now (file_in self.old).work) (state_of was) (state_of (file_in self.new))) }
-        ensures no_want { IfErr result (λ fault. (fault ≢ FileFault.OutOfMemory) × (fault ≢ FileFault.TableFull)) }
-        ensures still { (was : File) → FileGoesOn was (file_in self.old) → IfErr result (λ fault. fault ≢ FileFault.Disk
-            → (file_in self.new).work.store.closed ≡ was.work.store.closed) }
-    {
+    fn commit(&mut self) -> Result<(), FileFault> {
         if self.game.is_none() {
             return Err(FileFault::Inconsistent);
         }
@@ -148,27 +198,11 @@ impl<P: PagesOnDisk> TreeFile<P> {
         }
     }
 
-    /// Gives a command up: the table is that of the last commit again. It takes no memory and always answers.
-    pub fn discard(&mut self)
-        ensures ahead { GoesAhead (state_of (file_in self.old)) (state_of (file_in self.new)) }
-        ensures back { (was : File) → IsWholeFile was → FileGoesOn was (file_in self.old)
-            → IsWholeFile (file_in self.new) × IsKept StoresTrees (state_of was) (state_of (file_in self.new))
-            × ((file_in self.new).work.store.closed ≡ was.work.store.closed) }
-        ensures failed { (was : File) (fault : TableFault) → (IsHonestWork was.work → ∥ HoldsWork was.work ∥₁) → IsWholeFile was
-            → FileFails was (file_in self.old) fault
-            → IsWholeFile (file_in self.new) × IsKept StoresTrees (state_of was) (state_of (file_in self.new))
-            × FileTableCause (state_of was) (state_of (file_in self.new)) fault }
-        ensures still { (was : File) (fault : TableFault) → FileFails was (file_in self.old) fault → fault ≢ TableFault.Disk
-            → (file_in self.new).work.store.closed ≡ was.work.store.closed }
-    {
+    fn discard(&mut self) {
         self.table.restore(&self.game);
     }
 
-    /// The disk, as it is. It always answers.
-    pub fn into_disk(self) -> P::Device
-        ensures disk { P.Device.disk result ≡ (state_of (file_in self)).disk }
-        ensures failures { P.Device.failures result ≡ (state_of (file_in self)).failures }
-    {
+    fn into_disk(self) -> P::Device {
         let TreeFile { table, .. } = self;
         let TreeTable { store, .. } = table;
         store.give_back()

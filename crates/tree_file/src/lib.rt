@@ -1,10 +1,11 @@
 //! A game's table in a file of layout 2: its text on a chain of pages, and four trees, of which a command writes what it changes.
 #![tactic(auto)]
 
-mod create;
+mod begin;
 mod file;
 pub mod laws;
 mod on_disk;
+mod open;
 mod working;
 
 pub use file::TreeFile;

@@ -4,6 +4,7 @@ use Rattle.std.proofs.Common.{inl, inr, refl, sym, ◌∙◌, ap, subst, arith}
 use Rattle.std.proofs.lemmas.Option.{same_Some}
 use mathlib.Core.Logic.{∥∥₁_elim}
 use denote.Struct.Props.{props}
+use Rattle.sector_disk.specs.Disk.{Picture}
 use Rattle.sector_disk.specs.aid.Moments.{leaves_more, still_honest}
 use Rattle.page_store.specs.declared.marks.Mark.{Mark}
 use Rattle.page_store.specs.declared.marks.Mark.TheVariants.{Committed, Free}
@@ -12,7 +13,8 @@ use Rattle.page_store.specs.Spelling.{IsCalm}
 use Rattle.page_store.specs.Store.{Store, IsSoundStore, StoreWorks, reads}
 use Rattle.page_store.specs.aid.Carrying.{saved_spells}
 use Rattle.retrograde.specs.Stored.{Stored, IsTable}
-use Rattle.root_slot.specs.Fields.{commits_in}
+use Rattle.page_store.specs.Page.{page}
+use Rattle.root_slot.specs.Fields.{capacity_of, commits_in, layout_in}
 use Rattle.table.specs.declared.fault.TableFault.{TableFault}
 use Rattle.table.specs.declared.fault.TableFault.TheVariants.{Disk as DiskFailed, Damaged, TableFull, OutOfMemory, Closed}
 use Rattle.game_file.specs.Calls.{IsAsked}
@@ -21,7 +23,7 @@ use Rattle.game_file.specs.Kept.{Kept, kept_as, text_kept}
 use Rattle.game_file.specs.State.{GoesAhead}
 use Rattle.game_file.specs.Stops.{LeavesNow, LeavesTable}
 use Rattle.tree_table.specs.declared.slot.TreeSlot.{TreeSlot}
-use Rattle.tree_table.specs.Held.{StoresTrees}
+use Rattle.tree_table.specs.Held.{KeepsTrees, StoresTrees}
 use Rattle.tree_table.specs.Keeping.{IsKeptInTrees, IsStill, slot_or_bare}
 use Rattle.tree_table.specs.Slot.{slot_in}
 use Rattle.tree_table.specs.Spelled.{table_in}
@@ -30,6 +32,7 @@ use Rattle.tree_table.specs.aid.Keeping.{kept_is_held, kept_stands, kept_stays, 
 use Rattle.tree_table.specs.aid.Spelling.{table_is}
 use Rattle.tree_table.specs.aid.Standing.{still_keeps, works_still}
 use Rattle.tree_file.specs.Calls.{FileStays, FileFails}
+use Rattle.tree_file.specs.Older.{IsOlderTable}
 use Rattle.tree_file.specs.File.{File, NamesSlot, IsWholeFile, kept_of, kept_with, state_of}
 
 -- between commands a stop leaves what is kept
@@ -198,3 +201,14 @@ fails_for_later old mid new fault holds whole fails same =
     as_cause TableFull cause = cause
     as_cause OutOfMemory cause = cause
     as_cause Closed cause = cause
+
+-- a picture of an earlier layout stores no table of this one
+pub older_none : (picture : Picture) (kept : Option Kept) → IsOlderTable picture → StoresTrees picture kept → ⊥
+older_none picture kept older stores = by_kept kept stores.keeps
+  where
+    same : older.root ≡ stores.root
+    same = sym older.holds.is ∙ stores.holds.is
+
+    by_kept : (kept : Option Kept) → KeepsTrees stores.root (capacity_of picture) kept (page picture) → ⊥
+    by_kept None it = absurd (omega (arith, older.layout, ap layout_in same, it.layout))
+    by_kept (Some k) it = absurd (omega (arith, older.layout, ap layout_in same, it.keeps.slot.layout))

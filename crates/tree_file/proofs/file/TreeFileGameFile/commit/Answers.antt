@@ -1,0 +1,113 @@
+use Rattle.std.proofs.Common.{◌≡◌, ℕ, List, false, Some, IsTrue, refl, sym, ◌∙◌, ap, subst, arith}
+use mathlib.Core.Logic.{∥∥₁_elim, ∥∥₁_prop}
+use Rattle.sector_disk.specs.aid.Moments.{goes_on_trans}
+use Rattle.root_slot.specs.Fields.{commits_in}
+use Rattle.game_file.specs.declared.fault.FileFault.{FileFault}
+use Rattle.game_file.specs.Causes.{FileCommitCause}
+use Rattle.game_file.specs.Kept.{kept_as}
+use Rattle.game_file.specs.State.{count_behind}
+use Rattle.tree_table.specs.declared.slot.TreeSlot.{TreeSlot}
+use Rattle.tree_table.specs.Held.{StoresTrees}
+use Rattle.tree_table.specs.InTrees.{work_in}
+use Rattle.tree_table.specs.Keeping.{IsKeptInTrees, IsSizedSlot, StandsInTrees}
+use Rattle.tree_table.specs.Working.{table_now}
+use Rattle.tree_table.specs.aid.Standing.{still_then, was_honest, works_still}
+use Rattle.tree_file.specs.File.{file_of, kept_of, state_of}
+use Rattle.tree_file.specs.InFile.{file_in}
+use Rattle.tree_file.specs.aid.Backed.{IsBackedFile, backed_still}
+use Rattle.tree_file.specs.aid.Whole.{again_whole}
+use Rattle.tree_file.proofs.Saving.{calm_sealed, kept_text_is, not_put, put_now, put_whole, same_disk, why_not, worked}
+use Rattle.tree_file.proofs.file.TreeFileGameFile.commit.Goals as goal
+
+pub invariant_of-self : goal.invariant_of-self
+invariant_of-self g c =
+    let self = c.args.self.now in
+    let next = c.save.new.self in
+    let told = c.in-Ok.ensures in
+    let new = (work_in next).store in
+    record {
+      counted = sym told.commits;
+      sized = record { some = next.some; short = next.short; few = next.few };
+      sealed = calm_sealed new (told.calm self.sealed);
+      stands = λ honest.
+          ∥∥₁_elim (told.stands c.if-self.false (was_honest c.save.ensures.time honest)) ∥∥₁_prop
+          (λ (s : StandsInTrees self.table.slot self.table.text.items new).
+          ∣ subst (λ (x : TreeSlot). StandsInTrees x next.text.items new) (sym c.save.ensures.slot)
+          (subst (λ (x : List ℕ). StandsInTrees self.table.slot x new) (sym c.save.ensures.text) s) ∣₁);
+    }
+
+pub restore-requires-clause-stands : goal.restore-requires-clause-stands
+restore-requires-clause-stands g c =
+    let self = c.args.self.now in
+    let was : IsBackedFile self.commits (file_of (work_in self.table) self.game) = record
+    { counted = self.counted; sized = self.sized; sealed = self.sealed; stands = self.stands } in
+    (backed_still self.commits (file_of (work_in self.table) self.game) (file_of (work_in c.save.new.self) self.game) was c.in-Err.ensures.left
+    c.save.ensures.text refl).stands
+
+pub invariant_of-self-in-Err : goal.invariant_of-self-in-Err
+invariant_of-self-in-Err g c =
+    let self = c.args.self.now in
+    let was : IsBackedFile self.commits (file_of (work_in self.table) self.game) = record
+    { counted = self.counted; sized = self.sized; sealed = self.sealed; stands = self.stands } in
+    let is = backed_still self.commits (file_of (work_in self.table) self.game) (file_of (work_in c.restore.new.self) self.game) was
+    (still_then c.in-Err.ensures.left c.restore.ensures.still) (c.restore.ensures.text ∙ c.save.ensures.text) refl in
+    record { counted = is.counted; sized = is.sized; sealed = is.sealed; stands = is.stands }
+
+pub returns-in-Ok-clause-ok : goal.returns-in-Ok-clause-ok
+returns-in-Ok-clause-ok g c = λ begun kept whole is ahead fits.
+    let was = file_in begun in
+    let self = c.args.self.now in
+    let next = c.save.new.self in
+    let told = c.in-Ok.ensures in
+    let new = file_of (work_in next) (Some next.slot) in
+    let now = kept_as kept.text (table_now (work_in self.table)) in
+    let sized : IsSizedSlot self.table.slot = record { some = self.table.some; short = self.table.short; few = self.table.few } in
+    let is_open : was.work.store.closed ≡ false = ahead.work.works.closed (c.save.ensures.shut told.open) in
+    let done : IsTrue was.work.store.disk.honest → IsKeptInTrees new.work.store (Some now) =
+    λ honest. told.done was.work.store (kept_of was) now (worked was kept whole is (file_in self) ahead sized fits honest is_open) in
+    let root = told.root ∙ sym c.save.ensures.slot in
+    let text = c.save.ensures.text ∙ ahead.work.text ∙ sym (kept_text_is was kept whole is) in
+    let calm = told.calm self.sealed in
+    let goes_on = goes_on_trans ahead.work.works.goes_on c.save.ensures.time in
+    let sound = g.met.P.Pages.sound next.store in (
+      put_whole was new next.slot now refl refl root text calm goes_on done sound
+          (omega (arith, whole.room, ahead.work.works.same_pages, c.save.ensures.same_pages))
+          (c.save.ensures.torn ∙ c.if-self.false),
+      put_now was new next.slot now refl refl root text calm goes_on done
+          (told.commits ∙ ap count_behind (self.counted ∙ ap commits_in ahead.work.works.root)) told.open
+          (λ honest. c.save.ensures.stop was.work.store (kept_of was) now (worked was kept whole is (file_in self) ahead sized fits honest is_open)),
+    )
+
+pub returns-in-Err-clause-err : goal.returns-in-Err-clause-err
+returns-in-Err-clause-err g c = λ begun kept whole is ahead fits.
+    let was = file_in begun in
+    let self = c.args.self.now in
+    let left = (work_in c.save.new.self).store in
+    let told = c.restore.ensures in
+    let new = file_of (work_in c.restore.new.self) self.game in
+    let now = kept_as kept.text (table_now (work_in self.table)) in
+    let sized : IsSizedSlot self.table.slot = record { some = self.table.some; short = self.table.short; few = self.table.few } in
+    let still = still_then (works_still ahead.work.works) (still_then c.in-Err.ensures.left told.still) in
+    let text = told.text ∙ c.save.ensures.text ∙ ahead.work.text in
+    let sound = g.met.P.Pages.sound c.restore.new.self.store in (
+      again_whole was new whole still ahead.game text told.calm sound told.torn told.slot,
+      not_put was new now whole still text ahead.game told.calm
+          (λ honest is_open.
+          let left_open : left.closed ≡ false = sym told.others.closed ∙ is_open in
+          same_disk was.work.store.disk left.disk new.work.store.disk (λ picture. StoresTrees picture (kept_of was)) told.others.disk
+          (c.in-Err.ensures.kept_stop was.work.store (kept_of was) now
+          (worked was kept whole is (file_in self) ahead sized fits honest (ahead.work.works.closed (c.save.ensures.shut left_open))) left_open))
+          (λ honest is_open.
+          same_disk was.work.store.disk left.disk new.work.store.disk _ told.others.disk
+          (c.save.ensures.stop was.work.store (kept_of was) now (worked was kept whole is (file_in self) ahead sized fits honest is_open))),
+    )
+
+pub returns-in-Err-clause-cause : goal.returns-in-Err-clause-cause
+returns-in-Err-clause-cause g c = λ begun kept whole is ahead.
+    let was = file_in begun in
+    let self = c.args.self.now in
+    let new = file_of (work_in c.restore.new.self) self.game in
+    let now = table_now (work_in self.table) in
+    subst (λ (f : FileFault). FileCommitCause kept.table now (state_of was) (state_of new) f) (sym c.into.ensures)
+    (why_not was (file_in self) new kept.table now (work_in c.save.new.self).store c.in-Err.fault ahead.work.works ahead.work.still c.restore.ensures.others
+    c.in-Err.ensures.cause)

@@ -1,0 +1,118 @@
+use Rattle.std.proofs.Common.{◌≡◌, ◌⊎◌, ℕ, List, length, false, Option, None, Some, IsTrue, refl, sym, ◌∙◌, ap, subst, arith}
+use Rattle.retrograde.specs.Stored.{loaded}
+use Rattle.game_file.specs.declared.fault.FileFault.{FileFault}
+use Rattle.game_file.specs.Calls.{IsPut, IsNotPut}
+use Rattle.game_file.specs.Causes.{FileLoadCause}
+use Rattle.game_file.specs.Kept.{Kept, kept_as}
+use Rattle.game_file.specs.State.{count_behind}
+use Rattle.game_file.specs.Stops.{LeavesEither, LeavesTable}
+use Rattle.tree_table.specs.Held.{StoresTrees}
+use Rattle.tree_table.specs.InTrees.{work_in}
+use Rattle.tree_table.specs.Keeping.{IsKeptInTrees, StandsInTrees, slot_or_bare}
+use Rattle.tree_table.specs.aid.Standing.{still_then, was_honest}
+use Rattle.tree_file.specs.File.{file_of, state_of}
+use Rattle.tree_file.specs.InFile.{file_in}
+use Rattle.tree_file.specs.aid.Whole.{again_whole}
+use Rattle.tree_file.proofs.Loading.{no_game, none_kept, nothing_put, so_refused, vacant, why_not_loaded}
+use Rattle.tree_file.proofs.Saving.{calm_sealed, not_put, put_now, put_whole, same_disk}
+use Rattle.tree_file.proofs.file.TreeFileGameFile.load.Goals as goal
+
+pub returns-then-is_empty-clause-err : goal.returns-then-is_empty-clause-err
+returns-then-is_empty-clause-err g c = λ whole none. nothing_put (file_in c.args.self.now) (kept_as c.args.text.now (loaded c.args.start.now.items)) whole
+
+pub returns-in_err-text-clause-err : goal.returns-in_err-text-clause-err
+returns-in_err-text-clause-err g c = λ whole none.
+    so_refused c.from_residual.result (nothing_put (file_in c.args.self.now) (kept_as c.args.text.now (loaded c.args.start.now.items)) whole)
+
+pub invariant_of-self : goal.invariant_of-self
+invariant_of-self g c =
+    let self = c.args.self.now in
+    let next = c.start.new.self in
+    let told = c.in-Ok.ensures in
+    let new = (work_in next).store in
+    record {
+      counted = sym told.commits;
+      sized = record { some = next.some; short = next.short; few = next.few };
+      sealed = calm_sealed new (told.calm self.sealed);
+      stands = λ honest.
+          let stands : StandsInTrees next.slot c.in_ok-text.text.items new = told.stands (was_honest c.start.ensures.time honest) in
+          ∣ subst (λ (x : List ℕ). StandsInTrees next.slot x new) (sym told.text) stands ∣₁;
+    }
+
+pub returns-in-Ok-clause-whole : goal.returns-in-Ok-clause-whole
+returns-in-Ok-clause-whole g c = λ whole.
+    let self = c.args.self.now in
+    let was = file_in self in
+    let next = c.start.new.self in
+    let told = c.in-Ok.ensures in
+    let new = file_of (work_in next) (Some next.slot) in
+    let now = kept_as c.in_ok-text.text.items (loaded c.args.start.now.items) in
+    let none = no_game self.game (sym c.if-is_some.ensures) in
+    let is_open : was.work.store.closed ≡ false = c.start.ensures.shut told.open in
+    let done : IsTrue was.work.store.disk.honest → IsKeptInTrees new.work.store (Some now) = λ honest. told.done (vacant was whole none honest is_open) in
+    put_whole was new next.slot now refl refl told.root told.text (told.calm self.sealed) c.start.ensures.time done (g.met.P.Pages.sound next.store)
+    (omega (arith, whole.room, c.start.ensures.same_pages)) told.torn
+
+pub returns-in-Ok-clause-ok : goal.returns-in-Ok-clause-ok
+returns-in-Ok-clause-ok g c = λ whole unkept.
+    let same : c.in_ok-text.text.items ≡ c.args.text.now = c.in_ok-text.ensures.items_if_clones_equal (λ x y h. h) in
+    let self = c.args.self.now in
+    let was = file_in self in
+    let next = c.start.new.self in
+    let told = c.in-Ok.ensures in
+    let new = file_of (work_in next) (Some next.slot) in
+    let start = loaded c.args.start.now.items in
+    let now = kept_as c.in_ok-text.text.items start in
+    let none = no_game self.game (sym c.if-is_some.ensures) in
+    let is_open : was.work.store.closed ≡ false = c.start.ensures.shut told.open in
+    let done : IsTrue was.work.store.disk.honest → IsKeptInTrees new.work.store (Some now) = λ honest. told.done (vacant was whole none honest is_open) in
+    subst (λ (x : List ℕ). IsPut StoresTrees (kept_as x start) (state_of was) (state_of new)) same
+    (put_now was new next.slot now refl refl told.root told.text (told.calm self.sealed) c.start.ensures.time done
+    (told.commits ∙ ap count_behind self.counted) told.open
+    (λ honest. subst (λ (k : Option Kept). LeavesEither StoresTrees was.work.store.disk new.work.store.disk k (Some now)) (sym (none_kept was none))
+    (c.start.ensures.stop (vacant was whole none honest is_open))))
+
+pub returns-in-Err-clause-whole : goal.returns-in-Err-clause-whole
+returns-in-Err-clause-whole g c = λ whole.
+    let self = c.args.self.now in
+    let was = file_in self in
+    let told = c.restore.ensures in
+    let new = file_of (work_in c.restore.new.self) self.game in
+    let none = no_game self.game (sym c.if-is_some.ensures) in
+    again_whole was new whole (still_then c.in-Err.ensures.left told.still) refl (told.text ∙ c.in-Err.ensures.kept_text) told.calm
+    (g.met.P.Pages.sound c.restore.new.self.store) told.torn
+    (told.slot ∙ ap slot_or_bare (sym none))
+
+pub returns-in-Err-clause-err : goal.returns-in-Err-clause-err
+returns-in-Err-clause-err g c = λ whole unkept.
+    let same : c.in_ok-text.text.items ≡ c.args.text.now = c.in_ok-text.ensures.items_if_clones_equal (λ x y h. h) in
+    let self = c.args.self.now in
+    let was = file_in self in
+    let left = (work_in c.start.new.self).store in
+    let told = c.restore.ensures in
+    let new = file_of (work_in c.restore.new.self) self.game in
+    let start = loaded c.args.start.now.items in
+    let none = no_game self.game (sym c.if-is_some.ensures) in
+    let now = kept_as c.in_ok-text.text.items start in
+    subst (λ (x : List ℕ). IsNotPut StoresTrees (kept_as x start) (state_of was) (state_of new)) same
+    (not_put was new now whole (still_then c.in-Err.ensures.left told.still) (told.text ∙ c.in-Err.ensures.kept_text) refl told.calm
+    (λ honest is_open.
+    let left_open : left.closed ≡ false = sym told.others.closed ∙ is_open in
+    subst (λ (k : Option Kept). LeavesTable StoresTrees was.work.store.disk new.work.store.disk k) (sym (none_kept was none))
+    (same_disk was.work.store.disk left.disk new.work.store.disk (λ picture. StoresTrees picture None) told.others.disk
+    (c.in-Err.ensures.kept_stop (vacant was whole none honest (c.start.ensures.shut left_open)) left_open)))
+    (λ honest is_open.
+    subst (λ (k : Option Kept). LeavesEither StoresTrees was.work.store.disk new.work.store.disk k (Some now)) (sym (none_kept was none))
+    (same_disk was.work.store.disk left.disk new.work.store.disk (λ picture. StoresTrees picture None ⊎ StoresTrees picture (Some now)) told.others.disk
+    (c.start.ensures.stop (vacant was whole none honest is_open)))))
+
+pub returns-in-Err-clause-cause : goal.returns-in-Err-clause-cause
+returns-in-Err-clause-cause g c = λ whole unkept is_open.
+    let self = c.args.self.now in
+    let was = file_in self in
+    let left = (work_in c.start.new.self).store in
+    let new = file_of (work_in c.restore.new.self) self.game in
+    let same : c.capacity.result ≡ length was.work.store.marks = c.capacity.ensures ∙ c.restore.ensures.still.same_pages ∙ c.in-Err.ensures.left.same_pages in
+    subst (λ (f : FileFault). FileLoadCause c.args.start.now.items (state_of was) (state_of new) f) (sym c.load_fault.ensures)
+    (why_not_loaded c.args.start.now.items (length c.in_ok-text.text.items) was new left c.in-Err.fault c.capacity.result same c.restore.ensures.others
+    c.in-Err.ensures.cause)
