@@ -14,7 +14,7 @@ pub use replies::{Command, Reply, Units, Worked};
 pub use solver::FileSolver;
 
 /// The file of today's layout, on a disk: no other line of the solver, the sessions and the program names a layout.
-pub type TableFile<D> = flat_table::FlatTable<D>;
+pub type TableFile<D> = tree_file::TreeFile<page_store::PageStore<D>>;
 
 /// A solver over such a file.
 pub type Solver<D> = FileSolver<TableFile<D>>;

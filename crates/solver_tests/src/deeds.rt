@@ -79,9 +79,45 @@ pub fn disk_after(alloc: Global, deeds: &[Deed]) -> Result<MemDisk, Fail> {
     Ok(disk)
 }
 
+/// Numbers of pictures that tell all others of what a stop leaves: each sector that is not synced is as at the last sync, as written, and
+/// filled with noise.
+const TELLING: [u64; 3] = [0, u64::MAX / 3, u64::MAX];
+
+/// What tells which pictures a stop now leaves: where it is the same of two disks, so are the pictures.
+pub fn telling(alloc: Global, disk: &MemDisk) -> Result<Vec<u8>, Fail> {
+    let mut told = Vec::new(alloc);
+    for pick in TELLING {
+        let mut picture = disk.after_stop(alloc, pick)?;
+        add_sectors(&mut picture, &mut told)?;
+    }
+    Ok(told)
+}
+
+/// Puts the sectors of a disk behind these bytes.
+fn add_sectors(disk: &mut MemDisk, told: &mut Vec<u8>) -> Result<(), Fail> {
+    let mut sector = [0; 512];
+    for at in 0..SECTORS {
+        if at < disk.sectors() {
+            disk.read(at, &mut sector)?;
+            told.extend_from_slice(&sector)?;
+        }
+    }
+    Ok(())
+}
+
 /// Whether each of the 256 pictures that a stop now leaves answers one of these to `status`.
 pub fn all_say(alloc: Global, disk: &MemDisk, allowed: &[&[u8]]) -> Result<bool, Fail> {
-    for pick in 0..256 {
+    each_says(alloc, disk, 256, allowed)
+}
+
+/// Whether each of the first so many pictures that a stop now leaves answers one of these to `status`.
+pub fn each_says(
+    alloc: Global,
+    disk: &MemDisk,
+    pictures: u64,
+    allowed: &[&[u8]],
+) -> Result<bool, Fail> {
+    for pick in 0..pictures {
         let (_, _, said) = done_on(alloc, disk.after_stop(alloc, pick)?, Deed::Status)?;
         if !allowed.iter().any(|one| *one == said.as_slice()) {
             return Ok(false);

@@ -1,0 +1,58 @@
+//! Asks the solver over layout 1 and over layout 2 the same of games, and compares what they answer:
+//! `layouts_compared UNITS GAME..`.
+#![tactic(auto)]
+
+mod both;
+mod compare;
+
+use crate::compare::{Outcome, compare};
+use std::alloc::Global;
+use std::fs;
+use std::io::{self, Read};
+use std::process::ExitCode;
+
+/// As many bytes as are read of a game text.
+const READ_LIMIT: u64 = 65_537;
+
+fn main(rt: HostRuntime) -> ExitCode {
+    match run(&rt) {
+        Ok(true) => ExitCode::SUCCESS,
+        Ok(false) => ExitCode::FAILURE,
+        Err(error) => {
+            let _told = eprintln!(rt; "{error}");
+            ExitCode::FAILURE
+        }
+    }
+}
+
+/// Compares game by game, with so many units of work at most, and prints a line for each. It ends at the first difference. Answers
+/// whether there was none.
+fn run(rt: &HostRuntime) -> anyhow::Result<bool> {
+    let alloc = rt.alloc();
+    let words: Vec<String> = std::env::args(rt)?.collect(alloc)?;
+    let [_, units, games @ ..] = words.as_slice() else {
+        rt.eprintln("usage: layouts_compared UNITS GAME..")?;
+        return Ok(false);
+    };
+    let most = units.parse::<u32>().unwrap_or(0);
+    for name in games {
+        let text = text_of(rt, alloc, name)?;
+        match compare(alloc, &text, most)? {
+            Outcome::Equal(known) => println!(rt; "equal {name} known {known}")?,
+            Outcome::Differs(difference) => {
+                println!(rt; "{name} differs: {difference}")?;
+                return Ok(false);
+            }
+        }
+    }
+    Ok(true)
+}
+
+/// The text of a game.
+fn text_of(rt: &HostRuntime, alloc: Global, name: &str) -> io::Result<Vec<u8>> {
+    let mut text: Vec<u8> = Vec::new(alloc);
+    fs::File::open(rt, name)?
+        .take(READ_LIMIT)
+        .read_to_end(&mut text)?;
+    Ok(text)
+}
