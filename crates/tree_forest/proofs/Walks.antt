@@ -1,22 +1,18 @@
 -- One tree is walked, and its entries are such as they have to be.
-use Rattle.std.proofs.Common.{◌≡◌, ℕ, ◌≤◌, Result, List, [], ◌∷◌, ◌++◌, length, sym, ◌∙◌, subst}
+use Rattle.std.proofs.Common.{◌≡◌, ℕ, Result, List, [], ◌∷◌, ◌++◌, length, sym, ◌∙◌, subst}
 use Rattle.std.specs.Result.{IfErr}
-use Rattle.std.proofs.Math.Bridge.{le_prop}
-use mathlib.Core.HLevel.{is_prop→PathP}
 use Rattle.page_store.specs.declared.fault.PageFault.{PageFault}
 use Rattle.page_store.specs.declared.fault.PageFault.TheVariants as page
 use Rattle.page_store.specs.Store.{Store as StoreStated, reads}
 use Rattle.tree_page.specs.Page.{Item}
 use Rattle.tree_page.specs.declared.widths.Widths.{Widths}
 use Rattle.tree_map.specs.Changes.{HoldsMap}
-use Rattle.tree_map.specs.Tree.{IsMap}
 use Rattle.tree_map.specs.aid.Laws.{a_root_has_one_map}
 use Rattle.tree_walk.specs.declared.fault.WalkFault.{WalkFault}
 use Rattle.tree_walk.specs.declared.fault.WalkFault.TheVariants.{Store, Refused}
 use Rattle.tree_walk.specs.Walking.{AreMarked, AreWaiting, WalkCause}
 use Rattle.tree_table.specs.declared.slot.TreeSlot.{TreeSlot}
 use Rattle.tree_table.specs.declared.tree.Tree.{Tree}
-use Rattle.tree_table.specs.Forest.{IsTreeOf}
 use Rattle.tree_table.specs.Trees.{key_width, value_width, root_of}
 use Rattle.tree_forest.specs.aid.OneTree.{map_of}
 use Rattle.tree_forest.specs.aid.One.{CountIs, HoldsTree, IsAsMany, IsWalkedTree, TreeCause, fault_of}

@@ -1,5 +1,5 @@
 -- The entries of a table are as many as its slot tells.
-use Rattle.std.proofs.Common.{◌≡◌, ◌⊎◌, inl, inr, ℕ, ◌<◌, ◌≤◌, ◌^◌, ◌||◌, Bool, true, false, cond, List, [], ◌∷◌, length, Option, Some, None, refl, sym, ◌∙◌, ap, subst, arith}
+use Rattle.std.proofs.Common.{◌≡◌, inl, inr, ℕ, ◌<◌, ◌≤◌, ◌^◌, ◌||◌, Bool, true, false, cond, List, [], ◌∷◌, length, Some, refl, sym, ◌∙◌, ap, subst, arith}
 use Rattle.std.proofs.Common.{Contains, get_or}
 use Rattle.std.specs.Prelude.{slice_get, zip, IsSome, All}
 use Rattle.std.specs.Option.{is_some}
@@ -22,7 +22,7 @@ use Rattle.tree_page.specs.Page.{Item, key_cmp}
 use Rattle.tree_map.specs.Entries.{Ascend, find_entry}
 use Rattle.tree_table.specs.declared.tree.Tree.{Tree}
 use Rattle.tree_table.specs.declared.tree.Tree.TheVariants.{Positions, Records, Edges, Order}
-use Rattle.tree_table.specs.Entries.{number_key, AreByNumber, AreByPosition, AreByEdge, AreEntriesOf}
+use Rattle.tree_table.specs.Entries.{number_key, AreByNumber, AreEntriesOf}
 use Rattle.tree_table.specs.aid.Lists.{zip_long}
 use Rattle.tree_table.specs.aid.Numbers.{same_number}
 use Rattle.tree_check.specs.Counted.{IsBetween, AreAsMany}
