@@ -107,17 +107,7 @@ fn add_sectors(disk: &mut MemDisk, told: &mut Vec<u8>) -> Result<(), Fail> {
 
 /// Whether each of the 256 pictures that a stop now leaves answers one of these to `status`.
 pub fn all_say(alloc: Global, disk: &MemDisk, allowed: &[&[u8]]) -> Result<bool, Fail> {
-    each_says(alloc, disk, 256, allowed)
-}
-
-/// Whether each of the first so many pictures that a stop now leaves answers one of these to `status`.
-pub fn each_says(
-    alloc: Global,
-    disk: &MemDisk,
-    pictures: u64,
-    allowed: &[&[u8]],
-) -> Result<bool, Fail> {
-    for pick in 0..pictures {
+    for pick in 0..256 {
         let (_, _, said) = done_on(alloc, disk.after_stop(alloc, pick)?, Deed::Status)?;
         if !allowed.iter().any(|one| *one == said.as_slice()) {
             return Ok(false);

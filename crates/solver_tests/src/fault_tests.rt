@@ -1,6 +1,6 @@
 //! One disk call that fails, and what the solver answers then and later.
 
-use crate::deeds::{Deed, LOADED, WORKED, all_say, disk_after, done_on, each_says, telling};
+use crate::deeds::{Deed, LOADED, WORKED, all_say, disk_after, done_on, telling};
 use recover::{Solver, SolverFault, Units};
 use retrograde::Counts;
 use sector_disk::{FlakyDisk, MemDisk, SectorDisk};
@@ -36,9 +36,6 @@ fn failed(alloc: Global, call: u64, done: bool) -> Result<(MemDisk, u8), Fail> {
     Ok((disk.into_inner(), status))
 }
 
-/// As many pictures are opened of what a call that failed has left. They are those of a stop at that call, of which `stop_tests` opens all.
-const PICTURES: u64 = 16;
-
 /// The number of calls of `work 7`, each of which was let fail in turn; none where one was not told, or left another table. A call that
 /// reads leaves the pictures that the call before it left, so that they are not asked again.
 fn calls_that_may_fail(alloc: Global, done: bool) -> Result<Option<u64>, Fail> {
@@ -50,7 +47,7 @@ fn calls_that_may_fail(alloc: Global, done: bool) -> Result<Option<u64>, Fail> {
         }
         let now = telling(alloc, &disk)?;
         let is_new = now.as_slice() != asked.as_slice();
-        if status != 4 || is_new && !each_says(alloc, &disk, PICTURES, &[LOADED, WORKED])? {
+        if status != 4 || is_new && !all_say(alloc, &disk, &[LOADED, WORKED])? {
             return Ok(None);
         }
         asked = now;
