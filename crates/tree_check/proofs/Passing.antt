@@ -12,24 +12,24 @@ use Rattle.tree_table.specs.declared.slot.TreeSlot.{TreeSlot}
 use Rattle.tree_table.specs.declared.tree.Tree.{Tree}
 use Rattle.tree_table.specs.Causes.{HasNoForest, ReadCause}
 use Rattle.tree_table.specs.aid.Frames.{forest_still}
-use Rattle.tree_check.specs.aid.Reading.{Tells, CheckCause, PlainCause, IsRead}
+use Rattle.tree_check.specs.aid.Reading.{TellsOfEntries, CheckCause, PlainCause, IsAfterReads}
 
 -- a fault is passed on
 pub passed_on : {X E : Type 0} (Cause : E → Type 0) (r : Result X E) (fault : E) → IsErr r × IsErrAnd r (λ f. f ≡ fault) → Cause fault → IfErr r Cause
 passed_on Cause (Ok x) fault is cause = tt
 passed_on Cause (Err f) fault is cause = subst Cause (sym is.1) cause
 
-pub read_here : (store : Store) → IsRead store store
+pub read_here : (store : Store) → IsAfterReads store store
 read_here store = record { works = works_refl store; unchanged = unchanged_refl store }
 
-pub read_more : (old mid new : Store) → IsRead old mid → StoreWorks mid new → IsUnchanged mid new → IsRead old new
+pub read_more : (old mid new : Store) → IsAfterReads old mid → StoreWorks mid new → IsUnchanged mid new → IsAfterReads old new
 read_more old mid new read works unchanged = record {
   works = works_then read.works works;
   unchanged = unchanged_then read.works works read.unchanged unchanged;
 }
 
 -- what is told later was so before
-pub told_before : (Says : (Tree → List Item) → Type 0) (slot : TreeSlot) (old mid : Store) → IsRead old mid → Tells slot mid Says → Tells slot old Says
+pub told_before : (Says : (Tree → List Item) → Type 0) (slot : TreeSlot) (old mid : Store) → IsAfterReads old mid → TellsOfEntries slot mid Says → TellsOfEntries slot old Says
 told_before Says slot old mid read tells = λ honest text entries h.
     tells (still_honest read.works.goes_on honest) text entries
     (forest_still slot text entries old mid read.unchanged.marks (unchanged_reads old mid honest read.unchanged) h)
@@ -44,8 +44,8 @@ read_plain Says slot old new OutOfMemory never = never
 read_plain Says slot old new Closed shut = shut
 
 -- another reason for damage, after other reads
-pub plain_since : (One Other : (Tree → List Item) → Type 0) (slot : TreeSlot) (old mid new : Store) (fault : TableFault) → IsRead old mid
-    → Tells slot old (λ entries. Other entries → One entries)
+pub plain_since : (One Other : (Tree → List Item) → Type 0) (slot : TreeSlot) (old mid new : Store) (fault : TableFault) → IsAfterReads old mid
+    → TellsOfEntries slot old (λ entries. Other entries → One entries)
     → PlainCause One slot mid new fault → PlainCause Other slot old new fault
 plain_since One Other slot old mid new Disk read so grew = grew_before old.failures mid.failures new.failures read.works.failures grew
 plain_since One Other slot old mid new Damaged read so none = λ honest text entries h says.
@@ -54,8 +54,8 @@ plain_since One Other slot old mid new TableFull read so never = never
 plain_since One Other slot old mid new OutOfMemory read so never = never
 plain_since One Other slot old mid new Closed read so shut = sym read.unchanged.closed ∙ shut
 
-pub check_since : (One Other : (Tree → List Item) → Type 0) (slot : TreeSlot) (old mid new : Store) (fault : TableFault) → IsRead old mid
-    → Tells slot old (λ entries. Other entries → One entries)
+pub check_since : (One Other : (Tree → List Item) → Type 0) (slot : TreeSlot) (old mid new : Store) (fault : TableFault) → IsAfterReads old mid
+    → TellsOfEntries slot old (λ entries. Other entries → One entries)
     → CheckCause One slot mid new fault → CheckCause Other slot old new fault
 check_since One Other slot old mid new Disk read so grew = grew_before old.failures mid.failures new.failures read.works.failures grew
 check_since One Other slot old mid new Damaged read so none = λ honest text entries h says.

@@ -16,7 +16,7 @@ use Rattle.tree_table.specs.declared.tree.Tree.TheVariants.{Positions, Records, 
 use Rattle.tree_table.specs.Entries.{number_key}
 use Rattle.tree_table.specs.aid.Lists.{zip_got}
 use Rattle.tree_check.specs.Spelling.{SpellTable}
-use Rattle.tree_check.specs.aid.Right.{IsNumberAt, IsCellAt, is_among, IsPlaceOf, IsRight, AreRight}
+use Rattle.tree_check.specs.aid.Right.{IsNumberAt, IsCellAt, is_among, IsPlaceOf, IsRightNumber, AreRight}
 use Rattle.tree_check.proofs.Taking.{one_number_at}
 use Rattle.tree_check.proofs.Winners.{settled_has, only_settled, processed_settled, value_has, value_there}
 
@@ -38,7 +38,7 @@ module _ (sizes : Sizes) (entries : Tree → List Item) (table : Stored (List �
       let got = slice_get-get_or table.order k 0 (omega (arith, low, it.spelled.settled)) in
       got ∙ ap Some (one_number_at (entries Order) (number_key k) (get_or table.order k 0) i (place_there k (get_or table.order k 0) got).1 at)
 
-  of_number : (i : ℕ) → i < sizes.counts.known → IsRight sizes entries i
+  of_number : (i : ℕ) → i < sizes.counts.known → IsRightNumber sizes entries i
   of_number i low = by_state (is_settled kept.state) refl
     where
       position : List ℕ
@@ -70,7 +70,7 @@ module _ (sizes : Sizes) (entries : Tree → List Item) (table : Stored (List �
           )
 
       right_with : (place : Option ℕ) → IsPlaceOf sizes entries i place → is_settled kept.state ≡ is_some place
-          → is_processed kept.state ≡ is_among sizes.counts.processed place → IsRight sizes entries i
+          → is_processed kept.state ≡ is_among sizes.counts.processed place → IsRightNumber sizes entries i
       right_with place is_place settled processed = record {
         place = place;
         is_place = is_place;
@@ -90,7 +90,7 @@ module _ (sizes : Sizes) (entries : Tree → List Item) (table : Stored (List �
           by_truth true sure = let e : is_settled kept.state ≡ true = processed_settled kept.state sure in absurd (cc)
           by_truth false other = refl
 
-      by_state : (b : Bool) → is_settled kept.state ≡ b → IsRight sizes entries i
+      by_state : (b : Bool) → is_settled kept.state ≡ b → IsRightNumber sizes entries i
       by_state true is =
           let (k, got) = it.fits.listed i (value_there table.records i kept at_kept (settled_has kept kept.state is (it.fits.states i kept at_kept))) in
           let many : processed_count table ≡ sizes.counts.processed = ap (λ (c : Counts). c.processed) it.counts in

@@ -12,7 +12,7 @@ use Rattle.tree_page.specs.Page.{Item}
 use Rattle.tree_table.specs.declared.tree.Tree.{Tree}
 use Rattle.tree_table.specs.declared.tree.Tree.TheVariants.{Order}
 use Rattle.tree_table.specs.Entries.{number_key}
-use Rattle.tree_check.specs.aid.Right.{IsNumberAt, IsCellAt, IsRightAt, IsPlaceOf, IsRight, AreKnown, AreRight, ArePlaces}
+use Rattle.tree_check.specs.aid.Right.{IsNumberAt, IsCellAt, IsRightAt, IsPlaceOf, IsRightNumber, AreKnown, AreRight, ArePlaces}
 
 -- one number and one cell stand at a key
 pub one_number_at : (es : List Item) (key : List ℕ) (m n : ℕ) → IsNumberAt es key m → IsNumberAt es key n → m ≡ n
@@ -167,7 +167,7 @@ module _ (sizes : Sizes) (entries : Tree → List Item) (from : ℕ) (places : L
         are.each k (n - from) low (omega (arith, begun, within)) (subst (λ (m : ℕ). IsNumberAt (entries Order) (number_key k) m) (sym number_is) at);
   }
 
-  pub right_there : IsRightAt sizes entries n (slice_index_or places (n - from) None) → IsRight sizes entries n
+  pub right_there : IsRightAt sizes entries n (slice_index_or places (n - from) None) → IsRightNumber sizes entries n
   right_there right = record { place = slice_index_or places (n - from) None; is_place = is_its_place; right = right }
 
   -- it is right at that place, or not at all

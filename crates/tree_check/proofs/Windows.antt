@@ -11,13 +11,13 @@ use Rattle.tree_table.specs.declared.slot.TreeSlot.{TreeSlot}
 use Rattle.tree_table.specs.declared.tree.Tree.{Tree}
 use Rattle.tree_check.specs.Causes.{CheckEntriesCause}
 use Rattle.tree_check.specs.aid.Reading.{CheckCause}
-use Rattle.tree_check.specs.aid.Right.{IsRight, AreKnown, AreRight}
+use Rattle.tree_check.specs.aid.Right.{IsRightNumber, AreKnown, AreRight}
 use Rattle.tree_check.proofs.Spelled.{spell_right}
 
 -- after so many windows of this size: their numbers are right, and after the first each place has a known number
 pub record AreRightSoFar (sizes : Sizes) (size : ℕ) (windows : ℕ) (entries : Tree → List Item) : Type 0 where
   pub places : 1 ≤ windows → AreKnown sizes.counts.settled sizes entries
-  pub numbers : (i : ℕ) → i < windows * size → i < sizes.counts.known → IsRight sizes entries i
+  pub numbers : (i : ℕ) → i < windows * size → i < sizes.counts.known → IsRightNumber sizes entries i
 
 pub none_yet : (sizes : Sizes) (size : ℕ) (entries : Tree → List Item) → AreRightSoFar sizes size 0 entries
 none_yet sizes size entries = record {

@@ -3,7 +3,7 @@ ghost use Rattle.std.specs.Prelude.{◌≤◌, ℕ, List, IfOk, OnOk, IfErr};
 ghost use Rattle.page_store.specs.Store.{StoreWorks, IsUnchanged};
 ghost use Rattle.retrograde.specs.declared.records.Record.{Record};
 ghost use Rattle.tree_table.specs.declared.tree.Tree.TheVariants.{Records};
-ghost use Rattle.tree_check.specs.aid.Reading.{Tells, PlainCause};
+ghost use Rattle.tree_check.specs.aid.Reading.{TellsOfEntries, PlainCause};
 ghost use Rattle.tree_check.specs.aid.Right.{IsNumberAt, IsCellAt, IsRightAt};
 
 use crate::fits::fits_place;
@@ -20,7 +20,7 @@ pub fn number_at<P: Pages>(
 ) -> Result<u32, TableFault>
     requires some { 1 ≤ slot.now.sizes.packed }
     requires short { slot.now.sizes.packed ≤ 240 }
-    ensures number { Tells slot.now (P.store store.old) (λ entries. IfOk result (IsNumberAt (entries tree) key.now)) }
+    ensures number { TellsOfEntries slot.now (P.store store.old) (λ entries. IfOk result (IsNumberAt (entries tree) key.now)) }
     ensures unchanged { IsUnchanged (P.store store.old) (P.store store.new) }
     ensures works { StoreWorks (P.store store.old) (P.store store.new) }
     ensures cause { IfErr result (PlainCause (λ entries. (n : ℕ) × IsNumberAt (entries tree) key.now n)
@@ -39,7 +39,7 @@ pub fn number_at<P: Pages>(
 fn cell_of<P: Pages>(store: &mut P, slot: &TreeSlot, number: u32) -> Result<Cell, TableFault>
     requires some { 1 ≤ slot.now.sizes.packed }
     requires short { slot.now.sizes.packed ≤ 240 }
-    ensures cell { Tells slot.now (P.store store.old) (λ entries. IfOk result (λ cell.
+    ensures cell { TellsOfEntries slot.now (P.store store.old) (λ entries. IfOk result (λ cell.
         IsCellAt slot.now.sizes.packed (entries Records) number (cell.position.items, cell.kept))) }
     ensures unchanged { IsUnchanged (P.store store.old) (P.store store.new) }
     ensures works { StoreWorks (P.store store.old) (P.store store.new) }
@@ -65,7 +65,7 @@ pub fn check_number<P: Pages>(
 ) -> Result<(), TableFault>
     requires some { 1 ≤ slot.now.sizes.packed }
     requires short { slot.now.sizes.packed ≤ 240 }
-    ensures right { Tells slot.now (P.store store.old) (λ entries. OnOk result (IsRightAt slot.now.sizes entries number place)) }
+    ensures right { TellsOfEntries slot.now (P.store store.old) (λ entries. OnOk result (IsRightAt slot.now.sizes entries number place)) }
     ensures unchanged { IsUnchanged (P.store store.old) (P.store store.new) }
     ensures works { StoreWorks (P.store store.old) (P.store store.new) }
     ensures cause { IfErr result (PlainCause (λ entries. IsRightAt slot.now.sizes entries number place)

@@ -2,7 +2,7 @@
 ghost use Rattle.std.specs.Prelude.{◌≡◌, ◌+◌, ◌-◌, ◌≤◌, ◌<◌, ℕ, true, false, None, Some, IfOk, IfErr, IsSome, length, slice_index_or};
 ghost use Rattle.std.specs.Prelude.{slice_set};
 ghost use Rattle.page_store.specs.Store.{StoreWorks, IsUnchanged};
-ghost use Rattle.tree_check.specs.aid.Reading.{Tells, CheckCause};
+ghost use Rattle.tree_check.specs.aid.Reading.{TellsOfEntries, CheckCause};
 ghost use Rattle.tree_check.specs.aid.Right.{AreRight, ArePlaces};
 
 use crate::number::number_at;
@@ -54,7 +54,7 @@ pub fn find_places<P: Pages>(
     requires short { slot.now.sizes.packed ≤ 240 }
     requires within { from + count ≤ slot.now.sizes.counts.known }
     ensures long { IfOk result (λ places. length places.items ≡ count) }
-    ensures places { Tells slot.now (P.store store.old) (λ entries. IfOk result (λ places.
+    ensures places { TellsOfEntries slot.now (P.store store.old) (λ entries. IfOk result (λ places.
         ArePlaces slot.now.sizes entries from slot.now.sizes.counts.settled places.items)) }
     ensures unchanged { IsUnchanged (P.store store.old) (P.store store.new) }
     ensures works { StoreWorks (P.store store.old) (P.store store.new) }

@@ -1,7 +1,7 @@
 //! A range of numbers is looked at.
 ghost use Rattle.std.specs.Prelude.{◌≤◌, OnOk, IfErr};
 ghost use Rattle.page_store.specs.Store.{StoreWorks, IsUnchanged};
-ghost use Rattle.tree_check.specs.aid.Reading.{Tells, CheckCause};
+ghost use Rattle.tree_check.specs.aid.Reading.{TellsOfEntries, CheckCause};
 ghost use Rattle.tree_check.specs.aid.Right.{AreRight};
 
 use crate::number::check_number;
@@ -23,7 +23,7 @@ pub fn check_window<P: Pages>(
     requires short { slot.now.sizes.packed ≤ 240 }
     requires ordered { from ≤ to }
     requires within { to ≤ slot.now.sizes.counts.known }
-    ensures right { Tells slot.now (P.store store.old) (λ entries. OnOk result (AreRight slot.now.sizes entries from to)) }
+    ensures right { TellsOfEntries slot.now (P.store store.old) (λ entries. OnOk result (AreRight slot.now.sizes entries from to)) }
     ensures unchanged { IsUnchanged (P.store store.old) (P.store store.new) }
     ensures works { StoreWorks (P.store store.old) (P.store store.new) }
     ensures cause { IfErr result (CheckCause (λ entries. AreRight slot.now.sizes entries 0 slot.now.sizes.counts.known)

@@ -41,7 +41,7 @@ use Rattle.tree_forest.specs.Walked.{AreWalked, CanBeWalked, ForestCause}
 use Rattle.tree_forest.specs.aid.Marking.{reads_as_before}
 use Rattle.tree_forest.specs.aid.OneTree.{one_tree}
 use Rattle.tree_file.specs.Opening.{AllWait}
-use Rattle.tree_file.specs.aid.Reading.{GameReadCause, IsReadGame}
+use Rattle.tree_file.specs.aid.Reading.{NoGameCause, IsReadGame}
 
 waits_apart : (m : Mark) → m ≡ Committed → m ≡ Waiting → ⊥
 waits_apart m one other = cc
@@ -107,7 +107,7 @@ module _ (old : Store) (slot : TreeSlot) (says : SaysTrees old.root (Some slot))
 
   -- why its chain is not read is why no game is
   pub chain_cause : (new : Store) (long : ℕ) (fault : PageFault) → long ≡ slot.sizes.text → ChainReadCause slot.first long old new fault
-      → GameReadCause old new (of_pages fault)
+      → NoGameCause old new (of_pages fault)
   chain_cause new long page.Disk is grew = grew
   chain_cause new long page.NotATable is never = never
   chain_cause new long page.Damaged is none = λ honest wait.
@@ -145,7 +145,7 @@ module _ (old : Store) (slot : TreeSlot) (says : SaysTrees old.root (Some slot))
     }
 
     -- why its trees are not walked is why no game is read
-    pub forest_cause : (new : Store) (fault : PageFault) → ForestCause slot mid new fault → GameReadCause old new (of_pages fault)
+    pub forest_cause : (new : Store) (fault : PageFault) → ForestCause slot mid new fault → NoGameCause old new (of_pages fault)
     forest_cause new page.Disk grew = grew_before old.failures mid.failures new.failures only.works.failures grew
     forest_cause new page.NotATable never = absurd never
     forest_cause new page.Damaged none = λ honest wait.
@@ -219,15 +219,19 @@ module _ (old : Store) (slot : TreeSlot) (says : SaysTrees old.root (Some slot))
             counts = subst (λ (s : TreeSlot). counts_of stored ≡ s.sizes.counts) says.1 spell.counts;
           };
           marked = λ p here. ap (λ (ms : List Mark). mark ms p) same ∙ each p here;
+          others = λ p out. ap (λ (ms : List Mark). mark ms p) same ∙ not_named p out;
         }
           where
             each : (p : ℕ) → IsOneOf text_pages pages p → mark far.marks p ≡ Committed
             each p (inl here) = far_text p here
             each p (inr (t, here)) = walked.marked t p here
 
+            not_named : (p : ℕ) → ¬ IsOneOf text_pages pages p → mark far.marks p ≡ mark old.marks p
+            not_named p out = walked.kept p (λ t here. out (inr (t, here))) ∙ elim (kept_marks p) [ inl still ↦ still | inr here ↦ absurd (out (inl here)) ]
+
       -- why its entries are not found right is why no game is read
       pub entries_cause : (IsTrue mid.disk.honest → (pages : Tree → List ℕ) × (entries : Tree → List Item) × AreWalked slot pages entries mid far)
-          → (new : Store) (fault : TableFault) → CheckEntriesCause slot far new fault → GameReadCause old new (of_table fault)
+          → (new : Store) (fault : TableFault) → CheckEntriesCause slot far new fault → NoGameCause old new (of_table fault)
       entries_cause trees new table.Disk grew =
           grew_before old.failures far.failures new.failures (omega (arith, only.works.failures, walked_on.works.failures)) grew
       entries_cause trees new table.Damaged none = λ honest wait.

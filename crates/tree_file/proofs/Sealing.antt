@@ -21,7 +21,7 @@ use Rattle.tree_table.specs.declared.tree.Tree.{Tree}
 use Rattle.tree_table.specs.Entries.{AreEntriesOf}
 use Rattle.tree_table.specs.Forest.{IsForest}
 use Rattle.tree_table.specs.Held.{KeepsOnPages}
-use Rattle.tree_table.specs.Keeping.{AreSized, IsKeptInTrees, IsOneOf, StandsFor}
+use Rattle.tree_table.specs.Keeping.{AreSized, IsKeptInTrees, IsOneOf, KeepsOn, StandsFor}
 use Rattle.tree_table.specs.Slot.{slot_in, SaysTrees}
 use Rattle.tree_table.specs.Spelled.{table_in}
 use Rattle.tree_table.specs.Trees.{root_of}
@@ -29,7 +29,7 @@ use Rattle.tree_table.specs.aid.Keeping.{keeps_as}
 use Rattle.tree_table.specs.aid.Spelling.{forest_spells}
 use Rattle.tree_file.specs.File.{NamesSlot, kept_with}
 use Rattle.tree_file.specs.Opening.{AllWait, IsFound, TreesReadCause}
-use Rattle.tree_file.specs.aid.Reading.{GameReadCause, IsReadFor, IsReadGame}
+use Rattle.tree_file.specs.aid.Reading.{NoGameCause, IsReadFor, IsReadGame}
 use Rattle.tree_file.proofs.Finding.{map_within}
 
 -- the slot that a root tells is of a size that a table may have
@@ -108,18 +108,19 @@ module _ (old mid new : Store) (only : OnlyMarks old mid) (sealed : AreSealed mi
         ap (λ (s : TreeSlot). table_in s (reads new)) says.1 ∙ ap (λ (bytes : ℕ → List ℕ). table_in (slot_in old.root) bytes) (sealed_reads honest) ∙ spells in
         let text_back : text ≡ it.kept.text = sym it.text_is in
         let same : Some (kept_as text (table_in slot (reads new))) ≡ Some it.kept = λ i. Some (kept_as (text_back i) (table i)) in
-        subst (λ (k : Option Kept). IsKeptInTrees new k) (sym same) (record {
+        record {
           text_pages = it.text_pages;
           pages = it.pages;
-          keeps = keeps_as it.text_pages it.pages old.root new.root (length old.marks) (length new.marks) (Some it.kept) (reads new) (sym sealed_root)
+          keeps = subst (λ (k : Option Kept). KeepsOn it.text_pages it.pages new.root (length new.marks) k (reads new)) (sym same)
+              (keeps_as it.text_pages it.pages old.root new.root (length old.marks) (length new.marks) (Some it.kept) (reads new) (sym sealed_root)
               (sym sealed_long)
               (subst (λ (bytes : ℕ → List ℕ). KeepsOnPages old.root (length old.marks) it.kept it.text_pages it.pages bytes) (sym (sealed_reads honest))
-              it.keeps);
+              it.keeps));
           needed = λ p here.
               let (some, low) = named_within old.root (length old.marks) it.kept it.text_pages it.pages (reads old) it.keeps p here in
               let marked : mark new.marks p ≡ Committed = sealed.each p ∙ ap (turned Fresh Released Free) (it.marked p here) in
               (some, omega (arith, low, sealed_long), subst (λ (m : Mark). IsTrue (needs m)) (sym marked) refl);
-        })
+        }
 
     kept_found : (game : Option TreeSlot) (text : List ℕ) → SaysTrees old.root game → IsReadFor game text old mid → IsTrue new.disk.honest
         → IsKeptInTrees new (kept_with game text (reads new))
@@ -134,6 +135,16 @@ module _ (old mid new : Store) (only : OnlyMarks old mid) (sealed : AreSealed mi
         no_page p (inl here) = none_contained p here
         no_page p (inr here) = none_contained p here.1
     kept_found (Some slot) text says read honest = let before = was_honest honest in game_kept slot text says before (read before)
+
+    -- and no other page is in use
+    alone_found : (game : Option TreeSlot) (text : List ℕ) (says : SaysTrees old.root game) (read : IsReadFor game text old mid) (honest : IsTrue new.disk.honest)
+        (p : ℕ) → 1 ≤ p → p < length new.marks
+        → ¬ IsOneOf (kept_found game text says read honest).text_pages (kept_found game text says read honest).pages p → mark new.marks p ≡ Free
+    unfolding game_kept kept_found
+    alone_found None text says read honest p some low out = all_free read.1 p some low
+    alone_found (Some slot) text says read honest p some low out =
+        sealed.each p ∙ ap (turned Fresh Released Free) ((read (was_honest honest)).others p out)
+        ∙ ap (turned Fresh Released Free) (wait p some (omega (arith, low, sealed_long)))
 
     none_free : (game : Option TreeSlot) (text : List ℕ) → IsReadFor game text old mid → game ≡ None → (p : ℕ) → 1 ≤ p → p < length new.marks
         → mark new.marks p ≡ Free
@@ -156,6 +167,7 @@ module _ (old mid new : Store) (only : OnlyMarks old mid) (sealed : AreSealed mi
       free = none_free game text read;
       text = none_text game text read;
       kept = kept_found game text says read;
+      alone = alone_found game text says read;
     }
 
 -- what is found stands
@@ -177,7 +189,7 @@ found_stands commits (Some slot) text store found honest =
     }
 
 -- why a game is not read is why the file is not
-pub game_cause : (old new : Store) (game : Option TreeSlot) (fault : FileFault) → SaysTrees old.root game → GameReadCause old new fault
+pub game_cause : (old new : Store) (game : Option TreeSlot) (fault : FileFault) → SaysTrees old.root game → NoGameCause old new fault
     → TreesReadCause old new fault
 game_cause old new game DiskFailed says cause = cause
 game_cause old new game NotATable says cause = cause

@@ -11,7 +11,7 @@ use Rattle.game_file.specs.declared.fault.FileFault.TheVariants.{Disk, Damaged, 
 use Rattle.game_file.specs.Kept.{Kept}
 use Rattle.tree_table.specs.declared.slot.TreeSlot.{TreeSlot}
 use Rattle.tree_table.specs.Held.{KeepsTrees}
-use Rattle.tree_table.specs.Keeping.{IsKeptInTrees, AreSized}
+use Rattle.tree_table.specs.Keeping.{IsKeptInTrees, IsOneOf, AreSized}
 use Rattle.tree_file.specs.File.{NamesSlot, kept_with}
 
 -- each page of the store waits to be marked, as in a store that was just opened
@@ -29,6 +29,8 @@ pub record IsFound (commits : ℕ) (game : Option TreeSlot) (content : List ℕ)
   pub free : game ≡ None → (p : ℕ) → 1 ≤ p → p < length store.marks → mark store.marks p ≡ Free
   pub text : game ≡ None → content ≡ []
   pub kept : IsTrue store.disk.honest → IsKeptInTrees store (kept_with game content (reads store))
+  pub alone : (honest : IsTrue store.disk.honest) (p : ℕ) → 1 ≤ p → p < length store.marks
+      → ¬ IsOneOf (kept honest).text_pages (kept honest).pages p → mark store.marks p ≡ Free
 
 -- the disk failed; with pages that all wait, on an honest disk, the slot and the pages spell no table, or there are fewer than 16
 -- pages, and the slot does not name layout 1; it names layout 1; memory ran out; or the store is closed

@@ -5,7 +5,7 @@ ghost use Rattle.page_store.specs.Store.{StoreWorks};
 ghost use Rattle.page_chain.specs.aid.Links.{OnlyMarks};
 ghost use Rattle.tree_table.specs.Slot.{SaysTrees};
 ghost use Rattle.tree_file.specs.Opening.{AllWait, IsFound, TreesReadCause};
-ghost use Rattle.tree_file.specs.aid.Reading.{IsReadFor, GameReadCause};
+ghost use Rattle.tree_file.specs.aid.Reading.{IsReadFor, NoGameCause};
 
 use game_file::FileFault;
 use page_chain::read_chain;
@@ -79,7 +79,7 @@ fn read_named<P: Pages>(
     requires { SaysTrees (P.store store.old).root game.now }
     ensures only { OnlyMarks (P.store store.old) (P.store store.new) }
     ensures read { IfOk result (λ text. IsReadFor game.now text.items (P.store store.old) (P.store store.new)) }
-    ensures cause { IfErr result (GameReadCause (P.store store.old) (P.store store.new)) }
+    ensures cause { IfErr result (NoGameCause (P.store store.old) (P.store store.new)) }
 {
     match game {
         None => Ok(Vec::new(alloc)),
@@ -92,7 +92,7 @@ fn read_game<P: Pages>(alloc: Global, store: &mut P, slot: &TreeSlot) -> Result<
     requires { SaysTrees (P.store store.old).root (Some slot.now) }
     ensures only { OnlyMarks (P.store store.old) (P.store store.new) }
     ensures read { IfOk result (λ text. IsReadFor (Some slot.now) text.items (P.store store.old) (P.store store.new)) }
-    ensures cause { IfErr result (GameReadCause (P.store store.old) (P.store store.new)) }
+    ensures cause { IfErr result (NoGameCause (P.store store.old) (P.store store.new)) }
 {
     let chain = read_chain(alloc, store, slot.first, slot.sizes.text as usize)?;
     walk_trees(store, slot)?;

@@ -50,7 +50,7 @@ pub record IsPlaceOf (sizes : Sizes) (entries : Tree → List Item) (i : ℕ) (p
   pub only : (k : ℕ) → k < sizes.counts.settled → IsNumberAt (entries Order) (number_key k) i → place ≡ Some k
 
 -- the number has a place or none, and a position and a record that fit that
-pub record IsRight (sizes : Sizes) (entries : Tree → List Item) (i : ℕ) : Type 0 where
+pub record IsRightNumber (sizes : Sizes) (entries : Tree → List Item) (i : ℕ) : Type 0 where
   pub place : Option ℕ
   pub is_place : IsPlaceOf sizes entries i place
   pub right : IsRightAt sizes entries i place
@@ -63,7 +63,7 @@ AreKnown count sizes entries =
 -- each place has a known number, and the numbers of this range are right
 pub record AreRight (sizes : Sizes) (entries : Tree → List Item) (from to : ℕ) : Type 0 where
   pub places : AreKnown sizes.counts.settled sizes entries
-  pub numbers : (i : ℕ) → from ≤ i → i < to → IsRight sizes entries i
+  pub numbers : (i : ℕ) → from ≤ i → i < to → IsRightNumber sizes entries i
 
 -- places by number, from a number on: at each number of the range stands the one of so many first places that has it, if one has it;
 -- and each of these places has a known number

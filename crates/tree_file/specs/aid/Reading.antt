@@ -13,7 +13,7 @@ use Rattle.tree_table.specs.Held.{KeepsOnPages, KeepsTrees}
 use Rattle.tree_table.specs.Keeping.{IsOneOf}
 use Rattle.tree_file.specs.Opening.{AllWait}
 
--- the root and pages that are marked now keep this text and a table
+-- the root and pages that are marked now, and no others, keep this text and a table
 pub record IsReadGame (text : List ℕ) (old new : Store) : Type 0 where
   pub kept : Kept
   pub text_is : kept.text ≡ text
@@ -21,6 +21,7 @@ pub record IsReadGame (text : List ℕ) (old new : Store) : Type 0 where
   pub pages : Tree → List ℕ
   pub keeps : KeepsOnPages old.root (length old.marks) kept text_pages pages (reads old)
   pub marked : (p : ℕ) → IsOneOf text_pages pages p → mark new.marks p ≡ Committed
+  pub others : (p : ℕ) → ¬ IsOneOf text_pages pages p → mark new.marks p ≡ mark old.marks p
 
 -- so where the slot names a game; else nothing is marked
 abbrev pub IsReadFor : Option TreeSlot → List ℕ → Store → Store → Type 0
@@ -29,10 +30,10 @@ IsReadFor (Some slot) text old new = IsTrue old.disk.honest → IsReadGame text 
 
 -- no game is read: the disk failed; with pages that all wait, the root and the pages keep no table, as far as the disk is honest;
 -- memory ran out; or the store is closed
-abbrev pub GameReadCause : Store → Store → FileFault → Type 0
-GameReadCause old new Disk = Grew old.failures new.failures
-GameReadCause old new Damaged =
+abbrev pub NoGameCause : Store → Store → FileFault → Type 0
+NoGameCause old new Disk = Grew old.failures new.failures
+NoGameCause old new Damaged =
     IsTrue old.disk.honest → AllWait old → (kept : Option Kept) → ¬ KeepsTrees old.root (length old.marks) kept (reads old)
-GameReadCause old new OutOfMemory = Unit {0}
-GameReadCause old new Closed = old.closed ≡ true
-GameReadCause old new _ = ⊥
+NoGameCause old new OutOfMemory = Unit {0}
+NoGameCause old new Closed = old.closed ≡ true
+NoGameCause old new _ = ⊥

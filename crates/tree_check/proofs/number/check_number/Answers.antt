@@ -2,7 +2,7 @@ use Rattle.std.proofs.Common.{◌∙◌, ◌≡◌, ℕ, List, false, true, refl
 use Rattle.page_store.specs.aid.Works.{works_then}
 use Rattle.retrograde.specs.declared.records.Record.{Record}
 use Rattle.tree_table.specs.declared.tree.Tree.TheVariants.{Positions, Records}
-use Rattle.tree_check.specs.aid.Reading.{IsRead}
+use Rattle.tree_check.specs.aid.Reading.{IsAfterReads}
 use Rattle.tree_check.specs.aid.Right.{IsNumberAt, IsCellAt, IsRightAt, FitsPlace}
 use Rattle.tree_check.proofs.Passing.{passed_on, plain_since, read_here, told_before}
 use Rattle.tree_check.proofs.Taking.{one_cell_at, one_number_at}
@@ -25,7 +25,7 @@ returns-in_err-back-clause-cause g c =
     let slot = c.args.slot.now in
     let old = g.P.Pages.store c.args.store.now in
     let mid = g.P.Pages.store c.cell_of.new.store in
-    let read : IsRead old mid = record { works = c.in_ok-cell.ensures.works; unchanged = c.in_ok-cell.ensures.unchanged } in
+    let read : IsAfterReads old mid = record { works = c.in_ok-cell.ensures.works; unchanged = c.in_ok-cell.ensures.unchanged } in
     passed_on _ c.from_residual-in_err-back.result _ c.from_residual-in_err-back.ensures
     (plain_since (λ entries. (n : ℕ) × IsNumberAt (entries Positions) c.deref.result.now n)
     (λ entries. IsRightAt slot.sizes entries c.args.number c.args.place) slot old mid (g.P.Pages.store c.number_at.new.store) _ read
@@ -43,7 +43,7 @@ returns-then-back-number-clause-cause g c = λ honest text entries h right.
     let slot = c.args.slot.now in
     let old = g.P.Pages.store c.args.store.now in
     let mid = g.P.Pages.store c.cell_of.new.store in
-    let read : IsRead old mid = record { works = c.in_ok-cell.ensures.works; unchanged = c.in_ok-cell.ensures.unchanged } in
+    let read : IsAfterReads old mid = record { works = c.in_ok-cell.ensures.works; unchanged = c.in_ok-cell.ensures.unchanged } in
     let cells = one_cell_at slot.sizes.packed (entries Records) c.args.number _ _ right.cell (c.in_ok-cell.ensures.cell honest text entries h) in
     let same : right.position ≡ c.deref.result.now = ap (λ (d : List ℕ × Record). d.0) cells ∙ sym c.deref.ensures.0 in
     let at = told_before (λ es. IsNumberAt (es Positions) c.deref.result.now c.in_ok-back.back) slot old mid
@@ -56,7 +56,7 @@ returns-then-fits_place-clause-right g c = λ honest text entries h.
     let slot = c.args.slot.now in
     let old = g.P.Pages.store c.args.store.now in
     let mid = g.P.Pages.store c.cell_of.new.store in
-    let read : IsRead old mid = record { works = c.in_ok-cell.ensures.works; unchanged = c.in_ok-cell.ensures.unchanged } in
+    let read : IsAfterReads old mid = record { works = c.in_ok-cell.ensures.works; unchanged = c.in_ok-cell.ensures.unchanged } in
     let at = told_before (λ es. IsNumberAt (es Positions) c.deref.result.now c.in_ok-back.back) slot old mid
     read c.in_ok-back.ensures.number honest text entries h in
     let there : IsNumberAt (entries Positions) c.in_ok-cell.cell.position.items c.in_ok-back.back =

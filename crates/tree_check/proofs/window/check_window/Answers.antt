@@ -2,7 +2,7 @@ use Rattle.std.proofs.Common.{◌≡◌, ℕ, ◌<◌, ◌≤◌, ◌+◌, ◌-�
 use Rattle.std.specs.Prelude.{slice_index_or}
 use Rattle.std.proofs.lemmas.Bool.{cases_eq}
 use Rattle.page_store.specs.aid.Works.{works_then}
-use Rattle.tree_check.specs.aid.Right.{IsRight, IsRightAt, AreRight}
+use Rattle.tree_check.specs.aid.Right.{IsRightNumber, IsRightAt, AreRight}
 use Rattle.tree_check.proofs.Passing.{passed_on, check_since, plain_check, read_more, told_before}
 use Rattle.tree_check.proofs.Taking.{its_place, right_there, right_so}
 use Rattle.tree_check.proofs.window.check_window.Goals as goal
@@ -59,7 +59,7 @@ loop-number-preserved g c =
         | inl is ↦
             let at = told_before (λ es. IsRightAt slot.sizes es number c.index.result.now) slot old mid
             c.loop-number.invariant.read c.in_ok-check_number.ensures.right honest text entries h in
-            subst (λ (m : ℕ). IsRight slot.sizes entries m) (sym is)
+            subst (λ (m : ℕ). IsRightNumber slot.sizes entries m) (sym is)
             (right_there slot.sizes entries c.args.from items (c.in_ok-places.ensures.places honest text entries h) number begun within
             (subst (λ (o : Option ℕ). IsRightAt slot.sizes entries number o) place at))
         | inr before ↦ c.loop-number.invariant.numbers honest text entries h i first (omega (arith, low, before))
