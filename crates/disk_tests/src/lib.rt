@@ -4,6 +4,8 @@
 #[cfg(test)]
 mod bytes_tests;
 #[cfg(test)]
+mod cache_tests;
+#[cfg(test)]
 mod chain_tests;
 #[cfg(test)]
 mod disks;

@@ -256,7 +256,7 @@ struct FileRow {
     bytes: &'static [(usize, u8)],
 }
 
-const FILES: [FileRow; 3] = [
+const FILES: [FileRow; 4] = [
     // A file of odd length becomes a table and keeps it.
     FileRow {
         length: 65_573,
@@ -288,20 +288,27 @@ const FILES: [FileRow; 3] = [
         scripts: [&[], &[(Open, NO_TABLE), (Create(7), TOO_SMALL)], &[]],
         bytes: &[],
     },
-    // One that is read only is opened and not written.
+    // One that is read only is opened and not written; what could not be written is tried again by each sync.
     FileRow {
         length: 65_536,
         byte: 0,
         scripts: [
-            &[(Create(7), Err(RootFault::Write))],
+            &[],
             &[(Create(7), Ok(Some(7)))],
             &[
                 (Open, Ok(Some(7))),
                 (Publish(8), Err(RootFault::Write)),
-                (Open, Ok(Some(7))),
+                (Open, Err(RootFault::Write)),
             ],
         ],
         bytes: &[(0, b'R'), (1024, 7)],
+    },
+    // And nothing is made of it.
+    FileRow {
+        length: 65_536,
+        byte: 0,
+        scripts: [&[(Create(7), Err(RootFault::Write))], &[], &[]],
+        bytes: &[(0, 0), (1024, 0)],
     },
 ];
 

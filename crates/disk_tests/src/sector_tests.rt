@@ -242,7 +242,7 @@ struct FileRow {
     bytes: &'static [(usize, u8)],
 }
 
-const FILES: [FileRow; 4] = [
+const FILES: [FileRow; 6] = [
     // A file of odd length has its whole sectors.
     FileRow {
         length: 1100,
@@ -260,6 +260,37 @@ const FILES: [FileRow; 4] = [
         ],
         bytes: &[(511, 1), (512, 9), (1023, 9), (1024, 1)],
     },
+    // What is written is read again, also where its page was read before; the last page is one sector.
+    FileRow {
+        length: 5000,
+        byte: 2,
+        read_only: false,
+        cut: 5000,
+        script: &[
+            (Sectors, Count(9)),
+            (Read(0), Halves(2, 2)),
+            (Write(3, 7), Done),
+            (Read(3), Halves(7, 7)),
+            (Read(4), Halves(2, 2)),
+            (Write(4, 8), Done),
+            (Write(7, 6), Done),
+            (Read(8), Halves(2, 2)),
+            (Write(8, 9), Done),
+            (Read(7), Halves(6, 6)),
+            (Read(4), Halves(8, 8)),
+            (Read(8), Halves(9, 9)),
+        ],
+        bytes: &[
+            (1535, 2),
+            (1536, 7),
+            (2048, 8),
+            (2560, 2),
+            (3584, 6),
+            (4096, 9),
+            (4607, 9),
+            (4608, 2),
+        ],
+    },
     // An empty one has none.
     FileRow {
         length: 0,
@@ -269,7 +300,33 @@ const FILES: [FileRow; 4] = [
         script: &[(Sectors, Count(0)), (Sync, Done)],
         bytes: &[],
     },
-    // One that is read only fails at writes.
+    // Sectors that follow one another are in the file once a page ends with one of them, and others at the next read or sync.
+    FileRow {
+        length: 8192,
+        byte: 2,
+        read_only: false,
+        cut: 8192,
+        script: &[
+            (Write(3, 5), Done),
+            (Write(13, 7), Done),
+            (Write(14, 8), Done),
+            (Write(15, 9), Done),
+            (Write(0, 6), Done),
+            (Write(1, 6), Done),
+        ],
+        bytes: &[
+            (511, 2),
+            (1024, 2),
+            (1536, 5),
+            (2048, 2),
+            (6655, 2),
+            (6656, 7),
+            (7168, 8),
+            (7680, 9),
+            (8191, 9),
+        ],
+    },
+    // One that is read only fails as soon as what was written goes to the file, and again.
     FileRow {
         length: 1024,
         byte: 4,
@@ -278,8 +335,10 @@ const FILES: [FileRow; 4] = [
         script: &[
             (Sectors, Count(2)),
             (Read(1), Halves(4, 4)),
-            (Write(1, 5), Fault),
-            (Read(1), Halves(4, 4)),
+            (Write(1, 5), Done),
+            (Sync, Fault),
+            (Read(1), Fault),
+            (Write(0, 5), Fault),
         ],
         bytes: &[(512, 4)],
     },

@@ -25,7 +25,7 @@ use crate::put::put;
 use crate::read::read_all;
 use crate::slot::empty_slot;
 use game_file::{FileFault, GameFile, Refused};
-use page_store::{PageStore, Pages};
+use page_store::{MOST_CACHED, PageStore, Pages};
 use position_pack::Packed;
 use root_pair::create;
 use sector_disk::SectorDisk;
@@ -51,8 +51,9 @@ pub struct FlatTable<D: SectorDisk> {
 impl<D: SectorDisk> FlatTable<D> {
     ghost use Rattle.flat_table.specs.InFile.{file_in};
 
-    /// Reads the whole table that this disk stores, after a sync: E1, E2, E4, E8.
-    fn read(alloc: Global, disk: D) -> Result<Self, Refused<D>>
+    /// Reads the whole table that this disk stores, after a sync, with so many pages in memory: E1, E2, E4, E8.
+    fn read(alloc: Global, disk: D, pages: usize) -> Result<Self, Refused<D>>
+        requires { pages ≤ 64 }
         ensures whole { IfOk result (λ t. IsFile (file_in t) × (t.draft ≡ None)) }
         ensures ok { IfOk result (λ t. IsOpenedFile Stores (D.disk disk) (D.failures disk) (state_of (file_in t))) }
         ensures root { IfOk result (λ t. IsTrue (D.disk disk).honest
@@ -62,7 +63,7 @@ impl<D: SectorDisk> FlatTable<D> {
             (D.failures back.disk) back.fault) }
         ensures first { IfErr result (λ back. back.fault ≢ FileFault.OldLayout) }
     {
-        let mut store = match PageStore::open(alloc, disk) {
+        let mut store = match PageStore::open_with_cache(alloc, disk, pages) {
             Ok(store) => store,
             Err(refused) => {
                 return Err(Refused {
@@ -191,7 +192,7 @@ impl<D: SectorDisk> GameFile for FlatTable<D> {
     fn create(alloc: Global, disk: D) -> Result<Self, Refused<D>> {
         let mut disk = disk;
         match create(&mut disk, &empty_slot()) {
-            Ok(()) => FlatTable::read(alloc, disk),
+            Ok(()) => FlatTable::read(alloc, disk, MOST_CACHED),
             Err(fault) => Err(Refused {
                 disk,
                 fault: fault.into(),
@@ -199,8 +200,8 @@ impl<D: SectorDisk> GameFile for FlatTable<D> {
         }
     }
 
-    fn open(alloc: Global, disk: D) -> Result<Self, Refused<D>> {
-        FlatTable::read(alloc, disk)
+    fn open_with_cache(alloc: Global, disk: D, pages: usize) -> Result<Self, Refused<D>> {
+        FlatTable::read(alloc, disk, pages)
     }
 
     fn text(&self) -> Option<&[u8]> {

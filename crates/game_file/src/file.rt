@@ -47,8 +47,14 @@ pub trait GameFile: Table {
         ensures cause { IfErr result (λ back. FileCreateCause (Self.Device.disk disk) (Self.Device.failures disk)
             (Self.Device.failures back.disk) back.fault) };
 
-    /// Opens the table that this disk stores, after a sync: E1, E2, E4, E5, E8.
-    fn open(alloc: Global, disk: Self::Device) -> Result<Self, Refused<Self::Device>>
+    /// Opens the table that this disk stores, after a sync: E1, E2, E4, E5, E8. Of its pages so many, 64 at most, are kept in memory once
+    /// they were read or written, 0 for none.
+    fn open_with_cache(
+        alloc: Global,
+        disk: Self::Device,
+        pages: usize,
+    ) -> Result<Self, Refused<Self::Device>>
+        requires { pages ≤ 64 }
         ensures whole { IfOk result is_whole }
         ensures ok { IfOk result (λ file. IsOpenedFile stores (Self.Device.disk disk) (Self.Device.failures disk) (state file)) }
         ensures refused { IfErr result (λ back. IsNotOpened (Self.Device.disk disk) (Self.Device.failures disk)

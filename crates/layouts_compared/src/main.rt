@@ -1,9 +1,9 @@
-//! Asks the solver over layout 1 and over layout 2 the same of games, and compares what they answer:
-//! `layouts_compared UNITS GAME..`.
+//! Asks the solver over layout 1, and over layout 2 with 64 pages in memory and with fewer, the same of games, and compares what
+//! they answer: `layouts_compared UNITS PAGES GAME..`.
 #![tactic(auto)]
 
-mod both;
 mod compare;
+mod tables;
 
 use crate::compare::{Outcome, compare};
 use std::alloc::Global;
@@ -25,22 +25,28 @@ fn main(rt: HostRuntime) -> ExitCode {
     }
 }
 
-/// Compares game by game, with so many units of work at most, and prints a line for each. It ends at the first difference. Answers
+/// Compares game by game, with so many units of work at most and one table with so many pages in memory, and prints a
+/// line for each. It ends at the first difference. Answers
 /// whether there was none.
 fn run(rt: &HostRuntime) -> anyhow::Result<bool> {
     let alloc = rt.alloc();
     let words: Vec<String> = std::env::args(rt)?.collect(alloc)?;
-    let [_, units, games @ ..] = words.as_slice() else {
-        rt.eprintln("usage: layouts_compared UNITS GAME..")?;
+    let [_, units, pages, games @ ..] = words.as_slice() else {
+        rt.eprintln("usage: layouts_compared UNITS PAGES GAME..")?;
         return Ok(false);
     };
     let most = units.parse::<u32>().unwrap_or(0);
+    let pages = pages.parse::<usize>().unwrap_or(0);
     for name in games {
         let text = text_of(rt, alloc, name)?;
-        match compare(alloc, &text, most)? {
+        match compare(alloc, &text, most, pages)? {
             Outcome::Equal(known) => println!(rt; "equal {name} known {known}")?,
             Outcome::Differs(difference) => {
                 println!(rt; "{name} differs: {difference}")?;
+                return Ok(false);
+            }
+            Outcome::OtherFiles => {
+                println!(rt; "{name}: the files differ")?;
                 return Ok(false);
             }
         }

@@ -1,3 +1,4 @@
+pub mod Cache
 pub mod Causes
 pub mod Marks
 pub mod Page

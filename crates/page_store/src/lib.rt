@@ -1,6 +1,7 @@
 //! Pages of 4,096 bytes on a table's disk: read, written and handed out, and a root that needs some of them.
 #![tactic(auto)]
 
+mod cache;
 mod fault;
 pub mod laws;
 mod marks;
@@ -11,4 +12,4 @@ mod store;
 pub use fault::PageFault;
 pub use marks::Mark;
 pub use pages::Pages;
-pub use store::{PageStore, Refused};
+pub use store::{MOST_CACHED, PageStore, Refused};

@@ -1,6 +1,6 @@
 //! What each page is used for.
 ghost use Rattle.std.specs.Prelude.{◌≡◌, ◌≢◌, ◌≤◌, ◌<◌, ℕ, length, IfSome, IfNone};
-ghost use Rattle.page_store.specs.Marks.{mark as mark_of, turned as turned_of, let_go as let_go_of, free_one as free_one_of, Turned};
+ghost use Rattle.page_store.specs.Marks.{mark as mark_of, turned as turned_of, keeps, let_go as let_go_of, free_one as free_one_of, Turned};
 ghost use Rattle.page_store.specs.Marks.{IsMarked, free_count};
 
 /// What a page is used for.
@@ -48,6 +48,16 @@ pub fn let_go(mark: Mark) -> Mark
         Mark::Committed => Mark::Released,
         Mark::Fresh => Mark::Free,
         other => other,
+    }
+}
+
+/// Whether the next root may need a page of this mark.
+pub fn is_kept(mark: Mark) -> bool
+    ensures { result ≡ keeps mark }
+{
+    match mark {
+        Mark::Committed | Mark::Waiting | Mark::Fresh => true,
+        Mark::Released | Mark::Free => false,
     }
 }
 

@@ -1,11 +1,13 @@
 //! A store of pages on a disk, with a mark for each page in memory.
 ghost use Rattle.std.specs.Prelude.{◌≡◌, ◌≤◌, ◌<◌, ◌*◌, ℕ, length, IfOk, IfErr};
 ghost use Rattle.page_store.specs.declared.marks.Mark.TheVariants.{Committed, Waiting};
+ghost use Rattle.page_store.specs.Cache.{IsCacheOf};
 ghost use Rattle.page_store.specs.Causes.{StoreOpenCause};
 ghost use Rattle.page_store.specs.Marks.{mark as mark_of};
 ghost use Rattle.page_store.specs.Store.{store_of, IsSoundStore, IsOpened, IsRefusedStore};
 
-use crate::marks::{count_free, find_any, let_go, put_mark, turn};
+use crate::cache::PageCache;
+use crate::marks::{count_free, find_any, is_kept, let_go, put_mark, turn};
 use crate::page::{get_page, put_page};
 use crate::{Mark, PageFault, Pages};
 use root_pair::{Root, RootFault, publish};
@@ -14,6 +16,9 @@ use std::alloc::{AllocError, Global};
 
 /// The most pages that a store has, the system page counted.
 const MOST_PAGES: u64 = 1_048_576;
+
+/// The most pages that a cache holds.
+pub const MOST_CACHED: usize = 64;
 
 /// A store of pages on a disk.
 #[derive(Drop)]
@@ -25,7 +30,10 @@ pub struct PageStore<D: SectorDisk> {
     next: u32,
     /// A write or a sync has failed.
     closed: bool,
+    /// Pages that need not be read again.
+    cache: PageCache,
     ghost sound: { IsSoundStore (store_of (D.disk disk) (D.failures disk) root.bytes marks.items closed) },
+    ghost cached: { IsCacheOf (store_of (D.disk disk) (D.failures disk) root.bytes marks.items closed) cache },
 }
 
 /// A disk that comes back with a refusal.
@@ -39,8 +47,18 @@ impl<D: SectorDisk> PageStore<D> {
     ghost use Rattle.page_store.specs.InStore.{store_in};
 
     /// Finds the root on the disk, which it syncs first. No page is marked. `Disk`, `NotATable`, or `OutOfMemory`, with
-    /// the disk. The room that later calls take is reserved here.
+    /// the disk. The room that later calls take is reserved here, but for the cache's 64 pages.
     pub fn open(alloc: Global, disk: D) -> Result<Self, Refused<D>>
+        ensures ok { IfOk result (λ store. IsOpened (D.disk disk) (D.failures disk) (store_in store)) }
+        ensures refused { IfErr result (λ back. IsRefusedStore (D.disk disk) (D.failures disk) (D.disk back.disk) (D.failures back.disk)) }
+        ensures cause { IfErr result (λ back. StoreOpenCause (D.disk disk) (D.failures disk) (D.failures back.disk) back.fault) }
+    {
+        PageStore::open_with_cache(alloc, disk, MOST_CACHED)
+    }
+
+    /// The same with a cache of so many pages, 0 for none.
+    pub fn open_with_cache(alloc: Global, disk: D, pages: usize) -> Result<Self, Refused<D>>
+        requires { pages ≤ 64 }
         ensures ok { IfOk result (λ store. IsOpened (D.disk disk) (D.failures disk) (store_in store)) }
         ensures refused { IfErr result (λ back. IsRefusedStore (D.disk disk) (D.failures disk) (D.disk back.disk) (D.failures back.disk)) }
         ensures cause { IfErr result (λ back. StoreOpenCause (D.disk disk) (D.failures disk) (D.failures back.disk) back.fault) }
@@ -62,15 +80,16 @@ impl<D: SectorDisk> PageStore<D> {
             }
         };
         let capacity = (disk.sectors() / 8).min(MOST_PAGES);
-        match unmarked(alloc, capacity) {
-            Ok(marks) => Ok(PageStore {
+        match (unmarked(alloc, capacity), PageCache::new(alloc, pages)) {
+            (Ok(marks), Ok(cache)) => Ok(PageStore {
                 disk,
                 root,
                 marks,
                 next: 0,
                 closed: false,
+                cache,
             }),
-            Err(_) => Err(Refused {
+            _ => Err(Refused {
                 disk,
                 fault: PageFault::OutOfMemory,
             }),
@@ -121,6 +140,7 @@ impl<D: SectorDisk> Pages for PageStore<D> {
 
     fn seal(&mut self) {
         turn(&mut self.marks, Mark::Fresh, Mark::Released, Mark::Free);
+        self.cache.clear();
     }
 
     fn read_page(&mut self, page: u32, into: &mut [u8; 4096]) -> Result<(), PageFault> {
@@ -130,7 +150,13 @@ impl<D: SectorDisk> Pages for PageStore<D> {
         if page == 0 || page as usize >= self.marks.len() {
             return Err(PageFault::Damaged);
         }
+        if self.cache.give(page, into) {
+            return Ok(());
+        }
         get_page(&mut self.disk, page, into)?;
+        if is_kept(self.marks[page as usize]) {
+            let _no_memory = self.cache.put(page, into);
+        }
         Ok(())
     }
 
@@ -155,15 +181,27 @@ impl<D: SectorDisk> Pages for PageStore<D> {
         if self.closed {
             return Err(PageFault::Closed);
         }
+        if self.cache.has(page, from) {
+            return Ok(());
+        }
         let written = put_page(&mut self.disk, page, from);
         self.closed = written.is_err();
-        written?;
-        Ok(())
+        match written {
+            Ok(done) => {
+                let _no_memory = self.cache.put(page, from);
+                Ok(done)
+            }
+            Err(fault) => {
+                self.cache.forget(page);
+                Err(fault.into())
+            }
+        }
     }
 
     fn release(&mut self, page: u32) {
         let now = let_go(self.marks[page as usize]);
         put_mark(&mut self.marks, page, now);
+        self.cache.forget(page);
     }
 
     fn commit(&mut self, root: &[u8; 512]) -> Result<(), PageFault> {
@@ -186,6 +224,7 @@ impl<D: SectorDisk> Pages for PageStore<D> {
 
     fn discard(&mut self) {
         turn(&mut self.marks, Mark::Free, Mark::Committed, Mark::Waiting);
+        self.cache.clear();
     }
 
     fn free_pages(&self) -> u32 {

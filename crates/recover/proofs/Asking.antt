@@ -1,5 +1,5 @@
 -- Questions change nothing, and answer from what is kept.
-use Rattle.std.proofs.Common.{◌≡◌, ℕ, ◌<◌, ◌≤◌, List, slice_get, length, Option, None, Some, refl, sym, ◌∙◌, ap, subst, arith}
+use Rattle.std.proofs.Common.{◌≡◌, ℕ, ◌<◌, ◌≤◌, List, slice_get, length, Option, None, Some, Result, Ok, Err, refl, sym, ◌∙◌, ap, subst, arith}
 use Rattle.std.specs.Prelude.{IsSome, IsTrue}
 use Rattle.rbg_game.specs.Games.{Game}
 use Rattle.rbg_read.specs.Reading.{Reads}
@@ -28,10 +28,26 @@ use Rattle.best_line.specs.declared.fault.LineFault.TheVariants as line
 use Rattle.game_file.specs.Causes.{FileTableCause}
 use Rattle.game_file.specs.Kept.{Kept}
 use Rattle.game_file.specs.State.{State}
-use Rattle.recover.specs.Faults.{line_fault, table_fault}
+use Rattle.audit.specs.Answers.{IsAnswer, IsSo}
+use Rattle.audit.specs.Causes.{HasWide}
+use Rattle.audit.specs.Causes as audit_causes
+use Rattle.audit.specs.declared.fault.AuditFault.{AuditFault}
+use Rattle.audit.specs.declared.fault.AuditFault.TheVariants as audits
+use Rattle.audit.specs.declared.verdict.Verdict.{Verdict}
+use Rattle.recover.specs.Audits.{HasVerdict, IsSoInGame, HasWidePosition, AuditCause}
+use Rattle.recover.specs.Faults.{line_fault, table_fault, audit_fault}
 use Rattle.recover.specs.Held.{IsSound}
 use Rattle.recover.specs.Queries.{OfKept, IsThere, HasValueAt, HasRows, HasLine, HasText, IsOfUnknown, AskCause, NumberCause, LineCause}
 use Rattle.recover.proofs.Working.{sound_here}
+
+-- what an answer has in it
+abbrev answered : {X E : Type 0} → X → Result X E → X
+answered other (Ok x) = x
+answered other (Err e) = other
+
+-- the same answer, of a call with other faults
+pub ok_is : {X E F : Type 0} (x y : X) → ◌≡◌ {A = Result X E} (Ok x) (Ok y) → ◌≡◌ {A = Result X F} (Ok x) (Ok y)
+ok_is x y is = ap (λ v. Ok v) (ap (λ r. answered x r) is)
 
 -- what is so of each table that is kept is told of the one that is
 pub tells : (kept : Option Kept) (Such : Kept → Type 0) → IsSome kept → ((k : Kept) → kept ≡ Some k → Such k) → OfKept Such kept
@@ -105,6 +121,25 @@ module _ (k : Kept) (stored : Stored (List ℕ)) (same : stored ≡ k.table) (fi
         subst (λ (g : Game). IsBestPlay (graph_of g) (view_of k.table) number numbers) (one_game k.text (compiled_game compiled) game is_read read)
         (subst (λ (t : Stored (List ℕ)). IsBestPlay (graph_of (compiled_game compiled)) (view_of t) number numbers) same (found (sound_stored sound)))
 
+    -- the verdict by the game in memory is that by any that the text reads to
+    pub verdict_found : (verdict : Verdict)
+        → (IsTable stored → IsAnswer (graph_of (compiled_game compiled)) (IsWideAt (compiled_game compiled)) stored verdict) → HasVerdict verdict k
+    verdict_found verdict found = λ game read.
+        subst (λ (g : Game). IsAnswer (graph_of g) (IsWideAt g) k.table verdict) (one_game k.text (compiled_game compiled) game is_read read)
+        (subst (λ (t : Stored (List ℕ)). IsAnswer (graph_of (compiled_game compiled)) (IsWideAt (compiled_game compiled)) t verdict) same (found its_table))
+
+    -- so is what a right table says
+    pub so_found : (IsTable stored → IsSo (graph_of (compiled_game compiled)) (view_of stored)) → IsSoInGame k
+    so_found found = λ game read.
+        subst (λ (g : Game). IsSo (graph_of g) (view_of k.table)) (one_game k.text (compiled_game compiled) game is_read read)
+        (subst (λ (t : Stored (List ℕ)). IsSo (graph_of (compiled_game compiled)) (view_of t)) same (found its_table))
+
+    -- and that some expanded position is too wide
+    pub wide_found : HasWide (IsWideAt (compiled_game compiled)) stored → HasWidePosition k
+    wide_found found = λ game read.
+        subst (λ (g : Game). HasWide (IsWideAt g) k.table) (one_game k.text (compiled_game compiled) game is_read read)
+        (subst (λ (t : Stored (List ℕ)). HasWide (IsWideAt (compiled_game compiled)) t) same found)
+
     -- there is no line
     pub unsettled : (number : ℕ) → number < counts.known → (IsTable stored → (view_of stored).value number ≡ None) → IsThere number k × ((view_of k.table).value number ≡ None)
     unsettled number less none = (is_there number less, subst (λ (t : Stored (List ℕ)). (view_of t).value number ≡ None) same (none its_table))
@@ -135,6 +170,22 @@ module _ (old new : State) where
   line_table_cause number table.TableFull no_page cause = absurd (no_page refl)
   line_table_cause number table.OutOfMemory no_page cause = tt
   line_table_cause number table.Closed no_page cause = cause
+
+  audit_table_cause : (fault : TableFault) → NeedsNoPage fault → FileTableCause old new fault → AuditCause old new (table_fault fault)
+  audit_table_cause table.Disk no_page cause = cause
+  audit_table_cause table.Damaged no_page cause = cause
+  audit_table_cause table.TableFull no_page cause = absurd (no_page refl)
+  audit_table_cause table.OutOfMemory no_page cause = tt
+  audit_table_cause table.Closed no_page cause = cause
+
+  -- why there is no verdict
+  pub audit_cause : {Fails : TableFault → Type 0} (fault : AuditFault)
+      → (fault ≡ audits.TooWide → IsTrue old.disk.honest → OfKept HasWidePosition old.kept)
+      → audit_causes.OfTable NeedsNoPage fault → audit_causes.OfTable Fails fault → ((f : TableFault) → Fails f → FileTableCause old new f)
+      → AuditCause old new (audit_fault fault)
+  audit_cause audits.TooWide wide no_page fails cause = wide refl
+  audit_cause audits.OutOfMemory wide no_page fails cause = tt
+  audit_cause (audits.Table fault) wide no_page fails cause = audit_table_cause fault no_page (cause fault fails)
 
   -- why there is no line
   pub line_cause : {Fails : TableFault → Type 0} (number : ℕ) (fault : LineFault)

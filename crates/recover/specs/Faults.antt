@@ -9,6 +9,8 @@ use Rattle.game_file.specs.declared.fault.FileFault.{FileFault}
 use Rattle.game_file.specs.declared.fault.FileFault.TheVariants as file
 use Rattle.best_line.specs.declared.fault.LineFault.{LineFault}
 use Rattle.best_line.specs.declared.fault.LineFault.TheVariants as line
+use Rattle.audit.specs.declared.fault.AuditFault.{AuditFault}
+use Rattle.audit.specs.declared.fault.AuditFault.TheVariants as audit
 use Rattle.recover.specs.declared.fault.SolverFault.{SolverFault}
 use Rattle.recover.specs.declared.fault.SolverFault.TheVariants.{Disk, NotATable, AlreadyATable, Damaged, OldLayout, TooSmall, TableFull}
 use Rattle.recover.specs.declared.fault.SolverFault.TheVariants.{OutOfMemory, Closed, Game, NoGame, GameAlready, KeeperChooses, TooWide}
@@ -47,6 +49,11 @@ line_fault line.Inconsistent = Inconsistent
 line_fault line.TooWide = TooWide
 line_fault line.OutOfMemory = OutOfMemory
 line_fault (line.Table fault) = table_fault fault
+
+abbrev pub audit_fault : AuditFault → SolverFault
+audit_fault audit.TooWide = TooWide
+audit_fault audit.OutOfMemory = OutOfMemory
+audit_fault (audit.Table fault) = table_fault fault
 
 -- the code that is printed
 abbrev pub code_of : SolverFault → List ℕ

@@ -1,5 +1,6 @@
 //! Why a command is refused.
 
+use audit::AuditFault;
 use best_line::LineFault;
 use frontier::StepFault;
 use game_file::FileFault;
@@ -163,6 +164,21 @@ impl From<LineFault> for SolverFault {
             LineFault::TooWide => SolverFault::TooWide,
             LineFault::OutOfMemory => SolverFault::OutOfMemory,
             LineFault::Table(fault) => fault.into(),
+        }
+    }
+}
+
+impl From<AuditFault> for SolverFault {
+    ghost use Rattle.std.specs.Prelude.{◌≡◌};
+    ghost use Rattle.recover.specs.Faults.{audit_fault};
+
+    ghost from_gives = { λ fault r. r ≡ audit_fault fault };
+
+    fn from(fault: AuditFault) -> Self {
+        match fault {
+            AuditFault::TooWide => SolverFault::TooWide,
+            AuditFault::OutOfMemory => SolverFault::OutOfMemory,
+            AuditFault::Table(fault) => fault.into(),
         }
     }
 }

@@ -1,7 +1,9 @@
 //! What is asked of a solver.
-ghost use Rattle.std.specs.Prelude.{◌≡◌, ◌<◌, true, false, None, IsSome, IfOk, IfErr, OnOk, IfSome, IfNone, IsErrOf};
+ghost use Rattle.std.specs.Prelude.{◌≡◌, ◌<◌, true, false, Ok, None, IsSome, IfOk, IfErr, OnOk, IfSome, IfNone, IsErrOf};
 ghost use Rattle.rbg_game.specs.Meaning.{game_of};
 ghost use Rattle.game_file.specs.Calls.{IsAsked};
+ghost use Rattle.audit.specs.declared.verdict.Verdict.TheVariants.{Right};
+ghost use Rattle.recover.specs.Audits.{HasVerdict, IsSoInGame, AuditCause};
 ghost use Rattle.recover.specs.Held.{IsSound};
 ghost use Rattle.recover.specs.Queries.{OfKept, Tells, HasValueAt, HasRows, HasLine, HasText, IsGameOf, AskCause, NumberCause, LineCause};
 ghost use Rattle.recover.specs.Queries.{ShowCause, FindCause};
@@ -9,6 +11,7 @@ ghost use Rattle.recover.specs.Solvers.{state, IsReady};
 ghost use Rattle.recover.specs.Units.{units_in};
 
 use crate::{FileSolver, SolverFault, Units};
+use audit::Verdict;
 use best_line::{Row, Value};
 use game_file::GameFile;
 use rbg_game::game::Game;
@@ -99,6 +102,24 @@ impl<F: GameFile> FileSolver<F> {
             return Err(SolverFault::NoGame);
         };
         Ok(best_line::line(self.alloc, source.moves(), &mut self.file, number)?)
+    }
+
+    /// Whether the table is right, whoever made it: each number is compared with the game. If it is, each settled position is won by the
+    /// named player in exactly the named number of moves, and if it is finished, its positions are those that play can come to, and the
+    /// unsettled ones are the drawn. E9, S1; S4 only where some expanded position is too wide.
+    pub fn audit(&mut self) -> Result<Verdict, SolverFault>
+        ensures ready { IsReady self.old → IsReady self.new }
+        ensures asked { IsReady self.old → IsAsked F.stores (state self.old) (state self.new) }
+        ensures verdict { IsReady self.old → IfOk result (λ verdict. Tells (HasVerdict verdict) (state self.old)) }
+        ensures so { IsReady self.old → result ≡ Ok Right → Tells IsSoInGame (state self.old) }
+        ensures cause { IsReady self.old → IfErr result (AuditCause (state self.old) (state self.new)) }
+        ensures closed { (state self.old).closed ≡ true → IsErrOf result SolverFault.Closed × (self.new ≡ self.old) }
+    {
+        self.known()?;
+        let Some(source) = &self.source else {
+            return Err(SolverFault::NoGame);
+        };
+        Ok(audit::audit(self.alloc, source.moves(), &mut self.file)?)
     }
 
     /// The text of the position with this number: E9, S1, S7. S6 comes only of a table that is not of this program's making.

@@ -1,5 +1,5 @@
 //! A solver over a disk.
-ghost use Rattle.std.specs.Prelude.{◌≡◌, ◌↔◌, true, false, Option, None, option_map, IsSome, OnOk, IfOk, IfErr, IsErrOf, IsTrue};
+ghost use Rattle.std.specs.Prelude.{◌≡◌, ◌≤◌, ◌↔◌, true, false, Option, None, option_map, IsSome, OnOk, IfOk, IfErr, IsErrOf, IsTrue};
 ghost use Rattle.sector_disk.specs.Disk.{Picture};
 ghost use Rattle.retrograde.specs.Changes.{counts_of};
 ghost use Rattle.game_file.specs.Kept.{Kept};
@@ -17,6 +17,7 @@ use crate::with_game::with_game;
 use crate::{Refused, Reply, SolverFault, Units, Worked};
 use game_file::GameFile;
 use game_table::Source;
+use page_store::MOST_CACHED;
 use retrograde::Counts;
 use sector_disk::SectorDisk;
 use std::alloc::Global;
@@ -69,7 +70,30 @@ impl<F: GameFile> FileSolver<F> {
             (F.Device.failures back.disk) back.fault) }
         ensures older { IfErr result (λ back. LayoutCause F.is_older (F.Device.disk disk) back.fault) }
     {
-        match F::open(alloc, disk) {
+        FileSolver::open_with_cache(alloc, disk, MOST_CACHED)
+    }
+
+    /// The same with so many of the file's pages, 64 at most, kept in memory once they were read or written, and 0 for none: `open` keeps
+    /// 64. What is answered is the same, but for the calls of the disk.
+    pub fn open_with_cache(
+        alloc: Global,
+        disk: F::Device,
+        pages: usize,
+    ) -> Result<Self, Refused<F::Device>>
+        requires { pages ≤ 64 }
+        ensures ready { IfOk result IsReady }
+        ensures opened { IfOk result (λ solver. IsOpened F.stores (F.Device.disk disk) (F.Device.failures disk) (state solver)) }
+        ensures gives { (kept : Option Kept) → IsTrue (F.Device.disk disk).honest → Holds F.stores (F.Device.disk disk).now.contents kept
+            → IfOk result (λ solver. ((state solver).kept ≡ kept) × LeavesNow F.stores (state solver).disk kept) }
+        ensures unlucky { (kept : Option Kept) → IsTrue (F.Device.disk disk).honest → Holds F.stores (F.Device.disk disk).now.contents kept
+            → IfErr result (λ back. IsUnlucky (F.Device.failures disk) (F.Device.failures back.disk) back.fault) }
+        ensures refused { IfErr result (λ back. IsNotOpened (F.Device.disk disk) (F.Device.failures disk) (F.Device.disk back.disk)
+            (F.Device.failures back.disk)) }
+        ensures cause { IfErr result (λ back. OpenCause F.stores (F.Device.disk disk) (F.Device.failures disk)
+            (F.Device.failures back.disk) back.fault) }
+        ensures older { IfErr result (λ back. LayoutCause F.is_older (F.Device.disk disk) back.fault) }
+    {
+        match F::open_with_cache(alloc, disk, pages) {
             Ok(file) => with_game(alloc, file),
             Err(refused) => Err(Refused {
                 disk: refused.disk,

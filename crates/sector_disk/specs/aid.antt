@@ -1,3 +1,4 @@
+pub mod Buffer
 pub mod Disk
 pub mod Log
 pub mod Moments

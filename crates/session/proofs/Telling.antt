@@ -11,7 +11,10 @@ use Rattle.recover.specs.Held.{IsSound}
 use Rattle.recover.specs.Queries.{OfKept, Tells, HasLine}
 use Rattle.session.specs.Answered.{IsPlayLine}
 use Rattle.session.specs.Replies.{line_line}
+use Rattle.audit.specs.declared.verdict.Reason.{Reason}
+use Rattle.audit.specs.declared.verdict.Verdict.TheVariants.{Wrong}
 use Rattle.session.specs.Told.{IsCountsLine, IsWorkLine}
+use Rattle.session.specs.Verdicts.{code_of_reason, IsVerdictLine}
 use Rattle.session.proofs.Appending.{appends_then}
 
 -- the line of counts, written in two parts
@@ -24,6 +27,26 @@ pub not_done : (counts : Counts) → ((counts.expanded ≡ counts.known) × (cou
     → ¬ IsComplete counts
 not_done counts (inl it) done = it.1 done.1
 not_done counts (inr it) done = it done.0
+
+-- a line that is written at once
+pub told_at_once : {X E : Type 0} (Is : List ℕ → Type 0) (old new : Option (List ℕ)) (r : Result X E) (line : List ℕ)
+    → OnOk r (Appends old new line) → Is line → OnOk r ((it : List ℕ) × Is it × Appends old new it)
+told_at_once Is old new (Ok x) line then is = (line, is, then)
+told_at_once Is old new (Err e) line then is = tt
+
+-- a wrong table, written in three parts
+pub wrong_told : {X E : Type 0} (counts : Counts) (number : ℕ) (reason : Reason) (a b c d : Option (List ℕ)) (r : Result X E)
+    → Appends a b (codes "audit wrong " ++ (decimal number ++ 32 ∷ [])) → Appends b c (code_of_reason reason) → OnOk r (Appends c d (10 ∷ []))
+    → OnOk r ((line : List ℕ) × IsVerdictLine counts (Wrong number reason) line × Appends a d line)
+wrong_told counts number reason a b c d (Ok x) first second third =
+    let front = codes "audit wrong " ++ (decimal number ++ 32 ∷ []) in
+    let code = code_of_reason reason in (
+      (front ++ code) ++ 10 ∷ [],
+      append_assoc front code (10 ∷ []) ∙ append_assoc (codes "audit wrong ") (decimal number ++ 32 ∷ []) (code ++ 10 ∷ [])
+          ∙ ap (λ (t : List ℕ). codes "audit wrong " ++ t) (append_assoc (decimal number) (32 ∷ []) (code ++ 10 ∷ [])),
+      appends_then a c d (front ++ code) (10 ∷ []) (appends_then a b c front code first second) third,
+    )
+wrong_told counts number reason a b c d (Err e) first second third = tt
 
 -- the number of units before the counts
 pub work_told : {X E : Type 0} (units : ℕ) (counts : Counts) (old mid new : Option (List ℕ)) (r : Result X E)

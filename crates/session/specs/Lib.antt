@@ -6,3 +6,4 @@ pub mod Told
 pub mod Asked
 pub mod Answered
 pub mod aid
+pub mod Verdicts

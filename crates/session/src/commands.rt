@@ -7,6 +7,8 @@ ghost use Rattle.session.specs.Told.{fault_line, IsReplyLine};
 
 use crate::replies::put_work;
 use crate::turns::reply_to;
+use crate::verdicts::put_verdict;
+use audit::Verdict;
 use rbg_read::fault::GameFault;
 use recover::{Command, Reply, Solver, SolverFault};
 use sector_disk::SectorDisk;
@@ -20,6 +22,8 @@ pub enum FileCommand {
     Create,
     /// Loads the game of this text.
     Load(Vec<u8>),
+    /// Says whether the table is right.
+    Audit,
 }
 
 /// What came of a command on a file.
@@ -31,7 +35,7 @@ pub struct Outcome {
     pub refused: Option<SolverFault>,
 }
 
-/// Does the command on the table of this disk, and writes one line: `created` or `loaded`, or `refused` and a code.
+/// Does the command on the table of this disk, and writes one line: `created`, `loaded`, the verdict, or `refused` and a code.
 /// Gives what came of it, and the disk. Once the command is done, no memory is taken.
 pub fn command_on<D: SectorDisk, W: Write>(
     alloc: Global,
@@ -51,6 +55,31 @@ pub fn command_on<D: SectorDisk, W: Write>(
             }
             Err(refused) => (said_refused(out, refused.fault), refused.disk),
         },
+        FileCommand::Audit => match Solver::open(alloc, disk) {
+            Ok(mut solver) => (audited(&mut solver, out), solver.close()),
+            Err(refused) => (said_refused(out, refused.fault), refused.disk),
+        },
+    }
+}
+
+/// Says whether the table is right: the status is 1 where it is not.
+fn audited<D: SectorDisk, W: Write>(solver: &mut Solver<D>, out: &mut W) -> Outcome {
+    let verdict = match solver.audit() {
+        Ok(verdict) => verdict,
+        Err(fault) => return said_refused(out, fault),
+    };
+    let Some(counts) = solver.status() else {
+        return said_refused(out, SolverFault::NoGame);
+    };
+    let said = put_verdict(out, verdict, counts).and_then(|()| out.flush());
+    let status = match (said, verdict) {
+        (Err(_), _) => 4,
+        (Ok(()), Verdict::Right) => 0,
+        (Ok(()), Verdict::Wrong(_, _)) => 1,
+    };
+    Outcome {
+        status,
+        refused: None,
     }
 }
 

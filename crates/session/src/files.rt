@@ -92,6 +92,14 @@ pub fn load_file(rt: &HostRuntime, alloc: Global, name: &str, game: &str) -> u8 
     outcome.status
 }
 
+/// Says whether the table of a file is right.
+pub fn audit_file(rt: &HostRuntime, alloc: Global, name: &str) -> u8 {
+    match opened(rt, name) {
+        Ok(file) => command_on_file(rt, alloc, name, file, FileCommand::Audit).status,
+        Err(why) => refused_opening(rt, name, why),
+    }
+}
+
 /// A session over the table of a file, on standard input and output.
 pub fn session_of_file(rt: &HostRuntime, alloc: Global, name: &str) -> u8 {
     let file = match opened(rt, name) {

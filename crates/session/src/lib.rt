@@ -18,6 +18,7 @@ pub mod refused;
 pub mod replies;
 mod streams;
 pub mod turns;
+pub mod verdicts;
 pub mod words;
 
 pub use program::run;

@@ -1,7 +1,7 @@
 //! What the command line says is done here: the words are read, and each command is handed on.
 
 use crate::explain::{Explanation, LineColumn, explain, line_column};
-use crate::files::{create_file, load_file, session_of_file};
+use crate::files::{audit_file, create_file, load_file, session_of_file};
 use crate::moves::moves_to;
 use crate::refused::Refused;
 use crate::streams::Streams;
@@ -48,6 +48,7 @@ fn run_words(rt: &HostRuntime) -> u8 {
         Ok(Words::Create { file, pages }) => create_file(rt, alloc, &file, pages),
         Ok(Words::Load { file, game }) => load_file(rt, alloc, &file, &game),
         Ok(Words::Session { file }) => session_of_file(rt, alloc, &file),
+        Ok(Words::Audit { file }) => audit_file(rt, alloc, &file),
         Err(refusal) => show(rt, &refusal),
     }
 }

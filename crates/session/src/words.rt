@@ -16,6 +16,8 @@ pub enum Words {
     Load { file: String, game: String },
     /// A session over the table of this file.
     Session { file: String },
+    /// Whether the table of this file is right.
+    Audit { file: String },
 }
 
 /// Why there is nothing to do: help was asked for, or the words are no command.
@@ -99,6 +101,18 @@ pub const SESSION_LINES: &str = concat!(
     "Any other line is answered by `usage`, and so is `help`.",
 );
 
+const AUDIT_ABOUT: &str = "Says whether a table is right, whoever made it";
+
+const AUDIT_LONG_ABOUT: &str = concat!(
+    "Says whether a table is right, whoever made it. Each number is compared with the game and with the numbers ",
+    "beside it, by seven conditions, A1 to A7.\n",
+    "\n",
+    "It prints `audit right finished`, or `audit right open` where work is left: then the named player wins each ",
+    "settled position in exactly the named number of moves, and of a finished table the positions are all that ",
+    "play can reach and the unsettled ones are drawn. Or it prints `audit wrong N REASON` with the lowest number ",
+    "that fails and its lowest condition, and ends with status 1.",
+);
+
 const MOVES_ABOUT: &str = "Prints the legal moves of a game's start";
 
 const MOVES_LONG_ABOUT: &str = concat!(
@@ -143,6 +157,9 @@ fn asked_for(alloc: Global, name: &str, inner: &ArgMatches<'_>) -> Result<Words,
         "session" => Ok(Words::Session {
             file: given(alloc, inner, "FILE")?,
         }),
+        "audit" => Ok(Words::Audit {
+            file: given(alloc, inner, "FILE")?,
+        }),
         _ => Ok(Words::Moves {
             game: given(alloc, inner, "GAME")?,
         }),
@@ -165,6 +182,7 @@ fn command<'a>(alloc: Global) -> Result<Command<'a>, AllocError> {
         .subcommand(create_command(alloc)?)?
         .subcommand(load_command(alloc)?)?
         .subcommand(session_command(alloc)?)?
+        .subcommand(audit_command(alloc)?)?
         .subcommand(moves_command(alloc)?)
 }
 
@@ -210,6 +228,13 @@ fn session_command<'a>(alloc: Global) -> Result<Command<'a>, AllocError> {
         .about(SESSION_ABOUT)
         .long_about(SESSION_LONG_ABOUT)
         .after_help(SESSION_LINES)
+        .arg(file_word(alloc))
+}
+
+fn audit_command<'a>(alloc: Global) -> Result<Command<'a>, AllocError> {
+    Command::new(alloc, "audit")
+        .about(AUDIT_ABOUT)
+        .long_about(AUDIT_LONG_ABOUT)
         .arg(file_word(alloc))
 }
 

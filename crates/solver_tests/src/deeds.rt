@@ -10,11 +10,7 @@ use test_aids::TAKE;
 /// Sectors of the smallest disk that takes a table.
 pub const SECTORS: u64 = 128;
 
-/// What is answered to `status` where no table was made,
-pub const NO_TABLE: &[u8] = b"refused E2\n";
-/// where the table has no game,
-pub const EMPTY: &[u8] = b"no game\n";
-/// where it has the game of takes,
+/// What is answered to `status` where the table has the game of takes,
 pub const LOADED: &[u8] = b"known 1 expanded 0 settled 0 processed 0 open\n";
 /// and where seven units of it are worked.
 pub const WORKED: &[u8] = b"known 7 expanded 7 settled 2 processed 0 open\n";
@@ -24,7 +20,6 @@ pub const WORKED: &[u8] = b"known 7 expanded 7 settled 2 processed 0 open\n";
 pub enum Deed {
     Create,
     LoadTake,
-    WorkSeven,
     Status,
 }
 
@@ -41,7 +36,6 @@ pub fn done_on<D: SectorDisk + Drop>(
             let text = TAKE.as_bytes().to_vec(alloc)?;
             commanded(alloc, disk, FileCommand::Load(text), &mut out)
         }
-        Deed::WorkSeven => asked(alloc, disk, b"work 7\n", &mut out),
         Deed::Status => asked(alloc, disk, b"status\n", &mut out),
     };
     Ok((disk, status, out))
@@ -77,32 +71,6 @@ pub fn disk_after(alloc: Global, deeds: &[Deed]) -> Result<MemDisk, Fail> {
         disk = after;
     }
     Ok(disk)
-}
-
-/// Numbers of pictures that tell all others of what a stop leaves: each sector that is not synced is as at the last sync, as written, and
-/// filled with noise.
-const TELLING: [u64; 3] = [0, u64::MAX / 3, u64::MAX];
-
-/// What tells which pictures a stop now leaves: where it is the same of two disks, so are the pictures.
-pub fn telling(alloc: Global, disk: &MemDisk) -> Result<Vec<u8>, Fail> {
-    let mut told = Vec::new(alloc);
-    for pick in TELLING {
-        let mut picture = disk.after_stop(alloc, pick)?;
-        add_sectors(&mut picture, &mut told)?;
-    }
-    Ok(told)
-}
-
-/// Puts the sectors of a disk behind these bytes.
-fn add_sectors(disk: &mut MemDisk, told: &mut Vec<u8>) -> Result<(), Fail> {
-    let mut sector = [0; 512];
-    for at in 0..SECTORS {
-        if at < disk.sectors() {
-            disk.read(at, &mut sector)?;
-            told.extend_from_slice(&sector)?;
-        }
-    }
-    Ok(())
 }
 
 /// Whether each of the 256 pictures that a stop now leaves answers one of these to `status`.

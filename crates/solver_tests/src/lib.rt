@@ -9,5 +9,3 @@ mod fault_tests;
 mod run_tests;
 #[cfg(test)]
 mod session_tests;
-#[cfg(test)]
-mod stop_tests;

@@ -177,14 +177,14 @@ fn session_with(alloc: Global, passes: u64, lines: &[u8]) -> Result<Said, Fail> 
 fn a_disk_that_fails_ends_a_session(rt: HostRuntime) -> Result<(), Fail> {
     let advice =
         b"the disk failed: see that the file can be read and written, and start again\n".as_slice();
-    // 68 calls to open, 648 to work and five to commit, as in `fault_tests`
-    for passes in [0, 1, 67, 68, 300, 715, 716, 720] {
+    // 36 calls to open, 232 to work and five to commit, as in `fault_tests`
+    for passes in [0, 1, 35, 36, 150, 267, 268, 272] {
         let said = session_with(rt.alloc(), passes, b"work 7\nworks\n")?;
         assert_eq!(rt; said.status, 4, "{passes} calls pass");
         assert_eq!(rt; said.out.as_slice(), b"refused E1\n".as_slice());
         assert_eq!(rt; said.told.as_slice(), advice);
     }
-    let said = session_with(rt.alloc(), 721, b"work 7\nworks\n")?;
+    let said = session_with(rt.alloc(), 273, b"work 7\nworks\n")?;
     assert_eq!(rt; said.status, 0);
     let done = b"units 7 known 7 expanded 7 settled 2 processed 0 open\nusage\n".as_slice();
     assert_eq!(rt; said.out.as_slice(), done);

@@ -11,7 +11,7 @@ ghost use Rattle.tree_file.specs.aid.Making.{EmptyCause};
 use crate::file::TreeFile;
 use crate::on_disk::PagesOnDisk;
 use game_file::{FileFault, Refused};
-use page_store::Pages;
+use page_store::{MOST_CACHED, Pages};
 use std::alloc::Global;
 use tree_table::{TreeTable, read_slot};
 
@@ -45,7 +45,7 @@ impl<P: PagesOnDisk> TreeFile<P> {
         ensures cause { IfErr result (λ back. EmptyCause (P.Device.disk disk) (P.Device.failures disk)
             (P.Device.failures back.disk) back.fault) }
     {
-        let mut store = match P::find(alloc, disk) {
+        let mut store = match P::find(alloc, disk, MOST_CACHED) {
             Ok(store) => store,
             Err(refused) => {
                 return Err(Refused {

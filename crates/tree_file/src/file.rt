@@ -1,5 +1,5 @@
 //! A table in a file of layout 2.
-ghost use Rattle.std.specs.Prelude.{◌≡◌, ℕ, IfOk, IfErr, IsTrue};
+ghost use Rattle.std.specs.Prelude.{◌≡◌, ◌≤◌, ℕ, IfOk, IfErr, IsTrue};
 ghost use Rattle.root_pair.specs.Root.{HoldsRoot};
 ghost use Rattle.root_slot.specs.Fields.{commits_in};
 ghost use Rattle.game_file.specs.Calls.{IsOpenedFile, IsNotOpened};
@@ -55,8 +55,9 @@ fn load_fault(fault: TableFault, capacity: u32) -> FileFault
 impl<P: PagesOnDisk> TreeFile<P> {
     ghost use Rattle.tree_file.specs.InFile.{file_in};
 
-    /// Opens the table that this disk stores, after a sync: E1, E2, E4, E5, E8.
-    fn read(alloc: Global, disk: P::Device) -> Result<Self, Refused<P::Device>>
+    /// Opens the table that this disk stores, after a sync, with so many pages in memory: E1, E2, E4, E5, E8.
+    fn read(alloc: Global, disk: P::Device, pages: usize) -> Result<Self, Refused<P::Device>>
+        requires { pages ≤ 64 }
         ensures whole { IfOk result (λ t. IsWholeFile (file_in t)) }
         ensures ok { IfOk result (λ t. IsOpenedFile StoresTrees (P.Device.disk disk) (P.Device.failures disk) (state_of (file_in t))) }
         ensures root { IfOk result (λ t. IsTrue (P.Device.disk disk).honest
@@ -66,7 +67,7 @@ impl<P: PagesOnDisk> TreeFile<P> {
         ensures cause { IfErr result (λ back. FileOpenCause StoresTrees IsOlderTable (P.Device.disk disk) (P.Device.failures disk)
             (P.Device.failures back.disk) back.fault) }
     {
-        let mut store = match P::find(alloc, disk) {
+        let mut store = match P::find(alloc, disk, pages) {
             Ok(store) => store,
             Err(refused) => {
                 return Err(Refused {
@@ -140,8 +141,12 @@ impl<P: PagesOnDisk> GameFile for TreeFile<P> {
         }
     }
 
-    fn open(alloc: Global, disk: P::Device) -> Result<Self, Refused<P::Device>> {
-        TreeFile::read(alloc, disk)
+    fn open_with_cache(
+        alloc: Global,
+        disk: P::Device,
+        pages: usize,
+    ) -> Result<Self, Refused<P::Device>> {
+        TreeFile::read(alloc, disk, pages)
     }
 
     fn text(&self) -> Option<&[u8]> {

@@ -1,5 +1,5 @@
 //! A store of pages that knows its disk.
-ghost use Rattle.std.specs.Prelude.{◌≡◌, IfOk, IfErr};
+ghost use Rattle.std.specs.Prelude.{◌≡◌, ◌≤◌, IfOk, IfErr};
 ghost use Rattle.page_store.specs.Causes.{StoreOpenCause};
 ghost use Rattle.page_store.specs.Store.{IsOpened, IsRefusedStore};
 
@@ -12,8 +12,10 @@ pub trait PagesOnDisk: Pages {
     /// The disk that it is on.
     type Device: SectorDisk;
 
-    /// Finds the root on the disk, which it syncs first. No page is marked. `Disk`, `NotATable`, or `OutOfMemory`, with the disk.
-    fn find(alloc: Global, disk: Self::Device) -> Result<Self, Refused<Self::Device>>
+    /// Finds the root on the disk, which it syncs first. No page is marked; so many of them, 64 at most, are kept in memory once they
+    /// were read or written. `Disk`, `NotATable`, or `OutOfMemory`, with the disk.
+    fn find(alloc: Global, disk: Self::Device, pages: usize) -> Result<Self, Refused<Self::Device>>
+        requires { pages ≤ 64 }
         ensures ok { IfOk result (λ store. IsOpened (Self.Device.disk disk) (Self.Device.failures disk) (Self.store store)) }
         ensures refused { IfErr result (λ back. IsRefusedStore (Self.Device.disk disk) (Self.Device.failures disk)
             (Self.Device.disk back.disk) (Self.Device.failures back.disk)) }
@@ -29,8 +31,8 @@ pub trait PagesOnDisk: Pages {
 impl<D: SectorDisk> PagesOnDisk for PageStore<D> {
     type Device = D;
 
-    fn find(alloc: Global, disk: D) -> Result<Self, Refused<D>> {
-        PageStore::open(alloc, disk)
+    fn find(alloc: Global, disk: D, pages: usize) -> Result<Self, Refused<D>> {
+        PageStore::open_with_cache(alloc, disk, pages)
     }
 
     fn give_back(self) -> D {

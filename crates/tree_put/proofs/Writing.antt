@@ -12,15 +12,17 @@ use Rattle.page_store.specs.Marks.{mark, IsMarked}
 use Rattle.page_store.specs.Store.{Store, reads, StoreWorks, IsRemarked}
 use Rattle.page_store.specs.aid.Works.{works_then}
 use Rattle.tree_page.specs.declared.kind.Kind.{Kind}
+use Rattle.tree_page.specs.declared.kind.Kind.TheVariants.{Leaf, Inner}
 use Rattle.tree_page.specs.declared.widths.Widths.{Widths}
 use Rattle.tree_page.specs.aid.Items.{items-append}
-use Rattle.tree_page.specs.Page.{Item, IsPage, items_in, items_of, child_of}
+use Rattle.tree_page.specs.Page.{Item, IsPage, item_width, items_in, items_of, least_of, child_of}
 use Rattle.tree_map.specs.Changes.{TakePlace}
 use Rattle.tree_map.specs.Entries.{first_key}
 use Rattle.tree_map.specs.aid.Laws.{contains_first, contains_later}
 use Rattle.tree_map.specs.Tree.{IsOnce}
 use Rattle.tree_put.specs.aid.Growing.{AreWritten}
-use Rattle.tree_put.proofs.Listing.{mul-mono, distribute}
+use Rattle.tree_put.specs.aid.Items.{IsCut}
+use Rattle.tree_put.proofs.Listing.{mul-mono, distribute, narrow}
 use Rattle.tree_map.specs.aid.Taking.{only_one}
 use Rattle.tree_map.specs.aid.Once.{contains_cons}
 use Rattle.tree_put.proofs.Placing.{held_not_free, take_more, take_wrote}
@@ -34,6 +36,10 @@ pub first_of : (key behind n : ℕ) (bytes : List ℕ) → 1 ≤ n → first_key
 first_of key behind zero bytes some = absurd (omega (arith, some))
 first_of key behind (suc n) bytes some = refl
 
+-- the rest of some items
+pub rest_is : (count width cut : ℕ) → cut ≤ count → count * width ≡ cut * width + (count - cut) * width
+rest_is count width cut within = let sum : count ≡ cut + (count - cut) = omega (arith, within) in ap (λ n. n * width) sum ∙ distribute cut (count - cut) width
+
 -- the halves of too many items
 module _ (count width : ℕ) where
   abbrev half : ℕ
@@ -44,9 +50,6 @@ module _ (count width : ℕ) where
 
   pub half_fits : count * width ≤ 5120 → half * width ≤ 4092
   half_fits most = let both = distribute half half width in omega (arith, double, both, most)
-
-  pub rest_is : count * width ≡ half * width + (count - half) * width
-  rest_is = let sum : count ≡ half + (count - half) = omega arith in ap (λ n. n * width) sum ∙ distribute half (count - half) width
 
   pub rest_fits : count * width ≤ 5120 → width ≤ 512 → (count - half) * width ≤ 4092
   rest_fits most narrow =
@@ -72,6 +75,53 @@ module _ (count width : ℕ) where
         ]
         | inr many ↦ inr (omega (arith, many))
       ]
+
+-- items that are cut in halves, or before the last that a page may have
+few_least : (kind : Kind) → (1 ≤ least_of kind) × (least_of kind ≤ 2)
+few_least Leaf = (omega arith, omega arith)
+few_least Inner = (omega arith, omega arith)
+
+module _ (w : Widths) (kind : Kind) (count : ℕ) (full : (count - 1) * item_width w kind ≤ 4092) (over : 4092 < count * item_width w kind) where
+  abbrev wide : ℕ
+  wide = item_width w kind
+
+  abbrev least : ℕ
+  least = least_of kind
+
+  many : 4 ≤ count / 2
+  many = half_some count wide over (narrow w kind)
+
+  most : count * wide ≤ 5120
+  most =
+      let sum : count ≡ count - 1 + 1 = omega (arith, many) in
+      let parts : count * wide ≡ (count - 1) * wide + 1 * wide = ap (λ n. n * wide) sum ∙ distribute (count - 1) 1 wide in
+      omega (arith, parts, full, narrow w kind)
+
+  at_end : IsCut w kind count (count - least)
+  at_end =
+      let few = few_least kind in
+      let before : (count - least) * wide ≤ (count - 1) * wide = mul-mono (count - least) (count - 1) wide (omega (arith, few.0)) in
+      let behind : (count - (count - least)) * wide ≤ 2 * wide = mul-mono (count - (count - least)) 2 wide (omega (arith, few.1)) in
+      record {
+        front_enough = omega (arith, few.1, many);
+        back_enough = omega (arith, few.1, many);
+        front_fits = omega (arith, before, full);
+        back_fits = omega (arith, behind, narrow w kind);
+      }
+
+  at_half : IsCut w kind count (count / 2)
+  at_half =
+      let few = few_least kind in
+      record {
+        front_enough = omega (arith, few.1, many);
+        back_enough = omega (arith, few.1, many);
+        front_fits = half_fits count wide most;
+        back_fits = rest_fits count wide most (narrow w kind);
+      }
+
+  pub cut_is : (cut behind : ℕ) → (behind ≡ 0 → cut ≡ count - least_of kind) → (1 ≤ behind → cut ≡ count / 2) → IsCut w kind count cut
+  cut_is cut zero end half = subst (IsCut w kind count) (sym (end refl)) at_end
+  cut_is cut (suc behind) end half = subst (IsCut w kind count) (sym (half (omega arith))) at_half
 
 -- items in two parts
 pub items_parts : (key behind b m n count : ℕ) (bytes whole front back : List ℕ) → b ≡ behind → count ≡ m + n → whole ≡ bytes → front ≡ take (m * (key + b)) whole → back ≡ drop (m * (key + b)) whole

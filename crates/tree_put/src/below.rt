@@ -6,7 +6,7 @@ ghost use Rattle.tree_put.specs.aid.Causes.{BelowCause};
 ghost use Rattle.tree_put.specs.aid.Growing.{IsGrowing, IsGrown};
 ghost use Rattle.tree_put.specs.aid.Items.{listed, AreWhole};
 
-use crate::items::{Items, spliced, with_entry};
+use crate::items::{FewItems, spliced, with_entry};
 use crate::write::write_items;
 use byteorder::{BigEndian, ByteOrder};
 use page_store::{PageFault, Pages};
@@ -21,14 +21,15 @@ pub fn put_below<P: Pages>(
     levels: usize,
     key: &[u8],
     value: &[u8],
-) -> Result<Items, PageFault>
+) -> Result<FewItems, PageFault>
     requires key { length key.now ≡ widths.key }
     requires value { length value.now ≡ widths.value }
     ensures grown { IsTrue (P.store store.old).disk.honest → (d : ℕ) → IsGrowing widths d page (P.store store.old)
-        → IfOk result (λ tops. IsGrown widths key.now value.now d page (listed widths Inner tops) (P.store store.old) (P.store store.new)) }
+        → IfOk result (λ tops. IsGrown widths key.now value.now d page
+        (listed widths Inner tops.count tops.bytes.items) (P.store store.old) (P.store store.new)) }
     ensures some { IfOk result (λ tops. 1 ≤ tops.count) }
     ensures few { IfOk result (λ tops. tops.count ≤ 2) }
-    ensures whole { IfOk result (λ tops. AreWhole widths Inner tops) }
+    ensures whole { IfOk result (λ tops. AreWhole widths Inner tops.count tops.bytes.items) }
     ensures open { OnOk result ((P.store store.new).closed ≡ false) }
     ensures works { StoreWorks (P.store store.old) (P.store store.new) }
     ensures still { IfErr result (λ fault. fault ≢ PageFault.Disk → (P.store store.new).closed ≡ (P.store store.old).closed) }

@@ -1,11 +1,11 @@
-//! Items as bytes: those of a page, or those that lead to a few pages.
-ghost use Rattle.std.specs.Prelude.{◌≡◌, ◌≤◌, ◌+◌, ◌-◌, ◌*◌, ◌↔◌, ◌++◌, ◌∷◌, [], length, take, drop, slice_get, Some, IsTrue};
+//! Items as bytes: those of a page, and those that lead to one page or two.
+ghost use Rattle.std.specs.Prelude.{◌≡◌, ◌≤◌, ◌<◌, ◌+◌, ◌-◌, ◌*◌, ◌/◌, ◌↔◌, ◌++◌, ◌∷◌, [], length, take, drop, slice_get, Some, IsTrue};
 ghost use Rattle.arrayvec.specs.ArrayVec.{array_vec_len};
 ghost use Rattle.byteorder.specs.Endian.{big_bytes};
 ghost use Rattle.tree_page.specs.declared.kind.Kind.TheVariants.{Leaf, Inner};
-ghost use Rattle.tree_page.specs.Page.{Item, behind_of, child_of, count_in, item_width, items_in, items_of, IsPage};
+ghost use Rattle.tree_page.specs.Page.{Item, behind_of, child_of, count_in, item_width, items_in, items_of, least_of, IsPage};
 ghost use Rattle.tree_map.specs.Entries.{Ascend, put_entry};
-ghost use Rattle.tree_put.specs.aid.Items.{listed, AreWhole};
+ghost use Rattle.tree_put.specs.aid.Items.{listed, AreWhole, IsCut};
 
 use arrayvec::ArrayVec;
 use byteorder::{BigEndian, ByteOrder};
@@ -14,48 +14,78 @@ use tree_page::{HEAD, Kind, Widths, behind_of, count_of, item_at, place_of};
 /// As many bytes as a page has room for, and two items more.
 const MOST: usize = 5_120;
 
-/// Items one after another.
+/// As many bytes as two items that lead to pages take, or one entry.
+const FEW: usize = 520;
+
+/// The items of a page, or of a page that became too full.
 #[derive(Drop)]
 pub struct Items {
     /// How many there are.
     pub count: usize,
+    /// How many of them stay on the first page, where they take two.
+    pub cut: usize,
     /// Their bytes.
     pub bytes: ArrayVec<u8, MOST>,
 }
 
-/// No items.
-pub fn no_items() -> Items
+/// One item or two.
+#[derive(Drop)]
+pub struct FewItems {
+    /// How many there are.
+    pub count: usize,
+    /// Their bytes.
+    pub bytes: ArrayVec<u8, FEW>,
+}
+
+/// No items, with room for two.
+pub fn no_few_items() -> FewItems
     ensures count { result.count ≡ 0 }
     ensures bytes { result.bytes.items ≡ [] }
 {
-    Items {
+    FewItems {
         count: 0,
         bytes: ArrayVec::new(),
     }
 }
 
 /// Puts more behind the bytes.
-fn put_bytes(bytes: &mut ArrayVec<u8, MOST>, more: &[u8])
-    requires { array_vec_len bytes.old + length more.now ≤ 5120 }
+fn put_bytes<const N: usize>(bytes: &mut ArrayVec<u8, N>, more: &[u8])
+    requires { array_vec_len bytes.old + length more.now ≤ N }
     ensures { bytes.new.items ≡ bytes.old.items ++ more.now }
 {
     let _room = bytes.try_extend_from_slice(more);
 }
 
 /// One item more, which leads to this page.
-pub fn lead_to(widths: Widths, items: &mut Items, key: &[u8], page: u32)
+pub fn lead_to(widths: Widths, items: &mut FewItems, key: &[u8], page: u32)
     requires key { length key.now ≡ widths.key }
     requires few { items.old.count ≤ 1 }
-    requires whole { AreWhole widths Inner items.old }
+    requires whole { AreWhole widths Inner items.old.count items.old.bytes.items }
     ensures count { items.new.count ≡ items.old.count + 1 }
-    ensures whole { AreWhole widths Inner items.new }
-    ensures listed { listed widths Inner items.new ≡ listed widths Inner items.old ++ (key.now, big_bytes 4 page) ∷ [] }
+    ensures whole { AreWhole widths Inner items.new.count items.new.bytes.items }
+    ensures listed { listed widths Inner items.new.count items.new.bytes.items
+        ≡ listed widths Inner items.old.count items.old.bytes.items ++ (key.now, big_bytes 4 page) ∷ [] }
 {
     let mut number = [0; 4];
     BigEndian::write_u32(&mut number, page);
     put_bytes(&mut items.bytes, key);
     put_bytes(&mut items.bytes, &number);
     items.count += 1;
+}
+
+/// How many of so many items stay on the first of two pages. Where none of the page's old items is behind the new ones, all
+/// but as few as a page may have, so that pages that grow at their end are left full; and else half.
+fn cut_of(kind: Kind, count: usize, behind: usize) -> usize
+    ensures end { behind ≡ 0 → result ≡ count - least_of kind }
+    ensures half { 1 ≤ behind → result ≡ count / 2 }
+{
+    if behind > 0 {
+        return count / 2;
+    }
+    match kind {
+        Kind::Leaf => count.saturating_sub(1),
+        Kind::Inner => count.saturating_sub(2),
+    }
 }
 
 /// The items of a page, with these in the place of those from one place up to another.
@@ -72,34 +102,43 @@ pub fn spliced(
     requires order { from ≤ to }
     requires within { to ≤ count_in page.now }
     requires few { count ≤ 2 }
+    requires one_more { from + count ≤ to + 1 }
     requires whole { length bytes.now ≡ count * item_width widths kind }
     ensures count { result.count ≡ from + count + (count_in page.now - to) }
-    ensures whole { AreWhole widths kind result }
-    ensures listed { listed widths kind result
-        ≡ take from (items_in widths kind page.now) ++ (items_of widths.key (behind_of widths kind) count bytes.now ++ drop to (items_in widths kind page.now)) }
+    ensures end { to ≡ count_in page.now → result.cut ≡ result.count - least_of kind }
+    ensures half { to < count_in page.now → result.cut ≡ result.count / 2 }
+    ensures cut { 4092 < result.count * item_width widths kind → IsCut widths kind result.count result.cut }
+    ensures whole { AreWhole widths kind result.count result.bytes.items }
+    ensures listed { listed widths kind result.count result.bytes.items
+        ≡ take from (items_in widths kind page.now) ++ (items_of widths.key (behind_of widths kind) count bytes.now
+        ++ drop to (items_in widths kind page.now)) }
 {
     let width = widths.key + behind_of(widths, kind);
     let all = count_of(page);
-    let mut items = no_items();
+    let total = from + count + (all - to);
+    let mut items = Items {
+        count: total,
+        cut: cut_of(kind, total, all - to),
+        bytes: ArrayVec::new(),
+    };
     put_bytes(&mut items.bytes, &page[HEAD..HEAD + from * width]);
     put_bytes(&mut items.bytes, bytes);
     put_bytes(
         &mut items.bytes,
         &page[HEAD + to * width..HEAD + all * width],
     );
-    items.count = from + count + (all - to);
     items
 }
 
 /// This key with this value.
-pub fn new_entry(widths: Widths, key: &[u8], value: &[u8]) -> Items
+pub fn new_entry(widths: Widths, key: &[u8], value: &[u8]) -> FewItems
     requires key { length key.now ≡ widths.key }
     requires value { length value.now ≡ widths.value }
     ensures count { result.count ≡ 1 }
-    ensures whole { AreWhole widths Leaf result }
-    ensures listed { listed widths Leaf result ≡ (key.now, value.now) ∷ [] }
+    ensures whole { AreWhole widths Leaf result.count result.bytes.items }
+    ensures listed { listed widths Leaf result.count result.bytes.items ≡ (key.now, value.now) ∷ [] }
 {
-    let mut entry = no_items();
+    let mut entry = no_few_items();
     put_bytes(&mut entry.bytes, key);
     put_bytes(&mut entry.bytes, value);
     entry.count = 1;
@@ -107,10 +146,10 @@ pub fn new_entry(widths: Widths, key: &[u8], value: &[u8]) -> Items
 }
 
 /// The page that the first item leads to.
-pub fn first_child(widths: Widths, items: &Items) -> u32
+pub fn first_child(widths: Widths, items: &FewItems) -> u32
     requires some { 1 ≤ items.now.count }
-    requires whole { AreWhole widths Inner items.now }
-    ensures { (c : Item) → slice_get (listed widths Inner items.now) 0 ≡ Some c → result ≡ child_of c }
+    requires whole { AreWhole widths Inner items.now.count items.now.bytes.items }
+    ensures { (c : Item) → slice_get (listed widths Inner items.now.count items.now.bytes.items) 0 ≡ Some c → result ≡ child_of c }
 {
     BigEndian::read_u32(&items.bytes[widths.key..widths.key + 4])
 }
@@ -121,9 +160,10 @@ pub fn with_entry(widths: Widths, page: &[u8; 4096], key: &[u8], value: &[u8]) -
     requires key { length key.now ≡ widths.key }
     requires value { length value.now ≡ widths.value }
     ensures some { 1 ≤ result.count }
-    ensures whole { AreWhole widths Leaf result }
+    ensures cut { 4092 < result.count * item_width widths Leaf → IsCut widths Leaf result.count result.cut }
+    ensures whole { AreWhole widths Leaf result.count result.bytes.items }
     ensures listed { Ascend (items_in widths Leaf page.now)
-        → listed widths Leaf result ≡ put_entry (items_in widths Leaf page.now) key.now value.now }
+        → listed widths Leaf result.count result.bytes.items ≡ put_entry (items_in widths Leaf page.now) key.now value.now }
 {
     let entry = new_entry(widths, key, value);
     let to = place_of(widths, Kind::Leaf, page, key);

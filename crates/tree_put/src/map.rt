@@ -8,7 +8,7 @@ ghost use Rattle.tree_put.specs.aid.Causes.{WriteCause};
 ghost use Rattle.tree_put.specs.aid.Items.{listed, AreWhole};
 
 use crate::below::put_below;
-use crate::items::{Items, first_child, new_entry};
+use crate::items::{FewItems, first_child, new_entry};
 use crate::place::write_on;
 use page_store::{PageFault, Pages};
 use tree_page::{Kind, Widths};
@@ -53,17 +53,17 @@ fn on_new_page<P: Pages>(
     store: &mut P,
     widths: Widths,
     kind: Kind,
-    items: &Items,
+    items: &FewItems,
 ) -> Result<u32, PageFault>
     requires enough { least_of kind ≤ items.now.count }
     requires few { items.now.count ≤ 2 }
-    requires whole { AreWhole widths kind items.now }
+    requires whole { AreWhole widths kind items.now.count items.now.bytes.items }
     ensures is_page { IfOk result (λ page. 1 ≤ page) }
     ensures there { IfOk result (λ page. page < length (P.store store.old).marks) }
     ensures place { IfOk result (λ page. TakePlace [] (page ∷ []) (P.store store.old) (P.store store.new)) }
     ensures page { IsTrue (P.store store.old).disk.honest → IfOk result (λ page. IsPage widths kind (reads (P.store store.new) page)) }
     ensures items { IsTrue (P.store store.old).disk.honest → IfOk result (λ page.
-        items_in widths kind (reads (P.store store.new) page) ≡ listed widths kind items.now) }
+        items_in widths kind (reads (P.store store.new) page) ≡ listed widths kind items.now.count items.now.bytes.items) }
     ensures open { OnOk result ((P.store store.new).closed ≡ false) }
     ensures works { StoreWorks (P.store store.old) (P.store store.new) }
     ensures still { IfErr result (λ fault. fault ≢ PageFault.Disk → (P.store store.new).closed ≡ (P.store store.old).closed) }

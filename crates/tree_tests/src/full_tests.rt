@@ -44,10 +44,10 @@ fn put_upto_refusal<P: Pages>(store: &mut P, root: u32) -> (u16, Option<PageFaul
 fn a_put_is_refused_once_no_page_is_free(rt: HostRuntime) -> Result<(), Fail> {
     let (mut store, root) = small_store(rt.alloc())?;
     expect(store.free_pages(), 14, "free at first")?;
-    // The leaf takes another page, and the first split two. Each later split takes one: the second at 24 keys, and so on
-    // each 8. With the twelfth no page is free, and the thirteenth would come with key 111.
+    // The leaf takes another page. With keys that ascend a leaf that is full stays so: with key 15 there are a second leaf and a root,
+    // and each 15 keys take one leaf more. With the thirteenth no page is free, and a fourteenth would come with key 195.
     let told = put_upto_refusal(&mut store, root);
-    expect(told, (111, Some(PageFault::TableFull)), "puts")?;
+    expect(told, (195, Some(PageFault::TableFull)), "puts")?;
     expect(store.free_pages(), 0, "free then")
 }
 

@@ -4,12 +4,18 @@ use Rattle.sector_disk.specs.aid.Moments.{still_honest}
 use Rattle.page_store.specs.aid.Works.{works_then}
 use Rattle.tree_page.specs.declared.kind.Kind.{Kind}
 use Rattle.tree_page.specs.declared.kind.Kind.TheVariants.{Leaf, Inner}
+use Rattle.tree_page.specs.declared.widths.Widths.{Widths}
 use Rattle.tree_page.specs.Page.{Item, IsPage, items_in, items_of}
 use Rattle.tree_put.proofs.Failing.{passed_on, not_there, no_kind, child_fails, reads_unchanged}
 use Rattle.tree_put.proofs.Rising.{put_in_leaf, put_in_inner}
 use Rattle.tree_put.specs.aid.Growing.{AreWritten, IsGrown}
 use Rattle.tree_put.specs.aid.Items.{listed}
+use Rattle.tree_put.specs.declared.items.FewItems.{FewItems}
 use Rattle.tree_put.proofs.below.+put_below.Goals as goal
+
+-- the items that lead to what took the page's place
+abbrev tops_in : Widths → FewItems → List Item
+tops_in w tops = listed w Inner tops.count tops.bytes.items
 
 pub returns-in_err-read_page-clause-cause : goal.returns-in_err-read_page-clause-cause
 returns-in_err-read_page-clause-cause g t c = passed_on _ c.from_residual.result _ c.from_residual.ensures (not_there c.args.widths c.args.levels c.args.page (g.P.Pages.store c.args.store.now) (g.P.Pages.store c.read_page.new.self) _ c.in_err-read_page.ensures.cause)
@@ -39,11 +45,11 @@ returns-in-Some-Leaf-clause-grown g t c honest d growing =
     let mid = g.P.Pages.store c.read_page.new.self in
     let new = g.P.Pages.store c.write_items.new.store in
     let read = c.in_ok-read_page.ensures in
-    let entries = listed w Leaf c.with_entry-entries.result in
+    let entries = listed w Leaf c.with_entry-entries.result.count c.with_entry-entries.result.bytes.items in
     let leaf = subst (λ (k : Kind). IsPage w k c.read_page.new.into) c.in-Some-Leaf.field-0-is c.in-Some-Leaf.ensures.some in
-    IfOk-weaker c.write_items.result (λ tops. AreWritten w Leaf q entries (listed w Inner tops) mid new) (λ tops. IsGrown w key value d q (listed w Inner tops) old new)
+    IfOk-weaker c.write_items.result (λ tops. AreWritten w Leaf q entries (tops_in w tops) mid new) (λ tops. IsGrown w key value d q (tops_in w tops) old new)
     (λ tops written. put_in_leaf w key value q old mid c.read_page.new.into honest read.works read.unchanged.marks (reads_unchanged old mid read.unchanged honest) (read.bytes honest)
-    d new entries (listed w Inner tops) leaf c.with_entry-entries.ensures.listed growing written)
+    d new entries (tops_in w tops) leaf c.with_entry-entries.ensures.listed growing written)
     c.write_items.ensures.written
 
 pub returns-in-Some-Leaf-clause-works : goal.returns-in-Some-Leaf-clause-works
@@ -62,20 +68,21 @@ returns-in_ok-tops-in-Some-Inner-clause-grown g t c honest d growing =
     let new = g.P.Pages.store c.write_items-in-Some-Inner.new.store in
     let read = c.in_ok-read_page.ensures in
     let put = c.in_ok-tops-in-Some-Inner.ensures in
-    let tops = listed w Inner c.in_ok-tops-in-Some-Inner.tops in
+    let tops = tops_in w c.in_ok-tops-in-Some-Inner.tops in
     let i = c.saturating_sub-place.result in
     let item : Item = (c.item_at.result.0.now, c.item_at.result.1.now) in
     let inner = subst (λ (k : Kind). IsPage w k page) c.in-Some-Inner.field-0-is c.in-Some-Inner.ensures.some in
-    let items : listed w Inner c.spliced-items.result ≡ take i (items_in w Inner page) ++ (tops ++ drop (suc i) (items_in w Inner page)) =
+    let all = listed w Inner c.spliced-items.result.count c.spliced-items.result.bytes.items in
+    let items : all ≡ take i (items_in w Inner page) ++ (tops ++ drop (suc i) (items_in w Inner page)) =
     let on : i + 1 ≡ suc i = omega arith in
     c.spliced-items.ensures.listed
     ∙ (λ k. take i (items_in w Inner page) ++ (items_of w.key 4 c.in_ok-tops-in-Some-Inner.tops.count (c.deref.ensures.0 k) ++ drop (on k) (items_in w Inner page))) in
-    IfOk-weaker c.write_items-in-Some-Inner.result (λ heads. AreWritten w Inner q (listed w Inner c.spliced-items.result) (listed w Inner heads) below new)
-    (λ heads. IsGrown w key value d q (listed w Inner heads) old new)
+    IfOk-weaker c.write_items-in-Some-Inner.result (λ heads. AreWritten w Inner q all (tops_in w heads) below new)
+    (λ heads. IsGrown w key value d q (tops_in w heads) old new)
     (λ heads written. put_in_inner w key value q old mid page honest read.works read.unchanged.marks (reads_unchanged old mid read.unchanged honest) (read.bytes honest)
-    d i c.place_of.result c.read_u32-child.result item below new tops (listed w Inner heads) inner c.saturating_sub-place.ensures c.read_u32-child.ensures c.place_of.ensures.place c.item_at.ensures.got
+    d i c.place_of.result c.read_u32-child.result item below new tops (tops_in w heads) inner c.saturating_sub-place.ensures c.read_u32-child.ensures c.place_of.ensures.place c.item_at.ensures.got
     put.works (put.grown (still_honest read.works.goes_on honest)) growing
-    (subst (λ (list : List Item). AreWritten w Inner q list (listed w Inner heads) below new) items written))
+    (subst (λ (list : List Item). AreWritten w Inner q list (tops_in w heads) below new) items written))
     c.write_items-in-Some-Inner.ensures.written
 
 pub returns-in_ok-tops-in-Some-Inner-clause-works : goal.returns-in_ok-tops-in-Some-Inner-clause-works

@@ -26,7 +26,7 @@ returns-then-root-eq0-clause-map g c honest pages es holds held =
     let new = g.P.Pages.store c.on_new_page.new.store in
     let put = c.on_new_page.ensures in
     of_all (λ q. 1 ≤ q) (λ q. q < length old.marks) (λ q. TakePlace [] (q ∷ []) old new) (λ q. IsPage w Leaf (reads new q))
-    (λ q. items_in w Leaf (reads new q) ≡ listed w Leaf c.new_entry-entry.result)
+    (λ q. items_in w Leaf (reads new q) ≡ listed w Leaf c.new_entry-entry.result.count c.new_entry-entry.result.bytes.items)
     (λ q. (others : List ℕ) × HoldsMap w new q others (put_entry es key value) × TakePlace pages others old new)
     c.on_new_page.result
     (λ q is_page there place form items. first_put w key value c.args.root q pages es old new put.works c.if-root-eq0.true holds is_page there place form (items ∙ c.new_entry-entry.ensures.listed))
@@ -41,7 +41,7 @@ pub returns-then-tops-eq1-clause-map : goal.returns-then-tops-eq1-clause-map
 returns-then-tops-eq1-clause-map g c honest pages es holds held =
     let w = c.args.widths in
     let tops = c.in_ok-tops.tops in
-    put_one w c.args.key.now c.args.value.now c.args.root pages es (listed w Inner tops) (g.P.Pages.store c.args.store.now) (g.P.Pages.store c.put_below.new.store) c.in_ok-tops.ensures.works
+    put_one w c.args.key.now c.args.value.now c.args.root pages es (listed w Inner tops.count tops.bytes.items) (g.P.Pages.store c.args.store.now) (g.P.Pages.store c.put_below.new.store) c.in_ok-tops.ensures.works
     c.if-root-eq0.false (g.met.P.Pages.sound c.args.store.now).few holds held (c.in_ok-tops.ensures.grown honest)
     c.first_child.result (length-items w.key 4 tops.count tops.bytes.items ∙ c.if-tops-eq1.true) c.first_child.ensures
 
@@ -50,7 +50,7 @@ returns-else-tops-eq1-clause-map g c honest pages es holds held =
     let w = c.args.widths in
     let key = c.args.key.now in
     let value = c.args.value.now in
-    let tops = listed w Inner c.in_ok-tops.tops in
+    let tops = listed w Inner c.in_ok-tops.tops.count c.in_ok-tops.tops.bytes.items in
     let old = g.P.Pages.store c.args.store.now in
     let mid = g.P.Pages.store c.put_below.new.store in
     let new = g.P.Pages.store c.on_new_page-else-tops-eq1.new.store in

@@ -1,4 +1,4 @@
-use Rattle.std.proofs.Common.{◌≡◌, ◌≤◌, ◌<◌, ◌+◌, ◌*◌, ◌-◌, ◌/◌, ◌∙◌, ◌∷◌, ◌++◌, [], ℕ, List, Some, length, take, sym, ap, subst, arith}
+use Rattle.std.proofs.Common.{◌≡◌, ◌≤◌, ◌<◌, ◌+◌, ◌*◌, ◌-◌, ◌∙◌, ◌∷◌, ◌++◌, [], ℕ, List, Some, length, take, sym, ap, subst, arith}
 use Rattle.std.proofs.lemmas.List.{length-take}
 use Rattle.byteorder.specs.Endian.{big_bytes}
 use Rattle.page_store.specs.aid.Works.{works_then}
@@ -7,9 +7,9 @@ use Rattle.tree_page.specs.declared.kind.Kind.TheVariants.{Leaf, Inner}
 use Rattle.tree_page.specs.declared.widths.Widths.{Widths}
 use Rattle.tree_page.specs.Page.{Item, behind_of, item_width, items_of, least_of}
 use Rattle.tree_put.specs.aid.Growing.{AreWritten}
-use Rattle.tree_put.specs.aid.Items.{listed}
-use Rattle.tree_put.proofs.Listing.{narrow, mul-mono}
-use Rattle.tree_put.proofs.Writing.{items_parts, leads_back, first_of, half_fits, rest_is, rest_fits, half_some, written_one, written_two}
+use Rattle.tree_put.specs.aid.Items.{listed, IsCut}
+use Rattle.tree_put.proofs.Listing.{mul-mono}
+use Rattle.tree_put.proofs.Writing.{items_parts, leads_back, first_of, rest_is, written_one, written_two}
 use Rattle.tree_put.proofs.write.write_items.Goals as goal
 
 some : (kind : Kind) (n : ℕ) → least_of kind ≤ n → 1 ≤ n
@@ -50,79 +50,78 @@ returns-then-len-le-ROOM-clause-written g c =
     let key = take w.key c.deref-then-len-le-ROOM.result.now in
     let top : Item = (key, big_bytes 4 q) in
     let wrote = c.in_ok-write_on.ensures in
-    subst (λ (tops : List Item). AreWritten w kind c.args.page (listed w kind items) tops old (g.P.Pages.store c.write_on.new.store))
-    (sym (as_listed w.key c.no_items-tops.result.count c.lead_to.new.items.count c.no_items-tops.result.bytes.items c.lead_to.new.items.bytes.items key q c.no_items-tops.ensures.count c.lead_to.ensures.listed))
-    (written_one w kind c.args.page old (listed w kind items) q top (g.P.Pages.store c.renewed.new.store) (g.P.Pages.store c.write_on.new.store)
+    subst (λ (tops : List Item). AreWritten w kind c.args.page (listed w kind items.count items.bytes.items) tops old (g.P.Pages.store c.write_on.new.store))
+    (sym (as_listed w.key c.no_few_items-tops.result.count c.lead_to.new.items.count c.no_few_items-tops.result.bytes.items c.lead_to.new.items.bytes.items key q c.no_few_items-tops.ensures.count c.lead_to.ensures.listed))
+    (written_one w kind c.args.page old (listed w kind items.count items.bytes.items) q top (g.P.Pages.store c.renewed.new.store) (g.P.Pages.store c.write_on.new.store)
     (leads_back q (omega (arith, first.there, few))) (first_of w.key (behind_of w kind) items.count items.bytes.items (some kind items.count c.requires.enough) ∙ ap (λ (bs : List ℕ). Some (take w.key bs)) (sym c.deref-then-len-le-ROOM.ensures.0))
     first.place first.works first.is_page first.there wrote.page (λ honest. wrote.items honest ∙ ap (items_of w.key (behind_of w kind) items.count) c.deref.ensures.0) wrote.others wrote.marks)
 
--- the halves: how long they are
-module _ (w : Widths) (kind : Kind) (count b : ℕ) (bytes whole front back : List ℕ) (is : b ≡ behind_of w kind) (all : length bytes ≡ count * item_width w kind) (same : whole ≡ bytes)
-    (most : length whole ≤ 5120) (front_len : length front ≡ count / 2 * (w.key + b)) (back_len : length back + count / 2 * (w.key + b) ≡ length whole) where
+-- the two parts: how long they are
+module _ (w : Widths) (kind : Kind) (count cut b : ℕ) (bytes whole front back : List ℕ) (is : b ≡ behind_of w kind) (all : length bytes ≡ count * item_width w kind) (same : whole ≡ bytes)
+    (parts : IsCut w kind count cut) (front_len : length front ≡ cut * (w.key + b)) (back_len : length back + cut * (w.key + b) ≡ length whole) where
   abbrev width : ℕ
   width = item_width w kind
 
-  long : length front ≡ count / 2 * width
-  long = front_len ∙ ap (λ (c : ℕ). count / 2 * (w.key + c)) is
+  long : length front ≡ cut * width
+  long = front_len ∙ ap (λ (c : ℕ). cut * (w.key + c)) is
 
   total : length whole ≡ count * width
   total = ap length same ∙ all
 
-  rest : length back ≡ (count - count / 2) * width
+  within : cut ≤ count
+  within = let more = some kind (count - cut) parts.back_enough in omega (arith, more)
+
+  rest : length back ≡ (count - cut) * width
   rest =
-      let cut : length back + count / 2 * width ≡ length whole = ap (λ (c : ℕ). length back + count / 2 * (w.key + c)) (sym is) ∙ back_len in
-      omega (arith, cut, total, rest_is count width)
+      let sum : length back + cut * width ≡ length whole = ap (λ (c : ℕ). length back + cut * (w.key + c)) (sym is) ∙ back_len in
+      omega (arith, sum, total, rest_is count width cut within)
 
   front_fits : length front ≤ 4092
-  front_fits = omega (arith, long, half_fits count width (omega (arith, total, most)))
+  front_fits = omega (arith, long, parts.front_fits)
 
   back_fits : length back ≤ 4092
-  back_fits = omega (arith, rest, rest_fits count width (omega (arith, total, most)) (narrow w kind))
+  back_fits = omega (arith, rest, parts.back_fits)
 
-  module _ (more : 4092 < length bytes) where
-    many : 4 ≤ count / 2
-    many = half_some count width (omega (arith, all, more)) (narrow w kind)
-
-    key_there : w.key ≤ length front
-    key_there =
-        let one : 1 * width ≤ count / 2 * width = mul-mono 1 (count / 2) width (omega (arith, many)) in
-        omega (arith, long, one)
+  key_there : w.key ≤ length front
+  key_there =
+      let one : 1 * width ≤ cut * width = mul-mono 1 cut width (some kind cut parts.front_enough) in
+      omega (arith, long, one)
 
 pub write_on-requires-2-clause-fits : goal.write_on-requires-2-clause-fits
 write_on-requires-2-clause-fits g c =
     let items = c.args.items.now in
     let cut = c.split_at.ensures in
-    front_fits c.args.widths c.args.kind items.count c.behind_of.result items.bytes.items c.deref-2.result.now c.split_at.result.0.now c.split_at.result.1.now c.behind_of.ensures c.requires.whole
-    c.deref-2.ensures.0 c.deref-2.ensures.1 cut.front_len cut.back_len
+    front_fits c.args.widths c.args.kind items.count items.cut c.behind_of.result items.bytes.items c.deref-2.result.now c.split_at.result.0.now c.split_at.result.1.now c.behind_of.ensures c.requires.whole
+    c.deref-2.ensures.0 (c.requires.cut (omega (arith, c.if-len-le-ROOM.false, c.len.ensures.value, c.requires.whole))) cut.front_len cut.back_len
 
 pub write_on-requires-3-clause-whole : goal.write_on-requires-3-clause-whole
 write_on-requires-3-clause-whole g c =
     let items = c.args.items.now in
     let cut = c.split_at.ensures in
-    rest c.args.widths c.args.kind items.count c.behind_of.result items.bytes.items c.deref-2.result.now c.split_at.result.0.now c.split_at.result.1.now c.behind_of.ensures c.requires.whole
-    c.deref-2.ensures.0 c.deref-2.ensures.1 cut.front_len cut.back_len
+    rest c.args.widths c.args.kind items.count items.cut c.behind_of.result items.bytes.items c.deref-2.result.now c.split_at.result.0.now c.split_at.result.1.now c.behind_of.ensures c.requires.whole
+    c.deref-2.ensures.0 (c.requires.cut (omega (arith, c.if-len-le-ROOM.false, c.len.ensures.value, c.requires.whole))) cut.front_len cut.back_len
 
 pub write_on-requires-3-clause-fits : goal.write_on-requires-3-clause-fits
 write_on-requires-3-clause-fits g c =
     let items = c.args.items.now in
     let cut = c.split_at.ensures in
-    back_fits c.args.widths c.args.kind items.count c.behind_of.result items.bytes.items c.deref-2.result.now c.split_at.result.0.now c.split_at.result.1.now c.behind_of.ensures c.requires.whole
-    c.deref-2.ensures.0 c.deref-2.ensures.1 cut.front_len cut.back_len
+    back_fits c.args.widths c.args.kind items.count items.cut c.behind_of.result items.bytes.items c.deref-2.result.now c.split_at.result.0.now c.split_at.result.1.now c.behind_of.ensures c.requires.whole
+    c.deref-2.ensures.0 (c.requires.cut (omega (arith, c.if-len-le-ROOM.false, c.len.ensures.value, c.requires.whole))) cut.front_len cut.back_len
 
 pub slice_bounds-lead_to-end-2 : goal.slice_bounds-lead_to-end-2
 slice_bounds-lead_to-end-2 g c =
     let items = c.args.items.now in
     let cut = c.split_at.ensures in
-    let key = key_there c.args.widths c.args.kind items.count c.behind_of.result items.bytes.items c.deref-2.result.now c.split_at.result.0.now c.split_at.result.1.now c.behind_of.ensures c.requires.whole
-    c.deref-2.ensures.0 c.deref-2.ensures.1 cut.front_len cut.back_len (omega (arith, c.if-len-le-ROOM.false, c.len.ensures.value)) in
+    let key = key_there c.args.widths c.args.kind items.count items.cut c.behind_of.result items.bytes.items c.deref-2.result.now c.split_at.result.0.now c.split_at.result.1.now c.behind_of.ensures c.requires.whole
+    c.deref-2.ensures.0 (c.requires.cut (omega (arith, c.if-len-le-ROOM.false, c.len.ensures.value, c.requires.whole))) cut.front_len cut.back_len in
     omega (arith, key, length-take c.args.widths.key c.split_at.result.0.now)
 
 pub lead_to-requires-2-clause-key : goal.lead_to-requires-2-clause-key
 lead_to-requires-2-clause-key g c =
     let items = c.args.items.now in
     let cut = c.split_at.ensures in
-    let key = key_there c.args.widths c.args.kind items.count c.behind_of.result items.bytes.items c.deref-2.result.now c.split_at.result.0.now c.split_at.result.1.now c.behind_of.ensures c.requires.whole
-    c.deref-2.ensures.0 c.deref-2.ensures.1 cut.front_len cut.back_len (omega (arith, c.if-len-le-ROOM.false, c.len.ensures.value)) in
+    let key = key_there c.args.widths c.args.kind items.count items.cut c.behind_of.result items.bytes.items c.deref-2.result.now c.split_at.result.0.now c.split_at.result.1.now c.behind_of.ensures c.requires.whole
+    c.deref-2.ensures.0 (c.requires.cut (omega (arith, c.if-len-le-ROOM.false, c.len.ensures.value, c.requires.whole))) cut.front_len cut.back_len in
     omega (arith, key, length-take c.args.widths.key c.split_at.result.0.now)
 
 pub returns-clause-written : goal.returns-clause-written
@@ -141,25 +140,25 @@ returns-clause-written g c =
     let cut = c.split_at.ensures in
     let front = c.split_at.result.0.now in
     let back = c.split_at.result.1.now in
-    let half = items.count / 2 in
-    let other = items.count - items.count / 2 in
+    let parted = c.requires.cut (omega (arith, c.if-len-le-ROOM.false, c.len.ensures.value, c.requires.whole)) in
+    let before = items.cut in
+    let other = items.count - items.cut in
     let top : Item = (take w.key front, big_bytes 4 q) in
     let more : Item = (take w.key back, big_bytes 4 r) in
     let one = c.in_ok-write_on-2.ensures in
     let two = c.in_ok-write_on-3.ensures in
     let there_r : r < length (store c.renewed.new.store).marks = second.within in
-    let many = many w kind items.count c.behind_of.result items.bytes.items c.deref-2.result.now front back c.behind_of.ensures c.requires.whole
-    c.deref-2.ensures.0 c.deref-2.ensures.1 cut.front_len cut.back_len (omega (arith, c.if-len-le-ROOM.false, c.len.ensures.value)) in
-    let parts : listed w kind items ≡ items_of w.key behind half front ++ items_of w.key behind other back =
-    items_parts w.key behind c.behind_of.result half other items.count items.bytes.items c.deref-2.result.now front back c.behind_of.ensures (omega arith) c.deref-2.ensures.0 cut.front cut.back cut.front_len in
+    let sum : items.count ≡ before + other = let more = some kind other parted.back_enough in omega (arith, more) in
+    let parts : listed w kind items.count items.bytes.items ≡ items_of w.key behind before front ++ items_of w.key behind other back =
+    items_parts w.key behind c.behind_of.result before other items.count items.bytes.items c.deref-2.result.now front back c.behind_of.ensures sum c.deref-2.ensures.0 cut.front cut.back cut.front_len in
     let list : items_of w.key 4 c.lead_to-3.new.items.count c.lead_to-3.new.items.bytes.items ≡ top ∷ more ∷ [] =
     c.lead_to-3.ensures.listed
     ∙ ap (λ (tops : List Item). tops ++ more ∷ [])
-    (as_listed w.key c.no_items-tops.result.count c.lead_to-2.new.items.count c.no_items-tops.result.bytes.items c.lead_to-2.new.items.bytes.items (take w.key front) q c.no_items-tops.ensures.count c.lead_to-2.ensures.listed) in
-    subst (λ (tops : List Item). AreWritten w kind c.args.page (listed w kind items) tops old (store c.write_on-3.new.store)) (sym list)
-    (written_two w kind c.args.page old (listed w kind items) (items_of w.key behind half front) (items_of w.key behind other back) q r top more
+    (as_listed w.key c.no_few_items-tops.result.count c.lead_to-2.new.items.count c.no_few_items-tops.result.bytes.items c.lead_to-2.new.items.bytes.items (take w.key front) q c.no_few_items-tops.ensures.count c.lead_to-2.ensures.listed) in
+    subst (λ (tops : List Item). AreWritten w kind c.args.page (listed w kind items.count items.bytes.items) tops old (store c.write_on-3.new.store)) (sym list)
+    (written_two w kind c.args.page old (listed w kind items.count items.bytes.items) (items_of w.key behind before front) (items_of w.key behind other back) q r top more
     (store c.renewed.new.store) (store c.new_page.new.self) (store c.write_on-2.new.store) (store c.write_on-3.new.store) parts
     (leads_back q (omega (arith, first.there, few))) (leads_back r (omega (arith, there_r, first.works.same_pages, few)))
-    (first_of w.key behind half front (omega (arith, many))) (first_of w.key behind other back (omega (arith, many)))
+    (first_of w.key behind before front (some kind before parted.front_enough)) (first_of w.key behind other back (some kind other parted.back_enough))
     first.place first.works first.fresh first.is_page first.there second.free second.ok second.others second.works second.is_page there_r
     one.page one.items one.others one.marks one.works two.page two.items two.others two.marks)

@@ -2,7 +2,8 @@ use Rattle.std.proofs.Common.{rules, refl, inl, inr, arith}
 use Rattle.sector_disk.specs.aid.Moments.{goes_on_refl, leaves_now, leaves_more}
 use Rattle.page_store.specs.Store.{store_of}
 use Rattle.page_store.specs.aid.Works.{safe_saves}
-use Rattle.page_store.proofs.Keeping.{old_or_new, pages_kept, published_reads, published_leaves, published_grew}
+use Rattle.page_store.proofs.Keeping.{old_or_new, pages_kept, was_honest, published_reads, published_leaves, published_grew}
+use Rattle.page_store.proofs.Caching.{carried, committed_kept}
 use Rattle.page_store.proofs.store.PageStorePages.commit.Goals as goal
 
 pub returns-then-self-clause-commits : goal.returns-then-self-clause-commits
@@ -61,3 +62,18 @@ returns-in-Err-Read-clause-kept_pages g c = λ honest. pages_kept _ _ (c.publish
 
 pub returns-in-Err-clause-kept_pages : goal.returns-in-Err-clause-kept_pages
 returns-in-Err-clause-kept_pages g c = λ honest. pages_kept _ _ (c.publish.ensures.pages honest)
+
+pub invariant_of-self-clause-cached : goal.invariant_of-self-clause-cached
+invariant_of-self-clause-cached g c =
+    carried _ _ _ _ c.args.self.now.cached (λ p held there. there) (was_honest c.publish.ensures.time) (λ p held there. committed_kept _ _ c.turn.ensures p)
+    (λ h p held there behind. pages_kept _ _ (c.publish.ensures.pages h) p behind)
+
+pub invariant_of-self-in-Err-Read-clause-cached : goal.invariant_of-self-in-Err-Read-clause-cached
+invariant_of-self-in-Err-Read-clause-cached g c =
+    carried _ _ _ _ c.args.self.now.cached (λ p held there. there) (was_honest c.publish.ensures.time) (λ p held there kept. kept)
+    (λ h p held there behind. pages_kept _ _ (c.publish.ensures.pages h) p behind)
+
+pub invariant_of-self-in-Err-clause-cached : goal.invariant_of-self-in-Err-clause-cached
+invariant_of-self-in-Err-clause-cached g c =
+    carried _ _ _ _ c.args.self.now.cached (λ p held there. there) (was_honest c.publish.ensures.time) (λ p held there kept. kept)
+    (λ h p held there behind. pages_kept _ _ (c.publish.ensures.pages h) p behind)

@@ -4,6 +4,7 @@ use Rattle.page_store.specs.declared.marks.Mark.TheVariants.{Committed, Waiting}
 use Rattle.page_store.specs.Marks.{mark, needs}
 use Rattle.page_store.specs.aid.Works.{works_refl}
 use Rattle.page_store.proofs.Keeping.{marked_works, marked_sound, not_zero, waiting_apart}
+use Rattle.page_store.proofs.Caching.{carried, still_kept}
 use Rattle.page_store.proofs.store.PageStorePages.mark.Goals as goal
 
 pub returns-then-self-clause-works : goal.returns-then-self-clause-works
@@ -20,6 +21,7 @@ invariant_of-self g c =
     record {
       sound = marked_sound _ _ _ _ (record { disk = refl; failures = refl; root = refl; closed = refl }) c.put_mark.ensures (sym (ap needs was)) (λ is. was) c.args.self.now.sound
           (not_zero _ _ c.args.self.now.sound.system (waiting_apart _ was));
+      cached = carried _ _ _ _ c.args.self.now.cached (λ p held there. there) (λ h. h) (λ p held there. still_kept _ _ _ _ c.put_mark.ensures refl p) (λ h p held there behind. refl);
     }
 
 pub returns-clause-works : goal.returns-clause-works

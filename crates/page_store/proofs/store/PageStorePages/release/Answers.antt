@@ -3,6 +3,7 @@ use Rattle.std.proofs.lemmas.List.{get_or_default}
 use Rattle.page_store.specs.declared.marks.Mark.TheVariants.{Committed}
 use Rattle.page_store.specs.Marks.{mark, needs, let_go}
 use Rattle.page_store.proofs.Keeping.{marked_works, marked_sound, let_go_needs, let_go_waits}
+use Rattle.page_store.proofs.Caching.{carried, marked_kept}
 use Rattle.page_store.proofs.store.PageStorePages.release.Goals as goal
 
 pub returns-clause-works : goal.returns-clause-works
@@ -18,4 +19,6 @@ invariant_of-self g c =
     record {
       sound = marked_sound _ _ _ _ (record { disk = refl; failures = refl; root = refl; closed = refl }) c.put_mark.ensures (ap needs is ∙ let_go_needs _) (λ waits. let_go_waits _ (sym is ∙ waits)) c.args.self.now.sound
           (omega (arith, c.requires.is_page));
+      cached = carried _ _ _ _ c.args.self.now.cached (λ p held there. (c.forget.ensures p held there).1) (λ h. h) (λ p held there. marked_kept _ _ _ _ c.put_mark.ensures p (c.forget.ensures p held there).0)
+          (λ h p held there behind. refl);
     }

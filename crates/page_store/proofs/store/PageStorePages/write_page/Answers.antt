@@ -1,21 +1,39 @@
-use Rattle.std.proofs.Common.{refl}
+use Rattle.std.proofs.Common.{refl, sym}
 use Rattle.page_store.specs.aid.Works.{works_refl}
-use Rattle.page_store.proofs.Keeping.{reads_else, works_write}
+use Rattle.page_store.proofs.Caching.{carried, added, fresh_kept, is_ok}
+use Rattle.page_store.proofs.Keeping.{reads_else, works_write, was_honest, not_system}
 use Rattle.page_store.proofs.store.PageStorePages.write_page.Goals as goal
 
 pub returns-then-self-clause-works : goal.returns-then-self-clause-works
 returns-then-self-clause-works g c = works_refl _
 
-pub returns-in_err-written-clause-others : goal.returns-in_err-written-clause-others
-returns-in_err-written-clause-others g c = λ h. reads_else _ _ _ c.put_page-written.ensures.kept h
+pub returns-in-Err-clause-others : goal.returns-in-Err-clause-others
+returns-in-Err-clause-others g c = λ h. reads_else _ _ _ c.put_page-written.ensures.kept h
 
-pub returns-clause-others : goal.returns-clause-others
-returns-clause-others g c = λ h. reads_else _ _ _ c.put_page-written.ensures.kept h
+pub returns-in-Ok-clause-others : goal.returns-in-Ok-clause-others
+returns-in-Ok-clause-others g c = λ h. reads_else _ _ _ c.put_page-written.ensures.kept h
 
-pub returns-in_err-written-clause-works : goal.returns-in_err-written-clause-works
-returns-in_err-written-clause-works g c =
+pub returns-in-Err-clause-works : goal.returns-in-Err-clause-works
+returns-in-Err-clause-works g c =
     works_write _ _ _ c.args.self.now.sound c.requires refl refl c.put_page-written.ensures.kept c.put_page-written.ensures.time c.put_page-written.ensures.same_size c.put_page-written.ensures.cause.later (λ closed. c.if-self.false)
 
-pub returns-clause-works : goal.returns-clause-works
-returns-clause-works g c =
+pub returns-in-Ok-clause-works : goal.returns-in-Ok-clause-works
+returns-in-Ok-clause-works g c =
     works_write _ _ _ c.args.self.now.sound c.requires refl refl c.put_page-written.ensures.kept c.put_page-written.ensures.time c.put_page-written.ensures.same_size c.put_page-written.ensures.cause.later (λ closed. c.if-self.false)
+
+pub invariant_of-self-in-Err-clause-cached : goal.invariant_of-self-in-Err-clause-cached
+invariant_of-self-in-Err-clause-cached g c =
+    carried _ _ _ _ c.args.self.now.cached (λ p held there. (c.forget.ensures p held there).1) (was_honest c.put_page-written.ensures.time) (λ p held there kept. kept)
+    (λ h p held there behind. reads_else _ _ _ c.put_page-written.ensures.kept h p (c.forget.ensures p held there).0)
+
+pub invariant_of-self-clause-cached : goal.invariant_of-self-clause-cached
+invariant_of-self-clause-cached g c =
+    added _ _ _ _ _ _ c.args.self.now.cached c.put-no_memory.ensures (was_honest c.put_page-written.ensures.time) refl
+    (fresh_kept _ _ (not_system _ _ c.args.self.now.sound.system c.requires) c.requires) (λ h. sym (is_ok _ _ c.in-Ok.is (c.put_page-written.ensures.written h)))
+    (reads_else _ _ _ c.put_page-written.ensures.kept)
+
+pub returns-then-has-clause-written : goal.returns-then-has-clause-written
+returns-then-has-clause-written g c = λ h. sym (c.args.self.now.cached.same _ _ (c.has.ensures c.if-has.true) h)
+
+pub returns-then-has-clause-works : goal.returns-then-has-clause-works
+returns-then-has-clause-works g c = works_refl _

@@ -1,0 +1,173 @@
+//! Each call is made again where memory was refused.
+
+use rbg_read::fault::GameFault;
+use recover::{Solver, SolverFault, Units};
+use retrograde::Counts;
+use sector_disk::{FileDisk, SectorDisk};
+use std::alloc::Global;
+use std::fs::OpenOptions;
+
+/// What is asked in turn.
+const STEPS: [Step; 8] = [
+    Step::Load,
+    Step::Work(7),
+    Step::Work(256),
+    Step::Value(0),
+    Step::Line(0),
+    Step::List(0),
+    Step::Find,
+    Step::Work(1),
+];
+
+/// What is asked.
+#[derive(Clone, Copy, PartialEq, Eq, Debug)]
+enum Step {
+    Load,
+    Work(u32),
+    Value(u32),
+    Line(u32),
+    List(u32),
+    /// The position that is found, `white 2 v e 0,0,3`.
+    Find,
+}
+
+/// What is known of a table between two calls: a sum of its root, and how far it is.
+#[derive(Clone, Copy, PartialEq, Eq, Debug)]
+struct Standing {
+    root: u64,
+    counts: Option<Counts>,
+}
+
+/// Makes all calls on the empty table of this file. A call that is refused for want of memory is made again: the root of the table and how
+/// far it is have to be as they were then, and the call is answered as always. Prints what was answered, and on standard error how often
+/// memory was refused. (Pages that are free may have been written.)
+pub fn ask_again(rt: &HostRuntime, alloc: Global, text: &[u8], name: &str) -> anyhow::Result<bool> {
+    let mut seen = disk_of(rt, name)?;
+    let (mut solver, mut refusals) = opened(rt, alloc, name)?;
+    for step in STEPS {
+        match refusals_of(rt, &mut solver, &mut seen, text, step)? {
+            Some(more) => refusals = refusals.saturating_add(more),
+            None => return Ok(false),
+        }
+    }
+    eprintln!(rt; "refused {refusals}")?;
+    Ok(true)
+}
+
+/// The table of this file, opened again where memory was refused, and how often it was.
+fn opened(rt: &HostRuntime, alloc: Global, name: &str) -> anyhow::Result<(Solver<FileDisk>, u64)> {
+    match Solver::open(alloc, disk_of(rt, name)?) {
+        Ok(solver) => Ok((solver, 0)),
+        Err(refused) if is_want(refused.fault) => opened_again(alloc, refused.disk),
+        Err(refused) => Err(refused.fault.into()),
+    }
+}
+
+/// The table of this disk, once memory was refused.
+fn opened_again(alloc: Global, disk: FileDisk) -> anyhow::Result<(Solver<FileDisk>, u64)> {
+    match Solver::open(alloc, disk) {
+        Ok(solver) => Ok((solver, 1)),
+        Err(refused) => Err(refused.fault.into()),
+    }
+}
+
+/// How often memory was refused in a call, which is made again then; `None` if anything else was refused, or a refusal changed the table.
+fn refusals_of(
+    rt: &HostRuntime,
+    solver: &mut Solver<FileDisk>,
+    seen: &mut FileDisk,
+    text: &[u8],
+    step: Step,
+) -> anyhow::Result<Option<u64>> {
+    let before = how_it_stands(solver, seen)?;
+    let Err(fault) = answer_to(rt, solver, text, step) else {
+        return Ok(Some(0));
+    };
+    if !is_want(fault) || how_it_stands(solver, seen)? != before {
+        println!(rt; "{step:?}: WRONG, {}", fault.code())?;
+        return Ok(None);
+    }
+    if let Err(fault) = answer_to(rt, solver, text, step) {
+        println!(rt; "{step:?}: refused {}", fault.code())?;
+    }
+    Ok(Some(1))
+}
+
+/// How the table stands.
+fn how_it_stands(solver: &Solver<FileDisk>, seen: &mut FileDisk) -> anyhow::Result<Standing> {
+    Ok(Standing {
+        root: sum_of(seen)?,
+        counts: solver.status(),
+    })
+}
+
+/// The disk over a file.
+fn disk_of(rt: &HostRuntime, name: &str) -> anyhow::Result<FileDisk> {
+    let file = OpenOptions::new().read(true).write(true).open(rt, name)?;
+    Ok(FileDisk::new(file)?)
+}
+
+/// Whether this is a want of memory.
+fn is_want(fault: SolverFault) -> bool {
+    matches!(
+        fault,
+        SolverFault::OutOfMemory | SolverFault::Game(GameFault::OutOfMemory)
+    )
+}
+
+/// A sum that tells the first four sectors of a disk, where the root of its table is, from others, made without memory.
+fn sum_of(disk: &mut FileDisk) -> anyhow::Result<u64> {
+    let mut sum: u64 = 14_695_981_039_346_656_037;
+    let mut bytes = [0; 512];
+    // what was read before is read again
+    disk.sync()?;
+    for at in 0..4 {
+        if at < disk.sectors() {
+            disk.read(at, &mut bytes)?;
+        }
+        sum = added(sum, &bytes);
+    }
+    Ok(sum)
+}
+
+/// The sum with these bytes.
+fn added(sum: u64, bytes: &[u8; 512]) -> u64 {
+    let mut sum = sum;
+    for byte in bytes {
+        sum = (sum ^ u64::from(*byte)).wrapping_mul(1_099_511_628_211);
+    }
+    sum
+}
+
+/// Makes a call, and prints its answer if it is none of the refusals.
+fn answer_to(
+    rt: &HostRuntime,
+    solver: &mut Solver<FileDisk>,
+    text: &[u8],
+    step: Step,
+) -> Result<(), SolverFault> {
+    let rows = units(256)?;
+    let told = match step {
+        Step::Load => solver.load(text).map(|()| println!(rt; "loaded")),
+        Step::Work(count) => {
+            let worked = solver.work(units(count)?)?;
+            Ok(println!(rt; "{worked:?}"))
+        }
+        Step::Value(number) => Ok(println!(rt; "{:?}", solver.value(number)?)),
+        Step::Line(number) => Ok(println!(rt; "{:?}", solver.line(number)?)),
+        Step::List(number) => Ok(println!(rt; "{:?}", solver.list(number, rows)?)),
+        Step::Find => Ok(println!(rt; "{:?}", solver.find(b"white 2 v e 0,0,3")?)),
+    };
+    match told {
+        Ok(_) => Ok(()),
+        Err(fault) => Err(fault),
+    }
+}
+
+/// So many units.
+fn units(count: u32) -> Result<Units, SolverFault> {
+    match Units::new(count) {
+        Some(units) => Ok(units),
+        None => Err(SolverFault::NoGame),
+    }
+}

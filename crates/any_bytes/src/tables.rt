@@ -1,0 +1,47 @@
+//! Tables on disks in memory.
+
+use recover::{Solver, Units};
+use sector_disk::{MemDisk, SectorDisk};
+use std::alloc::Global;
+
+/// A disk of so many sectors with the table of this game, so many times 256 units of it worked, or as many as there are.
+pub fn worked(alloc: Global, text: &[u8], sectors: u64, times: u64) -> anyhow::Result<MemDisk> {
+    let mut solver = match Solver::create(alloc, MemDisk::new(alloc, sectors)?) {
+        Ok(solver) => solver,
+        Err(refused) => return Err(refused.fault.into()),
+    };
+    solver.load(text)?;
+    for _ in 0..times {
+        if let Some(units) = Units::new(256) {
+            solver.work(units)?;
+        }
+    }
+    Ok(solver.close())
+}
+
+/// The bytes of a sector; zeros where there is none.
+pub fn sector(disk: &mut MemDisk, at: u64) -> anyhow::Result<[u8; 512]> {
+    let mut bytes = [0; 512];
+    if at < disk.sectors() {
+        disk.read(at, &mut bytes)?;
+    }
+    Ok(bytes)
+}
+
+/// Puts a sector, if there is one of this number.
+pub fn put_sector(disk: &mut MemDisk, at: u64, bytes: &[u8; 512]) -> anyhow::Result<()> {
+    if at < disk.sectors() {
+        disk.write(at, bytes)?;
+    }
+    Ok(())
+}
+
+/// A disk with the first of this one's sectors.
+pub fn cut(alloc: Global, disk: &mut MemDisk, sectors: u64) -> anyhow::Result<MemDisk> {
+    let mut less = MemDisk::new(alloc, sectors)?;
+    for at in 0..sectors {
+        put_sector(&mut less, at, &sector(disk, at)?)?;
+    }
+    less.sync()?;
+    Ok(less)
+}

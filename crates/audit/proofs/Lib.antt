@@ -1,0 +1,10 @@
+pub mod Lists
+pub mod ValueLemmas
+pub mod MoveValueLemmas
+pub mod LowestLemmas
+pub mod EdgeLemmas
+pub mod MoveLemmas
+pub mod FloorLemmas
+pub mod AnswerLemmas
+pub mod CountLemmas
+pub mod SumLemmas

@@ -1,0 +1,17 @@
+use Rattle.std.proofs.Common.{◌≡◌, ◌↔◌, length}
+use Rattle.retrograde.specs.Stored.{IsTable}
+use Rattle.audit.specs.aid.Conditions.{AreFloors}
+use Rattle.audit.proofs.AnswerLemmas.{AreSound}
+use Rattle.audit.proofs.whole.first_wrong.Given as goal
+
+abbrev pub invariant-loop-number : goal.invariant-loop-number
+invariant-loop-number g l = record {
+  source : l.source ≡ l.fn.source;
+  counts : g.T.Table.counted l.table ≡ g.T.Table.counted l.fn.table;
+  stays : g.T.Table.stays l.fn.table l.table;
+  honest : g.T.Table.is_honest l.fn.table ↔ g.T.Table.is_honest l.table;
+  same : g.T.Table.is_honest l.fn.table → g.T.Table.stored l.table ≡ g.T.Table.stored l.fn.table;
+  sound : g.T.Table.is_honest l.fn.table → IsTable (g.T.Table.stored l.fn.table)
+      → AreFloors (g.T.Table.stored l.fn.table) (length (g.T.Table.stored l.fn.table).order) l.floors
+      → AreSound (g.M.GameGraph.graph l.fn.source) (g.M.GameGraph.is_wide l.fn.source) (g.T.Table.stored l.fn.table) l.number;
+}

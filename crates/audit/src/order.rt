@@ -1,0 +1,63 @@
+//! What each settled number is not to be nearer than.
+ghost use Rattle.std.specs.Prelude.{◌≡◌, ◌↔◌, ◌<◌, ℕ, Some, IfOk, OnOk, IfErr, length, slice_get, slice_set};
+ghost use Rattle.retrograde.specs.Stored.{IsTable};
+ghost use Rattle.table.specs.Faults.{NeedsNoPage};
+ghost use Rattle.audit.specs.Causes.{OfTable};
+ghost use Rattle.audit.specs.aid.Conditions.{AreFloors, distance_at};
+ghost use Rattle.audit.specs.declared.fault.AuditFault.TheVariants.{TooWide};
+
+use crate::fault::AuditFault;
+use std::alloc::Global;
+use table::{Table, TableFault};
+
+/// Writes of the number at a place that it is not to be nearer than this, and answers its own distance.
+fn write_floor<T: Table>(
+    table: &mut T,
+    place: u32,
+    floor: u32,
+    floors: &mut Vec<u32>,
+) -> Result<u32, TableFault>
+    requires place { place < (T.counted table.old).settled }
+    requires lengths { length floors.old.items ≡ (T.counted table.old).known }
+    ensures written { T.is_honest table.old → IsTable (T.stored table.old) → IfOk result (λ distance. (i : ℕ)
+        → slice_get (T.stored table.old).order place ≡ Some i
+        → (distance ≡ distance_at (T.stored table.old) (Some i)) × (i < length floors.old.items)
+        × (floors.new.items ≡ slice_set floors.old.items i floor)) }
+    ensures lengths { length floors.new.items ≡ length floors.old.items }
+    ensures same { T.is_honest table.old → T.stored table.new ≡ T.stored table.old }
+    ensures honest { T.is_honest table.old ↔ T.is_honest table.new }
+    ensures counts { T.counted table.new ≡ T.counted table.old }
+    ensures stays { T.stays table.old table.new }
+    ensures room { IfErr result NeedsNoPage }
+    ensures fault { IfErr result (T.fails table.old table.new) }
+{
+    let number = table.settled_at(place)?;
+    if number as usize >= floors.len() {
+        return Ok(0);
+    }
+    floors[number as usize] = floor;
+    Ok(table.record(number)?.distance)
+}
+
+/// By number, the distance of the one before it in the settled order: 0 for the first, and for those
+/// that are not in the order.
+pub fn floors<T: Table>(alloc: Global, table: &mut T) -> Result<Vec<u32>, AuditFault>
+    ensures floors { T.is_honest table.old → IsTable (T.stored table.old)
+        → IfOk result (λ floors. AreFloors (T.stored table.old) (length (T.stored table.old).order) floors.items) }
+    ensures lengths { IfOk result (λ floors. length floors.items ≡ (T.counted table.old).known) }
+    ensures narrow { IfErr result (λ fault. ¬ (fault ≡ TooWide)) }
+    ensures same { T.is_honest table.old → T.stored table.new ≡ T.stored table.old }
+    ensures honest { T.is_honest table.old ↔ T.is_honest table.new }
+    ensures counts { T.counted table.new ≡ T.counted table.old }
+    ensures stays { T.stays table.old table.new }
+    ensures room { IfErr result (OfTable NeedsNoPage) }
+    ensures fault { IfErr result (OfTable (T.fails table.old table.new)) }
+{
+    let counts = table.counts();
+    let mut floors = vec![in alloc; 0; counts.known as usize]?;
+    let mut last = 0;
+    for place in 0..counts.settled {
+        last = write_floor(table, place, last, &mut floors)?;
+    }
+    Ok(floors)
+}

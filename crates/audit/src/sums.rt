@@ -1,0 +1,93 @@
+//! The first look at a table, for which the moves of each position are searched once.
+ghost use Rattle.std.specs.Prelude.{◌≡◌, ◌↔◌, ◌<◌, ℕ, List, true, IfOk, OnOk, IfErr, IfSome, Err, Ok, None, length, slice_get};
+ghost use Rattle.retrograde.specs.View.{HasNumber};
+ghost use Rattle.retrograde.specs.Stored.{IsTable, view_of, expanded_count, count_below};
+ghost use Rattle.table.specs.Faults.{NeedsNoPage};
+ghost use Rattle.audit.specs.Answers.{IsAnswer};
+ghost use Rattle.audit.specs.Causes.{OfTable, HasWide};
+ghost use Rattle.audit.specs.aid.Conditions.{IsLowest, own_condition, IsFloor, AreFloors, successors_in};
+ghost use Rattle.audit.specs.declared.verdict.Verdict.TheVariants.{Right};
+ghost use Rattle.audit.specs.declared.fault.AuditFault.TheVariants.{TooWide};
+
+use crate::edges::count_edges;
+use crate::fault::AuditFault;
+use crate::number::own_failing;
+use legal_moves::MoveSource;
+use std::alloc::Global;
+use table::Table;
+
+/// How many moves lead from a number, and how many edges to it.
+#[derive(Clone, Copy, Debug, Drop)]
+struct Tally {
+    moves: u32,
+    edges: u32,
+}
+
+/// The tally of a number, if no condition fails there, where nothing is asked of the edges that lead to it.
+fn tally_of<M: MoveSource, T: Table>(
+    alloc: Global,
+    source: &M,
+    table: &mut T,
+    number: u32,
+    floor: u32,
+) -> Result<Option<Tally>, AuditFault>
+    requires source { M.is_sound source.now }
+    requires known { number < (T.counted table.old).known }
+    ensures holds { T.is_honest table.old → IsTable (T.stored table.old) → IsFloor (T.stored table.old) number floor
+        → IfOk result (λ r. IfSome r (λ tally. (x : List ℕ) → HasNumber (view_of (T.stored table.old)) number x
+        → IsLowest (own_condition (M.graph source.now) (T.stored table.old) number x) None)) }
+    ensures narrow { T.is_honest table.old → IfOk result (λ r. IfSome r (λ tally. (x : List ℕ)
+        → HasNumber (view_of (T.stored table.old)) number x → number < expanded_count (T.stored table.old) → ¬ M.is_wide source.now x)) }
+    ensures moves { T.is_honest table.old → IfOk result (λ r. IfSome r (λ tally.
+        tally.moves ≡ successors_in (slice_get (T.stored table.old).records number))) }
+    ensures edges { T.is_honest table.old → IfOk result (λ r. IfSome r (λ tally.
+        tally.edges ≡ count_below (length (T.stored table.old).positions) (λ p. (T.stored table.old).has_edge number p))) }
+    ensures wide { T.is_honest table.old → result ≡ Err TooWide → HasWide (M.is_wide source.now) (T.stored table.old) }
+    ensures same { T.is_honest table.old → T.stored table.new ≡ T.stored table.old }
+    ensures honest { T.is_honest table.old ↔ T.is_honest table.new }
+    ensures counts { T.counted table.new ≡ T.counted table.old }
+    ensures stays { T.stays table.old table.new }
+    ensures room { IfErr result (OfTable NeedsNoPage) }
+    ensures fault { IfErr result (OfTable (T.fails table.old table.new)) }
+{
+    if own_failing(alloc, source, table, number, floor)?.is_some() {
+        return Ok(None);
+    }
+    let moves = table.record(number)?.successors;
+    let edges = count_edges(table, number)?;
+    Ok(Some(Tally { moves, edges }))
+}
+
+/// No condition fails at any number, where nothing is asked of the edges that lead to it, and there are as many
+/// edges as moves. Then each edge is a move, since each move has its edge.
+pub fn adds_up<M: MoveSource, T: Table>(
+    alloc: Global,
+    source: &M,
+    table: &mut T,
+    floors: &[u32],
+) -> Result<bool, AuditFault>
+    requires source { M.is_sound source.now }
+    requires lengths { length floors.now ≡ (T.counted table.old).known }
+    ensures right { T.is_honest table.old → IsTable (T.stored table.old)
+        → AreFloors (T.stored table.old) (length (T.stored table.old).order) floors.now → result ≡ Ok true
+        → IsAnswer (M.graph source.now) (M.is_wide source.now) (T.stored table.old) Right }
+    ensures wide { T.is_honest table.old → result ≡ Err TooWide → HasWide (M.is_wide source.now) (T.stored table.old) }
+    ensures same { T.is_honest table.old → T.stored table.new ≡ T.stored table.old }
+    ensures honest { T.is_honest table.old ↔ T.is_honest table.new }
+    ensures counts { T.counted table.new ≡ T.counted table.old }
+    ensures stays { T.stays table.old table.new }
+    ensures room { IfErr result (OfTable NeedsNoPage) }
+    ensures fault { IfErr result (OfTable (T.fails table.old table.new)) }
+{
+    let mut moves: u64 = 0;
+    let mut edges: u64 = 0;
+    for number in 0..table.counts().known {
+        let floor = floors[number as usize];
+        let Some(tally) = tally_of(alloc, source, table, number, floor)? else {
+            return Ok(false);
+        };
+        moves += u64::from(tally.moves);
+        edges += u64::from(tally.edges);
+    }
+    Ok(moves == edges)
+}

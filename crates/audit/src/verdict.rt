@@ -1,0 +1,42 @@
+//! What audit answers.
+use std::fmt::{self, Display, Formatter, Write};
+
+/// The condition that fails, by its code.
+#[derive(Clone, Copy, PartialEq, Eq, Debug, Drop)]
+pub enum Reason {
+    /// Number 0 is the start, and any other has an edge from an expanded position with a smaller number.
+    A1,
+    /// The moves of an expanded position have their edges and are counted right, and each edge is a move.
+    A2,
+    /// Nothing is processed before all known positions are expanded.
+    A3,
+    /// Distances do not fall along the settled order.
+    A4,
+    /// An expanded position without a move is settled for the player who is ahead.
+    A5,
+    /// An expanded position with a move is settled as the processed positions say to which it leads.
+    A6,
+    /// What is not expanded is not settled.
+    A7,
+}
+
+impl Display for Reason {
+    fn fmt<W: Write>(&self, f: &mut Formatter<W>) -> fmt::Result {
+        f.write_str(match self {
+            Reason::A1 => "A1",
+            Reason::A2 => "A2",
+            Reason::A3 => "A3",
+            Reason::A4 => "A4",
+            Reason::A5 => "A5",
+            Reason::A6 => "A6",
+            Reason::A7 => "A7",
+        })
+    }
+}
+
+/// The table is right; or the lowest number that fails, with its lowest reason.
+#[derive(Clone, Copy, PartialEq, Eq, Debug, Drop)]
+pub enum Verdict {
+    Right,
+    Wrong(u32, Reason),
+}

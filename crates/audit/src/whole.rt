@@ -1,0 +1,81 @@
+//! The verdict of a table.
+ghost use Rattle.std.specs.Prelude.{◌≡◌, ◌↔◌, ◌^◌, ◌≤◌, ℕ, List, true, IfOk, OnOk, IfErr, Err, Ok, length};
+ghost use Rattle.retrograde.specs.View.{HasNumber};
+ghost use Rattle.retrograde.specs.Stored.{IsTable, view_of};
+ghost use Rattle.retrograde.specs.Sound.{IsLocallySound};
+ghost use Rattle.table.specs.Faults.{NeedsNoPage};
+ghost use Rattle.audit.specs.Answers.{IsAnswer, IsSo};
+ghost use Rattle.audit.specs.Causes.{OfTable, HasWide};
+ghost use Rattle.audit.specs.aid.Conditions.{AreFloors};
+ghost use Rattle.audit.specs.declared.verdict.Verdict.TheVariants.{Right};
+ghost use Rattle.audit.specs.declared.fault.AuditFault.TheVariants.{TooWide};
+
+use crate::fault::AuditFault;
+use crate::number::failing;
+use crate::order::floors;
+use crate::sums::adds_up;
+use crate::verdict::Verdict;
+use legal_moves::MoveSource;
+use std::alloc::Global;
+use table::Table;
+
+/// The lowest number at which a condition fails, if there is one.
+fn first_wrong<M: MoveSource, T: Table>(
+    alloc: Global,
+    source: &M,
+    table: &mut T,
+    floors: &[u32],
+) -> Result<Verdict, AuditFault>
+    requires source { M.is_sound source.now }
+    requires lengths { length floors.now ≡ (T.counted table.old).known }
+    ensures answer { T.is_honest table.old → IsTable (T.stored table.old)
+        → AreFloors (T.stored table.old) (length (T.stored table.old).order) floors.now
+        → IfOk result (IsAnswer (M.graph source.now) (M.is_wide source.now) (T.stored table.old)) }
+    ensures wide { T.is_honest table.old → result ≡ Err TooWide → HasWide (M.is_wide source.now) (T.stored table.old) }
+    ensures same { T.is_honest table.old → T.stored table.new ≡ T.stored table.old }
+    ensures honest { T.is_honest table.old ↔ T.is_honest table.new }
+    ensures counts { T.counted table.new ≡ T.counted table.old }
+    ensures stays { T.stays table.old table.new }
+    ensures room { IfErr result (OfTable NeedsNoPage) }
+    ensures fault { IfErr result (OfTable (T.fails table.old table.new)) }
+{
+    for number in 0..table.counts().known {
+        let floor = floors[number as usize];
+        if let Some(reason) = failing(alloc, source, table, number, floor)? {
+            return Ok(Verdict::Wrong(number, reason));
+        }
+    }
+    Ok(Verdict::Right)
+}
+
+/// The verdict of what is stored: right where the seven conditions hold of every number, and otherwise the
+/// lowest number that fails, with its lowest reason.
+///
+/// `TooWide` comes only where some expanded position is too wide; then the table is never right. The other
+/// faults are the table's, or want of memory. The table stays as it was.
+pub fn audit<M: MoveSource, T: Table>(
+    alloc: Global,
+    source: &M,
+    table: &mut T,
+) -> Result<Verdict, AuditFault>
+    requires source { M.is_sound source.now }
+    ensures answer { T.is_honest table.old → IsTable (T.stored table.old)
+        → IfOk result (IsAnswer (M.graph source.now) (M.is_wide source.now) (T.stored table.old)) }
+    ensures sound { T.is_honest table.old → IsTable (T.stored table.old) → result ≡ Ok Right
+        → IsLocallySound (M.graph source.now) (M.is_wide source.now) (T.stored table.old) }
+    ensures so { T.is_honest table.old → IsTable (T.stored table.old) → result ≡ Ok Right
+        → IsSo (M.graph source.now) (view_of (T.stored table.old)) }
+    ensures wide { T.is_honest table.old → result ≡ Err TooWide → HasWide (M.is_wide source.now) (T.stored table.old) }
+    ensures same { T.is_honest table.old → T.stored table.new ≡ T.stored table.old }
+    ensures honest { T.is_honest table.old ↔ T.is_honest table.new }
+    ensures counts { T.counted table.new ≡ T.counted table.old }
+    ensures stays { T.stays table.old table.new }
+    ensures room { IfErr result (OfTable NeedsNoPage) }
+    ensures fault { IfErr result (OfTable (T.fails table.old table.new)) }
+{
+    let floors = floors(alloc, table)?;
+    if adds_up(alloc, source, table, &floors)? {
+        return Ok(Verdict::Right);
+    }
+    first_wrong(alloc, source, table, &floors)
+}

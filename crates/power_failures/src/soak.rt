@@ -1,0 +1,250 @@
+//! Random games and commands, stopped at random disk calls, and compared with a table that is never stopped.
+ghost use Rattle.std.specs.Prelude.{◌≤◌};
+
+use crate::watched::WatchedDisk;
+use flat_table::FlatTable;
+use game_file::GameFile;
+use rand::{Rng, RngExt};
+use rand_pcg::Pcg32;
+use recover::{FileSolver, Solver, SolverFault, Units};
+use sector_disk::{FuseDisk, MemDisk, SectorDisk};
+use std::alloc::Global;
+
+/// The sectors of 128 pages: a table that is full refuses an order, and stays as it was.
+const SECTORS: u64 = 1_024;
+
+/// The sectors of the table that is never stopped, which is never full.
+const MODEL_SECTORS: u64 = 16_384;
+
+/// So many commands are given in a round at most.
+const COMMANDS: u32 = 24;
+
+/// So many of the last disk calls of an order are stopped at as often as all others.
+const LAST_CALLS: u64 = 8;
+
+/// A table that is never stopped, in a file of the earlier layout.
+type Model = FileSolver<FlatTable<MemDisk>>;
+
+/// What was done.
+#[derive(Clone, Copy, Default)]
+struct Tally {
+    rounds: u64,
+    stops: u64,
+    /// The stops that left the command that was going on done.
+    ahead: u64,
+}
+
+impl Tally {
+    /// Counts a stop, if the command was not answered before it, and whether that command was done all the same.
+    fn count(&mut self, is_done: bool, is_ahead: bool) {
+        self.stops = self.stops.saturating_add(u64::from(!is_done));
+        self.ahead = self.ahead.saturating_add(u64::from(!is_done && is_ahead));
+    }
+}
+
+/// Plays so many rounds with these games. Prints what was done, and at the first table that is not as it should be the seed and the
+/// round, with which it can be repeated. Answers whether there was none.
+pub fn soak(
+    rt: &HostRuntime,
+    alloc: Global,
+    texts: &[Vec<u8>],
+    seed: u64,
+    rounds: u64,
+) -> anyhow::Result<bool> {
+    let mut tally = Tally::default();
+    for round in 0..rounds {
+        let mut random = Pcg32::new(seed, round);
+        let Some(text) = texts.get(below(&mut random, texts.len() as u64) as usize) else {
+            break;
+        };
+        if !round_of(alloc, &mut random, text, &mut tally)? {
+            println!(rt; "seed {seed} round {round}: WRONG")?;
+            return Ok(false);
+        }
+        tally.rounds = tally.rounds.saturating_add(1);
+    }
+    println!(rt;
+        "seed {seed}: {} rounds, {} stops, behind {} of them the command was done",
+        tally.rounds, tally.stops, tally.ahead
+    )?;
+    Ok(true)
+}
+
+/// A random number below this one, and 0 where that is 0.
+fn below<R: Rng>(random: &mut R, end: u64) -> u64
+    ensures { result ≤ end }
+{
+    if end == 0 {
+        0
+    } else {
+        random.random_range(0..end)
+    }
+}
+
+/// What is ordered.
+#[derive(Clone, Copy, PartialEq, Eq, Debug)]
+enum Order {
+    /// To load the game.
+    Load,
+    /// To work so many units.
+    Work(Units),
+}
+
+/// One round: a table is made, and orders are given to it, each with a stop at a random call, if it comes so far. Answers whether it was
+/// always the one that the orders lead to which were answered, or one order more.
+fn round_of(
+    alloc: Global,
+    random: &mut Pcg32,
+    text: &[u8],
+    tally: &mut Tally,
+) -> anyhow::Result<bool> {
+    let mut disk = made(alloc)?;
+    let mut model = model_made(alloc)?;
+    for _ in 0..COMMANDS {
+        match is_as_the_model(alloc, random, disk, &mut model, text, tally)? {
+            Some(left) => disk = left,
+            None => return Ok(false),
+        }
+    }
+    Ok(true)
+}
+
+/// Gives one order to the table of this disk, with a stop at a random call, if it comes so far, and to the model. Answers the disk, if
+/// the table is then as the model is.
+fn is_as_the_model(
+    alloc: Global,
+    random: &mut Pcg32,
+    disk: MemDisk,
+    model: &mut Model,
+    text: &[u8],
+    tally: &mut Tally,
+) -> anyhow::Result<Option<MemDisk>> {
+    let order = some_order(random, model.status().is_some());
+    let (left, is_done) = stopped(alloc, random, disk, text, order)?;
+    let mut found = opened(alloc, random, left)?;
+    let is_ahead = found.status() != model.status();
+    if is_done || is_ahead {
+        obey(model, text, order)?;
+    }
+    tally.count(is_done, is_ahead);
+    let is_equal = are_equal(random, model, &mut found)?;
+    Ok(is_equal.then_some(found.close()))
+}
+
+/// The empty table that is never stopped.
+fn model_made(alloc: Global) -> anyhow::Result<Model> {
+    match Model::create(alloc, MemDisk::new(alloc, MODEL_SECTORS)?) {
+        Ok(solver) => Ok(solver),
+        Err(refused) => Err(refused.fault.into()),
+    }
+}
+
+/// A disk with the empty table.
+fn made(alloc: Global) -> anyhow::Result<MemDisk> {
+    match Solver::create(alloc, MemDisk::new(alloc, SECTORS)?) {
+        Ok(solver) => Ok(solver.close()),
+        Err(refused) => Err(refused.fault.into()),
+    }
+}
+
+/// To load where no game is, and else to work.
+fn some_order(random: &mut Pcg32, has_game: bool) -> Order {
+    let most = 1 << below(random, 8).min(8);
+    match Units::new(1 + below(random, most) as u32) {
+        Some(units) if has_game => Order::Work(units),
+        _ => Order::Load,
+    }
+}
+
+/// How many pages are kept in memory.
+fn some_pages(random: &mut Pcg32) -> usize
+    ensures { result ≤ 64 }
+{
+    match below(random, 4) {
+        0 => 0,
+        1 => 1,
+        2 => 2,
+        _ => 64,
+    }
+}
+
+/// Gives an order to the table of this disk, which stops at a random call, one of the last ones as often as any. Answers what a stop
+/// leaves, and whether the order was done.
+fn stopped(
+    alloc: Global,
+    random: &mut Pcg32,
+    disk: MemDisk,
+    text: &[u8],
+    order: Order,
+) -> anyhow::Result<(MemDisk, bool)> {
+    let pages = some_pages(random);
+    let copy = WatchedDisk::new(alloc, disk.after_stop(alloc, 0)?);
+    let (watched, _) = ordered(alloc, copy, pages, text, order);
+    let calls = watched.count();
+    let passes = if below(random, 2) == 0 {
+        below(random, calls)
+    } else {
+        calls.saturating_sub(below(random, LAST_CALLS))
+    };
+    let (fuse, is_done) = ordered(alloc, FuseDisk::new(disk, passes), pages, text, order);
+    let left = fuse.into_inner().after_stop(alloc, random.random())?;
+    Ok((left, is_done))
+}
+
+/// Gives an order to the table of this disk. Answers the disk, and whether the order was done.
+fn ordered<D: SectorDisk + Drop>(
+    alloc: Global,
+    disk: D,
+    pages: usize,
+    text: &[u8],
+    order: Order,
+) -> (D, bool) {
+    match Solver::open_with_cache(alloc, disk, pages.min(64)) {
+        Err(refused) => (refused.disk, false),
+        Ok(mut solver) => {
+            let is_done = obey(&mut solver, text, order).is_ok();
+            (solver.close(), is_done)
+        }
+    }
+}
+
+/// Does what is ordered.
+fn obey<F: GameFile>(
+    solver: &mut FileSolver<F>,
+    text: &[u8],
+    order: Order,
+) -> Result<(), SolverFault> {
+    match order {
+        Order::Load => solver.load(text),
+        Order::Work(units) => solver.work(units).map(|_| ()),
+    }
+}
+
+/// The table of this disk.
+fn opened(alloc: Global, random: &mut Pcg32, disk: MemDisk) -> anyhow::Result<Solver<MemDisk>> {
+    match Solver::open_with_cache(alloc, disk, some_pages(random)) {
+        Ok(solver) => Ok(solver),
+        Err(refused) => Err(refused.fault.into()),
+    }
+}
+
+/// Whether both tables are as far as the other, with equal rows from a random number on and an equal position there.
+fn are_equal(
+    random: &mut Pcg32,
+    model: &mut Model,
+    found: &mut Solver<MemDisk>,
+) -> anyhow::Result<bool> {
+    let counts = model.status();
+    if found.status() != counts {
+        return Ok(false);
+    }
+    let (Some(counts), Some(rows)) = (counts, Units::new(256)) else {
+        return Ok(true);
+    };
+    let number = below(random, u64::from(counts.known)) as u32;
+    Ok(
+        model.list(number, rows)? == found.list(number, rows)?
+            && model.show(number)? == found.show(number)?
+            && model.line(number).ok() == found.line(number).ok(),
+    )
+}

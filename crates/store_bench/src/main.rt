@@ -1,0 +1,92 @@
+//! Works a count on a table in a file, with the moves known beforehand, so that the store alone is timed:
+//! `store_bench FILE LAST PAGES [by-sectors]`. The file has its size already. For each line of its input it does 256 units of work and
+//! answers as a session does. By sectors, the file is read and written sector by sector.
+#![tactic(auto)]
+
+mod count;
+mod sector_file;
+
+use crate::count::{Count, begun, work};
+use crate::sector_file::SectorFile;
+use sector_disk::{FileDisk, SectorDisk};
+use std::fs::OpenOptions;
+use std::io::{self, Read};
+use std::process::ExitCode;
+use table::Table;
+
+fn main(rt: HostRuntime) -> ExitCode {
+    match run(&rt) {
+        Ok(()) => ExitCode::SUCCESS,
+        Err(error) => {
+            let _told = eprintln!(rt; "{error}");
+            ExitCode::FAILURE
+        }
+    }
+}
+
+/// Does what the words of the command line say.
+fn run(rt: &HostRuntime) -> anyhow::Result<()> {
+    let words: Vec<String> = std::env::args(rt)?.collect(rt.alloc())?;
+    let [_, path, last, pages, by_sectors @ ..] = words.as_slice() else {
+        return Ok(rt.eprintln("usage: store_bench FILE LAST PAGES [by-sectors]")?);
+    };
+    let last = last.parse::<u32>().unwrap_or(0);
+    let pages = pages.parse::<usize>().unwrap_or(0).min(64);
+    let file = OpenOptions::new().read(true).write(true).open(rt, path)?;
+    if by_sectors.is_empty() {
+        answer_all(rt, FileDisk::new(file)?, last, pages)
+    } else {
+        answer_all(rt, SectorFile::new(file)?, last, pages)
+    }
+}
+
+/// Makes a table on this disk, and answers each line of the input.
+fn answer_all<D: SectorDisk + Drop>(
+    rt: &HostRuntime,
+    disk: D,
+    last: u32,
+    pages: usize,
+) -> anyhow::Result<()> {
+    let mut table = begun(rt.alloc(), disk, pages.min(64))?;
+    let mut chunk = [0; 4096];
+    let mut input = rt.stdin();
+    // an input that gave a byte in each turn would be read for longer than any machine runs
+    for _turn in 0..u64::MAX {
+        let count = input.read(&mut chunk)?;
+        if count == 0 {
+            break;
+        }
+        answer_lines(rt, &mut table, last, &chunk[..count])?;
+    }
+    Ok(())
+}
+
+/// Works for each line that ends in these bytes, and tells how far the table is then.
+fn answer_lines<D: SectorDisk + Drop>(
+    rt: &HostRuntime,
+    table: &mut Count<D>,
+    last: u32,
+    bytes: &[u8],
+) -> anyhow::Result<()> {
+    for byte in bytes {
+        if *byte == b'\n' {
+            let units = work(table, last)?;
+            tell(rt, table, units)?;
+        }
+    }
+    Ok(())
+}
+
+/// Tells what was worked, and how far the table is then.
+fn tell<D: SectorDisk + Drop>(rt: &HostRuntime, table: &Count<D>, units: u32) -> io::Result<()> {
+    let counts = table.counts();
+    let is_open = counts.expanded < counts.known || counts.processed < counts.settled;
+    println!(rt;
+        "units {units} known {} expanded {} settled {} processed {} {}",
+        counts.known,
+        counts.expanded,
+        counts.settled,
+        counts.processed,
+        if is_open { "open" } else { "finished" }
+    )
+}

@@ -1,0 +1,69 @@
+//! A disk over a file that reads and writes it sector by sector, to be measured beside the one that moves whole pages. By its
+//! statement it is no honest disk.
+ghost use Rattle.std.specs.Prelude.{◌*◌, ◌^◌, ◌<◌, false, [], replicate};
+ghost use Rattle.sector_disk.specs.Disk.{HasCause};
+ghost use Rattle.sector_disk.specs.Past.{memory_disk};
+
+use sector_disk::{DiskFault, SectorDisk};
+use std::fs::File;
+use std::io;
+use std::os::unix::fs::FileExt;
+
+/// A file, a call for each sector.
+#[derive(Drop)]
+pub struct SectorFile {
+    file: File,
+    sectors: u64,
+    failures: u64,
+    ghost placed: { 512 * sectors < 2 ^ 64 },
+}
+
+impl SectorFile {
+    /// Its sectors are the file's length divided by 512, as found now.
+    pub fn new(file: File) -> io::Result<Self> {
+        let sectors = file.metadata()?.len() / 512;
+        Ok(SectorFile {
+            file,
+            sectors,
+            failures: 0,
+        })
+    }
+}
+
+/// What a call of the file came to; a failure counts.
+fn told<T>(failures: &mut u64, answer: io::Result<T>) -> Result<(), DiskFault>
+where
+    T: Drop,
+    ensures { HasCause failures.old failures.new result }
+{
+    if answer.is_ok() {
+        return Ok(());
+    }
+    *failures = failures.saturating_add(1);
+    Err(DiskFault)
+}
+
+impl SectorDisk for SectorFile {
+    ghost disk = { λ d. record (memory_disk [] (replicate d.sectors [])) { honest = false } };
+
+    ghost failures = { λ d. d.failures };
+
+    fn sectors(&self) -> u64 {
+        self.sectors
+    }
+
+    fn read(&mut self, at: u64, into: &mut [u8; 512]) -> Result<(), DiskFault> {
+        let answer = self.file.read_exact_at(into, 512 * at);
+        told(&mut self.failures, answer)
+    }
+
+    fn write(&mut self, at: u64, from: &[u8; 512]) -> Result<(), DiskFault> {
+        let answer = self.file.write_all_at(from, 512 * at);
+        told(&mut self.failures, answer)
+    }
+
+    fn sync(&mut self) -> Result<(), DiskFault> {
+        let answer = self.file.sync_all();
+        told(&mut self.failures, answer)
+    }
+}
