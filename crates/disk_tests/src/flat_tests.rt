@@ -8,6 +8,7 @@ use flat_table::slot::{GameSlot, empty_slot, game_slot, read_slot};
 use flat_table::write::save;
 use page_chain::{read_chain, write_chain};
 use page_store::{PageFault, PageStore, Pages};
+use position_pack::PackingKind;
 use retrograde::Counts;
 use root_pair::MAGIC;
 use sector_disk::{FlakyDisk, FuseDisk, MemDisk, SectorDisk};
@@ -23,12 +24,21 @@ const SIXTEEN: u64 = 128;
 /// Sectors of a disk of 20 pages.
 const TWENTY: u64 = 160;
 
+/// The slot of a table of packing 1 that begins at this page, with these sizes.
+fn slot_of(first: u32, sizes: Sizes) -> GameSlot {
+    GameSlot {
+        packing: PackingKind::Bytes,
+        first,
+        sizes,
+    }
+}
+
 /// A disk of 16 pages with these bytes in a chain that the root names, with these sizes.
 fn with_game(alloc: Global, bytes: &[u8], sizes: Sizes) -> Result<MemDisk, Fail> {
     let mut store = sealed(alloc, table_disk(alloc, SIXTEEN, &empty_slot())?)?;
     let pages = write_chain(alloc, &mut store, bytes)?;
     let first = pages.first().copied().unwrap_or(0);
-    store.commit(&game_slot(5, &GameSlot { first, sizes }))?;
+    store.commit(&game_slot(5, &slot_of(first, sizes)))?;
     Ok(store.into_disk())
 }
 
@@ -78,8 +88,7 @@ const DAMAGED: Option<PageFault> = Some(PageFault::Damaged);
 
 /// A root that names a chain of the table of two positions which begins at this page.
 fn naming(first: u32) -> [u8; 512] {
-    let sizes = TWO_SIZES;
-    game_slot(1, &GameSlot { first, sizes })
+    game_slot(1, &slot_of(first, TWO_SIZES))
 }
 
 #[test]
@@ -88,6 +97,36 @@ fn a_root_that_names_no_chain_is_damaged(rt: HostRuntime) -> Result<(), Fail> {
     for root in [[7; 512], naming(0), naming(16), naming(u32::MAX)] {
         let disk = table_disk(rt.alloc(), SIXTEEN, &root)?;
         expect(fault_of(rt.alloc(), disk), DAMAGED, "root")?;
+    }
+    Ok(())
+}
+
+/// The table of two positions, with this number as that of its packing.
+fn with_number(alloc: Global, number: u8) -> Result<MemDisk, Fail> {
+    let mut store = sealed(alloc, table_disk(alloc, SIXTEEN, &empty_slot())?)?;
+    let pages = write_chain(alloc, &mut store, &TWO)?;
+    let mut root = naming(pages.first().copied().unwrap_or(0));
+    root[7] = number;
+    store.commit(&root)?;
+    Ok(store.into_disk())
+}
+
+/// The packing of the game that a disk holds.
+fn packing_on(alloc: Global, disk: MemDisk) -> Result<Option<PackingKind>, Fail> {
+    let mut store = opened(alloc, disk)?;
+    let read = read_all(alloc, &mut store)?;
+    Ok(read.game.map(|game| game.packing))
+}
+
+#[test]
+fn a_root_names_packing_1_or_2_and_no_other(rt: HostRuntime) -> Result<(), Fail> {
+    for (number, packing) in [(1, PackingKind::Bytes), (2, PackingKind::Bits)] {
+        let told = packing_on(rt.alloc(), with_number(rt.alloc(), number)?)?;
+        expect(told, Some(packing), number)?;
+    }
+    for number in [0, 3, 255] {
+        let disk = with_number(rt.alloc(), number)?;
+        expect(fault_of(rt.alloc(), disk), DAMAGED, number)?;
     }
     Ok(())
 }
@@ -191,7 +230,14 @@ fn save_on<P: Pages>(
         return Err("there is no such page".into());
     }
     let table = written(alloc, byte, size)?;
-    Ok(save(alloc, store, u64::from(byte), old, &table))
+    Ok(save(
+        alloc,
+        store,
+        u64::from(byte),
+        old,
+        PackingKind::Bytes,
+        &table,
+    ))
 }
 
 /// What is told where one table is saved in the place of another.

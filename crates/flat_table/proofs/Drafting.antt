@@ -4,6 +4,7 @@ use Rattle.std.specs.Result.{OnOk, OnErr, IfErr}
 use Rattle.std.proofs.lemmas.Option.{same_Some}
 use Rattle.std.proofs.lemmas.Result.{IfErr-weaker}
 use Rattle.page_store.specs.Store.{Store}
+use Rattle.position_pack.specs.declared.kind.PackingKind.{PackingKind}
 use Rattle.retrograde.specs.Stored.{Stored, loaded}
 use Rattle.table.specs.Fitting.{FitsTogether}
 use Rattle.game_file.specs.Calls.{IsPut, IsNotPut}
@@ -56,31 +57,31 @@ its_game (Some was) kept some = (was, refl, same_Some (kept_in was) kept some)
 module _ (was mid new : File) (kept : Kept) (now : Stored (List ℕ)) (whole : IsFile was) (is : kept_of was.game ≡ Some kept) (same : IsUnwrittenFile was mid) where
   -- the draft is put in the place of what was kept
   pub committed : {X E None_left : Type 0} (r : Result X E) → None_left → OnOk r (commits_in new.store.root ≡ count_behind (commits_in mid.store.root))
-      → ((g : Game) → mid.game ≡ Some g → IsFile mid → OnOk r (IsPutInFile (kept_as g.text.items now) mid new))
-      → OnOk r ((IsFile new × None_left) × IsPut Stores (kept_as kept.text now) (state_of was) (state_of new))
+      → ((g : Game) → mid.game ≡ Some g → IsFile mid → OnOk r (IsPutInFile (kept_as g.text.items g.packing now) mid new))
+      → OnOk r ((IsFile new × None_left) × IsPut Stores (kept_as kept.text kept.packing now) (state_of was) (state_of new))
   committed r none counts put =
       let (g, has, keeps) = its_game mid.game kept (same.kept ∙ is) in
-      let text : g.text.items ≡ kept.text = ap (λ (k : Kept). k.text) keeps in
+      let same_kept : kept_as g.text.items g.packing now ≡ kept_as kept.text kept.packing now = ap (λ (k : Kept). kept_as k.text k.packing now) keeps in
       both_ok r
       (λ count it. (
         (it.stands, none),
-        subst (λ (s : State). IsPut Stores (kept_as kept.text now) s (state_of new)) (same_state was mid same)
-            (subst (λ (t : List ℕ). IsPut Stores (kept_as t now) (state_of mid) (state_of new)) text (put_whole _ mid new count it)),
+        subst (λ (s : State). IsPut Stores (kept_as kept.text kept.packing now) s (state_of new)) (same_state was mid same)
+            (subst (λ (k : Kept). IsPut Stores k (state_of mid) (state_of new)) same_kept (put_whole _ mid new count it)),
       ))
       counts (put g has (same.stands whole))
 
   -- or it is not
   pub not_committed : {X E None_left : Type 0} (r : Result X E) → None_left → OnErr r (new.store.root ≡ mid.store.root)
-      → ((g : Game) → mid.game ≡ Some g → IsFile mid → OnErr r (IsNotPutInFile (kept_as g.text.items now) mid new))
-      → OnErr r ((IsFile new × None_left) × IsNotPut Stores (kept_as kept.text now) (state_of was) (state_of new))
+      → ((g : Game) → mid.game ≡ Some g → IsFile mid → OnErr r (IsNotPutInFile (kept_as g.text.items g.packing now) mid new))
+      → OnErr r ((IsFile new × None_left) × IsNotPut Stores (kept_as kept.text kept.packing now) (state_of was) (state_of new))
   not_committed r none roots left =
       let (g, has, keeps) = its_game mid.game kept (same.kept ∙ is) in
-      let text : g.text.items ≡ kept.text = ap (λ (k : Kept). k.text) keeps in
+      let same_kept : kept_as g.text.items g.packing now ≡ kept_as kept.text kept.packing now = ap (λ (k : Kept). kept_as k.text k.packing now) keeps in
       both_err r
       (λ root it. (
         (it.stands, none),
-        subst (λ (s : State). IsNotPut Stores (kept_as kept.text now) s (state_of new)) (same_state was mid same)
-            (subst (λ (t : List ℕ). IsNotPut Stores (kept_as t now) (state_of mid) (state_of new)) text (not_put_whole _ mid new root it)),
+        subst (λ (s : State). IsNotPut Stores (kept_as kept.text kept.packing now) s (state_of new)) (same_state was mid same)
+            (subst (λ (k : Kept). IsNotPut Stores k (state_of mid) (state_of new)) same_kept (not_put_whole _ mid new root it)),
       ))
       roots (left g has (same.stands whole))
 
@@ -96,7 +97,7 @@ module _ (was mid new : File) (kept : Kept) (now : Stored (List ℕ)) (whole : I
       fits_of (Some h) games some = subst (λ (x : Game). FitsTogether x.packed (kept_in x).table) (same_Some h g some) games.fits
 
   commit_cause : (g : Game) → IsFile mid → mid.game ≡ Some g → kept_in g ≡ kept → (fault : FileFault)
-      → PutCause (kept_as g.text.items now) g.packed mid.store new.store fault → FileCommitCause kept.table now (state_of mid) (state_of new) fault
+      → PutCause (kept_as g.text.items g.packing now) g.packed mid.store new.store fault → FileCommitCause kept.table now (state_of mid) (state_of new) fault
   commit_cause g it has keeps Disk cause = cause
   commit_cause g it has keeps NotATable cause = cause
   commit_cause g it has keeps AlreadyATable cause = cause
@@ -109,7 +110,7 @@ module _ (was mid new : File) (kept : Kept) (now : Stored (List ℕ)) (whole : I
   commit_cause g it has keeps Inconsistent cause = λ honest. unfit g it has keeps cause
 
   pub why_not_committed : {X : Type 0} (r : Result X FileFault)
-      → ((g : Game) → mid.game ≡ Some g → IsFile mid → IfErr r (PutCause (kept_as g.text.items now) g.packed mid.store new.store))
+      → ((g : Game) → mid.game ≡ Some g → IsFile mid → IfErr r (PutCause (kept_as g.text.items g.packing now) g.packed mid.store new.store))
       → IfErr r (FileCommitCause kept.table now (state_of was) (state_of new))
   why_not_committed r why =
       let (g, has, keeps) = its_game mid.game kept (same.kept ∙ is) in
@@ -120,22 +121,22 @@ module _ (was mid new : File) (kept : Kept) (now : Stored (List ℕ)) (whole : I
 
 -- nothing is put where a draft could not be made
 pub not_begun : {X E None_left : Type 0} (r : Result X E) (was mid : File) (kept : Kept) (now : Stored (List ℕ)) → IsFile was → IsUnwrittenFile was mid → None_left
-    → OnErr r ((IsFile mid × None_left) × IsNotPut Stores (kept_as kept.text now) (state_of was) (state_of mid))
+    → OnErr r ((IsFile mid × None_left) × IsNotPut Stores (kept_as kept.text kept.packing now) (state_of was) (state_of mid))
 not_begun r was mid kept now whole same none =
     let it = same.stands whole in
     so_refused r
-    ((it, none), subst (λ (s : State). IsNotPut Stores (kept_as kept.text now) s (state_of mid)) (same_state was mid same) (not_put_whole _ mid mid refl (nothing_put _ mid it)))
+    ((it, none), subst (λ (s : State). IsNotPut Stores (kept_as kept.text kept.packing now) s (state_of mid)) (same_state was mid same) (not_put_whole _ mid mid refl (nothing_put _ mid it)))
 
 -- a first table is not loaded
-pub load_cause : (text start : List ℕ) (old new : File) → IsFile old → kept_of old.game ≡ None → old.store.closed ≡ false → (fault : FileFault)
-    → PutCause (kept_as text (loaded start)) (length start) old.store new.store fault → FileLoadCause start (state_of old) (state_of new) fault
-load_cause text start old new it none is_open Disk cause = cause
-load_cause text start old new it none is_open NotATable cause = cause
-load_cause text start old new it none is_open AlreadyATable cause = cause
-load_cause text start old new it none is_open Damaged cause = absurd cause
-load_cause text start old new it none is_open OldLayout cause = cause
-load_cause text start old new it none is_open TooSmall cause = cause
-load_cause text start old new it none is_open TableFull cause = loading_room text start old.store.marks (it.backed.free is_open none) cause
-load_cause text start old new it none is_open OutOfMemory cause = tt
-load_cause text start old new it none is_open Closed cause = cause
-load_cause text start old new it none is_open Inconsistent cause = cause
+pub load_cause : (text : List ℕ) (kind : PackingKind) (start : List ℕ) (old new : File) → IsFile old → kept_of old.game ≡ None → old.store.closed ≡ false → (fault : FileFault)
+    → PutCause (kept_as text kind (loaded start)) (length start) old.store new.store fault → FileLoadCause start (state_of old) (state_of new) fault
+load_cause text kind start old new it none is_open Disk cause = cause
+load_cause text kind start old new it none is_open NotATable cause = cause
+load_cause text kind start old new it none is_open AlreadyATable cause = cause
+load_cause text kind start old new it none is_open Damaged cause = absurd cause
+load_cause text kind start old new it none is_open OldLayout cause = cause
+load_cause text kind start old new it none is_open TooSmall cause = cause
+load_cause text kind start old new it none is_open TableFull cause = loading_room text kind start old.store.marks (it.backed.free is_open none) cause
+load_cause text kind start old new it none is_open OutOfMemory cause = tt
+load_cause text kind start old new it none is_open Closed cause = cause
+load_cause text kind start old new it none is_open Inconsistent cause = cause

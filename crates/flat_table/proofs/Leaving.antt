@@ -17,6 +17,7 @@ use Rattle.page_store.specs.aid.Works.{safe_saves, works_then}
 use Rattle.page_store.specs.aid.Carrying.{saved_spells, works_stands, discard_goes_back}
 use Rattle.page_chain.specs.Causes.{ChainWriteCause}
 use Rattle.page_chain.specs.Chain.{first_of}
+use Rattle.position_pack.specs.declared.kind.PackingKind.{PackingKind}
 use Rattle.table_bytes.specs.declared.sizes.Sizes.{Sizes}
 use Rattle.flat_table.specs.Held.{KeepsTable, Stores}
 use Rattle.game_file.specs.Kept.{Kept}
@@ -81,9 +82,9 @@ write_cause long old new OutOfMemory cause = cause
 write_cause long old new Closed cause = cause
 
 -- the chain was not written
-pub left_writing : (pages : List ℕ) (sizes : Sizes) (bytes : List ℕ) (old new : Store) (fault : PageFault) → IsSoundStore old → old.closed ≡ false → StoreWorks old new
-    → (fault ≢ DiskFailed → new.closed ≡ old.closed) → ChainWriteCause (length bytes) old new fault → IsLeft pages sizes bytes old new fault
-left_writing pages sizes bytes old new fault sound was_open works still cause = record {
+pub left_writing : (pages : List ℕ) (kind : PackingKind) (sizes : Sizes) (bytes : List ℕ) (old new : Store) (fault : PageFault) → IsSoundStore old → old.closed ≡ false → StoreWorks old new
+    → (fault ≢ DiskFailed → new.closed ≡ old.closed) → ChainWriteCause (length bytes) old new fault → IsLeft pages kind sizes bytes old new fault
+left_writing pages kind sizes bytes old new fault sound was_open works still cause = record {
   ahead = works_ahead old new works;
   stop = λ was is backed it honest open_. leaves_more (λ picture stores. inl stores) (works_leaves pages old new was sound backed honest was_open works);
   left = inl works;
@@ -118,12 +119,12 @@ module _ (root : List ℕ) (old mid new : Store) (works : StoreWorks old mid) (c
   commit_cause long OutOfMemory open_ cause = absurd cause
   commit_cause long Closed open_ cause = absurd (both _ open_ cause)
 
-pub left_committing : (was_pages pages bytes root : List ℕ) (sizes : Sizes) (old mid new : Store) (fault : PageFault) → IsSoundStore old → old.closed ≡ false → IsExchanged was_pages pages bytes old mid
-    → IsSlotOf (first_of pages) sizes root → Commits root mid new → new.marks ≡ mid.marks → StoreCommitCause mid new fault → (fault ≢ DiskFailed → new ≡ mid)
-    → IsLeft was_pages sizes bytes old new fault
-left_committing was_pages pages bytes root sizes old mid new fault sound was_open exchanged slot commits marks cause same = record {
+pub left_committing : (was_pages pages bytes root : List ℕ) (kind : PackingKind) (sizes : Sizes) (old mid new : Store) (fault : PageFault) → IsSoundStore old → old.closed ≡ false → IsExchanged was_pages pages bytes old mid
+    → IsSlotOf (first_of pages) kind sizes root → Commits root mid new → new.marks ≡ mid.marks → StoreCommitCause mid new fault → (fault ≢ DiskFailed → new ≡ mid)
+    → IsLeft was_pages kind sizes bytes old new fault
+left_committing was_pages pages bytes root kind sizes old mid new fault sound was_open exchanged slot commits marks cause same = record {
   ahead = commit_ahead root old mid new was_open exchanged.works commits (ap (λ (ms : List Mark). length ms) marks);
-  stop = λ was is backed it honest open_. commit_leaves was_pages pages bytes root sizes old mid new was is sound was_open exchanged slot backed it commits honest;
+  stop = λ was is backed it honest open_. commit_leaves was_pages pages bytes root kind sizes old mid new was is sound was_open exchanged slot backed it commits honest;
   left = commit_left root old mid new exchanged.works commits fault cause same;
   untouched = inl was_open;
   still = λ other. ap (λ (s : Store). s.closed) (same other) ∙ exchanged.closed;
@@ -160,7 +161,7 @@ backed_closed pages old new was backed same closed = record {
 }
 
 -- after a refusal and `discard`
-module _ (pages : List ℕ) (sizes : Sizes) (bytes : List ℕ) (old mid new : Store) (fault : PageFault) (left : IsLeft pages sizes bytes old mid fault) (marks : AreDiscarded mid.marks new.marks)
+module _ (pages : List ℕ) (kind : PackingKind) (sizes : Sizes) (bytes : List ℕ) (old mid new : Store) (fault : PageFault) (left : IsLeft pages kind sizes bytes old mid fault) (marks : AreDiscarded mid.marks new.marks)
     (others : IsRemarked mid new) (works : StoreWorks mid new) where
   pub left_backed : (was : Option Kept) → IsBacked old pages was → IsBacked new pages was
   left_backed was backed = elim left.left [

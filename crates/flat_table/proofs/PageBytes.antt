@@ -3,6 +3,7 @@ use Rattle.std.proofs.Common.{ℕ, List, length}
 use Rattle.page_store.specs.declared.fault.PageFault.{PageFault}
 use Rattle.page_store.specs.declared.fault.PageFault.TheVariants as page
 use Rattle.page_store.specs.Store.{Store}
+use Rattle.position_pack.specs.declared.kind.PackingKind.{PackingKind}
 use Rattle.table_bytes.specs.declared.sizes.Sizes.{Sizes}
 use Rattle.game_file.specs.Kept.{Kept}
 use Rattle.flat_table.specs.SaveCauses.{SaveCause}
@@ -27,11 +28,11 @@ bytes_cause kept packed store Closed cause = absurd cause
 bytes_cause kept packed store Inconsistent cause = cause
 
 -- why bytes are not saved
-pub save_cause : (kept : Kept) (packed : ℕ) (sizes : Sizes) (bytes : List ℕ) (old new : Store) (fault : PageFault) → AreBytesOf kept sizes bytes
+pub save_cause : (kept : Kept) (packed : ℕ) (kind : PackingKind) (sizes : Sizes) (bytes : List ℕ) (old new : Store) (fault : PageFault) → AreBytesOf kept kind sizes bytes
     → SaveCause (length bytes) old new fault → PutCause kept packed old new (of_pages fault)
-save_cause kept packed sizes bytes old new page.Disk are cause = cause
-save_cause kept packed sizes bytes old new page.NotATable are cause = cause
-save_cause kept packed sizes bytes old new page.Damaged are cause = cause
-save_cause kept packed sizes bytes old new page.TableFull are cause = record { sizes = sizes; bytes = bytes; limits = are.limits; spells = are.spells; long = cause }
-save_cause kept packed sizes bytes old new page.OutOfMemory are cause = cause
-save_cause kept packed sizes bytes old new page.Closed are cause = cause
+save_cause kept packed kind sizes bytes old new page.Disk are cause = cause
+save_cause kept packed kind sizes bytes old new page.NotATable are cause = cause
+save_cause kept packed kind sizes bytes old new page.Damaged are cause = cause
+save_cause kept packed kind sizes bytes old new page.TableFull are cause = record { sizes = sizes; bytes = bytes; limits = are.limits; spells = are.spells; long = cause }
+save_cause kept packed kind sizes bytes old new page.OutOfMemory are cause = cause
+save_cause kept packed kind sizes bytes old new page.Closed are cause = cause

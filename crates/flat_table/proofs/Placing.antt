@@ -12,6 +12,8 @@ use Rattle.page_store.specs.Spelling.{Stands, IsPrepared, Spells}
 use Rattle.page_store.specs.Store.{Store, reads, IsSoundStore, StoreWorks, Commits, IsCommitted}
 use Rattle.page_store.specs.aid.Carrying.{commit_carries, committed_stands, committed_calm}
 use Rattle.page_chain.specs.Chain.{IsChain, first_of}
+use Rattle.position_pack.specs.declared.kind.PackingKind.{PackingKind}
+use Rattle.root_slot.specs.Fields.{number_of_packing}
 use Rattle.table_bytes.specs.declared.sizes.Sizes.{Sizes}
 use Rattle.table_bytes.specs.Numbers.{AreWithinLimits}
 use Rattle.table_bytes.specs.Spelled.{SpellsTable}
@@ -56,11 +58,11 @@ free_page store p sound free = (low p free, within)
     ]
 
 -- a chain of these bytes, and a slot that says so, keep the table
-abbrev pub keeps_game : (root : List ℕ) (capacity : ℕ) (pages bytes : List ℕ) (sizes : Sizes) (kept : Kept) (read : ℕ → List ℕ) → IsSlotOf (first_of pages) sizes root → AreBytesOf kept sizes bytes
+abbrev pub keeps_game : (root : List ℕ) (capacity : ℕ) (pages bytes : List ℕ) (kind : PackingKind) (sizes : Sizes) (kept : Kept) (read : ℕ → List ℕ) → IsSlotOf (first_of pages) kind sizes root → AreBytesOf kept kind sizes bytes
     → IsChain capacity (first_of pages) pages bytes read → KeepsGame root capacity kept read
-keeps_game root capacity pages bytes sizes kept read slot it chain = record {
+keeps_game root capacity pages bytes kind sizes kept read slot it chain = record {
   layout = slot.layout;
-  packing = slot.packing;
+  packing = slot.packing ∙ ap number_of_packing (sym it.packing);
   limits = subst (λ (s : Sizes). AreWithinLimits s) (sym slot.sizes) it.limits;
   pages = pages;
   content = bytes;
@@ -71,8 +73,8 @@ keeps_game root capacity pages bytes sizes kept read slot it chain = record {
 }
 
 -- the new table is prepared, and a commit carries it
-module _ (was_pages pages bytes root : List ℕ) (sizes : Sizes) (old mid new : Store) (was : Option Kept) (is : Kept) (sound : IsSoundStore old) (was_open : old.closed ≡ false)
-    (exchanged : IsExchanged was_pages pages bytes old mid) (slot : IsSlotOf (first_of pages) sizes root) (backed : IsBacked old was_pages was) (it : AreBytesOf is sizes bytes) where
+module _ (was_pages pages bytes root : List ℕ) (kind : PackingKind) (sizes : Sizes) (old mid new : Store) (was : Option Kept) (is : Kept) (sound : IsSoundStore old) (was_open : old.closed ≡ false)
+    (exchanged : IsExchanged was_pages pages bytes old mid) (slot : IsSlotOf (first_of pages) kind sizes root) (backed : IsBacked old was_pages was) (it : AreBytesOf is kind sizes bytes) where
   old_stands : IsTrue old.disk.honest → Stands (λ p. Contains was_pages p) (KeepsTable old.root (length old.marks) was) old
   old_stands honest = backed.stands honest was_open
 
@@ -81,7 +83,7 @@ module _ (was_pages pages bytes root : List ℕ) (sizes : Sizes) (old mid new : 
 
   prepared : IsTrue old.disk.honest → IsPrepared (λ p. Contains pages p) (KeepsTable root (length old.marks) (Some is)) mid
   prepared honest = record {
-    spelled = game_rests_on_its_pages root (length old.marks) is (reads mid) (keeps_game root (length old.marks) pages bytes sizes is (reads mid) slot it (exchanged.chain honest));
+    spelled = game_rests_on_its_pages root (length old.marks) is (reads mid) (keeps_game root (length old.marks) pages bytes kind sizes is (reads mid) slot it (exchanged.chain honest));
     kept = λ p here.
         let page = free_page old p sound (exchanged.freed p here) in
         (page.0, omega (arith, page.1, exchanged.works.same_pages), subst (λ (m : Mark). IsTrue (keeps m)) (sym (exchanged.handed p here (not_old honest p here))) refl);
@@ -141,9 +143,9 @@ turned_free Released gone not = refl
 turned_free Free gone not = refl
 
 -- the new table is in the place of the old one
-pub replaces : (was_pages pages bytes root : List ℕ) (sizes : Sizes) (old mid new : Store) → IsSoundStore old → old.closed ≡ false → IsExchanged was_pages pages bytes old mid
-    → IsSlotOf (first_of pages) sizes root → Commits root mid new → IsCommitted root mid new → IsReplaced was_pages pages sizes bytes old new
-replaces was_pages pages bytes root sizes old mid new sound was_open exchanged slot commits done = record {
+pub replaces : (was_pages pages bytes root : List ℕ) (kind : PackingKind) (sizes : Sizes) (old mid new : Store) → IsSoundStore old → old.closed ≡ false → IsExchanged was_pages pages bytes old mid
+    → IsSlotOf (first_of pages) kind sizes root → Commits root mid new → IsCommitted root mid new → IsReplaced was_pages pages kind sizes bytes old new
+replaces was_pages pages bytes root kind sizes old mid new sound was_open exchanged slot commits done = record {
   was_open = was_open;
   is_open = done.closed;
   there = λ p here.
@@ -151,6 +153,6 @@ replaces was_pages pages bytes root sizes old mid new sound was_open exchanged s
       (page.0, omega (arith, page.1, done.marks.same_length, exchanged.works.same_pages));
   freed = λ p here not. done.marks.each p ∙ turned_free _ (exchanged.gone p here) (λ waits. not (exchanged.works.waiting p waits));
   ahead = commit_ahead root old mid new was_open exchanged.works commits done.marks.same_length;
-  stop = λ was is backed it honest open_. commit_leaves was_pages pages bytes root sizes old mid new was is sound was_open exchanged slot backed it commits honest;
-  done = λ was is backed it. committed_backs was_pages pages bytes root sizes old mid new was is sound was_open exchanged slot backed it commits done;
+  stop = λ was is backed it honest open_. commit_leaves was_pages pages bytes root kind sizes old mid new was is sound was_open exchanged slot backed it commits honest;
+  done = λ was is backed it. committed_backs was_pages pages bytes root kind sizes old mid new was is sound was_open exchanged slot backed it commits done;
 }

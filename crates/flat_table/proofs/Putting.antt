@@ -8,7 +8,7 @@ use Rattle.flat_table.specs.File.{File, IsFile, IsGame, IsBacked, kept_in, kept_
 use Rattle.game_file.specs.Kept.{Kept}
 use Rattle.flat_table.specs.aid.StoredLaws.{a_file_is_kept}
 use Rattle.game_file.specs.Calls.{IsPut, IsNotPut}
-use Rattle.game_file.specs.Kept.{text_kept}
+use Rattle.game_file.specs.Kept.{packing_kept, text_kept}
 use Rattle.game_file.specs.State.{count_behind}
 use Rattle.flat_table.specs.Slot.{commits_in}
 use Rattle.game_file.specs.Stops.{LeavesEither, LeavesTable}
@@ -58,6 +58,7 @@ pub put_whole : (is : Kept) (old new : File) → commits_in new.store.root ≡ c
 put_whole is old new commits put = record {
   commits = commits;
   text = ap text_kept put.kept;
+  packing = ap packing_kept put.kept;
   kept = λ honest. put.kept;
   is_open = put.is_open;
   leaves = put.leaves;
@@ -67,6 +68,7 @@ pub not_put_whole : (is : Kept) (old new : File) → new.store.root ≡ old.stor
 not_put_whole is old new root left = record {
   commits = ap commits_in root;
   text = ap (λ (game : Option Game). text_kept (kept_of game)) left.game;
+  packing = ap (λ (game : Option Game). packing_kept (kept_of game)) left.game;
   kept = λ honest. ap kept_of left.game;
   leaves = left.leaves;
   either = left.either;

@@ -15,7 +15,8 @@ use Rattle.table_bytes.specs.Numbers.{bytes_in}
 use Rattle.table_bytes.specs.Spelled.{SpellsTable}
 use Rattle.table_bytes.specs.aid.Laws.{tables_have_their_length}
 use Rattle.flat_table.specs.declared.slot.GameSlot.{GameSlot}
-use Rattle.flat_table.specs.Slot.{sizes_in, SaysGame, IsNoSlot}
+use Rattle.root_slot.specs.aid.Packings.{some_number}
+use Rattle.flat_table.specs.Slot.{sizes_in, number_of_packing, SaysGame, IsNoSlot}
 use Rattle.flat_table.specs.declared.game.Game.{Game}
 use Rattle.flat_table.specs.File.{kept_in}
 use Rattle.game_file.specs.Kept.{Kept}
@@ -27,12 +28,12 @@ use Rattle.flat_table.specs.aid.Reading.{IsGameIn, SpellingCause, IsRead}
 -- where the slot says nothing nothing is kept
 pub no_slot_keeps : (root : List ℕ) (capacity : ℕ) (bytes : ℕ → List ℕ) → capacity ≤ 1048576 → IsNoSlot root → (kept : Option Kept) → KeepsTable root capacity kept bytes → ⊥
 no_slot_keeps root capacity bytes few none None keeps = none.not_empty keeps
-no_slot_keeps root capacity bytes few none (Some kept) keeps = none.no_game keeps.layout keeps.packing keeps.limits (few_edges root capacity kept bytes few keeps)
+no_slot_keeps root capacity bytes few none (Some kept) keeps = none.no_game keeps.layout kept.packing keeps.packing keeps.limits (few_edges root capacity kept bytes few keeps)
 
 module _ (old : Store) (slot : GameSlot) (says : SaysGame old.root slot) where
   -- the slot names a game, and where no game is kept nothing is
   nothing_kept : ((kept : Kept) → KeepsGame old.root (length old.marks) kept (reads old) → ⊥) → (kept : Option Kept) → KeepsTable old.root (length old.marks) kept (reads old) → ⊥
-  nothing_kept none None keeps = omega (arith, keeps.packing, says.packing)
+  nothing_kept none None keeps = omega (arith, keeps.packing, says.packing, some_number slot.packing)
   nothing_kept none (Some kept) keeps = none kept keeps
 
   -- the chain of a game that is kept
@@ -74,10 +75,10 @@ module _ (old : Store) (slot : GameSlot) (says : SaysGame old.root slot) where
     table_cause new OutOfMemory long cause = cause
     table_cause new Closed long cause = absurd cause
 
-    keeps_read : (game : Game) → IsGameIn slot.sizes pages content game → IsTrue old.disk.honest → KeepsGame old.root (length old.marks) (kept_in game) (reads old)
+    keeps_read : (game : Game) → IsGameIn slot.packing slot.sizes pages content game → IsTrue old.disk.honest → KeepsGame old.root (length old.marks) (kept_in game) (reads old)
     keeps_read game is honest = record {
       layout = says.layout;
-      packing = says.packing;
+      packing = says.packing ∙ ap number_of_packing (sym is.packing);
       limits = says.limits;
       pages = pages;
       content = content;
@@ -90,7 +91,7 @@ module _ (old : Store) (slot : GameSlot) (says : SaysGame old.root slot) where
 
     -- the game was read from the pages of the chain
     pub game_read : (new : Store) → ((p : ℕ) → Contains pages p → mark old.marks p ≡ Waiting) → ((p : ℕ) → Contains pages p → mark new.marks p ≡ Committed)
-        → (game : Game) → IsGameIn slot.sizes pages content game → IsRead game.pages.items (Some (kept_in game)) old new
+        → (game : Game) → IsGameIn slot.packing slot.sizes pages content game → IsRead game.pages.items (Some (kept_in game)) old new
     unfolding keeps_read
     game_read new waited marked game is = record {
       waited = λ p here. waited p (subst (λ (ps : List ℕ). Contains ps p) is.on here);

@@ -4,6 +4,7 @@ use Rattle.page_store.specs.declared.marks.Mark.{Mark}
 use Rattle.page_store.specs.declared.marks.Mark.TheVariants.{Free}
 use Rattle.page_store.specs.Marks.{mark, free_one, free_count}
 use Rattle.table_bytes.specs.aid.Laws.{tables_have_their_length}
+use Rattle.position_pack.specs.declared.kind.PackingKind.{PackingKind}
 use Rattle.retrograde.specs.Stored.{loaded}
 use Rattle.game_file.specs.Kept.{kept_as}
 use Rattle.flat_table.specs.aid.Causes.{IsTooLong}
@@ -24,8 +25,8 @@ no_edges [] only = refl
 no_edges ((i, p) ∷ edges) only = absurd (let is = only i p (0, omega arith, refl) in cc)
 
 -- a game that was just loaded is too long for fewer than 24 pages alone
-pub loading_room : (text start : List ℕ) (marks : List Mark) → ((p : ℕ) → 1 ≤ p → p < length marks → mark marks p ≡ Free) → IsTooLong (kept_as text (loaded start)) marks → length marks < 24
-loading_room text start marks free it =
+pub loading_room : (text : List ℕ) (kind : PackingKind) (start : List ℕ) (marks : List Mark) → ((p : ℕ) → 1 ≤ p → p < length marks → mark marks p ≡ Free) → IsTooLong (kept_as text kind (loaded start)) marks → length marks < 24
+loading_room text kind start marks free it =
     let spells = it.spells in
     let known : it.sizes.counts.known ≡ 1 = sym spells.known in
     let cells : it.sizes.counts.known * (it.sizes.packed + 16) ≡ 1 * (it.sizes.packed + 16) = ap (λ (k : ℕ). k * (it.sizes.packed + 16)) known in

@@ -15,11 +15,11 @@ pub record File : Type 0 where
   pub store : Store
   pub game : Option Game
 
--- the text and the table that are in memory
+-- the text, the packing and the table that are in memory
 abbrev pub kept_in : Game → Kept
-kept_in game = record { text = game.text.items; table = stored_in game.table }
+kept_in game = record { text = game.text.items; packing = game.packing; table = stored_in game.table }
 
--- the text and the table, if a game is loaded
+-- the text, the packing and the table, if a game is loaded
 abbrev pub kept_of : Option Game → Option Kept
 kept_of None = None
 kept_of (Some game) = Some (kept_in game)

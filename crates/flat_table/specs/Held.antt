@@ -10,12 +10,13 @@ use Rattle.table_bytes.specs.Numbers.{AreWithinLimits}
 use Rattle.table_bytes.specs.Spelled.{SpellsTable}
 use Rattle.game_file.specs.Kept.{Kept, Older}
 pub use Rattle.root_slot.specs.Fields.{capacity_of}
-use Rattle.flat_table.specs.Slot.{layout_in, packing_in, first_in, sizes_in, IsEmptySlot}
+use Rattle.flat_table.specs.Slot.{layout_in, packing_in, number_of_packing, first_in, sizes_in, IsEmptySlot}
 
--- the chain of pages that the slot names spells the text and a table whose parts fit together, and the slot counts it right
+-- the slot names the packing, and the chain of pages that it names spells the text and a table whose parts fit together, and the slot
+-- counts it right
 pub record KeepsGame (root : List ℕ) (capacity : ℕ) (kept : Kept) (bytes : ℕ → List ℕ) : Type 0 where
   pub layout : layout_in root ≡ 1
-  pub packing : packing_in root ≡ 1
+  pub packing : packing_in root ≡ number_of_packing kept.packing
   pub limits : AreWithinLimits (sizes_in root)
   pub pages : List ℕ
   pub content : List ℕ

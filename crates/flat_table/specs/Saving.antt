@@ -2,6 +2,7 @@
 use Rattle.std.specs.Prelude.{◌≡◌, ℕ, ◌≤◌, false, List, length}
 use Rattle.sector_disk.specs.Disk.{GoesOn, size}
 use Rattle.page_store.specs.Store.{Store}
+use Rattle.position_pack.specs.declared.kind.PackingKind.{PackingKind}
 use Rattle.retrograde.specs.Stored.{IsTable}
 use Rattle.retrograde.specs.Changes.{counts_of}
 use Rattle.table_bytes.specs.declared.sizes.Sizes.{Sizes}
@@ -9,8 +10,9 @@ use Rattle.table_bytes.specs.Numbers.{AreWithinLimits}
 use Rattle.table_bytes.specs.Spelled.{SpellsTable}
 use Rattle.game_file.specs.Kept.{Kept}
 
--- these bytes and sizes are those of this text and table, whose parts fit together, and are within the limits
-pub record AreBytesOf (kept : Kept) (sizes : Sizes) (bytes : List ℕ) : Type 0 where
+-- this packing, these sizes and these bytes are those of what is kept, whose parts fit together, and are within the limits
+pub record AreBytesOf (kept : Kept) (kind : PackingKind) (sizes : Sizes) (bytes : List ℕ) : Type 0 where
+  pub packing : kept.packing ≡ kind
   pub limits : AreWithinLimits sizes
   pub spells : SpellsTable sizes bytes kept.text kept.table
   pub table : IsTable kept.table

@@ -7,6 +7,7 @@ ghost use Rattle.flat_table.specs.aid.Reading.{IsWhole, IsTableOf, IsGameIn, Spe
 use crate::game::Game;
 use page_chain::Chain;
 use page_store::PageFault;
+use position_pack::PackingKind;
 use std::alloc::Global;
 use table::{MemTable, Table};
 use table_bytes::{BytesFault, Sizes, read_table};
@@ -23,11 +24,16 @@ pub fn length_of(sizes: &Sizes) -> usize
     (u64::from(sizes.text) + cells + rest) as usize
 }
 
-/// The game that a chain's content spells.
-pub fn game_of(alloc: Global, sizes: &Sizes, chain: Chain) -> Result<Game, PageFault>
+/// The game with this packing that a chain's content spells.
+pub fn game_of(
+    alloc: Global,
+    packing: PackingKind,
+    sizes: &Sizes,
+    chain: Chain,
+) -> Result<Game, PageFault>
     requires limits { AreWithinLimits sizes.now }
     requires long { length chain.content.items ≡ bytes_in sizes.now }
-    ensures game { IfOk result (IsGameIn sizes.now chain.pages.items chain.content.items) }
+    ensures game { IfOk result (IsGameIn packing sizes.now chain.pages.items chain.content.items) }
     ensures cause { IfErr result (SpellingCause sizes.now chain.content.items) }
 {
     let table = table_of(alloc, sizes, &chain.content)?;
@@ -35,6 +41,7 @@ pub fn game_of(alloc: Global, sizes: &Sizes, chain: Chain) -> Result<Game, PageF
     text.truncate(sizes.text as usize);
     Ok(Game {
         text,
+        packing,
         packed: sizes.packed,
         pages: chain.pages,
         table,

@@ -26,7 +26,7 @@ use crate::read::read_all;
 use crate::slot::empty_slot;
 use game_file::{FileFault, GameFile, Refused};
 use page_store::{MOST_CACHED, PageStore, Pages};
-use position_pack::Packed;
+use position_pack::{Packed, PackingKind};
 use root_pair::create;
 use sector_disk::SectorDisk;
 use std::alloc::Global;
@@ -96,11 +96,11 @@ impl<D: SectorDisk> FlatTable<D> {
             ≡ count_behind (commits_in (file_in self.old).store.root)) }
         ensures root { OnErr result ((file_in self.new).store.root ≡ (file_in self.old).store.root) }
         ensures ok { (was : Loaded) → (file_in self.old).game ≡ Some was → IsFile (file_in self.old)
-            → OnOk result (IsPutInFile (kept_as was.text.items (stored_in table)) (file_in self.old) (file_in self.new)) }
+            → OnOk result (IsPutInFile (kept_as was.text.items was.packing (stored_in table)) (file_in self.old) (file_in self.new)) }
         ensures err { (was : Loaded) → (file_in self.old).game ≡ Some was → IsFile (file_in self.old)
-            → OnErr result (IsNotPutInFile (kept_as was.text.items (stored_in table)) (file_in self.old) (file_in self.new)) }
+            → OnErr result (IsNotPutInFile (kept_as was.text.items was.packing (stored_in table)) (file_in self.old) (file_in self.new)) }
         ensures cause { (was : Loaded) → (file_in self.old).game ≡ Some was → IsFile (file_in self.old)
-            → IfErr result (PutCause (kept_as was.text.items (stored_in table)) was.packed
+            → IfErr result (PutCause (kept_as was.text.items was.packing (stored_in table)) was.packed
             (file_in self.old).store (file_in self.new).store) }
         ensures still { IfErr result (λ fault. fault ≢ FileFault.Disk
             → (file_in self.new).store.closed ≡ (file_in self.old).store.closed) }
@@ -108,13 +108,20 @@ impl<D: SectorDisk> FlatTable<D> {
         let Some(game) = &self.game else {
             return Err(FileFault::Inconsistent);
         };
+        let packing = game.packing;
         let packed = game.packed;
         let text = game.text.to_vec(self.alloc)?;
-        self.replace(text, packed, table)
+        self.replace(text, packing, packed, table)
     }
 
     /// Stores a text and a table in the place of what is kept.
-    fn replace(&mut self, text: Vec<u8>, packed: u32, table: MemTable) -> Result<(), FileFault>
+    fn replace(
+        &mut self,
+        text: Vec<u8>,
+        packing: PackingKind,
+        packed: u32,
+        table: MemTable,
+    ) -> Result<(), FileFault>
         requires text { length text.items ≤ 65536 }
         requires packed { packed ≤ 240 }
         requires known { (counted_in table).known ≤ 2 ^ 24 }
@@ -124,11 +131,11 @@ impl<D: SectorDisk> FlatTable<D> {
             ≡ count_behind (commits_in (file_in self.old).store.root)) }
         ensures root { OnErr result ((file_in self.new).store.root ≡ (file_in self.old).store.root) }
         ensures ok { IsFile (file_in self.old)
-            → OnOk result (IsPutInFile (kept_as text.items (stored_in table)) (file_in self.old) (file_in self.new)) }
+            → OnOk result (IsPutInFile (kept_as text.items packing (stored_in table)) (file_in self.old) (file_in self.new)) }
         ensures err { IsFile (file_in self.old)
-            → OnErr result (IsNotPutInFile (kept_as text.items (stored_in table)) (file_in self.old) (file_in self.new)) }
+            → OnErr result (IsNotPutInFile (kept_as text.items packing (stored_in table)) (file_in self.old) (file_in self.new)) }
         ensures cause { IsFile (file_in self.old)
-            → IfErr result (PutCause (kept_as text.items (stored_in table)) packed (file_in self.old).store
+            → IfErr result (PutCause (kept_as text.items packing (stored_in table)) packed (file_in self.old).store
             (file_in self.new).store) }
         ensures still { IfErr result (λ fault. fault ≢ FileFault.Disk
             → (file_in self.new).store.closed ≡ (file_in self.old).store.closed) }
@@ -140,6 +147,7 @@ impl<D: SectorDisk> FlatTable<D> {
             commits,
             &self.game,
             text,
+            packing,
             packed,
             table,
         )?;
@@ -211,14 +219,21 @@ impl<D: SectorDisk> GameFile for FlatTable<D> {
         }
     }
 
+    fn packing(&self) -> Option<PackingKind> {
+        match &self.game {
+            Some(game) => Some(game.packing),
+            None => None,
+        }
+    }
+
     fn is_closed(&self) -> bool {
         self.store.is_closed()
     }
 
-    fn load(&mut self, text: &[u8], start: &Packed) -> Result<(), FileFault> {
+    fn load(&mut self, text: &[u8], packing: PackingKind, start: &Packed) -> Result<(), FileFault> {
         let table = MemTable::new(self.alloc, start)?;
         let text = text.to_vec(self.alloc)?;
-        self.replace(text, start.len() as u32, table)
+        self.replace(text, packing, start.len() as u32, table)
     }
 
     fn commit(&mut self) -> Result<(), FileFault> {

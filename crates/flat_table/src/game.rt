@@ -1,12 +1,15 @@
 //! A game in memory, as a file keeps it.
 ghost use Rattle.std.specs.Prelude.{◌≤◌, length};
 
+use position_pack::PackingKind;
 use table::MemTable;
 
 /// A game's text, and its table as of the last commit.
 #[derive(Drop)]
 pub struct Game {
     pub text: Vec<u8>,
+    /// How its positions are packed.
+    pub packing: PackingKind,
     /// Bytes of each packed position.
     pub packed: u32,
     /// The pages that hold both, in turn.

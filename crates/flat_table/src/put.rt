@@ -1,5 +1,6 @@
 //! A text and a table in the place of others.
 ghost use Rattle.std.specs.Prelude.{◌≡◌, ◌≢◌, ◌≤◌, ◌^◌, Some, length, IfOk, IfErr, OnOk, OnErr};
+ghost use Rattle.position_pack.specs.declared.kind.PackingKind.{PackingKind as Kind};
 ghost use Rattle.table.specs.Fitting.{FitsTogether};
 ghost use Rattle.table.specs.InMemory.{stored_in, counted_in};
 ghost use Rattle.flat_table.specs.Slot.{commits_in};
@@ -16,6 +17,7 @@ use crate::game::Game;
 use crate::write::save;
 use game_file::FileFault;
 use page_store::Pages;
+use position_pack::PackingKind;
 use std::alloc::Global;
 use table::{MemTable, Table};
 use table_bytes::{Written, write_table};
@@ -29,6 +31,7 @@ pub fn put<P: Pages>(
     commits: u64,
     old: &Option<Game>,
     text: Vec<u8>,
+    packing: PackingKind,
     packed: u32,
     table: MemTable,
 ) -> Result<Game, FileFault>
@@ -41,20 +44,21 @@ pub fn put<P: Pages>(
     ensures commits { OnOk result (commits_in (P.store store.new).root ≡ commits) }
     ensures root { OnErr result ((P.store store.new).root ≡ (P.store store.old).root) }
     ensures ok { IsFile (file_of (P.store store.old) old.now)
-        → IfOk result (λ game. IsPutInFile (kept_as text.items (stored_in table)) (file_of (P.store store.old) old.now)
+        → IfOk result (λ game. IsPutInFile (kept_as text.items packing (stored_in table)) (file_of (P.store store.old) old.now)
         (file_of (P.store store.new) (Some game))) }
     ensures err { IsFile (file_of (P.store store.old) old.now)
-        → IfErr result (λ _. IsNotPutInFile (kept_as text.items (stored_in table)) (file_of (P.store store.old) old.now)
+        → IfErr result (λ _. IsNotPutInFile (kept_as text.items packing (stored_in table)) (file_of (P.store store.old) old.now)
         (file_of (P.store store.new) old.now)) }
     ensures cause { IsFile (file_of (P.store store.old) old.now)
-        → IfErr result (PutCause (kept_as text.items (stored_in table)) packed (P.store store.old) (P.store store.new)) }
+        → IfErr result (PutCause (kept_as text.items packing (stored_in table)) packed (P.store store.old) (P.store store.new)) }
     ensures still { IfErr result (λ fault. fault ≢ FileFault.Disk → (P.store store.new).closed ≡ (P.store store.old).closed) }
 {
     let mut table = table;
     let written = bytes_of(alloc, &text, packed, &mut table)?;
-    let pages = save(alloc, store, commits, pages_in(old), &written)?;
+    let pages = save(alloc, store, commits, pages_in(old), packing, &written)?;
     Ok(Game {
         text,
+        packing,
         packed,
         pages,
         table,
@@ -84,8 +88,9 @@ fn bytes_of(
     requires known { (counted_in table.old).known ≤ 2 ^ 24 }
     ensures same { OnOk result (stored_in table.new ≡ stored_in table.old) }
     ensures fits { OnOk result (FitsTogether packed (stored_in table.new)) }
-    ensures bytes { IfOk result (λ written. AreBytesOf (kept_as text.now (stored_in table.old)) written.sizes written.bytes.items) }
-    ensures cause { IfErr result (BytesCause (kept_as text.now (stored_in table.old)) packed) }
+    ensures bytes { (kind : Kind)
+        → IfOk result (λ written. AreBytesOf (kept_as text.now kind (stored_in table.old)) kind written.sizes written.bytes.items) }
+    ensures cause { (kind : Kind) → IfErr result (BytesCause (kept_as text.now kind (stored_in table.old)) packed) }
 {
     if !table.fits(alloc, packed)? {
         return Err(FileFault::Inconsistent);

@@ -77,5 +77,5 @@ fn read_game<P: Pages>(alloc: Global, store: &mut P, slot: &GameSlot) -> Result<
 {
     let sizes = slot.sizes;
     let chain = read_chain(alloc, store, slot.first, length_of(&sizes))?;
-    game_of(alloc, &sizes, chain)
+    game_of(alloc, slot.packing, &sizes, chain)
 }

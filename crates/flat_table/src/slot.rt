@@ -2,16 +2,16 @@
 ghost use Rattle.std.specs.Prelude.{◌≡◌, ◌↔◌, ◌+◌, ◌≤◌, ◌<◌, ℕ, true, slice_index, IfSome, IfNone};
 ghost use Rattle.table_bytes.specs.Numbers.{AreWithinLimits};
 ghost use Rattle.flat_table.specs.Slot.{word_at as word_in, long_at as long_in, layout_in, packing_in, commits_in, first_in};
+ghost use Rattle.flat_table.specs.Slot.{number_of_packing as number_of};
 ghost use Rattle.flat_table.specs.Slot.{sizes_in as sizes_of, IsEmptySlot, AreZero, Says, IsNoSlot};
 
+use position_pack::PackingKind;
 use root_slot::{are_within_limits, are_zero, long_at, put_long, put_word, sizes_in, word_at};
+use root_slot::{number_of_packing, packing_numbered};
 use table_bytes::Sizes;
 
 /// The number of this layout.
 const LAYOUT: u32 = 1;
-
-/// The number of the packing that a table with a game has.
-const PACKING: u32 = 1;
 
 /// More edges than this no file has room for.
 const MOST_EDGES: u64 = 4_294_967_296;
@@ -19,6 +19,8 @@ const MOST_EDGES: u64 = 4_294_967_296;
 /// What a slot says of a table with a game.
 #[derive(Clone, Copy, PartialEq, Eq, Debug, Drop)]
 pub struct GameSlot {
+    /// How positions are packed.
+    pub packing: PackingKind,
     /// The first page of the chain.
     pub first: u32,
     pub sizes: Sizes,
@@ -50,24 +52,27 @@ pub fn read_slot(root: &[u8; 512]) -> Option<Slot>
         return None;
     }
     let commits = long_at(root, 8);
-    match word_at(root, 4) {
-        0 if is_blank(root) => Some(Slot {
+    let number = word_at(root, 4);
+    if number == 0 && is_blank(root) {
+        return Some(Slot {
             commits,
             game: None,
-        }),
-        PACKING => {
-            let sizes = sizes_in(root);
-            if !are_within_limits(&sizes) || sizes.edges > MOST_EDGES {
-                return None;
-            }
-            let first = word_at(root, 16);
-            Some(Slot {
-                commits,
-                game: Some(GameSlot { first, sizes }),
-            })
-        }
-        _ => None,
+        });
     }
+    let packing = packing_numbered(number)?;
+    let sizes = sizes_in(root);
+    if !are_within_limits(&sizes) || sizes.edges > MOST_EDGES {
+        return None;
+    }
+    let first = word_at(root, 16);
+    Some(Slot {
+        commits,
+        game: Some(GameSlot {
+            packing,
+            first,
+            sizes,
+        }),
+    })
 }
 
 /// The slot of a table in which no game is loaded, after no commit.
@@ -84,16 +89,20 @@ pub fn empty_slot() -> [u8; 512]
 /// The slot of a table with a game, after so many commits. All bytes without a field are zero.
 pub fn game_slot(commits: u64, game: &GameSlot) -> [u8; 512]
     ensures layout { layout_in result ≡ 1 }
-    ensures packing { packing_in result ≡ 1 }
+    ensures packing { packing_in result ≡ number_of game.now.packing }
     ensures commits { commits_in result ≡ commits }
     ensures first { first_in result ≡ game.now.first }
     ensures sizes { sizes_of result ≡ game.now.sizes }
     ensures between { AreZero 44 60 result }
     ensures behind { AreZero 68 512 result }
 {
-    let GameSlot { first, sizes } = *game;
+    let GameSlot {
+        packing,
+        first,
+        sizes,
+    } = *game;
     let mut root = empty_slot();
-    put_word(&mut root, 4, PACKING);
+    put_word(&mut root, 4, number_of_packing(packing));
     put_long(&mut root, 8, commits);
     put_word(&mut root, 16, first);
     put_word(&mut root, 20, sizes.text);

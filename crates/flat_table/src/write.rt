@@ -18,10 +18,11 @@ ghost use Rattle.flat_table.specs.aid.Steps.{LetsGo, IsExchanged, IsSlotOf, IsRe
 use crate::slot::{GameSlot, game_slot};
 use page_chain::write_chain;
 use page_store::{PageFault, Pages};
+use position_pack::PackingKind;
 use std::alloc::Global;
 use table_bytes::{Sizes, Written};
 
-/// Writes a chain with these bytes on free pages, and commits a root that names it in the place of the one that names the
+/// Writes a chain with these bytes on free pages, and commits a root that names it and this packing in the place of the one that names the
 /// old chain, whose pages are free then. The new root tells this count of commits. Answers the pages of the new chain.
 /// After a refusal the store is as after the last commit, or closed; it is closed by `Disk` alone.
 ///
@@ -31,6 +32,7 @@ pub fn save<P: Pages>(
     store: &mut P,
     commits: u64,
     old: &[u32],
+    packing: PackingKind,
     written: &Written,
 ) -> Result<Vec<u32>, PageFault>
     requires there { (p : ℕ) → Contains old.now p → (1 ≤ p) × (p < length (P.store store.old).marks) }
@@ -38,11 +40,11 @@ pub fn save<P: Pages>(
     ensures commits { OnOk result (commits_in (P.store store.new).root ≡ commits) }
     ensures root { OnErr result ((P.store store.new).root ≡ (P.store store.old).root) }
     ensures stop { (was : Option Kept) (is : Kept) → IsBacked (P.store store.old) old.now was
-        → AreBytesOf is written.now.sizes written.now.bytes.items
+        → AreBytesOf is packing written.now.sizes written.now.bytes.items
         → IsTrue (P.store store.old).disk.honest → (P.store store.old).closed ≡ false
         → LeavesEither Stores (P.store store.old).disk (P.store store.new).disk was (Some is) }
     ensures done { (was : Option Kept) (is : Kept) → IsBacked (P.store store.old) old.now was
-        → AreBytesOf is written.now.sizes written.now.bytes.items
+        → AreBytesOf is packing written.now.sizes written.now.bytes.items
         → IfOk result (λ pages. IsBacked (P.store store.new) pages.items (Some is)) }
     ensures pages { IfOk result (λ pages. (p : ℕ) → Contains pages.items p → (1 ≤ p) × (p < length (P.store store.new).marks)) }
     ensures freed { OnOk result ((p : ℕ) → Contains old.now p → mark_of (P.store store.old).marks p ≢ Waiting
@@ -57,7 +59,7 @@ pub fn save<P: Pages>(
     ensures still { IfErr result (λ fault. fault ≢ PageFault.Disk → (P.store store.new).closed ≡ (P.store store.old).closed) }
     ensures cause { IfErr result (SaveCause (length written.now.bytes.items) (P.store store.old) (P.store store.new)) }
 {
-    match replace(alloc, store, commits, old, written) {
+    match replace(alloc, store, commits, old, packing, written) {
         Ok(pages) => Ok(pages),
         Err(fault) => {
             store.discard();
@@ -72,12 +74,13 @@ fn replace<P: Pages>(
     store: &mut P,
     commits: u64,
     old: &[u32],
+    packing: PackingKind,
     written: &Written,
 ) -> Result<Vec<u32>, PageFault>
     requires there { (p : ℕ) → Contains old.now p → (1 ≤ p) × (p < length (P.store store.old).marks) }
     ensures ok { IfOk result (λ pages.
-        IsReplaced old.now pages.items written.now.sizes written.now.bytes.items (P.store store.old) (P.store store.new)) }
-    ensures err { IfErr result (IsLeft old.now written.now.sizes written.now.bytes.items (P.store store.old) (P.store store.new)) }
+        IsReplaced old.now pages.items packing written.now.sizes written.now.bytes.items (P.store store.old) (P.store store.new)) }
+    ensures err { IfErr result (IsLeft old.now packing written.now.sizes written.now.bytes.items (P.store store.old) (P.store store.new)) }
     ensures commits { OnOk result (commits_in (P.store store.new).root ≡ commits) }
     ensures root { OnErr result ((P.store store.new).root ≡ (P.store store.old).root) }
 {
@@ -85,7 +88,7 @@ fn replace<P: Pages>(
         return Err(PageFault::Closed);
     }
     let pages = exchange(alloc, store, old, &written.bytes)?;
-    let root = slot_of(commits, &pages, written.sizes);
+    let root = slot_of(commits, &pages, packing, written.sizes);
     store.commit(&root)?;
     Ok(pages)
 }
@@ -119,10 +122,15 @@ fn release_all<P: Pages>(store: &mut P, pages: &[u32])
 }
 
 /// The slot that names a chain of these pages, after so many commits.
-fn slot_of(commits: u64, pages: &[u32], sizes: Sizes) -> [u8; 512]
+fn slot_of(commits: u64, pages: &[u32], packing: PackingKind, sizes: Sizes) -> [u8; 512]
     ensures commits { commits_in result ≡ commits }
-    ensures names { IsSlotOf (first_of pages.now) sizes result }
+    ensures names { IsSlotOf (first_of pages.now) packing sizes result }
 {
     let first = pages.first().copied().unwrap_or(0);
-    game_slot(commits, &GameSlot { first, sizes })
+    let game = GameSlot {
+        packing,
+        first,
+        sizes,
+    };
+    game_slot(commits, &game)
 }

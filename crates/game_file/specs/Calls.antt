@@ -2,7 +2,7 @@
 use Rattle.std.specs.Prelude.{◌≡◌, ℕ, ◌/◌, min, false, None, Some, IsTrue}
 use Rattle.sector_disk.specs.Disk.{Disk, size, LeavesOnly, MayLeave}
 use Rattle.root_pair.specs.Root.{Begins}
-use Rattle.game_file.specs.Kept.{Kept, Layout, text_kept}
+use Rattle.game_file.specs.Kept.{Kept, Layout, packing_kept, text_kept}
 use Rattle.game_file.specs.State.{State, GoesAhead, GoesFrom, count_behind}
 use Rattle.game_file.specs.Stops.{LeavesNow, LeavesTable, LeavesEither, OldOrEmpty}
 
@@ -40,6 +40,7 @@ module _ (Stores : Layout) where
   pub record IsPut (is : Kept) (old new : State) : Type 0 where
     pub commits : new.commits ≡ count_behind old.commits
     pub text : text_kept new.kept ≡ Some is.text
+    pub packing : packing_kept new.kept ≡ Some is.packing
     pub kept : IsTrue old.disk.honest → new.kept ≡ Some is
     pub is_open : new.closed ≡ false
     pub leaves : IsTrue old.disk.honest → LeavesEither Stores old.disk new.disk old.kept (Some is)
@@ -48,6 +49,7 @@ module _ (Stores : Layout) where
   pub record IsNotPut (is : Kept) (old new : State) : Type 0 where
     pub commits : new.commits ≡ old.commits
     pub text : text_kept new.kept ≡ text_kept old.kept
+    pub packing : packing_kept new.kept ≡ packing_kept old.kept
     pub kept : IsTrue old.disk.honest → new.kept ≡ old.kept
     pub leaves : IsTrue old.disk.honest → new.closed ≡ false → LeavesTable Stores old.disk new.disk old.kept
     pub either : IsTrue old.disk.honest → old.closed ≡ false → LeavesEither Stores old.disk new.disk old.kept (Some is)
@@ -57,6 +59,7 @@ module _ (Stores : Layout) where
     pub ahead : GoesAhead old new
     pub commits : new.commits ≡ old.commits
     pub text : text_kept new.kept ≡ text_kept old.kept
+    pub packing : packing_kept new.kept ≡ packing_kept old.kept
     pub kept : IsTrue old.disk.honest → new.kept ≡ old.kept
     pub leaves : IsTrue old.disk.honest → old.closed ≡ false → LeavesTable Stores old.disk new.disk old.kept
 
@@ -66,6 +69,7 @@ module _ (Stores : Layout) where
     pub ahead : GoesAhead old new
     pub commits : new.commits ≡ old.commits
     pub text : text_kept new.kept ≡ text_kept old.kept
+    pub packing : packing_kept new.kept ≡ packing_kept old.kept
     pub kept : IsTrue old.disk.honest → new.kept ≡ old.kept
     pub closed : new.closed ≡ old.closed
     pub leaves : IsTrue old.disk.honest → LeavesOnly old.disk new.disk (MayLeave old.disk.now)

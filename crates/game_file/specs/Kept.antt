@@ -2,20 +2,27 @@
 use Rattle.std.specs.Prelude.{ℕ, List, Option, None, Some}
 use Rattle.sector_disk.specs.Disk.{Picture}
 use Rattle.retrograde.specs.Stored.{Stored}
+use Rattle.position_pack.specs.declared.kind.PackingKind.{PackingKind}
 
--- what is kept of a game: its text, and its table
+-- what is kept of a game: its text, how its positions are packed, and its table
 pub record Kept : Type 0 where
   pub text : List ℕ
+  pub packing : PackingKind
   pub table : Stored (List ℕ)
 
--- a text and a table
-abbrev pub kept_as : List ℕ → Stored (List ℕ) → Kept
-kept_as t s = record { text = t; table = s }
+-- a text, a packing and a table
+abbrev pub kept_as : List ℕ → PackingKind → Stored (List ℕ) → Kept
+kept_as t p s = record { text = t; packing = p; table = s }
 
 -- the text of what is kept, if a game is loaded
 abbrev pub text_kept : Option Kept → Option (List ℕ)
 text_kept None = None
 text_kept (Some kept) = Some kept.text
+
+-- how the positions of what is kept are packed, if a game is loaded
+abbrev pub packing_kept : Option Kept → Option PackingKind
+packing_kept None = None
+packing_kept (Some kept) = Some kept.packing
 
 -- which picture of a disk stores which table, or that none of a game is there: each layout of a file says it in its own way
 abbrev pub Layout : Type 1

@@ -4,7 +4,7 @@ use Rattle.sector_disk.specs.Disk.{Disk, size, GoesOn}
 use Rattle.game_file.specs.Kept.{Kept}
 
 -- its disk, how often that has failed, how many pages there are, whether a write or a sync has failed since it was opened, how many
--- commits it counts since it was made, and the text and table of the last one, if a game is loaded
+-- commits it counts since it was made, and the text, packing and table of the last one, if a game is loaded
 pub record State : Type 0 where
   pub disk : Disk
   pub failures : ℕ

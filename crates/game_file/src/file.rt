@@ -5,14 +5,14 @@ ghost use Rattle.sector_disk.specs.Disk.{Picture};
 ghost use Rattle.root_pair.specs.Root.{IsTablePicture};
 ghost use Rattle.retrograde.specs.Stored.{IsTable, loaded};
 ghost use Rattle.table.specs.declared.fault.TableFault.{TableFault};
-ghost use Rattle.game_file.specs.Kept.{Kept, Layout, Older, kept_as, text_kept};
+ghost use Rattle.game_file.specs.Kept.{Kept, Layout, Older, kept_as, packing_kept, text_kept};
 ghost use Rattle.game_file.specs.State.{State, GoesAhead};
 ghost use Rattle.game_file.specs.Stops.{LeavesNow};
 ghost use Rattle.game_file.specs.Calls.{IsOpenedFile, IsNotOpened, IsCreatedFile, IsNotCreated, IsPut, IsNotPut, IsKept, IsAsked};
 ghost use Rattle.game_file.specs.Causes.{FileOpenCause, FileCreateCause, FileLoadCause, FileCommitCause, FileTableCause};
 
 use crate::{FileFault, Refused};
-use position_pack::Packed;
+use position_pack::{Packed, PackingKind};
 use sector_disk::SectorDisk;
 use std::alloc::Global;
 use table::Table;
@@ -67,20 +67,25 @@ pub trait GameFile: Table {
         ensures some { IfSome result (λ text. text_kept (state self.now).kept ≡ Some text.now) }
         ensures none { IfNone result ((state self.now).kept ≡ None) };
 
+    /// How the positions are packed, if a game is loaded. It takes no memory and always answers.
+    fn packing(&self) -> Option<PackingKind>
+        ensures some { IfSome result (λ packing. packing_kept (state self.now).kept ≡ Some packing) }
+        ensures none { IfNone result ((state self.now).kept ≡ None) };
+
     /// Whether a write or a sync has failed; the file has then to be opened again. It takes no memory and always answers.
     fn is_closed(&self) -> bool
         ensures { result ≡ (state self.now).closed };
 
-    /// Commits the table of a game that is loaded now, its start and no more, where none was: E9, E1, E7, E8. After a refusal there
-    /// is still none, but that after E1 in a write or a sync the file is closed, and the disk has the one or the other.
-    fn load(&mut self, text: &[u8], start: &Packed) -> Result<(), FileFault>
+    /// Commits the table of a game that is loaded now, its start and no more, where none was, with this packing: E9, E1, E7, E8. After
+    /// a refusal there is still none, but that after E1 in a write or a sync the file is closed, and the disk has the one or the other.
+    fn load(&mut self, text: &[u8], packing: PackingKind, start: &Packed) -> Result<(), FileFault>
         requires { length text.now ≤ 65536 }
         ensures ahead { GoesAhead (state self.old) (state self.new) }
         ensures whole { is_whole self.old → is_whole self.new }
         ensures ok { is_whole self.old → (state self.old).kept ≡ None
-            → OnOk result (IsPut stores (kept_as text.now (loaded start.now.items)) (state self.old) (state self.new)) }
+            → OnOk result (IsPut stores (kept_as text.now packing (loaded start.now.items)) (state self.old) (state self.new)) }
         ensures err { is_whole self.old → (state self.old).kept ≡ None
-            → OnErr result (IsNotPut stores (kept_as text.now (loaded start.now.items)) (state self.old) (state self.new)) }
+            → OnErr result (IsNotPut stores (kept_as text.now packing (loaded start.now.items)) (state self.old) (state self.new)) }
         ensures cause { is_whole self.old → (state self.old).kept ≡ None → (state self.old).closed ≡ false
             → IfErr result (FileLoadCause start.now.items (state self.old) (state self.new)) }
         ensures still { IfErr result (λ fault. fault ≢ FileFault.Disk → (state self.new).closed ≡ (state self.old).closed) };
@@ -92,10 +97,12 @@ pub trait GameFile: Table {
         ensures ahead { GoesAhead (state self.old) (state self.new) }
         ensures ok { (was : Self) (kept : Kept) → is_whole was → (state was).kept ≡ Some kept → Self.goes_on was self.old
             → (IsTrue (state was).disk.honest → IsTable (Self.stored self.old))
-            → OnOk result (is_whole self.new × IsPut stores (kept_as kept.text (Self.stored self.old)) (state was) (state self.new)) }
+            → OnOk result (is_whole self.new × IsPut stores (kept_as kept.text kept.packing (Self.stored self.old)) (state was)
+            (state self.new)) }
         ensures err { (was : Self) (kept : Kept) → is_whole was → (state was).kept ≡ Some kept → Self.goes_on was self.old
             → (IsTrue (state was).disk.honest → IsTable (Self.stored self.old))
-            → OnErr result (is_whole self.new × IsNotPut stores (kept_as kept.text (Self.stored self.old)) (state was) (state self.new)) }
+            → OnErr result (is_whole self.new × IsNotPut stores (kept_as kept.text kept.packing (Self.stored self.old)) (state was)
+            (state self.new)) }
         ensures cause { (was : Self) (kept : Kept) → is_whole was → (state was).kept ≡ Some kept → Self.goes_on was self.old
             → IfErr result (FileCommitCause kept.table (Self.stored self.old) (state was) (state self.new)) }
         ensures still { (was : Self) → Self.goes_on was self.old

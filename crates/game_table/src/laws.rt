@@ -4,6 +4,7 @@ ghost use Rattle.rbg_game.specs.Games.{Game};
 ghost use Rattle.rbg_game.specs.Positions.{IsPositionOf};
 ghost use Rattle.rbg_text.specs.Token.{Text};
 ghost use Rattle.rbg_read.specs.Reading.{Reads};
+ghost use Rattle.position_pack.specs.declared.kind.PackingKind.{PackingKind};
 ghost use Rattle.legal_moves.specs.Moves.{start_of};
 ghost use Rattle.legal_moves.specs.Sources.{IsPositionBytes, IsWideAt, graph_of};
 ghost use Rattle.retrograde.specs.Stored.{Stored, loaded};
@@ -23,18 +24,19 @@ pub fn starts_are_positions()
 
 /// The positions of a game have as many bytes as each other.
 pub fn positions_have_one_length()
-    ensures { (game : Game) (x : List ℕ) → IsPositionBytes game x → length x ≡ packed_length game }
+    ensures { (kind : PackingKind) (game : Game) (x : List ℕ) → IsPositionBytes kind game x → length x ≡ packed_length kind game }
 {}
 
 /// A table that agrees with itself at each number stores positions of the game alone, so its parts fit together and its
 /// positions have their length.
 pub fn sound_tables_fit()
-    ensures { (game : Game) (stored : Stored (List ℕ)) → IsPositionOf game (start_of game)
-        → IsLocallySound (graph_of game) (IsWideAt game) stored
-        → ArePositions game stored × FitsTogether (packed_length game) stored }
+    ensures { (kind : PackingKind) (game : Game) (stored : Stored (List ℕ)) → IsPositionOf game (start_of game)
+        → IsLocallySound (graph_of kind game) (IsWideAt kind game) stored
+        → ArePositions kind game stored × FitsTogether (packed_length kind game) stored }
 {}
 
 /// The table of a game that was just loaded agrees with itself at each number.
 pub fn a_first_table_is_sound()
-    ensures { (game : Game) → IsLocallySound (graph_of game) (IsWideAt game) (loaded (graph_of game).start) }
+    ensures { (kind : PackingKind) (game : Game)
+        → IsLocallySound (graph_of kind game) (IsWideAt kind game) (loaded (graph_of kind game).start) }
 {}

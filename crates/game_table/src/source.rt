@@ -7,7 +7,7 @@ ghost use Rattle.rbg_game.specs.Positions.{IsPositionOf};
 ghost use Rattle.rbg_read.specs.Reading.{Reads, Fault};
 ghost use Rattle.legal_moves.specs.Moves.{start_of};
 ghost use Rattle.legal_moves.specs.Sources.{IsPositionBytes, IsWideAt, graph_of};
-ghost use Rattle.legal_moves.specs.Compiled.{compiled_game};
+ghost use Rattle.legal_moves.specs.Compiled.{compiled_game, packing_kind};
 ghost use Rattle.retrograde.specs.Stored.{IsTable};
 ghost use Rattle.retrograde.specs.Sound.{IsLocallySound};
 ghost use Rattle.frontier.specs.Causes.{Leaves};
@@ -17,7 +17,7 @@ ghost use Rattle.table.specs.Faults.{NeedsNoPage};
 
 use crate::packings::are_packed;
 use legal_moves::{Compiled, MoveSource};
-use position_pack::{Packed, Packing};
+use position_pack::{Packed, PackingKind};
 use rbg_game::game::Game;
 use rbg_read::fault::GameFault;
 use rbg_read::read::read_game;
@@ -51,9 +51,10 @@ impl Model for Source {
 
 impl Source {
     /// The game that a text reads to, or the first cause for which it is no game. A text that reads to a game is refused
-    /// for want of memory alone.
-    pub fn read(alloc: Global, text: &[u8]) -> Result<Source, GameFault>
+    /// for want of memory alone. Its positions are packed by the packing of this kind.
+    pub fn read(alloc: Global, text: &[u8], kind: PackingKind) -> Result<Source, GameFault>
         ensures reads { IfOk result (λ source. Reads text.now (compiled_game source)) }
+        ensures packing { IfOk result (λ source. packing_kind source ≡ kind) }
         ensures one { (game : TextbookGame) → Reads text.now game → IfOk result (λ source. compiled_game source ≡ game) }
         ensures fault { IfErr result (λ fault. fault ≢ GameFault.OutOfMemory → Fault text.now fault) }
         ensures only { (game : TextbookGame) → Reads text.now game → IfErr result (λ fault. fault ≡ GameFault.OutOfMemory) }
@@ -61,7 +62,7 @@ impl Source {
         ensures start { IfOk result (λ source. IsPositionOf (compiled_game source) (start_of (compiled_game source))) }
     {
         let game = read_game(alloc, text)?;
-        let compiled = Compiled::new(alloc, game)?;
+        let compiled = Compiled::new(alloc, game, kind)?;
         Ok(Source { compiled })
     }
 
@@ -82,9 +83,9 @@ impl Source {
 
     /// The bytes of the start.
     pub fn start(&self) -> Packed
-        ensures start { result.items ≡ (graph_of (compiled_game self.now)).start }
-        ensures position { IsPositionBytes (compiled_game self.now) result.items }
-        ensures long { length result.items ≡ packed_length (compiled_game self.now) }
+        ensures start { result.items ≡ (graph_of (packing_kind self.now) (compiled_game self.now)).start }
+        ensures position { IsPositionBytes (packing_kind self.now) (compiled_game self.now) result.items }
+        ensures long { length result.items ≡ packed_length (packing_kind self.now) (compiled_game self.now) }
     {
         MoveSource::start(&self.compiled)
     }
@@ -92,7 +93,7 @@ impl Source {
     /// Whether each position of a table is one of the game, read one by one. The table stays as it was.
     pub fn are_positions<T: Table>(&self, table: &mut T) -> Result<bool, TableFault>
         ensures are { T.is_honest table.old → IfOk result
-            (λ are. (are ≡ true) ↔ ArePositions (compiled_game self.now) (T.stored table.old)) }
+            (λ are. (are ≡ true) ↔ ArePositions (packing_kind self.now) (compiled_game self.now) (T.stored table.old)) }
         ensures same { T.is_honest table.old → T.stored table.new ≡ T.stored table.old }
         ensures honest { T.is_honest table.old ↔ T.is_honest table.new }
         ensures counts { T.counted table.new ≡ T.counted table.old }
@@ -100,8 +101,7 @@ impl Source {
         ensures room { IfErr result NeedsNoPage }
         ensures fault { IfErr result (T.fails table.old table.new) }
     {
-        let packing = Packing::new(self.compiled.game());
-        are_packed(&packing, table)
+        are_packed(self.compiled.packing(), table)
     }
 
     /// Does so many units of work on a table of the game, or fewer where the table is finished by then, and answers how
@@ -114,15 +114,20 @@ impl Source {
         ensures limit { OnOk result ((T.counted table.new).known ≤ 2 ^ 24) }
         ensures honest { OnOk result (T.is_honest table.old ↔ T.is_honest table.new) }
         ensures idle { IfOk result (λ done. done ≡ 0 → table.new ≡ table.old) }
-        ensures works { T.is_honest table.old → IsLocallySound (graph_of (compiled_game self.now)) (IsWideAt (compiled_game self.now))
+        ensures works { T.is_honest table.old → IsLocallySound (graph_of (packing_kind self.now) (compiled_game self.now))
+            (IsWideAt (packing_kind self.now) (compiled_game self.now))
             (T.stored table.old)
-            → IfOk result (λ done. IsWorkOf (compiled_game self.now) units (T.stored table.old) done (T.stored table.new)) }
+            → IfOk result (λ done. IsWorkOf (packing_kind self.now) (compiled_game self.now) units
+                (T.stored table.old) done (T.stored table.new)) }
         ensures fits { T.is_honest table.old → IsTable (T.stored table.old) → OnOk result (IsTable (T.stored table.new)) }
-        ensures cause { T.is_honest table.old → IsLocallySound (graph_of (compiled_game self.now)) (IsWideAt (compiled_game self.now))
+        ensures cause { T.is_honest table.old → IsLocallySound (graph_of (packing_kind self.now) (compiled_game self.now))
+            (IsWideAt (packing_kind self.now) (compiled_game self.now))
             (T.stored table.old)
-            → IfErr result (StopsWith (graph_of (compiled_game self.now)) (IsWideAt (compiled_game self.now)) (T.stored table.old) units) }
+            → IfErr result (StopsWith (graph_of (packing_kind self.now) (compiled_game self.now))
+                (IsWideAt (packing_kind self.now) (compiled_game self.now)) (T.stored table.old) units) }
         ensures consistent { T.is_honest table.old
-            → IsLocallySound (graph_of (compiled_game self.now)) (IsWideAt (compiled_game self.now)) (T.stored table.old)
+            → IsLocallySound (graph_of (packing_kind self.now) (compiled_game self.now))
+            (IsWideAt (packing_kind self.now) (compiled_game self.now)) (T.stored table.old)
             → result ≡ Err StepFault.Inconsistent → ⊥ }
         ensures ahead { OnOk result (T.goes_on table.old table.new) }
         ensures left { IfErr result (Leaves (T.goes_on table.old table.new) (T.fails table.old table.new)) }

@@ -10,7 +10,14 @@ use Rattle.rbg_game.specs.declared.roles.Player.TheVariants.{First, Second}
 use Rattle.rbg_game.specs.declared.roles.Role.{Role}
 use Rattle.rbg_game.specs.declared.roles.Role.TheVariants as role
 use Rattle.rbg_game.specs.declared.position.Position.{Position}
-use Rattle.position_pack.specs.Fields.{role_code}
+use Rattle.position_pack.specs.declared.kind.PackingKind.{PackingKind}
+use Rattle.position_pack.specs.declared.kind.PackingKind.TheVariants.{Bytes, Bits}
+use Rattle.position_pack.specs.Shape.{shape_of}
+use Rattle.position_pack.specs.Fields.{role_code, fields_of}
+use Rattle.position_pack.specs.Bits.{field_at}
+use Rattle.position_pack.proofs.NumberLemmas.{field_is}
+use Rattle.std.proofs.lemmas.List.{length-append}
+use Rattle.std.proofs.Math.ListN.{get_or-append}
 use Rattle.position_pack.proofs.ShapeLemmas.{fits, small_shape}
 use Rattle.position_pack.proofs.PartLemmas.{length-spelled, last_bytes}
 use Rattle.position_pack.proofs.ValueBytes.{spelled, spelled-cons}
@@ -84,12 +91,12 @@ leads : (a b : ℕ) (at : Position) (w : Player) → a ≡ score First at.state 
 leads a b at First e f = let h = leads_first a b in (λ l. omega (arith, h.0 l, e, f), λ l. h.1 (omega (arith, l, e, f)))
 leads a b at Second e f = let h = leads_second a b in (λ l. omega (arith, h.0 l, e, f), λ l. h.1 (omega (arith, l, e, f)))
 
-module _ (game : Game) (sound : IsSoundGame game) (x : List ℕ) (at : Position) (here : IsAt game x at) where
+module _ (game : Game) (sound : IsSoundGame game) (x : List ℕ) (at : Position) (here : IsAt Bytes game x at) where
   whole : x ≡ at.state.pieces.items ++ (spelled at.state.values.items ++ last_bytes at)
   whole = here.bytes_are ∙ append_assoc at.state.pieces.items (spelled at.state.values.items) (last_bytes at)
 
-  pub role_is : role_in game x ≡ at.state.mover
-  role_is =
+  by_bytes_role : role_in Bytes game x ≡ at.state.mover
+  by_bytes_role =
       let a = at.state.pieces.items in
       let b = spelled at.state.values.items in
       let many : length b ≡ 3 * length game.variables = length-spelled at.state.values.items ∙ ap (λ n. 3 * n) here.position_is.state_is.values_fit in
@@ -119,5 +126,54 @@ module _ (game : Game) (sound : IsSoundGame game) (x : List ℕ) (at : Position)
   second_is : value_in x (length game.vertices + 3) ≡ score Second at.state
   second_is = value_is 3 ∙ second_of_values at.state.values.items (last_bytes at) two (low 1 (omega (arith, two)))
 
-  pub leader_is : (w : Player) → (leader_in game x ≡ Some w) ↔ IsAhead w at
-  leader_is w = leads (value_in x (length game.vertices)) (value_in x (length game.vertices + 3)) at w first_is second_is
+  by_bytes_leader : (w : Player) → (leader_in Bytes game x ≡ Some w) ↔ IsAhead w at
+  by_bytes_leader w = leads (value_in x (length game.vertices)) (value_in x (length game.vertices + 3)) at w first_is second_is
+
+module _ (game : Game) (sound : IsSoundGame game) (x : List ℕ) (at : Position) (here : IsAt Bits game x at) where
+  abbrev front : List ℕ
+  front = at.state.pieces.items ++ at.state.values.items
+
+  abbrev last : List ℕ
+  last = at.state.vertex ∷ role_code at.state.mover ∷ at.place ∷ []
+
+  pieces : length at.state.pieces.items ≡ length game.vertices
+  pieces = here.position_is.state_is.pieces_fit
+
+  values : length at.state.values.items ≡ length game.variables
+  values = here.position_is.state_is.values_fit
+
+  many : length front ≡ length game.vertices + length game.variables
+  many = length-append at.state.pieces.items at.state.values.items ∙ omega (arith, pieces, values)
+
+  -- a field of the position is read from its bytes
+  field : (k : ℕ) → k < length (fields_of at) → field_at (shape_of game) k x ≡ slice_index (fields_of at) k
+  field k lt =
+      ap (field_at (shape_of game) k) here.bytes_are ∙ field_is (shape_of game) at k (small_shape game sound) (fits game at here.position_is) lt
+
+  all : length (fields_of at) ≡ length game.vertices + length game.variables + 3
+  all = length-append front last ∙ omega (arith, many)
+
+  by_bits_role : role_in Bits game x ≡ at.state.mover
+  by_bits_role =
+      ap role_by (field (length game.vertices + length game.variables + 1) (omega (arith, all)) ∙ behind front last (length game.vertices + length game.variables) 1 many)
+      ∙ role_back at.state.mover
+
+  score_at : (v : ℕ) → v < 2 → field_at (shape_of game) (length game.vertices + v) x ≡ slice_index at.state.values.items v
+  score_at v lt =
+      field (length game.vertices + v) (omega (arith, all, lt, sound.has_players))
+      ∙ ap (λ xs. slice_index xs (length game.vertices + v)) (append_assoc at.state.pieces.items at.state.values.items last)
+      ∙ behind at.state.pieces.items (at.state.values.items ++ last) (length game.vertices) v pieces
+      ∙ get_or-append at.state.values.items last 0 v (omega (arith, lt, values, sound.has_players))
+
+  by_bits_leader : (w : Player) → (leader_in Bits game x ≡ Some w) ↔ IsAhead w at
+  by_bits_leader w =
+      leads (field_at (shape_of game) (length game.vertices) x) (field_at (shape_of game) (length game.vertices + 1) x) at w
+      (ap (λ k. field_at (shape_of game) k x) (let h : length game.vertices ≡ length game.vertices + 0 = omega arith in h) ∙ score_at 0 (omega arith)) (score_at 1 (omega arith))
+
+pub role_is : (kind : PackingKind) (game : Game) → IsSoundGame game → (x : List ℕ) (at : Position) → IsAt kind game x at → role_in kind game x ≡ at.state.mover
+role_is Bytes game sound x at here = by_bytes_role game sound x at here
+role_is Bits game sound x at here = by_bits_role game sound x at here
+
+pub leader_is : (kind : PackingKind) (game : Game) → IsSoundGame game → (x : List ℕ) (at : Position) → IsAt kind game x at → (w : Player) → (leader_in kind game x ≡ Some w) ↔ IsAhead w at
+leader_is Bytes game sound x at here = by_bytes_leader game sound x at here
+leader_is Bits game sound x at here = by_bits_leader game sound x at here

@@ -32,5 +32,12 @@ fits game x state place = record {
 
 pub bytes_tell : (game : Game) (x y : Position) → IsSoundGame game → IsStateOf game x.state → IsStateOf game y.state → x.place ≤ 4096 → y.place ≤ 4096 → bytes_of x ≡ bytes_of y → x ≡ y
 bytes_tell game x y sound state_x state_y place_x place_y same =
-    let small : IsSmall (widest game) = record { few_actions = omega arith; low_bounds = (small_shape game sound).low_bounds } in
+    let here = small_shape game sound in
+    let small : IsSmall (widest game) = record {
+      few_pieces = here.few_pieces;
+      few_vertices = here.few_vertices;
+      few_values = here.few_values;
+      few_actions = omega arith;
+      low_bounds = here.low_bounds;
+    } in
     tell (widest game) x y small (fits game x state_x place_x) (fits game y state_y place_y) same

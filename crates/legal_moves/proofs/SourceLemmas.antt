@@ -4,10 +4,12 @@ use Rattle.std.proofs.lemmas.List.Elements.{All-weaker}
 use Rattle.rbg_game.specs.Games.{Game}
 use Rattle.rbg_game.specs.Sound.{IsSoundGame}
 use Rattle.rbg_game.specs.declared.position.Position.{Position}
-use Rattle.position_pack.specs.Shape.{Shape, shape_of}
-use Rattle.position_pack.specs.Bytes.{IsPacked}
+use Rattle.position_pack.specs.declared.kind.PackingKind.{PackingKind}
+use Rattle.position_pack.specs.declared.kind.PackingKind.TheVariants.{Bytes}
+use Rattle.position_pack.specs.Shape.{shape_of}
+use Rattle.position_pack.specs.Packings.{Form, form_of, IsPacked}
 use Rattle.position_pack.proofs.ShapeLemmas.{small_shape, fits, is_position}
-use Rattle.position_pack.proofs.OrderLemmas.{tell}
+use Rattle.position_pack.proofs.PackingLemmas.{packed_tell}
 use Rattle.legal_moves.specs.Searches.{IsWide}
 use Rattle.legal_moves.specs.Listed.{ListsExactly, IsSuccessorBytes}
 use Rattle.legal_moves.specs.Sources.{IsAt, IsMoveBetween, IsWideAt}
@@ -29,35 +31,35 @@ none_listed P none = record {
 }
 
 -- unpacked bytes are at the position
-pub at_by_packed : (game : Game) (shape : Shape) (x : List ℕ) (at : Position) → shape ≡ shape_of game → IsPacked shape at x → IsAt game x at
-at_by_packed game shape x at same h =
-    let packed = subst (λ s. IsPacked s at x) same h in
+pub at_by_packed : (kind : PackingKind) (game : Game) (form : Form) (x : List ℕ) (at : Position) → form ≡ form_of kind game → IsPacked form at x → IsAt kind game x at
+at_by_packed kind game form x at same h =
+    let packed = subst (λ f. IsPacked f at x) same h in
     record { position_is = is_position game at packed.fits; bytes_are = packed.bytes_are }
 
-pub packed_by_at : (game : Game) (shape : Shape) (x : List ℕ) (at : Position) → shape ≡ shape_of game → IsAt game x at → IsPacked shape at x
-packed_by_at game shape x at same h =
-    subst (λ s. IsPacked s at x) (sym same) (record { fits = fits game at h.position_is; bytes_are = h.bytes_are })
+pub packed_by_at : (kind : PackingKind) (game : Game) (form : Form) (x : List ℕ) (at : Position) → form ≡ form_of kind game → IsAt kind game x at → IsPacked form at x
+packed_by_at kind game form x at same h =
+    subst (λ f. IsPacked f at x) (sym same) (record { fits = fits game at h.position_is; bytes_are = h.bytes_are })
 
-module _ (game : Game) (sound : IsSoundGame game) where
+module _ (kind : PackingKind) (game : Game) (sound : IsSoundGame game) where
   -- bytes are those of one position
-  pub one_position : (x : List ℕ) (at other : Position) → IsAt game x at → IsAt game x other → other ≡ at
+  pub one_position : (x : List ℕ) (at other : Position) → IsAt kind game x at → IsAt kind game x other → other ≡ at
   one_position x at other h k =
-      tell (shape_of game) other at (small_shape game sound) (fits game other k.position_is) (fits game at h.position_is) (sym k.bytes_are ∙ h.bytes_are)
+      packed_tell kind (shape_of game) other at (small_shape game sound) (fits game other k.position_is) (fits game at h.position_is) (sym k.bytes_are ∙ h.bytes_are)
 
-  -- the moves from a position are those between its bytes and others
-  pub lists_between : (x : List ℕ) (at : Position) (xs : List (List ℕ)) → IsAt game x at → ListsExactly (IsSuccessorBytes game at) xs → ListsExactly (IsMoveBetween game x) xs
-  lists_between x at xs here =
-      alike (IsSuccessorBytes game at) (IsMoveBetween game x) xs
-      (λ y (next, bytes, leads). (at, next, here, record { position_is = position_of game at next sound here.position_is leads; bytes_are = bytes }, leads))
-      (λ y (other, next, from, to, leads). subst (λ p. IsSuccessorBytes game p y) (one_position x at other here from) (next, to.bytes_are, leads))
-
-  pub narrow_at : (x : List ℕ) (at : Position) → IsAt game x at → ¬ IsWide game at → ¬ IsWideAt game x
+  pub narrow_at : (x : List ℕ) (at : Position) → IsAt kind game x at → ¬ IsWide game at → ¬ IsWideAt kind game x
   narrow_at x at here narrow (other, there, wide) = narrow (subst (IsWide game) (one_position x at other here there) wide)
 
--- bytes that are no position have no successor, and are not too wide
-module _ (game : Game) (x : List ℕ) (none : (at : Position) → ¬ IsAt game x at) where
-  pub lists_none : ListsExactly (IsMoveBetween game x) []
-  lists_none = none_listed (IsMoveBetween game x) (λ y m. none m.0 m.2)
+-- the moves from a position are those between its bytes and others
+pub lists_between : (game : Game) → IsSoundGame game → (x : List ℕ) (at : Position) (xs : List (List ℕ)) → IsAt Bytes game x at → ListsExactly (IsSuccessorBytes game at) xs → ListsExactly (IsMoveBetween Bytes game x) xs
+lists_between game sound x at xs here =
+    alike (IsSuccessorBytes game at) (IsMoveBetween Bytes game x) xs
+    (λ y (next, bytes, leads). (at, next, here, record { position_is = position_of game at next sound here.position_is leads; bytes_are = bytes }, leads))
+    (λ y (other, next, from, to, leads). subst (λ p. IsSuccessorBytes game p y) (one_position Bytes game sound x at other here from) (next, to.bytes_are, leads))
 
-  pub never_wide : ¬ IsWideAt game x
+-- bytes that are no position have no successor, and are not too wide
+module _ (kind : PackingKind) (game : Game) (x : List ℕ) (none : (at : Position) → ¬ IsAt kind game x at) where
+  pub lists_none : ListsExactly (IsMoveBetween kind game x) []
+  lists_none = none_listed (IsMoveBetween kind game x) (λ y m. none m.0 m.2)
+
+  pub never_wide : ¬ IsWideAt kind game x
   never_wide (at, here, wide) = none at here

@@ -7,6 +7,7 @@ use Rattle.rbg_game.specs.Sound.{IsSoundAction, IsSoundExpression, IsSoundGame}
 use Rattle.rbg_game.specs.declared.roles.Player.{Player}
 use Rattle.rbg_game.specs.declared.position.SemiState.{SemiState}
 use Rattle.rbg_game.specs.declared.position.Position.{Position}
+use Rattle.position_pack.specs.declared.kind.PackingKind.{PackingKind}
 use Rattle.legal_moves.specs.Words.{CanFollow}
 use Rattle.legal_moves.specs.Effects.{Effect, EffectAt}
 use Rattle.retrograde.specs.Graph.{IsEnded, IsReachable}
@@ -49,13 +50,14 @@ SuccessorsArePositions =
 -- the bytes of a position of a game say who has the turn, and who is ahead
 abbrev pub BytesSayMoverAndLeader : Type 0
 BytesSayMoverAndLeader =
-    (game : Game) (x : List ℕ) (at : Position) → IsSoundGame game → IsAt game x at
-    → (role_in game x ≡ at.state.mover) × ((w : Player) → (leader_in game x ≡ Some w) ↔ IsAhead w at)
+    (kind : PackingKind) (game : Game) (x : List ℕ) (at : Position) → IsSoundGame game → IsAt kind game x at
+    → (role_in kind game x ≡ at.state.mover) × ((w : Player) → (leader_in kind game x ≡ Some w) ↔ IsAhead w at)
 
 -- bytes are those of one position of a game at most
 abbrev pub BytesAreOfOnePosition : Type 0
 BytesAreOfOnePosition =
-    (game : Game) (x : List ℕ) (at other : Position) → IsSoundGame game → IsAt game x at → IsAt game x other → other ≡ at
+    (kind : PackingKind) (game : Game) (x : List ℕ) (at other : Position) → IsSoundGame game → IsAt kind game x at
+    → IsAt kind game x other → other ≡ at
 
 -- what is small for the bounds of a game is small for the values of each of its states, and names values that are there
 abbrev pub SoundExpressionsAreSmall : Type 0
@@ -72,9 +74,11 @@ ValuesFitTheMachine =
 -- no move leads from a position exactly where none leads from its bytes in the graph of the game
 abbrev pub EndsAgree : Type 0
 EndsAgree =
-    (game : Game) (x : List ℕ) (at : Position) → IsSoundGame game → IsAt game x at → HasNoMove game at ↔ IsEnded (graph_of game) x
+    (kind : PackingKind) (game : Game) (x : List ℕ) (at : Position) → IsSoundGame game → IsAt kind game x at
+    → HasNoMove game at ↔ IsEnded (graph_of kind game) x
 
 -- plays come to a position exactly where it is one of the game and its bytes can be reached in the graph
 abbrev pub PlaysAgree : Type 0
 PlaysAgree =
-    (game : Game) (at : Position) → IsSoundGame game → Reach game at ↔ ((x : List ℕ) × IsAt game x at × IsReachable (graph_of game) x)
+    (kind : PackingKind) (game : Game) (at : Position) → IsSoundGame game
+    → Reach game at ↔ ((x : List ℕ) × IsAt kind game x at × IsReachable (graph_of kind game) x)

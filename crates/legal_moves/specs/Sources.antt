@@ -7,37 +7,42 @@ use Rattle.rbg_game.specs.declared.roles.Player.TheVariants.{First, Second}
 use Rattle.rbg_game.specs.declared.roles.Role.{Role}
 use Rattle.rbg_game.specs.declared.roles.Role.TheVariants as role
 use Rattle.rbg_game.specs.declared.position.Position.{Position}
-use Rattle.position_pack.specs.Bytes.{bytes_of}
+use Rattle.position_pack.specs.declared.kind.PackingKind.{PackingKind}
+use Rattle.position_pack.specs.declared.kind.PackingKind.TheVariants.{Bytes, Bits}
+use Rattle.position_pack.specs.Shape.{shape_of}
+use Rattle.position_pack.specs.Bits.{field_at}
+use Rattle.position_pack.specs.Packings.{packed_by}
 use Rattle.retrograde.specs.Graph.{Graph}
 use Rattle.legal_moves.specs.Moves.{IsSuccessor, start_of}
 use Rattle.legal_moves.specs.Searches.{IsWide}
 
--- the bytes are those of a position of the game
-pub record IsAt (game : Game) (x : List ℕ) (at : Position) : Type 0 where
+-- the bytes are those of a position of the game, by the packing of this kind
+pub record IsAt (kind : PackingKind) (game : Game) (x : List ℕ) (at : Position) : Type 0 where
   pub position_is : IsPositionOf game at
-  pub bytes_are : x ≡ bytes_of at
+  pub bytes_are : x ≡ packed_by kind (shape_of game) at
 
-abbrev pub IsPositionBytes : Game → List ℕ → Type 0
-IsPositionBytes game x = (at : Position) × IsAt game x at
+abbrev pub IsPositionBytes : PackingKind → Game → List ℕ → Type 0
+IsPositionBytes kind game x = (at : Position) × IsAt kind game x at
 
 -- a move leads from the position of the first bytes to that of the others
-abbrev pub IsMoveBetween : Game → List ℕ → List ℕ → Type 0
-IsMoveBetween game x y = (at next : Position) × IsAt game x at × IsAt game y next × IsSuccessor game at next
+abbrev pub IsMoveBetween : PackingKind → Game → List ℕ → List ℕ → Type 0
+IsMoveBetween kind game x y = (at next : Position) × IsAt kind game x at × IsAt kind game y next × IsSuccessor game at next
 
 -- the search for the moves of the position reaches too many
-abbrev pub IsWideAt : Game → List ℕ → Type 0
-IsWideAt game x = (at : Position) × IsAt game x at × IsWide game at
+abbrev pub IsWideAt : PackingKind → Game → List ℕ → Type 0
+IsWideAt kind game x = (at : Position) × IsAt kind game x at × IsWide game at
 
--- the role of a byte
+-- the role of a number
 abbrev pub role_by : ℕ → Role
 role_by zero = role.Keeper
 role_by (suc zero) = role.Player First
 role_by (suc (suc zero)) = role.Player Second
 role_by (suc (suc (suc n))) = role.Keeper
 
--- the byte of the role is after the pieces, the values and the vertex
-abbrev pub role_in : Game → List ℕ → Role
-role_in game x = role_by (slice_index x (length game.vertices + 3 * length game.variables + 1))
+-- the role is after the pieces, the values and the vertex
+abbrev pub role_in : PackingKind → Game → List ℕ → Role
+role_in Bytes game x = role_by (slice_index x (length game.vertices + 3 * length game.variables + 1))
+role_in Bits game x = role_by (field_at (shape_of game) (length game.vertices + length game.variables + 1) x)
 
 -- the number in three bytes, the highest first
 abbrev pub value_in : List ℕ → ℕ → ℕ
@@ -48,14 +53,16 @@ abbrev pub leader : ℕ → ℕ → Option Player
 leader first second = if nat_lt second first then Some First else if nat_lt first second then Some Second else None
 
 -- the scores are behind the pieces
-abbrev pub leader_in : Game → List ℕ → Option Player
-leader_in game x = leader (value_in x (length game.vertices)) (value_in x (length game.vertices + 3))
+abbrev pub leader_in : PackingKind → Game → List ℕ → Option Player
+leader_in Bytes game x = leader (value_in x (length game.vertices)) (value_in x (length game.vertices + 3))
+leader_in Bits game x =
+    leader (field_at (shape_of game) (length game.vertices) x) (field_at (shape_of game) (length game.vertices + 1) x)
 
--- the game as a graph of the bytes of its positions
-abbrev pub graph_of : Game → Graph (List ℕ)
-graph_of game = record {
-  start = bytes_of (start_of game);
-  mover = role_in game;
-  ahead = leader_in game;
-  Successor = IsMoveBetween game;
+-- the game as a graph of the bytes of its positions, by the packing of this kind
+abbrev pub graph_of : PackingKind → Game → Graph (List ℕ)
+graph_of kind game = record {
+  start = packed_by kind (shape_of game) (start_of game);
+  mover = role_in kind game;
+  ahead = leader_in kind game;
+  Successor = IsMoveBetween kind game;
 }

@@ -5,6 +5,7 @@ pub mod Going
 pub mod Looking
 pub mod Marks
 pub mod Relations
+pub mod Repacked
 pub mod Standing
 pub mod Searches
 pub mod Tables

@@ -12,11 +12,12 @@ use crate::copies::copied_state;
 use crate::fault::MoveFault;
 use crate::fields::{byte_at, leader_of, role_with, value_at};
 use crate::moves::Moves;
+use crate::repack::repacked;
 use crate::search::Searcher;
 use crate::source::MoveSource;
 use crate::table::Table;
 use arrayvec::ArrayVec;
-use position_pack::{Packed, Packing};
+use position_pack::{Packed, Packing, PackingKind};
 use rbg_game::game::Game;
 use rbg_game::position::{Position, SemiState};
 use rbg_game::roles::{Player, Role};
@@ -27,7 +28,10 @@ use std::alloc::{AllocError, Global};
 #[derive(Drop)]
 pub struct Compiled {
     game: Game,
+    /// By which positions are asked of and answered.
     packing: Packing,
+    /// By bytes, as `Moves` has its successors.
+    rows: Packing,
     /// Of the rules last, of each pattern before the table that it stands in.
     tables: Vec<Table>,
 }
@@ -40,20 +44,24 @@ impl Compiled {
     ghost use Rattle.legal_moves.specs.Moves.{start_of};
     ghost use Rattle.legal_moves.specs.Searches.{IsWide};
     ghost use Rattle.legal_moves.specs.Listed.{AreMoves, IsShortestMove};
-    ghost use Rattle.legal_moves.specs.Compiled.{compiled_game, IsCompiled};
+    ghost use Rattle.legal_moves.specs.Compiled.{compiled_game, packing_kind, IsCompiled};
+    ghost use Rattle.position_pack.specs.Packings.{form_of};
 
-    /// Makes the tables of the rules and of the patterns in them.
-    pub fn new(alloc: Global, game: Game) -> Result<Compiled, AllocError>
+    /// Makes the tables of the rules and of the patterns in them. Bytes of positions are by the packing of this kind.
+    pub fn new(alloc: Global, game: Game, kind: PackingKind) -> Result<Compiled, AllocError>
         requires { IsSoundGame (game_of game) }
         ensures game { IfOk result (λ c. compiled_game c ≡ game_of game) }
+        ensures kind { IfOk result (λ c. packing_kind c ≡ kind) }
         ensures compiled { IfOk result IsCompiled }
     {
         let mut tables = Vec::new(alloc);
         add_table(alloc, &mut tables, &game.rules)?;
-        let packing = Packing::new(&game);
+        let packing = Packing::new(&game, kind);
+        let rows = Packing::new(&game, PackingKind::Bytes);
         Ok(Compiled {
             game,
             packing,
+            rows,
             tables,
         })
     }
@@ -63,6 +71,14 @@ impl Compiled {
         ensures { game_of result.now ≡ compiled_game self.now }
     {
         &self.game
+    }
+
+    /// How positions are packed.
+    pub fn packing(&self) -> &Packing
+        requires { IsCompiled self.now }
+        ensures { result.now ≡ form_of (packing_kind self.now) (compiled_game self.now) }
+    {
+        &self.packing
     }
 
     /// The keeper to move, all values 0, the pieces of the board, the first vertex, place 0.
@@ -108,29 +124,29 @@ impl Compiled {
         let rules = self.tables.len() - 1;
         let state = copied_state(&at.state)?;
         let found = searcher.search(rules, at.place, state)?;
-        let moves = Moves::of(alloc, &self.packing, found)?;
+        let moves = Moves::of(alloc, found)?;
         Ok(moves)
     }
 }
 
 impl GameGraph for Compiled {
-    ghost use Rattle.legal_moves.specs.Compiled.{compiled_game};
+    ghost use Rattle.legal_moves.specs.Compiled.{compiled_game, packing_kind};
     ghost use Rattle.legal_moves.specs.Sources.{IsWideAt, graph_of};
 
-    ghost graph = { λ c. graph_of (compiled_game c) };
+    ghost graph = { λ c. graph_of (packing_kind c) (compiled_game c) };
 
-    ghost is_wide = { λ c. IsWideAt (compiled_game c) };
+    ghost is_wide = { λ c. IsWideAt (packing_kind c) (compiled_game c) };
 }
 
 impl MoveSource for Compiled {
     ghost use Rattle.std.specs.Prelude.{refl};
     ghost use Rattle.legal_moves.specs.Moves.{start_of};
-    ghost use Rattle.legal_moves.specs.Compiled.{compiled_game, IsCompiled};
+    ghost use Rattle.legal_moves.specs.Compiled.{compiled_game, packing_kind, IsCompiled};
     ghost use Rattle.legal_moves.specs.Sources.{IsPositionBytes};
 
     ghost is_sound = { IsCompiled };
 
-    ghost is_position = { λ c. IsPositionBytes (compiled_game c) };
+    ghost is_position = { λ c. IsPositionBytes (packing_kind c) (compiled_game c) };
 
     ghost start_is_position = { λ c is. (start_of (compiled_game c), record { position_is = is.start_is; bytes_are = refl }) };
 
@@ -142,12 +158,23 @@ impl MoveSource for Compiled {
     }
 
     fn mover(&self, at: &Packed) -> Role {
-        role_with(byte_at(at, self.packing.length() - 3))
+        let vertices = self.game.vertices.len();
+        let variables = self.game.variables.len();
+        match self.packing.kind() {
+            PackingKind::Bytes => role_with(u32::from(byte_at(at, vertices + 3 * variables + 1))),
+            PackingKind::Bits => role_with(self.packing.field(vertices + variables + 1, at)),
+        }
     }
 
     fn ahead(&self, at: &Packed) -> Option<Player> {
         let scores = self.game.vertices.len();
-        leader_of(value_at(at, scores), value_at(at, scores + 3))
+        match self.packing.kind() {
+            PackingKind::Bytes => leader_of(value_at(at, scores), value_at(at, scores + 3)),
+            PackingKind::Bits => leader_of(
+                self.packing.field(scores, at),
+                self.packing.field(scores + 1, at),
+            ),
+        }
     }
 
     fn successors(&self, alloc: Global, at: &Packed) -> Result<Vec<Packed>, MoveFault> {
@@ -156,6 +183,9 @@ impl MoveSource for Compiled {
         };
         let moves = self.moves(alloc, &position)?;
         let successors = moves.into_successors(alloc)?;
-        Ok(successors)
+        match self.packing.kind() {
+            PackingKind::Bytes => Ok(successors),
+            PackingKind::Bits => Ok(repacked(alloc, &self.rows, &self.packing, &successors)?),
+        }
     }
 }

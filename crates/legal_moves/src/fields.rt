@@ -22,11 +22,11 @@ pub fn value_at(bytes: &[u8], index: usize) -> u32
     high * 65_536 + middle * 256 + low
 }
 
-/// The role with this byte.
-pub fn role_with(byte: u8) -> Role
-    ensures { result ≡ role_by byte }
+/// The role with this number.
+pub fn role_with(number: u32) -> Role
+    ensures { result ≡ role_by number }
 {
-    match byte {
+    match number {
         1 => Role::Player(Player::First),
         2 => Role::Player(Player::Second),
         _ => Role::Keeper,

@@ -16,6 +16,7 @@ mod looks;
 mod marks;
 pub mod moves;
 mod relation;
+mod repack;
 mod search;
 pub mod source;
 mod successor;

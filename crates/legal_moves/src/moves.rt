@@ -7,7 +7,7 @@ ghost use Rattle.legal_moves.specs.aid.Standing.{stood, configurations_of, AllSt
 use crate::copies::copied_state;
 use crate::found::{Found, Stand};
 use crate::successor::Successor;
-use position_pack::{Packed, Packing};
+use position_pack::{Packed, pack_bytes};
 use rbg_game::position::{Position, SemiState};
 use smallvec::SmallVec;
 use std::alloc::{AllocError, Global};
@@ -46,13 +46,13 @@ impl Model for Moves {
 
 impl Moves {
     /// The moves to the configurations at which a search ended.
-    pub fn of(alloc: Global, packing: &Packing, found: Found) -> Result<Moves, AllocError>
+    pub fn of(alloc: Global, found: Found) -> Result<Moves, AllocError>
         requires before { ComeFromBefore (configurations_of found) }
         requires kept { AreKept found }
         requires apart { HaveOwnBytes (configurations_of found) }
         ensures { IfOk result (AreEndsShown (configurations_of found)) }
     {
-        let ends = ends_by_bytes(alloc, packing, &found.boards, &found.stands)?;
+        let ends = ends_by_bytes(alloc, &found.boards, &found.stands)?;
         let successors = ends
             .into_iter()
             .map(|(packed, index)| Successor { packed, index })
@@ -118,7 +118,6 @@ impl Moves {
 /// The index of each configuration at which a move ends, by its bytes.
 fn ends_by_bytes(
     alloc: Global,
-    packing: &Packing,
     boards: &[SemiState],
     stands: &[Stand],
 ) -> Result<BTreeMap<Packed, usize>, AllocError>
@@ -137,7 +136,7 @@ fn ends_by_bytes(
             state,
             place: stand.place,
         };
-        ends.insert(packing.pack(&at), index)?;
+        ends.insert(pack_bytes(&at), index)?;
     }
     Ok(ends)
 }

@@ -2,6 +2,14 @@ pub mod ShapeLemmas
 pub mod ValueBytes
 pub mod PartLemmas
 pub mod OrderLemmas
+pub mod BitLemmas
+pub mod ByteLemmas
+pub mod FieldLemmas
+pub mod ShiftLemmas
+pub mod ReadLemmas
+pub mod PartFields
+pub mod NumberLemmas
+pub mod PackingLemmas
 pub mod TextLemmas
 pub mod TellLemmas
 pub mod WordLemmas

@@ -25,7 +25,7 @@ then_then Equal b c = refl
 then_then Greater b c = refl
 
 -- lists that begin with parts of the same length
-cmp_parts : (a b c d : List ℕ) → length a ≡ length b → slice_cmp nat_cmp (a ++ c) (b ++ d) ≡ ordering_then (slice_cmp nat_cmp a b) (slice_cmp nat_cmp c d)
+pub cmp_parts : (a b c d : List ℕ) → length a ≡ length b → slice_cmp nat_cmp (a ++ c) (b ++ d) ≡ ordering_then (slice_cmp nat_cmp a b) (slice_cmp nat_cmp c d)
 cmp_parts [] [] c d e = refl
 cmp_parts [] (y ∷ b) c d e = absurd (omega (arith, e))
 cmp_parts (x ∷ a) [] c d e = absurd (omega (arith, e))
@@ -92,7 +92,7 @@ order shape x y small fx fy =
 
 -- ---- the fields tell the position
 
-same_front : (a b c d : List ℕ) → length a ≡ length b → a ++ c ≡ b ++ d → (a ≡ b) × (c ≡ d)
+pub same_front : (a b c d : List ℕ) → length a ≡ length b → a ++ c ≡ b ++ d → (a ≡ b) × (c ≡ d)
 same_front [] [] c d e same = (refl, same)
 same_front [] (y ∷ b) c d e same = absurd (omega (arith, e))
 same_front (x ∷ a) [] c d e same = absurd (omega (arith, e))
@@ -130,10 +130,10 @@ fields_tell shape x y fx fy same =
     let last = cut.1 in
     same_position x y (same_role _ _ (ap (λ xs. get_or xs 1 0) last)) front.0 front.1 (ap (λ xs. get_or xs 0 0) last) (ap (λ xs. get_or xs 2 0) last)
 
-compared_equal : (xs ys : List ℕ) → slice_cmp nat_cmp xs ys ≡ Equal → xs ≡ ys
+pub compared_equal : (xs ys : List ℕ) → slice_cmp nat_cmp xs ys ≡ Equal → xs ≡ ys
 compared_equal xs ys e = (bytes_eq-Decides xs ys).0 (sym (is_eq-slice_cmp xs ys) ∙ (Equal-is (slice_cmp nat_cmp xs ys)).1 e)
 
-equal_compared : (xs ys : List ℕ) → xs ≡ ys → slice_cmp nat_cmp xs ys ≡ Equal
+pub equal_compared : (xs ys : List ℕ) → xs ≡ ys → slice_cmp nat_cmp xs ys ≡ Equal
 equal_compared xs ys e = (Equal-is (slice_cmp nat_cmp xs ys)).0 (is_eq-slice_cmp xs ys ∙ (bytes_eq-Decides xs ys).1 e)
 
 -- the bytes tell the position

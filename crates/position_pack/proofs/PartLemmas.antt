@@ -3,9 +3,9 @@ use Rattle.std.proofs.Common.{◌≡◌, ℕ, ◌+◌, ◌*◌, ◌/◌, ◌%◌
 use Rattle.std.specs.Prelude.{All}
 use Rattle.std.proofs.lemmas.List.{length-append, take-append-drop}
 use Rattle.rbg_game.specs.declared.position.Position.{Position}
-use Rattle.position_pack.specs.Shape.{Shape}
+use Rattle.position_pack.specs.Shape.{Shape, Fits}
 use Rattle.position_pack.specs.Fields.{role_code}
-use Rattle.position_pack.specs.Bytes.{IsPacked}
+use Rattle.position_pack.specs.Bytes.{bytes_of}
 use Rattle.position_pack.specs.aid.Bytes.{AreValues}
 use Rattle.position_pack.proofs.ValueBytes.{spelled, spelled-cons}
 
@@ -25,13 +25,18 @@ back (x ∷ a) b = back a b
 abbrev pub last_bytes : Position → List ℕ
 last_bytes at = at.state.vertex ∷ role_code at.state.mover ∷ at.place / 256 % 256 ∷ at.place % 256 ∷ []
 
+-- the bytes are those of the position by packing 1, and its fields are in their ranges
+pub record AreBytes (shape : Shape) (at : Position) (bytes : List ℕ) : Type 0 where
+  pub fits : Fits shape at
+  pub bytes_are : bytes ≡ bytes_of at
+
 pub record Parts (shape : Shape) (at : Position) (bytes : List ℕ) : Type 0 where
   pub as_many : length bytes ≡ shape.vertices + 3 * length shape.bounds + 4
   pub pieces : take shape.vertices bytes ≡ at.state.pieces.items
   pub values : take (3 * length shape.bounds) (drop shape.vertices bytes) ≡ spelled at.state.values.items
   pub others : drop (3 * length shape.bounds) (drop shape.vertices bytes) ≡ last_bytes at
 
-pub parts_of : (shape : Shape) (at : Position) (bytes : List ℕ) → IsPacked shape at bytes → Parts shape at bytes
+pub parts_of : (shape : Shape) (at : Position) (bytes : List ℕ) → AreBytes shape at bytes → Parts shape at bytes
 parts_of shape at bytes is =
     let a = at.state.pieces.items in
     let b = spelled at.state.values.items in
@@ -68,7 +73,7 @@ cut_at shape bytes p r v o m n em en ep er ev eo =
     }
 
 -- the parts of the bytes of a position
-module _ (shape : Shape) (bytes p v o : List ℕ) (cut : Cut shape bytes p v o) (at : Position) (is : IsPacked shape at bytes) where
+module _ (shape : Shape) (bytes p v o : List ℕ) (cut : Cut shape bytes p v o) (at : Position) (is : AreBytes shape at bytes) where
   parts : Parts shape at bytes
   parts = parts_of shape at bytes is
 
@@ -103,7 +108,7 @@ four_of (w ∷ x ∷ y ∷ z ∷ q ∷ o) a b c d e ea eb ec ed = absurd (omega 
 -- the bytes of the position that was put together from the parts
 pub made : (shape : Shape) (bytes p v o : List ℕ) → Cut shape bytes p v o → (at : Position) → ((i : ℕ) → get_or o i 0 < 256) → length bytes ≡ shape.vertices + 3 * length shape.bounds + 4
     → at.state.pieces.items ≡ p → AreValues v shape.bounds at.state.values.items → at.state.vertex ≡ get_or o 0 0 → get_or o 1 0 ≡ role_code at.state.mover → at.place ≡ get_or o 2 0 * 256 + get_or o 3 0
-    → All (λ x. x < shape.pieces) p → at.state.vertex < shape.vertices → at.place ≤ shape.actions → IsPacked shape at bytes
+    → All (λ x. x < shape.pieces) p → at.state.vertex < shape.vertices → at.place ≤ shape.actions → AreBytes shape at bytes
 made shape bytes p v o cut at small as_many pieces values vertex role place below vertex_is place_is =
     let long : length p ≡ shape.vertices = ap length cut.pieces ∙ (let h : shape.vertices ≤ length bytes = omega arith in length-take-le shape.vertices bytes h) in
     let place_bytes = two_bytes _ _ at.place (small 2) (small 3) place in

@@ -4,7 +4,7 @@ use Rattle.rbg_game.specs.Meaning.{variable_of}
 use Rattle.rbg_game.specs.declared.game.Variable.{Variable}
 use Rattle.std.specs.Prelude.{All, slice_get, option_map, unwrap_or}
 use Rattle.std.proofs.lemmas.List.{get_or-map, length-map}
-use Rattle.rbg_game.specs.Games.{Game, Variable as Bounded}
+use Rattle.rbg_game.specs.Games.{Game, Vertex, Variable as Bounded}
 use Rattle.rbg_game.specs.Positions.{IsPositionOf}
 use Rattle.rbg_game.specs.declared.position.Position.{Position}
 use Rattle.rbg_game.specs.Sound.{IsSoundGame}
@@ -24,6 +24,9 @@ same_shape e f g h = rw (e, f, g, h) refl
 -- a game within its limits has a small shape
 pub small_shape : (game : Game) → IsSoundGame game → IsSmall (shape_of game)
 small_shape game sound = record {
+  few_pieces = sound.few_pieces;
+  few_vertices = sound.few_vertices;
+  few_values = omega (arith, sound.few_variables, length-map game.variables (λ v. v.bound));
   few_actions = omega (arith, count_within game.rules, sound.few_actions);
   low_bounds = λ k lt. low game.variables sound.bounds_fit k lt;
 }
@@ -63,3 +66,10 @@ is_position game at fit = record {
   };
   place_is = fit.place_is;
 }
+
+-- a game has pieces, since a vertex has one
+pub some_pieces : (game : Game) → IsSoundGame game → 0 < length game.pieces
+some_pieces game sound =
+    let none : Vertex = record { name = []; piece = 0; arrows = [] } in
+    let here = sound.vertices_are 0 none sound.has_vertex in
+    omega (arith, here.0)

@@ -1,9 +1,8 @@
 -- A position as bytes, by packing 1.
-use Rattle.std.specs.Prelude.{◌≡◌, ℕ, List, ◌∷◌, ◌++◌}
+use Rattle.std.specs.Prelude.{ℕ, List, ◌∷◌, ◌++◌}
 use Rattle.std.specs.List.{flat_map}
 use Rattle.std.specs.Int.{bytes_high_first}
 use Rattle.rbg_game.specs.declared.position.Position.{Position}
-use Rattle.position_pack.specs.Shape.{Shape, Fits}
 use Rattle.position_pack.specs.Fields.{role_code}
 
 -- a byte for each piece, three for each value, one for the vertex and the role, two for the place
@@ -11,8 +10,3 @@ abbrev pub bytes_of : Position → List ℕ
 bytes_of at =
     at.state.pieces.items ++ flat_map
     (bytes_high_first 3) at.state.values.items ++ at.state.vertex ∷ role_code at.state.mover ∷ bytes_high_first 2 at.place
-
--- the bytes are those of the position, whose fields are in their ranges
-pub record IsPacked (shape : Shape) (at : Position) (bytes : List ℕ) : Type 0 where
-  pub fits : Fits shape at
-  pub bytes_are : bytes ≡ bytes_of at

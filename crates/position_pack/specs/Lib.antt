@@ -1,6 +1,8 @@
 pub mod Shape
 pub mod Fields
 pub mod Bytes
+pub mod Bits
+pub mod Packings
 pub mod Texts
 pub mod Spelled
 pub mod Laws

@@ -20,8 +20,11 @@ shape_of game = record {
   actions = count game.rules;
 }
 
--- no value is over 1,000,000, and no place over 4,096
+-- at most 64 pieces, 128 vertices and 34 values, no value over 1,000,000, and no place over 4,096
 pub record IsSmall (shape : Shape) : Type 0 where
+  pub few_pieces : shape.pieces ≤ 64
+  pub few_vertices : shape.vertices ≤ 128
+  pub few_values : length shape.bounds ≤ 34
   pub few_actions : shape.actions ≤ 4096
   pub low_bounds : EachIndex shape.bounds (λ v. slice_index shape.bounds v ≤ 1000000)
 

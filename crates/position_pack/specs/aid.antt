@@ -1,3 +1,5 @@
+pub mod Bits
 pub mod Bytes
 pub mod Spelled
+pub mod Streams
 pub mod Texts

@@ -1,15 +1,20 @@
 //! Positions as bytes and as text.
 #![tactic(auto)]
 
+mod fields;
+pub mod kind;
 pub mod laws;
 mod names;
 mod numbers;
 pub mod packed;
 mod parts;
 mod read;
+mod reader;
 mod text;
 mod words;
+mod writer;
 
-pub use packed::{Packed, Packing};
+pub use kind::PackingKind;
+pub use packed::{Packed, Packing, pack_bytes};
 pub use read::read_position;
 pub use text::show;

@@ -1,13 +1,21 @@
 //! A position as bytes, and back.
 
-ghost use Rattle.std.specs.Prelude.{◌≡◌, ◌+◌, ◌*◌, ◌^◌, ◌≤◌, ◌<◌, length, MatchOption};
+ghost use Rattle.std.specs.Prelude.{◌≡◌, ◌<◌, ◌≤◌, length, MatchOption};
 ghost use Rattle.rbg_game.specs.Meaning.{game_of};
 ghost use Rattle.rbg_game.specs.Sound.{IsSoundGame};
 ghost use Rattle.rbg_game.specs.declared.position.Position.{Position};
-ghost use Rattle.position_pack.specs.Shape.{shape_of, Fits};
-ghost use Rattle.position_pack.specs.Bytes.{bytes_of, IsPacked};
+ghost use Rattle.position_pack.specs.Shape.{IsSmall};
+ghost use Rattle.position_pack.specs.Bytes.{bytes_of};
+ghost use Rattle.position_pack.specs.Bits.{field_at, greatest_of as greatest_by};
+ghost use Rattle.position_pack.specs.Packings.{form_of, packed_by, length_by, IsPacked};
+ghost use Rattle.position_pack.specs.declared.kind.PackingKind.TheVariants.{Bytes, Bits};
 
+use crate::fields::{
+    Fields, bits_in, fields_of, greatest_of, position_of, put_fields, take_fields, width_of,
+};
+use crate::kind::PackingKind;
 use crate::parts::{all_below, put_bytes, put_values, role_byte, role_of, values_of, vector_of};
+use crate::reader::number_at;
 use arrayvec::ArrayVec;
 use rbg_game::count::action_count;
 use rbg_game::game::Game;
@@ -17,62 +25,78 @@ use std::marker::Model;
 /// The bytes of a position: at most 234 by the limits of a game.
 pub type Packed = ArrayVec<u8, 240>;
 
-/// How the positions of a game are packed, with a byte for each piece, three for each value, one
-/// for the vertex, one for the role and two for the place, the highest byte of a number first.
+/// How the positions of a game are packed. By bytes each piece has one, each value three, the
+/// vertex and the role one each and the place two, the highest byte of a number first. By bits each
+/// field has the fewest that its greatest value needs.
 #[derive(Drop)]
 pub struct Packing {
+    kind: PackingKind,
     pieces: u8,
     bounds: ArrayVec<u32, 34>,
     vertices: u8,
     actions: u16,
-    ghost few_vertices: { vertices ≤ 128 },
+    /// The greatest value of each field.
+    greatest: Fields,
+    ghost greatest_are: { greatest.items
+        ≡ greatest_by (record { pieces = pieces; bounds = bounds.items; vertices = vertices; actions = actions }) },
+    ghost small: { IsSmall (record { pieces = pieces; bounds = bounds.items; vertices = vertices; actions = actions }) },
+    ghost some_pieces: { 0 < pieces },
+    ghost some_vertices: { 0 < vertices },
 }
 
 impl Model for Packing {
-    ghost use Rattle.position_pack.specs.Shape.{Shape};
+    ghost use Rattle.position_pack.specs.Packings.{Form};
 
-    ghost Value = { Shape };
+    ghost Value = { Form };
 
-    ghost view = { λ p. record { pieces = p.pieces; bounds = p.bounds.items; vertices = p.vertices; actions = p.actions } };
+    ghost view = { λ p. record {
+      kind = p.kind;
+      shape = record { pieces = p.pieces; bounds = p.bounds.items; vertices = p.vertices; actions = p.actions };
+    } };
 }
 
 impl Packing {
     /// The packing of a game's positions.
-    pub fn new(game: &Game) -> Packing
+    pub fn new(game: &Game, kind: PackingKind) -> Packing
         requires { IsSoundGame (game_of game.now) }
-        ensures { result ≡ shape_of (game_of game.now) }
+        ensures { result ≡ form_of kind (game_of game.now) }
     {
         let mut bounds = ArrayVec::new();
         for variable in &game.variables {
             bounds.push(variable.bound);
         }
+        let pieces = game.pieces.len() as u8;
+        let vertices = game.vertices.len() as u8;
+        let actions = action_count(&game.rules) as u16;
+        let greatest = greatest_of(pieces, &bounds, vertices, actions);
         Packing {
-            pieces: game.pieces.len() as u8,
+            kind,
+            pieces,
             bounds,
-            vertices: game.vertices.len() as u8,
-            actions: action_count(&game.rules) as u16,
+            vertices,
+            actions,
+            greatest,
         }
     }
 
     /// The number of bytes of each position.
     pub fn length(&self) -> usize
-        ensures { result ≡ self.now.vertices + 3 * length self.now.bounds + 4 }
+        ensures { result ≡ length_by self.now.kind self.now.shape }
     {
-        usize::from(self.vertices) + 3 * self.bounds.len() + 4
+        match self.kind {
+            PackingKind::Bytes => usize::from(self.vertices) + 3 * self.bounds.len() + 4,
+            PackingKind::Bits => bits_in(&self.greatest).div_ceil(8),
+        }
     }
 
     /// The bytes of a position.
     pub fn pack(&self, at: &Position) -> Packed
-        ensures { result.items ≡ bytes_of at.now }
+        ensures { result.items ≡ packed_by self.now.kind self.now.shape at.now }
     {
-        let state = &at.state;
-        let mut bytes = Packed::new();
-        put_bytes(&mut bytes, &state.pieces);
-        put_values(&mut bytes, &state.values);
-        bytes.push(state.vertex);
-        bytes.push(role_byte(state.mover));
-        put_bytes(&mut bytes, &at.place.to_be_bytes());
-        bytes
+        match self.kind {
+            PackingKind::Bytes => pack_bytes(at),
+            PackingKind::Bits => put_fields(&self.greatest, &fields_of(at)),
+        }
     }
 
     /// The position with these bytes, where they are the bytes of a position whose fields are in
@@ -80,7 +104,44 @@ impl Packing {
     pub fn unpack(&self, bytes: &[u8]) -> Option<Position>
         ensures { MatchOption result ((at : Position) → ¬ IsPacked self.now at bytes.now) (λ at. IsPacked self.now at bytes.now) }
     {
-        if bytes.len() != self.length() {
+        match self.kind {
+            PackingKind::Bytes => self.unpack_bytes(bytes),
+            PackingKind::Bits => self.unpack_bits(bytes),
+        }
+    }
+
+    /// The packing's number.
+    pub fn kind(&self) -> PackingKind
+        ensures { result ≡ self.now.kind }
+    {
+        self.kind
+    }
+
+    /// What bytes say of one field by itself, by bits, whether they are a position's or not.
+    pub fn field(&self, field: usize, bytes: &[u8]) -> u32
+        requires { field < length (greatest_by self.now.shape) }
+        ensures { result ≡ field_at self.now.shape field bytes.now }
+    {
+        let place = bits_in(&self.greatest[..field]);
+        number_at(bytes, place, width_of(self.greatest[field]))
+    }
+
+    fn unpack_bits(&self, bytes: &[u8]) -> Option<Position>
+        ensures { MatchOption result ((at : Position) → ¬ IsPacked (record { kind = Bits; shape = self.now.shape }) at bytes.now)
+            (λ at. IsPacked (record { kind = Bits; shape = self.now.shape }) at bytes.now) }
+    {
+        if bytes.len() != bits_in(&self.greatest).div_ceil(8) {
+            return None;
+        }
+        let fields = take_fields(&self.greatest, bytes)?;
+        position_of(&fields, usize::from(self.vertices))
+    }
+
+    fn unpack_bytes(&self, bytes: &[u8]) -> Option<Position>
+        ensures { MatchOption result ((at : Position) → ¬ IsPacked (record { kind = Bytes; shape = self.now.shape }) at bytes.now)
+            (λ at. IsPacked (record { kind = Bytes; shape = self.now.shape }) at bytes.now) }
+    {
+        if bytes.len() != usize::from(self.vertices) + 3 * self.bounds.len() + 4 {
             return None;
         }
         let (pieces, rest) = bytes.split_at(usize::from(self.vertices));
@@ -109,4 +170,18 @@ impl Packing {
             place,
         })
     }
+}
+
+/// The bytes of a position by packing 1, whatever its game.
+pub fn pack_bytes(at: &Position) -> Packed
+    ensures { result.items ≡ bytes_of at.now }
+{
+    let state = &at.state;
+    let mut bytes = Packed::new();
+    put_bytes(&mut bytes, &state.pieces);
+    put_values(&mut bytes, &state.values);
+    bytes.push(state.vertex);
+    bytes.push(role_byte(state.mover));
+    put_bytes(&mut bytes, &at.place.to_be_bytes());
+    bytes
 }

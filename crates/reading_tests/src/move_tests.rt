@@ -3,7 +3,7 @@ ghost use Rattle.std.specs.Prelude.{IfOk};
 ghost use Rattle.legal_moves.specs.Compiled.{IsCompiled};
 
 use legal_moves::{Compiled, Modifier, MoveSource, Moves};
-use position_pack::Packed;
+use position_pack::{Packed, PackingKind};
 use rbg_game::roles::{Player, Role};
 use rbg_read::read::read_game;
 use std::alloc::Global;
@@ -20,17 +20,21 @@ const SEEN: [u8; 12] = [0, 0, 0, 0, 0, 0, 0, 0, 0, 1, 0, 2];
 /// Black has the turn and is ahead.
 const BLACK_AHEAD: [u8; 12] = [0, 0, 0, 0, 0, 0, 0, 1, 0, 2, 0, 2];
 
+/// The same two by bits: a bit for each piece, each score and the vertex, two for the role and two for the place.
+const SEEN_BY_BITS: [u8; 2] = [0x03, 0x00];
+const BLACK_AHEAD_BY_BITS: [u8; 2] = [0x15, 0x00];
+
 /// The game of a text, made ready for its moves.
-fn game_of(alloc: Global, text: &str) -> Result<Compiled, Fail>
+fn game_of(alloc: Global, text: &str, kind: PackingKind) -> Result<Compiled, Fail>
     ensures { IfOk result IsCompiled }
 {
     let game = read_game(alloc, text.as_bytes())?;
-    Ok(Compiled::new(alloc, game)?)
+    Ok(Compiled::new(alloc, game, kind)?)
 }
 
 /// The moves of the start.
 fn first_moves(alloc: Global, text: &str) -> Result<Moves, Fail> {
-    let source = game_of(alloc, text)?;
+    let source = game_of(alloc, text, PackingKind::Bytes)?;
     Ok(source.moves(alloc, &source.start())?)
 }
 
@@ -138,6 +142,22 @@ fn expect_look<S: MoveSource>(alloc: Global, source: &S) -> Result<(), Fail>
 
 #[test]
 fn a_compiled_game_is_a_source_of_moves(rt: HostRuntime) -> Result<(), Fail> {
-    let source = game_of(rt.alloc(), LOOK)?;
+    let source = game_of(rt.alloc(), LOOK, PackingKind::Bytes)?;
     expect_look(rt.alloc(), &source)
+}
+
+/// Expects of the game of `LOOK` the same by bits, by the bound alone.
+fn expect_look_by_bits<S: MoveSource>(alloc: Global, source: &S) -> Result<(), Fail>
+    requires { S.is_sound source.now }
+{
+    expect_only(alloc, source, &SEEN_BY_BITS)?;
+    expect_none(alloc, source)?;
+    expect_turn(source, &SEEN_BY_BITS, Player::First, None)?;
+    expect_turn(source, &BLACK_AHEAD_BY_BITS, Player::Second, Some(Player::Second))
+}
+
+#[test]
+fn successors_are_packed_as_the_source_is(rt: HostRuntime) -> Result<(), Fail> {
+    let source = game_of(rt.alloc(), LOOK, PackingKind::Bits)?;
+    expect_look_by_bits(rt.alloc(), &source)
 }

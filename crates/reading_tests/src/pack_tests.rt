@@ -4,7 +4,7 @@ ghost use Rattle.rbg_game.specs.Meaning.{game_of};
 ghost use Rattle.rbg_game.specs.Names.{HasProperNames};
 ghost use Rattle.rbg_game.specs.Sound.{IsSoundGame};
 
-use position_pack::{Packing, read_position};
+use position_pack::{Packing, PackingKind, read_position};
 use rbg_game::game::Game;
 use rbg_game::position::Position;
 use rbg_game::roles::{Player, Role};
@@ -31,9 +31,9 @@ fn position(alloc: Global, game_text: &str, text: &[u8]) -> Result<Option<Positi
 }
 
 /// How the positions of takes are packed.
-fn packing(alloc: Global) -> Result<Packing, Fail> {
+fn packing(alloc: Global, kind: PackingKind) -> Result<Packing, Fail> {
     let game = game(alloc, TAKE)?;
-    Ok(Packing::new(&game))
+    Ok(Packing::new(&game, kind))
 }
 
 /// Expects of a position this role, place and values.
@@ -48,6 +48,8 @@ fn expect_fields(
 }
 
 const WHITE: Role = Role::Player(Player::First);
+
+const BLACK: Role = Role::Player(Player::Second);
 
 /// Texts of positions of takes, with the role, the place and the values, and their bytes. There are eleven places.
 const POSITIONS: [(&str, (Role, u16, &[u32]), [u8; 14]); 4] = [
@@ -90,7 +92,7 @@ fn expect_positions(
     alloc: Global,
     rows: &[(&str, (Role, u16, &[u32]), [u8; 14])],
 ) -> Result<(), Fail> {
-    let packing = packing(alloc)?;
+    let packing = packing(alloc, PackingKind::Bytes)?;
     for (text, fields, bytes) in rows {
         let at = position(alloc, TAKE, text.as_bytes())?.ok_or("no position")?;
         expect_fields(&at, *fields, text)?;
@@ -118,7 +120,7 @@ const NO_BYTES: [&[u8]; 8] = [
 
 #[test]
 fn only_canonical_bytes_are_a_position(rt: HostRuntime) -> Result<(), Fail> {
-    let packing = packing(rt.alloc())?;
+    let packing = packing(rt.alloc(), PackingKind::Bytes)?;
     for bytes in &NO_BYTES {
         expect(
             packing.unpack(bytes).is_none(),
@@ -127,6 +129,82 @@ fn only_canonical_bytes_are_a_position(rt: HostRuntime) -> Result<(), Fail> {
         )?;
     }
     Ok(())
+}
+
+/// Texts of positions of takes, with the role, the place and the values, and their bytes by bits.
+const POSITIONS_BY_BITS: [(&str, (Role, u16, &[u32]), [u8; 2]); 5] = [
+    (
+        ">> 0 v e 0,0,0",
+        (Role::Keeper, 0, &[0, 0, 0]),
+        [0x00, 0x00],
+    ),
+    ("white 2 v e 0,0,3", (WHITE, 2, &[0, 0, 3]), [0x34, 0x80]),
+    ("black 7 v e 1,0,2", (BLACK, 7, &[1, 0, 2]), [0xA9, 0xC0]),
+    ("black 7 v e 1,0,0", (BLACK, 7, &[1, 0, 0]), [0x89, 0xC0]),
+    ("white 2 v e 0,1,0", (WHITE, 2, &[0, 1, 0]), [0x44, 0x80]),
+];
+
+#[test]
+fn a_position_has_its_bytes_by_bits(rt: HostRuntime) -> Result<(), Fail> {
+    let packing = packing(rt.alloc(), PackingKind::Bits)?;
+    for (text, fields, bytes) in &POSITIONS_BY_BITS {
+        let at = position(rt.alloc(), TAKE, text.as_bytes())?.ok_or("no position")?;
+        expect_fields(&at, *fields, text)?;
+        expect_bytes(&packing, &at, *fields, bytes)?;
+    }
+    Ok(())
+}
+
+/// Bytes of no position of takes by bits: a bit behind the last that is set, a role of 3, a place of 12, and other lengths.
+const NO_BYTES_BY_BITS: [&[u8]; 7] = [
+    &[0x34, 0x81],
+    &[0x34, 0xA0],
+    &[0x0C, 0x00],
+    &[0x03, 0x00],
+    &[0x34],
+    &[0x34, 0x80, 0x00],
+    &[],
+];
+
+#[test]
+fn only_canonical_bits_are_a_position(rt: HostRuntime) -> Result<(), Fail> {
+    let packing = packing(rt.alloc(), PackingKind::Bits)?;
+    for bytes in &NO_BYTES_BY_BITS {
+        expect(
+            packing.unpack(bytes).is_none(),
+            true,
+            "bytes of no position",
+        )?;
+    }
+    Ok(())
+}
+
+/// A walk between nine places, kept in a variable.
+const FORK: &str = "#players = white(1), black(1)
+#pieces = e
+#variables = s(7)
+#board = v[e]{}
+#rules =
+    [$white=1] ->white
+    (
+        ({$ s==0}([$s=1]+[$s=2]+[$s=3]) + {$ s==4}[$s=1] + {$ s==5}([$s=6]+[$s=7])) ->black
+        ({$ s==2}[$s=4] + {$ s==3}[$s=5] + {$ s==6}[$s=4]) ->white
+    )*
+";
+
+/// How many bytes a position of the game has, by bytes and by bits.
+fn lengths(alloc: Global, game_text: &str) -> Result<(usize, usize), Fail> {
+    let game = game(alloc, game_text)?;
+    let by_bytes = Packing::new(&game, PackingKind::Bytes);
+    let by_bits = Packing::new(&game, PackingKind::Bits);
+    Ok((by_bytes.length(), by_bits.length()))
+}
+
+#[test]
+fn bits_take_fewer_bytes(rt: HostRuntime) -> Result<(), Fail> {
+    expect(lengths(rt.alloc(), TAKE)?, (14, 2), "takes")?;
+    expect(lengths(rt.alloc(), FORK)?, (14, 2), "a fork")?;
+    expect(lengths(rt.alloc(), MILLION)?, (14, 4), "a million")
 }
 
 /// The game of a bound of a million.

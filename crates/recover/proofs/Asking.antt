@@ -1,12 +1,10 @@
 -- Questions change nothing, and answer from what is kept.
 use Rattle.std.proofs.Common.{◌≡◌, ℕ, ◌<◌, ◌≤◌, List, slice_get, length, Option, None, Some, Result, Ok, Err, refl, sym, ◌∙◌, ap, subst, arith}
 use Rattle.std.specs.Prelude.{IsSome, IsTrue}
-use Rattle.rbg_game.specs.Games.{Game}
 use Rattle.rbg_read.specs.Reading.{Reads}
-use Rattle.rbg_read.proofs.OneReading.{one_game}
 use Rattle.position_pack.specs.Texts.{text_of}
 use Rattle.legal_moves.specs.Sources.{IsWideAt, graph_of}
-use Rattle.legal_moves.specs.Compiled.{compiled_game}
+use Rattle.legal_moves.specs.Compiled.{compiled_game, packing_kind}
 use Rattle.legal_moves.specs.declared.compiled.Compiled.{Compiled}
 use Rattle.retrograde.specs.declared.records.Counts.{Counts}
 use Rattle.retrograde.specs.Changes.{counts_of}
@@ -37,8 +35,9 @@ use Rattle.audit.specs.declared.verdict.Verdict.{Verdict}
 use Rattle.recover.specs.Audits.{HasVerdict, IsSoInGame, HasWidePosition, AuditCause}
 use Rattle.recover.specs.Faults.{line_fault, table_fault, audit_fault}
 use Rattle.recover.specs.Held.{IsSound}
-use Rattle.recover.specs.Queries.{OfKept, IsThere, HasValueAt, HasRows, HasLine, HasText, IsOfUnknown, AskCause, NumberCause, LineCause}
-use Rattle.recover.proofs.Working.{sound_here}
+use Rattle.recover.specs.State.{IsMadeOf}
+use Rattle.recover.specs.Queries.{OfKept, IsThere, HasValueAt, HasRows, HasLine, HasText, IsOfUnknown, IsOfNone, AskCause, NumberCause, LineCause}
+use Rattle.recover.proofs.Working.{of_any, sound_here}
 
 -- what an answer has in it
 abbrev answered : {X E : Type 0} → X → Result X E → X
@@ -80,73 +79,82 @@ module _ (k : Kept) (stored : Stored (List ℕ)) (same : stored ≡ k.table) (fi
     rows_are = subst (λ (t : Stored (List ℕ)). AreRows (view_of t) from count rows) same (found its_table);
   }
 
-  module _ (compiled : Compiled) (is_read : Reads k.text (compiled_game compiled)) where
+  module _ (compiled : Compiled) (made : IsMadeOf compiled k) where
     -- the position with this number has this text
-    pub text_found : (number : ℕ) (bytes text : List ℕ) → IsText (compiled_game compiled) bytes text → slice_get stored.positions number ≡ Some bytes → HasText number text k
+    pub text_found : (number : ℕ) (bytes text : List ℕ) → IsText (packing_kind compiled) (compiled_game compiled) bytes text → slice_get stored.positions number ≡ Some bytes → HasText number text k
     text_found number bytes text it at = record {
       game = compiled_game compiled;
-      reads = is_read;
+      reads = made.reads;
       bytes = bytes;
-      text_is = it;
+      text_is = of_any compiled k made (λ p g. IsText p g bytes text) (compiled_game compiled) made.reads it;
       number_is = subst (λ (t : Stored (List ℕ)). slice_get t.positions number ≡ Some bytes) same at;
     }
 
     -- no position that is known has this text
-    pub text_unknown : (bytes text : List ℕ) → IsText (compiled_game compiled) bytes text → ((i : ℕ) → slice_get stored.positions i ≡ Some bytes → ⊥) → IsOfUnknown text k
+    pub text_unknown : (bytes text : List ℕ) → IsText (packing_kind compiled) (compiled_game compiled) bytes text → ((i : ℕ) → slice_get stored.positions i ≡ Some bytes → ⊥) → IsOfUnknown text k
     text_unknown bytes text it unknown = record {
       game = compiled_game compiled;
-      reads = is_read;
+      reads = made.reads;
       bytes = bytes;
-      text_is = it;
+      text_is = of_any compiled k made (λ p g. IsText p g bytes text) (compiled_game compiled) made.reads it;
       unknown = subst (λ (t : Stored (List ℕ)). (i : ℕ) → slice_get t.positions i ≡ Some bytes → ⊥) same unknown;
     }
 
     -- a position without a text is in no sound table
-    pub no_text : (number : ℕ) (bytes : List ℕ) → slice_get stored.positions number ≡ Some bytes → ((text : List ℕ) → IsText (compiled_game compiled) bytes text → ⊥) → IsSound (Some k) → ⊥
+    pub no_text : (number : ℕ) (bytes : List ℕ) → slice_get stored.positions number ≡ Some bytes → ((text : List ℕ) → IsText (packing_kind compiled) (compiled_game compiled) bytes text → ⊥) → IsSound (Some k) → ⊥
     no_text number bytes at none sound =
         let game = compiled_game compiled in
-        let (positions, fits) = sound_tables_fit game k.table (starts_are_positions k.text game is_read) (sound_here compiled k is_read sound) in
+        let (positions, fits) = sound_tables_fit (packing_kind compiled) game k.table (starts_are_positions k.text game made.reads) (sound_here compiled k made sound) in
         let (position, here) = positions number bytes (subst (λ (t : Stored (List ℕ)). slice_get t.positions number ≡ Some bytes) same at) in
         none (text_of game position) (record { at = position; spelled = record { position = here.position_is; text_is = refl }; bytes_are = here.bytes_are })
 
-    sound_stored : IsSound (Some k) → IsLocallySound (graph_of (compiled_game compiled)) (IsWideAt (compiled_game compiled)) stored
+    sound_stored : IsSound (Some k) → IsLocallySound (graph_of (packing_kind compiled) (compiled_game compiled)) (IsWideAt (packing_kind compiled) (compiled_game compiled)) stored
     sound_stored sound =
-        subst (λ (t : Stored (List ℕ)). IsLocallySound (graph_of (compiled_game compiled)) (IsWideAt (compiled_game compiled)) t) (sym same) (sound_here compiled k is_read sound)
+        subst (λ (t : Stored (List ℕ)). IsLocallySound (graph_of (packing_kind compiled) (compiled_game compiled)) (IsWideAt (packing_kind compiled) (compiled_game compiled)) t) (sym same) (sound_here compiled k made sound)
 
     -- a line by the game in memory is one by any that the text reads to
     pub line_found : (number : ℕ) (numbers : List ℕ) → IsSound (Some k)
-        → (IsLocallySound (graph_of (compiled_game compiled)) (IsWideAt (compiled_game compiled)) stored
-        → IsBestPlay (graph_of (compiled_game compiled)) (view_of stored) number numbers) → HasLine number numbers k
+        → (IsLocallySound (graph_of (packing_kind compiled) (compiled_game compiled)) (IsWideAt (packing_kind compiled) (compiled_game compiled)) stored
+        → IsBestPlay (graph_of (packing_kind compiled) (compiled_game compiled)) (view_of stored) number numbers) → HasLine number numbers k
     line_found number numbers sound found = λ game read.
-        subst (λ (g : Game). IsBestPlay (graph_of g) (view_of k.table) number numbers) (one_game k.text (compiled_game compiled) game is_read read)
-        (subst (λ (t : Stored (List ℕ)). IsBestPlay (graph_of (compiled_game compiled)) (view_of t) number numbers) same (found (sound_stored sound)))
+        of_any compiled k made (λ p g. IsBestPlay (graph_of p g) (view_of k.table) number numbers) game read
+        (subst (λ (t : Stored (List ℕ)). IsBestPlay (graph_of (packing_kind compiled) (compiled_game compiled)) (view_of t) number numbers) same (found (sound_stored sound)))
 
     -- the verdict by the game in memory is that by any that the text reads to
     pub verdict_found : (verdict : Verdict)
-        → (IsTable stored → IsAnswer (graph_of (compiled_game compiled)) (IsWideAt (compiled_game compiled)) stored verdict) → HasVerdict verdict k
+        → (IsTable stored → IsAnswer (graph_of (packing_kind compiled) (compiled_game compiled)) (IsWideAt (packing_kind compiled) (compiled_game compiled)) stored verdict) → HasVerdict verdict k
     verdict_found verdict found = λ game read.
-        subst (λ (g : Game). IsAnswer (graph_of g) (IsWideAt g) k.table verdict) (one_game k.text (compiled_game compiled) game is_read read)
-        (subst (λ (t : Stored (List ℕ)). IsAnswer (graph_of (compiled_game compiled)) (IsWideAt (compiled_game compiled)) t verdict) same (found its_table))
+        of_any compiled k made (λ p g. IsAnswer (graph_of p g) (IsWideAt p g) k.table verdict) game read
+        (subst (λ (t : Stored (List ℕ)). IsAnswer (graph_of (packing_kind compiled) (compiled_game compiled)) (IsWideAt (packing_kind compiled) (compiled_game compiled)) t verdict) same (found its_table))
 
     -- so is what a right table says
-    pub so_found : (IsTable stored → IsSo (graph_of (compiled_game compiled)) (view_of stored)) → IsSoInGame k
+    pub so_found : (IsTable stored → IsSo (graph_of (packing_kind compiled) (compiled_game compiled)) (view_of stored)) → IsSoInGame k
     so_found found = λ game read.
-        subst (λ (g : Game). IsSo (graph_of g) (view_of k.table)) (one_game k.text (compiled_game compiled) game is_read read)
-        (subst (λ (t : Stored (List ℕ)). IsSo (graph_of (compiled_game compiled)) (view_of t)) same (found its_table))
+        of_any compiled k made (λ p g. IsSo (graph_of p g) (view_of k.table)) game read
+        (subst (λ (t : Stored (List ℕ)). IsSo (graph_of (packing_kind compiled) (compiled_game compiled)) (view_of t)) same (found its_table))
 
     -- and that some expanded position is too wide
-    pub wide_found : HasWide (IsWideAt (compiled_game compiled)) stored → HasWidePosition k
+    pub wide_found : HasWide (IsWideAt (packing_kind compiled) (compiled_game compiled)) stored → HasWidePosition k
     wide_found found = λ game read.
-        subst (λ (g : Game). HasWide (IsWideAt g) k.table) (one_game k.text (compiled_game compiled) game is_read read)
-        (subst (λ (t : Stored (List ℕ)). HasWide (IsWideAt (compiled_game compiled)) t) same found)
+        of_any compiled k made (λ p g. HasWide (IsWideAt p g) k.table) game read
+        (subst (λ (t : Stored (List ℕ)). HasWide (IsWideAt (packing_kind compiled) (compiled_game compiled)) t) same found)
 
     -- there is no line
     pub unsettled : (number : ℕ) → number < counts.known → (IsTable stored → (view_of stored).value number ≡ None) → IsThere number k × ((view_of k.table).value number ≡ None)
     unsettled number less none = (is_there number less, subst (λ (t : Stored (List ℕ)). (view_of t).value number ≡ None) same (none its_table))
 
     pub never : (Impossible : Type 0) → IsSound (Some k)
-        → (IsLocallySound (graph_of (compiled_game compiled)) (IsWideAt (compiled_game compiled)) stored → Impossible) → Impossible
+        → (IsLocallySound (graph_of (packing_kind compiled) (compiled_game compiled)) (IsWideAt (packing_kind compiled) (compiled_game compiled)) stored → Impossible) → Impossible
     never Impossible sound cause = cause (sound_stored sound)
+
+-- no position of the game has this text
+pub text_of_none : (k : Kept) (compiled : Compiled) → IsMadeOf compiled k → (text : List ℕ)
+    → ((bytes : List ℕ) → IsText (packing_kind compiled) (compiled_game compiled) bytes text → ⊥) → IsOfNone text k
+text_of_none k compiled made text none = record {
+  game = compiled_game compiled;
+  reads = made.reads;
+  none = of_any compiled k made (λ p g. (bytes : List ℕ) → IsText p g bytes text → ⊥) (compiled_game compiled) made.reads none;
+}
 
 -- a fault of a table that was asked
 module _ (old new : State) where

@@ -5,6 +5,10 @@ use Rattle.std.proofs.lemmas.Bool.{cases_lt}
 use Rattle.sector_disk.specs.Disk.{Picture, Shown, GoesOn, MayLeave}
 use Rattle.sector_disk.specs.aid.Moments.{still_honest, goes_on_refl, goes_on_trans}
 use Rattle.rbg_read.specs.Reading.{Reads}
+use Rattle.position_pack.specs.declared.kind.PackingKind.{PackingKind}
+use Rattle.position_pack.specs.declared.kind.PackingKind.TheVariants.{Bits}
+use Rattle.legal_moves.specs.Sources.{IsWideAt, graph_of}
+use Rattle.retrograde.specs.Sound.{IsLocallySound}
 use Rattle.game_table.specs.aid.Laws.{a_first_table_is_sound}
 use Rattle.game_file.specs.Kept.{Kept, Layout}
 use Rattle.game_file.specs.State.{State}
@@ -36,12 +40,16 @@ a_sound_table_is_exact (Some kept) (game, is_read, sound) =
 
 -- what a command may do to a sound table leaves it sound
 does_sound : (reply : Reply) (command : Command) (old new : Option Kept) → Does reply command old new → IsSound old → IsSound new
-does_sound Loaded (load text) old new loads sound = subst (λ (k : Option Kept). IsSound k) (sym loads.is) (loads.game, loads.reads, a_first_table_is_sound loads.game)
+does_sound Loaded (load text) old new loads sound = subst (λ (k : Option Kept). IsSound k) (sym loads.is) (loads.game, loads.reads, a_first_table_is_sound Bits loads.game)
 does_sound Loaded (work units) old new does sound = absurd does
 does_sound (Worked done counts) (load text) old new does sound = absurd does
 does_sound (Worked done counts) (work units) old new works sound =
     let (game, is_read, here) : IsSound (Some works.was) = subst (λ (k : Option Kept). IsSound k) works.loaded sound in
-    subst (λ (k : Option Kept). IsSound k) (sym works.worked) (game, subst (λ (text : List ℕ). Reads text game) (sym works.same_text) is_read, (works.work game is_read here).sound)
+    subst (λ (k : Option Kept). IsSound k) (sym works.worked) (
+      game,
+      subst (λ (text : List ℕ). Reads text game) (sym works.same_text) is_read,
+      subst (λ (packing : PackingKind). IsLocallySound (graph_of packing game) (IsWideAt packing game) works.is.table) (sym works.same_packing) (works.work game is_read here).sound,
+    )
 does_sound (Refused fault) command old new same sound = subst (λ (k : Option Kept). IsSound k) (sym same) sound
 
 pub what_may_be_done_is_sound : (command : Command) (old new : Option Kept) → MayDo command old new → IsSound old → IsSound new

@@ -6,8 +6,9 @@ use Rattle.sector_disk.specs.aid.Moments.{leaves_now, leaves_more}
 use Rattle.rbg_game.specs.Games.{Game}
 use Rattle.rbg_read.specs.Reading.{Reads}
 use Rattle.rbg_read.proofs.OneReading.{one_game}
+use Rattle.position_pack.specs.declared.kind.PackingKind.{PackingKind}
 use Rattle.legal_moves.specs.Sources.{IsWideAt, graph_of}
-use Rattle.legal_moves.specs.Compiled.{compiled_game}
+use Rattle.legal_moves.specs.Compiled.{compiled_game, packing_kind}
 use Rattle.legal_moves.specs.declared.compiled.Compiled.{Compiled}
 use Rattle.retrograde.specs.declared.records.Counts.{Counts}
 use Rattle.retrograde.specs.Changes.{counts_of}
@@ -33,91 +34,100 @@ use Rattle.recover.specs.Faults.{file_fault, step_fault, table_fault}
 use Rattle.recover.specs.Held.{IsSound}
 use Rattle.recover.specs.declared.replies.Reply.TheVariants.{Worked, Refused}
 use Rattle.recover.specs.Machine.{work, WorksOnTable, WorkCause, StopsAt}
-use Rattle.recover.specs.State.{IsSourceOf}
+use Rattle.recover.specs.State.{IsMadeOf, IsSourceOf}
 use Rattle.recover.specs.Steps.{IsDone, IsRefused}
 use Rattle.recover.proofs.Loading.{Leaves, put_stops}
 
 -- what is kept beside a game in memory
-pub kept_there : (source : Compiled) (kept : Option Kept) → IsSourceOf (Some source) kept → (k : Kept) × (kept ≡ Some k) × Reads k.text (compiled_game source)
+pub kept_there : (source : Compiled) (kept : Option Kept) → IsSourceOf (Some source) kept → (k : Kept) × (kept ≡ Some k) × IsMadeOf source k
 kept_there source None it = absurd it
 kept_there source (Some k) it = (k, refl, it)
 
 -- what is said of the table in hand is said of the one that is kept
 pub works_on : (source : Compiled) (k : Kept) (stored : Stored (List ℕ)) → stored ≡ k.table → (units count done : ℕ) (now : Stored (List ℕ)) → count ≡ units
-    → (IsLocallySound (graph_of (compiled_game source)) (IsWideAt (compiled_game source)) stored → IsWorkOf (compiled_game source) count stored done now)
-    → IsLocallySound (graph_of (compiled_game source)) (IsWideAt (compiled_game source)) k.table → IsWorkOf (compiled_game source) units k.table done now
+    → (IsLocallySound (graph_of (packing_kind source) (compiled_game source)) (IsWideAt (packing_kind source) (compiled_game source)) stored → IsWorkOf (packing_kind source) (compiled_game source) count stored done now)
+    → IsLocallySound (graph_of (packing_kind source) (compiled_game source)) (IsWideAt (packing_kind source) (compiled_game source)) k.table → IsWorkOf (packing_kind source) (compiled_game source) units k.table done now
 works_on source k stored same units count done now counted works =
-    subst (λ (n : ℕ). IsLocallySound (graph_of (compiled_game source)) (IsWideAt (compiled_game source)) k.table → IsWorkOf (compiled_game source) n k.table done now) counted
-    (subst (λ (t : Stored (List ℕ)). IsLocallySound (graph_of (compiled_game source)) (IsWideAt (compiled_game source)) t → IsWorkOf (compiled_game source) count t done now) same works)
+    subst (λ (n : ℕ). IsLocallySound (graph_of (packing_kind source) (compiled_game source)) (IsWideAt (packing_kind source) (compiled_game source)) k.table → IsWorkOf (packing_kind source) (compiled_game source) n k.table done now) counted
+    (subst (λ (t : Stored (List ℕ)). IsLocallySound (graph_of (packing_kind source) (compiled_game source)) (IsWideAt (packing_kind source) (compiled_game source)) t → IsWorkOf (packing_kind source) (compiled_game source) count t done now) same works)
 
 pub stops_on : (source : Compiled) (k : Kept) (stored : Stored (List ℕ)) → stored ≡ k.table → (units count : ℕ) (fault : StepFault) → count ≡ units
-    → (IsLocallySound (graph_of (compiled_game source)) (IsWideAt (compiled_game source)) stored → StopsWith (graph_of (compiled_game source)) (IsWideAt (compiled_game source)) stored count fault)
-    → IsLocallySound (graph_of (compiled_game source)) (IsWideAt (compiled_game source)) k.table → StopsWith (graph_of (compiled_game source)) (IsWideAt (compiled_game source)) k.table units fault
+    → (IsLocallySound (graph_of (packing_kind source) (compiled_game source)) (IsWideAt (packing_kind source) (compiled_game source)) stored → StopsWith (graph_of (packing_kind source) (compiled_game source)) (IsWideAt (packing_kind source) (compiled_game source)) stored count fault)
+    → IsLocallySound (graph_of (packing_kind source) (compiled_game source)) (IsWideAt (packing_kind source) (compiled_game source)) k.table → StopsWith (graph_of (packing_kind source) (compiled_game source)) (IsWideAt (packing_kind source) (compiled_game source)) k.table units fault
 stops_on source k stored same units count fault counted stops =
-    subst (λ (n : ℕ). IsLocallySound (graph_of (compiled_game source)) (IsWideAt (compiled_game source)) k.table → StopsWith (graph_of (compiled_game source)) (IsWideAt (compiled_game source)) k.table n fault) counted
-    (subst (λ (t : Stored (List ℕ)). IsLocallySound (graph_of (compiled_game source)) (IsWideAt (compiled_game source)) t → StopsWith (graph_of (compiled_game source)) (IsWideAt (compiled_game source)) t count fault) same stops)
+    subst (λ (n : ℕ). IsLocallySound (graph_of (packing_kind source) (compiled_game source)) (IsWideAt (packing_kind source) (compiled_game source)) k.table → StopsWith (graph_of (packing_kind source) (compiled_game source)) (IsWideAt (packing_kind source) (compiled_game source)) k.table n fault) counted
+    (subst (λ (t : Stored (List ℕ)). IsLocallySound (graph_of (packing_kind source) (compiled_game source)) (IsWideAt (packing_kind source) (compiled_game source)) t → StopsWith (graph_of (packing_kind source) (compiled_game source)) (IsWideAt (packing_kind source) (compiled_game source)) t count fault) same stops)
 
-module _ (source : Compiled) (k : Kept) (is_read : Reads k.text (compiled_game source)) where
+module _ (source : Compiled) (k : Kept) (made : IsMadeOf source k) where
   -- what holds of the source's game holds of any that the text read to
-  of_any : (P : Game → Type 0) (game : Game) → Reads k.text game → P (compiled_game source) → P game
-  of_any P game read so = subst P (one_game k.text (compiled_game source) game is_read read) so
+  pub of_any : (P : PackingKind → Game → Type 0) (game : Game) → Reads k.text game → P (packing_kind source) (compiled_game source) → P k.packing game
+  of_any P game read so =
+      subst (λ (g : Game). P k.packing g) (one_game k.text (compiled_game source) game made.reads read)
+      (subst (λ (p : PackingKind). P p (compiled_game source)) made.packing so)
 
-  pub to_source : (P : Game → Type 0) (game : Game) → Reads k.text game → P game → P (compiled_game source)
-  to_source P game read so = subst P (one_game k.text game (compiled_game source) read is_read) so
+  pub to_source : (P : PackingKind → Game → Type 0) (game : Game) → Reads k.text game → P k.packing game → P (packing_kind source) (compiled_game source)
+  to_source P game read so =
+      subst (λ (p : PackingKind). P p (compiled_game source)) (sym made.packing)
+      (subst (λ (g : Game). P k.packing g) (one_game k.text game (compiled_game source) read made.reads) so)
 
-  pub sound_here : IsSound (Some k) → IsLocallySound (graph_of (compiled_game source)) (IsWideAt (compiled_game source)) k.table
-  sound_here (game, read, sound) = to_source (λ g. IsLocallySound (graph_of g) (IsWideAt g) k.table) game read sound
+  pub sound_here : IsSound (Some k) → IsLocallySound (graph_of (packing_kind source) (compiled_game source)) (IsWideAt (packing_kind source) (compiled_game source)) k.table
+  sound_here (game, read, sound) = to_source (λ p g. IsLocallySound (graph_of p g) (IsWideAt p g) k.table) game read sound
 
   module _ (units done : ℕ) (now : Stored (List ℕ))
-      (works : IsLocallySound (graph_of (compiled_game source)) (IsWideAt (compiled_game source)) k.table → IsWorkOf (compiled_game source) units k.table done now) where
-    pub work_by : (game : Game) → Reads k.text game → IsLocallySound (graph_of game) (IsWideAt game) k.table → IsWorkOf game units k.table done now
+      (works : IsLocallySound (graph_of (packing_kind source) (compiled_game source)) (IsWideAt (packing_kind source) (compiled_game source)) k.table → IsWorkOf (packing_kind source) (compiled_game source) units k.table done now) where
+    pub work_by : (game : Game) → Reads k.text game → IsLocallySound (graph_of k.packing game) (IsWideAt k.packing game) k.table → IsWorkOf k.packing game units k.table done now
     work_by game read sound =
-        of_any (λ g. IsWorkOf g units k.table done now) game read (works (to_source (λ g. IsLocallySound (graph_of g) (IsWideAt g) k.table) game read sound))
+        of_any (λ p g. IsWorkOf p g units k.table done now) game read (works (to_source (λ p g. IsLocallySound (graph_of p g) (IsWideAt p g) k.table) game read sound))
 
     -- a sound table stays sound
-    pub worked_sound : IsSound (Some k) → IsSound (Some (kept_as k.text now))
-    worked_sound sound = (compiled_game source, is_read, (works (sound_here sound)).sound)
+    pub worked_sound : IsSound (Some k) → IsSound (Some (kept_as k.text k.packing now))
+    worked_sound sound = (
+      compiled_game source,
+      made.reads,
+      of_any (λ p g. IsLocallySound (graph_of p g) (IsWideAt p g) now) (compiled_game source) made.reads (works (sound_here sound)).sound,
+    )
 
     -- and fits, with positions of the same length
     pub not_unfit : IsSound (Some k) → ((n : ℕ) → FitsTogether n k.table → ¬ FitsTogether n now) → ⊥
     not_unfit sound cause =
         let game = compiled_game source in
         let here = sound_here sound in
-        let start = starts_are_positions k.text game is_read in
-        let (were, was_fits) = sound_tables_fit game k.table start here in
-        let (are, is_fits) = sound_tables_fit game now start (works here).sound in
-        cause (packed_length game) was_fits is_fits
+        let start = starts_are_positions k.text game made.reads in
+        let (were, was_fits) = sound_tables_fit (packing_kind source) game k.table start here in
+        let (are, is_fits) = sound_tables_fit (packing_kind source) game now start (works here).sound in
+        cause (packed_length (packing_kind source) game) was_fits is_fits
 
-module _ (Stores : Layout) (old new : State) (source : Compiled) (k : Kept) (is_read : Reads k.text (compiled_game source)) (loaded : old.kept ≡ Some k)
+module _ (Stores : Layout) (old new : State) (source : Compiled) (k : Kept) (made : IsMadeOf source k) (loaded : old.kept ≡ Some k)
     (units done : ℕ) (now : Stored (List ℕ))
-    (works : IsTrue old.disk.honest → IsLocallySound (graph_of (compiled_game source)) (IsWideAt (compiled_game source)) k.table → IsWorkOf (compiled_game source) units k.table done now) where
-  works_of : (counts : Counts) → counts ≡ counts_of now → IsTrue old.disk.honest → WorksOnTable units old.kept done counts (Some (kept_as k.text now))
+    (works : IsTrue old.disk.honest → IsLocallySound (graph_of (packing_kind source) (compiled_game source)) (IsWideAt (packing_kind source) (compiled_game source)) k.table → IsWorkOf (packing_kind source) (compiled_game source) units k.table done now) where
+  works_of : (counts : Counts) → counts ≡ counts_of now → IsTrue old.disk.honest → WorksOnTable units old.kept done counts (Some (kept_as k.text k.packing now))
   works_of counts counted honest = record {
     was = k;
     loaded = loaded;
-    is = kept_as k.text now;
+    is = kept_as k.text k.packing now;
     worked = refl;
     same_text = refl;
-    work = work_by source k is_read units done now (works honest);
+    same_packing = refl;
+    work = work_by source k made units done now (works honest);
     counted = counted;
   }
 
   -- units are done and kept
   pub worked_done : (counts : Counts) → (IsTrue old.disk.honest → counts ≡ counts_of now) → Leaves Stores new → GoesOn old.disk new.disk
-      → IsPut Stores (kept_as k.text now) old new → IsDone Stores (work units) (Worked done counts) old new
+      → IsPut Stores (kept_as k.text k.packing now) old new → IsDone Stores (work units) (Worked done counts) old new
   worked_done counts counted leaves goes_on put = record {
     step = record {
       does = λ honest. subst (λ (kept : Option Kept). WorksOnTable units old.kept done counts kept) (sym (put.kept honest)) (works_of counts (counted honest) honest);
       reason = tt;
     };
-    stops = put_stops Stores (kept_as k.text now) old new leaves goes_on put;
+    stops = put_stops Stores (kept_as k.text k.packing now) old new leaves goes_on put;
   }
 
   -- they are kept, and sound
-  pub kept_sound : IsTrue old.disk.honest → IsSound old.kept → IsPut Stores (kept_as k.text now) old new → IsSound new.kept
+  pub kept_sound : IsTrue old.disk.honest → IsSound old.kept → IsPut Stores (kept_as k.text k.packing now) old new → IsSound new.kept
   kept_sound honest sound put =
       subst (λ (kept : Option Kept). IsSound kept) (sym (put.kept honest))
-      (worked_sound source k is_read units done now (works honest) (subst (λ (kept : Option Kept). IsSound kept) loaded sound))
+      (worked_sound source k made units done now (works honest) (subst (λ (kept : Option Kept). IsSound kept) loaded sound))
 
   keep_cause : (fault : FileFault) → FileCommitCause k.table now old new fault → WorkCause units old new (file_fault fault)
   keep_cause file.Disk cause = cause
@@ -130,35 +140,36 @@ module _ (Stores : Layout) (old new : State) (source : Compiled) (k : Kept) (is_
   keep_cause file.OutOfMemory cause = tt
   keep_cause file.Closed cause = cause
   keep_cause file.Inconsistent cause = λ honest sound.
-      not_unfit source k is_read units done now (works honest) (subst (λ (kept : Option Kept). IsSound kept) loaded sound) (cause honest)
+      not_unfit source k made units done now (works honest) (subst (λ (kept : Option Kept). IsSound kept) loaded sound) (cause honest)
 
   -- they are not kept
-  pub not_kept : (fault : FileFault) → IsNotPut Stores (kept_as k.text now) old new → FileCommitCause k.table now old new fault
+  pub not_kept : (fault : FileFault) → IsNotPut Stores (kept_as k.text k.packing now) old new → FileCommitCause k.table now old new fault
       → (fault ≢ file.Disk → new.closed ≡ old.closed) → IsRefused Stores (work units) old new (file_fault fault)
   not_kept fault left cause still = record {
     step = record { does = left.kept; reason = keep_cause fault cause };
     stops = record {
       same = left.kept;
       since = left.leaves;
-      failed = λ honest was is. (Some (kept_as k.text now), (Worked done (counts_of now), works_of (counts_of now) refl honest), left.either honest was);
+      failed = λ honest was is. (Some (kept_as k.text k.packing now), (Worked done (counts_of now), works_of (counts_of now) refl honest), left.either honest was);
     };
     still = λ other. still (λ is. other (ap file_fault is));
   }
 
 -- no unit is done, and nothing kept
-pub idle_done : (Stores : Layout) (state : State) (source : Compiled) (k : Kept) → Reads k.text (compiled_game source) → state.kept ≡ Some k → (units done : ℕ) (now : Stored (List ℕ)) (counts : Counts)
-    → (IsTrue state.disk.honest → IsLocallySound (graph_of (compiled_game source)) (IsWideAt (compiled_game source)) k.table → IsWorkOf (compiled_game source) units k.table done now)
+pub idle_done : (Stores : Layout) (state : State) (source : Compiled) (k : Kept) → IsMadeOf source k → state.kept ≡ Some k → (units done : ℕ) (now : Stored (List ℕ)) (counts : Counts)
+    → (IsTrue state.disk.honest → IsLocallySound (graph_of (packing_kind source) (compiled_game source)) (IsWideAt (packing_kind source) (compiled_game source)) k.table → IsWorkOf (packing_kind source) (compiled_game source) units k.table done now)
     → (IsTrue state.disk.honest → now ≡ k.table) → (IsTrue state.disk.honest → counts ≡ counts_of now) → Leaves Stores state → state.closed ≡ false
     → IsDone Stores (work units) (Worked done counts) state state
-idle_done Stores state source k is_read loaded units done now counts works same counted leaves is_open = record {
+idle_done Stores state source k made loaded units done now counts works same counted leaves is_open = record {
   step = record {
     does = λ honest. record {
       was = k;
       loaded = loaded;
-      is = kept_as k.text now;
-      worked = loaded ∙ ap (λ (t : Stored (List ℕ)). Some (kept_as k.text t)) (sym (same honest));
+      is = kept_as k.text k.packing now;
+      worked = loaded ∙ ap (λ (t : Stored (List ℕ)). Some (kept_as k.text k.packing t)) (sym (same honest));
       same_text = refl;
-      work = work_by source k is_read units done now (works honest);
+      same_packing = refl;
+      work = work_by source k made units done now (works honest);
       counted = counted honest;
     };
     reason = tt;
@@ -180,22 +191,22 @@ given_up Fails Cause step.Inconsistent left back failed = let b = back left in (
 given_up Fails Cause step.OutOfMemory left back failed = let b = back left in (b.0, b.1)
 given_up Fails Cause (step.Table fault) left back failed = let b = failed fault left in (b.0, b.1)
 
-module _ (Stores : Layout) (old new : State) (source : Compiled) (k : Kept) (is_read : Reads k.text (compiled_game source)) (loaded : old.kept ≡ Some k) (units : ℕ) where
-  stops_at : (fault : StepFault) → (IsTrue old.disk.honest → IsLocallySound (graph_of (compiled_game source)) (IsWideAt (compiled_game source)) k.table
-      → StopsWith (graph_of (compiled_game source)) (IsWideAt (compiled_game source)) k.table units fault) → IsTrue old.disk.honest → StopsAt units old.kept fault
+module _ (Stores : Layout) (old new : State) (source : Compiled) (k : Kept) (made : IsMadeOf source k) (loaded : old.kept ≡ Some k) (units : ℕ) where
+  stops_at : (fault : StepFault) → (IsTrue old.disk.honest → IsLocallySound (graph_of (packing_kind source) (compiled_game source)) (IsWideAt (packing_kind source) (compiled_game source)) k.table
+      → StopsWith (graph_of (packing_kind source) (compiled_game source)) (IsWideAt (packing_kind source) (compiled_game source)) k.table units fault) → IsTrue old.disk.honest → StopsAt units old.kept fault
   stops_at fault cause honest =
       subst (λ (kept : Option Kept). StopsAt units kept fault) (sym loaded)
       (λ game read sound.
-      of_any source k is_read (λ g. StopsWith (graph_of g) (IsWideAt g) k.table units fault) game read
-      (cause honest (to_source source k is_read (λ g. IsLocallySound (graph_of g) (IsWideAt g) k.table) game read sound)))
+      of_any source k made (λ p g. StopsWith (graph_of p g) (IsWideAt p g) k.table units fault) game read
+      (cause honest (to_source source k made (λ p g. IsLocallySound (graph_of p g) (IsWideAt p g) k.table) game read sound)))
 
-  other_origin : (IsTrue old.disk.honest → IsLocallySound (graph_of (compiled_game source)) (IsWideAt (compiled_game source)) k.table → ⊥) → IsTrue old.disk.honest → IsSound old.kept → ⊥
-  other_origin consistent honest sound = consistent honest (sound_here source k is_read (subst (λ (kept : Option Kept). IsSound kept) loaded sound))
+  other_origin : (IsTrue old.disk.honest → IsLocallySound (graph_of (packing_kind source) (compiled_game source)) (IsWideAt (packing_kind source) (compiled_game source)) k.table → ⊥) → IsTrue old.disk.honest → IsSound old.kept → ⊥
+  other_origin consistent honest sound = consistent honest (sound_here source k made (subst (λ (kept : Option Kept). IsSound kept) loaded sound))
 
   module _ (Ahead : Type 0) (Fails : TableFault → Type 0) (cause_of : (f : TableFault) → Fails f → FileTableCause old new f) where
     work_cause : (fault : StepFault)
-        → (IsTrue old.disk.honest → IsLocallySound (graph_of (compiled_game source)) (IsWideAt (compiled_game source)) k.table → StopsWith (graph_of (compiled_game source)) (IsWideAt (compiled_game source)) k.table units fault)
-        → (IsTrue old.disk.honest → IsLocallySound (graph_of (compiled_game source)) (IsWideAt (compiled_game source)) k.table → fault ≡ step.Inconsistent → ⊥)
+        → (IsTrue old.disk.honest → IsLocallySound (graph_of (packing_kind source) (compiled_game source)) (IsWideAt (packing_kind source) (compiled_game source)) k.table → StopsWith (graph_of (packing_kind source) (compiled_game source)) (IsWideAt (packing_kind source) (compiled_game source)) k.table units fault)
+        → (IsTrue old.disk.honest → IsLocallySound (graph_of (packing_kind source) (compiled_game source)) (IsWideAt (packing_kind source) (compiled_game source)) k.table → fault ≡ step.Inconsistent → ⊥)
         → LeavesUnit Ahead Fails fault → WorkCause units old new (step_fault fault)
     work_cause step.TooWide cause consistent left = stops_at step.TooWide cause
     work_cause (step.KeeperChooses number) cause consistent left = stops_at (step.KeeperChooses number) cause
@@ -213,8 +224,8 @@ module _ (Stores : Layout) (old new : State) (source : Compiled) (k : Kept) (is_
 
     -- units are refused, and the command is given up
     pub work_refused : (fault : StepFault)
-        → (IsTrue old.disk.honest → IsLocallySound (graph_of (compiled_game source)) (IsWideAt (compiled_game source)) k.table → StopsWith (graph_of (compiled_game source)) (IsWideAt (compiled_game source)) k.table units fault)
-        → (IsTrue old.disk.honest → IsLocallySound (graph_of (compiled_game source)) (IsWideAt (compiled_game source)) k.table → fault ≡ step.Inconsistent → ⊥)
+        → (IsTrue old.disk.honest → IsLocallySound (graph_of (packing_kind source) (compiled_game source)) (IsWideAt (packing_kind source) (compiled_game source)) k.table → StopsWith (graph_of (packing_kind source) (compiled_game source)) (IsWideAt (packing_kind source) (compiled_game source)) k.table units fault)
+        → (IsTrue old.disk.honest → IsLocallySound (graph_of (packing_kind source) (compiled_game source)) (IsWideAt (packing_kind source) (compiled_game source)) k.table → fault ≡ step.Inconsistent → ⊥)
         → LeavesUnit Ahead Fails fault → old.closed ≡ false → IsKept Stores old new
         → (Ahead → new.closed ≡ old.closed) → ((f : TableFault) → Fails f → f ≢ table.Disk → new.closed ≡ old.closed)
         → IsRefused Stores (work units) old new (step_fault fault)

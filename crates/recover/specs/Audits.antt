@@ -2,7 +2,6 @@
 use Rattle.std.specs.Prelude.{List, ℕ}
 use Rattle.rbg_game.specs.Games.{Game}
 use Rattle.rbg_read.specs.Reading.{Reads}
-use Rattle.legal_moves.specs.Sources.{IsWideAt}
 use Rattle.retrograde.specs.Stored.{view_of}
 use Rattle.audit.specs.Answers.{IsAnswer, IsSo}
 use Rattle.audit.specs.Causes.{HasWide}
@@ -11,12 +10,12 @@ use Rattle.game_file.specs.Kept.{Kept}
 use Rattle.game_file.specs.State.{State}
 use Rattle.recover.specs.declared.fault.SolverFault.{SolverFault}
 use Rattle.recover.specs.declared.fault.SolverFault.TheVariants.{TooWide}
-use Rattle.recover.specs.Held.{graph_in}
+use Rattle.recover.specs.Held.{graph_in, wide_in}
 use Rattle.recover.specs.Queries.{Tells, AskCause}
 
 -- the answer is the verdict of the table that is kept, by the game that its text reads to
 abbrev pub HasVerdict : Verdict → Kept → Type 0
-HasVerdict verdict kept = (game : Game) → Reads kept.text game → IsAnswer (graph_in game kept) (IsWideAt game) kept.table verdict
+HasVerdict verdict kept = (game : Game) → Reads kept.text game → IsAnswer (graph_in game kept) (wide_in game kept) kept.table verdict
 
 -- what the table says is so in that game: each settled position is won by the named player in exactly the named number of moves, and
 -- where it is finished, its positions are those that play can come to, and the unsettled ones are the drawn
@@ -25,7 +24,7 @@ IsSoInGame kept = (game : Game) → Reads kept.text game → IsSo (graph_in game
 
 -- some expanded position is too wide
 abbrev pub HasWidePosition : Kept → Type 0
-HasWidePosition kept = (game : Game) → Reads kept.text game → HasWide (IsWideAt game) kept.table
+HasWidePosition kept = (game : Game) → Reads kept.text game → HasWide (wide_in game kept) kept.table
 
 -- why `audit` gives no verdict
 abbrev pub AuditCause : State → State → SolverFault → Type 0

@@ -9,14 +9,19 @@ use Rattle.retrograde.specs.Sound.{IsLocallySound}
 use Rattle.game_table.specs.Tables.{ArePositions}
 use Rattle.game_file.specs.Kept.{Kept, Layout}
 
--- the game of a table as a graph of positions: where it starts, who has the turn, who is ahead, and where a move leads
+-- the game of a table as a graph of positions, packed as the table has them: where it starts, who has the turn, who is ahead, and where
+-- a move leads
 abbrev pub graph_in : Game → Kept → Graph (List ℕ)
-graph_in game kept = graph_of game
+graph_in game kept = graph_of kept.packing game
+
+-- the search for the moves of the position reaches too many
+abbrev pub wide_in : Game → Kept → List ℕ → Type 0
+wide_in game kept = IsWideAt kept.packing game
 
 -- the text reads to this game, and each position of the table is one of its positions
 pub record IsOf (game : Game) (kept : Kept) : Type 0 where
   pub reads : Reads kept.text game
-  pub positions : ArePositions game kept.table
+  pub positions : ArePositions kept.packing game kept.table
 
 -- no game is loaded, or the text reads to one and the table has its positions
 abbrev pub IsOfAGame : Option Kept → Type 0
@@ -32,4 +37,4 @@ module _ (Stores : Layout) where
 -- no game is loaded, or the table is locally sound for the game that the text reads to
 abbrev pub IsSound : Option Kept → Type 0
 IsSound None = Unit {0}
-IsSound (Some kept) = (game : Game) × Reads kept.text game × IsLocallySound (graph_in game kept) (IsWideAt game) kept.table
+IsSound (Some kept) = (game : Game) × Reads kept.text game × IsLocallySound (graph_in game kept) (wide_in game kept) kept.table

@@ -5,7 +5,8 @@ use Rattle.rbg_game.specs.Games.{Game}
 use Rattle.rbg_read.specs.Reading.{Reads, Fault}
 use Rattle.rbg_read.specs.declared.fault.GameFault.{GameFault}
 use Rattle.rbg_read.specs.declared.fault.GameFault.TheVariants as game_fault
-use Rattle.legal_moves.specs.Sources.{IsWideAt, graph_of}
+use Rattle.position_pack.specs.declared.kind.PackingKind.TheVariants.{Bits}
+use Rattle.legal_moves.specs.Sources.{graph_of}
 use Rattle.retrograde.specs.declared.records.Counts.{Counts}
 use Rattle.retrograde.specs.Changes.{counts_of}
 use Rattle.retrograde.specs.Sound.{IsLocallySound}
@@ -20,7 +21,7 @@ use Rattle.recover.specs.declared.fault.SolverFault.TheVariants.{Disk, Damaged, 
 use Rattle.recover.specs.declared.fault.SolverFault.TheVariants.{GameAlready, KeeperChooses, TooWide, TooManyPositions, Inconsistent}
 use Rattle.recover.specs.declared.replies.Reply.{Reply}
 use Rattle.recover.specs.declared.replies.Reply.TheVariants.{Loaded, Worked, Refused}
-use Rattle.recover.specs.Held.{graph_in}
+use Rattle.recover.specs.Held.{graph_in, wide_in}
 use Rattle.recover.specs.State.{IsOfOtherOrigin}
 
 -- what changes the table
@@ -28,12 +29,12 @@ pub data Command : Type 0 where
   load : (text : List ℕ) → Command
   work : (units : ℕ) → Command
 
--- where no game is loaded, the game that the text reads to is now, and its start is known and no more
+-- where no game is loaded, the game that the text reads to is now, its positions packed by bits, and its start is known and no more
 pub record Loads (text : List ℕ) (old new : Option Kept) : Type 0 where
   pub none : old ≡ None
   pub game : Game
   pub reads : Reads text game
-  pub is : new ≡ Some (record { text = text; table = loaded (graph_of game).start })
+  pub is : new ≡ Some (record { text = text; packing = Bits; table = loaded (graph_of Bits game).start })
 
 -- so many units were asked of the old table and these done, or the new one is finished by then; it has these counts. Nothing is said
 -- of a table that is not sound
@@ -43,8 +44,9 @@ pub record WorksOnTable (units : ℕ) (old : Option Kept) (done : ℕ) (counts :
   pub is : Kept
   pub worked : new ≡ Some is
   pub same_text : is.text ≡ was.text
-  pub work : (game : Game) → Reads was.text game → IsLocallySound (graph_in game was) (IsWideAt game) was.table
-      → AreDone (graph_in game was) (IsWideAt game) units was.table done is.table
+  pub same_packing : is.packing ≡ was.packing
+  pub work : (game : Game) → Reads was.text game → IsLocallySound (graph_in game was) (wide_in game was) was.table
+      → AreDone (graph_in game was) (wide_in game was) units was.table done is.table
   pub counted : counts ≡ counts_of is.table
 
 -- what a command with this reply does to the table: it is done where the reply says so, and a refusal leaves the table
@@ -62,8 +64,8 @@ MayDo command old new = (reply : Reply) × Does reply command old new
 abbrev pub StopsAt : ℕ → Option Kept → StepFault → Type 0
 StopsAt units None fault = ⊥
 StopsAt units (Some kept) fault =
-    (game : Game) → Reads kept.text game → IsLocallySound (graph_in game kept) (IsWideAt game) kept.table
-    → StopsWith (graph_in game kept) (IsWideAt game) kept.table units fault
+    (game : Game) → Reads kept.text game → IsLocallySound (graph_in game kept) (wide_in game kept) kept.table
+    → StopsWith (graph_in game kept) (wide_in game kept) kept.table units fault
 
 -- the first fault of a text; out of memory needs no cause
 abbrev pub TextCause : List ℕ → GameFault → Type 0

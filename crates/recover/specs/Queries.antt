@@ -56,21 +56,21 @@ pub record HasText (number : ℕ) (text : List ℕ) (kept : Kept) : Type 0 where
   pub reads : Reads kept.text game
   pub bytes : List ℕ
   pub number_is : HasNumber (view_of kept.table) number bytes
-  pub text_is : IsText game bytes text
+  pub text_is : IsText kept.packing game bytes text
 
 -- the text is that of a position of the game which is not known
 pub record IsOfUnknown (text : List ℕ) (kept : Kept) : Type 0 where
   pub game : Game
   pub reads : Reads kept.text game
   pub bytes : List ℕ
-  pub text_is : IsText game bytes text
+  pub text_is : IsText kept.packing game bytes text
   pub unknown : (number : ℕ) → ¬ HasNumber (view_of kept.table) number bytes
 
 -- the text is that of no position of the game
 pub record IsOfNone (text : List ℕ) (kept : Kept) : Type 0 where
   pub game : Game
   pub reads : Reads kept.text game
-  pub none : (bytes : List ℕ) → ¬ IsText game bytes text
+  pub none : (bytes : List ℕ) → ¬ IsText kept.packing game bytes text
 
 -- why no question can be asked: the disk failed, or is not honest, memory is short, the solver is closed, or no game is loaded
 abbrev pub AskCause : State → State → SolverFault → Type 0

@@ -18,6 +18,7 @@ use crate::{Refused, Reply, SolverFault, Units, Worked};
 use game_file::GameFile;
 use game_table::Source;
 use page_store::MOST_CACHED;
+use position_pack::PackingKind;
 use retrograde::Counts;
 use sector_disk::SectorDisk;
 use std::alloc::Global;
@@ -126,8 +127,8 @@ impl<F: GameFile> FileSolver<F> {
         if self.file.text().is_some() {
             return Err(SolverFault::GameAlready);
         }
-        let source = Source::read(self.alloc, text)?;
-        self.file.load(text, &source.start())?;
+        let source = Source::read(self.alloc, text, PackingKind::Bits)?;
+        self.file.load(text, PackingKind::Bits, &source.start())?;
         self.source = Some(source);
         Ok(())
     }

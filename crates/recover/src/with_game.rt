@@ -25,7 +25,10 @@ fn source_in<F: GameFile>(alloc: Global, file: &mut F) -> Result<Option<Source>,
     let Some(text) = file.text() else {
         return Ok(None);
     };
-    let source = match Source::read(alloc, text) {
+    let Some(kind) = file.packing() else {
+        return Ok(None);
+    };
+    let source = match Source::read(alloc, text, kind) {
         Ok(source) => source,
         Err(GameFault::OutOfMemory) => return Err(SolverFault::OutOfMemory),
         Err(_) => return Err(SolverFault::Damaged),

@@ -1,7 +1,9 @@
 -- What the 512 bytes of a root slot say in every layout. All numbers have their highest byte first.
-use Rattle.std.specs.Prelude.{◌≡◌, ℕ, ◌/◌, ◌≤◌, ◌<◌, min, List, length, drop, slice_index}
+use Rattle.std.specs.Prelude.{◌≡◌, ◌==◌, if◌then◌else◌, ℕ, ◌/◌, ◌≤◌, ◌<◌, min, List, length, drop, slice_index}
 use Rattle.byteorder.specs.Endian.{big_number}
 use Rattle.sector_disk.specs.Disk.{Picture}
+use Rattle.position_pack.specs.declared.kind.PackingKind.{PackingKind}
+use Rattle.position_pack.specs.declared.kind.PackingKind.TheVariants.{Bytes, Bits}
 use Rattle.table_bytes.specs.declared.sizes.Sizes.{Sizes}
 
 -- the number in the four bytes from there on
@@ -16,9 +18,18 @@ long_at root at = big_number 8 (drop at root)
 abbrev pub layout_in : List ℕ → ℕ
 layout_in root = word_at root 0
 
--- how positions are packed, 0 where no game is loaded
+-- the number of how positions are packed, 0 where no game is loaded
 abbrev pub packing_in : List ℕ → ℕ
 packing_in root = word_at root 4
+
+-- the number of each packing
+abbrev pub number_of_packing : PackingKind → ℕ
+number_of_packing Bytes = 1
+number_of_packing Bits = 2
+
+-- the packing that the slot names; of a number that is none's it is some packing, of which nothing is said
+abbrev pub kind_in : List ℕ → PackingKind
+kind_in root = if packing_in root == 2 then Bits else Bytes
 
 -- how many commits there were since the file was made; 0 follows the greatest number
 abbrev pub commits_in : List ℕ → ℕ

@@ -2,5 +2,7 @@
 #![tactic(auto)]
 
 mod fields;
+mod packing;
 
 pub use fields::{are_within_limits, are_zero, long_at, put_long, put_word, sizes_in, word_at};
+pub use packing::{number_of_packing, packing_numbered};

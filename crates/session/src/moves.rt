@@ -13,7 +13,7 @@ use crate::refused::Refused;
 use legal_moves::compiled::Compiled;
 use legal_moves::fault::MoveFault;
 use legal_moves::moves::Moves;
-use position_pack::Packing;
+use position_pack::{Packing, PackingKind};
 use rbg_read::read::read_game;
 use std::alloc::{AllocError, Global};
 use std::io::{self, Write};
@@ -91,7 +91,7 @@ fn write_moves<W: Write>(alloc: Global, text: &[u8], out: &mut W) -> Result<(), 
         Ok(game) => game,
         Err(fault) => return Err(Stop::Refused(Refused::Game(fault))),
     };
-    let compiled = Compiled::new(alloc, game)?;
+    let compiled = Compiled::new(alloc, game, PackingKind::Bytes)?;
     let start = compiled.start();
     let moves = match compiled.moves(alloc, &start) {
         Ok(moves) => moves,
@@ -157,7 +157,7 @@ fn line_at(
     ensures { IfOk result (λ line. IfSome (slice_get moves.now k) (λ m. IsLine (compiled_game compiled.now) m line.items)) }
 {
     let word = moves.word(alloc, k)?;
-    let packing = Packing::new(compiled.game());
+    let packing = Packing::new(compiled.game(), PackingKind::Bytes);
     let Some(next) = packing.unpack(moves.successor(k)) else {
         unreachable!()
     };

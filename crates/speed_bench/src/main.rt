@@ -6,6 +6,7 @@ ghost use Rattle.rbg_game.specs.Sound.{IsSoundGame};
 
 use legal_moves::compiled::Compiled;
 use legal_moves::source::MoveSource;
+use position_pack::PackingKind;
 use rbg_game::game::Game;
 use rbg_read::read::read_game;
 use retrograde::Counts;
@@ -47,7 +48,7 @@ fn run(rt: &HostRuntime) -> io::Result<()> {
 fn solve(rt: &HostRuntime, alloc: Global, game: Game, limit: u32) -> io::Result<()>
     requires { IsSoundGame (game_of game) }
 {
-    let compiled = Compiled::new(alloc, game)?;
+    let compiled = Compiled::new(alloc, game, PackingKind::Bytes)?;
     let Ok(mut table) = MemTable::new(alloc, &MoveSource::start(&compiled)) else {
         return rt.eprintln("memory ran out");
     };

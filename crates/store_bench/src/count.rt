@@ -3,7 +3,7 @@
 use arrayvec::ArrayVec;
 use game_file::GameFile;
 use page_store::PageStore;
-use position_pack::Packed;
+use position_pack::{Packed, PackingKind};
 use rbg_game::roles::Player;
 use retrograde::{Counts, Record, State};
 use sector_disk::SectorDisk;
@@ -39,7 +39,7 @@ pub fn begun<D: SectorDisk + Drop>(
         Ok(table) => table,
         Err(refused) => return Err(refused.fault.into()),
     };
-    table.load(b"count", &position(0))?;
+    table.load(b"count", PackingKind::Bytes, &position(0))?;
     Ok(table)
 }
 

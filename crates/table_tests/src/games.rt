@@ -1,6 +1,7 @@
 //! Games made ready for their moves, with their tables.
 use game_table::Source;
 use legal_moves::MoveSource;
+use position_pack::PackingKind;
 use rbg_game::roles::Player;
 use retrograde::Record;
 use std::alloc::Global;
@@ -15,9 +16,9 @@ pub struct Solving {
     pub table: MemTable,
 }
 
-/// The game of a text.
-pub fn source_of(alloc: Global, text: &str) -> Result<Source, Fail> {
-    Ok(Source::read(alloc, text.as_bytes())?)
+/// The game of a text, with its positions by bytes or by bits.
+pub fn source_of(alloc: Global, text: &str, kind: PackingKind) -> Result<Source, Fail> {
+    Ok(Source::read(alloc, text.as_bytes(), kind)?)
 }
 
 /// A game of white and black on one vertex, with these variables and rules.
@@ -33,9 +34,14 @@ fn fresh(alloc: Global, source: &Source) -> Result<MemTable, Fail> {
     Ok(MemTable::new(alloc, &source.start())?)
 }
 
-/// A game that was just loaded.
+/// A game that was just loaded, with its positions by bytes.
 pub fn begun(alloc: Global, text: &str) -> Result<Solving, Fail> {
-    let source = source_of(alloc, text)?;
+    begun_by(alloc, text, PackingKind::Bytes)
+}
+
+/// A game that was just loaded, with its positions by bytes or by bits.
+pub fn begun_by(alloc: Global, text: &str, kind: PackingKind) -> Result<Solving, Fail> {
+    let source = source_of(alloc, text, kind)?;
     let table = fresh(alloc, &source)?;
     Ok(Solving { source, table })
 }

@@ -1,9 +1,9 @@
 //! Tables in memory, worked to their end, against the plain solver.
 use crate::game_texts::{FORK, HEXAPAWN, NIM, SMALL};
-use crate::games::{Solving, begun, small, winner, works};
+use crate::games::{Solving, begun_by, small, winner, works};
 use crate::plain::{Node, Outcome, solve};
 use game_table::Source;
-use position_pack::Packed;
+use position_pack::{Packed, PackingKind};
 use std::alloc::Global;
 use std::test::Fail;
 use table::Table;
@@ -36,11 +36,16 @@ fn plain(alloc: Global, source: &Source) -> Result<Vec<Node>, Fail> {
     solve(alloc, source.moves())
 }
 
-/// Whether the finished table of a game has the positions and the values that the plain solver finds.
-fn agrees(alloc: Global, text: &str) -> Result<bool, Fail> {
-    let Solving { source, mut table } = begun(alloc, text)?;
+/// Whether the finished table of a game has the positions and the values that the plain solver finds, by this packing.
+fn agrees_by(alloc: Global, text: &str, kind: PackingKind) -> Result<bool, Fail> {
+    let Solving { source, mut table } = begun_by(alloc, text, kind)?;
     works(alloc, source.moves(), &mut table, u32::MAX)?;
     has_all(&mut table, &plain(alloc, &source)?)
+}
+
+/// Whether it has them by either packing.
+fn agrees(alloc: Global, text: &str) -> Result<bool, Fail> {
+    Ok(agrees_by(alloc, text, PackingKind::Bytes)? && agrees_by(alloc, text, PackingKind::Bits)?)
 }
 
 /// Expects of each of these small games that its table agrees with the plain solver.

@@ -1,7 +1,7 @@
 //! A game's table from its text to its end, and positions as text.
-use crate::games::{Solving, begun, source_of};
+use crate::games::{Solving, begun_by, source_of};
 use game_table::Source;
-use position_pack::Packed;
+use position_pack::{Packed, PackingKind};
 use std::alloc::Global;
 use std::test::Fail;
 use table::{MemTable, Table};
@@ -30,8 +30,11 @@ fn expect_work<T: Table>(alloc: Global, source: &Source, table: &mut T) -> Resul
 
 #[test]
 fn takes_are_worked_to_their_end(rt: HostRuntime) -> Result<(), Fail> {
-    let Solving { source, mut table } = begun(rt.alloc(), TAKE)?;
-    expect_work(rt.alloc(), &source, &mut table)
+    for kind in [PackingKind::Bytes, PackingKind::Bits] {
+        let Solving { source, mut table } = begun_by(rt.alloc(), TAKE, kind)?;
+        expect_work(rt.alloc(), &source, &mut table)?;
+    }
+    Ok(())
 }
 
 /// A table whose start has these bytes.
@@ -61,15 +64,14 @@ fn expect_starts(alloc: Global, source: &Source) -> Result<(), Fail> {
 
 #[test]
 fn positions_of_another_game_are_told(rt: HostRuntime) -> Result<(), Fail> {
-    let source = source_of(rt.alloc(), TAKE)?;
+    let source = source_of(rt.alloc(), TAKE, PackingKind::Bytes)?;
     expect_starts(rt.alloc(), &source)
 }
 
 /// Expects of the text of a position these bytes, and of another text none.
-fn expect_bytes(source: &Source) -> Result<(), Fail> {
+fn expect_bytes(source: &Source, want: &[u8]) -> Result<(), Fail> {
     let bytes = source.position(b">> 2 v e 0,0,3").ok_or("no position")?;
-    let want = [0, 0, 0, 0, 0, 0, 0, 0, 0, 3, 0, 0, 0, 2];
-    expect(bytes.as_slice(), want.as_slice(), "a position")?;
+    expect(bytes.as_slice(), want, "a position")?;
     expect(
         source.position(b">> 2 v e 0,0,4").is_none(),
         true,
@@ -79,6 +81,8 @@ fn expect_bytes(source: &Source) -> Result<(), Fail> {
 
 #[test]
 fn a_position_has_its_bytes(rt: HostRuntime) -> Result<(), Fail> {
-    let source = source_of(rt.alloc(), TAKE)?;
-    expect_bytes(&source)
+    let by_bytes = source_of(rt.alloc(), TAKE, PackingKind::Bytes)?;
+    expect_bytes(&by_bytes, &[0, 0, 0, 0, 0, 0, 0, 0, 0, 3, 0, 0, 0, 2])?;
+    let by_bits = source_of(rt.alloc(), TAKE, PackingKind::Bits)?;
+    expect_bytes(&by_bits, &[0x30, 0x80])
 }

@@ -15,6 +15,7 @@ use Rattle.retrograde.specs.Changes.{counts_of}
 use Rattle.retrograde.specs.Stored.{Stored, IsTable}
 use Rattle.table.specs.declared.fault.TableFault.{TableFault}
 use Rattle.table.specs.declared.fault.TableFault.TheVariants as table
+use Rattle.root_slot.specs.aid.Packings.{some_number}
 use Rattle.game_file.specs.Faults.{of_pages, of_table}
 use Rattle.game_file.specs.Kept.{Kept, kept_as}
 use Rattle.tree_map.specs.Entries.{Ascend}
@@ -67,7 +68,7 @@ moved slot one other t pages es long same tree =
 -- where the slot names a game nothing but a game is kept
 game_alone : (root : List ℕ) (slot : TreeSlot) (capacity : ℕ) (bytes : ℕ → List ℕ) → SaysTrees root (Some slot)
     → ((kept : Kept) → KeepsGameTrees root capacity kept bytes → ⊥) → (kept : Option Kept) → ¬ KeepsTrees root capacity kept bytes
-game_alone root slot capacity bytes says none None keeps = omega (arith, keeps.packing, says.0.packing)
+game_alone root slot capacity bytes says none None keeps = omega (arith, keeps.packing, says.0.packing, some_number slot.packing)
 game_alone root slot capacity bytes says none (Some kept) keeps = none kept keeps
 
 -- a game that is kept, in the words of its slot
@@ -204,7 +205,7 @@ module _ (old : Store) (slot : TreeSlot) (says : SaysTrees old.root (Some slot))
         pub game_read : (new : Store) → new.marks ≡ far.marks → IsTrue old.disk.honest → (stored : Stored (List ℕ)) → SpellTable slot.sizes entries stored
             → IsReadGame content old new
         game_read new same honest stored spell = record {
-          kept = kept_as content stored;
+          kept = kept_as content slot.packing stored;
           text_is = refl;
           text_pages = text_pages;
           pages = pages;

@@ -18,7 +18,7 @@ use Rattle.page_store.specs.Store.{Store, IsSoundStore, StoreWorks, IsRemarked, 
 use Rattle.retrograde.specs.Stored.{Stored, IsTable}
 use Rattle.root_slot.specs.Fields.{commits_in}
 use Rattle.game_file.specs.Calls.{IsPut, IsNotPut, IsKept}
-use Rattle.game_file.specs.Kept.{Kept, kept_as, text_kept}
+use Rattle.game_file.specs.Kept.{Kept, kept_as, packing_kept, text_kept}
 use Rattle.game_file.specs.State.{GoesAhead, count_behind}
 use Rattle.game_file.specs.Stops.{LeavesEither, LeavesTable}
 use Rattle.tree_table.specs.declared.slot.TreeSlot.{TreeSlot}
@@ -31,7 +31,7 @@ use Rattle.tree_table.specs.aid.Keeping.{kept_is_held}
 use Rattle.tree_table.specs.aid.Standing.{still_then, was_honest, works_still}
 use Rattle.tree_file.specs.Calls.{FileGoesOn}
 use Rattle.tree_file.specs.File.{File, NamesSlot, IsWholeFile, kept_of, kept_with, state_of}
-use Rattle.tree_file.specs.aid.Whole.{again_kept, again_text, again_whole, kept_spells, works_leaves}
+use Rattle.tree_file.specs.aid.Whole.{again_kept, again_packing, again_text, again_whole, kept_spells, works_leaves}
 
 -- the disk of a later state is that of another
 pub same_disk : (old : Disk) (mid new : Disk) (Such : List (List ℕ) → Type 0) → new ≡ mid → LeavesOnly old mid Such → LeavesOnly old new Such
@@ -62,6 +62,7 @@ module _ (was mid new : File) (whole : IsWholeFile was) (works : StoreWorks was.
     ahead = given_up_ahead;
     commits = ap commits_in all_still.root;
     text = again_text was new whole all_still (new_game ∙ game) (new_text ∙ text) calm;
+    packing = again_packing was new whole all_still (new_game ∙ game) (new_text ∙ text) calm;
     kept = again_kept was new whole all_still (new_game ∙ game) (new_text ∙ text) calm;
     leaves = λ honest is_open.
         same_disk was.work.store.disk mid.work.store.disk new.work.store.disk (λ picture. StoresTrees picture (kept_of was)) others.disk
@@ -75,7 +76,17 @@ module _ (was : File) (kept : Kept) (whole : IsWholeFile was) (is : kept_of was 
     where
       by_game : (game : Option TreeSlot) → kept_with game was.work.text (reads was.work.store) ≡ Some kept → kept.text ≡ was.work.text
       by_game None none = absurd (cc)
-      by_game (Some s) some = ap (λ (k : Kept). k.text) (sym (same_Some (kept_as was.work.text (table_in s (reads was.work.store))) kept some))
+      by_game (Some s) some = ap (λ (k : Kept). k.text) (sym (same_Some (kept_as was.work.text s.packing (table_in s (reads was.work.store))) kept some))
+
+  pub kept_packing_is : kept.packing ≡ was.work.slot.packing
+  kept_packing_is = by_game was.game whole.slot is
+    where
+      by_game : (game : Option TreeSlot) → was.work.slot ≡ slot_or_bare game → kept_with game was.work.text (reads was.work.store) ≡ Some kept
+          → kept.packing ≡ was.work.slot.packing
+      by_game None slot none = absurd (cc)
+      by_game (Some s) slot some =
+          ap (λ (k : Kept). k.packing) (sym (same_Some (kept_as was.work.text s.packing (table_in s (reads was.work.store))) kept some))
+          ∙ ap (λ (t : TreeSlot). t.packing) (sym slot)
 
   its_slot : was.work.slot ≡ slot_in was.work.store.root
   its_slot = by_game was.game whole.slot whole.names is
@@ -102,7 +113,7 @@ module _ (was : File) (kept : Kept) (whole : IsWholeFile was) (is : kept_of was 
   module _ (mid : File) (ahead : FileGoesOn was mid) (sized : IsSizedSlot mid.work.slot) (fits : IsTrue was.work.store.disk.honest
       → IsTable (table_now mid.work)) where
     pub worked : IsTrue was.work.store.disk.honest → was.work.store.closed ≡ false
-        → IsWorkedOn mid.work.slot was.work.store mid.work.store (kept_of was) (kept_as kept.text (table_now mid.work))
+        → IsWorkedOn mid.work.slot was.work.store mid.work.store (kept_of was) (kept_as kept.text kept.packing (table_now mid.work))
     worked honest is_open =
         let it = kept_now honest in
         let slot_text : length kept.text ≡ was.work.slot.sizes.text = it.keeps.text ∙ ap (λ (s : TreeSlot). s.sizes.text) (sym its_slot) in
@@ -115,6 +126,7 @@ module _ (was : File) (kept : Kept) (whole : IsWholeFile was) (is : kept_of was 
           enough = whole.room;
           works = ahead.work.works;
           holds = subst (λ (x : List ℕ). HoldsTable mid.work.slot x (table_now mid.work) mid.work.store) (ahead.work.text ∙ sym kept_text_is) holds;
+          packing = kept_packing_is ∙ sym ahead.work.packing;
           text = slot_text ∙ sym ahead.work.long;
           table = fits honest;
           short = omega (arith, limit, ahead.work.long);
@@ -123,19 +135,22 @@ module _ (was : File) (kept : Kept) (whole : IsWholeFile was) (is : kept_of was 
           few = sized.few;
         }
 
--- a table is put: this text and table are kept, by one commit more
+-- a table is put: this text, packing and table are kept, by one commit more
 module _ (was new : File) (next : TreeSlot) (is : Kept) (game : new.game ≡ Some next) (slot : new.work.slot ≡ next)
-    (root : slot_in new.work.store.root ≡ next) (text : new.work.text ≡ is.text)
+    (root : slot_in new.work.store.root ≡ next) (text : new.work.text ≡ is.text) (packing : next.packing ≡ is.packing)
     (calm : IsCalm new.work.store) (goes_on : GoesOn was.work.store.disk new.work.store.disk)
     (done : IsTrue was.work.store.disk.honest → IsKeptInTrees new.work.store (Some is)) where
   pub put_kept : IsTrue was.work.store.disk.honest → kept_of new ≡ Some is
   put_kept honest =
       let table : table_in next (reads new.work.store) ≡ is.table =
       ap (λ (s : TreeSlot). table_in s (reads new.work.store)) (sym root) ∙ kept_spells new.work.store is calm (done honest) in
-      (λ i. kept_with (game i) (text i) (reads new.work.store)) ∙ ap (λ (t : Stored (List ℕ)). Some (kept_as is.text t)) table
+      (λ i. kept_with (game i) (text i) (reads new.work.store)) ∙ (λ i. Some (kept_as is.text (packing i) (table i)))
 
   pub put_text : text_kept (kept_of new) ≡ Some is.text
   put_text = ap text_kept (λ i. kept_with (game i) (text i) (reads new.work.store))
+
+  pub put_packing : packing_kept (kept_of new) ≡ Some is.packing
+  put_packing = ap packing_kept (λ i. kept_with (game i) (text i) (reads new.work.store)) ∙ ap Some packing
 
   pub put_whole : IsSoundStore new.work.store → 16 ≤ length new.work.store.marks → new.work.torn ≡ false → IsWholeFile new
   put_whole sound room torn = record {
@@ -157,7 +172,7 @@ module _ (was new : File) (next : TreeSlot) (is : Kept) (game : new.game ≡ Som
   pub put_now : commits_in new.work.store.root ≡ count_behind (commits_in was.work.store.root) → new.work.store.closed ≡ false
       → (IsTrue was.work.store.disk.honest → LeavesEither StoresTrees was.work.store.disk new.work.store.disk (kept_of was) (Some is))
       → IsPut StoresTrees is (state_of was) (state_of new)
-  put_now commits is_open leaves = record { commits = commits; text = put_text; kept = put_kept; is_open = is_open; leaves = leaves }
+  put_now commits is_open leaves = record { commits = commits; text = put_text; packing = put_packing; kept = put_kept; is_open = is_open; leaves = leaves }
 
 -- a table is not put: what was kept still is
 module _ (was new : File) (is : Kept) (whole : IsWholeFile was) (still : IsStill was.work.store new.work.store) (text : new.work.text ≡ was.work.text)
@@ -171,6 +186,7 @@ module _ (was new : File) (is : Kept) (whole : IsWholeFile was) (still : IsStill
   not_put leaves either = record {
     commits = ap commits_in still.root;
     text = again_text was new whole still game text calm;
+    packing = again_packing was new whole still game text calm;
     kept = again_kept was new whole still game text calm;
     leaves = leaves;
     either = either;

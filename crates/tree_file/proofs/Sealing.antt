@@ -11,6 +11,7 @@ use Rattle.page_store.specs.Spelling.{IsCalm}
 use Rattle.page_store.specs.Store.{Store, IsSoundStore, IsRemarked, reads}
 use Rattle.page_chain.specs.aid.Links.{OnlyMarks}
 use Rattle.root_slot.specs.Fields.{commits_in, layout_in}
+use Rattle.root_slot.specs.aid.Packings.{one_packing}
 use Rattle.game_file.specs.declared.fault.FileFault.{FileFault}
 use Rattle.game_file.specs.declared.fault.FileFault.TheVariants.{Disk as DiskFailed, NotATable, AlreadyATable, Damaged, OldLayout, TooSmall}
 use Rattle.game_file.specs.declared.fault.FileFault.TheVariants.{TableFull, OutOfMemory, Closed, Inconsistent}
@@ -99,7 +100,7 @@ module _ (old mid new : Store) (only : OnlyMarks old mid) (sealed : AreSealed mi
 
     -- a game that was read is kept
     game_kept : (slot : TreeSlot) (text : List ℕ) → SaysTrees old.root (Some slot) → IsTrue old.disk.honest → IsReadGame text old mid
-        → IsKeptInTrees new (Some (kept_as text (table_in slot (reads new))))
+        → IsKeptInTrees new (Some (kept_as text slot.packing (table_in slot (reads new))))
     game_kept slot text says honest it =
         let spells : table_in (slot_in old.root) (reads old) ≡ it.kept.table =
         forest_spells (slot_in old.root) (length old.marks) it.pages it.keeps.entries (reads old) it.kept.table says.0.limits.known it.keeps.forest.trees
@@ -107,7 +108,8 @@ module _ (old mid new : Store) (only : OnlyMarks old mid) (sealed : AreSealed mi
         let table : table_in slot (reads new) ≡ it.kept.table =
         ap (λ (s : TreeSlot). table_in s (reads new)) says.1 ∙ ap (λ (bytes : ℕ → List ℕ). table_in (slot_in old.root) bytes) (sealed_reads honest) ∙ spells in
         let text_back : text ≡ it.kept.text = sym it.text_is in
-        let same : Some (kept_as text (table_in slot (reads new))) ≡ Some it.kept = λ i. Some (kept_as (text_back i) (table i)) in
+        let packing : slot.packing ≡ it.kept.packing = one_packing old.root slot.packing it.kept.packing says.0.packing it.keeps.slot.packing in
+        let same : Some (kept_as text slot.packing (table_in slot (reads new))) ≡ Some it.kept = λ i. Some (kept_as (text_back i) (packing i) (table i)) in
         record {
           text_pages = it.text_pages;
           pages = it.pages;

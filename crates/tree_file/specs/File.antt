@@ -22,12 +22,12 @@ pub record File : Type 0 where
 abbrev pub file_of : Work → Option TreeSlot → File
 file_of w g = record { work = w; game = g }
 
--- this text, and the table that this slot and these pages spell, if a game is loaded
+-- this text, the packing that this slot names, and the table that it and these pages spell, if a game is loaded
 abbrev pub kept_with : Option TreeSlot → List ℕ → (ℕ → List ℕ) → Option Kept
 kept_with None text bytes = None
-kept_with (Some slot) text bytes = Some (kept_as text (table_in slot bytes))
+kept_with (Some slot) text bytes = Some (kept_as text slot.packing (table_in slot bytes))
 
--- the text and the table of the last commit, if a game is loaded
+-- the text, the packing and the table of the last commit, if a game is loaded
 abbrev pub kept_of : File → Option Kept
 kept_of file = kept_with file.game file.work.text (reads file.work.store)
 

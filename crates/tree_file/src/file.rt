@@ -19,7 +19,7 @@ ghost use Rattle.tree_file.specs.aid.Whole.{whole_leaves, whole_stored, whole_st
 use crate::on_disk::PagesOnDisk;
 use crate::open::{Opened, read_all};
 use game_file::{FileFault, GameFile, Refused};
-use position_pack::Packed;
+use position_pack::{Packed, PackingKind};
 use root_pair::create;
 use std::alloc::Global;
 use table::TableFault;
@@ -156,11 +156,18 @@ impl<P: PagesOnDisk> GameFile for TreeFile<P> {
         }
     }
 
+    fn packing(&self) -> Option<PackingKind> {
+        match &self.game {
+            Some(slot) => Some(slot.packing),
+            None => None,
+        }
+    }
+
     fn is_closed(&self) -> bool {
         self.table.store.is_closed()
     }
 
-    fn load(&mut self, text: &[u8], start: &Packed) -> Result<(), FileFault> {
+    fn load(&mut self, text: &[u8], packing: PackingKind, start: &Packed) -> Result<(), FileFault> {
         if self.game.is_some() {
             return Err(FileFault::Inconsistent);
         }
@@ -169,7 +176,7 @@ impl<P: PagesOnDisk> GameFile for TreeFile<P> {
         }
         let text = text.to_vec(self.alloc)?;
         let commits = self.commits.wrapping_add(1);
-        match self.table.start(self.alloc, commits, text, start) {
+        match self.table.start(self.alloc, commits, text, packing, start) {
             Ok(()) => {
                 self.commits = commits;
                 self.game = Some(self.table.slot);

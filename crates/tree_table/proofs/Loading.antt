@@ -17,6 +17,7 @@ use Rattle.page_store.specs.aid.Carrying.{saved_spells}
 use Rattle.retrograde.specs.declared.records.Record.{Record}
 use Rattle.retrograde.specs.Changes.{fresh_record}
 use Rattle.retrograde.specs.Stored.{IsTable, HasRecord, FitsState, is_expanded, loaded, view_of}
+use Rattle.position_pack.specs.declared.kind.PackingKind.{PackingKind}
 use Rattle.game_file.specs.Kept.{Kept, kept_as}
 use Rattle.game_file.specs.Stops.{LeavesTable}
 use Rattle.tree_table.specs.declared.slot.TreeSlot.{TreeSlot}
@@ -102,15 +103,16 @@ any_error P (Ok x) is = tt
 any_error P (Err e) is = is
 
 -- a text and a start are put where no game was
-pub worked_on : (slot : TreeSlot) (text x : List ℕ) (old mid : Store) → IsVacant old → StoreWorks old mid → HoldsTable slot text (loaded x) mid
-    → slot.sizes.text ≡ length text → IsSizedSlot slot → length text ≤ 65536 → IsWorkedOn slot old mid None (kept_as text (loaded x))
-worked_on slot text x old mid vacant works holds long sized short = record {
+pub worked_on : (slot : TreeSlot) (text : List ℕ) (kind : PackingKind) (x : List ℕ) (old mid : Store) → IsVacant old → StoreWorks old mid → HoldsTable slot text (loaded x) mid
+    → slot.packing ≡ kind → slot.sizes.text ≡ length text → IsSizedSlot slot → length text ≤ 65536 → IsWorkedOn slot old mid None (kept_as text kind (loaded x))
+worked_on slot text kind x old mid vacant works holds packing long sized short = record {
   honest = vacant.honest;
   safe = vacant.safe;
   kept = vacant.kept;
   enough = vacant.enough;
   works = works;
   holds = holds;
+  packing = sym packing;
   text = sym long;
   table = loaded_is_table x;
   short = omega (arith, short, long);

@@ -13,12 +13,12 @@ use Rattle.tree_table.specs.Entries.{AreEntriesOf}
 use Rattle.tree_table.specs.Forest.{IsForest}
 use Rattle.tree_table.specs.Slot.{roots_in, IsEmptyTreeSlot, IsGameTreeSlot}
 
--- the slot is that of a table with a game, and these pages, which it names, each of them below the capacity and named once, hold
--- this text as a chain and four trees whose entries are those of this table. The table's parts fit together, and the slot counts
--- them right
+-- the slot is that of a table with a game of this packing, and these pages, which it names, each of them below the capacity and named
+-- once, hold this text as a chain and four trees whose entries are those of this table. The table's parts fit together, and the slot
+-- counts them right
 pub record KeepsOnPages (root : List ℕ) (capacity : ℕ) (kept : Kept) (text_pages : List ℕ) (pages : Tree → List ℕ) (bytes : ℕ → List ℕ)
     : Type 0 where
-  pub slot : IsGameTreeSlot root
+  pub slot : IsGameTreeSlot root kept.packing
   pub entries : Tree → List Item
   pub forest : IsForest (sizes_in root).packed capacity (first_in root) (roots_in root) kept.text text_pages pages entries bytes
   pub text : length kept.text ≡ (sizes_in root).text

@@ -33,7 +33,7 @@ pub record IsKeptInTrees (store : Store) (kept : Option Kept) : Type 0 where
   pub needed : (p : ℕ) → IsOneOf text_pages pages p → IsNeeded store.marks p
 
 -- as the store was begun with, its root kept the one, on an honest disk; since then nothing was committed, and now its pages hold
--- the other, which this slot names and counts, whose parts fit together, and which is no larger than a table may be
+-- the other, which this slot names and counts, with its packing, whose parts fit together, and which is no larger than a table may be
 pub record IsWorkedOn (slot : TreeSlot) (begun now : Store) (was : Option Kept) (is : Kept) : Type 0 where
   pub honest : IsTrue begun.disk.honest
   pub safe : IsSafe begun
@@ -41,6 +41,7 @@ pub record IsWorkedOn (slot : TreeSlot) (begun now : Store) (was : Option Kept) 
   pub enough : 16 ≤ length begun.marks
   pub works : StoreWorks begun now
   pub holds : HoldsTable slot is.text is.table now
+  pub packing : is.packing ≡ slot.packing
   pub text : length is.text ≡ slot.sizes.text
   pub table : IsTable is.table
   pub short : slot.sizes.text ≤ 65536

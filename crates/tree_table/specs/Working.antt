@@ -3,6 +3,8 @@ use Rattle.std.specs.Prelude.{◌≡◌, ◌≢◌, ℕ, Bool, true, false, List
 use Rattle.sector_disk.specs.Disk.{Grew}
 use Rattle.page_store.specs.Marks.{free_count}
 use Rattle.page_store.specs.Store.{Store, reads, StoreWorks, IsUnchanged}
+use Rattle.position_pack.specs.declared.kind.PackingKind.{PackingKind}
+use Rattle.position_pack.specs.declared.kind.PackingKind.TheVariants.{Bytes}
 use Rattle.retrograde.specs.Stored.{Stored}
 use Rattle.retrograde.specs.Changes.{counts_of}
 use Rattle.table.specs.declared.fault.TableFault.{TableFault}
@@ -69,13 +71,14 @@ pub record WorkStays (old new : Work) : Type 0 where
   pub torn : new.torn ≡ old.torn
 
 -- after calls that were answered: nothing is committed, the store is as open as it was, the text is the same and as long as the slot
--- says, and pages that held the table hold what it has come to
+-- says, so is the packing, and pages that held the table hold what it has come to
 pub record WorkGoesOn (old new : Work) : Type 0 where
   pub works : StoreWorks old.store new.store
   pub still : new.store.closed ≡ old.store.closed
   pub text : new.text ≡ old.text
   pub torn : new.torn ≡ old.torn
   pub long : new.slot.sizes.text ≡ old.slot.sizes.text
+  pub packing : new.slot.packing ≡ old.slot.packing
   pub holds : IsHonestWork old → HoldsWork old → HoldsWork new
 
 -- why a call gives no answer: the disk failed; what was there is no honest table; no page is free; memory is short, or a
@@ -98,9 +101,10 @@ pub record WorkFails (old new : Work) (fault : TableFault) : Type 0 where
 abbrev pub nothing : Stored (List ℕ)
 nothing = record { positions = []; records = []; has_edge = λ i p. false; order = [] }
 
--- the slot of a text of so many bytes, from this page on, and of no position; positions have so many bytes
-abbrev pub text_slot : ℕ → ℕ → ℕ → TreeSlot
-text_slot first text n = record {
+-- the slot of a text of so many bytes, from this page on, and of no position; positions have this packing and so many bytes
+abbrev pub text_slot : PackingKind → ℕ → ℕ → ℕ → TreeSlot
+text_slot kind first text n = record {
+  packing = kind;
   first = first;
   sizes = record { text = text; packed = n; counts = record { known = 0; expanded = 0; settled = 0; processed = 0 }; edges = 0 };
   roots = record { positions = 0; records = 0; edges = 0; order = 0 };
@@ -108,4 +112,4 @@ text_slot first text n = record {
 
 -- the slot that names no page, for positions of so many bytes
 abbrev pub bare_slot : ℕ → TreeSlot
-bare_slot n = text_slot 0 0 n
+bare_slot n = text_slot Bytes 0 0 n

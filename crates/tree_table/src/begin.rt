@@ -24,15 +24,16 @@ use crate::saving::commit;
 use crate::slot::TreeSlot;
 use page_chain::write_chain;
 use page_store::Pages;
-use position_pack::Packed;
+use position_pack::{Packed, PackingKind};
 use std::alloc::Global;
 use table::TableFault;
 
 /// The slot of a text of so many bytes, from this page on, and of no position.
-fn text_slot(first: u32, text: u32, packed: u32) -> TreeSlot
-    ensures { result ≡ text_slot first text packed }
+fn text_slot(packing: PackingKind, first: u32, text: u32, packed: u32) -> TreeSlot
+    ensures { result ≡ text_slot packing first text packed }
 {
     let mut slot = bare_slot(packed);
+    slot.packing = packing;
     slot.first = first;
     slot.sizes.text = text;
     slot
@@ -50,6 +51,7 @@ fn first_table<P: Pages>(
     alloc: Global,
     store: &mut P,
     text: &[u8],
+    packing: PackingKind,
     start: &Packed,
 ) -> Result<TreeSlot, TableFault>
     requires some { 1 ≤ length start.now.items }
@@ -57,6 +59,7 @@ fn first_table<P: Pages>(
     ensures table { IsTrue (P.store store.old).disk.honest
         → IfOk result (λ slot. HoldsTable slot text.now (loaded start.now.items) (P.store store.new)) }
     ensures long { IfOk result (λ slot. slot.sizes.text ≡ length text.now) }
+    ensures packing { IfOk result (λ slot. slot.packing ≡ packing) }
     ensures sized { IfOk result IsSizedSlot }
     ensures works { StoreWorks (P.store store.old) (P.store store.new) }
     ensures open { OnOk result ((P.store store.new).closed ≡ (P.store store.old).closed) }
@@ -67,11 +70,11 @@ fn first_table<P: Pages>(
         Ok(pages) => pages,
         Err(fault) => return Err(table_fault(fault)),
     };
-    let slot = text_slot(first_page(&pages), text.len() as u32, start.len() as u32);
+    let slot = text_slot(packing, first_page(&pages), text.len() as u32, start.len() as u32);
     add_position(store, slot, start)
 }
 
-/// Puts a game with this text and start into a store that has none, and commits: the new root tells this count of commits. A
+/// Puts a game with this text, packing and start into a store that has none, and commits: the new root tells this count of commits. A
 /// stop of the power leaves no game or this one; after `Ok` this one is kept, and after a refusal that leaves the store open
 /// none.
 pub fn load<P: Pages>(
@@ -79,17 +82,19 @@ pub fn load<P: Pages>(
     store: &mut P,
     commits: u64,
     text: &[u8],
+    packing: PackingKind,
     start: &Packed,
 ) -> Result<TreeSlot, TableFault>
     requires some { 1 ≤ length start.now.items }
     requires text { length text.now ≤ 65536 }
     ensures commits { OnOk result (commits_in (P.store store.new).root ≡ commits) }
     ensures root { IfOk result (λ slot. slot_in (P.store store.new).root ≡ slot) }
+    ensures packing { IfOk result (λ slot. slot.packing ≡ packing) }
     ensures sized { IfOk result IsSizedSlot }
     ensures stop { IsVacant (P.store store.old) → LeavesEither StoresTrees (P.store store.old).disk (P.store store.new).disk None
-        (Some (kept_as text.now (loaded start.now.items))) }
+        (Some (kept_as text.now packing (loaded start.now.items))) }
     ensures done { IsVacant (P.store store.old)
-        → OnOk result (IsKeptInTrees (P.store store.new) (Some (kept_as text.now (loaded start.now.items)))) }
+        → OnOk result (IsKeptInTrees (P.store store.new) (Some (kept_as text.now packing (loaded start.now.items)))) }
     ensures kept_stop { IsVacant (P.store store.old) → OnErr result ((P.store store.new).closed ≡ false
         → LeavesTable StoresTrees (P.store store.old).disk (P.store store.new).disk None) }
     ensures stands { IsTrue (P.store store.old).disk.honest
@@ -107,7 +112,7 @@ pub fn load<P: Pages>(
     ensures shut { (P.store store.new).closed ≡ false → (P.store store.old).closed ≡ false }
     ensures cause { IfErr result (StartCause (length text.now) (P.store store.old) (P.store store.new)) }
 {
-    let slot = first_table(alloc, store, text, start)?;
+    let slot = first_table(alloc, store, text, packing, start)?;
     match commit(store, commits, &slot) {
         Ok(()) => Ok(slot),
         Err(fault) => Err(table_fault(fault)),

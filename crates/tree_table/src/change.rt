@@ -46,6 +46,7 @@ fn put_in<P: Pages>(
     let widths = widths_of(slot.sizes.packed, tree);
     match put(store, widths, slot.roots.root(tree), key, value) {
         Ok(root) => Ok(TreeSlot {
+            packing: slot.packing,
             first: slot.first,
             sizes: slot.sizes,
             roots: slot.roots.with(tree, root),

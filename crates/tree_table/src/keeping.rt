@@ -24,7 +24,7 @@ use crate::slot::TreeSlot;
 use crate::tree::Roots;
 use crate::working::TreeTable;
 use page_store::{PageFault, Pages};
-use position_pack::Packed;
+use position_pack::{Packed, PackingKind};
 use retrograde::Counts;
 use std::alloc::Global;
 use table::TableFault;
@@ -53,6 +53,7 @@ pub fn bare_slot(packed: u32) -> TreeSlot
         order: 0,
     };
     TreeSlot {
+        packing: PackingKind::Bytes,
         first: 0,
         sizes,
         roots,
@@ -146,27 +147,29 @@ impl<P: Pages> TreeTable<P> {
         result
     }
 
-    /// Puts a game with this text and start in the place of none, and commits, as `load` does. After a refusal the table has stopped
-    /// half way, and goes back by `restore`.
+    /// Puts a game with this text, packing and start in the place of none, and commits, as `load` does. After a refusal the table has
+    /// stopped half way, and goes back by `restore`.
     pub fn start(
         &mut self,
         alloc: Global,
         commits: u64,
         text: Vec<u8>,
+        packing: PackingKind,
         start: &Packed,
     ) -> Result<(), TableFault>
         requires some { 1 ≤ length start.now.items }
         requires text { length text.items ≤ 65536 }
         ensures text { OnOk result ((work_in self.new).text ≡ text.items) }
+        ensures packing { OnOk result ((work_in self.new).slot.packing ≡ packing) }
         ensures kept_text { OnErr result ((work_in self.new).text ≡ (work_in self.old).text) }
         ensures torn { OnOk result ((work_in self.new).torn ≡ false) }
         ensures commits { OnOk result (commits_in (work_in self.new).store.root ≡ commits) }
         ensures root { OnOk result (slot_in (work_in self.new).store.root ≡ (work_in self.new).slot) }
         ensures stop { IsVacant (work_in self.old).store
             → LeavesEither StoresTrees (work_in self.old).store.disk (work_in self.new).store.disk None
-            (Some (kept_as text.items (loaded start.now.items))) }
+            (Some (kept_as text.items packing (loaded start.now.items))) }
         ensures done { IsVacant (work_in self.old).store
-            → OnOk result (IsKeptInTrees (work_in self.new).store (Some (kept_as text.items (loaded start.now.items)))) }
+            → OnOk result (IsKeptInTrees (work_in self.new).store (Some (kept_as text.items packing (loaded start.now.items)))) }
         ensures kept_stop { IsVacant (work_in self.old).store → OnErr result ((work_in self.new).store.closed ≡ false
             → LeavesTable StoresTrees (work_in self.old).store.disk (work_in self.new).store.disk None) }
         ensures stands { IsTrue (work_in self.old).store.disk.honest
@@ -184,7 +187,7 @@ impl<P: Pages> TreeTable<P> {
         ensures cause { IfErr result (StartCause (length text.items) (work_in self.old).store (work_in self.new).store) }
     {
         self.torn = true;
-        let slot = load(alloc, &mut self.store, commits, &text, start)?;
+        let slot = load(alloc, &mut self.store, commits, &text, packing, start)?;
         self.slot = slot;
         self.text = text;
         self.torn = false;

@@ -1,21 +1,22 @@
 //! The root slot of layout 2: what its 512 bytes say.
 ghost use Rattle.std.specs.Prelude.{◌≡◌, ◌+◌, ◌≤◌, ◌<◌, ℕ, slice_index, IfSome, IfNone};
-ghost use Rattle.root_slot.specs.Fields.{word_at as word_in, layout_in, packing_in, commits_in, AreZero};
+ghost use Rattle.root_slot.specs.Fields.{word_at as word_in, layout_in, packing_in, commits_in, number_of_packing as number_of, AreZero};
 ghost use Rattle.tree_table.specs.Slot.{roots_in, slot_in, IsEmptyTreeSlot, IsNoTreeSlot, SaysTrees};
 
 use crate::tree::Roots;
+use position_pack::PackingKind;
 use root_slot::{are_within_limits, are_zero, long_at, put_long, put_word, sizes_in, word_at};
+use root_slot::{number_of_packing, packing_numbered};
 use table_bytes::Sizes;
 
 /// The number of this layout.
 const LAYOUT: u32 = 2;
 
-/// The number of the packing that a table with a game has.
-const PACKING: u32 = 1;
-
 /// What a slot says of a table with a game; of one without, all is 0.
 #[derive(Clone, Copy, PartialEq, Eq, Debug, Drop)]
 pub struct TreeSlot {
+    /// How its positions are packed.
+    pub packing: PackingKind,
     /// The first page of the chain of the text.
     pub first: u32,
     pub sizes: Sizes,
@@ -53,29 +54,29 @@ pub fn read_slot(root: &[u8; 512]) -> Option<Slot>
         return None;
     }
     let commits = long_at(root, 8);
-    match word_at(root, 4) {
-        0 if are_zero(root, 16, 68) => Some(Slot {
+    let number = word_at(root, 4);
+    if number == 0 && are_zero(root, 16, 68) {
+        return Some(Slot {
             commits,
             game: None,
-        }),
-        PACKING => {
-            let sizes = sizes_in(root);
-            if !are_within_limits(&sizes) || sizes.packed == 0 {
-                return None;
-            }
-            let first = word_at(root, 16);
-            let roots = roots_in(root);
-            Some(Slot {
-                commits,
-                game: Some(TreeSlot {
-                    first,
-                    sizes,
-                    roots,
-                }),
-            })
-        }
-        _ => None,
+        });
     }
+    let packing = packing_numbered(number)?;
+    let sizes = sizes_in(root);
+    if !are_within_limits(&sizes) || sizes.packed == 0 {
+        return None;
+    }
+    let first = word_at(root, 16);
+    let roots = roots_in(root);
+    Some(Slot {
+        commits,
+        game: Some(TreeSlot {
+            packing,
+            first,
+            sizes,
+            roots,
+        }),
+    })
 }
 
 /// The slot of a table in which no game is loaded, after no commit.
@@ -105,13 +106,13 @@ fn put_roots(root: &mut [u8; 512], roots: Roots)
 /// The slot of a table with a game, after so many commits. All bytes without a field are zero.
 pub fn game_slot(commits: u64, slot: &TreeSlot) -> [u8; 512]
     ensures layout { layout_in result ≡ 2 }
-    ensures packing { packing_in result ≡ 1 }
+    ensures packing { packing_in result ≡ number_of slot.now.packing }
     ensures commits { commits_in result ≡ commits }
     ensures slot { slot_in result ≡ slot.now }
     ensures behind { AreZero 68 512 result }
 {
     let mut root = empty_slot();
-    put_word(&mut root, 4, PACKING);
+    put_word(&mut root, 4, number_of_packing(slot.packing));
     put_long(&mut root, 8, commits);
     put_word(&mut root, 16, slot.first);
     put_sizes(&mut root, &slot.sizes);

@@ -1,6 +1,7 @@
 //! The game of takes, worked on trees of pages.
 use game_table::Source;
 use page_store::{PageStore, Pages};
+use position_pack::PackingKind;
 use root_pair::create;
 use sector_disk::MemDisk;
 use std::alloc::Global;
@@ -115,7 +116,7 @@ fn expect_units<T: Table>(alloc: Global, source: &Source, table: &mut T) -> Resu
 
 #[test]
 fn takes_on_trees_are_takes_in_memory(rt: HostRuntime) -> Result<(), Fail> {
-    let source = Source::read(rt.alloc(), TAKE.as_bytes())?;
+    let source = Source::read(rt.alloc(), TAKE.as_bytes(), PackingKind::Bytes)?;
     let mut table = on_trees(rt.alloc(), &source)?;
     expect_units(rt.alloc(), &source, &mut table)
 }

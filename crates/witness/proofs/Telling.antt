@@ -177,9 +177,9 @@ module _ (Stores : Layout) where
   its_own : (kept : Kept) → kept.text ≡ witness_text → Reads kept.text witness_game
   its_own kept text = subst (λ t. Reads t witness_game) (sym text) witness_read
 
-  sound_for_it : (kept : Kept) → kept.text ≡ witness_text → IsSound (Some kept) → IsLocallySound graph (IsWideAt witness_game) kept.table
+  sound_for_it : (kept : Kept) → kept.text ≡ witness_text → IsSound (Some kept) → IsLocallySound (graph kept.packing) (IsWideAt kept.packing witness_game) kept.table
   sound_for_it kept text (game, is_read, sound) =
-      subst (λ (g : Game). IsLocallySound (graph_of g) (IsWideAt g) kept.table) (one_game kept.text game witness_game is_read (its_own kept text)) sound
+      subst (λ (g : Game). IsLocallySound (graph_of kept.packing g) (IsWideAt kept.packing g) kept.table) (one_game kept.text game witness_game is_read (its_own kept text)) sound
 
   pub work_done : (units : ℕ) (old new : State) (done : ℕ) (counts : Counts) → units ≡ 256 → HasTable IsIt old → GoesAhead old new
       → IsDone Stores (work units) (Worked done counts) old new → IsSound new.kept → HasTable IsItFinished new
@@ -197,12 +197,12 @@ module _ (Stores : Layout) where
       text : works.was.text ≡ witness_text
       text = subst IsIt works.loaded table.such
 
-      all_done : AreDone graph (IsWideAt witness_game) 256 works.was.table done works.is.table
+      all_done : AreDone (graph works.was.packing) (IsWideAt works.was.packing witness_game) 256 works.was.table done works.is.table
       all_done = works.work witness_game (its_own works.was text) (sound_for_it works.was text (subst IsSound works.loaded table.sound))
 
       finished : (done ≡ 256) ⊎ (done < 256) × IsFinished (view_of works.is.table) → IsFinished (view_of works.is.table)
       finished (inl same) =
-          absurd (no_nine_units (view_of works.was.table) (view_of works.is.table) (2 ^ 24) done (omega arith) all_done.works)
+          absurd (no_nine_units works.was.packing (view_of works.was.table) (view_of works.is.table) (2 ^ 24) done (omega arith) all_done.works)
       finished (inr ended) = ended.1
 
   -- no unit of work on the game is refused by its own fault
@@ -210,7 +210,7 @@ module _ (Stores : Layout) where
   never_stops None why it sound stops own = absurd it
   never_stops (Some kept) why text sound stops own =
       let at = stops witness_game (its_own kept text) (sound_for_it kept text sound) in
-      unit_is_done at.reached at.works.right why own at.cause
+      unit_is_done kept.packing at.reached at.works.right why own at.cause
 
   work_cause : (old new : State) (why : SolverFault) → HasTable IsIt old → WorkCause 256 old new why → IsWantOfRoom why
   work_cause old new fault.Disk table cause = tt
@@ -236,9 +236,9 @@ module _ (Stores : Layout) where
   pub value_is : (state : State) (value : Value) → HasTable IsItFinished state → Tells (HasValueAt 0 value) state → value ≡ Won First 2
   value_is state value table tells = go state.kept table.such table.sound (tells table.honest)
     where
-      won : (kept : Kept) (v : Value) → IsFinished (view_of kept.table) → IsValue (view_of kept.table) 0 v → IsSo graph graph.start v → v ≡ Won First 2
-      won kept (Won w n) finished is so = let only = only_in_two w n so in ap (λ (p : Player × ℕ). let v : Value = Won p.0 p.1 in v) (λ i. (only.0 i, only.1 i))
-      won kept Drawn finished is so = absurd (not_drawn so)
+      won : (kept : Kept) (v : Value) → IsFinished (view_of kept.table) → IsValue (view_of kept.table) 0 v → IsSo (graph kept.packing) (graph kept.packing).start v → v ≡ Won First 2
+      won kept (Won w n) finished is so = let only = only_in_two kept.packing w n so in ap (λ (p : Player × ℕ). let v : Value = Won p.0 p.1 in v) (λ i. (only.0 i, only.1 i))
+      won kept Drawn finished is so = absurd (not_drawn kept.packing so)
       won kept Open finished is so = absurd (is.1 finished)
 
       go : (kept : Option Kept) → IsItFinished kept → IsSound kept → OfKept (HasValueAt 0 value) kept → value ≡ Won First 2
@@ -246,7 +246,7 @@ module _ (Stores : Layout) where
       go (Some kept) it sound has =
           let reads = its_own kept it.0 in
           let first = (a_sound_table_is_right kept witness_game sound reads).moves.first in
-          won kept value it.1 has.value_is (a_value_is_so kept witness_game sound reads 0 graph.start value first has.value_is)
+          won kept value it.1 has.value_is (a_value_is_so kept witness_game sound reads 0 (graph kept.packing).start value first has.value_is)
 
   ask_cause : (old new : State) (why : SolverFault) → HasTable IsItFinished old → AskCause old new why → IsWantOfRoom why
   ask_cause old new fault.Disk table cause = tt

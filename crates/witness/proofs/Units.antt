@@ -8,6 +8,7 @@ use Rattle.std.proofs.lemmas.Map.Views.{All-after_first}
 use Rattle.std.specs.List.Sorted.{IsStrictlySortedBy}
 use Rattle.std.specs.Ordering.{ordering_reverse}
 use Rattle.std.specs.declared.cmp.Ordering.TheVariants.{Less, Greater}
+use Rattle.position_pack.specs.declared.kind.PackingKind.{PackingKind}
 use Rattle.legal_moves.specs.Sources.{IsWideAt}
 use Rattle.legal_moves.proofs.Distinct.{distinct-le}
 use Rattle.retrograde.specs.Expands.{IsTooMany}
@@ -39,31 +40,32 @@ once xs sorted i j d less inside =
     λ same.
     not_below_itself (get_or xs j d) (subst (λ u. packed_cmp u (get_or xs j d) ≡ Less) same (ordered xs sorted i j d less inside))
 
--- there are far fewer positions than a table takes
-not_too_many : (stored : Stored (List ℕ)) (x : List ℕ) → IsRight graph (view_of stored) → IsReachable graph x
-    → IsTooMany packed_cmp graph (2 ^ 24) stored.positions x → ⊥
-not_too_many stored x right reached many =
-    let known = four_known (view_of stored) right in
-    let found =
-    distinct-le all many.found (once many.found many.fresh.ascending)
-    (λ k d inside.
-    let leads = ((many.fresh.each (get_or many.found k d)).0 (Contains-get_or many.found k d inside)).0 in
-    is_among _ (comes _ (IsReachable.by_move reached leads))) in
-    let over = many.over in
-    absurd (omega (arith, length-append stored.positions many.found))
+module _ (kind : PackingKind) where
+  -- there are far fewer positions than a table takes
+  not_too_many : (stored : Stored (List ℕ)) (x : List ℕ) → IsRight (graph kind) (view_of stored) → IsReachable (graph kind) x
+      → IsTooMany packed_cmp (graph kind) (2 ^ 24) stored.positions x → ⊥
+  not_too_many stored x right reached many =
+      let known = four_known kind (view_of stored) right in
+      let found =
+      distinct-le (all kind) many.found (once many.found many.fresh.ascending)
+      (λ k d inside.
+      let leads = ((many.fresh.each (get_or many.found k d)).0 (Contains-get_or many.found k d inside)).0 in
+      is_among kind _ (comes kind _ (IsReachable.by_move reached leads))) in
+      let over = many.over in
+      absurd (omega (arith, length-append stored.positions many.found))
 
-pub unit_is_done : (stored : Stored (List ℕ)) → IsRight graph (view_of stored) → (why : StepFault) → IsRefusal why
-    → HasUnitCause graph (IsWideAt witness_game) stored why → ⊥
-unit_is_done stored right why own cause =
-    let here = cause own in
-    let reached = right.moves.reached here.0 (expanded_count stored, here.1) in
-    go why here.0 reached own here.2
-  where
-    go : (fault : StepFault) (x : List ℕ) → IsReachable graph x → IsRefusal fault
-        → IsCause graph (IsWideAt witness_game) stored (expanded_count stored) x fault → ⊥
-    go step.TooWide x reached mine is = no_width x (comes x reached) is
-    go (step.KeeperChooses number) x reached mine is = no_choice x (comes x reached) is.2
-    go step.TooManyPositions x reached mine is = not_too_many stored x right reached is.2
-    go step.Inconsistent x reached mine is = mine
-    go step.OutOfMemory x reached mine is = mine
-    go (step.Table fault) x reached mine is = mine
+  pub unit_is_done : (stored : Stored (List ℕ)) → IsRight (graph kind) (view_of stored) → (why : StepFault) → IsRefusal why
+      → HasUnitCause (graph kind) (IsWideAt kind witness_game) stored why → ⊥
+  unit_is_done stored right why own cause =
+      let here = cause own in
+      let reached = right.moves.reached here.0 (expanded_count stored, here.1) in
+      go why here.0 reached own here.2
+    where
+      go : (fault : StepFault) (x : List ℕ) → IsReachable (graph kind) x → IsRefusal fault
+          → IsCause (graph kind) (IsWideAt kind witness_game) stored (expanded_count stored) x fault → ⊥
+      go step.TooWide x reached mine is = no_width kind x (comes kind x reached) is
+      go (step.KeeperChooses number) x reached mine is = no_choice kind x (comes kind x reached) is.2
+      go step.TooManyPositions x reached mine is = not_too_many stored x right reached is.2
+      go step.Inconsistent x reached mine is = mine
+      go step.OutOfMemory x reached mine is = mine
+      go (step.Table fault) x reached mine is = mine

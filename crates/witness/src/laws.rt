@@ -2,6 +2,7 @@
 ghost use Rattle.std.specs.Prelude.{◌≡◌, ◌⊎◌, ◌↔◌, ℕ};
 ghost use Rattle.legal_moves.specs.Moves.{IsSuccessor, start_of};
 ghost use Rattle.legal_moves.specs.Sources.{graph_of};
+ghost use Rattle.position_pack.specs.declared.kind.PackingKind.{PackingKind};
 ghost use Rattle.rbg_game.specs.declared.position.Position.{Position};
 ghost use Rattle.rbg_game.specs.declared.roles.Player.{Player};
 ghost use Rattle.rbg_game.specs.declared.roles.Player.TheVariants.{First};
@@ -21,13 +22,14 @@ pub fn white_has_a_choice()
         ↔ ((next ≡ black_has_won) ⊎ (next ≡ white_has_won)) }
 {}
 
-/// White wins the start in two moves, and in no fewer.
+/// White wins the start in two moves, and in no fewer, however positions are packed.
 pub fn white_wins_the_start_in_two()
-    ensures { WonIn (graph_of witness_game) First 2 (graph_of witness_game).start }
+    ensures { (kind : PackingKind) → WonIn (graph_of kind witness_game) First 2 (graph_of kind witness_game).start }
 {}
 
 /// Nobody wins the start in another number of moves, nor is it drawn.
 pub fn nothing_else_is_so()
-    ensures won { (w : Player) (n : ℕ) → WonIn (graph_of witness_game) w n (graph_of witness_game).start → (w ≡ First) × (n ≡ 2) }
-    ensures drawn { ¬ Drawn (graph_of witness_game) (graph_of witness_game).start }
+    ensures won { (kind : PackingKind) (w : Player) (n : ℕ) → WonIn (graph_of kind witness_game) w n (graph_of kind witness_game).start
+        → (w ≡ First) × (n ≡ 2) }
+    ensures drawn { (kind : PackingKind) → ¬ Drawn (graph_of kind witness_game) (graph_of kind witness_game).start }
 {}

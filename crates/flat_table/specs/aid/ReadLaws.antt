@@ -6,6 +6,7 @@ use Rattle.page_store.specs.Page.{page}
 use Rattle.page_chain.specs.aid.Resting.{a_chain_has_one_content}
 use Rattle.table_bytes.specs.Spelled.{SpellsTable}
 use Rattle.table_bytes.specs.aid.Laws.{tables_have_their_length, bytes_spell_one_table}
+use Rattle.root_slot.specs.aid.Packings.{one_packing, some_number}
 use Rattle.flat_table.specs.Slot.{first_in, sizes_in}
 use Rattle.flat_table.specs.Held.{KeepsTable, capacity_of, Stores}
 use Rattle.game_file.specs.Kept.{Kept}
@@ -15,8 +16,8 @@ pub a_root_keeps_one_table : (root : List ℕ) (capacity : ℕ) (one other : Opt
     → KeepsTable root capacity one bytes
     → KeepsTable root capacity other bytes → one ≡ other
 a_root_keeps_one_table root capacity None None bytes a b = refl
-a_root_keeps_one_table root capacity None (Some l) bytes a b = absurd (omega (arith, a.packing, b.packing))
-a_root_keeps_one_table root capacity (Some k) None bytes a b = absurd (omega (arith, a.packing, b.packing))
+a_root_keeps_one_table root capacity None (Some l) bytes a b = absurd (omega (arith, a.packing, b.packing, some_number l.packing))
+a_root_keeps_one_table root capacity (Some k) None bytes a b = absurd (omega (arith, a.packing, b.packing, some_number k.packing))
 a_root_keeps_one_table root capacity (Some k) (Some l) bytes a b =
     let (pages, same) =
     a_chain_has_one_content capacity (first_in root) a.pages b.pages a.content b.content bytes a.chain b.chain
@@ -25,7 +26,8 @@ a_root_keeps_one_table root capacity (Some k) (Some l) bytes a b =
     let (texts, tables) =
     bytes_spell_one_table (sizes_in root) b.content k.text l.text k.table l.table
     (subst (λ (content : List ℕ). SpellsTable (sizes_in root) content k.text k.table) same a.spells) b.spells in
-    λ i. Some (record { text = texts i; table = tables i })
+    let packings = one_packing root k.packing l.packing a.packing b.packing in
+    λ i. Some (record { text = texts i; packing = packings i; table = tables i })
 
 -- a picture of the disk stores one table at most
 pub a_picture_stores_one_table : (picture : Picture) (one other : Option Kept) → Stores picture one → Stores picture other → one ≡ other

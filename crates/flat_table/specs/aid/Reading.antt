@@ -2,6 +2,7 @@
 use Rattle.std.specs.Prelude.{◌≡◌, ℕ, List, take, length, Option, None, Contains, IsTrue}
 use Rattle.page_store.specs.declared.fault.PageFault.{PageFault}
 use Rattle.page_store.specs.declared.fault.PageFault.TheVariants.{Damaged, OutOfMemory}
+use Rattle.position_pack.specs.declared.kind.PackingKind.{PackingKind}
 use Rattle.retrograde.specs.Stored.{Stored, IsTable}
 use Rattle.retrograde.specs.Changes.{counts_of}
 use Rattle.table.specs.Fitting.{FitsTogether}
@@ -26,9 +27,10 @@ pub record IsTableOf (sizes : Sizes) (bytes : List ℕ) (stored : Stored (List �
   pub spelled : SpellsTable sizes bytes (take sizes.text bytes) stored
   pub whole : IsWhole sizes stored
 
--- the game is what a chain of these pages with this content spells
-pub record IsGameIn (sizes : Sizes) (pages content : List ℕ) (game : Game) : Type 0 where
+-- the game has this packing, and is what a chain of these pages with this content spells
+pub record IsGameIn (kind : PackingKind) (sizes : Sizes) (pages content : List ℕ) (game : Game) : Type 0 where
   pub text : game.text.items ≡ take sizes.text content
+  pub packing : game.packing ≡ kind
   pub packed : game.packed ≡ sizes.packed
   pub on : game.pages.items ≡ pages
   pub table : IsTableOf sizes content (stored_in game.table)

@@ -8,8 +8,9 @@ use Rattle.page_store.specs.declared.marks.Mark.TheVariants.{Committed, Waiting,
 use Rattle.page_store.specs.Marks.{mark}
 use Rattle.page_store.specs.Store.{Store, reads, StoreWorks, IsRemarked}
 use Rattle.page_chain.specs.Chain.{IsChain, first_of}
+use Rattle.position_pack.specs.declared.kind.PackingKind.{PackingKind}
 use Rattle.table_bytes.specs.declared.sizes.Sizes.{Sizes}
-use Rattle.flat_table.specs.Slot.{layout_in, packing_in, first_in, sizes_in}
+use Rattle.flat_table.specs.Slot.{layout_in, packing_in, number_of_packing, first_in, sizes_in}
 use Rattle.game_file.specs.Kept.{Kept}
 use Rattle.flat_table.specs.File.{IsBacked}
 use Rattle.flat_table.specs.SaveCauses.{SaveCause}
@@ -37,34 +38,35 @@ pub record IsExchanged (was pages bytes : List ℕ) (old new : Store) : Type 0 w
   pub gone : (p : ℕ) → Contains was p → IsGone (mark new.marks p)
   pub closed : new.closed ≡ old.closed
 
--- the slot says that a table of these sizes begins at this page
-pub record IsSlotOf (from : ℕ) (numbers : Sizes) (root : List ℕ) : Type 0 where
+-- the slot says that a table of this packing and these sizes begins at this page
+pub record IsSlotOf (from : ℕ) (kind : PackingKind) (numbers : Sizes) (root : List ℕ) : Type 0 where
   pub layout : layout_in root ≡ 1
-  pub packing : packing_in root ≡ 1
+  pub packing : packing_in root ≡ number_of_packing kind
   pub first : first_in root ≡ from
   pub sizes : sizes_in root ≡ numbers
 
 -- a stop from the one moment to the other leaves the table of these pages, or the one that has these bytes
-abbrev pub LeavesOne : List ℕ → Sizes → List ℕ → Store → Store → Type 0
-LeavesOne pages sizes bytes old new =
-    (was : Option Kept) (is : Kept) → IsBacked old pages was → AreBytesOf is sizes bytes
+abbrev pub LeavesOne : List ℕ → PackingKind → Sizes → List ℕ → Store → Store → Type 0
+LeavesOne pages kind sizes bytes old new =
+    (was : Option Kept) (is : Kept) → IsBacked old pages was → AreBytesOf is kind sizes bytes
     → IsTrue old.disk.honest → old.closed ≡ false → LeavesEither Stores old.disk new.disk was (Some is)
 
 -- the table that has these bytes is in the place of the one of the old pages
-pub record IsReplaced (was_pages pages : List ℕ) (sizes : Sizes) (bytes : List ℕ) (old new : Store) : Type 0 where
+pub record IsReplaced (was_pages pages : List ℕ) (kind : PackingKind) (sizes : Sizes) (bytes : List ℕ) (old new : Store) : Type 0 where
   pub was_open : old.closed ≡ false
   pub is_open : new.closed ≡ false
   pub there : (p : ℕ) → Contains pages p → (1 ≤ p) × (p < length new.marks)
   pub freed : (p : ℕ) → Contains was_pages p → mark old.marks p ≢ Waiting → mark new.marks p ≡ Free
   pub ahead : StoreGoesAhead old new
-  pub stop : LeavesOne was_pages sizes bytes old new
-  pub done : (was : Option Kept) (is : Kept) → IsBacked old was_pages was → AreBytesOf is sizes bytes → IsBacked new pages (Some is)
+  pub stop : LeavesOne was_pages kind sizes bytes old new
+  pub done : (was : Option Kept) (is : Kept) → IsBacked old was_pages was → AreBytesOf is kind sizes bytes → IsBacked new pages (Some is)
 
 -- the table of the old pages is left in its place for this fault, or the store is closed, and that for a fault of the
 -- disk alone
-pub record IsLeft (was_pages : List ℕ) (sizes : Sizes) (bytes : List ℕ) (old new : Store) (fault : PageFault) : Type 0 where
+pub record IsLeft (was_pages : List ℕ) (kind : PackingKind) (sizes : Sizes) (bytes : List ℕ) (old new : Store) (fault : PageFault)
+    : Type 0 where
   pub ahead : StoreGoesAhead old new
-  pub stop : LeavesOne was_pages sizes bytes old new
+  pub stop : LeavesOne was_pages kind sizes bytes old new
   pub left : StoreWorks old new ⊎ (new.closed ≡ true)
   pub untouched : (old.closed ≡ false) ⊎ (new.disk ≡ old.disk)
   pub still : fault ≢ DiskFailed → new.closed ≡ old.closed

@@ -10,7 +10,7 @@ use Rattle.table.specs.declared.fault.TableFault.{TableFault}
 use Rattle.table.specs.declared.fault.TableFault.TheVariants.{OutOfMemory}
 use Rattle.game_file.specs.Calls.{IsAsked, IsKept}
 use Rattle.game_file.specs.Causes.{FileTableCause}
-use Rattle.game_file.specs.Kept.{Kept, text_kept}
+use Rattle.game_file.specs.Kept.{Kept, packing_kept, text_kept}
 use Rattle.game_file.specs.State.{State, GoesAhead}
 use Rattle.flat_table.specs.declared.game.Game.{Game}
 use Rattle.flat_table.specs.File.{File, IsFile, kept_in, kept_of}
@@ -35,6 +35,7 @@ same_pages s was is stands same = record {
   ahead = record { goes_on = goes_on_refl s.disk; same_size = refl; failures = omega arith; capacity = refl };
   commits = refl;
   text = ap text_kept same;
+  packing = ap packing_kept same;
   kept = λ honest. same;
   closed = refl;
   leaves = λ honest. leaves_now s.disk (λ picture left. left);
@@ -57,7 +58,14 @@ unwritten_asked old new it same =
 pub unwritten_kept : (old new : File) → IsFile old → IsUnwrittenFile old new → IsKept Stores (state_of old) (state_of new)
 unwritten_kept old new it same =
     let asked = unwritten_asked old new it same in
-    record { ahead = asked.ahead; commits = asked.commits; text = asked.text; kept = asked.kept; leaves = asked.since }
+    record {
+      ahead = asked.ahead;
+      commits = asked.commits;
+      text = asked.text;
+      packing = asked.packing;
+      kept = asked.kept;
+      leaves = asked.since;
+    }
 
 -- want of memory needs no cause
 pub memory_cause : (old new : State) (fault : TableFault) → fault ≡ OutOfMemory → FileTableCause old new fault

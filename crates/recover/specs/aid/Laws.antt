@@ -7,7 +7,6 @@ use Rattle.rbg_game.specs.Games.{Game}
 use Rattle.rbg_game.specs.declared.roles.Player.{Player}
 use Rattle.rbg_read.specs.Reading.{Reads}
 use Rattle.rbg_read.proofs.OneReading.{one_game}
-use Rattle.legal_moves.specs.Sources.{IsWideAt}
 use Rattle.retrograde.specs.Graph.{IsReachable}
 use Rattle.retrograde.specs.Right.{IsRight}
 use Rattle.retrograde.specs.Sound.{IsLocallySound}
@@ -23,7 +22,7 @@ use Rattle.best_line.specs.Values.{IsValue}
 use Rattle.best_line.specs.Laws.{IsSo}
 use Rattle.game_file.specs.Kept.{Kept, Layout}
 use Rattle.game_file.specs.State.{State}
-use Rattle.recover.specs.Held.{Holds, IsSound, graph_in}
+use Rattle.recover.specs.Held.{Holds, IsSound, graph_in, wide_in}
 use Rattle.recover.specs.Opening.{IsOpened}
 
 -- a picture that stores a sound table holds it
@@ -31,7 +30,7 @@ pub a_sound_table_is_held : (Stores : Layout) (picture : Picture) (kept : Option
     → Holds Stores picture kept
 a_sound_table_is_held Stores picture None stores sound = record { stores = stores; of_a_game = tt }
 a_sound_table_is_held Stores picture (Some kept) stores (game, is_read, sound) =
-    let (positions, fits) = sound_tables_fit game kept.table (starts_are_positions kept.text game is_read) sound in
+    let (positions, fits) = sound_tables_fit kept.packing game kept.table (starts_are_positions kept.text game is_read) sound in
     record { stores = stores; of_a_game = (game, record { reads = is_read; positions = positions }) }
 
 -- where a stop left the one table or the other, that is the one that is opened
@@ -49,8 +48,8 @@ what_was_left_is_opened Stores disk count state one other opened honest left = e
 pub a_sound_table_is_right : (kept : Kept) (game : Game) → IsSound (Some kept) → Reads kept.text game
     → IsRight (graph_in game kept) (view_of kept.table)
 a_sound_table_is_right kept game (other, is_read, sound) is =
-    sound_right (graph_in game kept) (IsWideAt game) kept.table
-    (subst (λ (g : Game). IsLocallySound (graph_in g kept) (IsWideAt g) kept.table) (one_game kept.text other game is_read is) sound)
+    sound_right (graph_in game kept) (wide_in game kept) kept.table
+    (subst (λ (g : Game). IsLocallySound (graph_in g kept) (wide_in g kept) kept.table) (one_game kept.text other game is_read is) sound)
 
 -- each settled position is won by the named player in the named number of moves
 pub what_is_settled_is_won : (kept : Kept) (game : Game) → IsSound (Some kept) → Reads kept.text game

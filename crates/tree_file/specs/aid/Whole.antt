@@ -19,7 +19,7 @@ use Rattle.table.specs.declared.fault.TableFault.{TableFault}
 use Rattle.table.specs.declared.fault.TableFault.TheVariants.{Disk as DiskFailed, Damaged, TableFull, OutOfMemory, Closed}
 use Rattle.game_file.specs.Calls.{IsAsked}
 use Rattle.game_file.specs.Causes.{FileTableCause}
-use Rattle.game_file.specs.Kept.{Kept, kept_as, text_kept}
+use Rattle.game_file.specs.Kept.{Kept, kept_as, packing_kept, text_kept}
 use Rattle.game_file.specs.State.{GoesAhead}
 use Rattle.game_file.specs.Stops.{LeavesNow, LeavesTable}
 use Rattle.tree_table.specs.declared.slot.TreeSlot.{TreeSlot}
@@ -53,12 +53,12 @@ kept_same : (game : Option TreeSlot) (text : List ℕ) (old new : Store) → IsT
     → IsKeptInTrees old (kept_with game text (reads old)) → kept_with game text (reads new) ≡ kept_with game text (reads old)
 kept_same None text old new honest still calm names it = refl
 kept_same (Some slot) text old new honest still calm names it =
-    let kept = kept_as text (table_in slot (reads old)) in
+    let kept = kept_as text slot.packing (table_in slot (reads old)) in
     let now = still_keeps old new (Some kept) honest still it in
     let root : slot ≡ slot_in new.root = names ∙ ap slot_in (sym still.root) in
     let table : table_in slot (reads new) ≡ table_in slot (reads old) = ap (λ (s : TreeSlot). table_in s (reads new)) root
     ∙ kept_spells new kept calm now in
-    ap (λ (t : Stored (List ℕ)). Some (kept_as text t)) table
+    ap (λ (t : Stored (List ℕ)). Some (kept_as text slot.packing t)) table
 
 -- a page that the root does not need is free between commands
 free_still : (m n : Mark) → (n ≡ Committed) ⊎ (n ≡ Free) → needs n ≡ needs m → m ≡ Free → n ≡ Free
@@ -75,6 +75,11 @@ pub text_same : (game : Option TreeSlot) (text : List ℕ) (bytes other : ℕ �
 text_same None text bytes other = refl
 text_same (Some slot) text bytes other = refl
 
+packing_same : (game : Option TreeSlot) (text : List ℕ) (bytes other : ℕ → List ℕ)
+    → packing_kept (kept_with game text bytes) ≡ packing_kept (kept_with game text other)
+packing_same None text bytes other = refl
+packing_same (Some slot) text bytes other = refl
+
 -- a later state of a whole file, whose root and its pages are as they were
 module _ (was new : File) (whole : IsWholeFile was) (still : IsStill was.work.store new.work.store) (game : new.game ≡ was.game)
     (text : new.work.text ≡ was.work.text)
@@ -86,6 +91,11 @@ module _ (was new : File) (whole : IsWholeFile was) (still : IsStill was.work.st
 
   pub again_text : text_kept (kept_of new) ≡ text_kept (kept_of was)
   again_text = ap text_kept (as_kept was new game text) ∙ text_same was.game was.work.text (reads new.work.store) (reads was.work.store)
+
+  pub again_packing : packing_kept (kept_of new) ≡ packing_kept (kept_of was)
+  again_packing =
+      ap packing_kept (as_kept was new game text)
+      ∙ packing_same was.game was.work.text (reads new.work.store) (reads was.work.store)
 
   pub again_whole : IsSoundStore new.work.store → new.work.torn ≡ false → new.work.slot ≡ slot_or_bare new.game → IsWholeFile new
   again_whole sound torn slot = record {
@@ -138,7 +148,7 @@ whole_stored file kept whole honest is =
     of_game None slot none = absurd (cc)
     of_game (Some s) slot some =
         ap (λ (x : TreeSlot). table_in x (reads file.work.store)) slot
-        ∙ ap (λ (k : Kept). k.table) (same_Some (kept_as file.work.text (table_in s (reads file.work.store))) kept some)
+        ∙ ap (λ (k : Kept). k.table) (same_Some (kept_as file.work.text s.packing (table_in s (reads file.work.store))) kept some)
 
 -- a question leaves it whole
 pub whole_stays : (old new : File) → IsSoundStore new.work.store → IsWholeFile old → FileStays old new
@@ -156,6 +166,7 @@ whole_stays old new sound whole stays =
         ahead = works_ahead old new stays.work.works;
         commits = ap commits_in unchanged.root;
         text = again_text old new whole still stays.game stays.work.text calm;
+        packing = again_packing old new whole still stays.game stays.work.text calm;
         kept = again_kept old new whole still stays.game stays.work.text calm;
         closed = unchanged.closed;
         leaves = unchanged.leaves;

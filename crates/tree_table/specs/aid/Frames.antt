@@ -100,6 +100,7 @@ stays_goes_on {a} {b} it = record {
   text = it.text;
   torn = it.torn;
   long = ap (λ (s : TreeSlot). s.sizes.text) it.slot;
+  packing = ap (λ (s : TreeSlot). s.packing) it.slot;
   holds = λ honest h.
       holds_still a b it honest.disk h;
 }
@@ -111,6 +112,7 @@ goes_on_then first second = record {
   text = second.text ∙ first.text;
   torn = second.torn ∙ first.torn;
   long = second.long ∙ first.long;
+  packing = second.packing ∙ first.packing;
   holds = λ honest h. second.holds (honest_on first.works first.torn honest) (first.holds honest h);
 }
 

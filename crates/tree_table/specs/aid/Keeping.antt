@@ -15,6 +15,7 @@ use Rattle.page_store.specs.aid.Works.{still_needed}
 use Rattle.sector_disk.specs.aid.Moments.{still_honest}
 use Rattle.tree_map.specs.aid.Unchanged.{unchanged_reads}
 use Rattle.page_chain.specs.aid.Resting.{a_chain_rests_on_its_pages, a_chain_fits_more}
+use Rattle.position_pack.specs.declared.kind.PackingKind.{PackingKind}
 use Rattle.retrograde.specs.Stored.{Stored, IsTable}
 use Rattle.root_slot.specs.Fields.{capacity_of, first_in, sizes_in}
 use Rattle.game_file.specs.Kept.{Kept, kept_as}
@@ -212,9 +213,10 @@ kept_is_held store kept calm it = record {
 }
 
 -- a slot of these bytes, where the pages hold a table, is prepared for the next commit
-module _ (root : List ℕ) (slot : TreeSlot) (text : List ℕ) (table : Stored (List ℕ)) (store : Store) (is_game : IsGameTreeSlot root)
-    (is : slot_in root ≡ slot) (long : length text ≡ slot.sizes.text) (whole : IsTable table) (h : HoldsTable slot text table store) where
-  held_keeps : KeepsOnPages root (length store.marks) (kept_as text table) h.forest.text_pages h.forest.pages (reads store)
+module _ (root : List ℕ) (slot : TreeSlot) (text : List ℕ) (kind : PackingKind) (table : Stored (List ℕ)) (store : Store)
+    (is_game : IsGameTreeSlot root kind) (is : slot_in root ≡ slot) (long : length text ≡ slot.sizes.text) (whole : IsTable table)
+    (h : HoldsTable slot text table store) where
+  held_keeps : KeepsOnPages root (length store.marks) (kept_as text kind table) h.forest.text_pages h.forest.pages (reads store)
   held_keeps =
       let back : slot ≡ slot_in root = sym is in
       record {
@@ -240,15 +242,14 @@ module _ (root : List ℕ) (slot : TreeSlot) (text : List ℕ) (table : Stored (
       (h.forest.held t)).kept p here
 
   pub table_is_prepared : (capacity : ℕ) → capacity ≡ length store.marks
-      → IsPrepared (IsOneOf h.forest.text_pages h.forest.pages) (KeepsTrees root capacity (Some (kept_as text table))) store
+      → IsPrepared (IsOneOf h.forest.text_pages h.forest.pages) (KeepsTrees root capacity (Some (kept_as text kind table))) store
   table_is_prepared capacity same = record {
     spelled = record {
-      anywhere = λ other agree. subst (λ (n : ℕ). KeepsTrees root n (Some (kept_as text table)) other) (sym same) (record {
+      anywhere = λ other agree. subst (λ (n : ℕ). KeepsTrees root n (Some (kept_as text kind table)) other) (sym same) (record {
         text_pages = h.forest.text_pages;
         pages = h.forest.pages;
-        keeps = keeps_rests h.forest.text_pages h.forest.pages root (length store.marks) (Some (kept_as text table)) (reads store) other
-            agree
-            held_keeps;
+        keeps = keeps_rests h.forest.text_pages h.forest.pages root (length store.marks) (Some (kept_as text kind table)) (reads store)
+            other agree held_keeps;
       });
     };
     kept = named_kept;
@@ -260,25 +261,26 @@ module _ (root : List ℕ) (slot : TreeSlot) (text : List ℕ) (table : Stored (
       (works : StoreWorks begun store) (commits : Commits root store new) (enough : 16 ≤ length begun.marks)
       (few : length begun.marks ≤ 1048576) where
     carried : IsCarried root (IsOneOf kept.text_pages kept.pages) (KeepsTrees begun.root (length begun.marks) was)
-        (IsOneOf h.forest.text_pages h.forest.pages) (KeepsTrees root (length begun.marks) (Some (kept_as text table))) begun store new
+        (IsOneOf h.forest.text_pages h.forest.pages) (KeepsTrees root (length begun.marks) (Some (kept_as text kind table))) begun store new
     carried =
         commit_carries root begun store new honest safe (kept_stands begun was kept) works
         (table_is_prepared (length begun.marks) (sym works.same_pages)) commits
 
-    pub stop_stores : LeavesEither StoresTrees begun.disk new.disk was (Some (kept_as text table))
+    pub stop_stores : LeavesEither StoresTrees begun.disk new.disk was (Some (kept_as text kind table))
     stop_stores =
         leaves_more (λ picture left. elim left [
           | inl old ↦ inl (spells_stores_trees begun.root (length begun.marks) was picture enough few old)
-          | inr now ↦ inr (spells_stores_trees root (length begun.marks) (Some (kept_as text table)) picture enough few now)
+          | inr now ↦ inr (spells_stores_trees root (length begun.marks) (Some (kept_as text kind table)) picture enough few now)
         ]) carried.stop
 
-    pub committed_keeps : IsCommitted root store new → IsKeptInTrees new (Some (kept_as text table))
+    pub committed_keeps : IsCommitted root store new → IsKeptInTrees new (Some (kept_as text kind table))
     committed_keeps committed = record {
       text_pages = h.forest.text_pages;
       pages = h.forest.pages;
-      keeps = keeps_as h.forest.text_pages h.forest.pages root new.root (length store.marks) (length new.marks) (Some (kept_as text table))
-          (reads new) (sym committed.is) (sym committed.marks.same_length)
-          (keeps_rests h.forest.text_pages h.forest.pages root (length store.marks) (Some (kept_as text table)) (reads store) (reads new)
+      keeps = keeps_as h.forest.text_pages h.forest.pages root new.root (length store.marks) (length new.marks)
+          (Some (kept_as text kind table)) (reads new) (sym committed.is) (sym committed.marks.same_length)
+          (keeps_rests h.forest.text_pages h.forest.pages root (length store.marks) (Some (kept_as text kind table)) (reads store)
+          (reads new)
           (λ p here. committed.reads (still_honest works.goes_on honest) p (named_kept p here).0) held_keeps);
       needed = λ p here. (carried.done committed).needed p here;
     }

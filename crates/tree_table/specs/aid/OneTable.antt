@@ -5,6 +5,7 @@ use Rattle.sector_disk.specs.Disk.{Picture}
 use Rattle.page_store.specs.Page.{page}
 use Rattle.page_chain.specs.aid.Resting.{a_chain_has_one_content}
 use Rattle.root_slot.specs.Fields.{capacity_of, first_in}
+use Rattle.root_slot.specs.aid.Packings.{one_packing, some_number}
 use Rattle.game_file.specs.Kept.{Kept}
 use Rattle.tree_table.specs.Held.{KeepsTrees, StoresTrees}
 use Rattle.tree_table.specs.Slot.{slot_in}
@@ -16,8 +17,10 @@ pub a_root_keeps_one_tree_table : (root : List ℕ) (capacity : ℕ) (one other 
     → KeepsTrees root capacity one bytes
     → KeepsTrees root capacity other bytes → one ≡ other
 a_root_keeps_one_tree_table root capacity None None bytes a b = refl
-a_root_keeps_one_tree_table root capacity None (Some l) bytes a b = absurd (omega (arith, a.packing, b.keeps.slot.packing))
-a_root_keeps_one_tree_table root capacity (Some k) None bytes a b = absurd (omega (arith, a.keeps.slot.packing, b.packing))
+a_root_keeps_one_tree_table root capacity None (Some l) bytes a b =
+    absurd (omega (arith, a.packing, b.keeps.slot.packing, some_number l.packing))
+a_root_keeps_one_tree_table root capacity (Some k) None bytes a b =
+    absurd (omega (arith, a.keeps.slot.packing, b.packing, some_number k.packing))
 a_root_keeps_one_tree_table root capacity (Some k) (Some l) bytes a b =
     let texts =
     a_chain_has_one_content capacity (first_in root) a.text_pages b.text_pages k.text l.text bytes a.keeps.forest.chain b.keeps.forest.chain
@@ -29,7 +32,8 @@ a_root_keeps_one_tree_table root capacity (Some k) (Some l) bytes a b =
     forest_spells (slot_in root) capacity b.pages b.keeps.entries bytes l.table b.keeps.slot.limits.known b.keeps.forest.trees
     b.keeps.spelled in
     let tables : k.table ≡ l.table = sym one ∙ other in
-    λ i. Some (record { text = texts.1 i; table = tables i })
+    let packings : k.packing ≡ l.packing = one_packing root k.packing l.packing a.keeps.slot.packing b.keeps.slot.packing in
+    λ i. Some (record { text = texts.1 i; packing = packings i; table = tables i })
 
 -- a picture of the disk stores one table at most
 pub a_picture_stores_one_tree_table : (picture : Picture) (one other : Option Kept) → StoresTrees picture one → StoresTrees picture other

@@ -7,11 +7,13 @@ use Rattle.tree_table.specs.declared.slot.TreeSlot.{TreeSlot}
 
 -- only roots differ
 pub record IsSameButRoots (old new : TreeSlot) : Type 0 where
+  pub packing : new.packing ≡ old.packing
   pub first : new.first ≡ old.first
   pub sizes : new.sizes ≡ old.sizes
 
--- the text is the same, and so is how many bytes a position has
+-- the text is the same, and so is how positions are packed and how many bytes one has
 pub record IsSameFrame (old new : TreeSlot) : Type 0 where
+  pub packing : new.packing ≡ old.packing
   pub first : new.first ≡ old.first
   pub text : new.sizes.text ≡ old.sizes.text
   pub packed : new.sizes.packed ≡ old.sizes.packed

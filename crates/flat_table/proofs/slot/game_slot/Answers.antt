@@ -9,7 +9,7 @@ returns-clause-layout c =
 
 pub returns-clause-packing : goal.returns-clause-packing
 returns-clause-packing c =
-    c.put_long-2.ensures.before 4 (omega arith) ∙ c.put_word-8.ensures.before 4 (omega arith) ∙ c.put_word-7.ensures.before 4 (omega arith) ∙ c.put_word-6.ensures.before 4 (omega arith) ∙ c.put_word-5.ensures.before 4 (omega arith) ∙ c.put_word-4.ensures.before 4 (omega arith) ∙ c.put_word-3.ensures.before 4 (omega arith) ∙ c.put_word-2.ensures.before 4 (omega arith) ∙ c.put_long.ensures.before 4 (omega arith) ∙ c.put_word.ensures.is
+    c.put_long-2.ensures.before 4 (omega arith) ∙ c.put_word-8.ensures.before 4 (omega arith) ∙ c.put_word-7.ensures.before 4 (omega arith) ∙ c.put_word-6.ensures.before 4 (omega arith) ∙ c.put_word-5.ensures.before 4 (omega arith) ∙ c.put_word-4.ensures.before 4 (omega arith) ∙ c.put_word-3.ensures.before 4 (omega arith) ∙ c.put_word-2.ensures.before 4 (omega arith) ∙ c.put_long.ensures.before 4 (omega arith) ∙ c.put_word.ensures.is ∙ c.number_of_packing.ensures
 
 pub returns-clause-first : goal.returns-clause-first
 returns-clause-first c =

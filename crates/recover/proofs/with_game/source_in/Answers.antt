@@ -6,9 +6,9 @@ returns-then-not-branch-clause-cause g c = λ whole honest.
     let file = c.args.file.now in
     let (k, is) = kept_with (g.F.GameFile.state file).kept c.in-Some.text.now c.in-Some.ensures.some in
     let stored = g.met.F.GameFile.whole_stored file k whole honest is in
-    of_no_game c.in-Some.text.now c.in-Ok.source c.in-Ok.ensures.reads (g.F.Table.stored file) c.in_ok-are_positions.field-0
+    of_no_game c.in-Some.text.now c.in-Some-packing.kind c.in-Ok.source c.in-Ok.ensures.reads c.in-Ok.ensures.packing (g.F.Table.stored file) c.in_ok-are_positions.field-0
     (c.in_ok-are_positions.ensures.are stored.0)
-    (g.F.GameFile.state file).kept c.in-Some.ensures.some (λ k is. (g.met.F.GameFile.whole_stored file k whole honest is).1)
+    (g.F.GameFile.state file).kept c.in-Some.ensures.some c.in-Some-packing.ensures.some (λ k is. (g.met.F.GameFile.whole_stored file k whole honest is).1)
     c.in-Ok.ensures.one c.if-not-branch.true
 
 pub returns-clause-of_a_game : goal.returns-clause-of_a_game
@@ -16,6 +16,6 @@ returns-clause-of_a_game g c = λ whole honest.
     let file = c.args.file.now in
     let (k, is) = kept_with (g.F.GameFile.state file).kept c.in-Some.text.now c.in-Some.ensures.some in
     let stored = g.met.F.GameFile.whole_stored file k whole honest is in
-    of_a_game c.in-Some.text.now c.in-Ok.source c.in-Ok.ensures.reads (g.F.Table.stored file) c.in_ok-are_positions.field-0
+    of_a_game c.in-Some.text.now c.in-Some-packing.kind c.in-Ok.source c.in-Ok.ensures.reads c.in-Ok.ensures.packing (g.F.Table.stored file) c.in_ok-are_positions.field-0
     (c.in_ok-are_positions.ensures.are stored.0)
-    (g.F.GameFile.state file).kept c.in-Some.ensures.some (λ k is. (g.met.F.GameFile.whole_stored file k whole honest is).1) c.if-not-branch.false
+    (g.F.GameFile.state file).kept c.in-Some.ensures.some c.in-Some-packing.ensures.some (λ k is. (g.met.F.GameFile.whole_stored file k whole honest is).1) c.if-not-branch.false

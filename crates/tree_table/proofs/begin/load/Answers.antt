@@ -26,16 +26,16 @@ returns-in-Ok-clause-stop g c = λ vacant.
     let old = g.P.Pages.store c.args.store.now in
     let mid = g.P.Pages.store c.first_table.new.store in
     let told = c.in_ok-slot.ensures in
-    c.commit.ensures.stop old None (kept_as c.args.text.now (loaded c.args.start.now.items))
-    (worked_on c.in_ok-slot.slot c.args.text.now c.args.start.now.items old mid vacant told.works (told.table vacant.honest) told.long told.sized c.requires.text)
+    c.commit.ensures.stop old None (kept_as c.args.text.now c.args.packing (loaded c.args.start.now.items))
+    (worked_on c.in_ok-slot.slot c.args.text.now c.args.packing c.args.start.now.items old mid vacant told.works (told.table vacant.honest) told.packing told.long told.sized c.requires.text)
 
 pub returns-in-Ok-clause-done : goal.returns-in-Ok-clause-done
 returns-in-Ok-clause-done g c = λ vacant.
     let old = g.P.Pages.store c.args.store.now in
     let mid = g.P.Pages.store c.first_table.new.store in
     let told = c.in_ok-slot.ensures in
-    c.in-Ok.ensures.done old None (kept_as c.args.text.now (loaded c.args.start.now.items))
-    (worked_on c.in_ok-slot.slot c.args.text.now c.args.start.now.items old mid vacant told.works (told.table vacant.honest) told.long told.sized c.requires.text)
+    c.in-Ok.ensures.done old None (kept_as c.args.text.now c.args.packing (loaded c.args.start.now.items))
+    (worked_on c.in_ok-slot.slot c.args.text.now c.args.packing c.args.start.now.items old mid vacant told.works (told.table vacant.honest) told.packing told.long told.sized c.requires.text)
 
 pub returns-in-Ok-clause-stands : goal.returns-in-Ok-clause-stands
 returns-in-Ok-clause-stands g c = λ honest.
@@ -68,13 +68,13 @@ returns-in-Err-clause-stop g c = λ vacant.
     let old = g.P.Pages.store c.args.store.now in
     let mid = g.P.Pages.store c.first_table.new.store in
     let told = c.in_ok-slot.ensures in
-    c.commit.ensures.stop old None (kept_as c.args.text.now (loaded c.args.start.now.items))
-    (worked_on c.in_ok-slot.slot c.args.text.now c.args.start.now.items old mid vacant told.works (told.table vacant.honest) told.long told.sized c.requires.text)
+    c.commit.ensures.stop old None (kept_as c.args.text.now c.args.packing (loaded c.args.start.now.items))
+    (worked_on c.in_ok-slot.slot c.args.text.now c.args.packing c.args.start.now.items old mid vacant told.works (told.table vacant.honest) told.packing told.long told.sized c.requires.text)
 
 pub returns-in-Err-clause-kept_stop : goal.returns-in-Err-clause-kept_stop
 returns-in-Err-clause-kept_stop g c = λ vacant.
     let old = g.P.Pages.store c.args.store.now in
     let mid = g.P.Pages.store c.first_table.new.store in
     let told = c.in_ok-slot.ensures in
-    c.in-Err.ensures.kept_stop old None (kept_as c.args.text.now (loaded c.args.start.now.items))
-    (worked_on c.in_ok-slot.slot c.args.text.now c.args.start.now.items old mid vacant told.works (told.table vacant.honest) told.long told.sized c.requires.text)
+    c.in-Err.ensures.kept_stop old None (kept_as c.args.text.now c.args.packing (loaded c.args.start.now.items))
+    (worked_on c.in_ok-slot.slot c.args.text.now c.args.packing c.args.start.now.items old mid vacant told.works (told.table vacant.honest) told.packing told.long told.sized c.requires.text)

@@ -6,7 +6,8 @@ use Rattle.page_store.specs.declared.fault.PageFault.{PageFault}
 use Rattle.page_store.specs.declared.fault.PageFault.TheVariants.{Disk, NotATable, Damaged, TableFull, OutOfMemory, Closed}
 use Rattle.game_file.specs.Stops.{LeavesTable}
 use Rattle.table_bytes.specs.Numbers.{AreWithinLimits}
-use Rattle.root_slot.specs.Fields.{layout_in, packing_in}
+use Rattle.position_pack.specs.declared.kind.PackingKind.{PackingKind}
+use Rattle.root_slot.specs.Fields.{layout_in, packing_in, number_of_packing}
 use Rattle.tree_map.specs.aid.Unchanged.{unchanged_refl}
 use Rattle.tree_table.specs.declared.slot.TreeSlot.{TreeSlot}
 use Rattle.tree_table.specs.Held.{StoresTrees}
@@ -32,10 +33,11 @@ refused old new (Ok x) cause same = tt
 refused old new (Err fault) cause same = left old new fault cause same
 
 -- the slot of the game
-game : (root : List ℕ) (slot : TreeSlot) → layout_in root ≡ 2 → packing_in root ≡ 1 → slot_in root ≡ slot → AreWithinLimits slot.sizes → 1 ≤ slot.sizes.packed → IsGameTreeSlot root
-game root slot layout packing is limits some = record {
+game : (root : List ℕ) (slot : TreeSlot) (kind : PackingKind) → kind ≡ slot.packing → layout_in root ≡ 2 → packing_in root ≡ number_of_packing slot.packing → slot_in root ≡ slot
+    → AreWithinLimits slot.sizes → 1 ≤ slot.sizes.packed → IsGameTreeSlot root kind
+game root slot kind same layout packing is limits some = record {
   layout = layout;
-  packing = packing;
+  packing = packing ∙ ap number_of_packing (sym same);
   limits = subst (λ (s : TreeSlot). AreWithinLimits s.sizes) (sym is) limits;
   some = subst (λ (s : TreeSlot). 1 ≤ s.sizes.packed) (sym is) some;
 }
@@ -52,7 +54,7 @@ returns-clause-stop g c = λ begun was is it.
     let told = c.game_slot-root.ensures in
     let old = g.P.Pages.store c.args.store.now in
     let few : length begun.marks ≤ 1048576 = omega (arith, (g.met.P.Pages.sound c.args.store.now).few, it.works.same_pages) in
-    stop_stores root c.args.slot.now is.text is.table old (game root c.args.slot.now told.layout told.packing told.slot (within_limits is.table c.args.slot.now.sizes it.table it.holds.counts it.short it.packed it.few) it.some) told.slot it.text it.table it.holds
+    stop_stores root c.args.slot.now is.text is.packing is.table old (game root c.args.slot.now is.packing it.packing told.layout told.packing told.slot (within_limits is.table c.args.slot.now.sizes it.table it.holds.counts it.short it.packed it.few) it.some) told.slot it.text it.table it.holds
     begun (g.P.Pages.store c.commit.new.self) was it.honest it.safe it.kept it.works c.commit.ensures.commits it.enough few
 
 pub returns-clause-done : goal.returns-clause-done
@@ -63,7 +65,7 @@ returns-clause-done g c = λ begun was is it.
     let new = g.P.Pages.store c.commit.new.self in
     let few : length begun.marks ≤ 1048576 = omega (arith, (g.met.P.Pages.sound c.args.store.now).few, it.works.same_pages) in
     on_ok (IsCommitted root old new) (IsKeptInTrees new (Some is)) c.commit.result
-    (committed_keeps root c.args.slot.now is.text is.table old (game root c.args.slot.now told.layout told.packing told.slot (within_limits is.table c.args.slot.now.sizes it.table it.holds.counts it.short it.packed it.few) it.some) told.slot it.text it.table it.holds
+    (committed_keeps root c.args.slot.now is.text is.packing is.table old (game root c.args.slot.now is.packing it.packing told.layout told.packing told.slot (within_limits is.table c.args.slot.now.sizes it.table it.holds.counts it.short it.packed it.few) it.some) told.slot it.text it.table it.holds
     begun new was it.honest it.safe it.kept it.works c.commit.ensures.commits it.enough few) c.commit.ensures.ok
 
 pub returns-clause-kept : goal.returns-clause-kept
@@ -75,7 +77,7 @@ returns-clause-kept g c = λ begun was is it.
     let few : length begun.marks ≤ 1048576 = omega (arith, (g.met.P.Pages.sound c.args.store.now).few, it.works.same_pages) in
     on_err (new.closed ≡ false → IsUnchanged old new) (new.closed ≡ false → IsKeptInTrees new was) c.commit.result
     (λ so is_open.
-    unchanged_keeps root c.args.slot.now is.text is.table old (game root c.args.slot.now told.layout told.packing told.slot (within_limits is.table c.args.slot.now.sizes it.table it.holds.counts it.short it.packed it.few) it.some) told.slot it.text it.table it.holds
+    unchanged_keeps root c.args.slot.now is.text is.packing is.table old (game root c.args.slot.now is.packing it.packing told.layout told.packing told.slot (within_limits is.table c.args.slot.now.sizes it.table it.holds.counts it.short it.packed it.few) it.some) told.slot it.text it.table it.holds
     begun new was it.honest it.safe it.kept it.works c.commit.ensures.commits it.enough few (so is_open))
     (refused old new c.commit.result c.commit.ensures.cause c.commit.ensures.untouched)
 
@@ -88,7 +90,7 @@ returns-clause-kept_stop g c = λ begun was is it.
     let few : length begun.marks ≤ 1048576 = omega (arith, (g.met.P.Pages.sound c.args.store.now).few, it.works.same_pages) in
     on_err (new.closed ≡ false → IsUnchanged old new) (new.closed ≡ false → LeavesTable StoresTrees begun.disk new.disk was) c.commit.result
     (λ so is_open.
-    unchanged_stop root c.args.slot.now is.text is.table old (game root c.args.slot.now told.layout told.packing told.slot (within_limits is.table c.args.slot.now.sizes it.table it.holds.counts it.short it.packed it.few) it.some) told.slot it.text it.table it.holds
+    unchanged_stop root c.args.slot.now is.text is.packing is.table old (game root c.args.slot.now is.packing it.packing told.layout told.packing told.slot (within_limits is.table c.args.slot.now.sizes it.table it.holds.counts it.short it.packed it.few) it.some) told.slot it.text it.table it.holds
     begun new was it.honest it.safe it.kept it.works c.commit.ensures.commits it.enough few (so is_open))
     (refused old new c.commit.result c.commit.ensures.cause c.commit.ensures.untouched)
 

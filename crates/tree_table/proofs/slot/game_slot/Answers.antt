@@ -1,5 +1,6 @@
 use Rattle.std.proofs.Common.{◌≡◌, ◌∙◌, arith}
-use Rattle.root_slot.specs.Fields.{word_at, long_at}
+use Rattle.root_slot.specs.Fields.{word_at, long_at, kind_in}
+use Rattle.root_slot.specs.aid.Packings.{kind_is}
 use Rattle.root_slot.specs.aid.Words.{long_same}
 use Rattle.tree_table.specs.Slot.{slot_in}
 use Rattle.tree_table.proofs.slot.game_slot.Goals as goal
@@ -8,7 +9,7 @@ pub returns-clause-layout : goal.returns-clause-layout
 returns-clause-layout c = c.put_long-2.ensures.before 0 (omega arith) ∙ c.put_roots.ensures.before 0 (omega arith) ∙ c.put_sizes.ensures.before 0 (omega arith) ∙ c.put_word-2.ensures.before 0 (omega arith) ∙ c.put_long.ensures.before 0 (omega arith) ∙ c.put_word.ensures.before 0 (omega arith) ∙ c.empty_slot-root.ensures.empty.layout
 
 pub returns-clause-packing : goal.returns-clause-packing
-returns-clause-packing c = c.put_long-2.ensures.before 4 (omega arith) ∙ c.put_roots.ensures.before 4 (omega arith) ∙ c.put_sizes.ensures.before 4 (omega arith) ∙ c.put_word-2.ensures.before 4 (omega arith) ∙ c.put_long.ensures.before 4 (omega arith) ∙ c.put_word.ensures.is
+returns-clause-packing c = c.put_long-2.ensures.before 4 (omega arith) ∙ c.put_roots.ensures.before 4 (omega arith) ∙ c.put_sizes.ensures.before 4 (omega arith) ∙ c.put_word-2.ensures.before 4 (omega arith) ∙ c.put_long.ensures.before 4 (omega arith) ∙ c.put_word.ensures.is ∙ c.number_of_packing.ensures
 
 pub returns-clause-commits : goal.returns-clause-commits
 returns-clause-commits c =
@@ -37,7 +38,9 @@ returns-clause-slot c =
     let edges : word_at root 52 ≡ slot.roots.edges = c.put_long-2.ensures.before 52 (omega arith) ∙ (λ i. (c.put_roots.ensures.roots i).edges) in
     let order : word_at root 56 ≡ slot.roots.order = c.put_long-2.ensures.before 56 (omega arith) ∙ (λ i. (c.put_roots.ensures.roots i).order) in
     let many : long_at root 60 ≡ slot.sizes.edges = c.put_long-2.ensures.is in
+    let packing : kind_in root ≡ slot.packing = kind_is root slot.packing (returns-clause-packing c) in
     let same : slot_in root ≡ slot = λ i. record {
+      packing = packing i;
       first = first i;
       sizes = record { text = text i; packed = packed i; counts = record { known = known i; expanded = expanded i; settled = settled i; processed = processed i }; edges = many i };
       roots = record { positions = positions i; records = records i; edges = edges i; order = order i };

@@ -16,4 +16,4 @@ pub returns-clause-cause : goal.returns-clause-cause
 returns-clause-cause g c = λ whole none is_open.
     let text : c.in_ok-text.text.items ≡ c.args.text.now = search rules in
     let cause = rw (c.len.ensures.value, text, c.in_ok-table.ensures.loaded) at c.replace.ensures.cause whole.0 in
-    IfErr-weaker c.replace.result _ _ (λ fault cause. load_cause _ _ (file_in c.args.self.now) (file_in c.replace.new.self) whole.0 none is_open fault cause) cause
+    IfErr-weaker c.replace.result _ _ (λ fault cause. load_cause _ _ _ (file_in c.args.self.now) (file_in c.replace.new.self) whole.0 none is_open fault cause) cause

@@ -8,5 +8,6 @@ returns-clause-compiled c = record {
   sound = c.requires;
   start_is = start_position (game_of c.args.game) c.requires;
   packing_is = search rules;
+  rows_are = search rules;
   tables_are = (c.in_ok-add_table.ensures [] (AreTables-none c.new-tables.result.items c.new-tables.ensures.items)).1;
 }

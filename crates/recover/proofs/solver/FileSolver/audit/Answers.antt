@@ -12,32 +12,32 @@ pub returns-clause-verdict : goal.returns-clause-verdict
 returns-clause-verdict g c = λ ready honest.
     let file = c.args.self.now.file in
     let source = subst (λ (o : Option Compiled). IsSourceOf o (g.F.GameFile.state file).kept) c.in-Some.is ready.1 in
-    let (k, is, is_read) = kept_there c.in-Some.source _ source in
+    let (k, is, made) = kept_there c.in-Some.source _ source in
     let stored = g.met.F.GameFile.whole_stored file k ready.0 honest is in
     rw is
-    (verdict_found k _ stored.1 stored.2 _ (g.met.F.Table.counts_are file stored.0) c.in-Some.source is_read c.in_ok-audit.field-0
+    (verdict_found k _ stored.1 stored.2 _ (g.met.F.Table.counts_are file stored.0) c.in-Some.source made c.in_ok-audit.field-0
     (λ fits. rw c.moves.ensures.is at c.in_ok-audit.ensures.answer stored.0 fits))
 
 pub returns-clause-so : goal.returns-clause-so
 returns-clause-so g c = λ ready right honest.
     let file = c.args.self.now.file in
     let source = subst (λ (o : Option Compiled). IsSourceOf o (g.F.GameFile.state file).kept) c.in-Some.is ready.1 in
-    let (k, is, is_read) = kept_there c.in-Some.source _ source in
+    let (k, is, made) = kept_there c.in-Some.source _ source in
     let stored = g.met.F.GameFile.whole_stored file k ready.0 honest is in
     rw is
-    (so_found k _ stored.1 stored.2 _ (g.met.F.Table.counts_are file stored.0) c.in-Some.source is_read
+    (so_found k _ stored.1 stored.2 _ (g.met.F.Table.counts_are file stored.0) c.in-Some.source made
     (λ fits. rw c.moves.ensures.is at c.in_ok-audit.ensures.so stored.0 fits (ok_is _ _ right)))
 
 pub returns-in_err-audit-clause-cause : goal.returns-in_err-audit-clause-cause
 returns-in_err-audit-clause-cause g c = λ ready.
     let file = c.args.self.now.file in
     let source = subst (λ (o : Option Compiled). IsSourceOf o (g.F.GameFile.state file).kept) c.in-Some.is ready.1 in
-    let (k, is, is_read) = kept_there c.in-Some.source _ source in
+    let (k, is, made) = kept_there c.in-Some.source _ source in
     passed_on _ c.from_residual-in_err-audit.result _ c.from_residual-in_err-audit.ensures
     (audit_cause (g.F.GameFile.state file) (g.F.GameFile.state c.audit.new.table) c.in_err-audit.field-0.0
     (λ wide honest.
     let stored = g.met.F.GameFile.whole_stored file k ready.0 honest is in
     rw is
-    (wide_found k _ stored.1 stored.2 _ (g.met.F.Table.counts_are file stored.0) c.in-Some.source is_read
+    (wide_found k _ stored.1 stored.2 _ (g.met.F.Table.counts_are file stored.0) c.in-Some.source made
     (rw c.moves.ensures.is at c.in_err-audit.ensures.wide stored.0 (ap (λ (f : AuditFault). Err f) wide))))
     c.in_err-audit.ensures.room c.in_err-audit.ensures.fault (λ f fails. g.met.F.GameFile.fails_for file c.audit.new.table f ready.0 fails))

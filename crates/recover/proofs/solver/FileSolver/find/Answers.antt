@@ -1,7 +1,7 @@
 use Rattle.std.proofs.Common.{subst, Option}
 use Rattle.legal_moves.specs.declared.compiled.Compiled.{Compiled}
 use Rattle.recover.specs.State.{IsSourceOf}
-use Rattle.recover.proofs.Asking.{text_found, text_unknown}
+use Rattle.recover.proofs.Asking.{text_found, text_unknown, text_of_none}
 use Rattle.recover.proofs.Working.{kept_there}
 use Rattle.recover.proofs.solver.FileSolver.find.Goals as goal
 
@@ -9,18 +9,25 @@ pub returns-in-Some-2-clause-number : goal.returns-in-Some-2-clause-number
 returns-in-Some-2-clause-number g c = λ ready honest.
     let file = c.args.self.now.file in
     let source = subst (λ (o : Option Compiled). IsSourceOf o (g.F.GameFile.state file).kept) c.in-Some.is ready.1 in
-    let (k, is, is_read) = kept_there c.in-Some.source _ source in
+    let (k, is, made) = kept_there c.in-Some.source _ source in
     let stored = g.met.F.GameFile.whole_stored file k ready.0 honest is in
     rw is
-    (text_found k _ stored.1 stored.2 _ (g.met.F.Table.counts_are file stored.0) c.in-Some.source is_read c.in-Some-2.number c.in-Some-position.packed.items c.args.text.now
+    (text_found k _ stored.1 stored.2 _ (g.met.F.Table.counts_are file stored.0) c.in-Some.source made c.in-Some-2.number c.in-Some-position.packed.items c.args.text.now
     c.in-Some-position.ensures (rw c.in-Some-2.is at c.in_ok-number.ensures.found stored.0))
+
+pub returns-in_default-position-clause-cause : goal.returns-in_default-position-clause-cause
+returns-in_default-position-clause-cause g c = λ ready honest.
+    let file = c.args.self.now.file in
+    let source = subst (λ (o : Option Compiled). IsSourceOf o (g.F.GameFile.state file).kept) c.in-Some.is ready.1 in
+    let (k, is, made) = kept_there c.in-Some.source _ source in
+    rw is (text_of_none k c.in-Some.source made c.args.text.now c.in_default-position.ensures)
 
 pub returns-in-None-clause-cause : goal.returns-in-None-clause-cause
 returns-in-None-clause-cause g c = λ ready honest.
     let file = c.args.self.now.file in
     let source = subst (λ (o : Option Compiled). IsSourceOf o (g.F.GameFile.state file).kept) c.in-Some.is ready.1 in
-    let (k, is, is_read) = kept_there c.in-Some.source _ source in
+    let (k, is, made) = kept_there c.in-Some.source _ source in
     let stored = g.met.F.GameFile.whole_stored file k ready.0 honest is in
     rw is
-    (text_unknown k _ stored.1 stored.2 _ (g.met.F.Table.counts_are file stored.0) c.in-Some.source is_read c.in-Some-position.packed.items c.args.text.now
+    (text_unknown k _ stored.1 stored.2 _ (g.met.F.Table.counts_are file stored.0) c.in-Some.source made c.in-Some-position.packed.items c.args.text.now
     c.in-Some-position.ensures (rw c.in-None.is at c.in_ok-number.ensures.unknown stored.0))

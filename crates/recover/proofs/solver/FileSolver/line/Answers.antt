@@ -13,17 +13,17 @@ pub returns-in_err-line-clause-cause : goal.returns-in_err-line-clause-cause
 returns-in_err-line-clause-cause g c = λ ready.
     let file = c.args.self.now.file in
     let source = subst (λ (o : Option Compiled). IsSourceOf o (g.F.GameFile.state file).kept) c.in-Some.is ready.1 in
-    let (k, is, is_read) = kept_there c.in-Some.source _ source in
+    let (k, is, made) = kept_there c.in-Some.source _ source in
     passed_on _ c.from_residual-in_err-line.result _ c.from_residual-in_err-line.ensures
     (line_cause (g.F.GameFile.state file) (g.F.GameFile.state c.line.new.table) c.args.number c.in_err-line.field-0.0
     (λ none honest.
     let stored = g.met.F.GameFile.whole_stored file k ready.0 honest is in
     rw is
-    (unsettled k _ stored.1 stored.2 _ (g.met.F.Table.counts_are file stored.0) c.in-Some.source is_read c.args.number c.in_ok-check.ensures.there
+    (unsettled k _ stored.1 stored.2 _ (g.met.F.Table.counts_are file stored.0) c.in-Some.source made c.args.number c.in_ok-check.ensures.there
     (λ fits. c.in_err-line.ensures.settled stored.0 fits (ap (λ (f : LineFault). Err f) none))))
     (λ honest sound.
     let stored = g.met.F.GameFile.whole_stored file k ready.0 honest is in
-    let cause = never k _ stored.1 stored.2 _ (g.met.F.Table.counts_are file stored.0) c.in-Some.source is_read
+    let cause = never k _ stored.1 stored.2 _ (g.met.F.Table.counts_are file stored.0) c.in-Some.source made
     (IsLineCause (view_of (g.F.Table.stored file)) c.args.number c.in_err-line.field-0.0) (rw is at sound)
     (λ here. rw c.moves.ensures.is at c.in_err-line.ensures.cause stored.0 here) in (
       (λ i. subst (λ (f : LineFault). IsLineCause (view_of (g.F.Table.stored file)) c.args.number f) i cause),
@@ -35,8 +35,8 @@ pub returns-clause-line : goal.returns-clause-line
 returns-clause-line g c = λ ready sound honest.
     let file = c.args.self.now.file in
     let source = subst (λ (o : Option Compiled). IsSourceOf o (g.F.GameFile.state file).kept) c.in-Some.is ready.1 in
-    let (k, is, is_read) = kept_there c.in-Some.source _ source in
+    let (k, is, made) = kept_there c.in-Some.source _ source in
     let stored = g.met.F.GameFile.whole_stored file k ready.0 honest is in
     rw is
-    (line_found k _ stored.1 stored.2 _ (g.met.F.Table.counts_are file stored.0) c.in-Some.source is_read c.args.number c.in_ok-line.field-0.items (rw is at sound)
+    (line_found k _ stored.1 stored.2 _ (g.met.F.Table.counts_are file stored.0) c.in-Some.source made c.args.number c.in_ok-line.field-0.items (rw is at sound)
     (λ here. rw c.moves.ensures.is at c.in_ok-line.ensures.line stored.0 here))

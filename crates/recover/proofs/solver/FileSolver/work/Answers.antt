@@ -11,11 +11,11 @@ use Rattle.recover.proofs.solver.FileSolver.work.Goals as goal
 pub returns-in-Err-clause-refused : goal.returns-in-Err-clause-refused
 returns-in-Err-clause-refused g c = λ ready.
     let file = c.args.self.now.file in
-    let (k, is, is_read) = kept_there c.in-Some.source _ (subst (λ (o : Option Compiled). IsSourceOf o (g.F.GameFile.state file).kept) c.in-Some.is ready.1) in
+    let (k, is, made) = kept_there c.in-Some.source _ (subst (λ (o : Option Compiled). IsSourceOf o (g.F.GameFile.state file).kept) c.in-Some.is ready.1) in
     let given = given_up (g.F.Table.fails file c.work.new.table) _ c.in-Err.fault c.in-Err.ensures.left
     (λ ahead. c.discard.ensures.back file ready.0 ahead) (λ f fails. c.discard.ensures.failed file f ready.0 fails) in
     rw c.into.ensures
-    (work_refused _ _ _ c.in-Some.source k is_read is _ _ (g.F.Table.fails file c.work.new.table) (λ f fails. (c.discard.ensures.failed file f ready.0 fails).2) c.in-Err.fault
+    (work_refused _ _ _ c.in-Some.source k made is _ _ (g.F.Table.fails file c.work.new.table) (λ f fails. (c.discard.ensures.failed file f ready.0 fails).2) c.in-Err.fault
     (λ honest. let stored = g.met.F.GameFile.whole_stored file k ready.0 honest is in stops_on c.in-Some.source k _ stored.1 _ _ _ c.count.ensures.is (c.in-Err.ensures.cause stored.0))
     (λ honest sound inconsistent.
     let stored = g.met.F.GameFile.whole_stored file k ready.0 honest is in
@@ -26,25 +26,25 @@ returns-in-Err-clause-refused g c = λ ready.
 pub returns-in_err-commit-clause-refused : goal.returns-in_err-commit-clause-refused
 returns-in_err-commit-clause-refused g c = λ ready.
     let file = c.args.self.now.file in
-    let (k, is, is_read) = kept_there c.in-Some.source _ (subst (λ (o : Option Compiled). IsSourceOf o (g.F.GameFile.state file).kept) c.in-Some.is ready.1) in
+    let (k, is, made) = kept_there c.in-Some.source _ (subst (λ (o : Option Compiled). IsSourceOf o (g.F.GameFile.state file).kept) c.in-Some.is ready.1) in
     let refused = c.in_err-commit.ensures in
     passed_on _ c.from_residual.result _ c.from_residual.ensures
-    (not_kept _ _ _ c.in-Some.source k is_read is _ c.in-Ok.done _
+    (not_kept _ _ _ c.in-Some.source k made is _ c.in-Ok.done _
     (λ honest. let stored = g.met.F.GameFile.whole_stored file k ready.0 honest is in works_on c.in-Some.source k _ stored.1 _ _ _ _ c.count.ensures.is (c.in-Ok.ensures.works stored.0))
     _ (refused.err file k ready.0 is c.in-Ok.ensures.ahead (λ honest. let stored = g.met.F.GameFile.whole_stored file k ready.0 honest is in c.in-Ok.ensures.fits stored.0 (rw stored.1 stored.2))).1 (refused.cause file k ready.0 is c.in-Ok.ensures.ahead) (refused.still file c.in-Ok.ensures.ahead))
 
 pub returns-in_err-commit-clause-ready : goal.returns-in_err-commit-clause-ready
 returns-in_err-commit-clause-ready g c = λ ready.
     let file = c.args.self.now.file in
-    let (k, is, is_read) = kept_there c.in-Some.source _ (subst (λ (o : Option Compiled). IsSourceOf o (g.F.GameFile.state file).kept) c.in-Some.is ready.1) in
+    let (k, is, made) = kept_there c.in-Some.source _ (subst (λ (o : Option Compiled). IsSourceOf o (g.F.GameFile.state file).kept) c.in-Some.is ready.1) in
     let left = c.in_err-commit.ensures.err file k ready.0 is c.in-Ok.ensures.ahead
     (λ honest. let stored = g.met.F.GameFile.whole_stored file k ready.0 honest is in c.in-Ok.ensures.fits stored.0 (rw stored.1 stored.2)) in
-    (left.0, same_source _ _ _ left.1.text ready.1)
+    (left.0, same_source _ _ _ left.1.text left.1.packing ready.1)
 
 pub returns-in_err-commit-clause-sound : goal.returns-in_err-commit-clause-sound
 returns-in_err-commit-clause-sound g c = λ ready honest sound.
     let file = c.args.self.now.file in
-    let (k, is, is_read) = kept_there c.in-Some.source _ (subst (λ (o : Option Compiled). IsSourceOf o (g.F.GameFile.state file).kept) c.in-Some.is ready.1) in
+    let (k, is, made) = kept_there c.in-Some.source _ (subst (λ (o : Option Compiled). IsSourceOf o (g.F.GameFile.state file).kept) c.in-Some.is ready.1) in
     let left = c.in_err-commit.ensures.err file k ready.0 is c.in-Ok.ensures.ahead
     (λ honest. let stored = g.met.F.GameFile.whole_stored file k ready.0 honest is in c.in-Ok.ensures.fits stored.0 (rw stored.1 stored.2)) in
     rw (left.1.kept honest) sound
@@ -53,18 +53,18 @@ pub returns-in_ok-commit-clause-ready : goal.returns-in_ok-commit-clause-ready
 returns-in_ok-commit-clause-ready g c = λ ready.
     let file = c.args.self.now.file in
     let source = subst (λ (o : Option Compiled). IsSourceOf o (g.F.GameFile.state file).kept) c.in-Some.is ready.1 in
-    let (k, is, is_read) = kept_there c.in-Some.source _ source in
+    let (k, is, made) = kept_there c.in-Some.source _ source in
     let put = c.in_ok-commit.ensures.ok file k ready.0 is c.in-Ok.ensures.ahead
     (λ honest. let stored = g.met.F.GameFile.whole_stored file k ready.0 honest is in c.in-Ok.ensures.fits stored.0 (rw stored.1 stored.2)) in
-    (put.0, rw c.in-Some.is (source_of_text c.in-Some.source _ k.text put.1.text is_read))
+    (put.0, rw c.in-Some.is (source_of_text c.in-Some.source _ k.text k.packing put.1.text put.1.packing made.reads made.packing))
 
 pub returns-in_ok-commit-clause-done : goal.returns-in_ok-commit-clause-done
 returns-in_ok-commit-clause-done g c = λ ready.
     let file = c.args.self.now.file in
-    let (k, is, is_read) = kept_there c.in-Some.source _ (subst (λ (o : Option Compiled). IsSourceOf o (g.F.GameFile.state file).kept) c.in-Some.is ready.1) in
+    let (k, is, made) = kept_there c.in-Some.source _ (subst (λ (o : Option Compiled). IsSourceOf o (g.F.GameFile.state file).kept) c.in-Some.is ready.1) in
     let put = c.in_ok-commit.ensures.ok file k ready.0 is c.in-Ok.ensures.ahead
     (λ honest. let stored = g.met.F.GameFile.whole_stored file k ready.0 honest is in c.in-Ok.ensures.fits stored.0 (rw stored.1 stored.2)) in
-    worked_done _ _ _ c.in-Some.source k is_read is _ c.in-Ok.done _
+    worked_done _ _ _ c.in-Some.source k made is _ c.in-Ok.done _
     (λ honest. let stored = g.met.F.GameFile.whole_stored file k ready.0 honest is in works_on c.in-Some.source k _ stored.1 _ _ _ _ c.count.ensures.is (c.in-Ok.ensures.works stored.0))
     _ (λ honest. c.counts-counts.ensures ∙ g.met.F.Table.counts_are c.work.new.table (c.in-Ok.ensures.honest.0 (g.met.F.GameFile.whole_stored file k ready.0 honest is).0))
     (λ honest is_open. g.met.F.GameFile.whole_leaves c.commit.new.self put.0 honest is_open)
@@ -73,20 +73,20 @@ returns-in_ok-commit-clause-done g c = λ ready.
 pub returns-in_ok-commit-clause-sound : goal.returns-in_ok-commit-clause-sound
 returns-in_ok-commit-clause-sound g c = λ ready honest sound.
     let file = c.args.self.now.file in
-    let (k, is, is_read) = kept_there c.in-Some.source _ (subst (λ (o : Option Compiled). IsSourceOf o (g.F.GameFile.state file).kept) c.in-Some.is ready.1) in
+    let (k, is, made) = kept_there c.in-Some.source _ (subst (λ (o : Option Compiled). IsSourceOf o (g.F.GameFile.state file).kept) c.in-Some.is ready.1) in
     let put = c.in_ok-commit.ensures.ok file k ready.0 is c.in-Ok.ensures.ahead
     (λ honest. let stored = g.met.F.GameFile.whole_stored file k ready.0 honest is in c.in-Ok.ensures.fits stored.0 (rw stored.1 stored.2)) in
-    kept_sound _ _ _ c.in-Some.source k is_read is _ c.in-Ok.done _
+    kept_sound _ _ _ c.in-Some.source k made is _ c.in-Ok.done _
     (λ honest. let stored = g.met.F.GameFile.whole_stored file k ready.0 honest is in works_on c.in-Some.source k _ stored.1 _ _ _ _ c.count.ensures.is (c.in-Ok.ensures.works stored.0))
     honest sound put.1
 
 pub returns-else-done-gt0-clause-done : goal.returns-else-done-gt0-clause-done
 returns-else-done-gt0-clause-done g c = λ ready.
     let file = c.args.self.now.file in
-    let (k, is, is_read) = kept_there c.in-Some.source _ (subst (λ (o : Option Compiled). IsSourceOf o (g.F.GameFile.state file).kept) c.in-Some.is ready.1) in
+    let (k, is, made) = kept_there c.in-Some.source _ (subst (λ (o : Option Compiled). IsSourceOf o (g.F.GameFile.state file).kept) c.in-Some.is ready.1) in
     let same = c.in-Ok.ensures.idle (omega (arith, c.if-done-gt0.false)) in
     rw same
-    (idle_done _ _ c.in-Some.source k is_read is _ c.in-Ok.done (g.F.Table.stored c.work.new.table) _
+    (idle_done _ _ c.in-Some.source k made is _ c.in-Ok.done (g.F.Table.stored c.work.new.table) _
     (λ honest. let stored = g.met.F.GameFile.whole_stored file k ready.0 honest is in works_on c.in-Some.source k _ stored.1 _ _ _ _ c.count.ensures.is (c.in-Ok.ensures.works stored.0))
     (λ honest. ap g.F.Table.stored same ∙ (g.met.F.GameFile.whole_stored file k ready.0 honest is).1)
     (λ honest. c.counts-counts.ensures ∙ g.met.F.Table.counts_are c.work.new.table (c.in-Ok.ensures.honest.0 (g.met.F.GameFile.whole_stored file k ready.0 honest is).0))

@@ -16,7 +16,7 @@ use Rattle.tree_file.specs.File.{file_of, kept_of, state_of}
 use Rattle.tree_file.specs.InFile.{file_in}
 use Rattle.tree_file.specs.aid.Backed.{IsBackedFile, backed_still}
 use Rattle.tree_file.specs.aid.Whole.{again_whole}
-use Rattle.tree_file.proofs.Saving.{calm_sealed, kept_text_is, not_put, put_now, put_whole, same_disk, why_not, worked}
+use Rattle.tree_file.proofs.Saving.{calm_sealed, kept_packing_is, kept_text_is, not_put, put_now, put_whole, same_disk, why_not, worked}
 use Rattle.tree_file.proofs.file.TreeFileGameFile.commit.Goals as goal
 
 pub invariant_of-self : goal.invariant_of-self
@@ -60,20 +60,21 @@ returns-in-Ok-clause-ok g c = λ begun kept whole is ahead fits.
     let next = c.save.new.self in
     let told = c.in-Ok.ensures in
     let new = file_of (work_in next) (Some next.slot) in
-    let now = kept_as kept.text (table_now (work_in self.table)) in
+    let now = kept_as kept.text kept.packing (table_now (work_in self.table)) in
     let sized : IsSizedSlot self.table.slot = record { some = self.table.some; short = self.table.short; few = self.table.few } in
     let is_open : was.work.store.closed ≡ false = ahead.work.works.closed (c.save.ensures.shut told.open) in
     let done : IsTrue was.work.store.disk.honest → IsKeptInTrees new.work.store (Some now) =
     λ honest. told.done was.work.store (kept_of was) now (worked was kept whole is (file_in self) ahead sized fits honest is_open) in
     let root = told.root ∙ sym c.save.ensures.slot in
     let text = c.save.ensures.text ∙ ahead.work.text ∙ sym (kept_text_is was kept whole is) in
+    let packing = ap (λ (s : TreeSlot). s.packing) c.save.ensures.slot ∙ ahead.work.packing ∙ sym (kept_packing_is was kept whole is) in
     let calm = told.calm self.sealed in
     let goes_on = goes_on_trans ahead.work.works.goes_on c.save.ensures.time in
     let sound = g.met.P.Pages.sound next.store in (
-      put_whole was new next.slot now refl refl root text calm goes_on done sound
+      put_whole was new next.slot now refl refl root text packing calm goes_on done sound
           (omega (arith, whole.room, ahead.work.works.same_pages, c.save.ensures.same_pages))
           (c.save.ensures.torn ∙ c.if-self.false),
-      put_now was new next.slot now refl refl root text calm goes_on done
+      put_now was new next.slot now refl refl root text packing calm goes_on done
           (told.commits ∙ ap count_behind (self.counted ∙ ap commits_in ahead.work.works.root)) told.open
           (λ honest. c.save.ensures.stop was.work.store (kept_of was) now (worked was kept whole is (file_in self) ahead sized fits honest is_open)),
     )
@@ -85,7 +86,7 @@ returns-in-Err-clause-err g c = λ begun kept whole is ahead fits.
     let left = (work_in c.save.new.self).store in
     let told = c.restore.ensures in
     let new = file_of (work_in c.restore.new.self) self.game in
-    let now = kept_as kept.text (table_now (work_in self.table)) in
+    let now = kept_as kept.text kept.packing (table_now (work_in self.table)) in
     let sized : IsSizedSlot self.table.slot = record { some = self.table.some; short = self.table.short; few = self.table.few } in
     let still = still_then (works_still ahead.work.works) (still_then c.in-Err.ensures.left told.still) in
     let text = told.text ∙ c.save.ensures.text ∙ ahead.work.text in

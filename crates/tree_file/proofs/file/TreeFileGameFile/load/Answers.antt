@@ -18,11 +18,11 @@ use Rattle.tree_file.proofs.Saving.{calm_sealed, not_put, put_now, put_whole, sa
 use Rattle.tree_file.proofs.file.TreeFileGameFile.load.Goals as goal
 
 pub returns-then-is_empty-clause-err : goal.returns-then-is_empty-clause-err
-returns-then-is_empty-clause-err g c = λ whole none. nothing_put (file_in c.args.self.now) (kept_as c.args.text.now (loaded c.args.start.now.items)) whole
+returns-then-is_empty-clause-err g c = λ whole none. nothing_put (file_in c.args.self.now) (kept_as c.args.text.now c.args.packing (loaded c.args.start.now.items)) whole
 
 pub returns-in_err-text-clause-err : goal.returns-in_err-text-clause-err
 returns-in_err-text-clause-err g c = λ whole none.
-    so_refused c.from_residual.result (nothing_put (file_in c.args.self.now) (kept_as c.args.text.now (loaded c.args.start.now.items)) whole)
+    so_refused c.from_residual.result (nothing_put (file_in c.args.self.now) (kept_as c.args.text.now c.args.packing (loaded c.args.start.now.items)) whole)
 
 pub invariant_of-self : goal.invariant_of-self
 invariant_of-self g c =
@@ -46,11 +46,11 @@ returns-in-Ok-clause-whole g c = λ whole.
     let next = c.start.new.self in
     let told = c.in-Ok.ensures in
     let new = file_of (work_in next) (Some next.slot) in
-    let now = kept_as c.in_ok-text.text.items (loaded c.args.start.now.items) in
+    let now = kept_as c.in_ok-text.text.items c.args.packing (loaded c.args.start.now.items) in
     let none = no_game self.game (sym c.if-is_some.ensures) in
     let is_open : was.work.store.closed ≡ false = c.start.ensures.shut told.open in
     let done : IsTrue was.work.store.disk.honest → IsKeptInTrees new.work.store (Some now) = λ honest. told.done (vacant was whole none honest is_open) in
-    put_whole was new next.slot now refl refl told.root told.text (told.calm self.sealed) c.start.ensures.time done (g.met.P.Pages.sound next.store)
+    put_whole was new next.slot now refl refl told.root told.text told.packing (told.calm self.sealed) c.start.ensures.time done (g.met.P.Pages.sound next.store)
     (omega (arith, whole.room, c.start.ensures.same_pages)) told.torn
 
 pub returns-in-Ok-clause-ok : goal.returns-in-Ok-clause-ok
@@ -62,12 +62,12 @@ returns-in-Ok-clause-ok g c = λ whole unkept.
     let told = c.in-Ok.ensures in
     let new = file_of (work_in next) (Some next.slot) in
     let start = loaded c.args.start.now.items in
-    let now = kept_as c.in_ok-text.text.items start in
+    let now = kept_as c.in_ok-text.text.items c.args.packing start in
     let none = no_game self.game (sym c.if-is_some.ensures) in
     let is_open : was.work.store.closed ≡ false = c.start.ensures.shut told.open in
     let done : IsTrue was.work.store.disk.honest → IsKeptInTrees new.work.store (Some now) = λ honest. told.done (vacant was whole none honest is_open) in
-    subst (λ (x : List ℕ). IsPut StoresTrees (kept_as x start) (state_of was) (state_of new)) same
-    (put_now was new next.slot now refl refl told.root told.text (told.calm self.sealed) c.start.ensures.time done
+    subst (λ (x : List ℕ). IsPut StoresTrees (kept_as x c.args.packing start) (state_of was) (state_of new)) same
+    (put_now was new next.slot now refl refl told.root told.text told.packing (told.calm self.sealed) c.start.ensures.time done
     (told.commits ∙ ap count_behind self.counted) told.open
     (λ honest. subst (λ (k : Option Kept). LeavesEither StoresTrees was.work.store.disk new.work.store.disk k (Some now)) (sym (none_kept was none))
     (c.start.ensures.stop (vacant was whole none honest is_open))))
@@ -93,8 +93,8 @@ returns-in-Err-clause-err g c = λ whole unkept.
     let new = file_of (work_in c.restore.new.self) self.game in
     let start = loaded c.args.start.now.items in
     let none = no_game self.game (sym c.if-is_some.ensures) in
-    let now = kept_as c.in_ok-text.text.items start in
-    subst (λ (x : List ℕ). IsNotPut StoresTrees (kept_as x start) (state_of was) (state_of new)) same
+    let now = kept_as c.in_ok-text.text.items c.args.packing start in
+    subst (λ (x : List ℕ). IsNotPut StoresTrees (kept_as x c.args.packing start) (state_of was) (state_of new)) same
     (not_put was new now whole (still_then c.in-Err.ensures.left told.still) (told.text ∙ c.in-Err.ensures.kept_text) refl told.calm
     (λ honest is_open.
     let left_open : left.closed ≡ false = sym told.others.closed ∙ is_open in

@@ -25,12 +25,12 @@ invariant_of-self-2 g c =
 
 pub returns-clause-stop : goal.returns-clause-stop
 returns-clause-stop g c = λ vacant.
-    subst (λ (x : List ℕ). LeavesEither StoresTrees (g.P.Pages.store c.args.self.now.store).disk (g.P.Pages.store c.load.new.store).disk None (Some (kept_as x (loaded c.args.start.now.items))))
+    subst (λ (x : List ℕ). LeavesEither StoresTrees (g.P.Pages.store c.args.self.now.store).disk (g.P.Pages.store c.load.new.store).disk None (Some (kept_as x c.args.packing (loaded c.args.start.now.items))))
     c.deref.ensures.value (c.load.ensures.stop vacant)
 
 pub returns-clause-done : goal.returns-clause-done
 returns-clause-done g c = λ vacant.
-    subst (λ (x : List ℕ). IsKeptInTrees (g.P.Pages.store c.load.new.store) (Some (kept_as x (loaded c.args.start.now.items)))) c.deref.ensures.value (c.in_ok-slot.ensures.done vacant)
+    subst (λ (x : List ℕ). IsKeptInTrees (g.P.Pages.store c.load.new.store) (Some (kept_as x c.args.packing (loaded c.args.start.now.items)))) c.deref.ensures.value (c.in_ok-slot.ensures.done vacant)
 
 pub returns-clause-stands : goal.returns-clause-stands
 returns-clause-stands g c = λ honest.

@@ -46,4 +46,4 @@ returns-clause-ahead g c =
     let few : c.in_ok-self.field-0.sizes.counts.known ≤ 2 ^ 24 = omega (arith, done.known, c.requires.room) in
     let changed : IsHonestWork old → HoldsWork old → HoldsTable c.in_ok-self.field-0 text now (g.P.Pages.store c.add_position.new.store) =
     λ honest h. done.table honest.disk text (table_now old) h (c.requires.unknown honest) in
-    now_goes_on old new now few done.works refl refl changed done.open done.slot.text
+    now_goes_on old new now few done.works refl refl changed done.open done.slot.text done.slot.packing

@@ -47,4 +47,4 @@ returns-clause-ahead g c =
     let few : c.in_ok-self.field-0.sizes.counts.known ≤ 2 ^ 24 = subst (λ (k : Counts). k.known ≤ 2 ^ 24) (sym done.counts) self.few in
     let changed : IsHonestWork old → HoldsWork old → HoldsTable c.in_ok-self.field-0 text now (g.P.Pages.store c.add_edge.new.store) =
     λ honest h. done.table honest.disk text (table_now old) h in
-    now_goes_on old new now few done.works refl refl changed done.open done.slot.text
+    now_goes_on old new now few done.works refl refl changed done.open done.slot.text done.slot.packing

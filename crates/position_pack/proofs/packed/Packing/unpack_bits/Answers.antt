@@ -1,0 +1,59 @@
+use Rattle.std.proofs.Common.{◌≡◌, ◌+◌, ◌/◌, ℕ, Option, None, Some, List, length, ap, sym, ◌∙◌, subst, arith}
+use Rattle.std.specs.Prelude.{MatchOption}
+use Rattle.std.specs.List.{sum_by}
+use Rattle.rbg_game.specs.declared.position.Position.{Position}
+use Rattle.position_pack.specs.declared.kind.PackingKind.TheVariants.{Bits}
+use Rattle.position_pack.specs.Shape.{Shape}
+use Rattle.position_pack.specs.Fields.{fields_of}
+use Rattle.position_pack.specs.Bits.{width, greatest_of}
+use Rattle.position_pack.specs.Packings.{IsPacked}
+use Rattle.position_pack.specs.aid.Bits.{AreFields, AreFew, IsFieldsOf}
+use Rattle.position_pack.proofs.ShapeLemmas.{shape}
+use Rattle.position_pack.proofs.PackingLemmas.{as_many}
+use Rattle.position_pack.proofs.PartFields.{few_fields, are_fields, is_packed}
+use Rattle.position_pack.proofs.packed.Packing.unpack_bits.Goals as goal
+
+-- a position of this shape is packed by bits in the bytes
+abbrev ByBits : List ℕ → Shape → Position → Type 0
+ByBits bytes shape at = IsPacked (record { kind = Bits; shape = shape }) at bytes
+
+refused : (P : Type 0) (Q : Position → Type 0) (r : Option Position) → r ≡ None → P → MatchOption r P Q
+refused P Q r is p = rw is p
+
+read : (Q R : Position → Type 0) (P : Type 0) (r : Option Position) → MatchOption r ⊥ Q → ((at : Position) → Q at → R at) → MatchOption r P R
+read Q R P None h each = absurd h
+read Q R P (Some at) h each = each at h
+
+pub returns-then-bytes-div_ceil : goal.returns-then-bytes-div_ceil
+returns-then-bytes-div_ceil c = λ at is.
+    let s : Shape = shape c.self.inside.pieces c.self.inside.bounds.items c.self.inside.vertices c.self.inside.actions in
+    let view = ap (λ f. f.shape) c.self.view_is in
+    let here = subst (λ s. ByBits c.args.bytes.now s at) (sym view) is in
+    let many : length c.args.bytes.now ≡ (sum_by width (greatest_of s) + 7) / 8 = ap length here.bytes_are ∙ as_many Bits s at here.fits in
+    let bits = c.bits_in.ensures ∙ ap (sum_by width) (c.deref.ensures.0 ∙ c.self.inside.greatest_are) in
+    c.if-bytes-div_ceil.true (omega (arith, many, bits, c.div_ceil.ensures))
+
+pub returns-in_err-fields : goal.returns-in_err-fields
+returns-in_err-fields c = refused _ _ c.from_residual.result c.from_residual.ensures (λ at is.
+    let view = ap (λ f. f.shape) c.self.view_is in
+    let here = subst (λ s. ByBits c.args.bytes.now s at) (sym view) is in
+    let greatest = c.deref-2.ensures.0 ∙ c.self.inside.greatest_are in
+    c.in_err-fields.ensures (fields_of at) (subst (λ g. AreFields g c.args.bytes.now (fields_of at)) (sym greatest) (are_fields _ at c.args.bytes.now here)))
+
+pub position_of-requires : goal.position_of-requires
+position_of-requires c =
+    let greatest = c.deref-2.ensures.0 ∙ c.self.inside.greatest_are in
+    let are : AreFields c.deref-2.result.now c.args.bytes.now c.in_ok-fields.fields.items = c.in_ok-fields.ensures in
+    let there = subst (λ g. AreFields g c.args.bytes.now c.in_ok-fields.fields.items) greatest are in
+    let few = few_fields _ c.in_ok-fields.fields.items c.self.inside.small there.within in
+    subst (λ n. AreFew n c.deref-3.result.now) (sym c.from.ensures) (subst (AreFew c.self.inside.vertices) (sym c.deref-3.ensures.0) few)
+
+pub returns : goal.returns
+returns c =
+    let view = ap (λ f. f.shape) c.self.view_is in
+    let greatest = c.deref-2.ensures.0 ∙ c.self.inside.greatest_are in
+    let are : AreFields c.deref-2.result.now c.args.bytes.now c.in_ok-fields.fields.items = c.in_ok-fields.ensures in
+    let there = subst (λ g. AreFields g c.args.bytes.now c.in_ok-fields.fields.items) greatest are in
+    read (IsFieldsOf c.from.result c.deref-3.result.now) _ _ c.position_of.result c.position_of.ensures
+    (λ at of_at. subst (λ s. ByBits c.args.bytes.now s at) view (is_packed _ at c.args.bytes.now c.in_ok-fields.fields.items c.self.inside.some_pieces c.self.inside.some_vertices there
+    (subst (λ n. IsFieldsOf n c.in_ok-fields.fields.items at) c.from.ensures (subst (λ xs. IsFieldsOf c.from.result xs at) c.deref-3.ensures.0 of_at))))

@@ -1,0 +1,17 @@
+use Rattle.std.proofs.Common.{◌≡◌, ℕ, get_or, ◌^◌, ◌≤◌, ◌<◌, ◌++◌, ◌+◌, ◌-◌}
+use Rattle.position_pack.specs.Bits.{bits_of}
+use Rattle.position_pack.specs.aid.Streams.{written}
+use Rattle.position_pack.proofs.ByteLemmas.{all_bits}
+use Rattle.position_pack.proofs.writer.put.Given as goal
+
+-- the bits of the bytes and those that are held are the old ones and then the value's
+abbrev pub invariant-loop-count : goal.invariant-loop-count
+invariant-loop-count l = record {
+  wide : l.count ≤ 39;
+  low : l.held < 2 ^ l.count;
+  bytes : (i : ℕ) → get_or l.writer.bytes.items i 0 < 256;
+  bits : all_bits l.writer.bytes.items ++ bits_of l.count l.held ≡ written l.fn.writer ++ bits_of l.fn.width l.fn.value;
+}
+
+abbrev pub decreases-loop-count : goal.decreases-loop-count
+decreases-loop-count l = l.count + 1 - 8

@@ -1,0 +1,165 @@
+//! The fields of a position as numbers, and their bits.
+
+ghost use Rattle.std.specs.Prelude.{◌≡◌, ◌+◌, ◌-◌, ◌*◌, ◌/◌, ◌≤◌, ◌<◌, ◌++◌, ℕ, List, length, slice_index, MatchOption};
+ghost use Rattle.std.specs.List.{sum_by};
+ghost use Rattle.arrayvec.specs.ArrayVec.{array_vec_len};
+ghost use Rattle.position_pack.specs.Fields as spec;
+ghost use Rattle.position_pack.specs.Bits as bits;
+ghost use Rattle.position_pack.specs.Bits.{width, field_bits, bytes_of_bits};
+ghost use Rattle.position_pack.specs.aid.Bits.{AreFields, IsFieldsOf, AreFew};
+
+use crate::packed::Packed;
+use crate::parts::{role_byte, role_of};
+use crate::reader::{Reader, take};
+use crate::writer::{finish, new_writer, put};
+use arrayvec::ArrayVec;
+use rbg_game::position::{Position, SemiState};
+
+/// The fields of a position, or the greatest value of each: at most 128 pieces, 34 values, the
+/// vertex, the role and the place.
+pub type Fields = ArrayVec<u32, 165>;
+
+/// The fewest bits for the numbers up to this one.
+pub fn width_of(most: u32) -> u32
+    ensures is { result ≡ width most }
+    ensures word { result ≤ 32 }
+{
+    if most == 0 { 0 } else { most.ilog2() + 1 }
+}
+
+/// The greatest value of each field.
+pub fn greatest_of(pieces: u8, bounds: &[u32], vertices: u8, actions: u16) -> Fields
+    requires vertices { vertices ≤ 128 }
+    requires bounds { length bounds.now ≤ 34 }
+    ensures { result.items ≡ bits.greatest_of (record { pieces = pieces; bounds = bounds.now; vertices = vertices; actions = actions }) }
+{
+    let mut greatest = Fields::new();
+    for _vertex in 0..vertices {
+        greatest.push(u32::from(pieces.saturating_sub(1)));
+    }
+    let _room = greatest.try_extend_from_slice(bounds);
+    greatest.push(u32::from(vertices.saturating_sub(1)));
+    greatest.push(2);
+    greatest.push(u32::from(actions));
+    greatest
+}
+
+/// How many bits the fields have together.
+pub fn bits_in(greatest: &[u32]) -> usize
+    requires { length greatest.now ≤ 165 }
+    ensures { result ≡ sum_by width greatest.now }
+{
+    let mut bits = 0;
+    for most in greatest {
+        bits += width_of(*most) as usize;
+    }
+    bits
+}
+
+/// The fields of a position.
+pub fn fields_of(at: &Position) -> Fields
+    ensures { result.items ≡ spec.fields_of at.now }
+{
+    let state = &at.state;
+    let mut fields = Fields::new();
+    put_pieces(&mut fields, &state.pieces);
+    let _room = fields.try_extend_from_slice(&state.values);
+    fields.push(u32::from(state.vertex));
+    fields.push(u32::from(role_byte(state.mover)));
+    fields.push(u32::from(at.place));
+    fields
+}
+
+/// Puts the pieces behind the fields.
+fn put_pieces(fields: &mut Fields, pieces: &[u8])
+    requires { array_vec_len fields.old + length pieces.now ≤ 165 }
+    ensures items { fields.new.items ≡ fields.old.items ++ pieces.now }
+    ensures len { array_vec_len fields.new ≡ array_vec_len fields.old + length pieces.now }
+{
+    for piece in pieces {
+        fields.push(u32::from(*piece));
+    }
+}
+
+/// The position with these fields, so many of which are pieces.
+pub fn position_of(fields: &[u32], vertices: usize) -> Option<Position>
+    requires { AreFew vertices fields.now }
+    ensures { MatchOption result ⊥ (IsFieldsOf vertices fields.now) }
+{
+    let (pieces, rest) = fields.split_at(vertices);
+    let (values, last) = rest.split_at(rest.len() - 3);
+    let vertex = last[0] as u8;
+    let mover = role_of(last[1] as u8)?;
+    let place = last[2] as u16;
+    Some(Position {
+        state: SemiState {
+            mover,
+            pieces: pieces_of(pieces),
+            values: values_of(values),
+            vertex,
+        },
+        place,
+    })
+}
+
+fn pieces_of(fields: &[u32]) -> ArrayVec<u8, 128>
+    requires few { length fields.now ≤ 128 }
+    requires low { (k : ℕ) → k < length fields.now → slice_index fields.now k < 256 }
+    ensures { result.items ≡ fields.now }
+{
+    let mut pieces = ArrayVec::new();
+    for field in fields {
+        pieces.push(*field as u8);
+    }
+    pieces
+}
+
+fn values_of(fields: &[u32]) -> ArrayVec<u32, 34>
+    requires { length fields.now ≤ 34 }
+    ensures { result.items ≡ fields.now }
+{
+    let mut values = ArrayVec::new();
+    let _room = values.try_extend_from_slice(fields);
+    values
+}
+
+/// The bytes of fields, each in the fewest bits for its greatest value.
+pub fn put_fields(greatest: &[u32], fields: &[u32]) -> Packed
+    requires { sum_by width greatest.now ≤ 1920 }
+    ensures { result.items ≡ bytes_of_bits (field_bits greatest.now fields.now) }
+{
+    let mut writer = new_writer();
+    for (index, most) in greatest.iter().enumerate() {
+        if index < fields.len() {
+            put(&mut writer, width_of(*most), fields[index]);
+        }
+    }
+    finish(writer)
+}
+
+/// The fields with these bytes: none where one is over its greatest value, or a bit behind the last
+/// is not zero.
+pub fn take_fields(greatest: &[u32], bytes: &[u8]) -> Option<Fields>
+    requires few { length greatest.now ≤ 165 }
+    requires long { length bytes.now ≡ (sum_by width greatest.now + 7) / 8 }
+    ensures { MatchOption result ((fields : List ℕ)
+        → ¬ AreFields greatest.now bytes.now fields) (λ fields. AreFields greatest.now bytes.now fields.items) }
+{
+    let mut reader = Reader {
+        next: 0,
+        held: 0,
+        count: 0,
+    };
+    let mut fields = Fields::new();
+    for most in greatest {
+        let value = take(bytes, &mut reader, width_of(*most));
+        if value > *most {
+            return None;
+        }
+        fields.push(value);
+    }
+    if reader.held != 0 {
+        return None;
+    }
+    Some(fields)
+}
