@@ -1,7 +1,10 @@
 -- Pages in a cache.
-use Rattle.std.proofs.Common.{◌≡◌, ◌≢◌, ◌⊎◌, inl, inr, ℕ, ◌-◌, ◌≤◌, Bool, true, false, cond, nat_eq, List, ◌∷◌, length, take, Contains, Option, Some, None, IsSome, Result, Ok, Err, OnOk, IsTrue, refl, sym, ◌∙◌, ap, subst, arith}
+use Rattle.std.proofs.Common.{◌≡◌, ◌≢◌, ◌⊎◌, inl, inr, ℕ, ◌-◌, ◌≤◌, Bool, true, false, cond, nat_eq, List, ◌∷◌, length, take, Contains, Option, Some, None, IsSome, Result, Ok, Err, OnOk, IsTrue, refl, sym, ◌∙◌, ap, subst, arith, ◌<◌, set, get_or}
 use Rattle.std.proofs.lemmas.Bool.{eqb-true, eq-eqb, false≢true, cases_lt, cases_eq}
-use Rattle.std.proofs.lemmas.List.{get_or_past}
+use Rattle.std.proofs.lemmas.List.{get_or_past, get_or_default, get_or-set_other}
+use Rattle.std.proofs.lemmas.Grind.{get_or-set_at}
+use Rattle.std.proofs.lemmas.Map.Views.{lookup-from_Contains}
+use Rattle.std.proofs.lemmas.Option.{same_Some}
 use Rattle.std.proofs.lemmas.Map.{lookup-remove_entry, none_passes_from_lookup}
 use Rattle.std.specs.Cmp.{nat_eq_equiv}
 use Rattle.std.specs.List.{IsDistinct}
@@ -14,91 +17,181 @@ use Rattle.lru.proofs.Splits.{Contains-cons, all_at}
 use Rattle.page_store.specs.declared.marks.Mark.{Mark}
 use Rattle.page_store.specs.declared.marks.Mark.TheVariants.{Committed, Waiting, Fresh, Released, Free}
 use Rattle.page_store.specs.declared.cache.PageCache.{PageCache}
-use Rattle.page_store.specs.Cache.{Holds, IsPart, IsCacheOf}
+use Rattle.page_store.specs.declared.cache.KeptPage.{KeptPage}
+use Rattle.page_store.specs.Cache.{Holds, IsPart, IsCacheOf, HoldsAt, IsPlaced, kept_at, no_page}
 use Rattle.page_store.specs.Marks.{mark, keeps, turned, AreCommitted, IsMarked, IsKept}
 use Rattle.page_store.specs.Store.{Store, reads}
 
 abbrev pub Entries : Type 0
-Entries = List (ℕ × List ℕ)
+Entries = List (ℕ × ℕ)
 
-abbrev pub entries : LruCache ℕ (List ℕ) → Entries
+abbrev pub entries : LruCache ℕ ℕ → Entries
 entries pages = pages.entries
 
 -- where a look-up finds nothing the page is not there
-not_found : (q p : ℕ) (held : List ℕ) (es : Entries) → lookup (nat_eq q) es ≡ None → Contains es (p, held) → p ≢ q
+not_found : (q p : ℕ) (held : ℕ) (es : Entries) → lookup (nat_eq q) es ≡ None → Contains es (p, held) → p ≢ q
 not_found q p held es none there same =
-    let missed : nat_eq q p ≡ false = all_at (λ (e : ℕ × List ℕ). nat_eq q e.0 ≡ false) es (p, held) (none_passes_from_lookup (nat_eq q) es none) there in
+    let missed : nat_eq q p ≡ false = all_at (λ (e : ℕ × ℕ). nat_eq q e.0 ≡ false) es (p, held) (none_passes_from_lookup (nat_eq q) es none) there in
     false≢true (sym missed ∙ eq-eqb q p (sym same))
 
 -- a page that was taken out is not there
-removed : (q p : ℕ) (held : List ℕ) (es : Entries) → IsDistinct nat_eq (keys_of es) → Contains (remove_entry (nat_eq q) es) (p, held) → p ≢ q
+removed : (q p : ℕ) (held : ℕ) (es : Entries) → IsDistinct nat_eq (keys_of es) → Contains (remove_entry (nat_eq q) es) (p, held) → p ≢ q
 removed q p held es apart =
     not_found q p held (remove_entry (nat_eq q) es)
     (lookup-remove_entry nat_eq_equiv (nat_eq q) (nat_eq_equiv.congr q) q es apart ∙ ap (λ (b : Bool). cond b None (lookup (nat_eq q) es)) (nat_eq_equiv.refl q))
 
 -- what is in a cache after a page was put into it
-abbrev pub AfterPut : ℕ → List ℕ → Entries → ℕ → List ℕ → Type 0
-AfterPut page bytes es p held = ((p ≡ page) × (held ≡ bytes)) ⊎ ((p ≢ page) × Contains es (p, held))
+abbrev pub AfterPut : ℕ → ℕ → Entries → ℕ → ℕ → Type 0
+AfterPut page place es p held = ((p ≡ page) × (held ≡ place)) ⊎ ((p ≢ page) × Contains es (p, held))
 
-module _ (pages : LruCache ℕ (List ℕ)) (valid : IsValid nat_eq pages) (page : ℕ) (bytes : List ℕ) (p : ℕ) (held : List ℕ) where
-  put_by : (found : Option (ℕ × List ℕ)) → lookup_entry (nat_eq page) pages.entries ≡ found
-      → Contains (option_map_or (λ e. (e.0, bytes) ∷ remove_entry (nat_eq page) pages.entries) found ((page, bytes) ∷ take (pages.cap - 1) pages.entries)) (p, held)
-      → AfterPut page bytes pages.entries p held
-  put_by None none there = elim (Contains-cons (page, bytes) (take (pages.cap - 1) pages.entries) (p, held) there) [
-    | inl same ↦ inl (sym (ap (λ (e : ℕ × List ℕ). e.0) same), sym (ap (λ (e : ℕ × List ℕ). e.1) same))
+module _ (pages : LruCache ℕ ℕ) (valid : IsValid nat_eq pages) (page : ℕ) (place : ℕ) (p : ℕ) (held : ℕ) where
+  put_by : (found : Option (ℕ × ℕ)) → lookup_entry (nat_eq page) pages.entries ≡ found
+      → Contains (option_map_or (λ e. (e.0, place) ∷ remove_entry (nat_eq page) pages.entries) found ((page, place) ∷ take (pages.cap - 1) pages.entries)) (p, held)
+      → AfterPut page place pages.entries p held
+  put_by None none there = elim (Contains-cons (page, place) (take (pages.cap - 1) pages.entries) (p, held) there) [
+    | inl same ↦ inl (sym (ap (λ (e : ℕ × ℕ). e.0) same), sym (ap (λ (e : ℕ × ℕ). e.1) same))
     | inr rest ↦
         let was = Contains-take (pages.cap - 1) pages.entries (p, held) rest in
-        inr (not_found page p held pages.entries (sym (lookup-lookup_entry (nat_eq page) pages.entries) ∙ ap (option_map (λ (e : ℕ × List ℕ). e.1)) none) was, was)
+        inr (not_found page p held pages.entries (sym (lookup-lookup_entry (nat_eq page) pages.entries) ∙ ap (option_map (λ (e : ℕ × ℕ). e.1)) none) was, was)
   ]
-  put_by (Some f) found there = elim (Contains-cons (f.0, bytes) (remove_entry (nat_eq page) pages.entries) (p, held) there) [
+  put_by (Some f) found there = elim (Contains-cons (f.0, place) (remove_entry (nat_eq page) pages.entries) (p, held) there) [
     | inl same ↦ inl (
-      sym (ap (λ (e : ℕ × List ℕ). e.0) same) ∙ sym (eqb-true page f.0 (Contains-lookup_entry (nat_eq page) pages.entries f found).1),
-      sym (ap (λ (e : ℕ × List ℕ). e.1) same),
+      sym (ap (λ (e : ℕ × ℕ). e.0) same) ∙ sym (eqb-true page f.0 (Contains-lookup_entry (nat_eq page) pages.entries f found).1),
+      sym (ap (λ (e : ℕ × ℕ). e.1) same),
     )
     | inr rest ↦ inr (removed page p held pages.entries valid.0 rest, Contains-remove_entry (nat_eq page) pages.entries (p, held) rest)
   ]
 
-  pub put_gives : Contains (put_entries nat_eq pages page bytes) (p, held) → AfterPut page bytes pages.entries p held
+  pub put_gives : Contains (put_entries nat_eq pages page place) (p, held) → AfterPut page place pages.entries p held
   put_gives = put_by (lookup_entry (nat_eq page) pages.entries) refl
 
 -- the page was put
-pub put_done : (now new : Entries) (pages : LruCache ℕ (List ℕ)) (page : ℕ) (bytes : List ℕ) → now ≡ pages.entries → new ≡ put_entries nat_eq pages page bytes
-    → IsValid nat_eq pages → (p : ℕ) (held : List ℕ) → Contains new (p, held) → AfterPut page bytes now p held
-put_done now new pages page bytes is after valid p held there =
-    subst (λ (xs : Entries). AfterPut page bytes xs p held) (sym is) (put_gives pages valid page bytes p held (subst (λ (xs : Entries). Contains xs (p, held)) after there))
+pub put_done : (now new : Entries) (pages : LruCache ℕ ℕ) (page : ℕ) (place : ℕ) → now ≡ pages.entries → new ≡ put_entries nat_eq pages page place
+    → IsValid nat_eq pages → (p : ℕ) (held : ℕ) → Contains new (p, held) → AfterPut page place now p held
+put_done now new pages page place is after valid p held there =
+    subst (λ (xs : Entries). AfterPut page place xs p held) (sym is) (put_gives pages valid page place p held (subst (λ (xs : Entries). Contains xs (p, held)) after there))
 
-none_of : (o : Option (List ℕ)) → (IsSome o → false ≡ true) → o ≡ None
+none_of : (o : Option ℕ) → (IsSome o → false ≡ true) → o ≡ None
 none_of None never = refl
 none_of (Some x) never = absurd (false≢true (never refl))
 
 -- memory was refused, so the page was not there
-pub put_refused : (now new es : Entries) (page : ℕ) (bytes : List ℕ) → now ≡ es → new ≡ es
-    → (IsSome (lookup (nat_eq page) es) → false ≡ true) → (p : ℕ) (held : List ℕ) → Contains new (p, held) → AfterPut page bytes now p held
-put_refused now new es page bytes is after never p held there =
-    let was = subst (λ (xs : Entries). Contains xs (p, held)) after there in
-    inr (not_found page p held es (none_of (lookup (nat_eq page) es) never) was, subst (λ (xs : Entries). Contains xs (p, held)) (sym is) was)
-
--- a page is taken out
-pub forgotten : (now es new : Entries) (page : ℕ) → now ≡ es → new ≡ remove_entry (nat_eq page) es → IsDistinct nat_eq (keys_of es) → (p : ℕ) (held : List ℕ)
-    → Contains new (p, held) → (p ≢ page) × Contains now (p, held)
-forgotten now es new page is after apart p held there =
-    let left = subst (λ (xs : Entries). Contains xs (p, held)) after there in
-    (removed page p held es apart left, subst (λ (xs : Entries). Contains xs (p, held)) (sym is) (Contains-remove_entry (nat_eq page) es (p, held) left))
+pub put_refused : (now new es : Entries) (page : ℕ) → now ≡ es → new ≡ es → (IsSome (lookup (nat_eq page) es) → false ≡ true) → (p place : ℕ)
+    → Contains new (p, place) → (p ≢ page) × Contains now (p, place)
+put_refused now new es page is after never p place there =
+    let was = subst (λ (xs : Entries). Contains xs (p, place)) after there in
+    (not_found page p place es (none_of (lookup (nat_eq page) es) never) was, subst (λ (xs : Entries). Contains xs (p, place)) (sym is) was)
 
 -- a page that is found is there
-pub found_there : (now es : Entries) (page : ℕ) (bytes : List ℕ) → now ≡ es → Some bytes ≡ lookup (nat_eq page) es → Contains now (page, bytes)
-found_there now es page bytes is found =
-    let there = Contains-lookup (nat_eq page) es bytes (sym found) in
-    subst (λ (xs : Entries). Contains xs (page, bytes)) (sym is) (subst (λ (q : ℕ). Contains es (q, bytes)) (sym (eqb-true page there.0 there.2)) there.1)
+pub found_there : (now es : Entries) (page : ℕ) (place : ℕ) → now ≡ es → Some place ≡ lookup (nat_eq page) es → Contains now (page, place)
+found_there now es page place is found =
+    let there = Contains-lookup (nat_eq page) es place (sym found) in
+    subst (λ (xs : Entries). Contains xs (page, place)) (sym is) (subst (λ (q : ℕ). Contains es (q, place)) (sym (eqb-true page there.0 there.2)) there.1)
 
 -- a page goes to the front
-pub promoted_part : (now es new : Entries) (page : ℕ) → now ≡ es → new ≡ promoted (nat_eq page) es → (p : ℕ) (held : List ℕ) → Contains new (p, held) → Contains now (p, held)
+pub promoted_part : (now es new : Entries) (page : ℕ) → now ≡ es → new ≡ promoted (nat_eq page) es → (p : ℕ) (held : ℕ) → Contains new (p, held) → Contains now (p, held)
 promoted_part now es new page is after p held there =
     subst (λ (xs : Entries). Contains xs (p, held)) (sym is) (Contains-promoted (nat_eq page) es (p, held) (subst (λ (xs : Entries). Contains xs (p, held)) after there))
 
 -- a cache that holds no page is one of each store
 pub empty_cache : (store : Store) (cache : PageCache) → ((p : ℕ) (held : List ℕ) → Holds cache p held → ⊥) → IsCacheOf store cache
 empty_cache store cache none = record { kept = λ p held there. absurd (none p held there); same = λ p held there. absurd (none p held there) }
+
+-- what stands at a place that there is
+pub stands : (kept : List KeptPage) (place : ℕ) (it : KeptPage) → it ≡ get_or kept place it → place < length kept → kept_at kept place ≡ it
+stands kept place it is within = get_or_default kept place no_page it within ∙ sym is
+
+-- a place that was found
+pub placed_there : (now : Entries) (es : Entries) (kept : List KeptPage) (page place number : ℕ) (it : KeptPage) → now ≡ es → Some place ≡ lookup (nat_eq page) es
+    → it ≡ get_or kept place it → place < length kept → it.number ≡ Some number → number ≡ page → IsPlaced now kept page place
+placed_there now es kept page place number it is found stands_there within has same = record {
+  named = found_there now es page place is found;
+  number = ap (λ (k : KeptPage). k.number) (stands kept place it stands_there within) ∙ has ∙ ap (λ (n : ℕ). Some n) same;
+}
+
+-- a place with a page is there
+pub within_kept : (names : Entries) (kept : List KeptPage) (p place : ℕ) → IsPlaced names kept p place → place < length kept
+within_kept names kept p place placed = by (cases_lt place (length kept))
+  where
+    by : (place < length kept) ⊎ (length kept ≤ place) → place < length kept
+    by (inl within) = within
+    by (inr past) = absurd (let no : None ≡ Some p = sym (ap (λ (k : KeptPage). k.number) (get_or_past kept place no_page past)) ∙ placed.number in cc)
+
+-- the place that a page has is the one that a look-up finds
+pub found_place : (now es : Entries) (kept : List KeptPage) (page : ℕ) (bytes : List ℕ) → now ≡ es → IsDistinct nat_eq (keys_of es)
+    → HoldsAt now kept page bytes → (place : ℕ) × (lookup (nat_eq page) es ≡ Some place) × ((kept_at kept place).number ≡ Some page)
+found_place now es kept page bytes is apart there =
+    (there.place, lookup-from_Contains nat_eq_equiv page there.place es apart (subst (λ (xs : Entries). Contains xs (page, there.place)) is there.placed.named), there.placed.number)
+
+-- a page has one place
+pub one_place : (es : Entries) (p x y : ℕ) → IsDistinct nat_eq (keys_of es) → Contains es (p, x) → Contains es (p, y) → x ≡ y
+one_place es p x y apart at_x at_y =
+    same_Some _ _ (sym (lookup-from_Contains nat_eq_equiv p x es apart at_x) ∙ lookup-from_Contains nat_eq_equiv p y es apart at_y)
+
+-- fewer names, and the same pages
+pub fewer_names : (was now : Entries) (kept : List KeptPage) → ((p place : ℕ) → Contains now (p, place) → Contains was (p, place))
+    → (p : ℕ) (bytes : List ℕ) → HoldsAt now kept p bytes → HoldsAt was kept p bytes
+fewer_names was now kept names p bytes there = record {
+  place = there.place;
+  placed = record { named = names p there.place there.placed.named; number = there.placed.number };
+  holds = there.holds;
+}
+
+-- the page at a place is let go of
+pub let_go_of : (was now : Entries) (kept : List KeptPage) (page place : ℕ) (it : KeptPage) → IsDistinct nat_eq (keys_of was) → IsPlaced was kept page place
+    → ((p at : ℕ) → Contains now (p, at) → Contains was (p, at)) → it.number ≡ None → place < length kept
+    → (p : ℕ) (bytes : List ℕ) → HoldsAt now (set kept place it) p bytes → (p ≢ page) × HoldsAt was kept p bytes
+let_go_of was now kept page place it apart placed names none within p bytes there = (
+  λ same. at_it (one_place was page there.place place apart (subst (λ (q : ℕ). Contains was (q, there.place)) same was_named) placed.named),
+  record {
+    place = there.place;
+    placed = record { named = was_named; number = sym (ap (λ (k : KeptPage). k.number) other) ∙ there.placed.number };
+    holds = sym (ap (λ (k : KeptPage). k.bytes) other) ∙ there.holds;
+  },
+)
+  where
+    was_named : Contains was (p, there.place)
+    was_named = names p there.place there.placed.named
+
+    at_it : there.place ≡ place → ⊥
+    at_it same = let no : None ≡ Some p = sym none ∙ ap (λ (k : KeptPage). k.number) (sym (get_or-set_at kept place there.place it no_page same within)) ∙ there.placed.number in cc
+
+    other : kept_at (set kept place it) there.place ≡ kept_at kept there.place
+    other = get_or-set_other kept place there.place it no_page at_it
+
+-- a page is put at a place
+pub put_at_place : (was now : Entries) (kept : List KeptPage) (page place : ℕ) (it : KeptPage) → ((p at : ℕ) → Contains now (p, at) → AfterPut page place was p at)
+    → it.number ≡ Some page → place < length kept → (p : ℕ) (held : List ℕ) → HoldsAt now (set kept place it) p held
+    → ((p ≡ page) × (held ≡ it.bytes)) ⊎ ((p ≢ page) × HoldsAt was kept p held)
+put_at_place was now kept page place it names numbered within p held there = by (names p there.place there.placed.named)
+  where
+    by : AfterPut page place was p there.place → ((p ≡ page) × (held ≡ it.bytes)) ⊎ ((p ≢ page) × HoldsAt was kept p held)
+    by (inl here) = inl (here.0, sym there.holds ∙ ap (λ (k : KeptPage). k.bytes) (get_or-set_at kept place there.place it no_page here.1 within))
+    by (inr else) =
+        let apart : there.place ≢ place = λ same. else.0 (same_Some _ _ (sym there.placed.number ∙ ap (λ (k : KeptPage). k.number) (get_or-set_at kept place there.place it no_page same within) ∙ numbered)) in
+        let other : kept_at (set kept place it) there.place ≡ kept_at kept there.place = get_or-set_other kept place there.place it no_page apart in
+        inr (
+          else.0,
+          record {
+            place = there.place;
+            placed = record { named = else.1; number = sym (ap (λ (k : KeptPage). k.number) other) ∙ there.placed.number };
+            holds = sym (ap (λ (k : KeptPage). k.bytes) other) ∙ there.holds;
+          },
+        )
+
+-- no place is named for the page, since memory was refused
+pub refused_place : (was now : Entries) (kept : List KeptPage) (page : ℕ) → ((p place : ℕ) → Contains now (p, place) → (p ≢ page) × Contains was (p, place))
+    → (p : ℕ) (held : List ℕ) → HoldsAt now kept p held → (p ≢ page) × HoldsAt was kept p held
+refused_place was now kept page names p held there = (
+  (names p there.place there.placed.named).0,
+  fewer_names was now kept (λ q place named. (names q place named).1) p held there,
+)
+
+-- what was held apart from the page was held before
+pub else_part : (was cache : PageCache) (page : ℕ) (bytes : List ℕ) → IsPart was cache → (p : ℕ) (held : List ℕ)
+    → ((p ≡ page) × (held ≡ bytes)) ⊎ ((p ≢ page) × Holds cache p held) → ((p ≡ page) × (held ≡ bytes)) ⊎ ((p ≢ page) × Holds was p held)
+else_part was cache page bytes part p held (inl put) = inl put
+else_part was cache page bytes part p held (inr else) = inr (else.0, part p held else.1)
 
 -- what was true of each page of the cache stays true
 pub carried : (old new : Store) (was cache : PageCache) → IsCacheOf old was → IsPart was cache → (IsTrue new.disk.honest → IsTrue old.disk.honest)

@@ -1,18 +1,42 @@
 -- Pages in memory.
-use Rattle.std.specs.Prelude.{◌≡◌, ℕ, List, [], Contains, Option, Some, None, IsTrue}
+use Rattle.std.specs.Prelude.{◌≡◌, ℕ, List, [], slice_index_or, Contains, Option, Some, None, IsTrue}
 use Rattle.lru.specs.LruCache.{LruCache}
+use Rattle.page_store.specs.declared.cache.KeptPage.{KeptPage}
 use Rattle.page_store.specs.declared.cache.PageCache.{PageCache}
 use Rattle.page_store.specs.Marks.{IsKept}
 use Rattle.page_store.specs.Store.{Store, reads}
 
--- the pages in memory with their bytes, none where there is no cache
-abbrev pub entries_of : Option (LruCache ℕ (List ℕ)) → List (ℕ × List ℕ)
+-- the names of the places: which page stands at which, none where there is no cache
+abbrev pub entries_of : Option (LruCache ℕ ℕ) → List (ℕ × ℕ)
 entries_of None = []
-entries_of (Some pages) = pages.entries
+entries_of (Some places) = places.entries
+
+-- a place without a page
+abbrev pub no_page : KeptPage
+no_page = record { number = None; bytes = [] }
+
+-- what stands at a place
+abbrev pub kept_at : List KeptPage → ℕ → KeptPage
+kept_at kept place = slice_index_or kept place no_page
+
+-- this place is named for the page, and the page stands there
+pub record IsPlaced (names : List (ℕ × ℕ)) (kept : List KeptPage) (p place : ℕ) : Type 0 where
+  pub named : Contains names (p, place)
+  pub number : (kept_at kept place).number ≡ Some p
+
+-- the page stands at a place that is named for it, with these bytes
+pub record HoldsAt (names : List (ℕ × ℕ)) (kept : List KeptPage) (p : ℕ) (bytes : List ℕ) : Type 0 where
+  pub place : ℕ
+  pub placed : IsPlaced names kept p place
+  pub holds : (kept_at kept place).bytes ≡ bytes
+
+-- the place of a page in the cache
+abbrev pub IsAt : PageCache → ℕ → ℕ → Type 0
+IsAt cache = IsPlaced (entries_of cache.places) cache.kept.items
 
 -- the cache holds this page with these bytes
 abbrev pub Holds : PageCache → ℕ → List ℕ → Type 0
-Holds cache p bytes = Contains (entries_of cache.pages) (p, bytes)
+Holds cache = HoldsAt (entries_of cache.places) cache.kept.items
 
 -- what the one holds the other held
 abbrev pub IsPart : PageCache → PageCache → Type 0

@@ -1,15 +1,24 @@
 //! Pages in memory, so that they need not be read again.
-ghost use Rattle.std.specs.Prelude.{◌≡◌, ◌≢◌, ◌⊎◌, ◌≤◌, ℕ, List, IsTrue, IfOk};
-ghost use Rattle.page_store.specs.Cache.{Holds, IsPart};
+ghost use Rattle.std.specs.Prelude.{◌≡◌, ◌≢◌, ◌⊎◌, ◌≤◌, ◌<◌, ℕ, List, IsTrue, IfOk, IfSome, IfNone, length};
+ghost use Rattle.page_store.specs.Cache.{Holds, IsPart, IsAt};
 
 use lru::LruCache;
 use std::alloc::{AllocError, Global};
 use std::num::NonZeroUsize;
 
+/// A place for a page, with the page that stands there, if one does.
+#[derive(Drop)]
+pub struct KeptPage {
+    number: Option<u32>,
+    bytes: [u8; 4096],
+}
+
 /// The pages that were read or written last. It holds so many at most, and where there is no cache none.
 #[derive(Drop)]
 pub struct PageCache {
-    pages: Option<LruCache<u32, [u8; 4096]>>,
+    /// The place of each page, the page that was used last first.
+    places: Option<LruCache<u32, usize>>,
+    kept: Vec<KeptPage>,
 }
 
 impl PageCache {
@@ -17,11 +26,31 @@ impl PageCache {
     pub fn new(alloc: Global, pages: usize) -> Result<PageCache, AllocError>
         ensures { IfOk result (λ cache. (p : ℕ) (bytes : List ℕ) → Holds cache p bytes → ⊥) }
     {
+        let kept = Vec::new(alloc);
         match NonZeroUsize::new(pages) {
             Some(most) => Ok(PageCache {
-                pages: Some(LruCache::new(alloc, most)?),
+                places: Some(LruCache::new(alloc, most)?),
+                kept,
             }),
-            None => Ok(PageCache { pages: None }),
+            None => Ok(PageCache { places: None, kept }),
+        }
+    }
+
+    /// Where the page is, if it is there.
+    fn place_of(&self, page: u32) -> Option<usize>
+        ensures there { IfSome result (IsAt self.now page) }
+        ensures none { IfNone result ((bytes : List ℕ) → Holds self.now page bytes → ⊥) }
+    {
+        let Some(places) = &self.places else {
+            return None;
+        };
+        let _distinct = places.len();
+        match places.peek(&page) {
+            Some(place) if *place < self.kept.len() => match self.kept[*place].number {
+                Some(number) if number == page => Some(*place),
+                _ => None,
+            },
+            _ => None,
         }
     }
 
@@ -30,29 +59,58 @@ impl PageCache {
         ensures found { IsTrue result → Holds self.old page into.new }
         ensures others { IsPart self.old self.new }
     {
-        match &mut self.pages {
-            Some(pages) => match pages.peek(&page) {
-                Some(bytes) => {
-                    *into = *bytes;
-                    pages.promote(&page)
-                }
-                None => false,
-            },
-            None => false,
+        let Some(place) = self.place_of(page) else {
+            return false;
+        };
+        *into = self.kept[place].bytes;
+        if let Some(places) = &mut self.places {
+            places.promote(&page);
         }
+        true
     }
 
     /// Whether the page is there with these bytes.
     pub fn has(&self, page: u32, bytes: &[u8; 4096]) -> bool
         ensures { IsTrue result → Holds self.now page bytes.now }
     {
-        match &self.pages {
-            Some(pages) => match pages.peek(&page) {
-                Some(held) => held == bytes,
-                None => false,
-            },
+        match self.place_of(page) {
+            Some(place) => self.kept[place].bytes == *bytes,
             None => false,
         }
+    }
+
+    /// A place for the page: its own, the next one, or that of the page that was not used for longest.
+    fn place_for(&self, page: u32) -> usize
+        ensures { result ≤ length self.now.kept.items }
+    {
+        let next = self.kept.len();
+        let Some(places) = &self.places else {
+            return next;
+        };
+        let place = match (places.peek(&page), places.peek_lru()) {
+            (Some(place), _) => *place,
+            (None, Some((_, place))) if next >= places.cap().get() => *place,
+            _ => next,
+        };
+        place.min(next)
+    }
+
+    /// Makes room at a place for the page, where the next is one more than there are.
+    fn make_place(&mut self, page: u32) -> Result<usize, AllocError>
+        ensures within { IfOk result (λ place. place < length self.new.kept.items) }
+        ensures others { IsPart self.old self.new }
+    {
+        let place = self.place_for(page);
+        if place == self.kept.len() {
+            let empty = KeptPage {
+                number: None,
+                bytes: [0; 4096],
+            };
+            if self.kept.push(empty).is_err() {
+                return Err(AllocError);
+            }
+        }
+        Ok(place)
     }
 
     /// Keeps the page with these bytes, in the place of what was there. Where memory is refused the page is left out.
@@ -60,10 +118,24 @@ impl PageCache {
         ensures { (p : ℕ) (held : List ℕ) → Holds self.new p held
             → ((p ≡ page) × (held ≡ bytes.now)) ⊎ ((p ≢ page) × Holds self.old p held) }
     {
-        if let Some(pages) = &mut self.pages {
-            let _distinct = pages.len();
-            match pages.put(page, *bytes) {
-                Ok(_) => {}
+        if self.places.is_none() {
+            return Ok(());
+        }
+        let place = match self.make_place(page) {
+            Ok(place) => place,
+            Err(refused) => {
+                self.forget(page);
+                return Err(refused);
+            }
+        };
+        if let Some(places) = &mut self.places {
+            let _distinct = places.len();
+            match places.put(page, place) {
+                Ok(_) => {
+                    let kept = &mut self.kept[place];
+                    kept.number = Some(page);
+                    kept.bytes = *bytes;
+                }
                 Err(_) => return Err(AllocError),
             }
         }
@@ -74,10 +146,13 @@ impl PageCache {
     pub fn forget(&mut self, page: u32)
         ensures { (p : ℕ) (held : List ℕ) → Holds self.new p held → (p ≢ page) × Holds self.old p held }
     {
-        if let Some(pages) = &mut self.pages {
-            if pages.len() > 0 {
-                let _old = pages.pop(&page);
-            }
+        let Some(place) = self.place_of(page) else {
+            return;
+        };
+        self.kept[place].number = None;
+        if let Some(places) = &mut self.places {
+            let _distinct = places.len();
+            places.demote(&page);
         }
     }
 
@@ -85,8 +160,9 @@ impl PageCache {
     pub fn clear(&mut self)
         ensures { (p : ℕ) (held : List ℕ) → Holds self.new p held → ⊥ }
     {
-        if let Some(pages) = &mut self.pages {
-            pages.clear();
+        if let Some(places) = &mut self.places {
+            places.clear();
         }
+        self.kept.clear();
     }
 }

@@ -1,10 +1,12 @@
 -- Items as bytes, edited.
-use Rattle.std.proofs.Common.{◌≡◌, ℕ, zero, suc, ◌+◌, ◌-◌, ◌*◌, ◌<◌, ◌≤◌, List, [], ◌∷◌, ◌++◌, Some, length, take, drop, false, refl, sym, ◌∙◌, ap, subst, inl, inr, arith, length-append, length-drop}
+use Rattle.std.proofs.Common.{◌≡◌, ℕ, zero, suc, ◌+◌, ◌-◌, ◌*◌, ◌<◌, ◌≤◌, List, [], ◌∷◌, ◌++◌, Some, length, take, drop, false, refl, sym, ◌∙◌, ap, subst, inl, inr, arith, length-append, length-drop, get_or}
 use Rattle.std.proofs.lemmas.Bool.{cases_eq}
-use Rattle.std.proofs.lemmas.List.{append_assoc, take-append-drop, length-take, take-append-le, drop-append-le, drop-drop}
+use Rattle.std.proofs.lemmas.List.{append_assoc, take-append-drop, length-take, take-append-le, drop-append-le, drop-drop, drop_at, take-take, get_or-take, get_or_append_left}
+use Rattle.std.proofs.lemmas.Slice.{between_is}
 use Rattle.std.specs.declared.cmp.Ordering.{Ordering}
 use Rattle.std.specs.declared.cmp.Ordering.TheVariants.{Less, Equal, Greater}
-use Rattle.std.specs.List.{slice_get}
+use Rattle.std.specs.List.{slice_get, copy_within}
+use borrow.Rule.Slice.PartMut.{put_mid}
 use Rattle.std.specs.Ordering.{is_gt, match_ordering}
 use Rattle.std.proofs.lemmas.Cmp.{nat_list_cmp_total, tied_itself}
 use Rattle.tree_page.specs.declared.kind.Kind.{Kind}
@@ -175,6 +177,90 @@ module _ (key behind b from to count : ℕ) (page : List ℕ) (is : b ≡ behind
               (λ i. items_of key behind (from + n + (are i - to)) ((three ∙ ap (λ (xs : List ℕ). xs ++ back) two) i))
               ∙ splice key behind count from n rest (drop 4 page) first middle back to order (omega (arith, within)) (omega (arith, length-drop 4 page, long, fits))
               first_is whole back_is (from + n + rest) refl
+
+-- bytes in the place of others on the page itself: what stood behind is moved from i to e, and the others stand from s on
+module _ (page moved new middle : List ℕ) (s e i j : ℕ) (head : 4 ≤ s) (long : e ≡ s + length middle) (room : e + (j - i) ≤ length page)
+    (one : moved ≡ take e page ++ (take (j - i) (drop i page) ++ drop (e + (j - i)) page)) (two : new ≡ take s moved ++ (middle ++ drop e moved)) where
+  abbrev tail : List ℕ
+  tail = drop (e + (j - i)) page
+
+  behind_is : drop e moved ≡ take (j - i) (drop i page) ++ tail
+  behind_is = ap (drop e) one ∙ drop_at (take e page) (take (j - i) (drop i page) ++ tail) e (omega (arith, length-take e page, room))
+
+  front_is : take s moved ≡ take s page
+  front_is =
+      ap (take s) one ∙ take-append-le s (take e page) (take (j - i) (drop i page) ++ tail) (omega (arith, length-take e page, long, room))
+      ∙ take-take s e page (omega (arith, long))
+
+  whole_is : new ≡ take s page ++ (middle ++ (take (j - i) (drop i page) ++ tail))
+  whole_is = two ∙ (λ k. front_is k ++ (middle ++ behind_is k))
+
+  pub in_place : drop 4 new ≡ ((take (s - 4) (drop 4 page) ++ middle) ++ take (j - i) (drop i page)) ++ tail
+  in_place =
+      ap (drop 4) whole_is
+      ∙ drop-append-le 4 (take s page) (middle ++ (take (j - i) (drop i page) ++ tail)) (omega (arith, length-take s page, head, long, room))
+      ∙ ap (λ (xs : List ℕ). xs ++ (middle ++ (take (j - i) (drop i page) ++ tail))) (sym (between_is page 4 s))
+      ∙ sym (append_assoc (take (s - 4) (drop 4 page)) middle (take (j - i) (drop i page) ++ tail))
+      ∙ sym (append_assoc (take (s - 4) (drop 4 page) ++ middle) (take (j - i) (drop i page)) tail)
+
+  -- the head of the page stays
+  pub same_head : (k d : ℕ) → k < 4 → get_or new k d ≡ get_or page k d
+  same_head k d low =
+      ap (λ (xs : List ℕ). get_or xs k d) whole_is
+      ∙ get_or_append_left (take s page) (middle ++ (take (j - i) (drop i page) ++ tail)) d k (omega (arith, length-take s page, head, long, room, low))
+      ∙ get_or-take s page k d (omega (arith, head, low))
+
+-- items of a page in the place of others, on the page itself
+module _ (key behind b from to count n all : ℕ) (page moved written middle new : List ℕ) (is : b ≡ behind) (long : length page ≡ 4096) (order : from ≤ to) (within : to ≤ count)
+    (fits : count * (key + behind) ≤ 4092) (are : all ≡ count) (whole : length middle ≡ n * (key + behind)) (room : (from + n + (count - to)) * (key + behind) ≤ 4092)
+    (one : moved ≡ copy_within page (4 + to * (key + b)) (4 + all * (key + b)) (4 + from * (key + b) + length middle)) (same : written ≡ middle)
+    (two : new ≡ put_mid (4 + from * (key + b)) (4 + from * (key + b) + length middle - (4 + from * (key + b))) moved written) where
+  abbrev start : ℕ
+  start = 4 + from * (key + b)
+
+  abbrev end : ℕ
+  end = start + length middle
+
+  abbrev old_start : ℕ
+  old_start = 4 + to * (key + b)
+
+  abbrev old_end : ℕ
+  old_end = 4 + all * (key + b)
+
+  enough : end + (old_end - old_start) ≤ length page
+  enough =
+      let from_is : from * (key + b) ≡ from * (key + behind) = ap (λ (c : ℕ). from * (key + c)) is in
+      let to_is : to * (key + b) ≡ to * (key + behind) = ap (λ (c : ℕ). to * (key + c)) is in
+      let all_is : all * (key + b) ≡ count * (key + behind) = λ k. are k * (key + is k) in
+      let sum : count ≡ to + (count - to) = omega (arith, within) in
+      let parts : count * (key + behind) ≡ to * (key + behind) + (count - to) * (key + behind) = ap (λ (m : ℕ). m * (key + behind)) sum ∙ distribute to (count - to) (key + behind) in
+      let each : (from + n + (count - to)) * (key + behind) ≡ from * (key + behind) + n * (key + behind) + (count - to) * (key + behind) =
+      distribute (from + n) (count - to) (key + behind) ∙ ap (λ m. m + (count - to) * (key + behind)) (distribute from n (key + behind)) in
+      omega (arith, from_is, to_is, all_is, parts, each, room, whole, long)
+
+  written_is : new ≡ take start moved ++ (middle ++ drop end moved)
+  written_is =
+      let sum : start + (end - start) ≡ end = omega arith in
+      let behind_it : drop (end - start) (drop start moved) ≡ drop end moved = drop-drop (end - start) start moved ∙ ap (λ m. drop m moved) sum in
+      two ∙ (λ k. take start moved ++ (same k ++ behind_it k))
+
+  moved_is : moved ≡ take end page ++ (take (old_end - old_start) (drop old_start page) ++ drop (end + (old_end - old_start)) page)
+  moved_is = one ∙ append_assoc (take end page) (take (old_end - old_start) (drop old_start page)) (drop (end + (old_end - old_start)) page)
+
+  pub head_stays : (k d : ℕ) → k < 4 → get_or new k d ≡ get_or page k d
+  head_stays = same_head page moved new middle start end old_start old_end (omega arith) refl enough moved_is written_is
+
+  pub page_listed : (bytes : List ℕ) (total : ℕ) → bytes ≡ drop 4 new → total ≡ from + n + (all - to) → items_of key behind total bytes
+      ≡ take from (items_of key behind count (drop 4 page)) ++ (items_of key behind n middle ++ drop to (items_of key behind count (drop 4 page)))
+  page_listed bytes total are_bytes adds =
+      let first = take (start - 4) (drop 4 page) in
+      let back = take (old_end - old_start) (drop old_start page) in
+      let third = (first ++ middle) ++ back in
+      let all_long : length third ≡ (from + n + (all - to)) * (key + behind) =
+      spliced_whole key behind b from to count page is long order within fits [] first refl refl n middle (first ++ middle) whole refl all are third refl in
+      (λ k. items_of key behind (adds k) ((are_bytes ∙ in_place page moved new middle start end old_start old_end (omega arith) refl enough moved_is written_is) k))
+      ∙ items-front key behind (from + n + (all - to)) third (drop (end + (old_end - old_start)) page) all_long
+      ∙ spliced_listed key behind b from to count page is long order within fits [] first refl refl n middle (first ++ middle) whole refl all are third refl
 
 -- an entry in a leaf
 

@@ -6,8 +6,8 @@ ghost use Rattle.tree_put.specs.aid.Causes.{BelowCause};
 ghost use Rattle.tree_put.specs.aid.Growing.{IsGrowing, IsGrown};
 ghost use Rattle.tree_put.specs.aid.Items.{listed, AreWhole};
 
-use crate::items::{FewItems, spliced, with_entry};
-use crate::write::write_items;
+use crate::items::{FewItems, new_entry, places_of};
+use crate::write::write_spliced;
 use byteorder::{BigEndian, ByteOrder};
 use page_store::{PageFault, Pages};
 use tree_page::{Kind, Widths, item_at, kind_of, place_of};
@@ -40,8 +40,18 @@ pub fn put_below<P: Pages>(
     match kind_of(widths, &bytes) {
         None => Err(PageFault::Damaged),
         Some(Kind::Leaf) => {
-            let entries = with_entry(widths, &bytes, key, value);
-            write_items(store, widths, Kind::Leaf, page, &entries)
+            let (from, to) = places_of(widths, &bytes, key);
+            let entry = new_entry(widths, key, value);
+            write_spliced(
+                store,
+                widths,
+                Kind::Leaf,
+                page,
+                &mut bytes,
+                from,
+                to,
+                &entry,
+            )
         }
         Some(Kind::Inner) => {
             if levels == 0 {
@@ -51,16 +61,16 @@ pub fn put_below<P: Pages>(
             let (_, child) = item_at(widths, Kind::Inner, &bytes, place);
             let child = BigEndian::read_u32(child);
             let tops = put_below(store, widths, child, levels - 1, key, value)?;
-            let items = spliced(
+            write_spliced(
+                store,
                 widths,
                 Kind::Inner,
-                &bytes,
+                page,
+                &mut bytes,
                 place,
                 place + 1,
-                tops.count,
-                &tops.bytes,
-            );
-            write_items(store, widths, Kind::Inner, page, &items)
+                &tops,
+            )
         }
     }
 }

@@ -1,5 +1,6 @@
 //! Items as bytes: those of a page, and those that lead to one page or two.
-ghost use Rattle.std.specs.Prelude.{◌≡◌, ◌≤◌, ◌<◌, ◌+◌, ◌-◌, ◌*◌, ◌/◌, ◌↔◌, ◌++◌, ◌∷◌, [], length, take, drop, slice_get, Some, IsTrue};
+ghost use Rattle.std.specs.Prelude.{◌≡◌, ◌≤◌, ◌<◌, ◌+◌, ◌-◌, ◌*◌, ◌/◌, ◌↔◌, ◌++◌, ◌∷◌, [], List, ℕ};
+ghost use Rattle.std.specs.Prelude.{length, take, drop, slice_get, Some, IsTrue};
 ghost use Rattle.arrayvec.specs.ArrayVec.{array_vec_len};
 ghost use Rattle.byteorder.specs.Endian.{big_bytes};
 ghost use Rattle.tree_page.specs.declared.kind.Kind.TheVariants.{Leaf, Inner};
@@ -9,7 +10,7 @@ ghost use Rattle.tree_put.specs.aid.Items.{listed, AreWhole, IsCut};
 
 use arrayvec::ArrayVec;
 use byteorder::{BigEndian, ByteOrder};
-use tree_page::{HEAD, Kind, Widths, behind_of, count_of, item_at, place_of};
+use tree_page::{HEAD, Kind, Widths, behind_of, count_of, item_at, place_of, set_count};
 
 /// As many bytes as a page has room for, and two items more.
 const MOST: usize = 5_120;
@@ -130,6 +131,37 @@ pub fn spliced(
     items
 }
 
+/// The same on the page itself, where it has room. What stands behind its items is moved along or stays.
+pub fn splice_in(
+    widths: Widths,
+    kind: Kind,
+    page: &mut [u8; 4096],
+    from: usize,
+    to: usize,
+    count: usize,
+    bytes: &[u8],
+)
+    requires page { IsPage widths kind page.old }
+    requires order { from ≤ to }
+    requires within { to ≤ count_in page.old }
+    requires few { count ≤ 2 }
+    requires enough { least_of kind ≤ from + count + (count_in page.old - to) }
+    requires whole { length bytes.now ≡ count * item_width widths kind }
+    requires room { (from + count + (count_in page.old - to)) * item_width widths kind ≤ 4092 }
+    ensures page { IsPage widths kind page.new }
+    ensures items { items_in widths kind page.new
+        ≡ take from (items_in widths kind page.old)
+        ++ (items_of widths.key (behind_of widths kind) count bytes.now ++ drop to (items_in widths kind page.old)) }
+{
+    let width = widths.key + behind_of(widths, kind);
+    let all = count_of(page);
+    let start = HEAD + from * width;
+    let end = start + bytes.len();
+    page.copy_within(HEAD + to * width..HEAD + all * width, end);
+    page[start..end].copy_from_slice(bytes);
+    set_count(page, from + count + (all - to));
+}
+
 /// This key with this value.
 pub fn new_entry(widths: Widths, key: &[u8], value: &[u8]) -> FewItems
     requires key { length key.now ≡ widths.key }
@@ -154,25 +186,22 @@ pub fn first_child(widths: Widths, items: &FewItems) -> u32
     BigEndian::read_u32(&items.bytes[widths.key..widths.key + 4])
 }
 
-/// The entries of a leaf, with this value at this key.
-pub fn with_entry(widths: Widths, page: &[u8; 4096], key: &[u8], value: &[u8]) -> Items
-    requires page { IsPage widths Leaf page.now }
-    requires key { length key.now ≡ widths.key }
-    requires value { length value.now ≡ widths.value }
-    ensures some { 1 ≤ result.count }
-    ensures cut { 4092 < result.count * item_width widths Leaf → IsCut widths Leaf result.count result.cut }
-    ensures whole { AreWhole widths Leaf result.count result.bytes.items }
-    ensures listed { Ascend (items_in widths Leaf page.now)
-        → listed widths Leaf result.count result.bytes.items ≡ put_entry (items_in widths Leaf page.now) key.now value.now }
+/// Where in a leaf this key belongs: from the place that it has, or would have, up to the next, or up to itself where it is not there.
+pub fn places_of(widths: Widths, page: &[u8; 4096], key: &[u8]) -> (usize, usize)
+    requires { IsPage widths Leaf page.now }
+    ensures order { result.0 ≤ result.1 }
+    ensures one { result.1 ≤ result.0 + 1 }
+    ensures within { result.1 ≤ count_in page.now }
+    ensures put { Ascend (items_in widths Leaf page.now) → (value : List ℕ)
+        → take result.0 (items_in widths Leaf page.now) ++ (key.now, value) ∷ drop result.1 (items_in widths Leaf page.now)
+        ≡ put_entry (items_in widths Leaf page.now) key.now value }
 {
-    let entry = new_entry(widths, key, value);
     let to = place_of(widths, Kind::Leaf, page, key);
-    let from = if has_key(widths, page, to, key) {
-        to - 1
+    if has_key(widths, page, to, key) {
+        (to - 1, to)
     } else {
-        to
-    };
-    spliced(widths, Kind::Leaf, page, from, to, 1, &entry.bytes)
+        (to, to)
+    }
 }
 
 /// Whether the item before this place has this key.

@@ -1,20 +1,20 @@
 //! The items of a page are written, on one page or on two.
-ghost use Rattle.std.specs.Prelude.{◌≡◌, ◌≢◌, ◌≤◌, ◌<◌, ◌*◌, false, length, OnOk, IfOk, IfErr, IsTrue};
+ghost use Rattle.std.specs.Prelude.{◌≡◌, ◌≢◌, ◌≤◌, ◌<◌, ◌+◌, ◌-◌, ◌++◌, false, length, take, drop, OnOk, IfOk, IfErr, IsTrue};
 ghost use Rattle.page_store.specs.Store.{StoreWorks};
 ghost use Rattle.tree_page.specs.declared.kind.Kind.TheVariants.{Inner};
-ghost use Rattle.tree_page.specs.Page.{item_width, least_of};
+ghost use Rattle.tree_page.specs.Page.{count_in, items_in, least_of, IsPage};
 ghost use Rattle.tree_put.specs.aid.Causes.{WriteCause};
 ghost use Rattle.tree_put.specs.aid.Growing.{AreWritten};
 ghost use Rattle.tree_put.specs.aid.Items.{listed, AreWhole, IsCut};
 
-use crate::items::{FewItems, Items, lead_to, no_few_items};
+use crate::items::{FewItems, Items, lead_to, no_few_items, splice_in, spliced};
 use crate::place::{renewed, write_on};
 use page_store::{PageFault, Pages};
-use tree_page::{Kind, ROOM, Widths, behind_of};
+use tree_page::{HEAD, Kind, ROOM, Widths, behind_of, count_of};
 
-/// Writes items in the place of a page, on two pages where one has no room for them, and answers the items that lead
+/// Writes items in the place of a page, on two pages since one has no room for them, and answers the items that lead
 /// there. Those up to the cut stay on the first.
-pub fn write_items<P: Pages>(
+fn write_two<P: Pages>(
     store: &mut P,
     widths: Widths,
     kind: Kind,
@@ -23,10 +23,55 @@ pub fn write_items<P: Pages>(
 ) -> Result<FewItems, PageFault>
     requires is_page { 1 ≤ page }
     requires there { page < length (P.store store.old).marks }
-    requires enough { least_of kind ≤ items.now.count }
-    requires cut { 4092 < items.now.count * item_width widths kind → IsCut widths kind items.now.count items.now.cut }
+    requires cut { IsCut widths kind items.now.count items.now.cut }
     requires whole { AreWhole widths kind items.now.count items.now.bytes.items }
     ensures written { IfOk result (λ tops. AreWritten widths kind page (listed widths kind items.now.count items.now.bytes.items)
+        (listed widths Inner tops.count tops.bytes.items) (P.store store.old) (P.store store.new)) }
+    ensures two { IfOk result (λ tops. tops.count ≡ 2) }
+    ensures whole { IfOk result (λ tops. AreWhole widths Inner tops.count tops.bytes.items) }
+    ensures open { OnOk result ((P.store store.new).closed ≡ false) }
+    ensures works { StoreWorks (P.store store.old) (P.store store.new) }
+    ensures still { IfErr result (λ fault. fault ≢ PageFault.Disk → (P.store store.new).closed ≡ (P.store store.old).closed) }
+    ensures cause { IfErr result (WriteCause (P.store store.old) (P.store store.new)) }
+{
+    let first = renewed(store, page)?;
+    let second = store.new_page()?;
+    let mut tops = no_few_items();
+    let cut = items.cut;
+    let (front, back) = items
+        .bytes
+        .split_at(cut * (widths.key + behind_of(widths, kind)));
+    write_on(store, widths, kind, first, cut, front)?;
+    write_on(store, widths, kind, second, items.count - cut, back)?;
+    lead_to(widths, &mut tops, &front[..widths.key], first);
+    lead_to(widths, &mut tops, &back[..widths.key], second);
+    Ok(tops)
+}
+
+/// Writes the items of a page with these in the place of those from one place up to another: on the page, or on one in its
+/// place, and on two where one has no room. Answers the items that lead there. The bytes of the page are changed for it.
+pub fn write_spliced<P: Pages>(
+    store: &mut P,
+    widths: Widths,
+    kind: Kind,
+    page: u32,
+    bytes: &mut [u8; 4096],
+    from: usize,
+    to: usize,
+    items: &FewItems,
+) -> Result<FewItems, PageFault>
+    requires is_page { 1 ≤ page }
+    requires there { page < length (P.store store.old).marks }
+    requires form { IsPage widths kind bytes.old }
+    requires order { from ≤ to }
+    requires within { to ≤ count_in bytes.old }
+    requires few { items.now.count ≤ 2 }
+    requires one_more { from + items.now.count ≤ to + 1 }
+    requires enough { least_of kind ≤ from + items.now.count + (count_in bytes.old - to) }
+    requires whole { AreWhole widths kind items.now.count items.now.bytes.items }
+    ensures written { IfOk result (λ tops. AreWritten widths kind page
+        (take from (items_in widths kind bytes.old)
+        ++ (listed widths kind items.now.count items.now.bytes.items ++ drop to (items_in widths kind bytes.old)))
         (listed widths Inner tops.count tops.bytes.items) (P.store store.old) (P.store store.new)) }
     ensures some { IfOk result (λ tops. 1 ≤ tops.count) }
     ensures few { IfOk result (λ tops. tops.count ≤ 2) }
@@ -36,21 +81,15 @@ pub fn write_items<P: Pages>(
     ensures still { IfErr result (λ fault. fault ≢ PageFault.Disk → (P.store store.new).closed ≡ (P.store store.old).closed) }
     ensures cause { IfErr result (WriteCause (P.store store.old) (P.store store.new)) }
 {
-    let first = renewed(store, page)?;
-    let mut tops = no_few_items();
-    if items.bytes.len() <= ROOM {
-        write_on(store, widths, kind, first, items.count, &items.bytes)?;
-        lead_to(widths, &mut tops, &items.bytes[..widths.key], first);
-        return Ok(tops);
+    let total = from + items.count + (count_of(bytes) - to);
+    if total * (widths.key + behind_of(widths, kind)) > ROOM {
+        let all = spliced(widths, kind, bytes, from, to, items.count, &items.bytes);
+        return write_two(store, widths, kind, page, &all);
     }
-    let second = store.new_page()?;
-    let cut = items.cut;
-    let (front, back) = items
-        .bytes
-        .split_at(cut * (widths.key + behind_of(widths, kind)));
-    write_on(store, widths, kind, first, cut, front)?;
-    write_on(store, widths, kind, second, items.count - cut, back)?;
-    lead_to(widths, &mut tops, &front[..widths.key], first);
-    lead_to(widths, &mut tops, &back[..widths.key], second);
+    let first = renewed(store, page)?;
+    splice_in(widths, kind, bytes, from, to, items.count, &items.bytes);
+    store.write_page(first, bytes)?;
+    let mut tops = no_few_items();
+    lead_to(widths, &mut tops, &bytes[HEAD..HEAD + widths.key], first);
     Ok(tops)
 }

@@ -1,10 +1,12 @@
-use Rattle.std.proofs.Common.{◌∙◌, ap, sym, subst, ℕ, List}
+use Rattle.std.proofs.Common.{◌∙◌, ap, sym}
 use Rattle.std.proofs.lemmas.Slice.Eq.{bytes_eq-Decides}
-use Rattle.std.specs.Option.{option_copied}
-use Rattle.page_store.specs.Cache.{entries_of, Holds}
-use Rattle.page_store.proofs.Caching.{found_there}
+use Rattle.page_store.specs.declared.cache.KeptPage.{KeptPage}
+use Rattle.page_store.proofs.Caching.{stands, within_kept}
 use Rattle.page_store.proofs.cache.PageCache.has.Goals as goal
 
-pub returns-in-Some-peek : goal.returns-in-Some-peek
-returns-in-Some-peek c = λ same. subst (λ (bytes : List ℕ). Holds c.args.self.now c.args.page bytes) ((bytes_eq-Decides _ _).0 (sym c.eq.ensures ∙ same))
-    (found_there _ _ _ _ (ap entries_of c.in-Some.is) (sym (ap option_copied c.in-Some-peek.is) ∙ c.peek.ensures))
+pub returns-in-Some : goal.returns-in-Some
+returns-in-Some c = λ same. record {
+  place = c.in-Some.place;
+  placed = c.in-Some.ensures.there;
+  holds = ap (λ (k : KeptPage). k.bytes) (stands _ _ _ c.index.ensures (within_kept _ _ _ _ c.in-Some.ensures.there)) ∙ (bytes_eq-Decides _ _).0 (sym c.eq.ensures ∙ same);
+}
