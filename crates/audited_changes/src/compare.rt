@@ -5,6 +5,7 @@ use crate::reading::verdict_of;
 use crate::stored::audited;
 use audit::Verdict;
 use game_table::Source;
+use position_pack::PackingKind;
 use std::alloc::Global;
 
 /// As many units as no small game needs.
@@ -71,7 +72,7 @@ fn are_alike(
 
 /// Whether each change of the finished table of this game, and of the table worked half as far, is judged alike.
 pub fn compare(rt: &HostRuntime, alloc: Global, text: &[u8], step: usize) -> anyhow::Result<bool> {
-    let source = Source::read(alloc, text)?;
+    let source = Source::read(alloc, text, PackingKind::Bits)?;
     let whole = worked(alloc, &source, ALL_UNITS)?;
     let known = u32::try_from(whole.records.len())?;
     let half = worked(alloc, &source, known / 2)?;

@@ -3,7 +3,7 @@ use crate::parts::{Edge, Parts};
 use audit::Verdict;
 use game_file::GameFile;
 use page_store::PageStore;
-use position_pack::Packed;
+use position_pack::{Packed, PackingKind};
 use recover::{Solver, SolverFault};
 use retrograde::Record;
 use sector_disk::MemDisk;
@@ -90,7 +90,7 @@ fn disk_of(alloc: Global, text: &[u8], parts: &Parts) -> anyhow::Result<Option<M
     if text.len() > 65_536 {
         return Ok(None);
     }
-    file.load(text, start)?;
+    file.load(text, PackingKind::Bits, start)?;
     put_records(&mut file, parts)?;
     put_edges(&mut file, parts)?;
     match file.commit() {

@@ -21,6 +21,8 @@ pub enum Outcome {
     Differs(Difference),
     /// All answers were equal, but not the files.
     OtherFiles,
+    /// All answers were equal, but the audit says of a table that it is wrong.
+    NotRight,
 }
 
 /// Answers to one line.
@@ -69,12 +71,15 @@ fn some_steps(
     Ok(None)
 }
 
-/// Asks about each position, and compares the files.
+/// Asks about each position, audits the tables, and compares the files.
 fn at_the_end(alloc: Global, tables: Tables) -> anyhow::Result<Outcome> {
     let mut tables = tables;
     let known = known_of(tables.counts());
     if let Some(difference) = ask_all(alloc, &mut tables, known)? {
         return Ok(Outcome::Differs(difference));
+    }
+    if !tables.are_right()? {
+        return Ok(Outcome::NotRight);
     }
     if tables.have_equal_files()? {
         Ok(Outcome::Equal(known))

@@ -49,6 +49,10 @@ fn run(rt: &HostRuntime) -> anyhow::Result<bool> {
                 println!(rt; "{name}: the files differ")?;
                 return Ok(false);
             }
+            Outcome::NotRight => {
+                println!(rt; "{name}: a table is not right")?;
+                return Ok(false);
+            }
         }
     }
     Ok(true)

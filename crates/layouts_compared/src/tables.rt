@@ -1,5 +1,6 @@
 //! Tables of the two layouts, which are asked the same.
 
+use audit::Verdict;
 use flat_table::FlatTable;
 use game_file::GameFile;
 use page_store::PageStore;
@@ -131,6 +132,11 @@ impl Tables {
             spare: opened(alloc, spare.close().after_stop(alloc, 0)?, pages)?,
             pages,
         })
+    }
+
+    /// Whether the audit says of the table of each layout that it is right.
+    pub fn are_right(&mut self) -> Result<bool, SolverFault> {
+        Ok(self.flat.audit()? == Verdict::Right && self.trees.audit()? == Verdict::Right)
     }
 
     /// Whether the files of layout 2 are the same, byte for byte.

@@ -1,6 +1,7 @@
 //! Random games and commands, stopped at random disk calls, and compared with a table that is never stopped.
 ghost use Rattle.std.specs.Prelude.{◌≤◌};
 
+use crate::standing::is_right;
 use crate::watched::WatchedDisk;
 use flat_table::FlatTable;
 use game_file::GameFile;
@@ -91,7 +92,7 @@ enum Order {
 }
 
 /// One round: a table is made, and orders are given to it, each with a stop at a random call, if it comes so far. Answers whether it was
-/// always the one that the orders lead to which were answered, or one order more.
+/// always the one that the orders lead to which were answered, or one order more, and is right at the end.
 fn round_of(
     alloc: Global,
     random: &mut Pcg32,
@@ -106,7 +107,8 @@ fn round_of(
             None => return Ok(false),
         }
     }
-    Ok(true)
+    let mut found = opened(alloc, random, disk)?;
+    Ok(is_right(&mut found)?)
 }
 
 /// Gives one order to the table of this disk, with a stop at a random call, if it comes so far, and to the model. Answers the disk, if

@@ -1,6 +1,8 @@
 //! What is found on a disk behind a stop.
 
-use recover::{Solver, SolverFault};
+use audit::Verdict;
+use game_file::GameFile;
+use recover::{FileSolver, Solver, SolverFault};
 use retrograde::Counts;
 use sector_disk::MemDisk;
 use std::alloc::Global;
@@ -46,6 +48,22 @@ fn found_on(alloc: Global, disk: MemDisk) -> Standing {
             Some(counts) if counts == WORKED => Standing::Worked,
             Some(_) => Standing::Other,
         },
+    }
+}
+
+/// Whether the audit says that a table is right; one without a game is not audited.
+pub fn is_right<F: GameFile>(solver: &mut FileSolver<F>) -> Result<bool, SolverFault> {
+    if solver.status().is_none() {
+        return Ok(true);
+    }
+    Ok(solver.audit()? == Verdict::Right)
+}
+
+/// Whether the table that a stop now leaves is right.
+pub fn is_right_on(alloc: Global, disk: &MemDisk) -> anyhow::Result<bool> {
+    match Solver::open(alloc, disk.after_stop(alloc, 0)?) {
+        Ok(mut solver) => Ok(is_right(&mut solver)?),
+        Err(refused) => Err(refused.fault.into()),
     }
 }
 

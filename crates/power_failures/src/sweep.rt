@@ -1,7 +1,7 @@
 //! Each deed again and again, with another disk call at which the power stops or the device fails.
 
 use crate::deeds::{DEEDS, Deed, Given, Progress, before, done_on};
-use crate::standing::all_stand;
+use crate::standing::{all_stand, is_right_on};
 use recover::SolverFault;
 use sector_disk::{FlakyDisk, FuseDisk, MemDisk, SectorDisk};
 use std::alloc::Global;
@@ -54,7 +54,7 @@ pub fn sweep(rt: &HostRuntime, alloc: Global, text: &[u8]) -> anyhow::Result<boo
 }
 
 /// Does a deed with trouble at its first disk call, at the second, and so on until it is done without. Answers how many calls that
-/// were; none where something else was left than may be. Where a call leaves the pictures that the one before it left, as a call that
+/// were; none where something else was left than may be, or where the table is not right at the end. Where a call leaves the pictures that the one before it left, as a call that
 /// reads does, they are not asked again.
 fn calls_in_trouble(given: Given<'_>, deed: Deed, trouble: Trouble) -> anyhow::Result<Option<u64>> {
     let mut asked = Vec::new(given.alloc);
@@ -67,7 +67,7 @@ fn calls_in_trouble(given: Given<'_>, deed: Deed, trouble: Trouble) -> anyhow::R
             return Ok(None);
         }
         match progress.refused {
-            None => return Ok(Some(call)),
+            None => return Ok(is_right_on(given.alloc, &left)?.then_some(call)),
             Some(SolverFault::Disk) => {}
             Some(_) => return Ok(None),
         }

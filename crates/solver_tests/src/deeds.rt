@@ -1,5 +1,7 @@
 //! What is done to the table on a disk, and what is said of the table that is found there.
 
+use audit::Verdict;
+use recover::Solver;
 use sector_disk::{MemDisk, SectorDisk};
 use session::commands::{FileCommand, command_on};
 use session::line_by_line::session_over;
@@ -73,7 +75,15 @@ pub fn disk_after(alloc: Global, deeds: &[Deed]) -> Result<MemDisk, Fail> {
     Ok(disk)
 }
 
-/// Whether each of the 256 pictures that a stop now leaves answers one of these to `status`.
+/// Whether the audit says that the table on this disk is right.
+pub fn is_right(alloc: Global, disk: MemDisk) -> Result<bool, Fail> {
+    match Solver::open(alloc, disk) {
+        Ok(mut solver) => Ok(solver.audit()? == Verdict::Right),
+        Err(_) => Err("the table was refused")?,
+    }
+}
+
+/// Whether each of the 256 pictures that a stop now leaves answers one of these to `status`, and the first of them is a right table.
 pub fn all_say(alloc: Global, disk: &MemDisk, allowed: &[&[u8]]) -> Result<bool, Fail> {
     for pick in 0..256 {
         let (_, _, said) = done_on(alloc, disk.after_stop(alloc, pick)?, Deed::Status)?;
@@ -81,5 +91,5 @@ pub fn all_say(alloc: Global, disk: &MemDisk, allowed: &[&[u8]]) -> Result<bool,
             return Ok(false);
         }
     }
-    Ok(true)
+    is_right(alloc, disk.after_stop(alloc, 0)?)
 }

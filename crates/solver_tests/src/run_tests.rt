@@ -1,6 +1,6 @@
 //! A list of commands in one call.
 
-use crate::deeds::{Deed, LOADED, WORKED, all_say, disk_after};
+use crate::deeds::{Deed, LOADED, WORKED, all_say, disk_after, is_right};
 use recover::{Command, Reply, Solver, SolverFault, Units};
 use retrograde::Counts;
 use sector_disk::{FlakyDisk, SectorDisk};
@@ -77,7 +77,7 @@ fn a_run_answers_each_command(rt: HostRuntime) -> Result<(), Fail> {
         alloc,
         &[Step::Load, Step::Work(7), Step::Load, Step::Work(256)],
     )?;
-    run_on(alloc, disk, &commands, &mut replies)?;
+    let disk = run_on(alloc, disk, &commands, &mut replies)?;
     let wanted = [
         Reply::Loaded,
         Reply::Loaded,
@@ -86,6 +86,7 @@ fn a_run_answers_each_command(rt: HostRuntime) -> Result<(), Fail> {
         worked(7, 7, 7),
     ];
     assert_eq!(rt; replies.as_slice(), wanted.as_slice());
+    assert!(rt; is_right(alloc, disk)?);
     Ok(())
 }
 

@@ -1,4 +1,5 @@
 //! Games made ready for their moves, with their tables.
+use audit::{Verdict, audit};
 use game_table::Source;
 use legal_moves::MoveSource;
 use position_pack::PackingKind;
@@ -8,6 +9,7 @@ use std::alloc::Global;
 use std::test::Fail;
 use table::{MemTable, Table};
 use table_work::{MAX_POSITIONS, StepFault, work};
+use test_aids::expect;
 
 /// A game and its table in memory.
 #[derive(Drop)]
@@ -59,6 +61,17 @@ pub fn works<M: MoveSource, T: Table>(
         return Err(StepFault::TooManyPositions);
     }
     work(alloc, source, table, units)
+}
+
+/// Expects that the audit says that a table is right.
+pub fn expect_audited<M: MoveSource, T: Table>(
+    alloc: Global,
+    source: &M,
+    table: &mut T,
+) -> Result<(), Fail>
+    requires { M.is_sound source.now }
+{
+    expect(audit(alloc, source, table)?, Verdict::Right, "the audit")
 }
 
 /// The record of a number.

@@ -1,6 +1,6 @@
 //! Worked examples of values, lists and lines.
 use crate::game_texts::{FORK, ROUND};
-use crate::games::{Solving, begun, works};
+use crate::games::{Solving, begun, expect_audited, works};
 use best_line::Value::{self, Drawn, Open, Won};
 use best_line::{LineFault, Row, line, list, value};
 use legal_moves::MoveSource;
@@ -181,7 +181,8 @@ fn expect_all<M: MoveSource, T: Table>(
     works(alloc, source, table, want.units)?;
     expect_values(alloc, table, want.values)?;
     expect_lines(alloc, source, table, want.lines)?;
-    expect_rows(alloc, table, want.rows)
+    expect_rows(alloc, table, want.rows)?;
+    expect_audited(alloc, source, table)
 }
 
 fn expect_answers(alloc: Global, want: &Answers) -> Result<(), Fail> {

@@ -1,5 +1,5 @@
 //! The game of takes on a store of pages.
-use crate::games::{Solving, begun, record_of, works};
+use crate::games::{Solving, begun, expect_audited, record_of, works};
 use game_table::Source;
 use legal_moves::MoveSource;
 use page_store::{PageStore, Pages};
@@ -101,7 +101,7 @@ fn expect_same<S: Pages>(table: &mut CommittedTable<S>, memory: &mut MemTable) -
     Ok(())
 }
 
-/// Expects the records of the game in memory after each unit of work up to the last of fourteen.
+/// Expects the records of the game in memory after each unit of work up to the last of fourteen, and that they are right at the end.
 fn expect_units<S: Pages>(
     alloc: Global,
     solving: &mut Solving,
@@ -113,7 +113,7 @@ fn expect_units<S: Pages>(
         expect(more, if done < 14 { 1 } else { 0 }, "the units")?;
         works(alloc, solving.source.moves(), &mut solving.table, 1)?;
     }
-    Ok(())
+    expect_audited(alloc, solving.source.moves(), &mut solving.table)
 }
 
 /// Expects that all work on a table is refused for this cause, and a closed table says so from then on.

@@ -1,6 +1,6 @@
 //! Tables in memory, worked to their end, against the plain solver.
 use crate::game_texts::{FORK, HEXAPAWN, NIM, SMALL};
-use crate::games::{Solving, begun_by, small, winner, works};
+use crate::games::{Solving, begun_by, expect_audited, small, winner, works};
 use crate::plain::{Node, Outcome, solve};
 use game_table::Source;
 use position_pack::{Packed, PackingKind};
@@ -40,6 +40,7 @@ fn plain(alloc: Global, source: &Source) -> Result<Vec<Node>, Fail> {
 fn agrees_by(alloc: Global, text: &str, kind: PackingKind) -> Result<bool, Fail> {
     let Solving { source, mut table } = begun_by(alloc, text, kind)?;
     works(alloc, source.moves(), &mut table, u32::MAX)?;
+    expect_audited(alloc, source.moves(), &mut table)?;
     has_all(&mut table, &plain(alloc, &source)?)
 }
 

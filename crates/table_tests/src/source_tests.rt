@@ -1,5 +1,5 @@
 //! A game's table from its text to its end, and positions as text.
-use crate::games::{Solving, begun_by, source_of};
+use crate::games::{Solving, begun_by, expect_audited, source_of};
 use game_table::Source;
 use position_pack::{Packed, PackingKind};
 use std::alloc::Global;
@@ -25,7 +25,8 @@ fn expect_work<T: Table>(alloc: Global, source: &Source, table: &mut T) -> Resul
     expect(work(alloc, source, table, 256)?, 14, "the units")?;
     let counts = table.counts();
     expect((counts.known, counts.processed), (7, 7), "the counts")?;
-    expect(are_positions(source, table)?, true, "the positions")
+    expect(are_positions(source, table)?, true, "the positions")?;
+    expect_audited(alloc, source.moves(), table)
 }
 
 #[test]

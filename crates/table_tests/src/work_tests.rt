@@ -1,6 +1,6 @@
 //! Worked examples of the two units of work, on tables in memory.
 use crate::game_texts::{FORK, HEXAPAWN, TIC_TAC_TOE};
-use crate::games::{Solving, begun, small, winner, works};
+use crate::games::{Solving, begun, expect_audited, small, winner, works};
 use frontier::expand_one;
 use legal_moves::MoveSource;
 use rbg_game::roles::Player;
@@ -211,7 +211,7 @@ fn expect_expanded<T: Table>(alloc: Global, table: &mut T, want: &Worked) -> Res
     )
 }
 
-/// Expects what the two units of work come to.
+/// Expects what the two units of work come to, and that the table is right.
 fn expect_work<M: MoveSource, T: Table>(
     alloc: Global,
     source: &M,
@@ -227,7 +227,8 @@ fn expect_work<M: MoveSource, T: Table>(
         order(alloc, table)?.as_slice(),
         want.order,
         "the order, processed",
-    )
+    )?;
+    expect_audited(alloc, source, table)
 }
 
 fn expect_worked(alloc: Global, want: &Worked) -> Result<(), Fail> {
@@ -280,7 +281,7 @@ fn expect_requests<M: MoveSource, T: Table>(
     Ok(())
 }
 
-/// Expects the answers to these requests, and who wins the start then.
+/// Expects the answers to these requests, and who wins the start then, and that the table is right.
 fn expect_start<M: MoveSource, T: Table>(
     alloc: Global,
     source: &M,
@@ -292,7 +293,8 @@ fn expect_start<M: MoveSource, T: Table>(
 {
     expect_requests(alloc, source, table, requests)?;
     let (found, _) = winner(table, 0)?;
-    expect(found, wins, "the start")
+    expect(found, wins, "the start")?;
+    expect_audited(alloc, source, table)
 }
 
 /// Expects of a game what is answered to these requests, and who wins its start then.

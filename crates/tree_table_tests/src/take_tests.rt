@@ -1,4 +1,5 @@
 //! The game of takes, worked on trees of pages.
+use audit::{Verdict, audit};
 use game_table::Source;
 use page_store::{PageStore, Pages};
 use position_pack::PackingKind;
@@ -102,7 +103,7 @@ fn expect_order<T: Table>(table: &mut T, order: &[u32]) -> Result<(), Fail> {
 }
 
 /// Expects of the table of a game that was just loaded what the table in memory says, after each unit of work up to the last
-/// of fourteen.
+/// of fourteen, and that the audit says that the finished table is right.
 fn expect_units<T: Table>(alloc: Global, source: &Source, table: &mut T) -> Result<(), Fail> {
     let mut memory = MemTable::new(alloc, &source.start())?;
     for done in 0..=14 {
@@ -111,7 +112,12 @@ fn expect_units<T: Table>(alloc: Global, source: &Source, table: &mut T) -> Resu
         expect(more, if done < 14 { 1 } else { 0 }, done)?;
         worked(alloc, source, &mut memory, 1)?;
     }
-    expect_order(table, &ORDER)
+    expect_order(table, &ORDER)?;
+    expect(
+        audit(alloc, source.moves(), table)?,
+        Verdict::Right,
+        "the audit",
+    )
 }
 
 #[test]
