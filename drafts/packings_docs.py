@@ -30,7 +30,7 @@ bits fill the last byte. In `games/take.rbg`, with one vertex, one piece, scores
 34  80
 ```
 
-**Packing 1, by bytes.** Tables that were loaded before November 2026 have it, and are worked on with it.
+**Packing 1, by bytes.** Tables that an earlier version of the program loaded have it, and are worked on with it.
 
 | field |"""),
 ("Pieces and vertices are counted from 0. That makes L = vertices + 3 * values + 4 bytes, at most 234 by the limits of a game. Bytes of\nanother length, or with a field out of its range, are those of no position.","That makes L = vertices + 3 * values + 4 bytes, at most 234 by the limits of a game. The same position is 14 bytes:\n\n```text\n00  00 00 00  00 00 00  00 00 03  00  01  00 02\n```\n\nIn both, bytes of another length, with a field out of its range, or with a bit that fills and is not zero, are those of no position."),

@@ -1,5 +1,4 @@
 //! What audit answers.
-use std::fmt::{self, Display, Formatter, Write};
 
 /// The condition that fails, by its code.
 #[derive(Clone, Copy, PartialEq, Eq, Debug, Drop)]
@@ -18,20 +17,6 @@ pub enum Reason {
     A6,
     /// What is not expanded is not settled.
     A7,
-}
-
-impl Display for Reason {
-    fn fmt<W: Write>(&self, f: &mut Formatter<W>) -> fmt::Result {
-        f.write_str(match self {
-            Reason::A1 => "A1",
-            Reason::A2 => "A2",
-            Reason::A3 => "A3",
-            Reason::A4 => "A4",
-            Reason::A5 => "A5",
-            Reason::A6 => "A6",
-            Reason::A7 => "A7",
-        })
-    }
 }
 
 /// The table is right; or the lowest number that fails, with its lowest reason.
