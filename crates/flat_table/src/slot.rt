@@ -6,8 +6,10 @@ ghost use Rattle.flat_table.specs.Slot.{number_of_packing as number_of};
 ghost use Rattle.flat_table.specs.Slot.{sizes_in as sizes_of, IsEmptySlot, AreZero, Says, IsNoSlot};
 
 use position_pack::PackingKind;
-use root_slot::{are_within_limits, are_zero, long_at, put_long, put_word, sizes_in, word_at};
-use root_slot::{number_of_packing, packing_numbered};
+use root_slot::{
+    are_within_limits, are_zero, long_at, number_of_packing, packing_numbered, put_long, put_word,
+    sizes_in, word_at,
+};
 use table_bytes::Sizes;
 
 /// The number of this layout.

@@ -118,13 +118,13 @@ impl Source {
             (IsWideAt (packing_kind self.now) (compiled_game self.now))
             (T.stored table.old)
             → IfOk result (λ done. IsWorkOf (packing_kind self.now) (compiled_game self.now) units
-                (T.stored table.old) done (T.stored table.new)) }
+            (T.stored table.old) done (T.stored table.new)) }
         ensures fits { T.is_honest table.old → IsTable (T.stored table.old) → OnOk result (IsTable (T.stored table.new)) }
         ensures cause { T.is_honest table.old → IsLocallySound (graph_of (packing_kind self.now) (compiled_game self.now))
             (IsWideAt (packing_kind self.now) (compiled_game self.now))
             (T.stored table.old)
             → IfErr result (StopsWith (graph_of (packing_kind self.now) (compiled_game self.now))
-                (IsWideAt (packing_kind self.now) (compiled_game self.now)) (T.stored table.old) units) }
+            (IsWideAt (packing_kind self.now) (compiled_game self.now)) (T.stored table.old) units) }
         ensures consistent { T.is_honest table.old
             → IsLocallySound (graph_of (packing_kind self.now) (compiled_game self.now))
             (IsWideAt (packing_kind self.now) (compiled_game self.now)) (T.stored table.old)

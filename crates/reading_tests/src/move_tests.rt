@@ -22,6 +22,7 @@ const BLACK_AHEAD: [u8; 12] = [0, 0, 0, 0, 0, 0, 0, 1, 0, 2, 0, 2];
 
 /// The same two by bits: a bit for each piece, each score and the vertex, two for the role and two for the place.
 const SEEN_BY_BITS: [u8; 2] = [0x03, 0x00];
+
 const BLACK_AHEAD_BY_BITS: [u8; 2] = [0x15, 0x00];
 
 /// The game of a text, made ready for its moves.
@@ -153,7 +154,12 @@ fn expect_look_by_bits<S: MoveSource>(alloc: Global, source: &S) -> Result<(), F
     expect_only(alloc, source, &SEEN_BY_BITS)?;
     expect_none(alloc, source)?;
     expect_turn(source, &SEEN_BY_BITS, Player::First, None)?;
-    expect_turn(source, &BLACK_AHEAD_BY_BITS, Player::Second, Some(Player::Second))
+    expect_turn(
+        source,
+        &BLACK_AHEAD_BY_BITS,
+        Player::Second,
+        Some(Player::Second),
+    )
 }
 
 #[test]

@@ -1,7 +1,6 @@
 -- Questions change nothing, and answer from what is kept.
 use Rattle.std.proofs.Common.{◌≡◌, ℕ, ◌<◌, ◌≤◌, List, slice_get, length, Option, None, Some, Result, Ok, Err, refl, sym, ◌∙◌, ap, subst, arith}
 use Rattle.std.specs.Prelude.{IsSome, IsTrue}
-use Rattle.rbg_read.specs.Reading.{Reads}
 use Rattle.position_pack.specs.Texts.{text_of}
 use Rattle.legal_moves.specs.Sources.{IsWideAt, graph_of}
 use Rattle.legal_moves.specs.Compiled.{compiled_game, packing_kind}

@@ -70,7 +70,12 @@ fn first_table<P: Pages>(
         Ok(pages) => pages,
         Err(fault) => return Err(table_fault(fault)),
     };
-    let slot = text_slot(packing, first_page(&pages), text.len() as u32, start.len() as u32);
+    let slot = text_slot(
+        packing,
+        first_page(&pages),
+        text.len() as u32,
+        start.len() as u32,
+    );
     add_position(store, slot, start)
 }
 

@@ -5,8 +5,10 @@ ghost use Rattle.tree_table.specs.Slot.{roots_in, slot_in, IsEmptyTreeSlot, IsNo
 
 use crate::tree::Roots;
 use position_pack::PackingKind;
-use root_slot::{are_within_limits, are_zero, long_at, put_long, put_word, sizes_in, word_at};
-use root_slot::{number_of_packing, packing_numbered};
+use root_slot::{
+    are_within_limits, are_zero, long_at, number_of_packing, packing_numbered, put_long, put_word,
+    sizes_in, word_at,
+};
 use table_bytes::Sizes;
 
 /// The number of this layout.

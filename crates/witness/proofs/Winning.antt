@@ -1,5 +1,5 @@
 -- The start is won by white in exactly two moves, and by nobody in any other number.
-use Rattle.std.proofs.Common.{◌≡◌, ℕ, zero, suc, ◌≤◌, inl, inr, refl, sym, subst, arith}
+use Rattle.std.proofs.Common.{◌≡◌, ℕ, zero, suc, ◌≤◌, inl, inr, sym, subst, arith}
 use Rattle.rbg_game.specs.declared.roles.Player.{Player}
 use Rattle.rbg_game.specs.declared.roles.Player.TheVariants.{First}
 use Rattle.position_pack.specs.declared.kind.PackingKind.{PackingKind}
