@@ -24,7 +24,8 @@ pub struct Parts {
     pub order: Vec<u32>,
 }
 
-/// What the game says of a number: whose turn it is, who is ahead, and where moves lead; a position that has no number is none that is known.
+/// What the game says of a number: whose turn it is, who is ahead, and where moves lead; a position that has no number is none that is
+/// known.
 #[derive(Drop)]
 pub struct Place {
     pub mover: Role,

@@ -54,8 +54,8 @@ pub fn sweep(rt: &HostRuntime, alloc: Global, text: &[u8]) -> anyhow::Result<boo
 }
 
 /// Does a deed with trouble at its first disk call, at the second, and so on until it is done without. Answers how many calls that
-/// were; none where something else was left than may be, or where the table is not right at the end. Where a call leaves the pictures that the one before it left, as a call that
-/// reads does, they are not asked again.
+/// were; none where something else was left than may be, or where the table is not right at the end. Where a call leaves the pictures
+/// that the one before it left, as a call that reads does, they are not asked again.
 fn calls_in_trouble(given: Given<'_>, deed: Deed, trouble: Trouble) -> anyhow::Result<Option<u64>> {
     let mut asked = Vec::new(given.alloc);
     let mut so_far = 0;

@@ -9,8 +9,8 @@ use std::test::Fail;
 
 /// The disk calls that open the table of the game of takes that is just loaded. Four find the root: a sync, the header, the gate and
 /// the slot. A page is eight sectors, and four times a page is read: the text, the one leaf of the positions and that of the records,
-/// which are in memory when they are looked at again; and, since no page is kept in memory once all are marked, the records once more for the
-/// position of number 0.
+/// which are in memory when they are looked at again; and, since no page is kept in memory once all are marked, the records once more
+/// for the position of number 0.
 const TO_OPEN: u64 = 4 + 8 * 4;
 
 /// The same with no page in memory: eight times a page is read. The text; the one leaf of the positions twice, as the depth is found and
@@ -19,8 +19,8 @@ const TO_OPEN: u64 = 4 + 8 * 4;
 const TO_OPEN_UNCACHED: u64 = 4 + 8 * 8;
 
 /// The disk calls of seven units, each of which expands a position, without those of the commit. Each tree is one leaf, or empty at
-/// first. The leaf of the positions is read once, that of the records is in memory. A put writes its leaf: each of the six positions that come in is
-/// put into positions and records, each of the seven edges once, each of the seven records that are changed, and each of the two numbers
+/// first. The leaf of the positions is read once, that of the records is in memory. A put writes its leaf: each of the six positions that
+/// come in is put into positions and records, each of the seven edges once, each of the seven records that are changed, and each of the two numbers
 /// that are settled.
 const TO_WORK: u64 = 8 * (1 + 6 * 2 + 7 + 7 + 2);
 
