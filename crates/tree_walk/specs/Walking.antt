@@ -32,8 +32,7 @@ pub record IsRefused (refuses : List Item → Item → Type 0) (told es : List I
 
 -- the visitor, told of `told` before, refused one of the entries that stand below this root, and they are those of the
 -- map, where there is one
-pub record IsRefusedBelow (w : Widths) (root : ℕ) (refuses : List Item → Item → Type 0) (told : List Item)
-    (store : StoreStated) : Type 0 where
+pub record IsRefusedBelow (w : Widths) (root : ℕ) (refuses : List Item → Item → Type 0) (told : List Item) (store : StoreStated) : Type 0 where
   pub depth : ℕ
   pub refused : IsRefused refuses told (entries_below w (reads store) depth root)
   pub of_map : (pages : List ℕ) (es : List Item) → HoldsMap w store root pages es → es ≡ entries_below w (reads store) depth root
@@ -46,5 +45,4 @@ WalkCause w root refuses told old new (Store Damaged) = IsTrue old.disk.honest �
     → HoldsMap w old root pages es → AreWaiting pages old → ⊥
 WalkCause w root refuses told old new (Store Closed) = old.closed ≡ true
 WalkCause w root refuses told old new (Store _) = ⊥
-WalkCause w root refuses told old new Refused =
-    IsTrue old.disk.honest → (before : List Item) → told before → IsRefusedBelow w root refuses before old
+WalkCause w root refuses told old new Refused = IsTrue old.disk.honest → (before : List Item) → told before → IsRefusedBelow w root refuses before old

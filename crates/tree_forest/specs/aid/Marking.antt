@@ -54,8 +54,7 @@ pub stays_marked : {old new : Store} → OnlyMarks old new → (p : ℕ) → mar
 stays_marked only p was = elim (only.others p) [ inl same ↦ same ∙ was | inr is ↦ is ]
 
 -- pages that wait later are apart from those that were marked earlier
-pub later_apart : (ps qs : List ℕ) (old marked mid new : Store) → AreMarked ps old marked → OnlyMarks marked mid → AreMarked qs mid new
-    → AreApart ps qs
+pub later_apart : (ps qs : List ℕ) (old marked mid new : Store) → AreMarked ps old marked → OnlyMarks marked mid → AreMarked qs mid new → AreApart ps qs
 later_apart ps qs old marked mid new first only second p here there =
     let is : mark mid.marks p ≡ Committed = stays_marked only p (first.marked p here) in
     let waits : mark mid.marks p ≡ Waiting = second.waited p there in

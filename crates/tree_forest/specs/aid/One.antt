@@ -37,8 +37,7 @@ HoldsTree slot tree store pages es =
     IsTreeOf slot.sizes.packed tree (length store.marks) (root_of slot.roots tree) pages es (reads store)
 
 -- the tree is walked, and its entries are such
-pub record IsWalkedTree (slot : TreeSlot) (tree : Tree) (Such : List Item → Type 0) (pages : List ℕ) (es : List Item)
-    (old new : Store) : Type 0 where
+pub record IsWalkedTree (slot : TreeSlot) (tree : Tree) (Such : List Item → Type 0) (pages : List ℕ) (es : List Item) (old new : Store) : Type 0 where
   pub holds : HoldsTree slot tree old pages es
   pub marked : AreMarked pages old new
   pub such : Such es

@@ -19,8 +19,7 @@ pub record AreReady (pages : List ℕ) (es : List Item) (store : StoreStated) (l
   pub ascending : AscendFrom last es
 
 -- these pages are walked, and the visitor was told of these entries
-pub record ArePassed (pages : List ℕ) (es : List Item) (old new : StoreStated) (last now : List ℕ)
-    (told more : List Item → Type 0) : Type 0 where
+pub record ArePassed (pages : List ℕ) (es : List Item) (old new : StoreStated) (last now : List ℕ) (told more : List Item → Type 0) : Type 0 where
   pub marked : AreMarked pages old new
   pub once : IsOnce pages
   pub there : (p : ℕ) → Contains pages p → (1 ≤ p) × (p < length old.marks)
@@ -35,8 +34,7 @@ pub record IsWalked (w : Widths) (bytes : ℕ → List ℕ) (d page : ℕ) (firs
 
 -- a tree of this depth below this page is not walked: the disk failed; there is none that can be, as far as the disk is
 -- honest; the store is closed; or the visitor refused one of its entries
-abbrev pub BelowCause : Widths → ℕ → ℕ → List ℕ → (List Item → Item → Type 0) → (List Item → Type 0) → StoreStated → StoreStated
-    → WalkFault → Type 0
+abbrev pub BelowCause : Widths → ℕ → ℕ → List ℕ → (List Item → Item → Type 0) → (List Item → Type 0) → StoreStated → StoreStated → WalkFault → Type 0
 BelowCause w d page last refuses told old new (Store Disk) = Grew old.failures new.failures
 BelowCause w d page last refuses told old new (Store Damaged) = IsTrue old.disk.honest → IsTree w (reads old) d page
     → AreReady (pages_below w (reads old) d page) (entries_below w (reads old) d page) old last → ⊥
