@@ -69,6 +69,26 @@ impl PageCache {
         true
     }
 
+    /// Whether there is a place for the page, which then counts as used.
+    pub fn touch(&mut self, page: u32) -> bool
+        ensures { IsPart self.old self.new }
+    {
+        match &mut self.places {
+            Some(places) => places.promote(&page),
+            None => false,
+        }
+    }
+
+    /// The bytes of the page, if it is there.
+    pub fn bytes_of(&self, page: u32) -> Option<&[u8; 4096]>
+        ensures { IfSome result (λ bytes. Holds self.now page bytes.now) }
+    {
+        match self.place_of(page) {
+            Some(place) => Some(&self.kept[place].bytes),
+            None => None,
+        }
+    }
+
     /// Whether the page is there with these bytes.
     pub fn has(&self, page: u32, bytes: &[u8; 4096]) -> bool
         ensures { IsTrue result → Holds self.now page bytes.now }

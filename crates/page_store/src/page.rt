@@ -1,5 +1,5 @@
 //! One page, sector by sector.
-ghost use Rattle.std.specs.Prelude.{◌≡◌, ◌+◌, ◌*◌, ◌≤◌, OnOk, IsTrue};
+ghost use Rattle.std.specs.Prelude.{◌≡◌, ◌+◌, ◌*◌, ◌<◌, ◌≤◌, take, drop, OnOk, IsTrue};
 ghost use Rattle.sector_disk.specs.Disk.{size, GoesOn, LeavesOnly, MayLeave, HasCause};
 ghost use Rattle.sector_disk.specs.aid.Disk.{KeepsThroughout};
 ghost use Rattle.page_store.specs.Page.{page};
@@ -30,6 +30,15 @@ pub fn get_page<D: SectorDisk>(
     Ok(())
 }
 
+/// One of the eight sectors of a page.
+fn sector_of(page: &[u8; 4096], part: usize) -> &[u8; 512]
+    requires { part < 8 }
+    ensures { result.now ≡ take 512 (drop (512 * part) page.now) }
+{
+    let (_, from_there) = page.split_at(512 * part);
+    from_there.first_chunk().unwrap()
+}
+
 /// Writes the page of this number. A stop within it leaves anything there, and elsewhere what was synced.
 pub fn put_page<D: SectorDisk>(
     disk: &mut D,
@@ -44,9 +53,7 @@ pub fn put_page<D: SectorDisk>(
     ensures cause { HasCause (D.failures disk.old) (D.failures disk.new) result }
 {
     for part in 0..8usize {
-        let mut sector = [0; 512];
-        sector.copy_from_slice(&from[512 * part..512 * part + 512]);
-        disk.write(8 * u64::from(number) + part as u64, &sector)?;
+        disk.write(8 * u64::from(number) + part as u64, sector_of(from, part))?;
     }
     Ok(())
 }

@@ -1,5 +1,6 @@
 //! What a store of pages promises.
-ghost use Rattle.std.specs.Prelude.{◌≡◌, ◌≢◌, ◌↔◌, ◌≤◌, ◌<◌, ℕ, length, true, false, OnOk, OnErr, IfOk, IfErr, IsErrOf, IsTrue};
+ghost use Rattle.std.specs.Prelude.{◌≡◌, ◌≢◌, ◌↔◌, ◌≤◌, ◌<◌, ℕ, length, true, false, IsErrOf, IsTrue};
+ghost use Rattle.std.specs.Prelude.{OnOk, OnErr, IfOk, IfErr, IfSome, OnSome};
 ghost use Rattle.page_store.specs.declared.marks.Mark.TheVariants.{Committed, Waiting, Fresh, Free};
 ghost use Rattle.page_store.specs.Causes.{MarkCause, PageReadCause, NewCause, PageWriteCause, StoreCommitCause};
 ghost use Rattle.page_store.specs.Marks.{mark as mark_of, AreSealed, AreDiscarded, IsMarked, let_go, free_count};
@@ -47,6 +48,18 @@ pub trait Pages {
         ensures cause { IfErr result (PageReadCause (store self.old) page (store self.new)) }
         ensures closed { (store self.old).closed ≡ true → IsErrOf result PageFault.Closed }
         ensures works { StoreWorks (store self.old) (store self.new) };
+
+    /// Counts as a use of the page, if it is in memory: so a page that is asked for stays there. It never uses the disk.
+    fn touch(&mut self, page: u32) -> bool
+        ensures { store self.new ≡ store self.old };
+
+    /// What was last written to the page, as it stands in memory; none where it does not, and of a closed store. What is
+    /// not answered here is read by `read_page`.
+    fn bytes_of(&self, page: u32) -> Option<&[u8; 4096]>
+        ensures bytes { IsTrue (store self.now).disk.honest → IfSome result (λ bytes. bytes.now ≡ reads (store self.now) page) }
+        ensures is_page { OnSome result (1 ≤ page) }
+        ensures within { OnSome result (page < length (store self.now).marks) }
+        ensures open { OnSome result ((store self.now).closed ≡ false) };
 
     /// Hands out a free page. `TableFull` only where none is free.
     fn new_page(&mut self) -> Result<u32, PageFault>
@@ -124,4 +137,24 @@ pub trait Pages {
 
     /// What is true of each store.
     ghost sound: { (s : Self) → IsSoundStore (store s) };
+}
+
+/// A copy of what was last written to the page. It is made from memory, if the page is there, and else `read_page` reads it.
+pub fn copy_of<P: Pages>(store: &mut P, page: u32) -> Result<[u8; 4096], PageFault>
+    ensures bytes { IsTrue (P.store store.old).disk.honest → IfOk result (λ bytes. bytes ≡ reads (P.store store.old) page) }
+    ensures is_page { OnOk result (1 ≤ page) }
+    ensures within { OnOk result (page < length (P.store store.old).marks) }
+    ensures open { OnOk result ((P.store store.new).closed ≡ false) }
+    ensures unchanged { IsUnchanged (P.store store.old) (P.store store.new) }
+    ensures untouched { IfErr result (λ fault. fault ≢ PageFault.Disk → P.store store.new ≡ P.store store.old) }
+    ensures cause { IfErr result (PageReadCause (P.store store.old) page (P.store store.new)) }
+    ensures works { StoreWorks (P.store store.old) (P.store store.new) }
+{
+    let _used = store.touch(page);
+    if let Some(bytes) = store.bytes_of(page) {
+        return Ok(*bytes);
+    }
+    let mut bytes = [0; 4096];
+    store.read_page(page, &mut bytes)?;
+    Ok(bytes)
 }

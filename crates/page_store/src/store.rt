@@ -160,6 +160,17 @@ impl<D: SectorDisk> Pages for PageStore<D> {
         Ok(())
     }
 
+    fn touch(&mut self, page: u32) -> bool {
+        self.cache.touch(page)
+    }
+
+    fn bytes_of(&self, page: u32) -> Option<&[u8; 4096]> {
+        if self.closed {
+            return None;
+        }
+        self.cache.bytes_of(page)
+    }
+
     fn new_page(&mut self) -> Result<u32, PageFault> {
         if self.closed {
             return Err(PageFault::Closed);

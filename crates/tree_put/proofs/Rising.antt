@@ -17,7 +17,7 @@ use Rattle.tree_page.specs.Page.{Item, IsPage, items_in, child_of, key_cmp}
 use Rattle.tree_page.specs.Place.{IsPlace}
 use Rattle.tree_map.specs.Changes.{AreHeld, TakePlace}
 use Rattle.tree_map.specs.Entries.{Ascend, first_key, put_entry}
-use Rattle.tree_map.specs.aid.Laws.{contains_first, contains_later, pages_same, entries_same, tree_same}
+use Rattle.tree_map.specs.aid.Laws.{contains_first, contains_later, contains_root, pages_same, entries_same, tree_same}
 use Rattle.tree_map.specs.aid.Order.{ascend_front, ascend_back, put_below, put_past}
 use Rattle.tree_map.specs.aid.Parts.{HasFirst, all_got, contains_part, flat_at, first_below, below_part, past_part, children_ascend}
 use Rattle.tree_map.specs.aid.Taking.{take_then, only_one}
@@ -332,6 +332,18 @@ module _ (w : Widths) (d q i : ℕ) (c : Item) (store : Store) (got : slice_get 
       ∙ sym (put_below entries_left (here ++ entries_right) key value below)
       ∙ ap (λ (es : List Item). put_entry es key value) (sym entries_parts)
 
+-- while a child grows, the page above it reads as before
+page_stays : (w : Widths) (d q i : ℕ) (c : Item) (others : List ℕ) (old mid : Store) → IsTrue old.disk.honest → slice_get (items_in w Inner (reads old q)) i ≡ Some c
+    → IsGrowing w (suc d) q old → TakePlace (pages_below w (reads old) d (child_of c)) others old mid → reads mid q ≡ reads old q
+page_stays w d q i c others old mid honest got growing grown =
+    let left : List ℕ = pages_left w d q i c old got growing in
+    let below : List ℕ = pages_below w (reads old) d (child_of c) in
+    let right : List ℕ = pages_right w d q i c old got growing in
+    grown.reads honest q
+    (λ here. once_first q (left ++ (below ++ right)) (subst IsOnce (pages_parts w d q i c old got growing) growing.once)
+    (Contains-append_right left (below ++ right) q (Contains-append_left below right q here)))
+    (held_not_free (mark old.marks q) (growing.held q (contains_root w (reads old) (suc d) q)))
+
 -- an entry is put below a child, and then its page is written
 module _ (w : Widths) (key value : List ℕ) (d q i place : ℕ) (c : Item) (tops heads : List Item) (old mid new : Store) (honest : IsTrue old.disk.honest) (works : StoreWorks old mid)
     (got : slice_get (items_in w Inner (reads old q)) i ≡ Some c) (growing : IsGrowing w (suc d) q old) (at : i ≡ place - 1) (fits : IsPlace (items_in w Inner (reads old q)) key place)
@@ -508,7 +520,7 @@ module _ (w : Widths) (key value : List ℕ) (q : ℕ) (old mid : Store) (page :
   pub put_in_inner : (d i place child : ℕ) (c : Item) (below new : Store) (tops heads : List Item) → IsPage w Inner page → i ≡ place - 1 → child ≡ child_of c
       → (Ascend (items_in w Inner page) → IsPlace (items_in w Inner page) key place) → slice_get (items_in w Inner page) i ≡ Some c
       → StoreWorks mid below → ((e : ℕ) → IsGrowing w e child mid → IsGrown w key value e child tops mid below)
-      → IsGrowing w d q old → AreWritten w Inner q (take i (items_in w Inner page) ++ (tops ++ drop (suc i) (items_in w Inner page))) heads below new
+      → IsGrowing w d q old → (reads below q ≡ page → AreWritten w Inner q (take i (items_in w Inner page) ++ (tops ++ drop (suc i) (items_in w Inner page))) heads below new)
       → IsGrown w key value d q heads old new
   put_in_inner zero i place child c below new tops heads inner at leads fits got more grow growing written =
       let here : IsPage w Inner (reads old q) = subst (IsPage w Inner) is inner in
@@ -522,4 +534,5 @@ module _ (w : Widths) (key value : List ℕ) (q : ℕ) (old mid : Store) (page :
       grown_same old mid marks same w key value d (child_of c) tops below (still_honest works.goes_on) (subst (λ (n : ℕ). IsGrown w key value d n tops mid below) leads (grow d its)) in
       inner_grown w key value d q i place c tops heads old below new honest (works_then works more) here growing at
       (subst (λ (b : List ℕ). IsPlace (items_in w Inner b) key place) is (fits sorted)) grown
-      (subst (λ (b : List ℕ). AreWritten w Inner q (take i (items_in w Inner b) ++ (tops ++ drop (suc i) (items_in w Inner b))) heads below new) is written)
+      (subst (λ (b : List ℕ). AreWritten w Inner q (take i (items_in w Inner b) ++ (tops ++ drop (suc i) (items_in w Inner b))) heads below new) is
+      (written (page_stays w d q i c (flat_map (λ e. pages_below w (reads below) d (child_of e)) tops) old below honest here growing grown.place ∙ sym is)))

@@ -7,9 +7,9 @@ ghost use Rattle.tree_put.specs.aid.Growing.{IsGrowing, IsGrown};
 ghost use Rattle.tree_put.specs.aid.Items.{listed, AreWhole};
 
 use crate::items::{FewItems, new_entry, places_of};
-use crate::write::write_spliced;
+use crate::write::{write_led, write_spliced};
 use byteorder::{BigEndian, ByteOrder};
-use page_store::{PageFault, Pages};
+use page_store::{PageFault, Pages, copy_of};
 use tree_page::{Kind, Widths, item_at, kind_of, place_of};
 
 /// Puts this value at this key below this page, which has so many levels below it at most. Answers the items that lead
@@ -35,8 +35,10 @@ pub fn put_below<P: Pages>(
     ensures still { IfErr result (λ fault. fault ≢ PageFault.Disk → (P.store store.new).closed ≡ (P.store store.old).closed) }
     ensures cause { IfErr result (BelowCause widths levels page (P.store store.old) (P.store store.new)) }
 {
-    let mut bytes = [0; 4096];
-    store.read_page(page, &mut bytes)?;
+    let mut bytes = match copy_of(store, page) {
+        Ok(bytes) => bytes,
+        Err(fault) => return Err(fault),
+    };
     match kind_of(widths, &bytes) {
         None => Err(PageFault::Damaged),
         Some(Kind::Leaf) => {
@@ -61,16 +63,7 @@ pub fn put_below<P: Pages>(
             let (_, child) = item_at(widths, Kind::Inner, &bytes, place);
             let child = BigEndian::read_u32(child);
             let tops = put_below(store, widths, child, levels - 1, key, value)?;
-            write_spliced(
-                store,
-                widths,
-                Kind::Inner,
-                page,
-                &mut bytes,
-                place,
-                place + 1,
-                &tops,
-            )
+            write_led(store, widths, page, &mut bytes, place, &tops)
         }
     }
 }

@@ -186,6 +186,35 @@ pub fn first_child(widths: Widths, items: &FewItems) -> u32
     BigEndian::read_u32(&items.bytes[widths.key..widths.key + 4])
 }
 
+/// Whether an inner page has this one item at this place.
+pub fn has_item(widths: Widths, page: &[u8; 4096], place: usize, items: &FewItems) -> bool
+    requires page { IsPage widths Inner page.now }
+    requires within { place < count_in page.now }
+    requires whole { AreWhole widths Inner items.now.count items.now.bytes.items }
+    ensures { IsTrue result → take place (items_in widths Inner page.now)
+        ++ (listed widths Inner items.now.count items.now.bytes.items ++ drop (place + 1) (items_in widths Inner page.now))
+        ≡ items_in widths Inner page.now }
+{
+    if items.count != 1 {
+        return false;
+    }
+    let (key, child) = item_at(widths, Kind::Inner, page, place);
+    let (its_key, its_child) = items.bytes.split_at(widths.key);
+    key == its_key && child == its_child
+}
+
+/// The item that leads to this page.
+pub fn one_lead(widths: Widths, key: &[u8], page: u32) -> FewItems
+    requires { length key.now ≡ widths.key }
+    ensures count { result.count ≡ 1 }
+    ensures whole { AreWhole widths Inner result.count result.bytes.items }
+    ensures listed { listed widths Inner result.count result.bytes.items ≡ (key.now, big_bytes 4 page) ∷ [] }
+{
+    let mut items = no_few_items();
+    lead_to(widths, &mut items, key, page);
+    items
+}
+
 /// Where in a leaf this key belongs: from the place that it has, or would have, up to the next, or up to itself where it is not there.
 pub fn places_of(widths: Widths, page: &[u8; 4096], key: &[u8]) -> (usize, usize)
     requires { IsPage widths Leaf page.now }

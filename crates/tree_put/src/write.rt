@@ -1,13 +1,15 @@
 //! The items of a page are written, on one page or on two.
 ghost use Rattle.std.specs.Prelude.{◌≡◌, ◌≢◌, ◌≤◌, ◌<◌, ◌+◌, ◌-◌, ◌++◌, false, length, take, drop, OnOk, IfOk, IfErr, IsTrue};
-ghost use Rattle.page_store.specs.Store.{StoreWorks};
+ghost use Rattle.page_store.specs.Store.{reads, StoreWorks};
 ghost use Rattle.tree_page.specs.declared.kind.Kind.TheVariants.{Inner};
 ghost use Rattle.tree_page.specs.Page.{count_in, items_in, least_of, IsPage};
 ghost use Rattle.tree_put.specs.aid.Causes.{WriteCause};
 ghost use Rattle.tree_put.specs.aid.Growing.{AreWritten};
 ghost use Rattle.tree_put.specs.aid.Items.{listed, AreWhole, IsCut};
 
-use crate::items::{FewItems, Items, lead_to, no_few_items, splice_in, spliced};
+use crate::items::{
+    FewItems, Items, has_item, lead_to, no_few_items, one_lead, splice_in, spliced,
+};
 use crate::place::{renewed, write_on};
 use page_store::{PageFault, Pages};
 use tree_page::{HEAD, Kind, ROOM, Widths, behind_of, count_of};
@@ -92,4 +94,50 @@ pub fn write_spliced<P: Pages>(
     let mut tops = no_few_items();
     lead_to(widths, &mut tops, &bytes[HEAD..HEAD + widths.key], first);
     Ok(tops)
+}
+
+/// Writes an inner page with these items in the place of the one of this place. Where that is the one that they are, and
+/// the page is in memory and may be written in place, it stays as it is. The bytes are what the page reads as.
+pub fn write_led<P: Pages>(
+    store: &mut P,
+    widths: Widths,
+    page: u32,
+    bytes: &mut [u8; 4096],
+    place: usize,
+    items: &FewItems,
+) -> Result<FewItems, PageFault>
+    requires is_page { 1 ≤ page }
+    requires there { page < length (P.store store.old).marks }
+    requires open { (P.store store.old).closed ≡ false }
+    requires form { IsPage widths Inner bytes.old }
+    requires within { place < count_in bytes.old }
+    requires some { 1 ≤ items.now.count }
+    requires few { items.now.count ≤ 2 }
+    requires whole { AreWhole widths Inner items.now.count items.now.bytes.items }
+    ensures written { IfOk result (λ tops. reads (P.store store.old) page ≡ bytes.old → AreWritten widths Inner page
+        (take place (items_in widths Inner bytes.old)
+        ++ (listed widths Inner items.now.count items.now.bytes.items ++ drop (place + 1) (items_in widths Inner bytes.old)))
+        (listed widths Inner tops.count tops.bytes.items) (P.store store.old) (P.store store.new)) }
+    ensures some { IfOk result (λ tops. 1 ≤ tops.count) }
+    ensures few { IfOk result (λ tops. tops.count ≤ 2) }
+    ensures whole { IfOk result (λ tops. AreWhole widths Inner tops.count tops.bytes.items) }
+    ensures open { OnOk result ((P.store store.new).closed ≡ false) }
+    ensures works { StoreWorks (P.store store.old) (P.store store.new) }
+    ensures still { IfErr result (λ fault. fault ≢ PageFault.Disk → (P.store store.new).closed ≡ (P.store store.old).closed) }
+    ensures cause { IfErr result (WriteCause (P.store store.old) (P.store store.new)) }
+{
+    let in_memory = store.bytes_of(page).is_some();
+    if in_memory && store.is_fresh(page) && has_item(widths, bytes, place, items) {
+        return Ok(one_lead(widths, &bytes[HEAD..HEAD + widths.key], page));
+    }
+    write_spliced(
+        store,
+        widths,
+        Kind::Inner,
+        page,
+        bytes,
+        place,
+        place + 1,
+        items,
+    )
 }

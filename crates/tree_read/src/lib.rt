@@ -1,8 +1,10 @@
 //! Maps that are trees of pages are read: the value at a key, and the entry with the next greater key.
 #![tactic(auto)]
 
+mod ahead;
 mod entry;
 mod leaf;
+mod look;
 mod read;
 mod way;
 

@@ -7,8 +7,8 @@ ghost use Rattle.tree_map.specs.Entries.{find_entry, next_after as next_in};
 ghost use Rattle.tree_read.specs.Answers.{found_bytes, found_entry};
 
 use crate::entry::{Bytes, Entry};
-use crate::leaf::{entry_after, value_in};
-use crate::way::reach_leaf;
+use crate::look::{Seen, look_at};
+use crate::way::{LEVELS, reach_next};
 use page_store::{PageFault, Pages};
 use tree_page::Widths;
 
@@ -28,9 +28,14 @@ pub fn get<P: Pages>(
     if root == 0 {
         return Ok(None);
     }
-    let mut leaf = [0; 4096];
-    let _behind = reach_leaf(store, widths, root, key, &mut leaf)?;
-    Ok(value_in(widths, &leaf, key))
+    let mut page = root;
+    for _ in 0..LEVELS {
+        match look_at(store, widths, page, key)? {
+            Seen::Value(value) => return Ok(value),
+            Seen::Child(child) => page = child,
+        }
+    }
+    Err(PageFault::Damaged)
 }
 
 /// The entry with the least key that is greater than this one, in the map below this root. `Damaged` only where below it
@@ -50,9 +55,8 @@ pub fn next_after<P: Pages>(
     if root == 0 {
         return Ok(None);
     }
-    let mut leaf = [0; 4096];
-    let behind = reach_leaf(store, widths, root, key, &mut leaf)?;
-    if let Some(entry) = entry_after(widths, &leaf, key) {
+    let (ahead, behind) = reach_next(store, widths, root, key)?;
+    if let Some(entry) = ahead {
         return Ok(Some(entry));
     }
     let Some(next) = behind else {

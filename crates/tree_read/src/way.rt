@@ -1,20 +1,22 @@
 //! The way down to the leaf where a key belongs.
-ghost use Rattle.std.specs.Prelude.{◌≡◌, ◌≢◌, OnOk, IfOk, IfErr, IsTrue, slice_get};
+ghost use Rattle.std.specs.Prelude.{◌≡◌, ◌≢◌, IfOk, IfErr, IsTrue, slice_get};
 ghost use Rattle.std.specs.Option.{option_map};
 ghost use Rattle.page_store.specs.Store.{StoreWorks, IsUnchanged};
 ghost use Rattle.tree_page.specs.Page.{items_in, IsPage};
-ghost use Rattle.tree_page.specs.declared.kind.Kind.TheVariants.{Leaf, Inner};
+ghost use Rattle.tree_page.specs.declared.kind.Kind.TheVariants.{Inner};
 ghost use Rattle.tree_map.specs.Changes.{MapReadCause};
-ghost use Rattle.tree_read.specs.Answers.{found_bytes};
-ghost use Rattle.tree_read.specs.aid.Steps.{IsStep, Reaches};
+ghost use Rattle.tree_read.specs.Answers.{found_bytes, found_entry};
+ghost use Rattle.tree_read.specs.aid.Ahead.{ReachesNext};
+ghost use Rattle.tree_read.specs.aid.Steps.{IsStep};
 
-use crate::entry::{Bytes, copied};
+use crate::ahead::{Ahead, ahead_at};
+use crate::entry::{Bytes, Entry, copied};
 use byteorder::{BigEndian, ByteOrder};
 use page_store::{PageFault, Pages};
-use tree_page::{Kind, Widths, count_of, item_at, kind_of, place_of};
+use tree_page::{Kind, Widths, count_of, item_at, place_of};
 
 /// How many levels a tree has at most.
-const LEVELS: usize = 24;
+pub const LEVELS: usize = 24;
 
 /// The key of a place, if there is one.
 fn key_at(widths: Widths, bytes: &[u8; 4096], place: usize) -> Option<Bytes>
@@ -30,7 +32,7 @@ fn key_at(widths: Widths, bytes: &[u8; 4096], place: usize) -> Option<Bytes>
 }
 
 /// The child where the key belongs, and the key behind that child, if there is one.
-fn step(widths: Widths, bytes: &[u8; 4096], key: &[u8]) -> (u32, Option<Bytes>)
+pub fn step(widths: Widths, bytes: &[u8; 4096], key: &[u8]) -> (u32, Option<Bytes>)
     requires { IsPage widths Inner bytes.now }
     ensures { IsStep widths bytes.now key.now result.0 (found_bytes result.1) }
 {
@@ -40,18 +42,17 @@ fn step(widths: Widths, bytes: &[u8; 4096], key: &[u8]) -> (u32, Option<Bytes>)
     (BigEndian::read_u32(child), key_at(widths, bytes, at + 1))
 }
 
-/// Reads down from this root to the leaf where the key belongs, and answers the first key of the entries behind it.
-pub fn reach_leaf<P: Pages>(
+/// Looks down from this root to the leaf where the key belongs. Answers the leaf's next entry, if it has one, and the first
+/// key of the entries behind the leaf.
+pub fn reach_next<P: Pages>(
     store: &mut P,
     widths: Widths,
     root: u32,
     key: &[u8],
-    leaf: &mut [u8; 4096],
-) -> Result<Option<Bytes>, PageFault>
+) -> Result<(Option<Entry>, Option<Bytes>), PageFault>
     requires { root ≢ 0 }
-    ensures leaf { OnOk result (IsPage widths Leaf leaf.new) }
     ensures reaches { IsTrue (P.store store.old).disk.honest
-        → IfOk result (λ next. Reaches widths (P.store store.old) root key.now leaf.new (found_bytes next)) }
+        → IfOk result (λ r. ReachesNext widths (P.store store.old) root key.now (found_entry r.0) (found_bytes r.1)) }
     ensures unchanged { IsUnchanged (P.store store.old) (P.store store.new) }
     ensures works { StoreWorks (P.store store.old) (P.store store.new) }
     ensures cause { IfErr result (MapReadCause widths root (P.store store.old) (P.store store.new)) }
@@ -59,12 +60,9 @@ pub fn reach_leaf<P: Pages>(
     let mut page = root;
     let mut next = None;
     for _ in 0..LEVELS {
-        store.read_page(page, leaf)?;
-        match kind_of(widths, leaf) {
-            None => return Err(PageFault::Damaged),
-            Some(Kind::Leaf) => return Ok(next),
-            Some(Kind::Inner) => {
-                let (child, behind) = step(widths, leaf, key);
+        match ahead_at(store, widths, page, key)? {
+            Ahead::Next(entry) => return Ok((entry, next)),
+            Ahead::Below(child, behind) => {
                 page = child;
                 next = behind.or(next);
             }

@@ -44,6 +44,10 @@ works_refl store = record {
   leaves = λ honest safe. leaves_now store.disk (safe_saves store safe);
 }
 
+-- nor with a store that is as it was
+pub works_same : {old new : Store} → new ≡ old → StoreWorks old new
+works_same {old} same = subst (λ (s : Store). StoreWorks old s) (sym same) (works_refl old)
+
 -- what the earlier store needs, the later needs
 pub still_needed : {old new : Store} → StoreWorks old new → (p : ℕ) → IsNeeded old.marks p → IsNeeded new.marks p
 still_needed works p needed = (

@@ -22,6 +22,10 @@ unchanged_refl store = record {
   leaves = λ honest. leaves_now store.disk (λ picture left. left);
 }
 
+-- a store that is as it was
+pub unchanged_same : {old new : Store} → new ≡ old → IsUnchanged old new
+unchanged_same {old} same = subst (λ (s : Store). IsUnchanged old s) (sym same) (unchanged_refl old)
+
 pub unchanged_then : {old mid new : Store} → StoreWorks old mid → StoreWorks mid new → IsUnchanged old mid → IsUnchanged mid new
     → IsUnchanged old new
 unchanged_then one two first second = record {

@@ -22,12 +22,12 @@ item_at-requires-clause-within c = omega (arith, c.loop-low.invariant.within)
 pub loop-low-preserved-in-Greater : goal.loop-low-preserved-in-Greater
 loop-low-preserved-in-Greater c =
     go_left _ _ _ _ _ _ c.loop-low.invariant (omega arith) (omega (arith, c.loop-low-test.true)) (c.item_at.result.0.now, c.item_at.result.1.now) c.item_at.ensures.got
-    (sym c.cmp.ensures ∙ c.in-Greater.is)
+    (sym c.order_of.ensures ∙ c.in-Greater.is)
 
 pub loop-low-preserved : goal.loop-low-preserved
 loop-low-preserved c =
     go_right _ _ _ _ _ _ c.loop-low.invariant (omega arith) (omega (arith, c.loop-low-test.true)) (c.item_at.result.0.now, c.item_at.result.1.now) c.item_at.ensures.got
-    (ap is_gt (sym c.cmp.ensures) ∙ not_greater c.cmp.result c.in_default.not-Greater)
+    (ap is_gt (sym c.order_of.ensures) ∙ not_greater c.order_of.result c.in_default.not-Greater)
 
 pub returns-clause-within : goal.returns-clause-within
 returns-clause-within c = omega (arith, c.loop-low.invariant.within, c.loop-low.invariant.ordered)

@@ -1,0 +1,23 @@
+-- What a page says of the entries behind a key, and where the way to the next entry ends.
+use Rattle.std.specs.Prelude.{◌≡◌, ℕ, List, Option}
+use Rattle.page_store.specs.Store.{Store}
+use Rattle.tree_page.specs.declared.kind.Kind.TheVariants.{Leaf, Inner}
+use Rattle.tree_page.specs.declared.widths.Widths.{Widths}
+use Rattle.tree_page.specs.Page.{Item, items_in, IsPage}
+use Rattle.tree_map.specs.Entries.{Ascend, next_after}
+use Rattle.tree_read.specs.Answers.{found_bytes, found_entry}
+use Rattle.tree_read.specs.aid.Steps.{IsStep, Reaches}
+use Rattle.tree_read.specs.declared.ahead.Ahead.{Ahead}
+use Rattle.tree_read.specs.declared.ahead.Ahead.TheVariants.{Next, Below}
+
+-- a leaf says which of its entries comes next, and an inner page where the key belongs and which key is behind it
+abbrev pub SeesAhead : Widths → List ℕ → List ℕ → Ahead → Type 0
+SeesAhead w bytes key (Next found) = IsPage w Leaf bytes
+    × (Ascend (items_in w Leaf bytes) → found_entry found ≡ next_after (items_in w Leaf bytes) key)
+SeesAhead w bytes key (Below child behind) = IsPage w Inner bytes × IsStep w bytes key child (found_bytes behind)
+
+-- a leaf where the key belongs was reached, which has this as the next entry
+pub record ReachesNext (w : Widths) (store : Store) (root : ℕ) (key : List ℕ) (entry : Option Item) (next : Option (List ℕ)) : Type 0 where
+  pub leaf : List ℕ
+  pub reaches : Reaches w store root key leaf next
+  pub is : Ascend (items_in w Leaf leaf) → entry ≡ next_after (items_in w Leaf leaf) key
