@@ -89,16 +89,6 @@ impl PageCache {
         }
     }
 
-    /// Whether the page is there with these bytes.
-    pub fn has(&self, page: u32, bytes: &[u8; 4096]) -> bool
-        ensures { IsTrue result → Holds self.now page bytes.now }
-    {
-        match self.place_of(page) {
-            Some(place) => self.kept[place].bytes == *bytes,
-            None => false,
-        }
-    }
-
     /// A place for the page: its own, the next one, or that of the page that was not used for longest.
     fn place_for(&self, page: u32) -> usize
         ensures { result ≤ length self.now.kept.items }

@@ -192,9 +192,6 @@ impl<D: SectorDisk> Pages for PageStore<D> {
         if self.closed {
             return Err(PageFault::Closed);
         }
-        if self.cache.has(page, from) {
-            return Ok(());
-        }
         let written = put_page(&mut self.disk, page, from);
         self.closed = written.is_err();
         match written {

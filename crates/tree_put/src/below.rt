@@ -9,7 +9,7 @@ ghost use Rattle.tree_put.specs.aid.Items.{listed, AreWhole};
 use crate::items::{FewItems, new_entry, places_of};
 use crate::write::{write_led, write_spliced};
 use byteorder::{BigEndian, ByteOrder};
-use page_store::{PageFault, Pages, copy_of};
+use page_store::{PageFault, Pages};
 use tree_page::{Kind, Widths, item_at, kind_of, place_of};
 
 /// Puts this value at this key below this page, which has so many levels below it at most. Answers the items that lead
@@ -35,10 +35,8 @@ pub fn put_below<P: Pages>(
     ensures still { IfErr result (λ fault. fault ≢ PageFault.Disk → (P.store store.new).closed ≡ (P.store store.old).closed) }
     ensures cause { IfErr result (BelowCause widths levels page (P.store store.old) (P.store store.new)) }
 {
-    let mut bytes = match copy_of(store, page) {
-        Ok(bytes) => bytes,
-        Err(fault) => return Err(fault),
-    };
+    let mut bytes = [0; 4096];
+    store.read_page(page, &mut bytes)?;
     match kind_of(widths, &bytes) {
         None => Err(PageFault::Damaged),
         Some(Kind::Leaf) => {

@@ -1,8 +1,8 @@
 //! The items of a page are written, on one page or on two.
-ghost use Rattle.std.specs.Prelude.{◌≡◌, ◌≢◌, ◌≤◌, ◌<◌, ◌+◌, ◌-◌, ◌++◌, false, length, take, drop, OnOk, IfOk, IfErr, IsTrue};
+ghost use Rattle.std.specs.Prelude.{◌≡◌, ◌≢◌, ◌≤◌, ◌<◌, ◌+◌, ◌-◌, ◌*◌, ◌++◌, false, length, take, drop, OnOk, IfOk, IfErr, IsTrue};
 ghost use Rattle.page_store.specs.Store.{reads, StoreWorks};
 ghost use Rattle.tree_page.specs.declared.kind.Kind.TheVariants.{Inner};
-ghost use Rattle.tree_page.specs.Page.{count_in, items_in, least_of, IsPage};
+ghost use Rattle.tree_page.specs.Page.{count_in, item_width, items_in, least_of, IsPage};
 ghost use Rattle.tree_put.specs.aid.Causes.{WriteCause};
 ghost use Rattle.tree_put.specs.aid.Growing.{AreWritten};
 ghost use Rattle.tree_put.specs.aid.Items.{listed, AreWhole, IsCut};
@@ -50,6 +50,42 @@ fn write_two<P: Pages>(
     Ok(tops)
 }
 
+/// Writes the items of a page with these in the place of those from one place up to another, on two pages since one has no
+/// room for them. Answers the items that lead there. It stands by itself, since the list of all items is made as it begins.
+fn write_split<P: Pages>(
+    store: &mut P,
+    widths: Widths,
+    kind: Kind,
+    page: u32,
+    bytes: &[u8; 4096],
+    from: usize,
+    to: usize,
+    items: &FewItems,
+) -> Result<FewItems, PageFault>
+    requires is_page { 1 ≤ page }
+    requires there { page < length (P.store store.old).marks }
+    requires form { IsPage widths kind bytes.now }
+    requires order { from ≤ to }
+    requires within { to ≤ count_in bytes.now }
+    requires few { items.now.count ≤ 2 }
+    requires one_more { from + items.now.count ≤ to + 1 }
+    requires full { 4092 < (from + items.now.count + (count_in bytes.now - to)) * item_width widths kind }
+    requires whole { AreWhole widths kind items.now.count items.now.bytes.items }
+    ensures written { IfOk result (λ tops. AreWritten widths kind page
+        (take from (items_in widths kind bytes.now)
+        ++ (listed widths kind items.now.count items.now.bytes.items ++ drop to (items_in widths kind bytes.now)))
+        (listed widths Inner tops.count tops.bytes.items) (P.store store.old) (P.store store.new)) }
+    ensures two { IfOk result (λ tops. tops.count ≡ 2) }
+    ensures whole { IfOk result (λ tops. AreWhole widths Inner tops.count tops.bytes.items) }
+    ensures open { OnOk result ((P.store store.new).closed ≡ false) }
+    ensures works { StoreWorks (P.store store.old) (P.store store.new) }
+    ensures still { IfErr result (λ fault. fault ≢ PageFault.Disk → (P.store store.new).closed ≡ (P.store store.old).closed) }
+    ensures cause { IfErr result (WriteCause (P.store store.old) (P.store store.new)) }
+{
+    let all = spliced(widths, kind, bytes, from, to, items.count, &items.bytes);
+    write_two(store, widths, kind, page, &all)
+}
+
 /// Writes the items of a page with these in the place of those from one place up to another: on the page, or on one in its
 /// place, and on two where one has no room. Answers the items that lead there. The bytes of the page are changed for it.
 pub fn write_spliced<P: Pages>(
@@ -85,8 +121,7 @@ pub fn write_spliced<P: Pages>(
 {
     let total = from + items.count + (count_of(bytes) - to);
     if total * (widths.key + behind_of(widths, kind)) > ROOM {
-        let all = spliced(widths, kind, bytes, from, to, items.count, &items.bytes);
-        return write_two(store, widths, kind, page, &all);
+        return write_split(store, widths, kind, page, bytes, from, to, items);
     }
     let first = renewed(store, page)?;
     splice_in(widths, kind, bytes, from, to, items.count, &items.bytes);

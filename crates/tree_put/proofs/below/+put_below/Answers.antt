@@ -18,24 +18,23 @@ use Rattle.tree_put.proofs.below.+put_below.Goals as goal
 abbrev tops_in : Widths → FewItems → List Item
 tops_in w tops = listed w Inner tops.count tops.bytes.items
 
-pub returns-in-Err-clause-cause : goal.returns-in-Err-clause-cause
-returns-in-Err-clause-cause g t c =
-    not_there c.args.widths c.args.levels c.args.page (g.P.Pages.store c.args.store.now) (g.P.Pages.store c.copy_of.new.store) _ c.in-Err.ensures.cause
+pub returns-in_err-read_page-clause-cause : goal.returns-in_err-read_page-clause-cause
+returns-in_err-read_page-clause-cause g t c = passed_on _ c.from_residual.result _ c.from_residual.ensures (not_there c.args.widths c.args.levels c.args.page (g.P.Pages.store c.args.store.now) (g.P.Pages.store c.read_page.new.self) _ c.in_err-read_page.ensures.cause)
 
 pub returns-in_err-tops-in-Some-Inner-clause-works : goal.returns-in_err-tops-in-Some-Inner-clause-works
-returns-in_err-tops-in-Some-Inner-clause-works g t c = works_then c.in-Ok.ensures.works c.put_below.ensures.works
+returns-in_err-tops-in-Some-Inner-clause-works g t c = works_then c.in_ok-read_page.ensures.works c.put_below.ensures.works
 
 pub returns-in_err-tops-in-Some-Inner-clause-cause : goal.returns-in_err-tops-in-Some-Inner-clause-cause
 returns-in_err-tops-in-Some-Inner-clause-cause g t c =
     let store = g.P.Pages.store in
-    let read = c.in-Ok.ensures in
+    let read = c.in_ok-read_page.ensures in
     let item : Item = (c.item_at.result.0.now, c.item_at.result.1.now) in
-    passed_on _ c.from_residual.result _ c.from_residual.ensures
-    (child_fails c.args.widths c.args.levels c.args.page _ c.read_u32-child.result item (store c.args.store.now) (store c.copy_of.new.store) (store c.put_below.new.store) c.in-Ok.bytes _
-    c.read_u32-child.ensures read.works read.unchanged.marks (reads_unchanged _ _ read.unchanged) read.open read.bytes (subst (λ (k : Kind). IsPage c.args.widths k c.in-Ok.bytes) c.in-Some-Inner.field-0-is c.in-Some-Inner.ensures.some) c.item_at.ensures.got c.in_err-tops-in-Some-Inner.ensures.cause)
+    passed_on _ c.from_residual-in_err-tops-in-Some-Inner.result _ c.from_residual-in_err-tops-in-Some-Inner.ensures
+    (child_fails c.args.widths c.args.levels c.args.page _ c.read_u32-child.result item (store c.args.store.now) (store c.read_page.new.self) (store c.put_below.new.store) c.read_page.new.into _
+    c.read_u32-child.ensures read.works read.unchanged.marks (reads_unchanged _ _ read.unchanged) read.open read.bytes (subst (λ (k : Kind). IsPage c.args.widths k c.read_page.new.into) c.in-Some-Inner.field-0-is c.in-Some-Inner.ensures.some) c.item_at.ensures.got c.in_err-tops-in-Some-Inner.ensures.cause)
 
 pub returns-in-None-clause-cause : goal.returns-in-None-clause-cause
-returns-in-None-clause-cause g t c = no_kind c.args.widths c.args.levels c.args.page (g.P.Pages.store c.args.store.now) c.in-Ok.bytes c.in-Ok.ensures.bytes c.in-None.ensures.none
+returns-in-None-clause-cause g t c = no_kind c.args.widths c.args.levels c.args.page (g.P.Pages.store c.args.store.now) c.read_page.new.into c.in_ok-read_page.ensures.bytes c.in-None.ensures.none
 
 pub returns-in-Some-Leaf-clause-grown : goal.returns-in-Some-Leaf-clause-grown
 returns-in-Some-Leaf-clause-grown g t c honest d growing =
@@ -44,22 +43,22 @@ returns-in-Some-Leaf-clause-grown g t c honest d growing =
     let value = c.args.value.now in
     let q = c.args.page in
     let old = g.P.Pages.store c.args.store.now in
-    let mid = g.P.Pages.store c.copy_of.new.store in
+    let mid = g.P.Pages.store c.read_page.new.self in
     let new = g.P.Pages.store c.write_spliced.new.store in
-    let read = c.in-Ok.ensures in
-    let was = items_in w Leaf c.in-Ok.bytes in
+    let read = c.in_ok-read_page.ensures in
+    let was = items_in w Leaf c.read_page.new.into in
     let from = c.places_of-from.result.0 in
     let to = c.places_of-from.result.1 in
     let entry = c.new_entry-entry.result in
     let entries = take from was ++ (listed w Leaf entry.count entry.bytes.items ++ drop to was) in
-    let leaf = subst (λ (k : Kind). IsPage w k c.in-Ok.bytes) c.in-Some-Leaf.field-0-is c.in-Some-Leaf.ensures.some in
+    let leaf = subst (λ (k : Kind). IsPage w k c.read_page.new.into) c.in-Some-Leaf.field-0-is c.in-Some-Leaf.ensures.some in
     IfOk-weaker c.write_spliced.result (λ tops. AreWritten w Leaf q entries (tops_in w tops) mid new) (λ tops. IsGrown w key value d q (tops_in w tops) old new)
-    (λ tops written. put_in_leaf w key value q old mid c.in-Ok.bytes honest read.works read.unchanged.marks (reads_unchanged old mid read.unchanged honest) (read.bytes honest)
+    (λ tops written. put_in_leaf w key value q old mid c.read_page.new.into honest read.works read.unchanged.marks (reads_unchanged old mid read.unchanged honest) (read.bytes honest)
     d new entries (tops_in w tops) leaf (λ ascend. ap (λ (es : List Item). take from was ++ (es ++ drop to was)) c.new_entry-entry.ensures.listed ∙ c.places_of-from.ensures.put ascend value) growing written)
     c.write_spliced.ensures.written
 
 pub returns-in-Some-Leaf-clause-works : goal.returns-in-Some-Leaf-clause-works
-returns-in-Some-Leaf-clause-works g t c = works_then c.in-Ok.ensures.works c.write_spliced.ensures.works
+returns-in-Some-Leaf-clause-works g t c = works_then c.in_ok-read_page.ensures.works c.write_spliced.ensures.works
 
 pub returns-in_ok-tops-in-Some-Inner-clause-grown : goal.returns-in_ok-tops-in-Some-Inner-clause-grown
 returns-in_ok-tops-in-Some-Inner-clause-grown g t c honest d growing =
@@ -67,12 +66,12 @@ returns-in_ok-tops-in-Some-Inner-clause-grown g t c honest d growing =
     let key = c.args.key.now in
     let value = c.args.value.now in
     let q = c.args.page in
-    let page = c.in-Ok.bytes in
+    let page = c.read_page.new.into in
     let old = g.P.Pages.store c.args.store.now in
-    let mid = g.P.Pages.store c.copy_of.new.store in
+    let mid = g.P.Pages.store c.read_page.new.self in
     let below = g.P.Pages.store c.put_below.new.store in
     let new = g.P.Pages.store c.write_led.new.store in
-    let read = c.in-Ok.ensures in
+    let read = c.in_ok-read_page.ensures in
     let put = c.in_ok-tops-in-Some-Inner.ensures in
     let tops = tops_in w c.in_ok-tops-in-Some-Inner.tops in
     let i = c.saturating_sub-place.result in
@@ -92,4 +91,4 @@ returns-in_ok-tops-in-Some-Inner-clause-grown g t c honest d growing =
 
 pub returns-in_ok-tops-in-Some-Inner-clause-works : goal.returns-in_ok-tops-in-Some-Inner-clause-works
 returns-in_ok-tops-in-Some-Inner-clause-works g t c =
-    works_then (works_then c.in-Ok.ensures.works c.put_below.ensures.works) c.write_led.ensures.works
+    works_then (works_then c.in_ok-read_page.ensures.works c.put_below.ensures.works) c.write_led.ensures.works

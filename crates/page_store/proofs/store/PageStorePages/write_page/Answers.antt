@@ -31,9 +31,3 @@ invariant_of-self-clause-cached g c =
     added _ _ _ _ _ _ c.args.self.now.cached c.put-no_memory.ensures (was_honest c.put_page-written.ensures.time) refl
     (fresh_kept _ _ (not_system _ _ c.args.self.now.sound.system c.requires) c.requires) (λ h. sym (is_ok _ _ c.in-Ok.is (c.put_page-written.ensures.written h)))
     (reads_else _ _ _ c.put_page-written.ensures.kept)
-
-pub returns-then-has-clause-written : goal.returns-then-has-clause-written
-returns-then-has-clause-written g c = λ h. sym (c.args.self.now.cached.same _ _ (c.has.ensures c.if-has.true) h)
-
-pub returns-then-has-clause-works : goal.returns-then-has-clause-works
-returns-then-has-clause-works g c = works_refl _
