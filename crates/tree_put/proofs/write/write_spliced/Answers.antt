@@ -42,7 +42,7 @@ returns-clause-written g c =
     let key : List ℕ = take (4 + w.key - 4) (drop 4 now) in
     let amount : 4 + w.key - 4 ≡ w.key = omega arith in
     let top : Item = (key, big_bytes 4 q) in
-    let are : items_in w kind now ≡ list = c.splice_in.ensures.items ∙ ap (λ (bs : List ℕ). take c.args.from was ++ (items_of w.key (behind_of w kind) items.count bs ++ drop c.args.to was)) c.deref-2.ensures.0 in
+    let are : items_in w kind now ≡ list = c.splice_in.ensures.items ∙ ap (λ (bs : List ℕ). take c.args.from was ++ (items_of w.key (behind_of w kind) items.count bs ++ drop c.args.to was)) c.deref.ensures.0 in
     subst (λ (tops : List Item). AreWritten w kind c.args.page list tops old new)
     (sym (as_listed w.key c.no_few_items-tops.result.count c.lead_to.new.items.count c.no_few_items-tops.result.bytes.items c.lead_to.new.items.bytes.items key q c.no_few_items-tops.ensures.count c.lead_to.ensures.listed))
     (written_one w kind c.args.page old list q top (g.P.Pages.store c.renewed.new.store) new
