@@ -1,6 +1,7 @@
 //! Items as bytes: those of a page, and those that lead to one page or two.
 ghost use Rattle.std.specs.Prelude.{◌≡◌, ◌≤◌, ◌<◌, ◌+◌, ◌-◌, ◌*◌, ◌/◌, ◌↔◌, ◌++◌, ◌∷◌, [], List, ℕ};
 ghost use Rattle.std.specs.Prelude.{length, take, drop, slice_get, Some, IsTrue};
+ghost use Rattle.std.specs.List.{copy_within};
 ghost use Rattle.arrayvec.specs.ArrayVec.{array_vec_len};
 ghost use Rattle.byteorder.specs.Endian.{big_bytes};
 ghost use Rattle.tree_page.specs.declared.kind.Kind.TheVariants.{Leaf, Inner};
@@ -131,6 +132,19 @@ pub fn spliced(
     items
 }
 
+/// Moves what stands on a page from one place up to another, so that it begins at a third. What stands there already stays.
+fn move_within(page: &mut [u8; 4096], start: usize, end: usize, to: usize)
+    requires order { start ≤ end }
+    requires within { end ≤ 4096 }
+    requires room { to + (end - start) ≤ 4096 }
+    ensures { page.new ≡ copy_within page.old start end to }
+{
+    if start != to {
+        let was = *page;
+        page[to..to + (end - start)].copy_from_slice(&was[start..end]);
+    }
+}
+
 /// The same on the page itself, where it has room. What stands behind its items is moved along or stays.
 pub fn splice_in(
     widths: Widths,
@@ -157,7 +171,7 @@ pub fn splice_in(
     let all = count_of(page);
     let start = HEAD + from * width;
     let end = start + bytes.len();
-    page.copy_within(HEAD + to * width..HEAD + all * width, end);
+    move_within(page, HEAD + to * width, HEAD + all * width, end);
     page[start..end].copy_from_slice(bytes);
     set_count(page, from + count + (all - to));
 }

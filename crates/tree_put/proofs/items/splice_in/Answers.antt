@@ -9,8 +9,8 @@ returns-clause-page c =
     let page = c.requires.page in
     let count : count_in c.set_count.new.bytes ≡ c.args.from + c.args.count + (count_in c.args.page.now - c.args.to) = c.set_count.ensures.count ∙ ap (λ (n : ℕ). c.args.from + c.args.count + (n - c.args.to)) c.count_of-all.ensures in
     let same = head_stays w.key (behind_of w c.args.kind) c.behind_of.result c.args.from c.args.to (count_in c.args.page.now) c.args.count c.count_of-all.result
-    c.args.page.now c.copy_within.new.self c.copy_from_slice.new.self c.args.bytes.now _ c.behind_of.ensures page.long c.requires.order c.requires.within page.fits c.count_of-all.ensures c.requires.whole c.requires.room
-    c.copy_within.ensures.after c.copy_from_slice.ensures.after refl in
+    c.args.page.now c.move_within.new.page c.copy_from_slice.new.self c.args.bytes.now _ c.behind_of.ensures page.long c.requires.order c.requires.within page.fits c.count_of-all.ensures c.requires.whole c.requires.room
+    c.move_within.ensures c.copy_from_slice.ensures.after refl in
     record {
       long = c.set_count.array_long;
       first = c.set_count.ensures.first ∙ same 0 0 (omega arith) ∙ page.first;
@@ -24,5 +24,5 @@ returns-clause-items c =
     let w = c.args.widths in
     let page = c.requires.page in
     page_listed w.key (behind_of w c.args.kind) c.behind_of.result c.args.from c.args.to (count_in c.args.page.now) c.args.count c.count_of-all.result
-    c.args.page.now c.copy_within.new.self c.copy_from_slice.new.self c.args.bytes.now _ c.behind_of.ensures page.long c.requires.order c.requires.within page.fits c.count_of-all.ensures c.requires.whole c.requires.room
-    c.copy_within.ensures.after c.copy_from_slice.ensures.after refl _ _ c.set_count.ensures.items c.set_count.ensures.count
+    c.args.page.now c.move_within.new.page c.copy_from_slice.new.self c.args.bytes.now _ c.behind_of.ensures page.long c.requires.order c.requires.within page.fits c.count_of-all.ensures c.requires.whole c.requires.room
+    c.move_within.ensures c.copy_from_slice.ensures.after refl _ _ c.set_count.ensures.items c.set_count.ensures.count
