@@ -11,5 +11,5 @@ mod store;
 
 pub use fault::PageFault;
 pub use marks::Mark;
-pub use pages::{Pages, copy_of};
+pub use pages::Pages;
 pub use store::{MOST_CACHED, PageStore, Refused};

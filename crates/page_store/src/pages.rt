@@ -138,23 +138,3 @@ pub trait Pages {
     /// What is true of each store.
     ghost sound: { (s : Self) → IsSoundStore (store s) };
 }
-
-/// A copy of what was last written to the page. It is made from memory, if the page is there, and else `read_page` reads it.
-pub fn copy_of<P: Pages>(store: &mut P, page: u32) -> Result<[u8; 4096], PageFault>
-    ensures bytes { IsTrue (P.store store.old).disk.honest → IfOk result (λ bytes. bytes ≡ reads (P.store store.old) page) }
-    ensures is_page { OnOk result (1 ≤ page) }
-    ensures within { OnOk result (page < length (P.store store.old).marks) }
-    ensures open { OnOk result ((P.store store.new).closed ≡ false) }
-    ensures unchanged { IsUnchanged (P.store store.old) (P.store store.new) }
-    ensures untouched { IfErr result (λ fault. fault ≢ PageFault.Disk → P.store store.new ≡ P.store store.old) }
-    ensures cause { IfErr result (PageReadCause (P.store store.old) page (P.store store.new)) }
-    ensures works { StoreWorks (P.store store.old) (P.store store.new) }
-{
-    let _used = store.touch(page);
-    if let Some(bytes) = store.bytes_of(page) {
-        return Ok(*bytes);
-    }
-    let mut bytes = [0; 4096];
-    store.read_page(page, &mut bytes)?;
-    Ok(bytes)
-}
