@@ -149,10 +149,12 @@ class Project:
         return {here: names[there] for there, here in one.names if there in names}
 
     def declared(self, path: list[str], one: Import) -> dict[str, object]:
-        """Names of a type of the program, of its variants, or of a trait."""
+        """Names of a type of the program, of its variants, of its constants, or of a trait."""
         crate, module, name = path[1], path[4], path[5]
         if any(there == "Ghosts" for there, _ in one.names):
             return {here: Bounded((Trait(crate, module, name),)) for _, here in one.names}
+        if name == "TheConstants":
+            return {here: self.types[crate, module, there] for there, here in one.names if (crate, module, there) in self.types}
         made = self.types.get((crate, module, name))
         if made is None:
             return {}

@@ -1,7 +1,8 @@
-//! All calls of a solver, whatever its table is.
+//! All calls of a solver, whatever its table is. What holds a solver has the type of its file as a parameter, so that no proof looks
+//! into the file.
 
-use recover::{Solver, SolverFault, Units};
-use sector_disk::MemDisk;
+use game_file::GameFile;
+use recover::{FileSolver, SolverFault, Units};
 use std::alloc::Global;
 
 /// What came of a table.
@@ -16,27 +17,50 @@ pub enum Outcome {
 }
 
 /// Opens what this disk holds, makes all calls on it, and opens it again.
-pub fn ask_all(alloc: Global, disk: MemDisk) -> anyhow::Result<Outcome> {
-    let mut solver = match Solver::open(alloc, disk) {
-        Ok(solver) => solver,
-        Err(refused) => return Ok(outcome_of(refused.fault)),
-    };
+pub fn ask_all<F: GameFile>(alloc: Global, disk: F::Device) -> Outcome
+where
+    F::Device: Drop,
+{
+    match FileSolver::<F>::open(alloc, disk) {
+        Ok(mut solver) => {
+            let are_right = ask_numbers(&mut solver) && work(&mut solver);
+            let disk = solver.close();
+            if are_right && is_table::<F>(alloc, disk) {
+                Outcome::Opened
+            } else {
+                Outcome::Wrong
+            }
+        }
+        Err(refused) => outcome_of(refused.fault),
+    }
+}
+
+/// Whether the table of this disk is opened.
+fn is_table<F: GameFile>(alloc: Global, disk: F::Device) -> bool
+where
+    F::Device: Drop,
+{
+    match FileSolver::<F>::open(alloc, disk) {
+        Ok(solver) => {
+            let _ = solver.close();
+            true
+        }
+        Err(_) => false,
+    }
+}
+
+/// Asks about a few numbers. Answers whether each answer may be.
+fn ask_numbers<F: GameFile>(solver: &mut FileSolver<F>) -> bool {
     let known = match solver.status() {
         Some(counts) => counts.known,
         None => 0,
     };
     for number in [0, 1, known / 2, known.saturating_sub(1), known] {
-        if !ask_number(&mut solver, number) {
-            return Ok(Outcome::Wrong);
+        if !ask_number(solver, number) {
+            return false;
         }
     }
-    if !work(&mut solver) {
-        return Ok(Outcome::Wrong);
-    }
-    Ok(match Solver::open(alloc, solver.close()) {
-        Ok(_) => Outcome::Opened,
-        Err(_) => Outcome::Wrong,
-    })
+    true
 }
 
 /// What it means that a table was not opened.
@@ -56,7 +80,7 @@ fn may_be<T: Drop>(answer: Result<T, SolverFault>) -> bool {
 }
 
 /// Asks all questions about a number. Answers whether each answer may be.
-fn ask_number(solver: &mut Solver<MemDisk>, number: u32) -> bool {
+fn ask_number<F: GameFile>(solver: &mut FileSolver<F>, number: u32) -> bool {
     let Some(rows) = Units::new(7) else {
         return true;
     };
@@ -73,7 +97,7 @@ fn ask_number(solver: &mut Solver<MemDisk>, number: u32) -> bool {
 }
 
 /// Works a little. Answers whether each answer may be.
-fn work(solver: &mut Solver<MemDisk>) -> bool {
+fn work<F: GameFile>(solver: &mut FileSolver<F>) -> bool {
     for count in [1, 7, 256] {
         if let Some(units) = Units::new(count) {
             if !may_be(solver.work(units)) {

@@ -2,10 +2,11 @@
 
 use crate::asking::{Outcome, ask_all};
 use crate::tables::{cut, put_sector, sector, worked};
+use game_file::GameFile;
 use rand::{Rng, RngExt};
 use rand_pcg::Pcg32;
 use rbg_read::read::read_game;
-use recover::Solver;
+use recover::{FileSolver, SolverFault, TableFile};
 use sector_disk::{MemDisk, SectorDisk};
 use std::alloc::Global;
 
@@ -72,7 +73,7 @@ fn round_of(
     for _ in 0..16 {
         let changed = changed_file(alloc, random, &mut table)?;
         tally.files = tally.files.saturating_add(1);
-        match ask_all(alloc, changed)? {
+        match ask_all::<TableFile<MemDisk>>(alloc, changed) {
             Outcome::Wrong => return Ok(false),
             Outcome::Opened => tally.opened = tally.opened.saturating_add(1),
             Outcome::Refused => {}
@@ -139,9 +140,21 @@ fn changed_text(alloc: Global, random: &mut Pcg32, text: &[u8]) -> anyhow::Resul
 /// Whether the text reads to a game, and whether a solver loads it.
 fn read_and_loaded(alloc: Global, text: &[u8]) -> anyhow::Result<(bool, bool)> {
     let is_read = read_game(alloc, text).is_ok();
-    let mut solver = match Solver::create(alloc, MemDisk::new(alloc, 256)?) {
-        Ok(solver) => solver,
-        Err(refused) => return Err(refused.fault.into()),
-    };
-    Ok((is_read, solver.load(text).is_ok()))
+    let disk = MemDisk::new(alloc, 256)?;
+    Ok((is_read, is_loaded::<TableFile<MemDisk>>(alloc, disk, text)?))
+}
+
+/// Whether an empty table on this disk loads the text.
+fn is_loaded<F: GameFile>(alloc: Global, disk: F::Device, text: &[u8]) -> Result<bool, SolverFault>
+where
+    F::Device: Drop,
+{
+    match FileSolver::<F>::create(alloc, disk) {
+        Ok(mut solver) => {
+            let is_loaded = solver.load(text).is_ok();
+            let _ = solver.close();
+            Ok(is_loaded)
+        }
+        Err(refused) => Err(refused.fault),
+    }
 }

@@ -1,7 +1,8 @@
 //! Each call is made again where memory was refused.
 
+use game_file::GameFile;
 use rbg_read::fault::GameFault;
-use recover::{Solver, SolverFault, Units};
+use recover::{FileSolver, SolverFault, TableFile, Units};
 use retrograde::Counts;
 use sector_disk::{FileDisk, SectorDisk};
 use std::alloc::Global;
@@ -43,9 +44,61 @@ struct Standing {
 /// memory was refused. (Pages that are free may have been written.)
 pub fn ask_again(rt: &HostRuntime, alloc: Global, text: &[u8], name: &str) -> anyhow::Result<bool> {
     let mut seen = disk_of(rt, name)?;
-    let (mut solver, mut refusals) = opened(rt, alloc, name)?;
+    let disk = disk_of(rt, name)?;
+    ask_on::<TableFile<FileDisk>>(rt, alloc, disk, &mut seen, text)
+}
+
+/// The same of the table on this disk. The table is opened again where memory was refused.
+fn ask_on<F: GameFile>(
+    rt: &HostRuntime,
+    alloc: Global,
+    disk: F::Device,
+    seen: &mut FileDisk,
+    text: &[u8],
+) -> anyhow::Result<bool>
+where
+    F::Device: Drop,
+{
+    match FileSolver::<F>::open(alloc, disk) {
+        Ok(solver) => ask_steps(rt, solver, seen, text, 0),
+        Err(refused) if is_want(refused.fault) => {
+            match FileSolver::<F>::open(alloc, refused.disk) {
+                Ok(solver) => ask_steps(rt, solver, seen, text, 1),
+                Err(refused) => Err(refused.fault.into()),
+            }
+        }
+        Err(refused) => Err(refused.fault.into()),
+    }
+}
+
+/// Makes all calls, where memory was refused so often before, and closes the table.
+fn ask_steps<F: GameFile>(
+    rt: &HostRuntime,
+    solver: FileSolver<F>,
+    seen: &mut FileDisk,
+    text: &[u8],
+    refusals: u64,
+) -> anyhow::Result<bool>
+where
+    F::Device: Drop,
+{
+    let mut solver = solver;
+    let asked = steps_asked(rt, &mut solver, seen, text, refusals);
+    let _ = solver.close();
+    asked
+}
+
+/// Makes all calls. Prints how often memory was refused, which it was so often before.
+fn steps_asked<F: GameFile>(
+    rt: &HostRuntime,
+    solver: &mut FileSolver<F>,
+    seen: &mut FileDisk,
+    text: &[u8],
+    refusals: u64,
+) -> anyhow::Result<bool> {
+    let mut refusals = refusals;
     for step in STEPS {
-        match refusals_of(rt, &mut solver, &mut seen, text, step)? {
+        match refusals_of(rt, solver, seen, text, step)? {
             Some(more) => refusals = refusals.saturating_add(more),
             None => return Ok(false),
         }
@@ -54,27 +107,10 @@ pub fn ask_again(rt: &HostRuntime, alloc: Global, text: &[u8], name: &str) -> an
     Ok(true)
 }
 
-/// The table of this file, opened again where memory was refused, and how often it was.
-fn opened(rt: &HostRuntime, alloc: Global, name: &str) -> anyhow::Result<(Solver<FileDisk>, u64)> {
-    match Solver::open(alloc, disk_of(rt, name)?) {
-        Ok(solver) => Ok((solver, 0)),
-        Err(refused) if is_want(refused.fault) => opened_again(alloc, refused.disk),
-        Err(refused) => Err(refused.fault.into()),
-    }
-}
-
-/// The table of this disk, once memory was refused.
-fn opened_again(alloc: Global, disk: FileDisk) -> anyhow::Result<(Solver<FileDisk>, u64)> {
-    match Solver::open(alloc, disk) {
-        Ok(solver) => Ok((solver, 1)),
-        Err(refused) => Err(refused.fault.into()),
-    }
-}
-
 /// How often memory was refused in a call, which is made again then; `None` if anything else was refused, or a refusal changed the table.
-fn refusals_of(
+fn refusals_of<F: GameFile>(
     rt: &HostRuntime,
-    solver: &mut Solver<FileDisk>,
+    solver: &mut FileSolver<F>,
     seen: &mut FileDisk,
     text: &[u8],
     step: Step,
@@ -94,7 +130,10 @@ fn refusals_of(
 }
 
 /// How the table stands.
-fn how_it_stands(solver: &Solver<FileDisk>, seen: &mut FileDisk) -> anyhow::Result<Standing> {
+fn how_it_stands<F: GameFile>(
+    solver: &FileSolver<F>,
+    seen: &mut FileDisk,
+) -> anyhow::Result<Standing> {
     Ok(Standing {
         root: sum_of(seen)?,
         counts: solver.status(),
@@ -140,9 +179,9 @@ fn added(sum: u64, bytes: &[u8; 512]) -> u64 {
 }
 
 /// Makes a call, and prints its answer if it is none of the refusals.
-fn answer_to(
+fn answer_to<F: GameFile>(
     rt: &HostRuntime,
-    solver: &mut Solver<FileDisk>,
+    solver: &mut FileSolver<F>,
     text: &[u8],
     step: Step,
 ) -> Result<(), SolverFault> {

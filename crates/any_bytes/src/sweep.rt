@@ -2,6 +2,7 @@
 
 use crate::asking::{Outcome, ask_all};
 use crate::tables::{put_sector, sector, worked};
+use recover::TableFile;
 use sector_disk::{MemDisk, SectorDisk};
 use std::alloc::Global;
 
@@ -17,7 +18,7 @@ pub fn sweep(rt: &HostRuntime, alloc: Global, take: &[u8]) -> anyhow::Result<boo
         for byte in 0..512 {
             for change in [1, 0x80, 0xff] {
                 let changed = with_change(alloc, &mut table, at, byte, change)?;
-                if ask_all(alloc, changed)? == Outcome::Wrong {
+                if ask_all::<TableFile<MemDisk>>(alloc, changed) == Outcome::Wrong {
                     println!(rt; "sector {at} byte {byte} by {change}: WRONG")?;
                     return Ok(false);
                 }

@@ -1,22 +1,49 @@
 //! Tables on disks in memory.
 
-use recover::{Solver, Units};
+use game_file::GameFile;
+use recover::{FileSolver, SolverFault, TableFile, Units};
 use sector_disk::{MemDisk, SectorDisk};
 use std::alloc::Global;
 
 /// A disk of so many sectors with the table of this game, so many times 256 units of it worked, or as many as there are.
 pub fn worked(alloc: Global, text: &[u8], sectors: u64, times: u64) -> anyhow::Result<MemDisk> {
-    let mut solver = match Solver::create(alloc, MemDisk::new(alloc, sectors)?) {
-        Ok(solver) => solver,
-        Err(refused) => return Err(refused.fault.into()),
-    };
+    Ok(worked_on::<TableFile<MemDisk>>(alloc, MemDisk::new(alloc, sectors)?, text, times)?)
+}
+
+/// The same on this disk.
+fn worked_on<F: GameFile>(
+    alloc: Global,
+    disk: F::Device,
+    text: &[u8],
+    times: u64,
+) -> Result<F::Device, SolverFault>
+where
+    F::Device: Drop,
+{
+    match FileSolver::<F>::create(alloc, disk) {
+        Ok(mut solver) => {
+            let done = load_and_work(&mut solver, text, times);
+            let disk = solver.close();
+            done?;
+            Ok(disk)
+        }
+        Err(refused) => Err(refused.fault),
+    }
+}
+
+/// Loads a game, and works so many times 256 units of it.
+fn load_and_work<F: GameFile>(
+    solver: &mut FileSolver<F>,
+    text: &[u8],
+    times: u64,
+) -> Result<(), SolverFault> {
     solver.load(text)?;
     for _ in 0..times {
         if let Some(units) = Units::new(256) {
             solver.work(units)?;
         }
     }
-    Ok(solver.close())
+    Ok(())
 }
 
 /// The bytes of a sector; zeros where there is none.

@@ -12,7 +12,7 @@ use Rattle.retrograde.proofs.Adding.{none_in_empty, is_first}
 use Rattle.audit.specs.declared.verdict.Reason.{Reason as Answer}
 use Rattle.audit.specs.declared.verdict.Reason.TheVariants as answer
 use Rattle.audit.specs.aid.Conditions.{IsLowest, own_condition, order_condition, waiting_condition, value_condition, AreItsRecords}
-use Rattle.audit.specs.aid.Records.{HasThis, IsDue, one_more}
+use Rattle.audit.specs.aid.Records.{HasThis, IsDueByRecords, one_more}
 use Rattle.audit.proofs.MoveValueLemmas.{value_from_due, one_value, record_in, record_for}
 
 module _ {P : Type 0} (graph : Graph P) (stored : Stored P) (i : ℕ) (x : P) where
@@ -273,7 +273,7 @@ module _ {P : Type 0} (graph : Graph P) (stored : Stored P) (i : ℕ) (x : P) (t
           let (y, j, move, _, _) = record_in graph stored table i x records it q (subst (λ (us : List Record). Contains us q) (sym is) (is_first q rs)) in
           (y, move)
 
-  module _ (some : records ≡ [] → ⊥) (due : Option (Player × ℕ)) (is_due : IsDue (graph.mover x) records due) where
+  module _ (some : records ≡ [] → ⊥) (due : Option (Player × ℕ)) (is_due : IsDueByRecords (graph.mover x) records due) where
     move_value : IsMoveValue graph (view_of stored) x (option_map one_more due)
     move_value = value_from_due graph stored table i x records it (has_move some) due is_due
 

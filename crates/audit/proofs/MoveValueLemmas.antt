@@ -17,7 +17,7 @@ use Rattle.retrograde.proofs.Adding.{is_first, is_later, first_or_later, only_fi
 use Rattle.retrograde.proofs.Listing.{number_in, position_in, as_many}
 use Rattle.retrograde.proofs.Tables.{processed_valued}
 use Rattle.audit.specs.aid.Conditions.{AreItsRecords}
-use Rattle.audit.specs.aid.Records.{told, HasNone, IsDue, one_more}
+use Rattle.audit.specs.aid.Records.{told, HasNone, IsDueByRecords, one_more}
 
 zip_left : {A B : Type 0} (R : A → B → Type 0) (xs : List A) (ys : List B) → AllZip R xs ys → (x : A) → Contains xs x → (y : B) × Contains ys y × R x y
 zip_left R [] ys zip x here = absurd (none_in_empty x here)
@@ -128,7 +128,7 @@ module _ {P : Type 0} (graph : Graph P) (stored : Stored P) (table : IsTable sto
           let e : ◌≡◌ {A = Player × ℕ} (v, m) (w, n) = same_Some (v, m) (w, n) (sym v_is ∙ (ap (λ (q : Record). told q) same ∙ w_is)) in
           ap (λ (q : Player × ℕ). q.0) e
 
-  pub value_from_due : HasMove graph x → (due : Option (Player × ℕ)) → IsDue (graph.mover x) records due → IsMoveValue graph view x (option_map one_more due)
+  pub value_from_due : HasMove graph x → (due : Option (Player × ℕ)) → IsDueByRecords (graph.mover x) records due → IsMoveValue graph view x (option_map one_more due)
   value_from_due (y, move) None (none, inl empty) =
       let (r, j, here, at, has) = record_for y move in
       absurd (none_in_empty r (subst (λ (rs : List Record). Contains rs r) empty here))

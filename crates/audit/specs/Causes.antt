@@ -14,10 +14,10 @@ search_fault search.TooWide = TooWide
 search_fault search.OutOfMemory = OutOfMemory
 
 -- where the fault is the table's, this is said of it
-abbrev pub OfTable : (TableFault → Type 0) → AuditFault → Type 0
-OfTable fails TooWide = Unit {0}
-OfTable fails OutOfMemory = Unit {0}
-OfTable fails (Table fault) = fails fault
+abbrev pub OfTableFault : (TableFault → Type 0) → AuditFault → Type 0
+OfTableFault fails TooWide = Unit {0}
+OfTableFault fails OutOfMemory = Unit {0}
+OfTableFault fails (Table fault) = fails fault
 
 -- some expanded position is too wide
 abbrev pub HasWide : {P : Type 0} → (P → Type 0) → Stored P → Type 0

@@ -8,7 +8,7 @@ ghost use Rattle.retrograde.specs.Stored.{HasRecord, IsTable, view_of, is_proces
 ghost use Rattle.retrograde.specs.Audit.{HasItsMoves};
 ghost use Rattle.table.specs.Memory.{bytes_of_each};
 ghost use Rattle.table.specs.Faults.{NeedsNoPage};
-ghost use Rattle.audit.specs.Causes.{OfTable};
+ghost use Rattle.audit.specs.Causes.{OfTableFault};
 ghost use Rattle.audit.specs.aid.Conditions.{AreItsRecords};
 ghost use Rattle.audit.specs.declared.fault.AuditFault.TheVariants.{TooWide};
 
@@ -37,8 +37,8 @@ fn numbers_of<T: Table>(
     ensures honest { T.is_honest table.old ↔ T.is_honest table.new }
     ensures counts { T.counted table.new ≡ T.counted table.old }
     ensures stays { T.stays table.old table.new }
-    ensures room { IfErr result (OfTable NeedsNoPage) }
-    ensures fault { IfErr result (OfTable (T.fails table.old table.new)) }
+    ensures room { IfErr result (OfTableFault NeedsNoPage) }
+    ensures fault { IfErr result (OfTableFault (T.fails table.old table.new)) }
 {
     let mut numbers = Vec::new(alloc);
     for position in positions {
@@ -82,8 +82,8 @@ fn records_of<T: Table>(
     ensures honest { T.is_honest table.old ↔ T.is_honest table.new }
     ensures counts { T.counted table.new ≡ T.counted table.old }
     ensures stays { T.stays table.old table.new }
-    ensures room { IfErr result (OfTable NeedsNoPage) }
-    ensures fault { IfErr result (OfTable (T.fails table.old table.new)) }
+    ensures room { IfErr result (OfTableFault NeedsNoPage) }
+    ensures fault { IfErr result (OfTableFault (T.fails table.old table.new)) }
 {
     let mut records = Vec::new(alloc);
     for number in numbers {
@@ -129,8 +129,8 @@ pub fn successors_of<M: MoveSource, T: Table>(
     ensures honest { T.is_honest table.old ↔ T.is_honest table.new }
     ensures counts { T.counted table.new ≡ T.counted table.old }
     ensures stays { T.stays table.old table.new }
-    ensures room { IfErr result (OfTable NeedsNoPage) }
-    ensures fault { IfErr result (OfTable (T.fails table.old table.new)) }
+    ensures room { IfErr result (OfTableFault NeedsNoPage) }
+    ensures fault { IfErr result (OfTableFault (T.fails table.old table.new)) }
 {
     let found = source.successors(alloc, at)?;
     let Some(numbers) = numbers_of(alloc, table, &found)? else {

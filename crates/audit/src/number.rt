@@ -5,7 +5,7 @@ ghost use Rattle.retrograde.specs.Stored.{HasRecord, IsTable, view_of, expanded_
 ghost use Rattle.retrograde.specs.Audit.{IsReached};
 ghost use Rattle.retrograde.specs.Verdicts.{condition_of};
 ghost use Rattle.table.specs.Faults.{NeedsNoPage};
-ghost use Rattle.audit.specs.Causes.{OfTable, HasWide};
+ghost use Rattle.audit.specs.Causes.{OfTableFault, HasWide};
 ghost use Rattle.audit.specs.aid.Conditions.{IsLowest, own_condition, IsFloor};
 ghost use Rattle.audit.specs.declared.verdict.Reason.TheVariants.{A1, A2};
 ghost use Rattle.audit.specs.declared.fault.AuditFault.TheVariants.{TooWide};
@@ -71,8 +71,8 @@ fn later_failing<M: MoveSource, T: Table>(
     ensures honest { T.is_honest table.old ↔ T.is_honest table.new }
     ensures counts { T.counted table.new ≡ T.counted table.old }
     ensures stays { T.stays table.old table.new }
-    ensures room { IfErr result (OfTable NeedsNoPage) }
-    ensures fault { IfErr result (OfTable (T.fails table.old table.new)) }
+    ensures room { IfErr result (OfTableFault NeedsNoPage) }
+    ensures fault { IfErr result (OfTableFault (T.fails table.old table.new)) }
 {
     let counts = table.counts();
     if number >= counts.expanded {
@@ -107,8 +107,8 @@ pub fn own_failing<M: MoveSource, T: Table>(
     ensures honest { T.is_honest table.old ↔ T.is_honest table.new }
     ensures counts { T.counted table.new ≡ T.counted table.old }
     ensures stays { T.stays table.old table.new }
-    ensures room { IfErr result (OfTable NeedsNoPage) }
-    ensures fault { IfErr result (OfTable (T.fails table.old table.new)) }
+    ensures room { IfErr result (OfTableFault NeedsNoPage) }
+    ensures fault { IfErr result (OfTableFault (T.fails table.old table.new)) }
 {
     let at = table.packed(number)?;
     let kept = table.record(number)?;
@@ -147,8 +147,8 @@ pub fn failing<M: MoveSource, T: Table>(
     ensures honest { T.is_honest table.old ↔ T.is_honest table.new }
     ensures counts { T.counted table.new ≡ T.counted table.old }
     ensures stays { T.stays table.old table.new }
-    ensures room { IfErr result (OfTable NeedsNoPage) }
-    ensures fault { IfErr result (OfTable (T.fails table.old table.new)) }
+    ensures room { IfErr result (OfTableFault NeedsNoPage) }
+    ensures fault { IfErr result (OfTableFault (T.fails table.old table.new)) }
 {
     let own = own_failing(alloc, source, table, number, floor)?;
     if is_lower(own) {

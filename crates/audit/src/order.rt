@@ -2,7 +2,7 @@
 ghost use Rattle.std.specs.Prelude.{◌≡◌, ◌↔◌, ◌<◌, ℕ, Some, IfOk, OnOk, IfErr, length, slice_get, slice_set};
 ghost use Rattle.retrograde.specs.Stored.{IsTable};
 ghost use Rattle.table.specs.Faults.{NeedsNoPage};
-ghost use Rattle.audit.specs.Causes.{OfTable};
+ghost use Rattle.audit.specs.Causes.{OfTableFault};
 ghost use Rattle.audit.specs.aid.Conditions.{AreFloors, distance_at};
 ghost use Rattle.audit.specs.declared.fault.AuditFault.TheVariants.{TooWide};
 
@@ -50,8 +50,8 @@ pub fn floors<T: Table>(alloc: Global, table: &mut T) -> Result<Vec<u32>, AuditF
     ensures honest { T.is_honest table.old ↔ T.is_honest table.new }
     ensures counts { T.counted table.new ≡ T.counted table.old }
     ensures stays { T.stays table.old table.new }
-    ensures room { IfErr result (OfTable NeedsNoPage) }
-    ensures fault { IfErr result (OfTable (T.fails table.old table.new)) }
+    ensures room { IfErr result (OfTableFault NeedsNoPage) }
+    ensures fault { IfErr result (OfTableFault (T.fails table.old table.new)) }
 {
     let counts = table.counts();
     let mut floors = vec![in alloc; 0; counts.known as usize]?;

@@ -4,7 +4,7 @@ ghost use Rattle.retrograde.specs.View.{HasNumber};
 ghost use Rattle.retrograde.specs.Stored.{IsTable, view_of, expanded_count, count_below};
 ghost use Rattle.table.specs.Faults.{NeedsNoPage};
 ghost use Rattle.audit.specs.Answers.{IsAnswer};
-ghost use Rattle.audit.specs.Causes.{OfTable, HasWide};
+ghost use Rattle.audit.specs.Causes.{OfTableFault, HasWide};
 ghost use Rattle.audit.specs.aid.Conditions.{IsLowest, own_condition, IsFloor, AreFloors, successors_in};
 ghost use Rattle.audit.specs.declared.verdict.Verdict.TheVariants.{Right};
 ghost use Rattle.audit.specs.declared.fault.AuditFault.TheVariants.{TooWide};
@@ -47,8 +47,8 @@ fn tally_of<M: MoveSource, T: Table>(
     ensures honest { T.is_honest table.old ↔ T.is_honest table.new }
     ensures counts { T.counted table.new ≡ T.counted table.old }
     ensures stays { T.stays table.old table.new }
-    ensures room { IfErr result (OfTable NeedsNoPage) }
-    ensures fault { IfErr result (OfTable (T.fails table.old table.new)) }
+    ensures room { IfErr result (OfTableFault NeedsNoPage) }
+    ensures fault { IfErr result (OfTableFault (T.fails table.old table.new)) }
 {
     if own_failing(alloc, source, table, number, floor)?.is_some() {
         return Ok(None);
@@ -76,8 +76,8 @@ pub fn adds_up<M: MoveSource, T: Table>(
     ensures honest { T.is_honest table.old ↔ T.is_honest table.new }
     ensures counts { T.counted table.new ≡ T.counted table.old }
     ensures stays { T.stays table.old table.new }
-    ensures room { IfErr result (OfTable NeedsNoPage) }
-    ensures fault { IfErr result (OfTable (T.fails table.old table.new)) }
+    ensures room { IfErr result (OfTableFault NeedsNoPage) }
+    ensures fault { IfErr result (OfTableFault (T.fails table.old table.new)) }
 {
     let mut moves: u64 = 0;
     let mut edges: u64 = 0;

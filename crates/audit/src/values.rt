@@ -5,7 +5,7 @@ ghost use Rattle.retrograde.specs.Local.{end_value};
 ghost use Rattle.retrograde.specs.Stored.{Stored, HasRecord, IsTable, expanded_count, value_of};
 ghost use Rattle.retrograde.specs.Changes.{counts_of};
 ghost use Rattle.audit.specs.aid.Conditions.{IsLowest, order_condition, waiting_condition, value_condition, IsFloor, AreItsRecords};
-ghost use Rattle.audit.specs.aid.Records.{told, IsNearest, IsFarthest, IsDue, HasThis};
+ghost use Rattle.audit.specs.aid.Records.{told, IsNearest, IsFarthest, IsDueByRecords, HasThis};
 
 use crate::verdict::Reason;
 use legal_moves::MoveSource;
@@ -91,7 +91,7 @@ fn farthest(records: &[Record]) -> Option<Won>
 
 /// What the successors say of a position: who wins it, and at which distance the one is that it rests on.
 fn due(mover: Role, records: &[Record]) -> Option<Won>
-    ensures { IsDue mover records.now result }
+    ensures { IsDueByRecords mover records.now result }
 {
     if let Role::Player(player) = mover
         && let Some(distance) = nearest(records, player)

@@ -5,7 +5,7 @@ ghost use Rattle.retrograde.specs.Stored.{IsTable, view_of};
 ghost use Rattle.retrograde.specs.Sound.{IsLocallySound};
 ghost use Rattle.table.specs.Faults.{NeedsNoPage};
 ghost use Rattle.audit.specs.Answers.{IsAnswer, IsSo};
-ghost use Rattle.audit.specs.Causes.{OfTable, HasWide};
+ghost use Rattle.audit.specs.Causes.{OfTableFault, HasWide};
 ghost use Rattle.audit.specs.aid.Conditions.{AreFloors};
 ghost use Rattle.audit.specs.declared.verdict.Verdict.TheVariants.{Right};
 ghost use Rattle.audit.specs.declared.fault.AuditFault.TheVariants.{TooWide};
@@ -36,8 +36,8 @@ fn first_wrong<M: MoveSource, T: Table>(
     ensures honest { T.is_honest table.old ↔ T.is_honest table.new }
     ensures counts { T.counted table.new ≡ T.counted table.old }
     ensures stays { T.stays table.old table.new }
-    ensures room { IfErr result (OfTable NeedsNoPage) }
-    ensures fault { IfErr result (OfTable (T.fails table.old table.new)) }
+    ensures room { IfErr result (OfTableFault NeedsNoPage) }
+    ensures fault { IfErr result (OfTableFault (T.fails table.old table.new)) }
 {
     for number in 0..table.counts().known {
         let floor = floors[number as usize];
@@ -70,8 +70,8 @@ pub fn audit<M: MoveSource, T: Table>(
     ensures honest { T.is_honest table.old ↔ T.is_honest table.new }
     ensures counts { T.counted table.new ≡ T.counted table.old }
     ensures stays { T.stays table.old table.new }
-    ensures room { IfErr result (OfTable NeedsNoPage) }
-    ensures fault { IfErr result (OfTable (T.fails table.old table.new)) }
+    ensures room { IfErr result (OfTableFault NeedsNoPage) }
+    ensures fault { IfErr result (OfTableFault (T.fails table.old table.new)) }
 {
     let floors = floors(alloc, table)?;
     if adds_up(alloc, source, table, &floors)? {

@@ -15,7 +15,7 @@ use Rattle.flat_table.specs.Slot.{commits_in}
 use Rattle.game_file.specs.declared.fault.FileFault.{FileFault}
 use Rattle.game_file.specs.declared.fault.FileFault.TheVariants.{Disk, NotATable, AlreadyATable, Damaged, OldLayout, TooSmall, TableFull, OutOfMemory, Closed, Inconsistent}
 use Rattle.flat_table.specs.declared.game.Game.{Game}
-use Rattle.flat_table.specs.File.{File, IsFile, AreGames, kept_in, kept_of}
+use Rattle.flat_table.specs.File.{FlatFile, IsFile, AreGames, kept_in, kept_of}
 use Rattle.flat_table.specs.Held.{Stores}
 use Rattle.flat_table.specs.Calls.{state_of}
 use Rattle.flat_table.specs.aid.Calls.{IsPutInFile, IsNotPutInFile}
@@ -44,7 +44,7 @@ abbrev with_kept : Store → Option Kept → State
 with_kept s k = record { disk = s.disk; failures = s.failures; capacity = length s.marks; closed = s.closed; commits = commits_in s.root; kept = k }
 
 -- a file that was not written is in the same state
-same_state : (was mid : File) → IsUnwrittenFile was mid → state_of mid ≡ state_of was
+same_state : (was mid : FlatFile) → IsUnwrittenFile was mid → state_of mid ≡ state_of was
 same_state was mid same =
     ap (λ (s : Store). with_kept s (kept_of mid.game)) same.store ∙ ap (λ (k : Option Kept). with_kept was.store k) same.kept
 
@@ -54,7 +54,7 @@ its_game None kept none = absurd (cc)
 its_game (Some was) kept some = (was, refl, same_Some (kept_in was) kept some)
 
 -- the file was only worked on since it was whole
-module _ (was mid new : File) (kept : Kept) (now : Stored (List ℕ)) (whole : IsFile was) (is : kept_of was.game ≡ Some kept) (same : IsUnwrittenFile was mid) where
+module _ (was mid new : FlatFile) (kept : Kept) (now : Stored (List ℕ)) (whole : IsFile was) (is : kept_of was.game ≡ Some kept) (same : IsUnwrittenFile was mid) where
   -- the draft is put in the place of what was kept
   pub committed : {X E None_left : Type 0} (r : Result X E) → None_left → OnOk r (commits_in new.store.root ≡ count_behind (commits_in mid.store.root))
       → ((g : Game) → mid.game ≡ Some g → IsFile mid → OnOk r (IsPutInFile (kept_as g.text.items g.packing now) mid new))
@@ -120,7 +120,7 @@ module _ (was mid new : File) (kept : Kept) (now : Stored (List ℕ)) (whole : I
       (why g has it)
 
 -- nothing is put where a draft could not be made
-pub not_begun : {X E None_left : Type 0} (r : Result X E) (was mid : File) (kept : Kept) (now : Stored (List ℕ)) → IsFile was → IsUnwrittenFile was mid → None_left
+pub not_begun : {X E None_left : Type 0} (r : Result X E) (was mid : FlatFile) (kept : Kept) (now : Stored (List ℕ)) → IsFile was → IsUnwrittenFile was mid → None_left
     → OnErr r ((IsFile mid × None_left) × IsNotPut Stores (kept_as kept.text kept.packing now) (state_of was) (state_of mid))
 not_begun r was mid kept now whole same none =
     let it = same.stands whole in
@@ -128,7 +128,7 @@ not_begun r was mid kept now whole same none =
     ((it, none), subst (λ (s : State). IsNotPut Stores (kept_as kept.text kept.packing now) s (state_of mid)) (same_state was mid same) (not_put_whole _ mid mid refl (nothing_put _ mid it)))
 
 -- a first table is not loaded
-pub load_cause : (text : List ℕ) (kind : PackingKind) (start : List ℕ) (old new : File) → IsFile old → kept_of old.game ≡ None → old.store.closed ≡ false → (fault : FileFault)
+pub load_cause : (text : List ℕ) (kind : PackingKind) (start : List ℕ) (old new : FlatFile) → IsFile old → kept_of old.game ≡ None → old.store.closed ≡ false → (fault : FileFault)
     → PutCause (kept_as text kind (loaded start)) (length start) old.store new.store fault → FileLoadCause start (state_of old) (state_of new) fault
 load_cause text kind start old new it none is_open Disk cause = cause
 load_cause text kind start old new it none is_open NotATable cause = cause

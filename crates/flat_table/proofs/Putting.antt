@@ -4,7 +4,7 @@ use Rattle.sector_disk.specs.aid.Moments.{leaves_now}
 use Rattle.page_store.specs.Store.{Store, IsSoundStore}
 use Rattle.flat_table.specs.declared.game.Game.{Game}
 use Rattle.flat_table.specs.Held.{Stores}
-use Rattle.flat_table.specs.File.{File, IsFile, IsGame, IsBacked, kept_in, kept_of, pages_of}
+use Rattle.flat_table.specs.File.{FlatFile, IsFile, IsGame, IsBacked, kept_in, kept_of, pages_of}
 use Rattle.game_file.specs.Kept.{Kept}
 use Rattle.flat_table.specs.aid.StoredLaws.{a_file_is_kept}
 use Rattle.game_file.specs.Calls.{IsPut, IsNotPut}
@@ -16,7 +16,7 @@ use Rattle.flat_table.specs.Calls.{file_of, state_of}
 use Rattle.flat_table.specs.aid.Calls.{IsPutInFile, IsNotPutInFile}
 
 -- before anything is done what was kept still is
-pub nothing_put : (is : Kept) (file : File) → IsFile file → IsNotPutInFile is file file
+pub nothing_put : (is : Kept) (file : FlatFile) → IsFile file → IsNotPutInFile is file file
 nothing_put is file it = record {
   stands = it;
   game = refl;
@@ -53,7 +53,7 @@ put_in_place is old new game now sound same fits backed is_open either = record 
 }
 
 -- a text and a table that were put are put as a file of any layout does
-pub put_whole : (is : Kept) (old new : File) → commits_in new.store.root ≡ count_behind (commits_in old.store.root) → IsPutInFile is old new
+pub put_whole : (is : Kept) (old new : FlatFile) → commits_in new.store.root ≡ count_behind (commits_in old.store.root) → IsPutInFile is old new
     → IsPut Stores is (state_of old) (state_of new)
 put_whole is old new commits put = record {
   commits = commits;
@@ -64,7 +64,7 @@ put_whole is old new commits put = record {
   leaves = put.leaves;
 }
 
-pub not_put_whole : (is : Kept) (old new : File) → new.store.root ≡ old.store.root → IsNotPutInFile is old new → IsNotPut Stores is (state_of old) (state_of new)
+pub not_put_whole : (is : Kept) (old new : FlatFile) → new.store.root ≡ old.store.root → IsNotPutInFile is old new → IsNotPut Stores is (state_of old) (state_of new)
 not_put_whole is old new root left = record {
   commits = ap commits_in root;
   text = ap (λ (game : Option Game). text_kept (kept_of game)) left.game;

@@ -12,11 +12,11 @@ use Rattle.page_store.specs.Page.{page}
 use Rattle.page_store.specs.Spelling.{SpelledBy, Stands}
 use Rattle.page_store.specs.Store.{Store, IsSoundStore, IsRemarked}
 use Rattle.page_store.specs.aid.Works.{works_refl}
-use Rattle.page_chain.specs.aid.Links.{OnlyMarks}
+use Rattle.page_store.specs.aid.Marking.{OnlyMarks}
 use Rattle.flat_table.specs.File.{IsBacked}
 use Rattle.game_file.specs.Kept.{Kept}
 use Rattle.flat_table.specs.Held.{KeepsTable}
-use Rattle.flat_table.specs.ReadCauses.{AllWait}
+use Rattle.page_store.specs.Pages.{AllWait}
 use Rattle.flat_table.specs.aid.Reading.{IsRead}
 
 -- a stop before the first call leaves what it may leave

@@ -4,14 +4,14 @@ use Rattle.page_store.specs.Store.{Store}
 use Rattle.flat_table.specs.Slot.{commits_in}
 use Rattle.game_file.specs.State.{State}
 use Rattle.flat_table.specs.declared.game.Game.{Game}
-use Rattle.flat_table.specs.File.{File, kept_of}
+use Rattle.flat_table.specs.File.{FlatFile, kept_of}
 
 -- the file with these pages and this game
-abbrev pub file_of : Store → Option Game → File
+abbrev pub file_of : Store → Option Game → FlatFile
 file_of s g = record { store = s; game = g }
 
 -- what is stated of such a file
-abbrev pub state_of : File → State
+abbrev pub state_of : FlatFile → State
 state_of file = record {
   disk = file.store.disk;
   failures = file.store.failures;

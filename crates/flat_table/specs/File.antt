@@ -11,7 +11,7 @@ use Rattle.flat_table.specs.Held.{KeepsTable}
 use Rattle.game_file.specs.Kept.{Kept}
 
 -- a table's file: its pages, and in memory the game of the last commit, if one is loaded
-pub record File : Type 0 where
+pub record FlatFile : Type 0 where
   pub store : Store
   pub game : Option Game
 
@@ -51,7 +51,7 @@ pub record IsBacked (store : Store) (pages : List ℕ) (kept : Option Kept) : Ty
       → Stands (λ p. Contains pages p) (KeepsTable store.root (length store.marks) kept) store
 
 -- the file as it is between commands
-pub record IsFile (file : File) : Type 0 where
+pub record IsFile (file : FlatFile) : Type 0 where
   pub sound : IsSoundStore file.store
   pub games : AreGames file.game
   pub backed : IsBacked file.store (pages_of file.game) (kept_of file.game)

@@ -2,10 +2,10 @@
 use Rattle.sector_disk.specs.declared.disk.SectorDisk.{Ghosts as OfDisk}
 use Rattle.page_store.specs.InStore.{store_in}
 use Rattle.flat_table.specs.declared.file.FlatTable.{FlatTable}
-use Rattle.flat_table.specs.File.{File}
+use Rattle.flat_table.specs.File.{FlatFile}
 use Rattle.flat_table.specs.Calls.{file_of}
 
 module _ {D : Type 0} {disk : OfDisk D} where
   -- its pages, and the game of the last commit
-  abbrev pub file_in : FlatTable D disk → File
+  abbrev pub file_in : FlatTable D disk → FlatFile
   file_in t = file_of (store_in t.store) t.game

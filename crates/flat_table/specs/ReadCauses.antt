@@ -1,17 +1,12 @@
 -- Why a file's table is not read.
-use Rattle.std.specs.Prelude.{◌≡◌, ℕ, ◌≤◌, ◌<◌, true, length, Option, IsTrue}
+use Rattle.std.specs.Prelude.{◌≡◌, ◌<◌, true, length, Option, IsTrue}
 use Rattle.sector_disk.specs.Disk.{Grew}
 use Rattle.page_store.specs.declared.fault.PageFault.{PageFault}
 use Rattle.page_store.specs.declared.fault.PageFault.TheVariants.{Disk, Damaged, OutOfMemory, Closed}
-use Rattle.page_store.specs.declared.marks.Mark.TheVariants.{Waiting}
-use Rattle.page_store.specs.Marks.{mark}
+use Rattle.page_store.specs.Pages.{AllWait}
 use Rattle.page_store.specs.Store.{Store, reads}
 use Rattle.flat_table.specs.Held.{KeepsTable}
 use Rattle.game_file.specs.Kept.{Kept}
-
--- each page of the store waits to be marked, as in a store that was just opened
-abbrev pub AllWait : Store → Type 0
-AllWait store = (p : ℕ) → 1 ≤ p → p < length store.marks → mark store.marks p ≡ Waiting
 
 -- the disk failed; with a root and pages that all wait, on an honest disk, the slot and the pages spell no table, or there
 -- are fewer than 16 pages; the store is closed; or memory is short

@@ -8,7 +8,7 @@ ghost use Rattle.game_file.specs.Causes.{FileOpenCause};
 ghost use Rattle.game_file.specs.Kept.{kept_as};
 ghost use Rattle.game_file.specs.State.{count_behind};
 ghost use Rattle.flat_table.specs.declared.game.Game.{Game as Loaded};
-ghost use Rattle.flat_table.specs.File.{File, IsFile, kept_of, pages_of};
+ghost use Rattle.flat_table.specs.File.{IsFile, kept_of, pages_of};
 ghost use Rattle.flat_table.specs.Held.{Stores, IsOlder};
 ghost use Rattle.flat_table.specs.aid.StoredLaws.{a_file_is_kept};
 ghost use Rattle.flat_table.specs.aid.ReadLaws.{a_picture_stores_one_table};

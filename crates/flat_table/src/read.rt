@@ -1,11 +1,12 @@
 //! All that the root of a file names is read.
 ghost use Rattle.std.specs.Prelude.{◌≡◌, ◌≤◌, false, Some, length, IfOk, IfErr, IsTrue};
 ghost use Rattle.sector_disk.specs.Disk.{size, GoesOn, LeavesOnly, MayLeave};
-ghost use Rattle.page_chain.specs.aid.Links.{OnlyMarks};
+ghost use Rattle.page_store.specs.aid.Marking.{OnlyMarks};
 ghost use Rattle.page_store.specs.Store.{StoreWorks};
 ghost use Rattle.flat_table.specs.Slot.{commits_in, Says, SaysGame};
 ghost use Rattle.flat_table.specs.File.{IsGame, AreGames, IsBacked, kept_of, pages_of};
-ghost use Rattle.flat_table.specs.ReadCauses.{AllWait, GameReadCause};
+ghost use Rattle.flat_table.specs.ReadCauses.{GameReadCause};
+ghost use Rattle.page_store.specs.Pages.{AllWait};
 ghost use Rattle.flat_table.specs.aid.Reading.{IsRead};
 
 use crate::bytes::{game_of, length_of};

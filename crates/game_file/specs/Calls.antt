@@ -55,7 +55,7 @@ module _ (Stores : Layout) where
     pub either : IsTrue old.disk.honest → old.closed ≡ false → LeavesEither Stores old.disk new.disk old.kept (Some is)
 
   -- nothing is put: what was kept still is, and a stop since then leaves it
-  pub record IsKept (old new : State) : Type 0 where
+  pub record IsNothingPut (old new : State) : Type 0 where
     pub ahead : GoesAhead old new
     pub commits : new.commits ≡ old.commits
     pub text : text_kept new.kept ≡ text_kept old.kept

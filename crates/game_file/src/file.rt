@@ -8,7 +8,7 @@ ghost use Rattle.table.specs.declared.fault.TableFault.{TableFault};
 ghost use Rattle.game_file.specs.Kept.{Kept, Layout, Older, kept_as, packing_kept, text_kept};
 ghost use Rattle.game_file.specs.State.{State, GoesAhead};
 ghost use Rattle.game_file.specs.Stops.{LeavesNow};
-ghost use Rattle.game_file.specs.Calls.{IsOpenedFile, IsNotOpened, IsCreatedFile, IsNotCreated, IsPut, IsNotPut, IsKept, IsAsked};
+ghost use Rattle.game_file.specs.Calls.{IsOpenedFile, IsNotOpened, IsCreatedFile, IsNotCreated, IsPut, IsNotPut, IsNothingPut, IsAsked};
 ghost use Rattle.game_file.specs.Causes.{FileOpenCause, FileCreateCause, FileLoadCause, FileCommitCause, FileTableCause};
 
 use crate::{FileFault, Refused};
@@ -112,9 +112,9 @@ pub trait GameFile: Table {
     fn discard(&mut self)
         ensures ahead { GoesAhead (state self.old) (state self.new) }
         ensures back { (was : Self) → is_whole was → Self.goes_on was self.old
-            → is_whole self.new × IsKept stores (state was) (state self.new) × ((state self.new).closed ≡ (state was).closed) }
+            → is_whole self.new × IsNothingPut stores (state was) (state self.new) × ((state self.new).closed ≡ (state was).closed) }
         ensures failed { (was : Self) (fault : TableFault) → is_whole was → Self.fails was self.old fault
-            → is_whole self.new × IsKept stores (state was) (state self.new) × FileTableCause (state was) (state self.new) fault }
+            → is_whole self.new × IsNothingPut stores (state was) (state self.new) × FileTableCause (state was) (state self.new) fault }
         ensures still { (was : Self) (fault : TableFault) → is_whole was → Self.fails was self.old fault → fault ≢ TableFault.Disk
             → (state self.new).closed ≡ (state was).closed };
 

@@ -42,11 +42,11 @@ impl Model for Source {
 
     ghost coded = { the_row.coded };
 
-    ghost use Rattle.legal_moves.specs.Compiled.{IsCompiled};
+    ghost use Rattle.legal_moves.specs.Compiled.{IsSoundCompiled};
 
     ghost view = { λ s. s.compiled };
 
-    ghost invariant = { λ s. IsCompiled s.compiled };
+    ghost invariant = { λ s. IsSoundCompiled s.compiled };
 }
 
 impl Source {

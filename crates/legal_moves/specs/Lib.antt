@@ -7,6 +7,7 @@ pub mod Listing
 pub mod Tables
 pub mod Configurations
 pub mod Shown
+pub mod Made
 pub mod Compiled
 pub mod Plain
 pub mod Laws

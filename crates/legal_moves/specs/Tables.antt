@@ -76,3 +76,8 @@ pub record AreTables (es : List Regex) (tables : List Table) : Type 0 where
   pub as_many : length tables ≡ length es
   pub each : (i : ℕ) (table : Table) (e : Regex) → slice_get tables i ≡ Some table → slice_get es i ≡ Some e
       → IsExpressionTable (take i es) table e
+
+-- each number names an expression that is the same as the one at its place
+pub record AreSame (es : List Regex) (same : List ℕ) : Type 0 where
+  pub as_many : length same ≡ length es
+  pub each : (i j : ℕ) → slice_get same i ≡ Some j → slice_get es j ≡ slice_get es i

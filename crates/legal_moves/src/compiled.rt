@@ -12,6 +12,7 @@ use crate::copies::copied_state;
 use crate::fault::MoveFault;
 use crate::fields::{byte_at, leader_of, role_with, value_at};
 use crate::moves::Moves;
+use crate::patterns::same_patterns;
 use crate::repack::repacked;
 use crate::search::Searcher;
 use crate::source::MoveSource;
@@ -23,6 +24,7 @@ use rbg_game::position::{Position, SemiState};
 use rbg_game::roles::{Player, Role};
 use retrograde::GameGraph;
 use std::alloc::{AllocError, Global};
+use std::marker::Model;
 
 /// A game with a table for each expression that is searched.
 #[derive(Drop)]
@@ -34,6 +36,22 @@ pub struct Compiled {
     rows: Packing,
     /// Of the rules last, of each pattern before the table that it stands in.
     tables: Vec<Table>,
+    /// For each pattern the number of the first that asks the same.
+    same: Vec<usize>,
+}
+
+impl Model for Compiled {
+    ghost use Rattle.legal_moves.specs.Made.{CompiledGame, compiled_code};
+
+    ghost Value = { CompiledGame };
+
+    ghost coded = { compiled_code };
+
+    ghost use Rattle.legal_moves.specs.Compiled.{IsCompiled};
+
+    ghost view = { λ c. record { game = c.game; kind = c.packing.kind } };
+
+    ghost invariant = { IsCompiled };
 }
 
 impl Compiled {
@@ -44,7 +62,7 @@ impl Compiled {
     ghost use Rattle.legal_moves.specs.Moves.{start_of};
     ghost use Rattle.legal_moves.specs.Searches.{IsWide};
     ghost use Rattle.legal_moves.specs.Listed.{AreMoves, IsShortestMove};
-    ghost use Rattle.legal_moves.specs.Compiled.{compiled_game, packing_kind, IsCompiled};
+    ghost use Rattle.legal_moves.specs.Compiled.{compiled_game, packing_kind, IsSoundCompiled};
     ghost use Rattle.position_pack.specs.Packings.{form_of};
 
     /// Makes the tables of the rules and of the patterns in them. Bytes of positions are by the packing of this kind.
@@ -52,10 +70,11 @@ impl Compiled {
         requires { IsSoundGame (game_of game) }
         ensures game { IfOk result (λ c. compiled_game c ≡ game_of game) }
         ensures kind { IfOk result (λ c. packing_kind c ≡ kind) }
-        ensures compiled { IfOk result IsCompiled }
+        ensures sound { IfOk result IsSoundCompiled }
     {
         let mut tables = Vec::new(alloc);
         add_table(alloc, &mut tables, &game.rules)?;
+        let same = same_patterns(alloc, &game.rules)?;
         let packing = Packing::new(&game, kind);
         let rows = Packing::new(&game, PackingKind::Bytes);
         Ok(Compiled {
@@ -63,6 +82,7 @@ impl Compiled {
             packing,
             rows,
             tables,
+            same,
         })
     }
 
@@ -75,7 +95,6 @@ impl Compiled {
 
     /// How positions are packed.
     pub fn packing(&self) -> &Packing
-        requires { IsCompiled self.now }
         ensures { result.now ≡ form_of (packing_kind self.now) (compiled_game self.now) }
     {
         &self.packing
@@ -83,7 +102,6 @@ impl Compiled {
 
     /// The keeper to move, all values 0, the pieces of the board, the first vertex, place 0.
     pub fn start(&self) -> Position
-        requires { IsCompiled self.now }
         ensures start { result ≡ start_of (compiled_game self.now) }
         ensures position { IsPositionOf (compiled_game self.now) result }
     {
@@ -108,7 +126,6 @@ impl Compiled {
 
     /// The moves of a position. Only for want of memory may the other error come.
     pub fn moves(&self, alloc: Global, at: &Position) -> Result<Moves, MoveFault>
-        requires compiled { IsCompiled self.now }
         requires at { IsPositionOf (compiled_game self.now) at.now }
         ensures exact { IfOk result (λ moves. AreMoves (compiled_game self.now) at.now moves) }
         ensures shortest { IfOk result (λ moves. All (IsShortestMove (compiled_game self.now) at.now) moves) }
@@ -119,6 +136,7 @@ impl Compiled {
         let searcher = Searcher {
             game: &self.game,
             tables: &self.tables,
+            same: &self.same,
             alloc,
         };
         let rules = self.tables.len() - 1;
@@ -141,10 +159,10 @@ impl GameGraph for Compiled {
 impl MoveSource for Compiled {
     ghost use Rattle.std.specs.Prelude.{refl};
     ghost use Rattle.legal_moves.specs.Moves.{start_of};
-    ghost use Rattle.legal_moves.specs.Compiled.{compiled_game, packing_kind, IsCompiled};
+    ghost use Rattle.legal_moves.specs.Compiled.{compiled_game, packing_kind, IsSoundCompiled};
     ghost use Rattle.legal_moves.specs.Sources.{IsPositionBytes};
 
-    ghost is_sound = { IsCompiled };
+    ghost is_sound = { IsSoundCompiled };
 
     ghost is_position = { λ c. IsPositionBytes (packing_kind c) (compiled_game c) };
 

@@ -39,6 +39,7 @@ pub fn compares(comparison: Comparison, left: i64, right: i64) -> bool
 }
 
 /// Where the label leads from the vertex.
+#[inline(always)]
 pub fn neighbour(vertex: &Vertex, label: u8) -> Option<u8>
     ensures { result ≡ option_map (λ a. a.to) (find (λ a. a.label == label) vertex.now.arrows.items) }
 {
@@ -97,6 +98,7 @@ pub fn act(game: &Game, action: &Action, state: &mut SemiState) -> bool
 }
 
 /// What the action comes to at this vertex, where it can be said without a copy of the semi-state.
+#[inline(always)]
 pub fn at_a_glance(game: &Game, action: &Action, state: &SemiState, vertex: u8) -> Glance
     requires state { IsStateOf (game_of game.now) (at_vertex state.now vertex) }
     requires plain { IsPlain state.now.values.items (action_of action.now) }
@@ -108,7 +110,8 @@ pub fn at_a_glance(game: &Game, action: &Action, state: &SemiState, vertex: u8) 
             None => Glance::Fails,
         },
         Action::On(pieces) => {
-            if pieces.contains(&state.pieces[usize::from(vertex)]) {
+            let here = state.pieces[usize::from(vertex)];
+            if pieces.iter().any(|piece| *piece == here) {
                 Glance::At(vertex)
             } else {
                 Glance::Fails

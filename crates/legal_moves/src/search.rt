@@ -9,6 +9,8 @@ ghost use Rattle.rbg_game.specs.Positions.{IsStateOf};
 ghost use Rattle.legal_moves.specs.Searches.{IsWideFrom};
 ghost use Rattle.legal_moves.specs.aid.Searches.{IsLegal};
 ghost use Rattle.legal_moves.specs.aid.Configurations.{expression_at, IsReady, AsksTooMuch, IsSearch};
+ghost use Rattle.legal_moves.specs.Tables.{inner_of, AreSame};
+ghost use Rattle.legal_moves.specs.aid.Answers.{IsAnswerAt};
 ghost use Rattle.legal_moves.specs.aid.Going.{began, state_at, IsGoing, IsTried, IsFull};
 ghost use Rattle.legal_moves.specs.aid.Looking.{at_vertex, seen_from, AreMarked, IsNoPattern, TellsAt};
 ghost use Rattle.legal_moves.specs.aid.Standing.{configurations_of, AreKept};
@@ -28,7 +30,17 @@ use std::alloc::Global;
 pub struct Searcher<'a> {
     pub game: &'a Game,
     pub tables: &'a [Table],
+    /// For each pattern the number of the first that asks the same.
+    pub same: &'a [usize],
     pub alloc: Global,
+}
+
+/// What the pattern that was asked last has answered.
+#[derive(Clone, Copy)]
+pub struct Answer {
+    /// The number of the first pattern that asks the same.
+    pub pattern: usize,
+    pub holds: bool,
 }
 
 impl Searcher<'_> {
@@ -36,6 +48,7 @@ impl Searcher<'_> {
     #[cycle(search)]
     pub fn search(&self, index: usize, place: u16, state: SemiState) -> Result<Found, MoveFault>
         requires ready { IsReady (game_of self.now.game.now) self.now.tables.now index }
+        requires same { AreSame (inner_of (game_of self.now.game.now).rules) self.now.same.now }
         requires state { IsStateOf (game_of self.now.game.now) state }
         ensures found { let game = game_of self.now.game.now in let e = expression_at game index in IfOk result
             (λ f. IsSearch game e place state (configurations_of f)) }
@@ -62,6 +75,7 @@ impl Searcher<'_> {
         at: usize,
     ) -> Result<(), MoveFault>
         requires ready { IsReady (game_of self.now.game.now) self.now.tables.now index }
+        requires same { AreSame (inner_of (game_of self.now.game.now).rules) self.now.same.now }
         requires at { at < length found.old.stands.items }
         requires kept { AreKept found.old }
         requires going { let game = game_of self.now.game.now in let e = expression_at game index in IsGoing game e place
@@ -82,8 +96,9 @@ impl Searcher<'_> {
         }
         let from = if last == 0 { place } else { last };
         let followers = self.tables[index].followers(from);
+        let mut known = None;
         for number in followers {
-            self.attempt(index, found, at, *number)?;
+            self.attempt(index, found, at, *number, &mut known)?;
         }
         Ok(())
     }
@@ -96,13 +111,17 @@ impl Searcher<'_> {
         found: &mut Found,
         at: usize,
         number: u16,
+        known: &mut Option<Answer>,
     ) -> Result<(), MoveFault>
         requires ready { IsReady (game_of self.now.game.now) self.now.tables.now index }
+        requires same { AreSame (inner_of (game_of self.now.game.now).rules) self.now.same.now }
         requires at { at < length found.old.stands.items }
         requires kept { AreKept found.old }
         requires state { IsStateOf (game_of self.now.game.now) (state_at (configurations_of found.old) at) }
         requires from { 1 ≤ number }
         requires upto { number ≤ count (expression_at (game_of self.now.game.now) index) }
+        requires known { IsAnswerAt (game_of self.now.game.now) (state_at (configurations_of found.old) at) known.old }
+        ensures known { OnOk result (IsAnswerAt (game_of self.now.game.now) (state_at (configurations_of found.old) at) known.new) }
         ensures kept { OnOk result (AreKept found.new) }
         ensures tried { let game = game_of self.now.game.now in let e = expression_at game index in OnOk result
             (IsTried game e number at (configurations_of found.old) (configurations_of found.new)) }
@@ -112,7 +131,7 @@ impl Searcher<'_> {
             → AsksTooMuch game e number (state_at (configurations_of found.old) at) ⊎ IsFull game e number at (configurations_of found.old) }
     {
         let Stand { board, vertex, .. } = found.stands[at];
-        match self.glance_at(index, &found.boards[board], vertex, number)? {
+        match self.glance_at(index, &found.boards[board], vertex, number, known)? {
             Glance::Fails => Ok(()),
             Glance::At(vertex) => found.add(Stand {
                 board,
@@ -174,8 +193,9 @@ impl Searcher<'_> {
     /// vertices alone.
     #[cycle(search)]
     #[inline(never)]
-    fn holds(&self, index: usize, state: &SemiState, vertex: u8) -> Result<bool, MoveFault>
+    fn is_legal(&self, index: usize, state: &SemiState, vertex: u8) -> Result<bool, MoveFault>
         requires ready { IsReady (game_of self.now.game.now) self.now.tables.now index }
+        requires same { AreSame (inner_of (game_of self.now.game.now).rules) self.now.same.now }
         requires state { IsStateOf (game_of self.now.game.now) (at_vertex state.now vertex) }
         requires lacks { LacksSwitch (expression_at (game_of self.now.game.now) index) }
         ensures answer { let game = game_of self.now.game.now in let e = expression_at game index in IfOk result
@@ -202,6 +222,7 @@ impl Searcher<'_> {
     #[cycle(search)]
     fn look(&self, index: usize, state: &SemiState, vertex: u8) -> Result<Option<Looks>, MoveFault>
         requires ready { IsReady (game_of self.now.game.now) self.now.tables.now index }
+        requires same { AreSame (inner_of (game_of self.now.game.now).rules) self.now.same.now }
         requires state { IsStateOf (game_of self.now.game.now) (at_vertex state.now vertex) }
         requires lacks { LacksSwitch (expression_at (game_of self.now.game.now) index) }
         ensures found { let game = game_of self.now.game.now in let e = expression_at game index in IfOk result
@@ -231,6 +252,7 @@ impl Searcher<'_> {
         at: usize,
     ) -> Result<bool, MoveFault>
         requires ready { IsReady (game_of self.now.game.now) self.now.tables.now index }
+        requires same { AreSame (inner_of (game_of self.now.game.now).rules) self.now.same.now }
         requires lacks { LacksSwitch (expression_at (game_of self.now.game.now) index) }
         requires at { at < length looks.old.looks.items }
         requires marked { AreMarked (count (expression_at (game_of self.now.game.now) index) + 1) looks.old }
@@ -249,9 +271,10 @@ impl Searcher<'_> {
             ..
         } = looks.looks[at];
         let followers = self.tables[index].followers(from);
+        let mut known = None;
         for number in followers {
             let place = *number;
-            match self.glance_at(index, state, vertex, place)? {
+            match self.glance_at(index, state, vertex, place, &mut known)? {
                 Glance::Fails => {}
                 Glance::At(vertex) => looks.add(Look {
                     vertex,
@@ -266,17 +289,22 @@ impl Searcher<'_> {
 
     /// What the occurrence with the number comes to at this vertex.
     #[cycle(search)]
+    #[inline(always)]
     fn glance_at(
         &self,
         index: usize,
         state: &SemiState,
         vertex: u8,
         number: u16,
+        known: &mut Option<Answer>,
     ) -> Result<Glance, MoveFault>
         requires ready { IsReady (game_of self.now.game.now) self.now.tables.now index }
+        requires same { AreSame (inner_of (game_of self.now.game.now).rules) self.now.same.now }
         requires state { IsStateOf (game_of self.now.game.now) (at_vertex state.now vertex) }
         requires from { 1 ≤ number }
         requires upto { number ≤ count (expression_at (game_of self.now.game.now) index) }
+        requires known { IsAnswerAt (game_of self.now.game.now) (at_vertex state.now vertex) known.old }
+        ensures known { OnOk result (IsAnswerAt (game_of self.now.game.now) (at_vertex state.now vertex) known.new) }
         ensures tells { let game = game_of self.now.game.now in let e = expression_at game index in IfOk result
             (TellsAt game e number (at_vertex state.now vertex)) }
         ensures narrow { let game = game_of self.now.game.now in let e = expression_at game index in IsOk result
@@ -287,7 +315,7 @@ impl Searcher<'_> {
         match self.tables[index].step(number) {
             Step::Act(action) => Ok(at_a_glance(self.game, action, state, vertex)),
             Step::Ask(positive, inner) => {
-                let holds = self.holds(*inner, state, vertex)?;
+                let holds = self.holds(*inner, state, vertex, known)?;
                 Ok(if holds == *positive {
                     Glance::At(vertex)
                 } else {
@@ -295,6 +323,40 @@ impl Searcher<'_> {
                 })
             }
         }
+    }
+
+    /// Whether the pattern holds here, which is not asked again if the last one asked the same.
+    #[cycle(search)]
+    fn holds(
+        &self,
+        index: usize,
+        state: &SemiState,
+        vertex: u8,
+        known: &mut Option<Answer>,
+    ) -> Result<bool, MoveFault>
+        requires ready { IsReady (game_of self.now.game.now) self.now.tables.now index }
+        requires same { AreSame (inner_of (game_of self.now.game.now).rules) self.now.same.now }
+        requires state { IsStateOf (game_of self.now.game.now) (at_vertex state.now vertex) }
+        requires lacks { LacksSwitch (expression_at (game_of self.now.game.now) index) }
+        requires pattern { index < length self.now.same.now }
+        requires known { IsAnswerAt (game_of self.now.game.now) (at_vertex state.now vertex) known.old }
+        ensures known { OnOk result (IsAnswerAt (game_of self.now.game.now) (at_vertex state.now vertex) known.new) }
+        ensures answer { let game = game_of self.now.game.now in let e = expression_at game index in IfOk result
+            (λ b. MatchBool b (IsLegal game e (at_vertex state.now vertex)) (¬ IsLegal game e (at_vertex state.now vertex))) }
+        ensures narrow { let game = game_of self.now.game.now in let e = expression_at game index in IsOk result
+            → ¬ IsWideFrom game e 0 (at_vertex state.now vertex) }
+        ensures wide { let game = game_of self.now.game.now in let e = expression_at game index in result ≡ Err MoveFault.TooWide
+            → IsWideFrom game e 0 (at_vertex state.now vertex) }
+    {
+        let pattern = self.same[index];
+        if let Some(answer) = *known
+            && answer.pattern == pattern
+        {
+            return Ok(answer.holds);
+        }
+        let holds = self.is_legal(index, state, vertex)?;
+        *known = Some(Answer { pattern, holds });
+        Ok(holds)
     }
 }
 

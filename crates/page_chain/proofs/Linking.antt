@@ -4,7 +4,7 @@ use Rattle.std.specs.Prelude.{slice_get, slice_index_or}
 use Rattle.std.proofs.lemmas.List.{append_assoc, append-nil}
 use Rattle.std.proofs.lemmas.Option.{slice_get_within, get_or_from_slice_get}
 use Rattle.page_chain.specs.Chain.{next_in, LeadsThrough, payloads}
-use Rattle.page_chain.specs.aid.Links.{IsOnce}
+use Rattle.page_store.specs.Pages.{IsOnce}
 use Rattle.page_chain.specs.aid.Resting.{contains_first, contains_later}
 
 -- from this page on the way goes through these pages, and on to that one

@@ -12,8 +12,7 @@ use Rattle.page_store.specs.Causes.{PageWriteCause as PageCause}
 use Rattle.page_store.specs.Store.{Store, reads, StoreWorks}
 use Rattle.page_store.specs.aid.Works.{works_refl, works_then}
 use Rattle.page_chain.specs.Chain.{next_in, LeadsThrough, payloads, first_of}
-use Rattle.page_chain.specs.aid.Causes.{ChainPutCause}
-use Rattle.page_chain.specs.aid.Links.{IsOnce}
+use Rattle.page_store.specs.Pages.{IsOnce}
 use Rattle.page_chain.specs.aid.Resting.{payloads_same}
 use Rattle.page_chain.proofs.Linking.{LeadsTo, leads_more, leads_end, leads_to_same, payloads_more, got_before}
 
@@ -135,7 +134,7 @@ all_hold {old} {now} {pages} {content} place put end honest =
     ∙ ap (λ (m : ℕ). take (4092 * m) content) end
 
 -- why a page is not written is why the chain is not
-pub put_cause : {old mid : Store} {pages content : List ℕ} {place : ℕ} (new : Store) (fault : PageFault) → IsPut old mid pages content place → PageCause mid new fault → ChainPutCause old new fault
+pub put_cause : {old mid : Store} {pages content : List ℕ} {place : ℕ} (new : Store) (fault : PageFault) → IsPut old mid pages content place → PageCause mid new fault → PageCause old new fault
 put_cause new Disk put (inl grew, closed) = (inl (omega (arith, grew, put.works.failures)), closed)
 put_cause new Disk put (inr most, closed) = (inr most, closed)
 put_cause new NotATable put never = never

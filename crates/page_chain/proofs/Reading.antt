@@ -15,9 +15,11 @@ use Rattle.page_store.specs.Page.{page}
 use Rattle.page_store.specs.Store.{Store, reads, StoreWorks}
 use Rattle.page_store.specs.aid.Works.{works_refl, works_then}
 use Rattle.page_chain.specs.Chain.{next_in, LeadsThrough, payloads, IsChain}
-use Rattle.page_chain.specs.Causes.{AreWaiting, ChainReadCause}
+use Rattle.page_chain.specs.Causes.{ChainReadCause}
 use Rattle.page_chain.specs.aid.Causes.{LinkCause}
-use Rattle.page_chain.specs.aid.Links.{IsOnce, OnlyMarks, IsJoined}
+use Rattle.page_chain.specs.aid.Links.{IsJoined}
+use Rattle.page_store.specs.aid.Marking.{OnlyMarks}
+use Rattle.page_store.specs.Pages.{IsOnce, AreWaiting}
 use Rattle.page_chain.proofs.Linking.{LeadsTo, leads_more, leads_end, payloads_more, once_more, none_once, none_contained, contains_before, contains_last, same_way, got_seam, got_before, contains_got}
 
 pub only_marks_refl : (store : Store) → OnlyMarks store store

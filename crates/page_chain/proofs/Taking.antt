@@ -11,7 +11,7 @@ use Rattle.page_store.specs.Causes.{NewCause}
 use Rattle.page_store.specs.Marks.{mark, free_one, free_count, IsMarked}
 use Rattle.page_store.specs.Store.{Store, StoreWorks, IsRemarked}
 use Rattle.page_store.specs.aid.Works.{works_refl, works_then}
-use Rattle.page_chain.specs.aid.Causes.{TakeCause}
+use Rattle.page_chain.specs.aid.Causes.{HandOutCause}
 use Rattle.page_chain.specs.aid.Links.{HandsOut, AreTaken}
 use Rattle.page_chain.proofs.Linking.{once_more, none_once, none_contained, contains_before, contains_last}
 
@@ -141,7 +141,7 @@ module _ (old mid new : Store) (count here : ℕ) (pages : List ℕ) (taken : Is
   taken_more more are = subst (λ (ps : List ℕ). IsTaken old new (count + 1) ps) (sym are) taken_on
 
 -- a page is refused only where the store is closed, as long as some are free
-pub take_cause : {old mid : Store} {count : ℕ} {pages : List ℕ} (fault : PageFault) → IsTaken old mid count pages → count < free_count old.marks → NewCause mid fault → TakeCause old fault
+pub take_cause : {old mid : Store} {count : ℕ} {pages : List ℕ} (fault : PageFault) → IsTaken old mid count pages → count < free_count old.marks → NewCause mid fault → HandOutCause old fault
 take_cause Disk taken some never = never
 take_cause NotATable taken some never = never
 take_cause Damaged taken some never = never

@@ -1,16 +1,13 @@
 -- Why a chain is not read or written.
-use Rattle.std.specs.Prelude.{◌≡◌, ℕ, ◌*◌, ◌<◌, true, List, length, Contains, IsTrue}
+use Rattle.std.specs.Prelude.{◌≡◌, ℕ, ◌*◌, ◌<◌, true, List, length, IsTrue}
 use Rattle.sector_disk.specs.Disk.{Grew}
 use Rattle.page_store.specs.declared.fault.PageFault.{PageFault}
 use Rattle.page_store.specs.declared.fault.PageFault.TheVariants.{Disk, Damaged, TableFull, OutOfMemory, Closed}
-use Rattle.page_store.specs.declared.marks.Mark.TheVariants.{Waiting}
-use Rattle.page_store.specs.Marks.{mark, free_count}
+use Rattle.page_store.specs.Marks.{free_count}
+use Rattle.page_store.specs.Pages.{AreWaiting}
 use Rattle.page_store.specs.Store.{Store, reads}
 use Rattle.page_chain.specs.Chain.{IsChain}
-
--- each of these pages waits to be marked
-abbrev pub AreWaiting : List ℕ → Store → Type 0
-AreWaiting pages store = (p : ℕ) → Contains pages p → mark store.marks p ≡ Waiting
+use Rattle.page_chain.specs.declared.page.TheConstants.{PAYLOAD}
 
 -- a chain is not read: the disk failed; on an honest disk, there is no chain of this length from this page on all of
 -- whose pages wait; the store is closed; or memory is short
@@ -27,7 +24,7 @@ ChainReadCause first long old new _ = ⊥
 -- store was closed; or memory is short
 abbrev pub ChainWriteCause : ℕ → Store → Store → PageFault → Type 0
 ChainWriteCause long old new Disk = Grew old.failures new.failures × (new.closed ≡ true)
-ChainWriteCause long old new TableFull = 4092 * free_count old.marks < long
+ChainWriteCause long old new TableFull = PAYLOAD * free_count old.marks < long
 ChainWriteCause long old new OutOfMemory = Unit {0}
 ChainWriteCause long old new Closed = old.closed ≡ true
 ChainWriteCause long old new _ = ⊥

@@ -1,6 +1,7 @@
 -- A chain of pages: each begins with the number of the next one, in four bytes, and the last with 0.
 use Rattle.std.specs.Prelude.{◌≡◌, ℕ, ◌+◌, ◌*◌, ◌<◌, ◌≤◌, List, [], ◌∷◌, ◌++◌, length, take, drop, slice_get, slice_index, Contains, Some}
 use Rattle.byteorder.specs.Endian.{big_number}
+use Rattle.page_chain.specs.declared.page.TheConstants.{PAYLOAD}
 
 -- the page that a page with these bytes names
 abbrev pub next_in : List ℕ → ℕ
@@ -22,8 +23,8 @@ pub record IsChain (capacity first : ℕ) (pages content : List ℕ) (bytes : �
   pub leads : LeadsThrough bytes first pages
   pub within : (p : ℕ) → Contains pages p → (1 ≤ p) × (p < capacity)
   pub once : (i j p : ℕ) → slice_get pages i ≡ Some p → slice_get pages j ≡ Some p → i ≡ j
-  pub enough : length content ≤ 4092 * length pages
-  pub no_more : 4092 * length pages < length content + 4092
+  pub enough : length content ≤ PAYLOAD * length pages
+  pub no_more : PAYLOAD * length pages < length content + PAYLOAD
   pub is : take (length content) (payloads bytes pages) ≡ content
 
 -- the first of these pages, 0 where there is none

@@ -5,6 +5,7 @@ ghost use Rattle.page_store.specs.Marks.{mark};
 ghost use Rattle.page_store.specs.Spelling.{SpelledBy, Stands, IsPrepared};
 ghost use Rattle.page_store.specs.Store.{Store, reads};
 ghost use Rattle.page_chain.specs.Chain.{IsChain};
+ghost use Rattle.page_chain.specs.declared.page.TheConstants.{PAYLOAD};
 
 /// A chain rests on its own pages alone.
 pub fn a_chain_rests_on_its_pages()
@@ -28,7 +29,7 @@ pub fn a_chain_fits_more()
 /// A chain has no more content than all pages below its capacity hold.
 pub fn a_chain_is_not_longer()
     ensures { (capacity first : ℕ) (pages content : List ℕ) (bytes : ℕ → List ℕ) → IsChain capacity first pages content bytes
-        → length content ≤ 4092 * capacity }
+        → length content ≤ PAYLOAD * capacity }
 {}
 
 /// A chain on pages that were handed out is prepared for the next commit.

@@ -1,6 +1,7 @@
 //! The bytes of a page of a chain: the number of the next page, and then what it holds.
 ghost use Rattle.std.specs.Prelude.{◌≡◌, ◌+◌, ◌*◌, ◌<◌, ◌≤◌, length, take, drop};
 ghost use Rattle.page_chain.specs.Chain.{next_in};
+ghost use Rattle.page_chain.specs.declared.page.TheConstants.{PAYLOAD};
 
 use byteorder::{BigEndian, ByteOrder};
 
@@ -12,8 +13,8 @@ const NUMBER: usize = 4;
 
 /// How many pages so many bytes take.
 pub fn pages_for(size: usize) -> usize
-    ensures enough { size ≤ 4092 * result }
-    ensures no_more { 4092 * result < size + 4092 }
+    ensures enough { size ≤ PAYLOAD * result }
+    ensures no_more { PAYLOAD * result < size + PAYLOAD }
 {
     size.div_ceil(PAYLOAD)
 }
@@ -34,7 +35,7 @@ pub fn payload_of(bytes: &[u8; 4096]) -> &[u8]
 
 /// The bytes of a page that names the next one and holds this part, filled up with zeros.
 pub fn page_with(next: u32, part: &[u8]) -> [u8; 4096]
-    requires { length part.now ≤ 4092 }
+    requires { length part.now ≤ PAYLOAD }
     ensures whole { length result ≡ 4096 }
     ensures next { next_in result ≡ next }
     ensures holds { take (length part.now) (drop 4 result) ≡ part.now }
@@ -47,8 +48,8 @@ pub fn page_with(next: u32, part: &[u8]) -> [u8; 4096]
 
 /// What the page of this place holds: the next part of the content, up to a page full.
 pub fn part_of(content: &[u8], place: usize) -> &[u8]
-    requires { 4092 * place ≤ length content.now }
-    ensures { result.now ≡ take 4092 (drop (4092 * place) content.now) }
+    requires { PAYLOAD * place ≤ length content.now }
+    ensures { result.now ≡ take PAYLOAD (drop (PAYLOAD * place) content.now) }
 {
     let rest = &content[PAYLOAD * place..];
     &rest[..rest.len().min(PAYLOAD)]

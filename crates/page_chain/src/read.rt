@@ -7,7 +7,8 @@ ghost use Rattle.page_store.specs.Store.{reads, StoreWorks};
 ghost use Rattle.page_chain.specs.Chain.{IsChain};
 ghost use Rattle.page_chain.specs.Causes.{ChainReadCause};
 ghost use Rattle.page_chain.specs.aid.Causes.{LinkCause};
-ghost use Rattle.page_chain.specs.aid.Links.{OnlyMarks, IsJoined};
+ghost use Rattle.page_chain.specs.aid.Links.{IsJoined};
+ghost use Rattle.page_store.specs.aid.Marking.{OnlyMarks};
 
 use crate::page::{next_of, pages_for, payload_of};
 use page_store::{PageFault, Pages};

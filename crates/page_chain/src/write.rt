@@ -1,13 +1,16 @@
 //! A chain is written: its pages are taken first, and then each is written with the number of the next one.
 ghost use Rattle.std.specs.Prelude.{◌≡◌, ◌≢◌, ◌⊎◌, ◌+◌, ◌*◌, ◌<◌, ◌≤◌, ℕ, false, length, take, drop, slice_index, Contains, OnOk, IfOk};
 ghost use Rattle.std.specs.Prelude.{IfErr, IsTrue};
+ghost use Rattle.page_store.specs.Causes.{PageWriteCause};
 ghost use Rattle.page_store.specs.declared.marks.Mark.TheVariants.{Fresh, Free};
 ghost use Rattle.page_store.specs.Marks.{mark as mark_of, free_count};
 ghost use Rattle.page_store.specs.Store.{reads, StoreWorks};
 ghost use Rattle.page_chain.specs.Chain.{IsChain, LeadsThrough, payloads, first_of};
 ghost use Rattle.page_chain.specs.Causes.{ChainWriteCause};
-ghost use Rattle.page_chain.specs.aid.Causes.{TakeCause, ChainPutCause};
-ghost use Rattle.page_chain.specs.aid.Links.{HandsOut, AreTaken, IsOnce};
+ghost use Rattle.page_chain.specs.aid.Causes.{HandOutCause};
+ghost use Rattle.page_chain.specs.aid.Links.{HandsOut, AreTaken};
+ghost use Rattle.page_store.specs.Pages.{IsOnce};
+ghost use Rattle.page_chain.specs.declared.page.TheConstants.{PAYLOAD};
 
 use crate::page::{page_with, pages_for, part_of};
 use crate::read::add_page;
@@ -51,7 +54,7 @@ fn take_pages<P: Pages>(alloc: Global, store: &mut P, count: usize) -> Result<Ve
     requires { count ≤ free_count (P.store store.old).marks }
     ensures taken { IfOk result (λ pages. AreTaken (P.store store.old) (P.store store.new) count pages.items) }
     ensures out { HandsOut (P.store store.old) (P.store store.new) }
-    ensures cause { IfErr result (TakeCause (P.store store.old)) }
+    ensures cause { IfErr result (HandOutCause (P.store store.old)) }
 {
     let mut pages = Vec::new(alloc);
     for _ in 0..count {
@@ -65,17 +68,17 @@ fn take_pages<P: Pages>(alloc: Global, store: &mut P, count: usize) -> Result<Ve
 fn write_pages<P: Pages>(store: &mut P, pages: &[u32], content: &[u8]) -> Result<(), PageFault>
     requires fresh { (p : ℕ) → Contains pages.now p → mark_of (P.store store.old).marks p ≡ Fresh }
     requires once { IsOnce pages.now }
-    requires no_more { 4092 * length pages.now < length content.now + 4092 }
+    requires no_more { PAYLOAD * length pages.now < length content.now + PAYLOAD }
     ensures leads { IsTrue (P.store store.old).disk.honest
         → OnOk result (LeadsThrough (reads (P.store store.new)) (first_of pages.now) pages.now) }
     ensures holds { IsTrue (P.store store.old).disk.honest → OnOk result
-        (take (length content.now) (payloads (reads (P.store store.new)) pages.now) ≡ take (4092 * length pages.now) content.now) }
+        (take (length content.now) (payloads (reads (P.store store.new)) pages.now) ≡ take (PAYLOAD * length pages.now) content.now) }
     ensures open { OnOk result (1 ≤ length pages.now → (P.store store.new).closed ≡ false) }
     ensures closed { OnOk result ((P.store store.new).closed ≡ (P.store store.old).closed) }
     ensures marks { (P.store store.new).marks ≡ (P.store store.old).marks }
     ensures works { StoreWorks (P.store store.old) (P.store store.new) }
     ensures still { IfErr result (λ fault. fault ≢ PageFault.Disk → (P.store store.new).closed ≡ (P.store store.old).closed) }
-    ensures cause { IfErr result (ChainPutCause (P.store store.old) (P.store store.new)) }
+    ensures cause { IfErr result (PageWriteCause (P.store store.old) (P.store store.new)) }
 {
     for place in 0..pages.len() {
         let bytes = page_with(next_after(pages, place), part_of(content, place));

@@ -18,7 +18,7 @@ use Rattle.page_store.specs.declared.marks.Mark.{Mark}
 use Rattle.page_store.specs.declared.marks.Mark.TheVariants.{Committed, Waiting, Fresh, Released, Free}
 use Rattle.page_store.specs.declared.cache.PageCache.{PageCache}
 use Rattle.page_store.specs.declared.cache.KeptPage.{KeptPage}
-use Rattle.page_store.specs.Cache.{Holds, IsPart, IsCacheOf, HoldsAt, IsPlaced, kept_at, no_page}
+use Rattle.page_store.specs.Cache.{HoldsPage, OnlyForgets, IsCacheOf, HoldsAt, IsPlaced, kept_at, no_page}
 use Rattle.page_store.specs.Marks.{mark, keeps, turned, AreCommitted, IsMarked, IsKept}
 use Rattle.page_store.specs.Store.{Store, reads}
 
@@ -94,7 +94,7 @@ promoted_part now es new page is after p held there =
     subst (λ (xs : Entries). Contains xs (p, held)) (sym is) (Contains-promoted (nat_eq page) es (p, held) (subst (λ (xs : Entries). Contains xs (p, held)) after there))
 
 -- a cache that holds no page is one of each store
-pub empty_cache : (store : Store) (cache : PageCache) → ((p : ℕ) (held : List ℕ) → Holds cache p held → ⊥) → IsCacheOf store cache
+pub empty_cache : (store : Store) (cache : PageCache) → ((p : ℕ) (held : List ℕ) → HoldsPage cache p held → ⊥) → IsCacheOf store cache
 empty_cache store cache none = record { kept = λ p held there. absurd (none p held there); same = λ p held there. absurd (none p held there) }
 
 -- what stands at a place that there is
@@ -188,15 +188,15 @@ refused_place was now kept page names p held there = (
 )
 
 -- what was held apart from the page was held before
-pub else_part : (was cache : PageCache) (page : ℕ) (bytes : List ℕ) → IsPart was cache → (p : ℕ) (held : List ℕ)
-    → ((p ≡ page) × (held ≡ bytes)) ⊎ ((p ≢ page) × Holds cache p held) → ((p ≡ page) × (held ≡ bytes)) ⊎ ((p ≢ page) × Holds was p held)
+pub else_part : (was cache : PageCache) (page : ℕ) (bytes : List ℕ) → OnlyForgets was cache → (p : ℕ) (held : List ℕ)
+    → ((p ≡ page) × (held ≡ bytes)) ⊎ ((p ≢ page) × HoldsPage cache p held) → ((p ≡ page) × (held ≡ bytes)) ⊎ ((p ≢ page) × HoldsPage was p held)
 else_part was cache page bytes part p held (inl put) = inl put
 else_part was cache page bytes part p held (inr else) = inr (else.0, part p held else.1)
 
 -- what was true of each page of the cache stays true
-pub carried : (old new : Store) (was cache : PageCache) → IsCacheOf old was → IsPart was cache → (IsTrue new.disk.honest → IsTrue old.disk.honest)
-    → ((p : ℕ) (held : List ℕ) → Holds cache p held → IsKept old.marks p → IsKept new.marks p)
-    → (IsTrue old.disk.honest → (p : ℕ) (held : List ℕ) → Holds cache p held → 1 ≤ p → reads new p ≡ reads old p) → IsCacheOf new cache
+pub carried : (old new : Store) (was cache : PageCache) → IsCacheOf old was → OnlyForgets was cache → (IsTrue new.disk.honest → IsTrue old.disk.honest)
+    → ((p : ℕ) (held : List ℕ) → HoldsPage cache p held → IsKept old.marks p → IsKept new.marks p)
+    → (IsTrue old.disk.honest → (p : ℕ) (held : List ℕ) → HoldsPage cache p held → 1 ≤ p → reads new p ≡ reads old p) → IsCacheOf new cache
 carried old new was cache of part honest kept same = record {
   kept = λ p held there. kept p held there (of.kept p held (part p held there));
   same = λ p held there h.
@@ -205,12 +205,12 @@ carried old new was cache of part honest kept same = record {
 }
 
 -- so is a part of it
-pub part_of : (store : Store) (was cache : PageCache) → IsCacheOf store was → IsPart was cache → IsCacheOf store cache
+pub part_of : (store : Store) (was cache : PageCache) → IsCacheOf store was → OnlyForgets was cache → IsCacheOf store cache
 part_of store was cache of part = carried store store was cache of part (λ h. h) (λ p held there kept. kept) (λ h p held there behind. refl)
 
 -- one page is put, and the others read as before
 pub added : (old new : Store) (was cache : PageCache) (page : ℕ) (bytes : List ℕ) → IsCacheOf old was
-    → ((p : ℕ) (held : List ℕ) → Holds cache p held → ((p ≡ page) × (held ≡ bytes)) ⊎ ((p ≢ page) × Holds was p held))
+    → ((p : ℕ) (held : List ℕ) → HoldsPage cache p held → ((p ≡ page) × (held ≡ bytes)) ⊎ ((p ≢ page) × HoldsPage was p held))
     → (IsTrue new.disk.honest → IsTrue old.disk.honest) → new.marks ≡ old.marks → IsKept old.marks page
     → (IsTrue old.disk.honest → bytes ≡ reads new page) → (IsTrue old.disk.honest → (p : ℕ) → p ≢ page → reads new p ≡ reads old p)
     → IsCacheOf new cache

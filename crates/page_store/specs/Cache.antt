@@ -31,19 +31,19 @@ pub record HoldsAt (names : List (ℕ × ℕ)) (kept : List KeptPage) (p : ℕ) 
   pub holds : (kept_at kept place).bytes ≡ bytes
 
 -- the place of a page in the cache
-abbrev pub IsAt : PageCache → ℕ → ℕ → Type 0
-IsAt cache = IsPlaced (entries_of cache.places) cache.kept.items
+abbrev pub HasPlace : PageCache → ℕ → ℕ → Type 0
+HasPlace cache = IsPlaced (entries_of cache.places) cache.kept.items
 
 -- the cache holds this page with these bytes
-abbrev pub Holds : PageCache → ℕ → List ℕ → Type 0
-Holds cache = HoldsAt (entries_of cache.places) cache.kept.items
+abbrev pub HoldsPage : PageCache → ℕ → List ℕ → Type 0
+HoldsPage cache = HoldsAt (entries_of cache.places) cache.kept.items
 
 -- what the one holds the other held
-abbrev pub IsPart : PageCache → PageCache → Type 0
-IsPart old new = (p : ℕ) (bytes : List ℕ) → Holds new p bytes → Holds old p bytes
+abbrev pub OnlyForgets : PageCache → PageCache → Type 0
+OnlyForgets old new = (p : ℕ) (bytes : List ℕ) → HoldsPage new p bytes → HoldsPage old p bytes
 
 -- each page in the cache is one that the next root may need, with the bytes that it reads as; so a page of a commit that
 -- was given up is in no cache
 pub record IsCacheOf (store : Store) (cache : PageCache) : Type 0 where
-  pub kept : (p : ℕ) (bytes : List ℕ) → Holds cache p bytes → IsKept store.marks p
-  pub same : (p : ℕ) (bytes : List ℕ) → Holds cache p bytes → IsTrue store.disk.honest → bytes ≡ reads store p
+  pub kept : (p : ℕ) (bytes : List ℕ) → HoldsPage cache p bytes → IsKept store.marks p
+  pub same : (p : ℕ) (bytes : List ℕ) → HoldsPage cache p bytes → IsTrue store.disk.honest → bytes ≡ reads store p

@@ -4,5 +4,6 @@ pub mod Marks
 pub mod Page
 pub mod Spelling
 pub mod Store
+pub mod Pages
 pub mod InStore
 pub mod aid

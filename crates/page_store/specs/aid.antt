@@ -1,3 +1,4 @@
 pub mod Carrying
+pub mod Marking
 pub mod Page
 pub mod Works

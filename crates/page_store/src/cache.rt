@@ -1,6 +1,6 @@
 //! Pages in memory, so that they need not be read again.
 ghost use Rattle.std.specs.Prelude.{◌≡◌, ◌≢◌, ◌⊎◌, ◌≤◌, ◌<◌, ℕ, List, IsTrue, IfOk, IfSome, IfNone, length};
-ghost use Rattle.page_store.specs.Cache.{Holds, IsPart, IsAt};
+ghost use Rattle.page_store.specs.Cache.{HoldsPage, OnlyForgets, HasPlace};
 
 use lru::LruCache;
 use std::alloc::{AllocError, Global};
@@ -24,7 +24,7 @@ pub struct PageCache {
 impl PageCache {
     /// An empty cache for so many pages.
     pub fn new(alloc: Global, pages: usize) -> Result<PageCache, AllocError>
-        ensures { IfOk result (λ cache. (p : ℕ) (bytes : List ℕ) → Holds cache p bytes → ⊥) }
+        ensures { IfOk result (λ cache. (p : ℕ) (bytes : List ℕ) → HoldsPage cache p bytes → ⊥) }
     {
         let kept = Vec::new(alloc);
         match NonZeroUsize::new(pages) {
@@ -38,8 +38,8 @@ impl PageCache {
 
     /// Where the page is, if it is there.
     fn place_of(&self, page: u32) -> Option<usize>
-        ensures there { IfSome result (IsAt self.now page) }
-        ensures none { IfNone result ((bytes : List ℕ) → Holds self.now page bytes → ⊥) }
+        ensures there { IfSome result (HasPlace self.now page) }
+        ensures none { IfNone result ((bytes : List ℕ) → HoldsPage self.now page bytes → ⊥) }
     {
         let Some(places) = &self.places else {
             return None;
@@ -56,8 +56,8 @@ impl PageCache {
 
     /// Copies the page, if it is there.
     pub fn give(&mut self, page: u32, into: &mut [u8; 4096]) -> bool
-        ensures found { IsTrue result → Holds self.old page into.new }
-        ensures others { IsPart self.old self.new }
+        ensures found { IsTrue result → HoldsPage self.old page into.new }
+        ensures others { OnlyForgets self.old self.new }
     {
         let Some(place) = self.place_of(page) else {
             return false;
@@ -71,7 +71,7 @@ impl PageCache {
 
     /// Whether there is a place for the page, which then counts as used.
     pub fn touch(&mut self, page: u32) -> bool
-        ensures { IsPart self.old self.new }
+        ensures { OnlyForgets self.old self.new }
     {
         match &mut self.places {
             Some(places) => places.promote(&page),
@@ -81,7 +81,7 @@ impl PageCache {
 
     /// The bytes of the page, if it is there.
     pub fn bytes_of(&self, page: u32) -> Option<&[u8; 4096]>
-        ensures { IfSome result (λ bytes. Holds self.now page bytes.now) }
+        ensures { IfSome result (λ bytes. HoldsPage self.now page bytes.now) }
     {
         match self.place_of(page) {
             Some(place) => Some(&self.kept[place].bytes),
@@ -108,7 +108,7 @@ impl PageCache {
     /// Makes room at a place for the page, where the next is one more than there are.
     fn make_place(&mut self, page: u32) -> Result<usize, AllocError>
         ensures within { IfOk result (λ place. place < length self.new.kept.items) }
-        ensures others { IsPart self.old self.new }
+        ensures others { OnlyForgets self.old self.new }
     {
         let place = self.place_for(page);
         if place == self.kept.len() {
@@ -125,8 +125,8 @@ impl PageCache {
 
     /// Keeps the page with these bytes, in the place of what was there. Where memory is refused the page is left out.
     pub fn put(&mut self, page: u32, bytes: &[u8; 4096]) -> Result<(), AllocError>
-        ensures { (p : ℕ) (held : List ℕ) → Holds self.new p held
-            → ((p ≡ page) × (held ≡ bytes.now)) ⊎ ((p ≢ page) × Holds self.old p held) }
+        ensures { (p : ℕ) (held : List ℕ) → HoldsPage self.new p held
+            → ((p ≡ page) × (held ≡ bytes.now)) ⊎ ((p ≢ page) × HoldsPage self.old p held) }
     {
         if self.places.is_none() {
             return Ok(());
@@ -154,7 +154,7 @@ impl PageCache {
 
     /// Drops the page.
     pub fn forget(&mut self, page: u32)
-        ensures { (p : ℕ) (held : List ℕ) → Holds self.new p held → (p ≢ page) × Holds self.old p held }
+        ensures { (p : ℕ) (held : List ℕ) → HoldsPage self.new p held → (p ≢ page) × HoldsPage self.old p held }
     {
         let Some(place) = self.place_of(page) else {
             return;
@@ -168,7 +168,7 @@ impl PageCache {
 
     /// Drops all pages.
     pub fn clear(&mut self)
-        ensures { (p : ℕ) (held : List ℕ) → Holds self.new p held → ⊥ }
+        ensures { (p : ℕ) (held : List ℕ) → HoldsPage self.new p held → ⊥ }
     {
         if let Some(places) = &mut self.places {
             places.clear();

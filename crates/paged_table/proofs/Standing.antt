@@ -15,7 +15,7 @@ use Rattle.retrograde.specs.Stored.{Stored, is_expanded, is_processed}
 use Rattle.table_work.specs.Work.{AreDone}
 use Rattle.paged_table.specs.Page.{record_in, IsRecordPage}
 use Rattle.paged_table.specs.Paged.{records_in, stored_of, StaysWhole, IsHonest}
-use Rattle.paged_table.specs.Turns.{AreRecordsSpelled, Holds, IsLeftByTurn}
+use Rattle.paged_table.specs.Turns.{AreRecordsSpelled, HoldsRecords, IsLeftByTurn}
 use Rattle.paged_table.proofs.Lists.{map_same}
 
 -- the pages of the table
@@ -107,7 +107,7 @@ module _ (graph : Graph (List ℕ)) (IsWide : List ℕ → Type 0) (units known 
       leaves_more (λ picture saved. inl (saved_spells old (stands known far done pages old (whole honest) calm) picture saved)) (works.leaves honest.disk (sound.safe honest.disk open_))
 
   -- of work that is given up
-  pub kept_in_work : (new : Store) → StoreWorks old new → IsHonest torn old → old.closed ≡ false → IsCalm old → LeavesOnly old.disk new.disk (Holds old.root (length old.marks) pages (stored_of memory pages old))
+  pub kept_in_work : (new : Store) → StoreWorks old new → IsHonest torn old → old.closed ≡ false → IsCalm old → LeavesOnly old.disk new.disk (HoldsRecords old.root (length old.marks) pages (stored_of memory pages old))
   kept_in_work new works honest open_ calm =
       leaves_more (λ picture saved. saved_spells old (stands known far done pages old (whole honest) calm) picture saved) (works.leaves honest.disk (sound.safe honest.disk open_))
 

@@ -25,7 +25,7 @@ use Rattle.retrograde.specs.Stored.{Stored}
 use Rattle.paged_table.specs.Paged.{stored_of, StaysWhole, IsHonest, PagedGoesOn, Fails}
 use Rattle.paged_table.specs.Places.{IsPageThere}
 use Rattle.paged_table.specs.aid.Places.{fault_of, PlaceCause}
-use Rattle.paged_table.specs.Turns.{DeviceCause, TurnCause, StartCause, BeginCause}
+use Rattle.paged_table.specs.Turns.{DeviceCause, TurnCause, BeginCauseAt, BeginCause}
 use Rattle.paged_table.specs.aid.Turns.{IsGivenUp}
 use Rattle.paged_table.proofs.Standing.{back_whole, back_records}
 
@@ -117,7 +117,7 @@ pub begin_out : {X : Type 0} (old : Store) (r : Result X TableFault) → IsErr r
 begin_out old (Ok x) is = tt
 begin_out old (Err f) is = begin_memory old f is.1
 
-start_place : (old new : Store) (fault : TableFault) → PlaceCause old new fault → StartCause old new fault
+start_place : (old new : Store) (fault : TableFault) → PlaceCause old new fault → BeginCauseAt old new fault
 start_place old new Disk cause = cause
 start_place old new Damaged cause = cause
 start_place old new TableFull cause = cause
@@ -130,7 +130,7 @@ begin_place old new fault cause = record { moment = new; cause = start_place old
 pub begin_sealed : (old sealed : Store) (fault : TableFault) → IsRemarked old sealed → BeginCause sealed fault → BeginCause old fault
 begin_sealed old sealed fault others begin = record { moment = begin.moment; cause = start fault begin.cause }
   where
-    start : (f : TableFault) → StartCause sealed begin.moment f → StartCause old begin.moment f
+    start : (f : TableFault) → BeginCauseAt sealed begin.moment f → BeginCauseAt old begin.moment f
     start Disk cause = subst (λ (n : ℕ). Grew n begin.moment.failures) others.failures cause
     start Damaged cause = cause
     start TableFull cause = cause
@@ -144,7 +144,7 @@ begin_commit old mid new fault fewer still cause = record { moment = new; cause 
     grew (inl less) = inl (omega (arith, fewer, less))
     grew (inr most) = inr most
 
-    start : (f : PageFault) → StoreCommitCause mid new f → StartCause old new (fault_of f)
+    start : (f : PageFault) → StoreCommitCause mid new f → BeginCauseAt old new (fault_of f)
     start page.Disk why = grew why.0
     start page.NotATable why = why
     start page.Damaged why = why

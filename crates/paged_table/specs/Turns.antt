@@ -35,8 +35,8 @@ pub record AreRecordsSpelled (pages : List ℕ) (records : List Record) (bytes :
   pub each : (i p : ℕ) → slice_get pages i ≡ Some p → IsRecordPage (bytes p)
 
 -- the picture has this root, and these pages of it spell the records of the table
-abbrev pub Holds : List ℕ → ℕ → List ℕ → Stored (List ℕ) → Picture → Type 0
-Holds root capacity pages stored = Spells root capacity (AreRecordsSpelled pages stored.records)
+abbrev pub HoldsRecords : List ℕ → ℕ → List ℕ → Stored (List ℕ) → Picture → Type 0
+HoldsRecords root capacity pages stored = Spells root capacity (AreRecordsSpelled pages stored.records)
 
 -- the picture has this root, and pages of it spell the records of a table that some of the units lead to
 pub record HoldsReached (graph : Graph (List ℕ)) (IsWide : List ℕ → Type 0) (units : ℕ) (was : Stored (List ℕ)) (root : List ℕ)
@@ -45,12 +45,12 @@ pub record HoldsReached (graph : Graph (List ℕ)) (IsWide : List ℕ → Type 0
   pub now : Stored (List ℕ)
   pub reached : AreDone graph IsWide units was done now
   pub pages : List ℕ
-  pub holds : Holds root capacity pages now picture
+  pub holds : HoldsRecords root capacity pages now picture
 
 -- a stop leaves what was stored under the old root, or what units of work made of it under the new
 abbrev pub IsLeftByTurn : Graph (List ℕ) → (List ℕ → Type 0) → ℕ → Store → List ℕ → Stored (List ℕ) → List ℕ → Picture → Type 0
 IsLeftByTurn graph IsWide units old pages was root picture =
-    Holds old.root (length old.marks) pages was picture ⊎ HoldsReached graph IsWide units was root (length old.marks) picture
+    HoldsRecords old.root (length old.marks) pages was picture ⊎ HoldsReached graph IsWide units was root (length old.marks) picture
 
 -- no page was free at some moment
 pub record WasFull (old : Store) : Type 0 where
@@ -76,14 +76,14 @@ TurnCause torn old new OutOfMemory = new.closed ≡ old.closed
 TurnCause torn old new (Table fault) = DeviceCause torn old new fault
 
 -- why no table is begun: the disk failed, no page was free at the later moment, memory was short, or the store was closed
-abbrev pub StartCause : Store → Store → TableFault → Type 0
-StartCause old moment table.Disk = Grew old.failures moment.failures
-StartCause old moment table.Damaged = ⊥
-StartCause old moment table.TableFull = free_count moment.marks ≡ 0
-StartCause old moment table.OutOfMemory = Unit {0}
-StartCause old moment table.Closed = old.closed ≡ true
+abbrev pub BeginCauseAt : Store → Store → TableFault → Type 0
+BeginCauseAt old moment table.Disk = Grew old.failures moment.failures
+BeginCauseAt old moment table.Damaged = ⊥
+BeginCauseAt old moment table.TableFull = free_count moment.marks ≡ 0
+BeginCauseAt old moment table.OutOfMemory = Unit {0}
+BeginCauseAt old moment table.Closed = old.closed ≡ true
 
 -- at some later moment there was such a cause
 pub record BeginCause (old : Store) (fault : TableFault) : Type 0 where
   pub moment : Store
-  pub cause : StartCause old moment fault
+  pub cause : BeginCauseAt old moment fault

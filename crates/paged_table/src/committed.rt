@@ -8,7 +8,7 @@ ghost use Rattle.frontier.specs.Causes.{IsRefusal};
 ghost use Rattle.frontier.specs.declared.fault.StepFault.TheVariants.{Inconsistent};
 ghost use Rattle.table_work.specs.Work.{AreDone, StopsWith};
 ghost use Rattle.paged_table.specs.InPages.{stored_on_pages, counted_on_pages, IsWholeTable, StaysTable, FailsTable};
-ghost use Rattle.paged_table.specs.Turns.{AtRest, Holds, TurnCause, BeginCause, IsLeftByTurn};
+ghost use Rattle.paged_table.specs.Turns.{AtRest, HoldsRecords, TurnCause, BeginCause, IsLeftByTurn};
 
 use crate::paged::{PagedTable, fresh};
 use crate::place::{put_new, table_fault};
@@ -118,7 +118,7 @@ impl<S: Pages> CommittedTable<S> {
     /// A stop of the power now leaves the table that is stored.
     pub fn rests(&self)
         ensures { IsWholeTable self.now.table → (S.store self.now.table.store).closed ≡ false
-            → StopLeaves (S.store self.now.table.store) (Holds (S.store self.now.table.store).root
+            → StopLeaves (S.store self.now.table.store) (HoldsRecords (S.store self.now.table.store).root
             (length (S.store self.now.table.store).marks) self.now.table.pages.items (stored_on_pages self.now.table)) }
     {}
 
@@ -155,7 +155,7 @@ impl<S: Pages> CommittedTable<S> {
         ensures kept_stop { IsWholeTable self.old.table
             → OnErr result ((S.store self.new.table.store).closed ≡ false
             → LeavesOnly (S.store self.old.table.store).disk (S.store self.new.table.store).disk
-            (Holds (S.store self.old.table.store).root (length (S.store self.old.table.store).marks) self.old.table.pages.items
+            (HoldsRecords (S.store self.old.table.store).root (length (S.store self.old.table.store).marks) self.old.table.pages.items
             (stored_on_pages self.old.table))) }
         ensures cause { IfErr result (TurnCause self.old.table.torn (S.store self.old.table.store) (S.store self.new.table.store)) }
         ensures refusal { IsWholeTable self.old.table

@@ -1,6 +1,7 @@
 //! The page of a record.
 ghost use Rattle.std.specs.Prelude.{◌≡◌, ◌+◌, ◌≤◌, ◌<◌, ℕ, IfSome, IfNone};
-ghost use Rattle.paged_table.specs.Page.{word_at as word_in, state_in, winner_in, record_in, IsRecordPage};
+ghost use Rattle.paged_table.specs.Page.{word_at as word_in, record_in, IsRecordPage};
+ghost use Rattle.table.specs.Records.{state_in, winner_in};
 
 use byteorder::{BigEndian, ByteOrder};
 use rbg_game::roles::Player;

@@ -7,7 +7,7 @@ ghost use Rattle.frontier.specs.Causes.{IsRefusal};
 ghost use Rattle.frontier.specs.declared.fault.StepFault.TheVariants.{Inconsistent};
 ghost use Rattle.table_work.specs.Work.{AreDone, StopsWith};
 ghost use Rattle.paged_table.specs.InPages.{stored_on_pages, counted_on_pages, IsWholeTable};
-ghost use Rattle.paged_table.specs.Turns.{Holds, TurnCause, IsLeftByTurn};
+ghost use Rattle.paged_table.specs.Turns.{HoldsRecords, TurnCause, IsLeftByTurn};
 ghost use Rattle.paged_table.specs.aid.Turns.{IsGivenUp};
 
 use crate::paged::PagedTable;
@@ -105,7 +105,7 @@ impl<S: Pages> PagedTable<S> {
             (stored_on_pages self.old) root.now) }
         ensures kept_stop { IsWholeTable self.old → OnErr result ((S.store self.new.store).closed ≡ false
             → LeavesOnly (S.store self.old.store).disk (S.store self.new.store).disk
-            (Holds (S.store self.old.store).root (length (S.store self.old.store).marks) self.old.pages.items
+            (HoldsRecords (S.store self.old.store).root (length (S.store self.old.store).marks) self.old.pages.items
             (stored_on_pages self.old))) }
         ensures cause { IfErr result (TurnCause self.old.torn (S.store self.old.store) (S.store self.new.store)) }
         ensures refusal { IsWholeTable self.old

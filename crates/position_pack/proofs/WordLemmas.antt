@@ -6,7 +6,7 @@ use Rattle.std.specs.Str.Parse.{IsNumeral, AllDigits, digits_value, without_lead
 use Rattle.std.proofs.lemmas.Fmt.{decimal_digit, decimal_is_IsNumeral, decimal-digits_value, first_decimal}
 use Rattle.std.proofs.lemmas.Str.Parse.{IsNumeralModel, numerals_by_value, tells_digits, without_leading_plus_none}
 use Rattle.std.proofs.lemmas.List.{get_or_at, length-append}
-use Rattle.position_pack.specs.aid.Spelled.{IsCut, AreWords}
+use Rattle.position_pack.specs.aid.Spelled.{IsSplitAt, AreWords}
 use Rattle.position_pack.proofs.TellLemmas.{before, lacks}
 
 -- a text without the byte is not cut
@@ -15,7 +15,7 @@ not_cut c text front back none is =
     none (length front) 0 (omega (arith, ap length is, length-append front (c ∷ back))) (ap (λ t. get_or t (length front) 0) is ∙ get_or_at front c back 0 (length front) refl)
 
 -- where a text is cut tells its front and its back
-pub cut_told : (c : ℕ) (text front back a r : List ℕ) → IsCut c text front back → All (λ b. b ≢ c) a → text ≡ a ++ (c ∷ r) → (front ≡ a) × (back ≡ r)
+pub cut_told : (c : ℕ) (text front back a r : List ℕ) → IsSplitAt c text front back → All (λ b. b ≢ c) a → text ≡ a ++ (c ∷ r) → (front ≡ a) × (back ≡ r)
 cut_told c text front back a r cut none is =
     before c front a back r (lacks c front (λ k lt. cut.front_lacks k 0 lt)) (lacks c a (λ k lt. none k 0 lt)) (sym cut.text_is ∙ is)
 
@@ -55,15 +55,15 @@ digits_told n bytes plain numeral is lt =
 pub no_role : (text a b c d e : List ℕ) → All (λ x. x ≢ 32) text → AreWords text a b c d e → ⊥
 no_role text a b c d e none are = not_cut 32 text a _ none are.text_is
 
-pub no_place : (text f r a b c d e : List ℕ) → IsCut 32 text f r → All (λ x. x ≢ 32) r → AreWords text a b c d e → ⊥
+pub no_place : (text f r a b c d e : List ℕ) → IsSplitAt 32 text f r → All (λ x. x ≢ 32) r → AreWords text a b c d e → ⊥
 no_place text f r a b c d e first none are = not_cut 32 r b _ none (cut_told 32 text f r a _ first are.role_lacks are.text_is).1
 
-pub no_vertex : (text f r g s a b c d e : List ℕ) → IsCut 32 text f r → IsCut 32 r g s → All (λ x. x ≢ 32) s → AreWords text a b c d e → ⊥
+pub no_vertex : (text f r g s a b c d e : List ℕ) → IsSplitAt 32 text f r → IsSplitAt 32 r g s → All (λ x. x ≢ 32) s → AreWords text a b c d e → ⊥
 no_vertex text f r g s a b c d e first second none are =
     let place = cut_told 32 text f r a _ first are.role_lacks are.text_is in
     not_cut 32 s c _ none (cut_told 32 r g s b _ second are.place_lacks place.1).1
 
-pub no_pieces : (text f r g s h t a b c d e : List ℕ) → IsCut 32 text f r → IsCut 32 r g s → IsCut 32 s h t → All (λ x. x ≢ 32) t → AreWords text a b c d e → ⊥
+pub no_pieces : (text f r g s h t a b c d e : List ℕ) → IsSplitAt 32 text f r → IsSplitAt 32 r g s → IsSplitAt 32 s h t → All (λ x. x ≢ 32) t → AreWords text a b c d e → ⊥
 no_pieces text f r g s h t a b c d e first second third none are =
     let place = cut_told 32 text f r a _ first are.role_lacks are.text_is in
     let vertex = cut_told 32 r g s b _ second are.place_lacks place.1 in

@@ -6,7 +6,7 @@ ghost use Rattle.arrayvec.specs.ArrayVec.{array_vec_len};
 ghost use Rattle.position_pack.specs.Fields as spec;
 ghost use Rattle.position_pack.specs.Bits as bits;
 ghost use Rattle.position_pack.specs.Bits.{width, field_bits, bytes_of_bits};
-ghost use Rattle.position_pack.specs.aid.Bits.{AreFields, IsFieldsOf, AreFew};
+ghost use Rattle.position_pack.specs.aid.Bits.{AreFields, IsFieldsOf, AreInRange};
 
 use crate::packed::Packed;
 use crate::parts::{role_byte, role_of};
@@ -83,7 +83,7 @@ fn put_pieces(fields: &mut Fields, pieces: &[u8])
 
 /// The position with these fields, so many of which are pieces.
 pub fn position_of(fields: &[u32], vertices: usize) -> Option<Position>
-    requires { AreFew vertices fields.now }
+    requires { AreInRange vertices fields.now }
     ensures { MatchOption result ⊥ (IsFieldsOf vertices fields.now) }
 {
     let (pieces, rest) = fields.split_at(vertices);

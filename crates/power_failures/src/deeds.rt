@@ -1,7 +1,8 @@
 //! What is done to the table on a disk, and how far it came.
 
 use crate::standing::Standing;
-use recover::{Command, Reply, Solver, SolverFault, Units};
+use game_file::GameFile;
+use recover::{Command, FileSolver, Reply, SolverFault, TableFile, Units};
 use sector_disk::{MemDisk, SectorDisk};
 use std::alloc::Global;
 
@@ -61,21 +62,35 @@ pub fn done_on<D: SectorDisk + Drop>(
     deed: Deed,
 ) -> anyhow::Result<(D, Progress)> {
     if deed == Deed::Create {
-        return Ok(created(given.alloc, disk));
+        return Ok(created::<TableFile<D>>(given.alloc, disk));
     }
     let commands = commands_of(given, deed)?;
-    match Solver::open_with_cache(given.alloc, disk, given.pages.min(64)) {
+    commands_done::<TableFile<D>>(given, disk, &commands)
+}
+
+/// Gives these commands to the table of this disk.
+fn commands_done<F: GameFile>(
+    given: Given<'_>,
+    disk: F::Device,
+    commands: &[Command],
+) -> anyhow::Result<(F::Device, Progress)>
+where
+    F::Device: Drop,
+{
+    match FileSolver::<F>::open_with_cache(given.alloc, disk, given.pages.min(64)) {
         Err(refused) => Ok((refused.disk, refused_by(refused.fault, 0))),
         Ok(mut solver) => {
             let mut replies = Vec::new(given.alloc);
-            solver.run(&commands, &mut replies)?;
-            Ok((solver.close(), progress_of(&replies)))
+            let ran = solver.run(commands, &mut replies);
+            let disk = solver.close();
+            ran?;
+            Ok((disk, progress_of(&replies)))
         }
     }
 }
 
-fn created<D: SectorDisk + Drop>(alloc: Global, disk: D) -> (D, Progress) {
-    match Solver::create(alloc, disk) {
+fn created<F: GameFile>(alloc: Global, disk: F::Device) -> (F::Device, Progress) {
+    match FileSolver::<F>::create(alloc, disk) {
         Ok(solver) => {
             let done = Progress {
                 done: 1,

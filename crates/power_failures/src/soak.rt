@@ -1,14 +1,14 @@
 //! Random games and commands, stopped at random disk calls, and compared with a table that is never stopped.
 ghost use Rattle.std.specs.Prelude.{◌≤◌};
 
-use crate::standing::is_right;
+use crate::standing::is_right_in;
 use crate::watched::WatchedDisk;
 use flat_table::FlatTable;
 use game_file::GameFile;
 use rand::{Rng, RngExt};
 use rand_pcg::Pcg32;
-use recover::{FileSolver, Solver, SolverFault, Units};
-use sector_disk::{FuseDisk, MemDisk, SectorDisk};
+use recover::{FileSolver, SolverFault, TableFile, Units};
+use sector_disk::{FuseDisk, MemDisk};
 use std::alloc::Global;
 
 /// The sectors of 128 pages: a table that is full refuses an order, and stays as it was.
@@ -23,8 +23,8 @@ const COMMANDS: u32 = 24;
 /// So many of the last disk calls of an order are stopped at as often as all others.
 const LAST_CALLS: u64 = 8;
 
-/// A table that is never stopped, in a file of the earlier layout.
-type Model = FileSolver<FlatTable<MemDisk>>;
+/// The file of a table that is never stopped, of the earlier layout.
+type Model = FlatTable<MemDisk>;
 
 /// What was done.
 #[derive(Clone, Copy, Default)]
@@ -99,51 +99,123 @@ fn round_of(
     text: &[u8],
     tally: &mut Tally,
 ) -> anyhow::Result<bool> {
-    let mut disk = made(alloc)?;
-    let mut model = model_made(alloc)?;
+    let disk = made::<TableFile<MemDisk>>(alloc, MemDisk::new(alloc, SECTORS)?)?;
+    let spare = MemDisk::new(alloc, MODEL_SECTORS)?;
+    round_beside::<Model>(alloc, random, disk, spare, text, tally)
+}
+
+/// The same, of the empty table on this disk, with a model on the other. What holds a solver has the type of its file as a parameter,
+/// so that no proof looks into the file.
+fn round_beside<M: GameFile>(
+    alloc: Global,
+    random: &mut Pcg32,
+    disk: MemDisk,
+    spare: M::Device,
+    text: &[u8],
+    tally: &mut Tally,
+) -> anyhow::Result<bool>
+where
+    M::Device: Drop,
+{
+    match FileSolver::<M>::create(alloc, spare) {
+        Ok(mut model) => {
+            let is_right = orders_given(alloc, random, disk, &mut model, text, tally);
+            let _ = model.close();
+            is_right
+        }
+        Err(refused) => Err(refused.fault.into()),
+    }
+}
+
+/// Gives all orders of a round. Answers whether the table was always as the model is, and is right at the end.
+fn orders_given<M: GameFile>(
+    alloc: Global,
+    random: &mut Pcg32,
+    disk: MemDisk,
+    model: &mut FileSolver<M>,
+    text: &[u8],
+    tally: &mut Tally,
+) -> anyhow::Result<bool> {
+    let mut disk = disk;
     for _ in 0..COMMANDS {
-        match is_as_the_model(alloc, random, disk, &mut model, text, tally)? {
+        match is_as_the_model(alloc, random, disk, model, text, tally)? {
             Some(left) => disk = left,
             None => return Ok(false),
         }
     }
-    let mut found = opened(alloc, random, disk)?;
-    Ok(is_right(&mut found)?)
+    let pages = some_pages(random);
+    Ok(is_right_in::<TableFile<MemDisk>>(alloc, disk, pages)?)
 }
 
 /// Gives one order to the table of this disk, with a stop at a random call, if it comes so far, and to the model. Answers the disk, if
 /// the table is then as the model is.
-fn is_as_the_model(
+fn is_as_the_model<M: GameFile>(
     alloc: Global,
     random: &mut Pcg32,
     disk: MemDisk,
-    model: &mut Model,
+    model: &mut FileSolver<M>,
     text: &[u8],
     tally: &mut Tally,
 ) -> anyhow::Result<Option<MemDisk>> {
     let order = some_order(random, model.status().is_some());
     let (left, is_done) = stopped(alloc, random, disk, text, order)?;
-    let mut found = opened(alloc, random, left)?;
-    let is_ahead = found.status() != model.status();
-    if is_done || is_ahead {
-        obey(model, text, order)?;
-    }
-    tally.count(is_done, is_ahead);
-    let is_equal = are_equal(random, model, &mut found)?;
-    Ok(is_equal.then_some(found.close()))
+    let given = Answered { order, is_done };
+    compared::<TableFile<MemDisk>, M>(alloc, random, left, model, text, given, tally)
 }
 
-/// The empty table that is never stopped.
-fn model_made(alloc: Global) -> anyhow::Result<Model> {
-    match Model::create(alloc, MemDisk::new(alloc, MODEL_SECTORS)?) {
-        Ok(solver) => Ok(solver),
+/// An order, and whether it was answered as done before the stop.
+#[derive(Clone, Copy, PartialEq, Eq, Debug)]
+struct Answered {
+    order: Order,
+    is_done: bool,
+}
+
+/// Compares what is found on this disk with the model, once that has done the order too. Answers the disk, if they are equal.
+fn compared<F: GameFile, M: GameFile>(
+    alloc: Global,
+    random: &mut Pcg32,
+    left: F::Device,
+    model: &mut FileSolver<M>,
+    text: &[u8],
+    given: Answered,
+    tally: &mut Tally,
+) -> anyhow::Result<Option<F::Device>>
+where
+    F::Device: Drop,
+{
+    match FileSolver::<F>::open_with_cache(alloc, left, some_pages(random)) {
+        Ok(mut found) => {
+            let is_equal = is_equal_to(random, model, &mut found, text, given, tally);
+            let left = found.close();
+            Ok(if is_equal? { Some(left) } else { None })
+        }
         Err(refused) => Err(refused.fault.into()),
     }
 }
 
+/// Whether the table that is found is as the model, once that has done the order too, if the stop left it done.
+fn is_equal_to<F: GameFile, M: GameFile>(
+    random: &mut Pcg32,
+    model: &mut FileSolver<M>,
+    found: &mut FileSolver<F>,
+    text: &[u8],
+    given: Answered,
+    tally: &mut Tally,
+) -> anyhow::Result<bool> {
+    let is_ahead = found.status() != model.status();
+    if given.is_done || is_ahead {
+        obey(model, text, given.order)?;
+    }
+    tally.count(given.is_done, is_ahead);
+    are_equal(random, model, found)
+}
+
 /// A disk with the empty table.
-fn made(alloc: Global) -> anyhow::Result<MemDisk> {
-    match Solver::create(alloc, MemDisk::new(alloc, SECTORS)?) {
+fn made<F: GameFile>(alloc: Global, disk: F::Device) -> anyhow::Result<F::Device>
+where
+    F::Device: Drop,
+{
+    match FileSolver::<F>::create(alloc, disk) {
         Ok(solver) => Ok(solver.close()),
         Err(refused) => Err(refused.fault.into()),
     }
@@ -181,27 +253,28 @@ fn stopped(
 ) -> anyhow::Result<(MemDisk, bool)> {
     let pages = some_pages(random);
     let copy = WatchedDisk::new(alloc, disk.after_stop(alloc, 0)?);
-    let (watched, _) = ordered(alloc, copy, pages, text, order);
+    let (watched, _) = ordered::<TableFile<WatchedDisk<MemDisk>>>(alloc, copy, pages, text, order);
     let calls = watched.count();
     let passes = if below(random, 2) == 0 {
         below(random, calls)
     } else {
         calls.saturating_sub(below(random, LAST_CALLS))
     };
-    let (fuse, is_done) = ordered(alloc, FuseDisk::new(disk, passes), pages, text, order);
+    let fuse = FuseDisk::new(disk, passes);
+    let (fuse, is_done) = ordered::<TableFile<FuseDisk<MemDisk>>>(alloc, fuse, pages, text, order);
     let left = fuse.into_inner().after_stop(alloc, random.random())?;
     Ok((left, is_done))
 }
 
 /// Gives an order to the table of this disk. Answers the disk, and whether the order was done.
-fn ordered<D: SectorDisk + Drop>(
+fn ordered<F: GameFile>(
     alloc: Global,
-    disk: D,
+    disk: F::Device,
     pages: usize,
     text: &[u8],
     order: Order,
-) -> (D, bool) {
-    match Solver::open_with_cache(alloc, disk, pages.min(64)) {
+) -> (F::Device, bool) {
+    match FileSolver::<F>::open_with_cache(alloc, disk, pages.min(64)) {
         Err(refused) => (refused.disk, false),
         Ok(mut solver) => {
             let is_done = obey(&mut solver, text, order).is_ok();
@@ -222,19 +295,11 @@ fn obey<F: GameFile>(
     }
 }
 
-/// The table of this disk.
-fn opened(alloc: Global, random: &mut Pcg32, disk: MemDisk) -> anyhow::Result<Solver<MemDisk>> {
-    match Solver::open_with_cache(alloc, disk, some_pages(random)) {
-        Ok(solver) => Ok(solver),
-        Err(refused) => Err(refused.fault.into()),
-    }
-}
-
 /// Whether both tables are as far as the other, with equal rows from a random number on and an equal position there.
-fn are_equal(
+fn are_equal<F: GameFile, M: GameFile>(
     random: &mut Pcg32,
-    model: &mut Model,
-    found: &mut Solver<MemDisk>,
+    model: &mut FileSolver<M>,
+    found: &mut FileSolver<F>,
 ) -> anyhow::Result<bool> {
     let counts = model.status();
     if found.status() != counts {

@@ -2,7 +2,7 @@
 
 use audit::Verdict;
 use game_file::GameFile;
-use recover::{FileSolver, Solver, SolverFault};
+use recover::{FileSolver, SolverFault, TableFile};
 use retrograde::Counts;
 use sector_disk::MemDisk;
 use std::alloc::Global;
@@ -38,21 +38,33 @@ const WORKED: Counts = Counts {
 };
 
 /// What is found on this disk.
-fn found_on(alloc: Global, disk: MemDisk) -> Standing {
-    match Solver::open(alloc, disk) {
+fn found_on<F: GameFile>(alloc: Global, disk: F::Device) -> Standing
+where
+    F::Device: Drop,
+{
+    match FileSolver::<F>::open(alloc, disk) {
         Err(refused) if refused.fault == SolverFault::NotATable => Standing::NoTable,
         Err(_) => Standing::Other,
-        Ok(solver) => match solver.status() {
-            None => Standing::Empty,
-            Some(counts) if counts == LOADED => Standing::Loaded,
-            Some(counts) if counts == WORKED => Standing::Worked,
-            Some(_) => Standing::Other,
-        },
+        Ok(solver) => {
+            let standing = standing_of(solver.status());
+            let _ = solver.close();
+            standing
+        }
+    }
+}
+
+/// Which table is so far.
+fn standing_of(counts: Option<Counts>) -> Standing {
+    match counts {
+        None => Standing::Empty,
+        Some(counts) if counts == LOADED => Standing::Loaded,
+        Some(counts) if counts == WORKED => Standing::Worked,
+        Some(_) => Standing::Other,
     }
 }
 
 /// Whether the audit says that a table is right; one without a game is not audited.
-pub fn is_right<F: GameFile>(solver: &mut FileSolver<F>) -> Result<bool, SolverFault> {
+fn is_right<F: GameFile>(solver: &mut FileSolver<F>) -> Result<bool, SolverFault> {
     if solver.status().is_none() {
         return Ok(true);
     }
@@ -61,16 +73,35 @@ pub fn is_right<F: GameFile>(solver: &mut FileSolver<F>) -> Result<bool, SolverF
 
 /// Whether the table that a stop now leaves is right.
 pub fn is_right_on(alloc: Global, disk: &MemDisk) -> anyhow::Result<bool> {
-    match Solver::open(alloc, disk.after_stop(alloc, 0)?) {
-        Ok(mut solver) => Ok(is_right(&mut solver)?),
-        Err(refused) => Err(refused.fault.into()),
+    Ok(is_right_in::<TableFile<MemDisk>>(alloc, disk.after_stop(alloc, 0)?, 64)?)
+}
+
+/// Whether the table of this disk is right, with so many of its pages, 64 at most, in memory.
+pub fn is_right_in<F: GameFile>(
+    alloc: Global,
+    disk: F::Device,
+    pages: usize,
+) -> Result<bool, SolverFault>
+where
+    F::Device: Drop,
+{
+    match FileSolver::<F>::open_with_cache(alloc, disk, pages.min(64)) {
+        Ok(mut solver) => {
+            let is_right = is_right(&mut solver);
+            let _ = solver.close();
+            is_right
+        }
+        Err(refused) => Err(refused.fault),
     }
 }
 
 /// Whether one of these is found on each of the 256 pictures that a stop now leaves.
 pub fn all_stand(alloc: Global, disk: &MemDisk, allowed: &[Standing]) -> anyhow::Result<bool> {
     for pick in 0..256 {
-        if !allowed.contains(&found_on(alloc, disk.after_stop(alloc, pick)?)) {
+        if !allowed.contains(&found_on::<TableFile<MemDisk>>(
+            alloc,
+            disk.after_stop(alloc, pick)?,
+        )) {
             return Ok(false);
         }
     }

@@ -1,6 +1,6 @@
 //! The moves of small games, worked out by hand.
 ghost use Rattle.std.specs.Prelude.{IfOk};
-ghost use Rattle.legal_moves.specs.Compiled.{IsCompiled};
+ghost use Rattle.legal_moves.specs.Compiled.{IsSoundCompiled};
 
 use legal_moves::{Compiled, Modifier, MoveSource, Moves};
 use position_pack::{Packed, PackingKind};
@@ -27,7 +27,7 @@ const BLACK_AHEAD_BY_BITS: [u8; 2] = [0x15, 0x00];
 
 /// The game of a text, made ready for its moves.
 fn game_of(alloc: Global, text: &str, kind: PackingKind) -> Result<Compiled, Fail>
-    ensures { IfOk result IsCompiled }
+    ensures { IfOk result IsSoundCompiled }
 {
     let game = read_game(alloc, text.as_bytes())?;
     Ok(Compiled::new(alloc, game, kind)?)

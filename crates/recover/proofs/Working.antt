@@ -23,7 +23,7 @@ use Rattle.frontier.specs.declared.fault.StepFault.TheVariants as step
 use Rattle.table_work.specs.Work.{StopsWith}
 use Rattle.game_table.specs.aid.Laws.{starts_are_positions, sound_tables_fit}
 use Rattle.game_table.specs.Tables.{packed_length, IsWorkOf}
-use Rattle.game_file.specs.Calls.{IsPut, IsNotPut, IsKept}
+use Rattle.game_file.specs.Calls.{IsPut, IsNotPut, IsNothingPut}
 use Rattle.game_file.specs.Causes.{FileCommitCause, FileTableCause}
 use Rattle.game_file.specs.Kept.{Kept, Layout, kept_as}
 use Rattle.game_file.specs.State.{State}
@@ -226,7 +226,7 @@ module _ (Stores : Layout) (old new : State) (source : Compiled) (k : Kept) (mad
     pub work_refused : (fault : StepFault)
         → (IsTrue old.disk.honest → IsLocallySound (graph_of (packing_kind source) (compiled_game source)) (IsWideAt (packing_kind source) (compiled_game source)) k.table → StopsWith (graph_of (packing_kind source) (compiled_game source)) (IsWideAt (packing_kind source) (compiled_game source)) k.table units fault)
         → (IsTrue old.disk.honest → IsLocallySound (graph_of (packing_kind source) (compiled_game source)) (IsWideAt (packing_kind source) (compiled_game source)) k.table → fault ≡ step.Inconsistent → ⊥)
-        → LeavesUnit Ahead Fails fault → old.closed ≡ false → IsKept Stores old new
+        → LeavesUnit Ahead Fails fault → old.closed ≡ false → IsNothingPut Stores old new
         → (Ahead → new.closed ≡ old.closed) → ((f : TableFault) → Fails f → f ≢ table.Disk → new.closed ≡ old.closed)
         → IsRefused Stores (work units) old new (step_fault fault)
     work_refused fault cause consistent left is_open given back failed = record {

@@ -1,19 +1,14 @@
 //! The commands on a table's file that are one command each.
 
-ghost use Rattle.std.specs.Prelude.{◌≡◌, ℕ, List, OnOk};
-ghost use Rattle.std.specs.Io.KnownBytes.{Appends};
-ghost use Rattle.session.specs.Answered.{status_of_fault};
-ghost use Rattle.session.specs.Told.{fault_line, IsReplyLine};
-
-use crate::replies::put_work;
-use crate::turns::reply_to;
-use crate::verdicts::put_verdict;
 use audit::Verdict;
-use rbg_read::fault::GameFault;
-use recover::{Command, Reply, Solver, SolverFault};
+use game_file::GameFile;
+pub use line_answers::puts::{put_line, put_refused, put_reply, status_of};
+use line_answers::turns::reply_to;
+use printed_lines::verdicts::put_verdict;
+use recover::{Command, FileSolver, Reply, SolverFault, TableFile};
 use sector_disk::SectorDisk;
 use std::alloc::Global;
-use std::io::{self, Write};
+use std::io::Write;
 
 /// What is done to a file.
 #[derive(Debug, PartialEq, Eq, Drop)]
@@ -43,19 +38,29 @@ pub fn command_on<D: SectorDisk, W: Write>(
     command: FileCommand,
     out: &mut W,
 ) -> (Outcome, D) {
+    command_in::<TableFile<D>, W>(alloc, disk, command, out)
+}
+
+/// The same with any layout of the file.
+fn command_in<F: GameFile, W: Write>(
+    alloc: Global,
+    disk: F::Device,
+    command: FileCommand,
+    out: &mut W,
+) -> (Outcome, F::Device) {
     match command {
-        FileCommand::Create => match Solver::create(alloc, disk) {
+        FileCommand::Create => match FileSolver::<F>::create(alloc, disk) {
             Ok(solver) => (said(out, b"created\n"), solver.close()),
             Err(refused) => (said_refused(out, refused.fault), refused.disk),
         },
-        FileCommand::Load(text) => match Solver::open(alloc, disk) {
+        FileCommand::Load(text) => match FileSolver::<F>::open(alloc, disk) {
             Ok(mut solver) => {
                 let reply = reply_to(alloc, &mut solver, Command::Load(text));
                 (said_reply(out, reply), solver.close())
             }
             Err(refused) => (said_refused(out, refused.fault), refused.disk),
         },
-        FileCommand::Audit => match Solver::open(alloc, disk) {
+        FileCommand::Audit => match FileSolver::<F>::open(alloc, disk) {
             Ok(mut solver) => (audited(&mut solver, out), solver.close()),
             Err(refused) => (said_refused(out, refused.fault), refused.disk),
         },
@@ -63,7 +68,7 @@ pub fn command_on<D: SectorDisk, W: Write>(
 }
 
 /// Says whether the table is right: the status is 1 where it is not.
-fn audited<D: SectorDisk, W: Write>(solver: &mut Solver<D>, out: &mut W) -> Outcome {
+fn audited<F: GameFile, W: Write>(solver: &mut FileSolver<F>, out: &mut W) -> Outcome {
     let verdict = match solver.audit() {
         Ok(verdict) => verdict,
         Err(fault) => return said_refused(out, fault),
@@ -80,18 +85,6 @@ fn audited<D: SectorDisk, W: Write>(solver: &mut Solver<D>, out: &mut W) -> Outc
     Outcome {
         status,
         refused: None,
-    }
-}
-
-/// The exit status of a refusal: 3 for a damaged table, 4 where the device failed, 5 for want of memory, else 1.
-pub fn status_of(fault: SolverFault) -> u8
-    ensures { result ≡ status_of_fault fault }
-{
-    match fault {
-        SolverFault::Damaged => 3,
-        SolverFault::Disk => 4,
-        SolverFault::OutOfMemory | SolverFault::Game(GameFault::OutOfMemory) => 5,
-        _ => 1,
     }
 }
 
@@ -132,38 +125,4 @@ pub fn said_refused<W: Write>(out: &mut W, fault: SolverFault) -> Outcome {
         status,
         refused: Some(fault),
     }
-}
-
-/// Writes a line at once.
-pub fn put_line<W: Write>(out: &mut W, line: &[u8]) -> io::Result<()>
-    ensures { OnOk result (Appends (W.contents out.old) (W.contents out.new) line.now) }
-{
-    out.write_all(line)?;
-    out.flush()
-}
-
-/// Writes the line of a reply at once: `loaded`, the work that was done, or the refusal. It takes no memory.
-pub fn put_reply<W: Write>(out: &mut W, reply: Reply) -> io::Result<()>
-    ensures { OnOk result ((line : List ℕ) × IsReplyLine reply line × Appends (W.contents out.old) (W.contents out.new) line) }
-{
-    match reply {
-        Reply::Loaded => put_line(out, b"loaded\n"),
-        Reply::Worked(units, counts) => {
-            put_work(out, units, counts)?;
-            out.flush()
-        }
-        Reply::Refused(fault) => put_refused(out, fault),
-    }
-}
-
-/// Writes `refused` and the code at once; behind S3 the number of the position. It takes no memory.
-pub fn put_refused<W: Write>(out: &mut W, fault: SolverFault) -> io::Result<()>
-    ensures { OnOk result (Appends (W.contents out.old) (W.contents out.new) (fault_line fault)) }
-{
-    out.write_all(b"refused ")?;
-    out.write_all(fault.code().as_bytes())?;
-    if let SolverFault::KeeperChooses(number) = fault {
-        write!(out, " {number}")?;
-    }
-    put_line(out, b"\n")
 }

@@ -1,10 +1,10 @@
 //! The commands on files: each is opened here, and the rest is done on a disk over it.
 
-use crate::advice::advice;
 use crate::commands::{FileCommand, Outcome, command_on};
 use crate::line_by_line::session_over;
 use crate::program::{read_start, status_of_refused, tell, tell_game_fault};
-use crate::refused::Refused;
+use line_answers::advice::advice;
+use printed_lines::refused::Refused;
 use rbg_read::read::read_game;
 use recover::SolverFault;
 use root_pair::MAGIC;

@@ -1,10 +1,11 @@
 //! A session: commands as lines on an input, each with its reply.
 
-use crate::advice::tell_fault;
 use crate::commands::said_refused;
-use crate::input::{Asked, Line};
-use crate::questions::put_answer;
-use recover::{Solver, SolverFault};
+use game_file::GameFile;
+use line_answers::advice::tell_fault;
+use line_answers::input::{Asked, Line};
+use line_answers::questions::put_answer;
+use recover::{FileSolver, SolverFault, TableFile};
 use sector_disk::SectorDisk;
 use std::alloc::Global;
 use std::io::{ErrorKind, Read, Write};
@@ -18,7 +19,18 @@ pub fn session_over<D: SectorDisk, R: Read, W: Write, E: Write>(
     out: &mut W,
     told: &mut E,
 ) -> (u8, D) {
-    match Solver::open(alloc, disk) {
+    session_in::<TableFile<D>, R, W, E>(alloc, disk, input, out, told)
+}
+
+/// The same with any layout of the file.
+fn session_in<F: GameFile, R: Read, W: Write, E: Write>(
+    alloc: Global,
+    disk: F::Device,
+    input: &mut R,
+    out: &mut W,
+    told: &mut E,
+) -> (u8, F::Device) {
+    match FileSolver::<F>::open(alloc, disk) {
         Ok(mut solver) => {
             let status = answer_all(alloc, &mut solver, input, out, told);
             (status, solver.close())
@@ -35,9 +47,9 @@ fn refuse<W: Write, E: Write>(fault: SolverFault, out: &mut W, told: &mut E) -> 
 }
 
 /// Answers line by line up to `quit`, the end of the input, or a refusal that ends the session.
-fn answer_all<D: SectorDisk, R: Read, W: Write, E: Write>(
+fn answer_all<F: GameFile, R: Read, W: Write, E: Write>(
     alloc: Global,
-    solver: &mut Solver<D>,
+    solver: &mut FileSolver<F>,
     input: &mut R,
     out: &mut W,
     told: &mut E,
@@ -64,9 +76,9 @@ fn answer_all<D: SectorDisk, R: Read, W: Write, E: Write>(
 
 /// Answers the lines that end in these bytes, and keeps what stands behind the last of them. Gives the status where the
 /// session ends.
-fn answer_chunk<D: SectorDisk, W: Write, E: Write>(
+fn answer_chunk<F: GameFile, W: Write, E: Write>(
     alloc: Global,
-    solver: &mut Solver<D>,
+    solver: &mut FileSolver<F>,
     line: &mut Line,
     chunk: &[u8],
     out: &mut W,
@@ -82,9 +94,9 @@ fn answer_chunk<D: SectorDisk, W: Write, E: Write>(
 }
 
 /// Puts a byte to the line, or answers the line that it ends.
-fn answer_byte<D: SectorDisk, W: Write, E: Write>(
+fn answer_byte<F: GameFile, W: Write, E: Write>(
     alloc: Global,
-    solver: &mut Solver<D>,
+    solver: &mut FileSolver<F>,
     line: &mut Line,
     byte: u8,
     out: &mut W,
@@ -102,9 +114,9 @@ fn answer_byte<D: SectorDisk, W: Write, E: Write>(
 }
 
 /// Writes the reply to a line. Gives the status where the session ends with it.
-fn answer<D: SectorDisk, W: Write, E: Write>(
+fn answer<F: GameFile, W: Write, E: Write>(
     alloc: Global,
-    solver: &mut Solver<D>,
+    solver: &mut FileSolver<F>,
     asked: Asked<'_>,
     out: &mut W,
     told: &mut E,

@@ -2,10 +2,10 @@
 
 use crate::explain::{Explanation, LineColumn, explain, line_column};
 use crate::files::{audit_file, create_file, load_file, session_of_file};
-use crate::moves::moves_to;
-use crate::refused::Refused;
 use crate::streams::Streams;
 use crate::words::{Refusal, Words, words_of};
+use printed_lines::moves::moves_to;
+use printed_lines::refused::Refused;
 use rbg_read::fault::GameFault;
 use rbg_read::read::read_game;
 use std::alloc::Global;

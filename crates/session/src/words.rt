@@ -2,7 +2,9 @@
 ghost use Rattle.std.specs.Prelude.{IfErr};
 ghost use Rattle.session.specs.Statuses.{IsStatusOfWords};
 
-use clap::{Arg, ArgAction, ArgMatches, Command, Error, value_parser};
+use clap::builder::ValueParser;
+use clap::{Arg, ArgAction, ArgMatches, Command, Error};
+pub use line_answers::input::SESSION_LINES;
 use std::alloc::{AllocError, Global};
 
 /// What the words of a command line ask for.
@@ -83,22 +85,6 @@ const SESSION_LONG_ABOUT: &str = concat!(
     "it. A table is finished when nothing is left to do. A table that may be read and not written can be asked.\n",
     "\n",
     "A table of an earlier layout is not opened: that is answered by `refused E5`, and it stays as it is.",
-);
-
-/// The lines that a session takes, as its help shows them.
-pub const SESSION_LINES: &str = concat!(
-    "Lines:\n",
-    "  work U     does U units of work, 1 to 256, or fewer where the table is finished then\n",
-    "  status     says how far the table is\n",
-    "  value N    who wins position N and in how many moves, or `drawn`, or `open`\n",
-    "  line N     the numbers of the positions along a shortest win from N\n",
-    "  list A B   the values of B positions, 1 to 256, from A on, one a line\n",
-    "  show N     the text of position N\n",
-    "  find TEXT  the number of the position with this text\n",
-    "  help       shows these lines on standard error\n",
-    "  quit       ends the session, as the end of the input does\n",
-    "\n",
-    "Any other line is answered by `usage`, and so is `help`.",
 );
 
 const AUDIT_ABOUT: &str = "Says whether a table is right, whoever made it";
@@ -200,19 +186,28 @@ fn game_word<'a>(alloc: Global) -> Arg<'a> {
         .action(ArgAction::Set)
 }
 
-fn create_command<'a>(alloc: Global) -> Result<Command<'a>, AllocError> {
-    let pages = Arg::new(alloc, "pages")
+/// How many pages a table has, a number of the type `u32` within bounds: what `value_parser!(u32).range(1..=1_048_576)` gives, said at
+/// once, since a range takes long to prove.
+fn pages_word<'a>(alloc: Global) -> Arg<'a> {
+    Arg::new(alloc, "pages")
         .long("pages")
         .value_name("N")
         .help("How many pages of 4,096 bytes the table has: 16 to 1,048,576")
         .required(true)
-        .value_parser(value_parser!(u32).range(1..=1_048_576))
-        .action(ArgAction::Set);
+        .value_parser(page_counts())
+        .action(ArgAction::Set)
+}
+
+fn page_counts<'a>() -> ValueParser<'a> {
+    ValueParser::signed(1, 1_048_576)
+}
+
+fn create_command<'a>(alloc: Global) -> Result<Command<'a>, AllocError> {
     Command::new(alloc, "create")
         .about(CREATE_ABOUT)
         .long_about(CREATE_LONG_ABOUT)
         .arg(file_word(alloc))?
-        .arg(pages)
+        .arg(pages_word(alloc))
 }
 
 fn load_command<'a>(alloc: Global) -> Result<Command<'a>, AllocError> {

@@ -20,8 +20,8 @@ const TO_OPEN_UNCACHED: u64 = 4 + 8 * 8;
 
 /// The disk calls of seven units, each of which expands a position, without those of the commit. Each tree is one leaf, or empty at
 /// first. The leaf of the positions is read once, that of the records is in memory. A put writes its leaf: each of the six positions that
-/// come in is put into positions and records, each of the seven edges once, each of the seven records that are changed, and each of the two numbers
-/// that are settled.
+/// come in is put into positions and records, each of the seven edges once, each of the seven records that are changed, and each of the
+/// two numbers that are settled.
 const TO_WORK: u64 = 8 * (1 + 6 * 2 + 7 + 7 + 2);
 
 /// The same with no page in memory. A look at a tree reads its page, and a put reads and writes it; the first edge and the first settled

@@ -1,6 +1,6 @@
 //! Who wins within so many moves, by the definition's recursion alone: plain, slow, and made of none of
 //! what it is to be compared with but the moves.
-ghost use Rattle.legal_moves.specs.Compiled.{IsCompiled};
+ghost use Rattle.legal_moves.specs.Compiled.{IsSoundCompiled};
 
 use legal_moves::{Compiled, MoveSource};
 use position_pack::Packed;
@@ -49,7 +49,7 @@ fn places(alloc: Global, found: &mut Vec<Packed>, moves: &[Packed]) -> Result<Ve
 
 /// All positions that play can come to, no more than 1,000.
 fn explore(alloc: Global, source: &Compiled) -> Result<Vec<Node>, Fail>
-    requires { IsCompiled source.now }
+    requires { IsSoundCompiled source.now }
 {
     let mut found = Vec::new(alloc);
     found.push(MoveSource::start(source))?;
@@ -150,7 +150,7 @@ fn note_all(alloc: Global, nodes: &mut [Node], player: Player) -> Result<(), Fai
 
 /// All positions that play can come to, no more than 1,000, with the outcome of each.
 pub fn solve(alloc: Global, source: &Compiled) -> Result<Vec<Node>, Fail>
-    requires { IsCompiled source.now }
+    requires { IsSoundCompiled source.now }
 {
     let mut nodes = explore(alloc, source)?;
     note_all(alloc, &mut nodes, Player::First)?;

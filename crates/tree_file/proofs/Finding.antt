@@ -9,7 +9,7 @@ use Rattle.page_store.specs.Marks.{mark}
 use Rattle.page_store.specs.Store.{Store, reads}
 use Rattle.page_chain.specs.Causes.{ChainReadCause}
 use Rattle.page_chain.specs.Chain.{IsChain}
-use Rattle.page_chain.specs.aid.Links.{OnlyMarks}
+use Rattle.page_store.specs.aid.Marking.{OnlyMarks}
 use Rattle.page_chain.specs.aid.Resting.{a_chain_has_one_content}
 use Rattle.retrograde.specs.Changes.{counts_of}
 use Rattle.retrograde.specs.Stored.{Stored, IsTable}
@@ -41,8 +41,8 @@ use Rattle.tree_check.specs.aid.AsMany.{spelled_as_many}
 use Rattle.tree_forest.specs.Walked.{AreWalked, CanBeWalked, ForestCause}
 use Rattle.tree_forest.specs.aid.Marking.{reads_as_before}
 use Rattle.tree_forest.specs.aid.OneTree.{one_tree}
-use Rattle.tree_file.specs.Opening.{AllWait}
-use Rattle.tree_file.specs.aid.Reading.{NoGameCause, IsReadGame}
+use Rattle.page_store.specs.Pages.{AllWait}
+use Rattle.tree_file.specs.aid.Reading.{NoGameReadCause, IsReadGame}
 
 waits_apart : (m : Mark) → m ≡ Committed → m ≡ Waiting → ⊥
 waits_apart m one other = cc
@@ -108,7 +108,7 @@ module _ (old : Store) (slot : TreeSlot) (says : SaysTrees old.root (Some slot))
 
   -- why its chain is not read is why no game is
   pub chain_cause : (new : Store) (long : ℕ) (fault : PageFault) → long ≡ slot.sizes.text → ChainReadCause slot.first long old new fault
-      → NoGameCause old new (of_pages fault)
+      → NoGameReadCause old new (of_pages fault)
   chain_cause new long page.Disk is grew = grew
   chain_cause new long page.NotATable is never = never
   chain_cause new long page.Damaged is none = λ honest wait.
@@ -146,7 +146,7 @@ module _ (old : Store) (slot : TreeSlot) (says : SaysTrees old.root (Some slot))
     }
 
     -- why its trees are not walked is why no game is read
-    pub forest_cause : (new : Store) (fault : PageFault) → ForestCause slot mid new fault → NoGameCause old new (of_pages fault)
+    pub forest_cause : (new : Store) (fault : PageFault) → ForestCause slot mid new fault → NoGameReadCause old new (of_pages fault)
     forest_cause new page.Disk grew = grew_before old.failures mid.failures new.failures only.works.failures grew
     forest_cause new page.NotATable never = absurd never
     forest_cause new page.Damaged none = λ honest wait.
@@ -232,7 +232,7 @@ module _ (old : Store) (slot : TreeSlot) (says : SaysTrees old.root (Some slot))
 
       -- why its entries are not found right is why no game is read
       pub entries_cause : (IsTrue mid.disk.honest → (pages : Tree → List ℕ) × (entries : Tree → List Item) × AreWalked slot pages entries mid far)
-          → (new : Store) (fault : TableFault) → CheckEntriesCause slot far new fault → NoGameCause old new (of_table fault)
+          → (new : Store) (fault : TableFault) → CheckEntriesCause slot far new fault → NoGameReadCause old new (of_table fault)
       entries_cause trees new table.Disk grew =
           grew_before old.failures far.failures new.failures (omega (arith, only.works.failures, walked_on.works.failures)) grew
       entries_cause trees new table.Damaged none = λ honest wait.

@@ -4,7 +4,7 @@ use Rattle.std.specs.Result.{IsErr, IfErr, IsErrAnd}
 use Rattle.page_store.specs.declared.marks.Mark.{Mark}
 use Rattle.page_store.specs.Marks.{mark}
 use Rattle.page_store.specs.Store.{Store, StoreWorks, IsUnchanged}
-use Rattle.page_chain.specs.aid.Links.{OnlyMarks}
+use Rattle.page_store.specs.aid.Marking.{OnlyMarks}
 
 -- a fault is passed on
 pub passed_on : {X E : Type 0} (Cause : E → Type 0) (r : Result X E) (fault : E) → IsErr r × IsErrAnd r (λ f. f ≡ fault) → Cause fault → IfErr r Cause

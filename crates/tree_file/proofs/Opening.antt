@@ -20,7 +20,7 @@ use Rattle.tree_table.specs.Working.{work_of}
 use Rattle.tree_table.specs.aid.Keeping.{kept_stands}
 use Rattle.tree_file.specs.File.{IsWholeFile, file_of, kept_with, state_of}
 use Rattle.tree_file.specs.Older.{IsOlderTable}
-use Rattle.tree_file.specs.Opening.{IsFound, TreesReadCause}
+use Rattle.tree_file.specs.Opening.{IsFoundInFile, TreesReadCause}
 use Rattle.tree_file.specs.aid.Backed.{IsBackedFile}
 use Rattle.tree_file.proofs.Creating.{grew_from, left_before}
 use Rattle.tree_file.proofs.Saving.{calm_sealed}
@@ -51,7 +51,7 @@ module _ (disk : Disk) (count : ℕ) (found now : Store) (at_first : IsOpenedSto
       (leaves_more (left_before (at_first.same honest)) (read.leaves (still_honest at_first.goes_on honest)))
 
   -- what is found is what the disk stores
-  found_stored : (commits : ℕ) (game : Option TreeSlot) (text : List ℕ) → IsFound commits game text now → IsTrue disk.honest
+  found_stored : (commits : ℕ) (game : Option TreeSlot) (text : List ℕ) → IsFoundInFile commits game text now → IsTrue disk.honest
       → StoresTrees disk.now.contents (kept_with game text (reads now))
   found_stored commits game text it honest =
       let here = still_honest at_first.goes_on honest in
@@ -67,7 +67,7 @@ module _ (disk : Disk) (count : ℕ) (found now : Store) (at_first : IsOpenedSto
             (stands.spelled.anywhere (bytes_of disk.now.contents) (λ p here. ap (λ (picture : Picture). bytes_of picture p) (sym same)));
       }
 
-  pub found_opened : (commits : ℕ) (game : Option TreeSlot) (text : List ℕ) → IsFound commits game text now
+  pub found_opened : (commits : ℕ) (game : Option TreeSlot) (text : List ℕ) → IsFoundInFile commits game text now
       → IsOpenedFile StoresTrees disk count (state_of (file_of (work_of (slot_or_bare game) text false now) game))
   found_opened commits game text it = record {
     from = read_from;
@@ -115,7 +115,7 @@ module _ (disk : Disk) (count : ℕ) (found now : Store) (at_first : IsOpenedSto
       (subst (λ (n : ℕ). IsNotOpened disk count now.disk n) (sym many) (record { from = read_from; leaves = read_leaves }))
 
 -- a file in which this is found is whole
-pub found_whole : (commits : ℕ) (game : Option TreeSlot) (text : List ℕ) (now : Store) → IsFound commits game text now → IsSoundStore now
+pub found_whole : (commits : ℕ) (game : Option TreeSlot) (text : List ℕ) (now : Store) → IsFoundInFile commits game text now → IsSoundStore now
     → IsWholeFile (file_of (work_of (slot_or_bare game) text false now) game)
 found_whole commits game text now it sound = record {
   sound = sound;
@@ -129,7 +129,7 @@ found_whole commits game text now it sound = record {
 }
 
 -- what is found stands behind its file
-pub found_backed : (commits : ℕ) (game : Option TreeSlot) (text : List ℕ) (now : Store) → IsFound commits game text now
+pub found_backed : (commits : ℕ) (game : Option TreeSlot) (text : List ℕ) (now : Store) → IsFoundInFile commits game text now
     → IsBackedFile commits (file_of (work_of (slot_or_bare game) text false now) game)
 found_backed commits game text now it = record {
   counted = it.counted;

@@ -17,7 +17,7 @@ use Rattle.page_store.specs.Spelling.{IsCalm}
 use Rattle.page_store.specs.Store.{Store, IsSoundStore, StoreWorks, IsRemarked, reads}
 use Rattle.retrograde.specs.Stored.{Stored, IsTable}
 use Rattle.root_slot.specs.Fields.{commits_in}
-use Rattle.game_file.specs.Calls.{IsPut, IsNotPut, IsKept}
+use Rattle.game_file.specs.Calls.{IsPut, IsNotPut, IsNothingPut}
 use Rattle.game_file.specs.Kept.{Kept, kept_as, packing_kept, text_kept}
 use Rattle.game_file.specs.State.{GoesAhead, count_behind}
 use Rattle.game_file.specs.Stops.{LeavesEither, LeavesTable}
@@ -57,7 +57,7 @@ module _ (was mid new : File) (whole : IsWholeFile was) (works : StoreWorks was.
     capacity = all_still.same_pages;
   }
 
-  pub given_up_kept : IsKept StoresTrees (state_of was) (state_of new)
+  pub given_up_kept : IsNothingPut StoresTrees (state_of was) (state_of new)
   given_up_kept = record {
     ahead = given_up_ahead;
     commits = ap commits_in all_still.root;

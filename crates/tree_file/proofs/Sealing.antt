@@ -9,7 +9,7 @@ use Rattle.page_store.specs.Marks.{mark, needs, turned, AreSealed}
 use Rattle.page_store.specs.Page.{page}
 use Rattle.page_store.specs.Spelling.{IsCalm}
 use Rattle.page_store.specs.Store.{Store, IsSoundStore, IsRemarked, reads}
-use Rattle.page_chain.specs.aid.Links.{OnlyMarks}
+use Rattle.page_store.specs.aid.Marking.{OnlyMarks}
 use Rattle.root_slot.specs.Fields.{commits_in, layout_in}
 use Rattle.root_slot.specs.aid.Packings.{one_packing}
 use Rattle.game_file.specs.declared.fault.FileFault.{FileFault}
@@ -29,8 +29,9 @@ use Rattle.tree_table.specs.Trees.{root_of}
 use Rattle.tree_table.specs.aid.Keeping.{keeps_as}
 use Rattle.tree_table.specs.aid.Spelling.{forest_spells}
 use Rattle.tree_file.specs.File.{NamesSlot, kept_with}
-use Rattle.tree_file.specs.Opening.{AllWait, IsFound, TreesReadCause}
-use Rattle.tree_file.specs.aid.Reading.{NoGameCause, IsReadFor, IsReadGame}
+use Rattle.tree_file.specs.Opening.{IsFoundInFile, TreesReadCause}
+use Rattle.page_store.specs.Pages.{AllWait}
+use Rattle.tree_file.specs.aid.Reading.{NoGameReadCause, IsReadFor, IsReadGame}
 use Rattle.tree_file.proofs.Finding.{map_within}
 
 -- the slot that a root tells is of a size that a table may have
@@ -159,7 +160,7 @@ module _ (old mid new : Store) (only : OnlyMarks old mid) (sealed : AreSealed mi
 
     -- what was read is found
     pub read_found : (game : Option TreeSlot) (text : List ℕ) (commits : ℕ) → SaysTrees old.root game → commits ≡ commits_in old.root → 16 ≤ length old.marks
-        → IsReadFor game text old mid → IsFound commits game text new
+        → IsReadFor game text old mid → IsFoundInFile commits game text new
     read_found game text commits says counted room read = record {
       room = omega (arith, room, sealed_long);
       counted = counted ∙ ap commits_in (sym sealed_root);
@@ -173,7 +174,7 @@ module _ (old mid new : Store) (only : OnlyMarks old mid) (sealed : AreSealed mi
     }
 
 -- what is found stands
-pub found_stands : (commits : ℕ) (game : Option TreeSlot) (text : List ℕ) (store : Store) → IsFound commits game text store → IsTrue store.disk.honest
+pub found_stands : (commits : ℕ) (game : Option TreeSlot) (text : List ℕ) (store : Store) → IsFoundInFile commits game text store → IsTrue store.disk.honest
     → StandsFor game text store
 found_stands commits None text store found honest = found.text refl
 found_stands commits (Some slot) text store found honest =
@@ -191,7 +192,7 @@ found_stands commits (Some slot) text store found honest =
     }
 
 -- why a game is not read is why the file is not
-pub game_cause : (old new : Store) (game : Option TreeSlot) (fault : FileFault) → SaysTrees old.root game → NoGameCause old new fault
+pub game_cause : (old new : Store) (game : Option TreeSlot) (fault : FileFault) → SaysTrees old.root game → NoGameReadCause old new fault
     → TreesReadCause old new fault
 game_cause old new game DiskFailed says cause = cause
 game_cause old new game NotATable says cause = cause

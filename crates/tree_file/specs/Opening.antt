@@ -1,8 +1,9 @@
 -- What is found in a file as it is opened, and why it is not opened.
 use Rattle.std.specs.Prelude.{◌≡◌, ℕ, ◌≤◌, ◌<◌, true, List, [], length, Option, None, IsTrue}
 use Rattle.sector_disk.specs.Disk.{Grew}
-use Rattle.page_store.specs.declared.marks.Mark.TheVariants.{Waiting, Free}
+use Rattle.page_store.specs.declared.marks.Mark.TheVariants.{Free}
 use Rattle.page_store.specs.Marks.{mark}
+use Rattle.page_store.specs.Pages.{AllWait}
 use Rattle.page_store.specs.Spelling.{IsCalm}
 use Rattle.page_store.specs.Store.{Store, reads}
 use Rattle.root_slot.specs.Fields.{commits_in, layout_in}
@@ -14,13 +15,9 @@ use Rattle.tree_table.specs.Held.{KeepsTrees}
 use Rattle.tree_table.specs.Keeping.{IsKeptInTrees, IsOneOf, AreSized}
 use Rattle.tree_file.specs.File.{NamesSlot, kept_with}
 
--- each page of the store waits to be marked, as in a store that was just opened
-abbrev pub AllWait : Store → Type 0
-AllWait store = (p : ℕ) → 1 ≤ p → p < length store.marks → mark store.marks p ≡ Waiting
-
 -- the committed root tells this count of commits and this slot, and the pages that it names are in use and no others; on an honest
 -- disk they keep this text and the table that they spell
-pub record IsFound (commits : ℕ) (game : Option TreeSlot) (content : List ℕ) (store : Store) : Type 0 where
+pub record IsFoundInFile (commits : ℕ) (game : Option TreeSlot) (content : List ℕ) (store : Store) : Type 0 where
   pub room : 16 ≤ length store.marks
   pub counted : commits ≡ commits_in store.root
   pub names : NamesSlot store.root game

@@ -2,10 +2,11 @@
 ghost use Rattle.std.specs.Prelude.{◌≡◌, ◌≤◌, false, Some, length, IfOk, IfErr, IsTrue};
 ghost use Rattle.sector_disk.specs.Disk.{size, GoesOn, LeavesOnly, MayLeave};
 ghost use Rattle.page_store.specs.Store.{StoreWorks};
-ghost use Rattle.page_chain.specs.aid.Links.{OnlyMarks};
+ghost use Rattle.page_store.specs.aid.Marking.{OnlyMarks};
 ghost use Rattle.tree_table.specs.Slot.{SaysTrees};
-ghost use Rattle.tree_file.specs.Opening.{AllWait, IsFound, TreesReadCause};
-ghost use Rattle.tree_file.specs.aid.Reading.{IsReadFor, NoGameCause};
+ghost use Rattle.tree_file.specs.Opening.{IsFoundInFile, TreesReadCause};
+ghost use Rattle.page_store.specs.Pages.{AllWait};
+ghost use Rattle.tree_file.specs.aid.Reading.{IsReadFor, NoGameReadCause};
 
 use game_file::FileFault;
 use page_chain::read_chain;
@@ -38,7 +39,7 @@ pub struct Opened {
 /// meanwhile leaves what it could leave before.
 pub fn read_all<P: Pages>(alloc: Global, store: &mut P) -> Result<Opened, FileFault>
     ensures found { (P.store store.old).closed ≡ false → AllWait (P.store store.old)
-        → IfOk result (λ opened. IsFound opened.commits opened.game opened.text.items (P.store store.new)) }
+        → IfOk result (λ opened. IsFoundInFile opened.commits opened.game opened.text.items (P.store store.new)) }
     ensures goes_on { GoesOn (P.store store.old).disk (P.store store.new).disk }
     ensures same_size { size (P.store store.new).disk ≡ size (P.store store.old).disk }
     ensures failures { (P.store store.old).failures ≤ (P.store store.new).failures }
@@ -79,7 +80,7 @@ fn read_named<P: Pages>(
     requires { SaysTrees (P.store store.old).root game.now }
     ensures only { OnlyMarks (P.store store.old) (P.store store.new) }
     ensures read { IfOk result (λ text. IsReadFor game.now text.items (P.store store.old) (P.store store.new)) }
-    ensures cause { IfErr result (NoGameCause (P.store store.old) (P.store store.new)) }
+    ensures cause { IfErr result (NoGameReadCause (P.store store.old) (P.store store.new)) }
 {
     match game {
         None => Ok(Vec::new(alloc)),
@@ -92,7 +93,7 @@ fn read_game<P: Pages>(alloc: Global, store: &mut P, slot: &TreeSlot) -> Result<
     requires { SaysTrees (P.store store.old).root (Some slot.now) }
     ensures only { OnlyMarks (P.store store.old) (P.store store.new) }
     ensures read { IfOk result (λ text. IsReadFor (Some slot.now) text.items (P.store store.old) (P.store store.new)) }
-    ensures cause { IfErr result (NoGameCause (P.store store.old) (P.store store.new)) }
+    ensures cause { IfErr result (NoGameReadCause (P.store store.old) (P.store store.new)) }
 {
     let chain = read_chain(alloc, store, slot.first, slot.sizes.text as usize)?;
     walk_trees(store, slot)?;

@@ -1,7 +1,7 @@
 -- The four trees are walked, one after another.
 use Rattle.std.proofs.Common.{◌≡◌, ◌≢◌, ℕ, List, length, Contains, IsTrue, refl, sym, ◌∙◌, subst}
 use Rattle.sector_disk.specs.aid.Moments.{still_honest}
-use Rattle.page_chain.specs.aid.Links.{OnlyMarks}
+use Rattle.page_store.specs.aid.Marking.{OnlyMarks}
 use Rattle.page_store.specs.declared.fault.PageFault.{PageFault}
 use Rattle.page_store.specs.declared.fault.PageFault.TheVariants.{Disk, NotATable, Damaged, TableFull, OutOfMemory, Closed}
 use Rattle.page_store.specs.declared.marks.Mark.TheVariants.{Committed}
@@ -10,7 +10,7 @@ use Rattle.page_store.specs.Store.{Store, reads}
 use Rattle.table_bytes.specs.declared.sizes.Sizes.{Sizes}
 use Rattle.tree_map.specs.aid.Unchanged.{grew_before}
 use Rattle.tree_page.specs.Page.{Item}
-use Rattle.tree_walk.specs.Walking.{AreWaiting}
+use Rattle.page_store.specs.Pages.{AreWaiting}
 use Rattle.tree_table.specs.declared.slot.TreeSlot.{TreeSlot}
 use Rattle.tree_table.specs.declared.tree.Tree.{Tree}
 use Rattle.tree_table.specs.declared.tree.Tree.TheVariants.{Positions, Records, Edges, Order}

@@ -10,7 +10,8 @@ use Rattle.tree_map.specs.Changes.{HoldsMap}
 use Rattle.tree_map.specs.aid.Laws.{a_root_has_one_map}
 use Rattle.tree_walk.specs.declared.fault.WalkFault.{WalkFault}
 use Rattle.tree_walk.specs.declared.fault.WalkFault.TheVariants.{Store, Refused}
-use Rattle.tree_walk.specs.Walking.{AreMarked, AreWaiting, WalkCause}
+use Rattle.tree_walk.specs.Walking.{MarksPages, WalkCause}
+use Rattle.page_store.specs.Pages.{AreWaiting}
 use Rattle.tree_table.specs.declared.slot.TreeSlot.{TreeSlot}
 use Rattle.tree_table.specs.declared.tree.Tree.{Tree}
 use Rattle.tree_table.specs.Trees.{key_width, value_width, root_of}
@@ -52,7 +53,7 @@ module _ (slot : TreeSlot) (tree : Tree) (w : Widths) (root : ℕ) (keys : w.key
   walk_fails refuses told none not Refused cause = refused refuses told none cause not
 
   module _ (told more : List Item → Type 0) (none : told [])
-      (walked : (pages : List ℕ) × (es : List Item) × HoldsMap w old root pages es × AreMarked pages old new
+      (walked : (pages : List ℕ) × (es : List Item) × HoldsMap w old root pages es × MarksPages pages old new
       × ((before : List Item) → told before → more (before ++ es))) where
     -- the entries are not such
     pub unlike : ((es : List Item) → more es → Such es → ⊥) → (pages : List ℕ) (es : List Item) → HoldsTree slot tree old pages es → AreWaiting pages old

@@ -1,6 +1,6 @@
 //! The four trees of a table are walked.
 ghost use Rattle.std.specs.Prelude.{◌≤◌, ℕ, List, OnOk, IfErr, IsTrue};
-ghost use Rattle.page_chain.specs.aid.Links.{OnlyMarks};
+ghost use Rattle.page_store.specs.aid.Marking.{OnlyMarks};
 ghost use Rattle.tree_page.specs.Page.{Item};
 ghost use Rattle.tree_table.specs.declared.tree.Tree.{Tree};
 ghost use Rattle.tree_forest.specs.Walked.{AreWalked, ForestCause};

@@ -1,6 +1,6 @@
 //! One of the four trees is walked.
 ghost use Rattle.std.specs.Prelude.{◌≡◌, ◌≤◌, ℕ, List, OnOk, IfErr, IsTrue};
-ghost use Rattle.page_chain.specs.aid.Links.{OnlyMarks};
+ghost use Rattle.page_store.specs.aid.Marking.{OnlyMarks};
 ghost use Rattle.tree_page.specs.Page.{Item};
 ghost use Rattle.tree_table.specs.declared.tree.Tree.TheVariants.{Edges};
 ghost use Rattle.tree_forest.specs.aid.One.{CountIs, EdgesAre, IsAsMany, IsWalkedTree, TreeCause, fault_of};

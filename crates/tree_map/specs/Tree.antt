@@ -1,6 +1,7 @@
 -- A map as a tree of pages. `bytes` are what each page reads as.
-use Rattle.std.specs.Prelude.{◌≡◌, ◌⊎◌, ℕ, zero, suc, ◌<◌, ◌≤◌, List, [], ◌∷◌, slice_get, All, Contains, Some}
+use Rattle.std.specs.Prelude.{◌≡◌, ◌⊎◌, ℕ, zero, suc, ◌<◌, ◌≤◌, List, [], ◌∷◌, All, Contains, Some}
 use Rattle.std.specs.List.{flat_map}
+use Rattle.page_store.specs.Pages.{IsOnce}
 use Rattle.tree_page.specs.Page.{Item, IsPage, items_in, child_of}
 use Rattle.tree_page.specs.declared.kind.Kind.TheVariants.{Leaf, Inner}
 use Rattle.tree_page.specs.declared.widths.Widths.{Widths}
@@ -22,10 +23,6 @@ IsTree w bytes zero page = IsPage w Leaf (bytes page)
 IsTree w bytes (suc d) page = IsPage w Inner (bytes page)
     × All (λ c. IsTree w bytes d (child_of c) × (first_key (entries_below w bytes d (child_of c)) ≡ Some c.0))
     (items_in w Inner (bytes page))
-
--- no page is named twice
-abbrev pub IsOnce : List ℕ → Type 0
-IsOnce pages = (i j p : ℕ) → slice_get pages i ≡ Some p → slice_get pages j ≡ Some p → i ≡ j
 
 -- below this root, on these pages, is a tree with these entries: of at most 24 levels, with keys that ascend, each page
 -- once and below this capacity

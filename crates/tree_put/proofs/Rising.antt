@@ -21,7 +21,8 @@ use Rattle.tree_map.specs.aid.Laws.{contains_first, contains_later, contains_roo
 use Rattle.tree_map.specs.aid.Order.{ascend_front, ascend_back, put_below, put_past}
 use Rattle.tree_map.specs.aid.Parts.{HasFirst, all_got, contains_part, flat_at, first_below, below_part, past_part, children_ascend}
 use Rattle.tree_map.specs.aid.Taking.{take_then, only_one}
-use Rattle.tree_map.specs.Tree.{entries_below, pages_below, IsTree, IsOnce}
+use Rattle.tree_map.specs.Tree.{entries_below, pages_below, IsTree}
+use Rattle.page_store.specs.Pages.{IsOnce}
 use Rattle.tree_put.specs.aid.Growing.{AreThere, AreWritten, IsGrowing, IsGrown, children}
 use Rattle.tree_map.specs.aid.Once.{contains_cons, Apart, once_append, once_apart, once_cons, once_first, once_left, once_none, once_rest, once_right}
 use Rattle.tree_put.proofs.Placing.{IsUnion, held_not_free, take_beside}

@@ -19,7 +19,7 @@ use Rattle.tree_page.specs.Page.{Item, IsPage, item_width, items_in, items_of, l
 use Rattle.tree_map.specs.Changes.{TakePlace}
 use Rattle.tree_map.specs.Entries.{first_key}
 use Rattle.tree_map.specs.aid.Laws.{contains_first, contains_later}
-use Rattle.tree_map.specs.Tree.{IsOnce}
+use Rattle.page_store.specs.Pages.{IsOnce}
 use Rattle.tree_put.specs.aid.Growing.{AreWritten}
 use Rattle.tree_put.specs.aid.Items.{IsCut}
 use Rattle.tree_put.proofs.Listing.{mul-mono, distribute, narrow}

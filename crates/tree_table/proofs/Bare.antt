@@ -11,7 +11,8 @@ use Rattle.position_pack.specs.declared.kind.PackingKind.TheVariants.{Bytes}
 use Rattle.page_chain.specs.Chain.{IsChain}
 use Rattle.tree_map.specs.Changes.{AreHeld}
 use Rattle.tree_table.specs.Entries.{AreEntriesOf}
-use Rattle.tree_table.specs.Working.{nothing, bare_slot, text_slot, HoldsTable}
+use Rattle.tree_table.specs.Working.{bare_slot, text_slot, HoldsTable}
+use Rattle.table.specs.Records.{nothing}
 
 bare_tree : (packed : ℕ) (t : Tree) (capacity : ℕ) (bytes : ℕ → List ℕ) → 1 ≤ packed → packed ≤ 240 → IsTreeOf packed t capacity 0 [] [] bytes
 bare_tree packed Positions capacity bytes some few = record {

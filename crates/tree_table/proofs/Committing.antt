@@ -16,7 +16,8 @@ use Rattle.tree_table.specs.declared.tree.Tree.{Tree}
 use Rattle.tree_table.specs.Forest.{IsForest}
 use Rattle.tree_table.specs.Keeping.{IsOneOf, IsStill, StandsInTrees, StandsFor, IsSizedSlot, AreSized, slot_or_bare}
 use Rattle.tree_table.specs.Trees.{root_of}
-use Rattle.tree_table.specs.Working.{work_of, table_now, nothing, bare_slot, HoldsForest, HoldsTable, HoldsWork}
+use Rattle.tree_table.specs.Working.{work_of, table_now, bare_slot, HoldsForest, HoldsTable, HoldsWork}
+use Rattle.table.specs.Records.{nothing}
 use Rattle.tree_table.specs.aid.Keeping.{forest_rests}
 use Rattle.tree_table.specs.aid.Standing.{stands_held}
 use Rattle.tree_map.specs.aid.Laws.{a_map_is_prepared}

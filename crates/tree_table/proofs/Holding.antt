@@ -15,7 +15,7 @@ use Rattle.table.specs.declared.fault.TableFault.TheVariants.{Disk, Damaged, Tab
 use Rattle.tree_table.specs.declared.slot.TreeSlot.{TreeSlot}
 use Rattle.tree_table.specs.Causes.{HasNoTable, ReadCause, ChangeCause}
 use Rattle.tree_table.specs.Spelled.{table_in}
-use Rattle.tree_table.specs.Working.{Work, work_of, table_now, IsHonestWork, HoldsTable, HoldsWork, WorkStays, WorkGoesOn, WorkCause, WorkFails}
+use Rattle.tree_table.specs.Working.{Work, work_of, table_now, IsHonestWork, HoldsTable, HoldsWork, WorkStays, WorkGoesOn, NoAnswerCause, WorkFails}
 use Rattle.tree_table.specs.aid.Frames.{honest_before, holds_still}
 use Rattle.tree_table.specs.aid.Spelling.{table_is}
 
@@ -55,7 +55,7 @@ still_held a b stays holds honest =
 pub read_fails_so : (a b : Work) (fault : TableFault) → WorkStays a b → ReadCause HasNoTable a.slot a.store b.store fault → WorkFails a b fault
 read_fails_so a b fault stays cause = record { works = stays.works; still = λ other. stays.unchanged.closed; text = stays.text; cause = so fault cause }
   where
-    so : (f : TableFault) → ReadCause HasNoTable a.slot a.store b.store f → WorkCause a b f
+    so : (f : TableFault) → ReadCause HasNoTable a.slot a.store b.store f → NoAnswerCause a b f
     so Disk grew = grew
     so Damaged none = λ is. none is.0.disk a.text (table_now a) is.1
     so TableFull never = absurd never
@@ -68,7 +68,7 @@ needs_no_page slot old new fault cause = λ is. subst (λ (f : TableFault). Read
 pub change_fails_so : (a b : Work) (fault : TableFault) → StoreWorks a.store b.store → (fault ≢ Disk → b.store.closed ≡ a.store.closed) → b.text ≡ a.text → ChangeCause HasNoTable a.slot a.store b.store fault → WorkFails a b fault
 change_fails_so a b fault works still text cause = record { works = works; still = still; text = text; cause = so fault cause }
   where
-    so : (f : TableFault) → ChangeCause HasNoTable a.slot a.store b.store f → WorkCause a b f
+    so : (f : TableFault) → ChangeCause HasNoTable a.slot a.store b.store f → NoAnswerCause a b f
     so Disk grew = grew
     so Damaged none = λ is. none is.0.disk a.text (table_now a) is.1
     so TableFull none = none

@@ -10,6 +10,7 @@ use Rattle.tree_page.specs.Page.{Item}
 use Rattle.tree_table.specs.declared.slot.TreeSlot.{TreeSlot}
 use Rattle.tree_table.specs.declared.tree.Tree.{Tree}
 use Rattle.tree_table.specs.Working.{HoldsForest, HoldsTable}
+use Rattle.page_chain.specs.declared.page.TheConstants.{PAYLOAD}
 
 -- no four trees are there, as far as the disk is honest
 abbrev pub HasNoForest : TreeSlot → Store → Type 0
@@ -45,6 +46,6 @@ AddCause position slot old new fault = ChangeCause HasNoTable slot old new fault
 abbrev pub StartCause : ℕ → Store → Store → TableFault → Type 0
 StartCause long old new Disk = Grew old.failures new.failures
 StartCause long old new Damaged = ¬ IsTrue old.disk.honest
-StartCause long old new TableFull = (4092 * free_count old.marks < long) ⊎ (free_count new.marks ≡ 0)
+StartCause long old new TableFull = (PAYLOAD * free_count old.marks < long) ⊎ (free_count new.marks ≡ 0)
 StartCause long old new OutOfMemory = Unit {0}
 StartCause long old new Closed = old.closed ≡ true

@@ -1,15 +1,11 @@
 -- The table that pages spell. Of pages that spell none it is some table, of which nothing is said.
-use Rattle.std.specs.Prelude.{ℕ, zero, suc, ◌==◌, ◌&&◌, if◌then◌else◌, List, [], take, drop, map, slice_index, unwrap_or, nat_lt, Option}
-use Rattle.std.specs.Prelude.{None, Some}
+use Rattle.std.specs.Prelude.{ℕ, zero, suc, ◌==◌, ◌&&◌, if◌then◌else◌, List, [], take, drop, map, slice_index, unwrap_or, nat_lt}
 use Rattle.std.specs.List.{flat_map, range_with_len}
 use Rattle.std.specs.Option.{is_some}
 use Rattle.byteorder.specs.Endian.{big_number}
-use Rattle.rbg_game.specs.declared.roles.Player.{Player}
-use Rattle.rbg_game.specs.declared.roles.Player.TheVariants.{First, Second}
-use Rattle.retrograde.specs.declared.records.State.{State}
-use Rattle.retrograde.specs.declared.records.State.TheVariants.{Known, Expanded, Settled, Processed}
 use Rattle.retrograde.specs.declared.records.Record.{Record}
 use Rattle.retrograde.specs.Stored.{Stored}
+use Rattle.table.specs.Records.{state_in, winner_in}
 use Rattle.table_bytes.specs.declared.sizes.Sizes.{Sizes}
 use Rattle.tree_page.specs.Page.{Item, items_of, count_in, child_of}
 use Rattle.tree_map.specs.Entries.{find_entry}
@@ -29,14 +25,6 @@ entries_down key value bytes (suc levels) page =
 -- the entries below this root, none below 0
 unfoldable pub entries_at : ℕ → ℕ → (ℕ → List ℕ) → ℕ → List Item
 entries_at key value bytes root = if root == 0 then [] else entries_down key value bytes 24 root
-
--- the state with this byte
-abbrev pub state_in : ℕ → State
-state_in byte = if byte == 0 then Known else if byte == 1 then Expanded else if byte == 2 then Settled else Processed
-
--- the winner with this byte, none for 0
-abbrev pub winner_in : ℕ → Option Player
-winner_in byte = if byte == 0 then None else if byte == 1 then Some First else Some Second
 
 -- the record of 16 bytes
 unfoldable pub record_in : List ℕ → Record

@@ -1,5 +1,5 @@
 -- A table on trees in a store of pages: what it is there, and what is left of it by its calls.
-use Rattle.std.specs.Prelude.{◌≡◌, ◌≢◌, ℕ, Bool, true, false, List, [], length, IsTrue}
+use Rattle.std.specs.Prelude.{◌≡◌, ◌≢◌, ℕ, Bool, true, false, List, length, IsTrue}
 use Rattle.sector_disk.specs.Disk.{Grew}
 use Rattle.page_store.specs.Marks.{free_count}
 use Rattle.page_store.specs.Store.{Store, reads, StoreWorks, IsUnchanged}
@@ -83,23 +83,19 @@ pub record WorkGoesOn (old new : Work) : Type 0 where
 
 -- why a call gives no answer: the disk failed; what was there is no honest table; no page is free; memory is short, or a
 -- position has not as many bytes as the others; the store was closed
-abbrev pub WorkCause : Work → Work → TableFault → Type 0
-WorkCause old new Disk = Grew old.store.failures new.store.failures
-WorkCause old new Damaged = ¬ (IsHonestWork old × HoldsWork old)
-WorkCause old new TableFull = free_count new.store.marks ≡ 0
-WorkCause old new OutOfMemory = Unit {0}
-WorkCause old new Closed = old.store.closed ≡ true
+abbrev pub NoAnswerCause : Work → Work → TableFault → Type 0
+NoAnswerCause old new Disk = Grew old.store.failures new.store.failures
+NoAnswerCause old new Damaged = ¬ (IsHonestWork old × HoldsWork old)
+NoAnswerCause old new TableFull = free_count new.store.marks ≡ 0
+NoAnswerCause old new OutOfMemory = Unit {0}
+NoAnswerCause old new Closed = old.store.closed ≡ true
 
 -- then nothing is committed either, the text is the same, and only a disk that failed closes the store
 pub record WorkFails (old new : Work) (fault : TableFault) : Type 0 where
   pub works : StoreWorks old.store new.store
   pub still : fault ≢ Disk → new.store.closed ≡ old.store.closed
   pub text : new.text ≡ old.text
-  pub cause : WorkCause old new fault
-
--- no position, and nothing else
-abbrev pub nothing : Stored (List ℕ)
-nothing = record { positions = []; records = []; has_edge = λ i p. false; order = [] }
+  pub cause : NoAnswerCause old new fault
 
 -- the slot of a text of so many bytes, from this page on, and of no position; positions have this packing and so many bytes
 abbrev pub text_slot : PackingKind → ℕ → ℕ → ℕ → TreeSlot

@@ -1,6 +1,7 @@
 //! A game's table on trees of pages.
 ghost use Rattle.std.specs.Prelude.{◌≡◌, ◌↔◌, ◌≤◌, ◌^◌, [], false, IsTrue};
-ghost use Rattle.tree_table.specs.Working.{HoldsWork, IsHonestWork, bare_slot as bare, nothing, table_now, work_of};
+ghost use Rattle.tree_table.specs.Working.{HoldsWork, IsHonestWork, bare_slot as bare, table_now, work_of};
+ghost use Rattle.table.specs.Records.{nothing};
 ghost use Rattle.tree_table.specs.Working as work;
 ghost use Rattle.tree_table.specs.aid.Frames as frames;
 

@@ -8,9 +8,9 @@ use Rattle.page_store.specs.Marks.{mark, IsMarked}
 use Rattle.page_store.specs.Page.{page}
 use Rattle.page_store.specs.Store.{Store, reads, StoreWorks, IsUnchanged}
 use Rattle.page_store.specs.aid.Works.{works_refl, works_then}
-use Rattle.tree_walk.specs.aid.Taking.{MarksOnly}
+use Rattle.page_store.specs.aid.Marking.{OnlyMarks}
 
-pub marks_none : (store : Store) → MarksOnly store store
+pub marks_none : (store : Store) → OnlyMarks store store
 marks_none store = record {
   works = works_refl store;
   shown = λ honest. refl;
@@ -19,7 +19,7 @@ marks_none store = record {
   others = λ p. inl refl;
 }
 
-pub marks_then : {old mid new : Store} → MarksOnly old mid → MarksOnly mid new → MarksOnly old new
+pub marks_then : {old mid new : Store} → OnlyMarks old mid → OnlyMarks mid new → OnlyMarks old new
 marks_then {old} {mid} {new} first second = record {
   works = works_then first.works second.works;
   shown = λ honest. second.shown (still_honest first.works.goes_on honest) ∙ first.shown honest;
@@ -40,7 +40,7 @@ marks_then {old} {mid} {new} first second = record {
     ]
 
 -- a read marks nothing
-pub marks_read : {old new : Store} → StoreWorks old new → IsUnchanged old new → MarksOnly old new
+pub marks_read : {old new : Store} → StoreWorks old new → IsUnchanged old new → OnlyMarks old new
 marks_read {old} {new} works same = record {
   works = works;
   shown = same.shown;
@@ -55,7 +55,7 @@ leaves_same old mid new same leaves honest = subst (λ (d : Disk). LeavesOnly d 
 
 -- one page is marked, and then read
 pub marks_one : (at : ℕ) (old mid new : Store) → StoreWorks old mid → mid.disk ≡ old.disk → mid.closed ≡ old.closed → IsMarked at Committed old.marks mid.marks
-    → StoreWorks mid new → IsUnchanged mid new → MarksOnly old new
+    → StoreWorks mid new → IsUnchanged mid new → OnlyMarks old new
 marks_one at old mid new marking disk closed marked reading same = record {
   works = works_then marking reading;
   shown = λ honest. same.shown (still_honest marking.goes_on honest) ∙ ap (λ (d : Disk). d.now) disk;
@@ -71,5 +71,5 @@ marks_one at old mid new marking disk closed marked reading same = record {
     ]
 
 -- each page reads as it did
-pub reads_marked : (old new : Store) → IsTrue old.disk.honest → MarksOnly old new → reads new ≡ reads old
+pub reads_marked : (old new : Store) → IsTrue old.disk.honest → OnlyMarks old new → reads new ≡ reads old
 reads_marked old new honest marks = ap (λ (s : Shown). λ (p : ℕ). page s.contents p) (marks.shown honest)

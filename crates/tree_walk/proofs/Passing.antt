@@ -12,7 +12,7 @@ use Rattle.tree_map.specs.aid.Laws.{contains_first, none_contained}
 use Rattle.tree_map.specs.aid.Once.{once_append, once_apart, once_cons, once_left, once_none, once_right}
 use Rattle.tree_map.specs.aid.Taking.{only_one}
 use Rattle.tree_walk.specs.aid.Passing.{AreReady, ArePassed}
-use Rattle.tree_walk.specs.aid.Taking.{IsTaken}
+use Rattle.tree_walk.specs.aid.Taking.{IsPageTaken}
 use Rattle.tree_walk.specs.aid.Telling.{AscendFrom}
 use Rattle.tree_walk.proofs.Telling.{from_back, from_front, told_none, told_then}
 
@@ -47,7 +47,7 @@ module _ (ps qs : List ℕ) (es fs : List Item) (old mid new : Store) (last betw
       apart p was there = two_marks (mark mid.marks p) (one.marked.marked p was) (two.marked.waited p there)
 
 -- one page
-pub passed_page : (w : Widths) (kind : Kind) (page : ℕ) (body : List ℕ) (old new : Store) (last : List ℕ) (told : List Item → Type 0) → IsTaken w kind page body old new
+pub passed_page : (w : Widths) (kind : Kind) (page : ℕ) (body : List ℕ) (old new : Store) (last : List ℕ) (told : List Item → Type 0) → IsPageTaken w kind page body old new
     → ArePassed (page ∷ []) [] old new last last told told
 passed_page w kind page body old new last told taken = record {
   marked = record {

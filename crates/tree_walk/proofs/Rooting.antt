@@ -19,8 +19,9 @@ use Rattle.tree_map.specs.aid.Order.{Past, all_both}
 use Rattle.tree_map.specs.aid.Unchanged.{unchanged_reads, grew_before}
 use Rattle.tree_walk.specs.declared.fault.WalkFault.{WalkFault}
 use Rattle.tree_walk.specs.declared.fault.WalkFault.TheVariants.{Store, Refused}
-use Rattle.tree_walk.specs.Walking.{AreMarked, AreWaiting, IsRefused, WalkCause}
-use Rattle.tree_walk.specs.aid.Passing.{AreReady, IsWalked, BelowCause}
+use Rattle.tree_walk.specs.Walking.{MarksPages, IsRefusedAmong, WalkCause}
+use Rattle.page_store.specs.Pages.{AreWaiting}
+use Rattle.tree_walk.specs.aid.Passing.{AreReady, IsWalked, WalkBelowCause}
 use Rattle.tree_walk.proofs.Telling.{ascends_from, from_ascends}
 
 -- the empty key is below each key of a tree
@@ -50,7 +51,7 @@ past_tree w bytes (suc d) page tree =
 
 -- root 0 has no page and no entry
 pub none_walked : (w : Widths) (root : ℕ) (store : StoreStated) (told : List Item → Type 0) → root ≡ 0
-    → (pages : List ℕ) × (es : List Item) × HoldsMap w store root pages es × AreMarked pages store store × ((before : List Item) → told before → told (before ++ es))
+    → (pages : List ℕ) × (es : List Item) × HoldsMap w store root pages es × MarksPages pages store store × ((before : List Item) → told before → told (before ++ es))
 none_walked w root store told none = (
   [],
   [],
@@ -101,7 +102,7 @@ module _ (w : Widths) (root depth : ℕ) (old mid new : StoreStated) (some : roo
         ascending = ascends_from [] es both.0 map.ascending;
       })
 
-  pub below_fails : (refuses : List Item → Item → Type 0) (told : List Item → Type 0) (last : List ℕ) → last ≡ [] → (fault : WalkFault) → BelowCause w depth root last refuses told mid new fault → WalkCause w root refuses told old new fault
+  pub below_fails : (refuses : List Item → Item → Type 0) (told : List Item → Type 0) (last : List ℕ) → last ≡ [] → (fault : WalkFault) → WalkBelowCause w depth root last refuses told mid new fault → WalkCause w root refuses told old new fault
   below_fails refuses told last none (Store Disk) grew = grew_before old.failures mid.failures new.failures works.failures grew
   below_fails refuses told last none (Store NotATable) never = absurd never
   below_fails refuses told last none (Store Damaged) not = λ honest.
@@ -112,12 +113,12 @@ module _ (w : Widths) (root depth : ℕ) (old mid new : StoreStated) (some : roo
   below_fails refuses told last none Refused refused = λ honest before was.
       let same : reads mid ≡ reads old = unchanged_reads old mid honest unchanged in record {
         depth = depth;
-        refused = subst (λ (bytes : ℕ → List ℕ). IsRefused refuses before (entries_below w bytes depth root)) same (refused (still_honest works.goes_on honest) before was);
+        refused = subst (λ (bytes : ℕ → List ℕ). IsRefusedAmong refuses before (entries_below w bytes depth root)) same (refused (still_honest works.goes_on honest) before was);
         of_map = of_map honest (λ ps fs. fs ≡ entries_below w (reads old) depth root) (λ i. entries_below w (same i) depth root);
       }
 
   pub map_walked : (first last now : List ℕ) (told more : List Item → Type 0) → depth < 24 → IsTrue old.disk.honest → (IsTrue mid.disk.honest → IsWalked w (reads mid) depth root first mid new last now told more)
-      → (pages : List ℕ) × (es : List Item) × HoldsMap w old root pages es × AreMarked pages old new × ((before : List Item) → told before → more (before ++ es))
+      → (pages : List ℕ) × (es : List Item) × HoldsMap w old root pages es × MarksPages pages old new × ((before : List Item) → told before → more (before ++ es))
   map_walked first last now told more shallow honest walked_mid =
       let walked : IsWalked w (reads old) depth root first mid new last now told more =
       subst (λ (bytes : ℕ → List ℕ). IsWalked w bytes depth root first mid new last now told more) (unchanged_reads old mid honest unchanged) (walked_mid (still_honest works.goes_on honest)) in (

@@ -9,7 +9,7 @@ use Rattle.tree_map.specs.aid.Found.{split_got, take_got}
 use Rattle.tree_map.specs.aid.Order.{Past, ascend_cons, ascend_first, ascend_none, ascend_rest, past_more}
 use Rattle.tree_walk.specs.declared.fault.WalkFault.{WalkFault}
 use Rattle.tree_walk.specs.declared.fault.WalkFault.TheVariants.{Store, Refused}
-use Rattle.tree_walk.specs.Walking.{IsRefused}
+use Rattle.tree_walk.specs.Walking.{IsRefusedAmong}
 use Rattle.tree_walk.specs.aid.Telling.{AscendFrom, last_key, IsTold, TellCause}
 
 pub last_more : (last : List ℕ) (es fs : List Item) → last_key last (es ++ fs) ≡ last_key (last_key last es) fs
@@ -53,7 +53,7 @@ told_then es fs last mid now told more most one two = record {
 
 -- one that is refused among more
 pub refused_later : (refuses : List Item → Item → Type 0) (told front es back all : List Item) → all ≡ front ++ (es ++ back)
-    → IsRefused refuses (told ++ front) es → IsRefused refuses told all
+    → IsRefusedAmong refuses (told ++ front) es → IsRefusedAmong refuses told all
 refused_later refuses told front es back all is refused = record {
   front = front ++ refused.front;
   entry = refused.entry;

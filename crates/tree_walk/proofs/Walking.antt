@@ -20,9 +20,10 @@ use Rattle.tree_map.specs.aid.Parts.{HasFirst, all_got, first_below, flat_at}
 use Rattle.tree_map.specs.aid.Unchanged.{grew_before}
 use Rattle.tree_walk.specs.declared.fault.WalkFault.{WalkFault}
 use Rattle.tree_walk.specs.declared.fault.WalkFault.TheVariants.{Store, Refused}
-use Rattle.tree_walk.specs.Walking.{IsRefused}
-use Rattle.tree_walk.specs.aid.Passing.{AreReady, ArePassed, IsWalked, BelowCause}
-use Rattle.tree_walk.specs.aid.Taking.{IsTaken, MarksOnly, TakeCause}
+use Rattle.tree_walk.specs.Walking.{IsRefusedAmong}
+use Rattle.tree_walk.specs.aid.Passing.{AreReady, ArePassed, IsWalked, WalkBelowCause}
+use Rattle.tree_walk.specs.aid.Taking.{IsPageTaken, TakeCause}
+use Rattle.page_store.specs.aid.Marking.{OnlyMarks}
 use Rattle.tree_walk.specs.aid.Telling.{AscendFrom, IsTold, TellCause}
 use Rattle.tree_walk.proofs.Marking.{reads_marked}
 use Rattle.tree_walk.proofs.Passing.{passed_page, passed_then, ready_back, ready_front}
@@ -49,7 +50,7 @@ pub record AreOver (w : Widths) (bytes : ℕ → List ℕ) (d page : ℕ) (items
   pub passed : ArePassed (page ∷ flat_map (pages_at w bytes d) (take k items)) (flat_map (entries_at w bytes d) (take k items)) old now last between told more
 
 pub over_none : (w : Widths) (bytes : ℕ → List ℕ) (d page : ℕ) (items : List Item) (body : List ℕ) (old now : StoreStated) (last : List ℕ) (told : List Item → Type 0)
-    → IsTaken w Inner page body old now → AreOver w bytes d page items 0 old now last last told told
+    → IsPageTaken w Inner page body old now → AreOver w bytes d page items 0 old now last last told told
 over_none w bytes d page items body old now last told taken = record {
   branches = All-nil (IsBranch w bytes d);
   passed = passed_page w Inner page body old now last told taken;
@@ -88,8 +89,8 @@ module _ (w : Widths) (bytes : ℕ → List ℕ) (d page : ℕ) (items : List It
       (subst (λ (es : List Item). AreReady (page ∷ flat_map (pages_at w bytes d) items) es old last) (flat_at (entries_at w bytes d) items k c got) ready))
       mid between told more so_far.passed)
 
-  pub child_refused : (refuses : List Item → Item → Type 0) → ((before : List Item) → more before → IsRefused refuses before (entries_at w bytes d c))
-      → (before : List Item) → told before → IsRefused refuses before (flat_map (entries_at w bytes d) items)
+  pub child_refused : (refuses : List Item → Item → Type 0) → ((before : List Item) → more before → IsRefusedAmong refuses before (entries_at w bytes d c))
+      → (before : List Item) → told before → IsRefusedAmong refuses before (flat_map (entries_at w bytes d) items)
   child_refused refuses refused before was =
       refused_later refuses before (flat_map (entries_at w bytes d) (take k items)) (entries_at w bytes d c) (flat_map (entries_at w bytes d) (drop (suc k) items))
       (flat_map (entries_at w bytes d) items) (flat_at (entries_at w bytes d) items k c got)
@@ -120,7 +121,7 @@ over_all w bytes d page body k old now last between told more first is form many
     }
 
 -- a leaf is walked
-pub leaf_walked : (w : Widths) (d page : ℕ) (body : List ℕ) (old new : StoreStated) (last now : List ℕ) (told more : List Item → Type 0) (first : List ℕ) → d ≡ 0 → body ≡ reads old page → IsTaken w Leaf page body old new
+pub leaf_walked : (w : Widths) (d page : ℕ) (body : List ℕ) (old new : StoreStated) (last now : List ℕ) (told more : List Item → Type 0) (first : List ℕ) → d ≡ 0 → body ≡ reads old page → IsPageTaken w Leaf page body old new
     → first_key (items_in w Leaf body) ≡ Some first → IsTold (items_in w Leaf body) last now told more → IsWalked w (reads old) d page first old new last now told more
 leaf_walked w d page body old new last now told more first none is taken first_is all =
     let one = passed_page w Leaf page body old new last told taken in
@@ -133,18 +134,18 @@ leaf_walked w d page body old new last now told more first none is taken first_i
 -- the entries of a leaf are not told
 pub leaf_fails : (w : Widths) (d page : ℕ) (body last : List ℕ) (refuses : List Item → Item → Type 0) (told : List Item → Type 0) (old new : StoreStated) → d ≡ 0
     → (IsTrue old.disk.honest → body ≡ reads old page) → (fault : WalkFault) → TellCause (items_in w Leaf body) last refuses told fault
-    → BelowCause w d page last refuses told old new fault
+    → WalkBelowCause w d page last refuses told old new fault
 leaf_fails w d page body last refuses told old new none is fault cause =
-    subst (λ (e : ℕ). BelowCause w e page last refuses told old new fault) (sym none) (each fault cause)
+    subst (λ (e : ℕ). WalkBelowCause w e page last refuses told old new fault) (sym none) (each fault cause)
   where
-    each : (fault : WalkFault) → TellCause (items_in w Leaf body) last refuses told fault → BelowCause w 0 page last refuses told old new fault
+    each : (fault : WalkFault) → TellCause (items_in w Leaf body) last refuses told fault → WalkBelowCause w 0 page last refuses told old new fault
     each (Store Disk) never = absurd never
     each (Store NotATable) never = absurd never
     each (Store Damaged) not = λ honest tree ready. not (subst (λ (b : List ℕ). AscendFrom last (items_in w Leaf b)) (sym (is honest)) ready.ascending)
     each (Store TableFull) never = absurd never
     each (Store OutOfMemory) never = absurd never
     each (Store Closed) never = absurd never
-    each Refused refused = λ honest before was. subst (λ (b : List ℕ). IsRefused refuses before (items_in w Leaf b)) (is honest) (refused before was)
+    each Refused refused = λ honest before was. subst (λ (b : List ℕ). IsRefusedAmong refuses before (items_in w Leaf b)) (is honest) (refused before was)
 
 -- one level down
 pub deeper : (d : ℕ) → d ≢ 0 → suc (d - 1) ≡ d
@@ -152,11 +153,11 @@ deeper d some = omega (arith, some)
 
 -- an inner page is not taken
 pub not_taken : (w : Widths) (d page : ℕ) (last : List ℕ) (refuses : List Item → Item → Type 0) (told : List Item → Type 0) (old new : StoreStated) → d ≢ 0 → (fault : PageFault)
-    → TakeCause w Inner page old new fault → BelowCause w d page last refuses told old new (Store fault)
+    → TakeCause w Inner page old new fault → WalkBelowCause w d page last refuses told old new (Store fault)
 not_taken w d page last refuses told old new some fault cause =
-    subst (λ (e : ℕ). BelowCause w e page last refuses told old new (Store fault)) (deeper d some) (each fault cause)
+    subst (λ (e : ℕ). WalkBelowCause w e page last refuses told old new (Store fault)) (deeper d some) (each fault cause)
   where
-    each : (fault : PageFault) → TakeCause w Inner page old new fault → BelowCause w (suc (d - 1)) page last refuses told old new (Store fault)
+    each : (fault : PageFault) → TakeCause w Inner page old new fault → WalkBelowCause w (suc (d - 1)) page last refuses told old new (Store fault)
     each Disk grew = grew
     each NotATable never = absurd never
     each Damaged not = λ honest tree ready. not honest (ready.waiting page (contains_root w (reads old) (suc (d - 1)) page)) tree.0
@@ -165,7 +166,7 @@ not_taken w d page last refuses told old new some fault cause =
     each Closed closed = closed
 
 -- at one child of a page
-module _ (w : Widths) (d page : ℕ) (body : List ℕ) (k child : ℕ) (c : Item) (old mid new : StoreStated) (last between : List ℕ) (told more : List Item → Type 0) (some : d ≢ 0) (marks : MarksOnly old mid)
+module _ (w : Widths) (d page : ℕ) (body : List ℕ) (k child : ℕ) (c : Item) (old mid new : StoreStated) (last between : List ℕ) (told more : List Item → Type 0) (some : d ≢ 0) (marks : OnlyMarks old mid)
     (is : IsTrue old.disk.honest → body ≡ reads old page) (got : slice_get (items_in w Inner body) k ≡ Some c) (leads : child ≡ child_of c)
     (over : IsTrue old.disk.honest → AreOver w (reads old) (d - 1) page (items_in w Inner body) k old mid last between told more) where
   -- what is said of the child as it reads now holds as it read at first
@@ -181,10 +182,10 @@ module _ (w : Widths) (d page : ℕ) (body : List ℕ) (k child : ℕ) (c : Item
   ready honest whole = child_ready w (reads old) (d - 1) page (items_in w Inner body) k c old mid last between told more (over honest) got
       (subst (λ (b : List ℕ). AreReady (page ∷ flat_map (pages_at w (reads old) (d - 1)) (items_in w Inner b)) (flat_map (entries_at w (reads old) (d - 1)) (items_in w Inner b)) old last) (sym (is honest)) whole)
 
-  pub child_fails : (refuses : List Item → Item → Type 0) (fault : WalkFault) → BelowCause w (d - 1) child between refuses more mid new fault → BelowCause w d page last refuses told old new fault
-  child_fails refuses fault cause = subst (λ (e : ℕ). BelowCause w e page last refuses told old new fault) (deeper d some) (each fault cause)
+  pub child_fails : (refuses : List Item → Item → Type 0) (fault : WalkFault) → WalkBelowCause w (d - 1) child between refuses more mid new fault → WalkBelowCause w d page last refuses told old new fault
+  child_fails refuses fault cause = subst (λ (e : ℕ). WalkBelowCause w e page last refuses told old new fault) (deeper d some) (each fault cause)
     where
-      each : (fault : WalkFault) → BelowCause w (d - 1) child between refuses more mid new fault → BelowCause w (suc (d - 1)) page last refuses told old new fault
+      each : (fault : WalkFault) → WalkBelowCause w (d - 1) child between refuses more mid new fault → WalkBelowCause w (suc (d - 1)) page last refuses told old new fault
       each (Store Disk) grew = grew_before old.failures mid.failures new.failures marks.works.failures grew
       each (Store NotATable) never = absurd never
       each (Store Damaged) not = λ honest tree whole.
@@ -194,9 +195,9 @@ module _ (w : Widths) (d page : ℕ) (body : List ℕ) (k child : ℕ) (c : Item
       each (Store OutOfMemory) never = absurd never
       each (Store Closed) closed = sym marks.closed ∙ closed
       each Refused refused = λ honest before was.
-          subst (λ (b : List ℕ). IsRefused refuses before (flat_map (entries_at w (reads old) (d - 1)) (items_in w Inner b))) (is honest)
+          subst (λ (b : List ℕ). IsRefusedAmong refuses before (flat_map (entries_at w (reads old) (d - 1)) (items_in w Inner b))) (is honest)
           (child_refused w (reads old) (d - 1) page (items_in w Inner body) k c old mid last between told more (over honest) got refuses
-          (at_first honest (λ bytes q. (after : List Item) → more after → IsRefused refuses after (entries_below w bytes (d - 1) q)) (refused (still_honest marks.works.goes_on honest)))
+          (at_first honest (λ bytes q. (after : List Item) → more after → IsRefusedAmong refuses after (entries_below w bytes (d - 1) q)) (refused (still_honest marks.works.goes_on honest)))
           before was)
 
   module _ (first now : List ℕ) (most : List Item → Type 0) (walked : IsTrue mid.disk.honest → IsWalked w (reads mid) (d - 1) child first mid new between now more most) where
@@ -207,8 +208,8 @@ module _ (w : Widths) (d page : ℕ) (body : List ℕ) (k child : ℕ) (c : Item
     over_next same honest = over_more w (reads old) (d - 1) page (items_in w Inner body) k c old mid last between told more (over honest) got new first now most
         marks.works.same_pages same (walked_first honest)
 
-    pub wrong_first : (refuses : List Item → Item → Type 0) → first ≢ c.0 → BelowCause w d page last refuses told old new (Store Damaged)
-    wrong_first refuses other = subst (λ (e : ℕ). BelowCause w e page last refuses told old new (Store Damaged)) (deeper d some) (λ honest tree whole.
+    pub wrong_first : (refuses : List Item → Item → Type 0) → first ≢ c.0 → WalkBelowCause w d page last refuses told old new (Store Damaged)
+    wrong_first refuses other = subst (λ (e : ℕ). WalkBelowCause w e page last refuses told old new (Store Damaged)) (deeper d some) (λ honest tree whole.
         let one : Some first ≡ Some c.0 = sym (walked_first honest).first_is ∙ (branch honest tree).1 in
         other (cc))
 

@@ -2,8 +2,9 @@
 use Rattle.std.specs.Prelude.{◌≡◌, ℕ, true, List, ◌∷◌, ◌++◌, Contains, IsTrue}
 use Rattle.sector_disk.specs.Disk.{Grew}
 use Rattle.page_store.specs.declared.fault.PageFault.TheVariants.{Disk, Damaged, Closed}
-use Rattle.page_store.specs.declared.marks.Mark.TheVariants.{Committed, Waiting}
+use Rattle.page_store.specs.declared.marks.Mark.TheVariants.{Committed}
 use Rattle.page_store.specs.Marks.{mark}
+use Rattle.page_store.specs.Pages.{AreWaiting}
 use Rattle.page_store.specs.Store.{Store as StoreStated, reads}
 use Rattle.tree_page.specs.declared.widths.Widths.{Widths}
 use Rattle.tree_page.specs.Page.{Item}
@@ -12,18 +13,14 @@ use Rattle.tree_map.specs.Tree.{entries_below}
 use Rattle.tree_walk.specs.declared.fault.WalkFault.{WalkFault}
 use Rattle.tree_walk.specs.declared.fault.WalkFault.TheVariants.{Store, Refused}
 
--- these pages wait to be marked
-abbrev pub AreWaiting : List ℕ → StoreStated → Type 0
-AreWaiting pages store = (p : ℕ) → Contains pages p → mark store.marks p ≡ Waiting
-
 -- pages that waited are marked, and no others
-pub record AreMarked (pages : List ℕ) (old new : StoreStated) : Type 0 where
+pub record MarksPages (pages : List ℕ) (old new : StoreStated) : Type 0 where
   pub waited : AreWaiting pages old
   pub marked : (p : ℕ) → Contains pages p → mark new.marks p ≡ Committed
   pub kept : (p : ℕ) → ¬ Contains pages p → mark new.marks p ≡ mark old.marks p
 
 -- a visitor that was told of `told` is then told of the first of these entries, up to one that it refuses
-pub record IsRefused (refuses : List Item → Item → Type 0) (told es : List Item) : Type 0 where
+pub record IsRefusedAmong (refuses : List Item → Item → Type 0) (told es : List Item) : Type 0 where
   pub front : List Item
   pub entry : Item
   pub back : List Item
@@ -32,9 +29,10 @@ pub record IsRefused (refuses : List Item → Item → Type 0) (told es : List I
 
 -- the visitor, told of `told` before, refused one of the entries that stand below this root, and they are those of the
 -- map, where there is one
-pub record IsRefusedBelow (w : Widths) (root : ℕ) (refuses : List Item → Item → Type 0) (told : List Item) (store : StoreStated) : Type 0 where
+pub record IsRefusedBelow (w : Widths) (root : ℕ) (refuses : List Item → Item → Type 0) (told : List Item)
+    (store : StoreStated) : Type 0 where
   pub depth : ℕ
-  pub refused : IsRefused refuses told (entries_below w (reads store) depth root)
+  pub refused : IsRefusedAmong refuses told (entries_below w (reads store) depth root)
   pub of_map : (pages : List ℕ) (es : List Item) → HoldsMap w store root pages es → es ≡ entries_below w (reads store) depth root
 
 -- a map is not walked: the disk failed; below this root is no map on pages that wait, as far as the disk is honest; the
@@ -45,4 +43,5 @@ WalkCause w root refuses told old new (Store Damaged) = IsTrue old.disk.honest �
     → HoldsMap w old root pages es → AreWaiting pages old → ⊥
 WalkCause w root refuses told old new (Store Closed) = old.closed ≡ true
 WalkCause w root refuses told old new (Store _) = ⊥
-WalkCause w root refuses told old new Refused = IsTrue old.disk.honest → (before : List Item) → told before → IsRefusedBelow w root refuses before old
+WalkCause w root refuses told old new Refused =
+    IsTrue old.disk.honest → (before : List Item) → told before → IsRefusedBelow w root refuses before old

@@ -1,8 +1,8 @@
 //! The tree below a page is walked.
 ghost use Rattle.std.specs.Prelude.{IfOk, IfErr, IsTrue};
 ghost use Rattle.page_store.specs.Store.{reads};
-ghost use Rattle.tree_walk.specs.aid.Passing.{IsWalked, BelowCause};
-ghost use Rattle.tree_walk.specs.aid.Taking.{MarksOnly};
+ghost use Rattle.tree_walk.specs.aid.Passing.{IsWalked, WalkBelowCause};
+ghost use Rattle.page_store.specs.aid.Marking.{OnlyMarks};
 
 use crate::fault::WalkFault;
 use crate::leaf::{first_key, is_same, tell_leaf};
@@ -25,8 +25,8 @@ pub fn walk_below<P: Pages, V: Visitor>(
 ) -> Result<Bytes, WalkFault>
     ensures walked { IsTrue (P.store store.old).disk.honest → IfOk result (λ first. IsWalked widths (reads (P.store store.old)) depth page
         first.items (P.store store.old) (P.store store.new) last.old.items last.new.items (V.told visitor.old) (V.told visitor.new)) }
-    ensures marks { MarksOnly (P.store store.old) (P.store store.new) }
-    ensures cause { IfErr result (BelowCause widths depth page last.old.items (V.refuses visitor.new) (V.told visitor.old)
+    ensures marks { OnlyMarks (P.store store.old) (P.store store.new) }
+    ensures cause { IfErr result (WalkBelowCause widths depth page last.old.items (V.refuses visitor.new) (V.told visitor.old)
         (P.store store.old) (P.store store.new)) }
 {
     let mut bytes = [0; 4096];

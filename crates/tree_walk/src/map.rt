@@ -6,7 +6,7 @@ ghost use Rattle.page_store.specs.Marks.{mark as mark_of};
 ghost use Rattle.page_store.specs.Store.{StoreWorks};
 ghost use Rattle.tree_page.specs.Page.{Item};
 ghost use Rattle.tree_map.specs.Changes.{HoldsMap};
-ghost use Rattle.tree_walk.specs.Walking.{AreMarked, WalkCause};
+ghost use Rattle.tree_walk.specs.Walking.{MarksPages, WalkCause};
 
 use crate::below::walk_below;
 use crate::depth::depth_of;
@@ -26,7 +26,7 @@ pub fn walk<P: Pages, V: Visitor>(
     visitor: &mut V,
 ) -> Result<(), WalkFault>
     ensures map { IsTrue (P.store store.old).disk.honest → OnOk result ((pages : List ℕ) × (es : List Item)
-        × HoldsMap widths (P.store store.old) root pages es × AreMarked pages (P.store store.old) (P.store store.new)
+        × HoldsMap widths (P.store store.old) root pages es × MarksPages pages (P.store store.old) (P.store store.new)
         × ((before : List Item) → V.told visitor.old before → V.told visitor.new (before ++ es))) }
     ensures others { (p : ℕ) → (mark_of (P.store store.new).marks p ≡ mark_of (P.store store.old).marks p)
         ⊎ (mark_of (P.store store.new).marks p ≡ Committed) }

@@ -1,6 +1,7 @@
 //! One page of a tree is marked and read.
 ghost use Rattle.std.specs.Prelude.{OnOk, IfErr};
-ghost use Rattle.tree_walk.specs.aid.Taking.{IsTaken, MarksOnly, TakeCause};
+ghost use Rattle.tree_walk.specs.aid.Taking.{IsPageTaken, TakeCause};
+ghost use Rattle.page_store.specs.aid.Marking.{OnlyMarks};
 
 use page_store::{PageFault, Pages};
 use tree_page::{Kind, Widths, kind_of};
@@ -13,8 +14,8 @@ pub fn take_page<P: Pages>(
     page: u32,
     bytes: &mut [u8; 4096],
 ) -> Result<(), PageFault>
-    ensures taken { OnOk result (IsTaken widths kind page bytes.new (P.store store.old) (P.store store.new)) }
-    ensures marks { MarksOnly (P.store store.old) (P.store store.new) }
+    ensures taken { OnOk result (IsPageTaken widths kind page bytes.new (P.store store.old) (P.store store.new)) }
+    ensures marks { OnlyMarks (P.store store.old) (P.store store.new) }
     ensures cause { IfErr result (TakeCause widths kind page (P.store store.old) (P.store store.new)) }
 {
     store.mark(page)?;

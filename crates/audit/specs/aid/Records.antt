@@ -28,9 +28,9 @@ abbrev pub HasNone : Role → List Record → Type 0
 HasNone mover records = (w : Player) → mover ≡ Role.Player w → IsNearest records w None
 
 -- what the records say: the winner of the position, and the distance of the one that it rests on
-abbrev pub IsDue : Role → List Record → Option (Player × ℕ) → Type 0
-IsDue mover records None = HasNone mover records × IsFarthest records None
-IsDue mover records (Some value) =
+abbrev pub IsDueByRecords : Role → List Record → Option (Player × ℕ) → Type 0
+IsDueByRecords mover records None = HasNone mover records × IsFarthest records None
+IsDueByRecords mover records (Some value) =
     ((mover ≡ Role.Player value.0) × IsNearest records value.0 (Some value.1))
     ⊎ (HasNone mover records × IsFarthest records (Some value))
 

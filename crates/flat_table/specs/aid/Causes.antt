@@ -11,6 +11,7 @@ use Rattle.sector_disk.specs.Disk.{Grew}
 use Rattle.game_file.specs.Kept.{Kept}
 use Rattle.game_file.specs.declared.fault.FileFault.{FileFault}
 use Rattle.game_file.specs.declared.fault.FileFault.TheVariants.{Disk, TableFull, OutOfMemory, Closed, Inconsistent}
+use Rattle.page_chain.specs.declared.page.TheConstants.{PAYLOAD}
 
 -- the bytes of this text and table are more than the free pages hold
 pub record IsTooLong (kept : Kept) (marks : List Mark) : Type 0 where
@@ -18,7 +19,7 @@ pub record IsTooLong (kept : Kept) (marks : List Mark) : Type 0 where
   pub bytes : List ℕ
   pub limits : AreWithinLimits sizes
   pub spells : SpellsTable sizes bytes kept.text kept.table
-  pub long : 4092 * free_count marks < length bytes
+  pub long : PAYLOAD * free_count marks < length bytes
 
 -- the disk failed; too few pages are free; memory ran out; the file was closed; or the table's parts do not fit together
 abbrev pub PutCause : Kept → ℕ → Store → Store → FileFault → Type 0

@@ -4,19 +4,19 @@ use Rattle.std.proofs.Common.{◌∙◌, arith}
 use Rattle.std.proofs.lemmas.List.{length-map}
 use Rattle.table.specs.declared.memory.MemTable.{MemTable}
 use Rattle.flat_table.specs.declared.game.Game.{Game}
-use Rattle.flat_table.specs.File.{File}
+use Rattle.flat_table.specs.File.{FlatFile}
 use Rattle.flat_table.specs.Drafts.{stored_now, IsUnwrittenFile, IsOnlyRead}
 
-pub unwritten_here : (file : File) → IsUnwrittenFile file file
+pub unwritten_here : (file : FlatFile) → IsUnwrittenFile file file
 unwritten_here file = record { store = refl; kept = refl; stands = λ it. it }
 
-pub unwritten_then : {a b c : File} → IsUnwrittenFile a b → IsUnwrittenFile b c → IsUnwrittenFile a c
+pub unwritten_then : {a b c : FlatFile} → IsUnwrittenFile a b → IsUnwrittenFile b c → IsUnwrittenFile a c
 unwritten_then one two = record { store = two.store ∙ one.store; kept = two.kept ∙ one.kept; stands = λ it. two.stands (one.stands it) }
 
-pub only_read_here : (file : File) (draft : Option MemTable) → IsOnlyRead file draft file draft
+pub only_read_here : (file : FlatFile) (draft : Option MemTable) → IsOnlyRead file draft file draft
 only_read_here file draft = record { unwritten = unwritten_here file; idle = λ none. none }
 
-pub only_read_then : {a b c : File} {x y z : Option MemTable} → IsOnlyRead a x b y → IsOnlyRead b y c z → IsOnlyRead a x c z
+pub only_read_then : {a b c : FlatFile} {x y z : Option MemTable} → IsOnlyRead a x b y → IsOnlyRead b y c z → IsOnlyRead a x c z
 only_read_then one two = record { unwritten = unwritten_then one.unwritten two.unwritten; idle = λ none. two.idle (one.idle none) }
 
 -- no table in memory has more than 16,777,216 positions

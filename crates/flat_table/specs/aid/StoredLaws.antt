@@ -10,7 +10,7 @@ use Rattle.page_store.specs.Store.{StopLeaves}
 use Rattle.page_chain.specs.aid.Resting.{a_chain_rests_on_its_pages, a_chain_fits_more, a_chain_is_not_longer}
 use Rattle.table_bytes.specs.aid.Laws.{tables_have_their_length}
 use Rattle.flat_table.specs.Slot.{sizes_in}
-use Rattle.flat_table.specs.File.{File, IsFile, kept_of}
+use Rattle.flat_table.specs.File.{FlatFile, IsFile, kept_of}
 use Rattle.flat_table.specs.Held.{KeepsGame, KeepsTable, capacity_of, Stores}
 use Rattle.game_file.specs.Kept.{Kept}
 
@@ -77,7 +77,7 @@ spells_stores root c kept picture enough few it =
     }
 
 -- between commands a stop leaves what is kept
-pub a_file_is_kept : (file : File) → IsFile file → IsTrue file.store.disk.honest → file.store.closed ≡ false
+pub a_file_is_kept : (file : FlatFile) → IsFile file → IsTrue file.store.disk.honest → file.store.closed ≡ false
     → StopLeaves file.store (λ picture. Stores picture (kept_of file.game))
 a_file_is_kept file it honest is_open picture left =
     spells_stores file.store.root (length file.store.marks) (kept_of file.game) picture it.backed.room it.sound.few

@@ -8,12 +8,12 @@ use Rattle.retrograde.specs.Stored.{IsTable}
 use Rattle.table.specs.declared.memory.MemTable.{MemTable}
 use Rattle.table.specs.declared.fault.TableFault.{TableFault}
 use Rattle.table.specs.declared.fault.TableFault.TheVariants.{OutOfMemory}
-use Rattle.game_file.specs.Calls.{IsAsked, IsKept}
+use Rattle.game_file.specs.Calls.{IsAsked, IsNothingPut}
 use Rattle.game_file.specs.Causes.{FileTableCause}
 use Rattle.game_file.specs.Kept.{Kept, packing_kept, text_kept}
 use Rattle.game_file.specs.State.{State, GoesAhead}
 use Rattle.flat_table.specs.declared.game.Game.{Game}
-use Rattle.flat_table.specs.File.{File, IsFile, kept_in, kept_of}
+use Rattle.flat_table.specs.File.{FlatFile, IsFile, kept_in, kept_of}
 use Rattle.flat_table.specs.Held.{Stores}
 use Rattle.flat_table.specs.aid.StoredLaws.{a_file_is_kept}
 use Rattle.flat_table.specs.Calls.{file_of, state_of}
@@ -44,18 +44,18 @@ same_pages s was is stands same = record {
 }
 
 -- it is in a later state
-pub unwritten_ahead : (old new : File) → IsUnwrittenFile old new → GoesAhead (state_of old) (state_of new)
+pub unwritten_ahead : (old new : FlatFile) → IsUnwrittenFile old new → GoesAhead (state_of old) (state_of new)
 unwritten_ahead old new same =
     subst (λ (s : Store). GoesAhead (state_of old) (state_of (file_of s new.game))) (sym same.store)
     (record { goes_on = goes_on_refl old.store.disk; same_size = refl; failures = omega arith; capacity = refl })
 
-pub unwritten_asked : (old new : File) → IsFile old → IsUnwrittenFile old new → IsAsked Stores (state_of old) (state_of new)
+pub unwritten_asked : (old new : FlatFile) → IsFile old → IsUnwrittenFile old new → IsAsked Stores (state_of old) (state_of new)
 unwritten_asked old new it same =
     subst (λ (s : Store). IsAsked Stores (state_of old) (state_of (file_of s new.game))) (sym same.store)
     (same_pages old.store old.game new.game it same.kept)
 
 -- so is a file of which a draft is given up
-pub unwritten_kept : (old new : File) → IsFile old → IsUnwrittenFile old new → IsKept Stores (state_of old) (state_of new)
+pub unwritten_kept : (old new : FlatFile) → IsFile old → IsUnwrittenFile old new → IsNothingPut Stores (state_of old) (state_of new)
 unwritten_kept old new it same =
     let asked = unwritten_asked old new it same in
     record {

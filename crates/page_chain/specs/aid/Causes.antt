@@ -16,13 +16,7 @@ LinkCause page old new Closed = old.closed ≡ true
 LinkCause page old new _ = ⊥
 
 -- pages that are free are not handed out: the store is closed, or memory is short
-abbrev pub TakeCause : Store → PageFault → Type 0
-TakeCause old OutOfMemory = Unit {0}
-TakeCause old Closed = old.closed ≡ true
-TakeCause old _ = ⊥
-
--- pages that were handed out are not written: the disk failed, and the store is closed; or it was closed
-abbrev pub ChainPutCause : Store → Store → PageFault → Type 0
-ChainPutCause old new Disk = Grew old.failures new.failures × (new.closed ≡ true)
-ChainPutCause old new Closed = old.closed ≡ true
-ChainPutCause old new _ = ⊥
+abbrev pub HandOutCause : Store → PageFault → Type 0
+HandOutCause old OutOfMemory = Unit {0}
+HandOutCause old Closed = old.closed ≡ true
+HandOutCause old _ = ⊥

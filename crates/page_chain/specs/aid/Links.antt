@@ -1,22 +1,11 @@
 -- What one step of reading or writing a chain does.
-use Rattle.std.specs.Prelude.{◌≡◌, ◌⊎◌, ℕ, ◌+◌, ◌<◌, ◌≤◌, List, [], ◌∷◌, ◌++◌, length, drop, slice_get, Contains, Some, false, IsTrue}
-use Rattle.sector_disk.specs.Disk.{LeavesOnly, MayLeave}
+use Rattle.std.specs.Prelude.{◌≡◌, ◌⊎◌, ℕ, ◌+◌, ◌<◌, ◌≤◌, List, [], ◌∷◌, ◌++◌, length, drop, Contains, false, IsTrue}
 use Rattle.page_store.specs.declared.marks.Mark.TheVariants.{Committed, Waiting, Fresh, Free}
 use Rattle.page_store.specs.Marks.{mark, IsMarked}
+use Rattle.page_store.specs.Pages.{IsOnce}
 use Rattle.page_store.specs.Store.{Store, reads, StoreWorks}
 use Rattle.page_chain.specs.Chain.{next_in}
-
--- no page is named twice
-abbrev pub IsOnce : List ℕ → Type 0
-IsOnce pages = (i j p : ℕ) → slice_get pages i ≡ Some p → slice_get pages j ≡ Some p → i ≡ j
-
--- some pages are marked, and else the store is as it was; a stop meanwhile leaves what it could leave before
-pub record OnlyMarks (old new : Store) : Type 0 where
-  pub works : StoreWorks old new
-  pub shown : IsTrue old.disk.honest → new.disk.now ≡ old.disk.now
-  pub leaves : IsTrue old.disk.honest → LeavesOnly old.disk new.disk (MayLeave old.disk.now)
-  pub closed : new.closed ≡ old.closed
-  pub others : (p : ℕ) → (mark new.marks p ≡ mark old.marks p) ⊎ (mark new.marks p ≡ Committed)
+use Rattle.page_chain.specs.declared.page.TheConstants.{PAYLOAD}
 
 -- a page that waited is marked, and what it holds is joined to what was read
 pub record IsJoined (page next : ℕ) (old new : Store) (pages more content longer : List ℕ) : Type 0 where
@@ -25,7 +14,7 @@ pub record IsJoined (page next : ℕ) (old new : Store) (pages more content long
   pub within : page < length old.marks
   pub marks : IsMarked page Committed old.marks new.marks
   pub pages_are : more ≡ pages ++ page ∷ []
-  pub long : length longer ≡ length content + 4092
+  pub long : length longer ≡ length content + PAYLOAD
   pub holds : IsTrue old.disk.honest → longer ≡ content ++ drop 4 (reads old page)
   pub leads : IsTrue old.disk.honest → next ≡ next_in (reads old page)
 

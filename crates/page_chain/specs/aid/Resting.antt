@@ -13,6 +13,7 @@ use Rattle.page_store.specs.Spelling.{SpelledBy, Stands, IsPrepared}
 use Rattle.page_store.specs.Store.{Store, reads}
 use Rattle.page_store.specs.aid.Works.{fresh_within}
 use Rattle.page_chain.specs.Chain.{next_in, LeadsThrough, payloads, IsChain}
+use Rattle.page_chain.specs.declared.page.TheConstants.{PAYLOAD}
 
 -- the first of some pages is one of them, and so are the others
 pub contains_first : (p : ℕ) (ps : List ℕ) → Contains (p ∷ ps) p
@@ -104,7 +105,7 @@ all_different (p ∷ ps) once = (
 
 -- a chain has no more pages than lie below its capacity, and so no more content
 pub a_chain_is_not_longer : (capacity first : ℕ) (pages content : List ℕ) (bytes : ℕ → List ℕ) → IsChain capacity first pages content bytes
-    → length content ≤ 4092 * capacity
+    → length content ≤ PAYLOAD * capacity
 a_chain_is_not_longer capacity first pages content bytes chain =
     let many : length pages ≤ capacity =
     length-le_from_distinct_below pages capacity (all_different pages chain.once)

@@ -5,19 +5,19 @@ use Rattle.position_pack.specs.Fields.{fields_of}
 use Rattle.position_pack.specs.Bits.{field_bits, bytes_of_bits}
 
 -- as many, and each number is at most the other of its place
-abbrev pub AreWithin : List ℕ → List ℕ → Type 0
-AreWithin [] [] = ⊤
-AreWithin [] (x ∷ xs) = ⊥
-AreWithin (most ∷ greatest) [] = ⊥
-AreWithin (most ∷ greatest) (x ∷ xs) = (x ≤ most) × AreWithin greatest xs
+abbrev pub AreAtMost : List ℕ → List ℕ → Type 0
+AreAtMost [] [] = ⊤
+AreAtMost [] (x ∷ xs) = ⊥
+AreAtMost (most ∷ greatest) [] = ⊥
+AreAtMost (most ∷ greatest) (x ∷ xs) = (x ≤ most) × AreAtMost greatest xs
 
 -- the fields are within their greatest values, and the bytes are theirs by bits
 pub record AreFields (greatest bytes fields : List ℕ) : Type 0 where
-  pub within : AreWithin greatest fields
+  pub within : AreAtMost greatest fields
   pub bytes_are : bytes ≡ bytes_of_bits (field_bits greatest fields)
 
 -- so many pieces, at most 34 values, a vertex, a role and a place, each in the range of its type
-pub record AreFew (vertices : ℕ) (fields : List ℕ) : Type 0 where
+pub record AreInRange (vertices : ℕ) (fields : List ℕ) : Type 0 where
   pub few_vertices : vertices ≤ 128
   pub long : vertices + 3 ≤ length fields
   pub few_values : length fields ≤ vertices + 37

@@ -5,7 +5,7 @@ use Rattle.rbg_game.specs.Games.{Game, bound_of}
 use Rattle.position_pack.specs.Texts.{piece_name, vertex_name, with_commas}
 
 -- the byte stands between the front, in which it is not, and the back
-pub record IsCut (byte : ℕ) (text front back : List ℕ) : Type 0 where
+pub record IsSplitAt (byte : ℕ) (text front back : List ℕ) : Type 0 where
   pub front_lacks : All (λ b. b ≢ byte) front
   pub text_is : text ≡ front ++ byte ∷ back
 
@@ -35,15 +35,15 @@ abbrev pub IsPiece : Game → List ℕ → ℕ → Type 0
 IsPiece game = IsWritten (piece_name game) (λ k. k < length game.pieces)
 
 -- the text is what f writes for each number, with commas between: so many numbers, each allowed at its place
-pub record AreWritten (f : ℕ → List ℕ) (Allowed : ℕ → ℕ → Type 0) (count : ℕ) (text all : List ℕ) : Type 0 where
+pub record AreWrittenWithCommas (f : ℕ → List ℕ) (Allowed : ℕ → ℕ → Type 0) (count : ℕ) (text all : List ℕ) : Type 0 where
   pub as_many : length all ≡ count
   pub allowed : (k : ℕ) → k < count → Allowed k (slice_index all k)
   pub text_is : text ≡ with_commas (map f all)
 
 -- the names of pieces, one for each vertex
 abbrev pub ArePieces : Game → List ℕ → List ℕ → Type 0
-ArePieces game = AreWritten (piece_name game) (λ _ x. x < length game.pieces) (length game.vertices)
+ArePieces game = AreWrittenWithCommas (piece_name game) (λ _ x. x < length game.pieces) (length game.vertices)
 
 -- the decimals of values, one for each variable and none over its bound
 abbrev pub AreNumbers : Game → List ℕ → List ℕ → Type 0
-AreNumbers game = AreWritten decimal (λ k x. x ≤ bound_of game k) (length game.variables)
+AreNumbers game = AreWrittenWithCommas decimal (λ k x. x ≤ bound_of game k) (length game.variables)

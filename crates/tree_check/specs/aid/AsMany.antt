@@ -1,5 +1,6 @@
 -- The entries of a table are as many as its slot tells.
-use Rattle.std.proofs.Common.{◌≡◌, inl, inr, ℕ, ◌<◌, ◌≤◌, ◌^◌, ◌||◌, Bool, true, false, cond, List, [], ◌∷◌, length, Some, refl, sym, ◌∙◌, ap, subst, arith}
+use Rattle.std.proofs.Common.{◌≡◌, inl, inr, ℕ, ◌<◌, ◌≤◌, ◌^◌, ◌||◌, Bool, true, false, cond}
+use Rattle.std.proofs.Common.{List, [], ◌∷◌, length, Some, refl, sym, ◌∙◌, ap, subst, arith}
 use Rattle.std.proofs.Common.{Contains, get_or}
 use Rattle.std.specs.Prelude.{slice_get, zip, IsSome, All}
 use Rattle.std.specs.Option.{is_some}
@@ -64,10 +65,12 @@ as_many es n at ascend apart each only =
       | inl same ↦ let e : i ≡ j = apart i j low (omega (arith, low, less)) same in absurd (omega (arith, e, less))
       | inr other ↦ other
     ]) in
-    let least : length (listed at n) ≤ length es = length-le_from_keys (eq_by_cmp_equiv nat_list_cmp_total) (listed at n) es (distinct eq at n differs)
+    let least : length (listed at n) ≤ length es =
+    length-le_from_keys (eq_by_cmp_equiv nat_list_cmp_total) (listed at n) es (distinct eq at n differs)
     (λ q any. let (i, low, same) = among eq at q n any in
     subst (λ (k : List ℕ). IsSome (find_entry es k)) (sym (same_key q (at i) same)) (each i low)) in
-    let most : length (keys_of es) ≤ length (listed at n) = length-le_from_is_member (eq_by_cmp_equiv nat_list_cmp_total) (keys_of es) (listed at n)
+    let most : length (keys_of es) ≤ length (listed at n) =
+    length-le_from_is_member (eq_by_cmp_equiv nat_list_cmp_total) (keys_of es) (listed at n)
     (keys_differ es ascend)
     (λ q any. let (value, found) = key_found q es any in
     let (i, is, low) = only q value found in
@@ -79,9 +82,11 @@ as_many es n at ascend apart each only =
     keys_long (e ∷ es) = let rest : length (keys_of es) ≡ length es = keys_long es in omega (arith, rest)
 
 -- what is so of each entry that is found is so of all
-all_found : (P : Item → Type 0) (es : List Item) → Ascend es → ((key value : List ℕ) → find_entry es key ≡ Some value → P (key, value)) → All P es
+all_found : (P : Item → Type 0) (es : List Item) → Ascend es
+    → ((key value : List ℕ) → find_entry es key ≡ Some value → P (key, value)) → All P es
 all_found P es ascend each =
-    All-weaker (Contains es) P (λ e here. each e.0 e.1 (lookup-from_Contains (eq_by_cmp_equiv nat_list_cmp_total) e.0 e.1 es (keys_differ es ascend) here))
+    All-weaker (Contains es) P
+    (λ e here. each e.0 e.1 (lookup-from_Contains (eq_by_cmp_equiv nat_list_cmp_total) e.0 e.1 es (keys_differ es ascend) here))
     es (All-contains_itself es)
 
 -- the entries of a table whose parts fit together are as many as its slot tells, and each edge is between known numbers
@@ -91,7 +96,8 @@ module _ (sizes : Sizes) (entries : Tree → List Item) (table : Stored (List �
   by_number : {A : Type 0} (tree : Tree) (IsOf : List ℕ → A → Type 0) (xs : List A) (n : ℕ) → n ≤ 2 ^ 24 → length xs ≡ n
       → ((i : ℕ) → i < length xs → (x : A) × (slice_get xs i ≡ Some x)) → AreByNumber IsOf (entries tree) xs → length (entries tree) ≡ n
   by_number tree IsOf xs n few long there_is it =
-      as_many (entries tree) n number_key (ascend tree) (λ i j low less same. same_number i j (omega (arith, low, few)) (omega (arith, less, few)) same)
+      as_many (entries tree) n number_key (ascend tree)
+      (λ i j low less same. same_number i j (omega (arith, low, few)) (omega (arith, less, few)) same)
       (λ i low. let (x, got) = there_is i (omega (arith, low, long)) in let (value, found, is) = it.each i x got in ap is_some found)
       (λ key value found. let (i, is, low) = it.only key value found in (i, is, omega (arith, low, long)))
 

@@ -42,7 +42,8 @@ module _ {K : Type 0} (eq : K → K → Bool) (at : ℕ → K) where
   pub distinct : (n : ℕ) → ((i j : ℕ) → i < n → j < i → eq (at i) (at j) ≡ false) → IsDistinct eq (listed at n)
   unfolding listed IsDistinct
   distinct zero apart = tt
-  distinct (suc n) apart = (differ (at n) n (λ j low. apart n j (omega arith) low), distinct n (λ i j low less. apart i j (omega (arith, low)) less))
+  distinct (suc n) apart =
+      (differ (at n) n (λ j low. apart n j (omega arith) low), distinct n (λ i j low less. apart i j (omega (arith, low)) less))
 
   pub among : (q : K) (n : ℕ) → list_any (eq q) (listed at n) ≡ true → (i : ℕ) × (i < n) × (eq q (at i) ≡ true)
   unfolding listed
@@ -78,7 +79,8 @@ keys_tell a b = go (eq_by_cmp key_cmp a b) refl
     go false is = inr is
 
 -- a key is one of these, or differs from each
-one_of : (key : List ℕ) (at : ℕ → List ℕ) (n : ℕ) → ((i : ℕ) × (i < n) × (key ≡ at i)) ⊎ ((i : ℕ) → i < n → eq_by_cmp key_cmp key (at i) ≡ false)
+one_of : (key : List ℕ) (at : ℕ → List ℕ) (n : ℕ)
+    → ((i : ℕ) × (i < n) × (key ≡ at i)) ⊎ ((i : ℕ) → i < n → eq_by_cmp key_cmp key (at i) ≡ false)
 one_of key at zero = inr (λ i low. absurd (omega (arith, low)))
 one_of key at (suc n) = elim (keys_tell key (at n)) [
   | inl here ↦ inl (n, omega arith, here)
@@ -163,7 +165,8 @@ module _ (test : Record → Bool) where
   passes from i r [] got ok = absurd (cc)
   passes from zero r (s ∷ rs) got ok = by_test (test s) (ap test (same_Some s r got) ∙ ok)
     where
-      by_test : (b : Bool) → b ≡ true → list_any (nat_eq (from + 0)) (cond b (from ∷ passing test (suc from) rs) (passing test (suc from) rs)) ≡ true
+      by_test : (b : Bool) → b ≡ true
+          → list_any (nat_eq (from + 0)) (cond b (from ∷ passing test (suc from) rs) (passing test (suc from) rs)) ≡ true
       by_test true is =
           let same : from + 0 ≡ from = omega arith in
           let here : nat_eq (from + 0) from ≡ true = ap (λ (n : ℕ). nat_eq n from) same ∙ numbers_equal from in

@@ -11,7 +11,8 @@ use Rattle.tree_table.specs.Working.{HoldsForest}
 
 -- on an honest disk this is so of the entries of the trees that the slot names
 abbrev pub TellsOfEntries : TreeSlot → Store → ((Tree → List Item) → Type 0) → Type 0
-TellsOfEntries slot store Says = IsTrue store.disk.honest → (text : List ℕ) (entries : Tree → List Item) → HoldsForest slot text entries store → Says entries
+TellsOfEntries slot store Says =
+    IsTrue store.disk.honest → (text : List ℕ) (entries : Tree → List Item) → HoldsForest slot text entries store → Says entries
 
 -- nothing is told: the disk failed, the entries are not so, memory is short, or the store is closed
 abbrev pub CheckCause : ((Tree → List Item) → Type 0) → TreeSlot → Store → Store → TableFault → Type 0

@@ -11,7 +11,7 @@ use Rattle.tree_table.specs.declared.slot.TreeSlot.{TreeSlot}
 use Rattle.tree_table.specs.declared.tree.Tree.{Tree}
 use Rattle.tree_table.specs.Held.{KeepsOnPages, KeepsTrees}
 use Rattle.tree_table.specs.Keeping.{IsOneOf}
-use Rattle.tree_file.specs.Opening.{AllWait}
+use Rattle.page_store.specs.Pages.{AllWait}
 
 -- the root and pages that are marked now, and no others, keep this text and a table
 pub record IsReadGame (text : List ℕ) (old new : Store) : Type 0 where
@@ -30,10 +30,10 @@ IsReadFor (Some slot) text old new = IsTrue old.disk.honest → IsReadGame text 
 
 -- no game is read: the disk failed; with pages that all wait, the root and the pages keep no table, as far as the disk is honest;
 -- memory ran out; or the store is closed
-abbrev pub NoGameCause : Store → Store → FileFault → Type 0
-NoGameCause old new Disk = Grew old.failures new.failures
-NoGameCause old new Damaged =
+abbrev pub NoGameReadCause : Store → Store → FileFault → Type 0
+NoGameReadCause old new Disk = Grew old.failures new.failures
+NoGameReadCause old new Damaged =
     IsTrue old.disk.honest → AllWait old → (kept : Option Kept) → ¬ KeepsTrees old.root (length old.marks) kept (reads old)
-NoGameCause old new OutOfMemory = Unit {0}
-NoGameCause old new Closed = old.closed ≡ true
-NoGameCause old new _ = ⊥
+NoGameReadCause old new OutOfMemory = Unit {0}
+NoGameReadCause old new Closed = old.closed ≡ true
+NoGameReadCause old new _ = ⊥

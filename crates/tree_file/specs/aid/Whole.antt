@@ -27,7 +27,7 @@ use Rattle.tree_table.specs.Held.{KeepsTrees, StoresTrees}
 use Rattle.tree_table.specs.Keeping.{IsKeptInTrees, IsStill, slot_or_bare}
 use Rattle.tree_table.specs.Slot.{slot_in}
 use Rattle.tree_table.specs.Spelled.{table_in}
-use Rattle.tree_table.specs.Working.{HoldsWork, IsHonestWork, WorkCause, table_now}
+use Rattle.tree_table.specs.Working.{HoldsWork, IsHonestWork, NoAnswerCause, table_now}
 use Rattle.tree_table.specs.aid.Keeping.{kept_is_held, kept_stands, kept_stays, spells_stores_trees}
 use Rattle.tree_table.specs.aid.Spelling.{table_is}
 use Rattle.tree_table.specs.aid.Standing.{still_keeps, works_still}
@@ -188,7 +188,7 @@ pub fails_for : (old new : File) (fault : TableFault) → (IsHonestWork old.work
     → FileTableCause (state_of old) (state_of new) fault
 fails_for old new fault holds whole fails = so fault fails.work.cause
   where
-    so : (f : TableFault) → WorkCause old.work new.work f → FileTableCause (state_of old) (state_of new) f
+    so : (f : TableFault) → NoAnswerCause old.work new.work f → FileTableCause (state_of old) (state_of new) f
     so DiskFailed grew = grew
     so Damaged broken = λ honest.
         let work : IsHonestWork old.work = record { disk = honest; whole = whole.whole } in

@@ -2,13 +2,13 @@
 use Rattle.std.proofs.Common.{◌≡◌, ◌⊎◌, inl, inr, ℕ, List, IsTrue, refl, sym, ◌∙◌, ap, subst}
 use Rattle.sector_disk.specs.Disk.{Shown, MayLeave}
 use Rattle.sector_disk.specs.aid.Moments.{still_honest, leaves_now, leaves_then, leaves_more}
-use Rattle.page_chain.specs.aid.Links.{OnlyMarks}
+use Rattle.page_store.specs.aid.Marking.{OnlyMarks}
 use Rattle.page_store.specs.declared.marks.Mark.TheVariants.{Committed, Waiting}
 use Rattle.page_store.specs.Marks.{mark}
 use Rattle.page_store.specs.Page.{page}
 use Rattle.page_store.specs.Store.{Store, reads}
 use Rattle.page_store.specs.aid.Works.{works_refl, works_then}
-use Rattle.tree_walk.specs.Walking.{AreMarked}
+use Rattle.tree_walk.specs.Walking.{MarksPages}
 use Rattle.tree_table.specs.Forest.{AreApart}
 
 pub only_none : (store : Store) → OnlyMarks store store
@@ -54,7 +54,8 @@ pub stays_marked : {old new : Store} → OnlyMarks old new → (p : ℕ) → mar
 stays_marked only p was = elim (only.others p) [ inl same ↦ same ∙ was | inr is ↦ is ]
 
 -- pages that wait later are apart from those that were marked earlier
-pub later_apart : (ps qs : List ℕ) (old marked mid new : Store) → AreMarked ps old marked → OnlyMarks marked mid → AreMarked qs mid new → AreApart ps qs
+pub later_apart : (ps qs : List ℕ) (old marked mid new : Store) → MarksPages ps old marked → OnlyMarks marked mid → MarksPages qs mid new
+    → AreApart ps qs
 later_apart ps qs old marked mid new first only second p here there =
     let is : mark mid.marks p ≡ Committed = stays_marked only p (first.marked p here) in
     let waits : mark mid.marks p ≡ Waiting = second.waited p there in

@@ -8,7 +8,8 @@ use Rattle.table_bytes.specs.declared.sizes.Sizes.{Sizes}
 use Rattle.tree_page.specs.Page.{Item}
 use Rattle.tree_walk.specs.declared.fault.WalkFault.{WalkFault}
 use Rattle.tree_walk.specs.declared.fault.WalkFault.TheVariants.{Store as OfStore, Refused}
-use Rattle.tree_walk.specs.Walking.{AreMarked, AreWaiting}
+use Rattle.tree_walk.specs.Walking.{MarksPages}
+use Rattle.page_store.specs.Pages.{AreWaiting}
 use Rattle.tree_table.specs.declared.slot.TreeSlot.{TreeSlot}
 use Rattle.tree_table.specs.declared.tree.Tree.{Tree}
 use Rattle.tree_table.specs.declared.tree.Tree.TheVariants.{Positions, Records, Edges, Order}
@@ -37,9 +38,10 @@ HoldsTree slot tree store pages es =
     IsTreeOf slot.sizes.packed tree (length store.marks) (root_of slot.roots tree) pages es (reads store)
 
 -- the tree is walked, and its entries are such
-pub record IsWalkedTree (slot : TreeSlot) (tree : Tree) (Such : List Item → Type 0) (pages : List ℕ) (es : List Item) (old new : Store) : Type 0 where
+pub record IsWalkedTree (slot : TreeSlot) (tree : Tree) (Such : List Item → Type 0) (pages : List ℕ) (es : List Item)
+    (old new : Store) : Type 0 where
   pub holds : HoldsTree slot tree old pages es
-  pub marked : AreMarked pages old new
+  pub marked : MarksPages pages old new
   pub such : Such es
 
 -- it is not walked: the disk failed; no such tree is there on pages that wait, as far as the disk is honest; or the store is closed

@@ -25,7 +25,8 @@ pub map_of : (packed : ℕ) (tree : Tree) (capacity root : ℕ) (pages : List �
     → w.key ≡ key_width packed tree → w.value ≡ value_width packed tree → IsTreeOf packed tree capacity root pages es bytes
     → IsMap w capacity root pages es bytes
 map_of packed tree capacity root pages es bytes w keys values is =
-    subst (λ (v : Widths). IsMap v capacity root pages es bytes) (same_widths is.widths w (is.keys ∙ sym keys) (is.values ∙ sym values)) is.map
+    subst (λ (v : Widths). IsMap v capacity root pages es bytes)
+    (same_widths is.widths w (is.keys ∙ sym keys) (is.values ∙ sym values)) is.map
 
 -- a root has one tree
 pub one_tree : (packed : ℕ) (tree : Tree) (capacity root : ℕ) (pages others : List ℕ) (es fs : List Item) (bytes : ℕ → List ℕ)

@@ -16,7 +16,8 @@ use Rattle.tree_page.specs.declared.widths.Widths.{Widths}
 use Rattle.tree_page.specs.Page.{Item}
 use Rattle.tree_map.specs.Changes.{AreHeld, HoldsMap, TakePlace}
 use Rattle.tree_map.specs.aid.Laws.{a_map_rests_on_its_pages, a_tree_is_wide}
-use Rattle.tree_map.specs.Tree.{IsMap, IsOnce, IsRooted}
+use Rattle.tree_map.specs.Tree.{IsMap, IsRooted}
+use Rattle.page_store.specs.Pages.{IsOnce}
 
 -- a page that is in use, and not by the map that changes, stays
 held_apart : (m : Mark) → (m ≡ Committed) ⊎ (m ≡ Fresh) → m ≡ Free → ⊥

@@ -3,7 +3,7 @@ use Rattle.std.proofs.Common.{◌≡◌, ◌⊎◌, ℕ, zero, suc, List, [], �
 use Rattle.std.proofs.lemmas.List.Elements.{Contains-append_left, Contains-append_right, Contains-append_cases}
 use Rattle.std.proofs.lemmas.Option.{slice_get_within, get_or_from_slice_get, slice_get-get_or}
 use Rattle.std.specs.List.{slice_get}
-use Rattle.tree_map.specs.Tree.{IsOnce}
+use Rattle.page_store.specs.Pages.{IsOnce}
 use Rattle.tree_map.specs.aid.Laws.{contains_first, contains_later}
 
 -- a page is the first of some, or a later one

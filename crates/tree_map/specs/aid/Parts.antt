@@ -45,13 +45,13 @@ first_key-append [] fs = refl
 first_key-append (e ∷ es) fs = refl
 
 -- the first entry, where its key is known
-pub record Begins (es : List Item) (key : List ℕ) : Type 0 where
+pub record BeginsWithKey (es : List Item) (key : List ℕ) : Type 0 where
   pub entry : Item
   pub rest : List Item
   pub is : es ≡ entry ∷ rest
   pub has : entry.0 ≡ key
 
-pub begins : (es : List Item) (key : List ℕ) → first_key es ≡ Some key → Begins es key
+pub begins : (es : List Item) (key : List ℕ) → first_key es ≡ Some key → BeginsWithKey es key
 begins [] key first = absurd (cc)
 begins (e ∷ es) key first = record { entry = e; rest = es; is = refl; has = cc }
 

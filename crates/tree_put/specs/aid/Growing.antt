@@ -7,7 +7,8 @@ use Rattle.tree_page.specs.declared.widths.Widths.{Widths}
 use Rattle.tree_page.specs.Page.{Item, IsPage, items_in, child_of}
 use Rattle.tree_map.specs.Changes.{AreHeld, TakePlace}
 use Rattle.tree_map.specs.Entries.{Ascend, first_key, put_entry}
-use Rattle.tree_map.specs.Tree.{entries_below, pages_below, IsTree, IsOnce}
+use Rattle.tree_map.specs.Tree.{entries_below, pages_below, IsTree}
+use Rattle.page_store.specs.Pages.{IsOnce}
 
 -- the pages are there
 abbrev pub AreThere : ℕ → List ℕ → Type 0

@@ -18,7 +18,8 @@ use Rattle.tree_table.specs.declared.slot.TreeSlot.{TreeSlot}
 use Rattle.tree_table.specs.declared.tree.Tree.{Tree}
 use Rattle.tree_table.specs.Forest.{IsForest}
 use Rattle.tree_table.specs.Spelled.{table_in}
-use Rattle.tree_table.specs.Working.{Work, table_now, IsHonestWork, HoldsForest, HoldsTable, HoldsWork, WorkStays, WorkGoesOn, WorkCause}
+use Rattle.tree_table.specs.Working.{Work, table_now, IsHonestWork, HoldsForest, HoldsTable, HoldsWork}
+use Rattle.tree_table.specs.Working.{WorkStays, WorkGoesOn, NoAnswerCause}
 use Rattle.tree_table.specs.Working.{WorkFails}
 
 -- counts are four numbers
@@ -124,7 +125,7 @@ fails_since {a} {b} {c} fault first it = record {
   cause = since fault it.cause;
 }
   where
-    since : (f : TableFault) → WorkCause b c f → WorkCause a c f
+    since : (f : TableFault) → NoAnswerCause b c f → NoAnswerCause a c f
     since Disk grew = grew_before a.store.failures b.store.failures c.store.failures first.works.failures grew
     since Damaged broken = λ is. broken (honest_on first.works first.torn is.0, first.holds is.0 is.1)
     since TableFull none = none

@@ -32,7 +32,8 @@ use Rattle.tree_table.specs.declared.tree.Tree.{Tree}
 use Rattle.tree_table.specs.declared.tree.Tree.TheVariants.{Records, Edges, Order}
 use Rattle.tree_table.specs.Entries.{edge_key, AreEntriesOf}
 use Rattle.tree_table.specs.Forest.{IsTreeOf}
-use Rattle.tree_table.specs.Spelled.{entries_down, entries_at, state_in, winner_in, record_in, value_at, table_of, entries_in, table_in}
+use Rattle.tree_table.specs.Spelled.{entries_down, entries_at, record_in, value_at, table_of, entries_in, table_in}
+use Rattle.table.specs.Records.{state_in, winner_in}
 use Rattle.tree_table.specs.Trees.{root_of}
 use Rattle.tree_table.specs.Working.{HoldsTable}
 use Rattle.tree_table.specs.aid.Lists.{same_list, zip_got}

@@ -6,10 +6,11 @@ use Rattle.page_store.specs.Store.{Store as StoreStated, reads}
 use Rattle.tree_page.specs.declared.widths.Widths.{Widths}
 use Rattle.tree_page.specs.Page.{Item}
 use Rattle.tree_map.specs.Entries.{first_key}
-use Rattle.tree_map.specs.Tree.{entries_below, pages_below, IsTree, IsOnce}
+use Rattle.tree_map.specs.Tree.{entries_below, pages_below, IsTree}
+use Rattle.page_store.specs.Pages.{IsOnce, AreWaiting}
 use Rattle.tree_walk.specs.declared.fault.WalkFault.{WalkFault}
 use Rattle.tree_walk.specs.declared.fault.WalkFault.TheVariants.{Store, Refused}
-use Rattle.tree_walk.specs.Walking.{AreWaiting, AreMarked, IsRefused}
+use Rattle.tree_walk.specs.Walking.{MarksPages, IsRefusedAmong}
 use Rattle.tree_walk.specs.aid.Telling.{AscendFrom, IsTold}
 
 -- these pages can be walked: they wait, each once, and their entries ascend from the last key
@@ -19,8 +20,9 @@ pub record AreReady (pages : List ℕ) (es : List Item) (store : StoreStated) (l
   pub ascending : AscendFrom last es
 
 -- these pages are walked, and the visitor was told of these entries
-pub record ArePassed (pages : List ℕ) (es : List Item) (old new : StoreStated) (last now : List ℕ) (told more : List Item → Type 0) : Type 0 where
-  pub marked : AreMarked pages old new
+pub record ArePassed (pages : List ℕ) (es : List Item) (old new : StoreStated) (last now : List ℕ)
+    (told more : List Item → Type 0) : Type 0 where
+  pub marked : MarksPages pages old new
   pub once : IsOnce pages
   pub there : (p : ℕ) → Contains pages p → (1 ≤ p) × (p < length old.marks)
   pub entries : IsTold es last now told more
@@ -34,11 +36,12 @@ pub record IsWalked (w : Widths) (bytes : ℕ → List ℕ) (d page : ℕ) (firs
 
 -- a tree of this depth below this page is not walked: the disk failed; there is none that can be, as far as the disk is
 -- honest; the store is closed; or the visitor refused one of its entries
-abbrev pub BelowCause : Widths → ℕ → ℕ → List ℕ → (List Item → Item → Type 0) → (List Item → Type 0) → StoreStated → StoreStated → WalkFault → Type 0
-BelowCause w d page last refuses told old new (Store Disk) = Grew old.failures new.failures
-BelowCause w d page last refuses told old new (Store Damaged) = IsTrue old.disk.honest → IsTree w (reads old) d page
+abbrev pub WalkBelowCause : Widths → ℕ → ℕ → List ℕ → (List Item → Item → Type 0) → (List Item → Type 0) → StoreStated → StoreStated
+    → WalkFault → Type 0
+WalkBelowCause w d page last refuses told old new (Store Disk) = Grew old.failures new.failures
+WalkBelowCause w d page last refuses told old new (Store Damaged) = IsTrue old.disk.honest → IsTree w (reads old) d page
     → AreReady (pages_below w (reads old) d page) (entries_below w (reads old) d page) old last → ⊥
-BelowCause w d page last refuses told old new (Store Closed) = old.closed ≡ true
-BelowCause w d page last refuses told old new (Store _) = ⊥
-BelowCause w d page last refuses told old new Refused =
-    IsTrue old.disk.honest → (before : List Item) → told before → IsRefused refuses before (entries_below w (reads old) d page)
+WalkBelowCause w d page last refuses told old new (Store Closed) = old.closed ≡ true
+WalkBelowCause w d page last refuses told old new (Store _) = ⊥
+WalkBelowCause w d page last refuses told old new Refused =
+    IsTrue old.disk.honest → (before : List Item) → told before → IsRefusedAmong refuses before (entries_below w (reads old) d page)

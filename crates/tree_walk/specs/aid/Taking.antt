@@ -1,25 +1,17 @@
 -- What marking and reading one page does.
-use Rattle.std.specs.Prelude.{◌≡◌, ◌⊎◌, ℕ, ◌≤◌, ◌<◌, true, List, length, IsTrue}
-use Rattle.sector_disk.specs.Disk.{Grew, LeavesOnly, MayLeave}
+use Rattle.std.specs.Prelude.{◌≡◌, ℕ, ◌≤◌, ◌<◌, true, List, length, IsTrue}
+use Rattle.sector_disk.specs.Disk.{Grew}
 use Rattle.page_store.specs.declared.fault.PageFault.{PageFault}
 use Rattle.page_store.specs.declared.fault.PageFault.TheVariants.{Disk, Damaged, Closed}
 use Rattle.page_store.specs.declared.marks.Mark.TheVariants.{Committed, Waiting}
 use Rattle.page_store.specs.Marks.{mark, IsMarked}
-use Rattle.page_store.specs.Store.{Store, reads, StoreWorks}
+use Rattle.page_store.specs.Store.{Store, reads}
 use Rattle.tree_page.specs.declared.kind.Kind.{Kind}
 use Rattle.tree_page.specs.declared.widths.Widths.{Widths}
 use Rattle.tree_page.specs.Page.{IsPage}
 
--- some pages are marked, and else the store is as it was; a stop meanwhile leaves what it could leave before
-pub record MarksOnly (old new : Store) : Type 0 where
-  pub works : StoreWorks old new
-  pub shown : IsTrue old.disk.honest → new.disk.now ≡ old.disk.now
-  pub leaves : IsTrue old.disk.honest → LeavesOnly old.disk new.disk (MayLeave old.disk.now)
-  pub closed : new.closed ≡ old.closed
-  pub others : (p : ℕ) → (mark new.marks p ≡ mark old.marks p) ⊎ (mark new.marks p ≡ Committed)
-
 -- a page that waited is marked, and has these bytes, which are of this kind
-pub record IsTaken (w : Widths) (kind : Kind) (page : ℕ) (bytes : List ℕ) (old new : Store) : Type 0 where
+pub record IsPageTaken (w : Widths) (kind : Kind) (page : ℕ) (bytes : List ℕ) (old new : Store) : Type 0 where
   pub waited : mark old.marks page ≡ Waiting
   pub is_page : 1 ≤ page
   pub within : page < length old.marks

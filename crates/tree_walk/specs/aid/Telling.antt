@@ -5,7 +5,7 @@ use Rattle.page_store.specs.declared.fault.PageFault.TheVariants.{Damaged}
 use Rattle.tree_page.specs.Page.{Item, key_cmp}
 use Rattle.tree_walk.specs.declared.fault.WalkFault.{WalkFault}
 use Rattle.tree_walk.specs.declared.fault.WalkFault.TheVariants.{Store, Refused}
-use Rattle.tree_walk.specs.Walking.{IsRefused}
+use Rattle.tree_walk.specs.Walking.{IsRefusedAmong}
 
 -- each key is past the one before it, and the first past this one
 abbrev pub AscendFrom : List ℕ → List Item → Type 0
@@ -28,4 +28,4 @@ pub record IsTold (es : List Item) (last now : List ℕ) (told more : List Item 
 abbrev pub TellCause : List Item → List ℕ → (List Item → Item → Type 0) → (List Item → Type 0) → WalkFault → Type 0
 TellCause es last refuses told (Store Damaged) = AscendFrom last es → ⊥
 TellCause es last refuses told (Store _) = ⊥
-TellCause es last refuses told Refused = (before : List Item) → told before → IsRefused refuses before es
+TellCause es last refuses told Refused = (before : List Item) → told before → IsRefusedAmong refuses before es

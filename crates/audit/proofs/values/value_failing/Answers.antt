@@ -2,7 +2,7 @@ use Rattle.std.proofs.Common.{◌≡◌, ◌∙◌, sym, ap, subst, Option, true
 use Rattle.rbg_game.specs.declared.roles.Player.{Player}
 use Rattle.rbg_game.specs.declared.roles.Role.{Role}
 use Rattle.retrograde.specs.Local.{end_value}
-use Rattle.audit.specs.aid.Records.{IsDue}
+use Rattle.audit.specs.aid.Records.{IsDueByRecords}
 use Rattle.audit.proofs.Lists.{is_nil, not_nil}
 use Rattle.audit.proofs.LowestLemmas.{ended_so, not_ended_so, moves_so, not_moves_so}
 use Rattle.audit.proofs.values.value_failing.Goals as goal
@@ -21,10 +21,10 @@ returns-then-is_empty g c = λ stored i table has within it.
 pub returns-then-has_this : goal.returns-then-has_this
 returns-then-has_this g c = λ stored i table has within it.
     moves_so (g.M.GameGraph.graph c.args.source.now) stored i c.args.at.now.items table c.args.kept has within c.args.successors.now it (not_nil c.is_empty.result c.args.successors.now c.is_empty.ensures c.if-is_empty.false)
-    c.due.result (subst (λ (role : Role). IsDue role c.args.successors.now c.due.result) c.mover.ensures c.due.ensures) (c.has_this.ensures.0 c.if-has_this.true)
+    c.due.result (subst (λ (role : Role). IsDueByRecords role c.args.successors.now c.due.result) c.mover.ensures c.due.ensures) (c.has_this.ensures.0 c.if-has_this.true)
 
 pub returns : goal.returns
 returns g c = λ stored i table has within it.
     not_moves_so (g.M.GameGraph.graph c.args.source.now) stored i c.args.at.now.items table c.args.kept has within c.args.successors.now it (not_nil c.is_empty.result c.args.successors.now c.is_empty.ensures c.if-is_empty.false)
-    c.due.result (subst (λ (role : Role). IsDue role c.args.successors.now c.due.result) c.mover.ensures c.due.ensures)
+    c.due.result (subst (λ (role : Role). IsDueByRecords role c.args.successors.now c.due.result) c.mover.ensures c.due.ensures)
     (λ so. let is : c.has_this.result ≡ true = c.has_this.ensures.1 so in let no : c.has_this.result ≡ false = c.if-has_this.false in cc)

@@ -6,7 +6,7 @@ use Rattle.page_store.specs.Store.{Store}
 use Rattle.page_store.specs.aid.Works.{works_then}
 use Rattle.sector_disk.specs.Disk.{Disk}
 use Rattle.sector_disk.specs.aid.Moments.{still_honest}
-use Rattle.page_chain.specs.aid.Links.{OnlyMarks}
+use Rattle.page_store.specs.aid.Marking.{OnlyMarks}
 use Rattle.page_chain.proofs.Reading.{one_marked, only_marks_refl, leaves_same}
 use Rattle.page_chain.proofs.read.read_link.Goals as goal
 

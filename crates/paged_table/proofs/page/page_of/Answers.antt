@@ -1,5 +1,6 @@
 use Rattle.std.proofs.Common.{◌≡◌, ◌<◌, ◌∙◌, ap, subst, sym, ℕ, arith}
-use Rattle.paged_table.specs.Page.{word_at, state_in, winner_in, record_in}
+use Rattle.paged_table.specs.Page.{word_at, record_in}
+use Rattle.table.specs.Records.{state_in, winner_in}
 use Rattle.paged_table.proofs.page.page_of.Goals as goal
 
 pub returns-clause-is : goal.returns-clause-is

@@ -5,7 +5,8 @@ use Rattle.page_store.specs.aid.Works.{works_then}
 use Rattle.page_chain.specs.Chain.{IsChain, first_of}
 use Rattle.tree_table.specs.declared.slot.TreeSlot.{TreeSlot}
 use Rattle.tree_table.specs.Causes.{AddCause, StartCause}
-use Rattle.tree_table.specs.Working.{nothing, text_slot, HoldsTable}
+use Rattle.tree_table.specs.Working.{text_slot, HoldsTable}
+use Rattle.table.specs.Records.{nothing}
 use Rattle.tree_table.proofs.Bare.{text_holds}
 use Rattle.tree_table.proofs.Loading.{add_fails, on_error}
 use Rattle.tree_table.specs.aid.Standing.{was_honest}

@@ -2,7 +2,7 @@ use Rattle.std.proofs.Common.{◌-◌, IsTrue}
 use Rattle.page_store.specs.Store.{reads}
 use Rattle.tree_page.specs.declared.kind.Kind.TheVariants.{Inner}
 use Rattle.tree_page.specs.Page.{items_in}
-use Rattle.tree_walk.specs.aid.Taking.{MarksOnly}
+use Rattle.page_store.specs.aid.Marking.{OnlyMarks}
 use Rattle.tree_walk.proofs.Walking.{AreOver}
 use Rattle.tree_walk.proofs.below.+walk_below.Given as goal
 
@@ -12,7 +12,7 @@ decreases-walk_below g l = l.depth
 abbrev pub invariant-loop-place : goal.invariant-loop-place
 invariant-loop-place g l =
     record {
-      marks : MarksOnly (g.P.Pages.store l.fn.store) (g.P.Pages.store l.store);
+      marks : OnlyMarks (g.P.Pages.store l.fn.store) (g.P.Pages.store l.store);
       over : IsTrue (g.P.Pages.store l.fn.store).disk.honest
           → AreOver l.widths (reads (g.P.Pages.store l.fn.store)) (l.depth - 1) l.page (items_in l.widths Inner l.bytes) l.place (g.P.Pages.store l.fn.store) (g.P.Pages.store l.store) l.fn.last.items l.last.items
           (g.V.Visitor.told l.fn.visitor) (g.V.Visitor.told l.visitor);

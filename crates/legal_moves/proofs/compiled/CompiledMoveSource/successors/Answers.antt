@@ -1,14 +1,15 @@
 use Rattle.std.proofs.Common.{◌≡◌, map, ℕ, List, ap, sym, ◌∙◌, subst, arith}
 use Rattle.std.proofs.lemmas.List.{length-map}
 use Rattle.arrayvec.specs.ArrayVec.{ArrayVec}
-use Rattle.rbg_game.specs.Meaning.{game_of}
+use Rattle.rbg_game.specs.Sound.{IsSoundGame}
 use Rattle.rbg_game.specs.declared.position.Position.{Position}
 use Rattle.position_pack.specs.declared.kind.PackingKind.{PackingKind}
 use Rattle.position_pack.specs.declared.kind.PackingKind.TheVariants.{Bytes}
 use Rattle.position_pack.specs.Shape.{Shape}
 use Rattle.position_pack.specs.Packings.{Form, form_of, IsPacked}
-use Rattle.legal_moves.specs.Compiled.{IsCompiled}
-use Rattle.legal_moves.specs.declared.compiled.Compiled.{Compiled}
+use Rattle.legal_moves.specs.Made.{CompiledGame}
+use Rattle.legal_moves.specs.Compiled.{compiled_game, packing_kind, IsCompiled}
+use Rattle.legal_moves.specs.declared.compiled.Compiled.TheInside.{Inside}
 use Rattle.legal_moves.specs.Listed.{ListsExactly, ShownMove}
 use Rattle.legal_moves.specs.Sources.{IsAt, IsMoveBetween}
 use Rattle.legal_moves.specs.aid.Repacked.{AreRows, AreRepacked}
@@ -19,74 +20,86 @@ use Rattle.legal_moves.proofs.compiled.CompiledMoveSource.successors.Goals as go
 abbrev form_with : PackingKind → Shape → Form
 form_with kind shape = record { kind = kind; shape = shape }
 
--- the form of the packing is that of its kind for the game
-own_form : (compiled : Compiled) → IsCompiled compiled → compiled.packing ≡ form_of compiled.packing.kind (game_of compiled.game)
-own_form compiled is = ap (form_with compiled.packing.kind) is.packing_is
+abbrev seen : Inside → CompiledGame
+seen c = record { game = c.game; kind = c.packing.kind }
 
--- the position that was unpacked
-unpacked_at : (compiled : Compiled) → IsCompiled compiled → (x y : List ℕ) (at : Position) → y ≡ x → IsPacked compiled.packing at y → IsAt compiled.packing.kind (game_of compiled.game) x at
-unpacked_at compiled is x y at same packed =
-    at_by_packed compiled.packing.kind (game_of compiled.game) compiled.packing x at (own_form compiled is) (subst (IsPacked compiled.packing at) same packed)
+-- ---- what the fields are, said of what they stand for
+
+module _ (inside : Inside) (v : CompiledGame) (same : seen inside ≡ v) (is : IsCompiled inside) where
+  sound : IsSoundGame (compiled_game v)
+  sound = subst (λ w. IsSoundGame (compiled_game w)) same is.sound
+
+  own_form : inside.packing ≡ form_of (packing_kind v) (compiled_game v)
+  own_form = subst (λ w. inside.packing ≡ form_of (packing_kind w) (compiled_game w)) same (ap (form_with inside.packing.kind) is.packing_is)
+
+  row_form : inside.rows ≡ form_of Bytes (compiled_game v)
+  row_form = subst (λ w. inside.rows ≡ form_of Bytes (compiled_game w)) same is.rows_are
+
+  -- the position that was unpacked
+  unpacked_at : (x y : List ℕ) (at : Position) → y ≡ x → IsPacked inside.packing at y → IsAt (packing_kind v) (compiled_game v) x at
+  unpacked_at x y at here packed =
+      at_by_packed (packing_kind v) (compiled_game v) inside.packing x at own_form (subst (IsPacked inside.packing at) here packed)
+
+  -- the successors by the other packing
+  again : (xs zs ys : List (List ℕ)) → zs ≡ xs → AreRepacked inside.rows inside.packing zs ys → AreRepacked (form_of Bytes (compiled_game v)) (form_of (packing_kind v) (compiled_game v)) xs ys
+  again xs zs ys here h =
+      subst (λ f. AreRepacked f (form_of (packing_kind v) (compiled_game v)) xs ys) row_form
+      (subst (λ f. AreRepacked inside.rows f xs ys) own_form (subst (λ us. AreRepacked inside.rows inside.packing us ys) here h))
 
 pub returns-in-Bytes-clause-exact : goal.returns-in-Bytes-clause-exact
 returns-in-Bytes-clause-exact c =
-    let compiled = c.args.self.now in
-    let game = game_of compiled.game in
+    let inside = c.self.inside in
+    let v = c.args.self.now in
     let x = c.args.at.now.items in
-    let by_bytes : compiled.packing.kind ≡ Bytes = sym c.kind.ensures ∙ c.in-Bytes.is in
-    let here = subst (λ k. IsAt k game x c.in-Some.position) by_bytes (unpacked_at compiled c.requires x c.deref.result.now c.in-Some.position c.deref.ensures.0 c.in-Some.ensures) in
-    subst (λ k. ListsExactly (IsMoveBetween k game x) (map (λ (p : ArrayVec ℕ). p.items) c.in_ok-successors.successors.items)) (sym by_bytes)
-    (subst (ListsExactly (IsMoveBetween Bytes game x)) (sym c.in_ok-successors.ensures)
-    (lists_between game c.requires.sound x c.in-Some.position (map (λ m. m.next) c.in_ok-moves.moves) here c.in_ok-moves.ensures.exact.successors))
+    let by_bytes : v.kind ≡ Bytes = sym (ap (λ w. w.kind) c.self.view_is) ∙ sym c.kind.ensures ∙ c.in-Bytes.is in
+    let here = subst (λ k. IsAt k (compiled_game v) x c.in-Some.position) by_bytes (unpacked_at inside v c.self.view_is c.self.invariant x c.deref.result.now c.in-Some.position c.deref.ensures.0 c.in-Some.ensures) in
+    subst (λ k. ListsExactly (IsMoveBetween k (compiled_game v) x) (map (λ (p : ArrayVec ℕ). p.items) c.in_ok-successors.successors.items)) (sym by_bytes)
+    (subst (ListsExactly (IsMoveBetween Bytes (compiled_game v) x)) (sym c.in_ok-successors.ensures)
+    (lists_between (compiled_game v) (sound inside v c.self.view_is c.self.invariant) x c.in-Some.position (map (λ m. m.next) c.in_ok-moves.moves) here c.in_ok-moves.ensures.exact.successors))
 
 pub returns-in-Bytes-clause-narrow : goal.returns-in-Bytes-clause-narrow
 returns-in-Bytes-clause-narrow c =
-    let compiled = c.args.self.now in
+    let inside = c.self.inside in
+    let v = c.args.self.now in
     let x = c.args.at.now.items in
-    let here = unpacked_at compiled c.requires x c.deref.result.now c.in-Some.position c.deref.ensures.0 c.in-Some.ensures in
-    λ ok. narrow_at compiled.packing.kind (game_of compiled.game) c.requires.sound x c.in-Some.position here (c.in_ok-moves.ensures.narrow ok)
+    let here = unpacked_at inside v c.self.view_is c.self.invariant x c.deref.result.now c.in-Some.position c.deref.ensures.0 c.in-Some.ensures in
+    λ ok. narrow_at v.kind (compiled_game v) (sound inside v c.self.view_is c.self.invariant) x c.in-Some.position here (c.in_ok-moves.ensures.narrow ok)
 
 pub repacked-requires-clause-rows : goal.repacked-requires-clause-rows
 repacked-requires-clause-rows c =
-    let compiled = c.args.self.now in
-    let game = game_of compiled.game in
+    let inside = c.self.inside in
+    let v = c.args.self.now in
+    let game = compiled_game v in
     let x = c.args.at.now.items in
-    let here = unpacked_at compiled c.requires x c.deref.result.now c.in-Some.position c.deref.ensures.0 c.in-Some.ensures in
-    let rows = rows_by_successors game c.requires.sound x c.in-Some.position compiled.packing.kind here (map (λ m. m.next) c.in_ok-moves.moves) c.in_ok-moves.ensures.exact.successors.only in
+    let here = unpacked_at inside v c.self.view_is c.self.invariant x c.deref.result.now c.in-Some.position c.deref.ensures.0 c.in-Some.ensures in
+    let rows = rows_by_successors game (sound inside v c.self.view_is c.self.invariant) x c.in-Some.position v.kind here (map (λ m. m.next) c.in_ok-moves.moves) c.in_ok-moves.ensures.exact.successors.only in
     let same = ap (map (λ (p : ArrayVec ℕ). p.items)) c.deref-in-Bits.ensures.value ∙ c.in_ok-successors.ensures in
-    subst (λ f. AreRows f (map (λ (p : ArrayVec ℕ). p.items) c.deref-in-Bits.result.now)) (sym c.requires.rows_are) (subst (AreRows (form_of Bytes game)) (sym same) rows)
-
--- the successors by the other packing
-again : (compiled : Compiled) → IsCompiled compiled → (xs zs ys : List (List ℕ)) → zs ≡ xs → AreRepacked compiled.rows compiled.packing zs ys
-    → AreRepacked (form_of Bytes (game_of compiled.game)) (form_of compiled.packing.kind (game_of compiled.game)) xs ys
-again compiled is xs zs ys same h =
-    subst (λ f. AreRepacked f (form_of compiled.packing.kind (game_of compiled.game)) xs ys) is.rows_are
-    (subst (λ f. AreRepacked compiled.rows f xs ys) (own_form compiled is) (subst (λ us. AreRepacked compiled.rows compiled.packing us ys) same h))
+    subst (λ f. AreRows f (map (λ (p : ArrayVec ℕ). p.items) c.deref-in-Bits.result.now)) (sym (row_form inside v c.self.view_is c.self.invariant)) (subst (AreRows (form_of Bytes game)) (sym same) rows)
 
 pub returns-in_ok-repacked-in-Bits-clause-exact : goal.returns-in_ok-repacked-in-Bits-clause-exact
 returns-in_ok-repacked-in-Bits-clause-exact c =
-    let compiled = c.args.self.now in
-    let game = game_of compiled.game in
+    let inside = c.self.inside in
+    let v = c.args.self.now in
     let x = c.args.at.now.items in
-    let here = unpacked_at compiled c.requires x c.deref.result.now c.in-Some.position c.deref.ensures.0 c.in-Some.ensures in
+    let here = unpacked_at inside v c.self.view_is c.self.invariant x c.deref.result.now c.in-Some.position c.deref.ensures.0 c.in-Some.ensures in
     let xs = map (λ (m : ShownMove). m.next) c.in_ok-moves.moves in
     let ys = map (λ (p : ArrayVec ℕ). p.items) c.in_ok-repacked-in-Bits.field-0.items in
     let same = ap (map (λ (p : ArrayVec ℕ). p.items)) c.deref-in-Bits.ensures.value ∙ c.in_ok-successors.ensures in
-    let h = again compiled c.requires xs (map (λ (p : ArrayVec ℕ). p.items) c.deref-in-Bits.result.now) ys same c.in_ok-repacked-in-Bits.ensures in
-    lists_repacked compiled.packing.kind game c.requires.sound x c.in-Some.position here xs ys h c.in_ok-moves.ensures.exact.successors
+    let h = again inside v c.self.view_is c.self.invariant xs (map (λ (p : ArrayVec ℕ). p.items) c.deref-in-Bits.result.now) ys same c.in_ok-repacked-in-Bits.ensures in
+    lists_repacked v.kind (compiled_game v) (sound inside v c.self.view_is c.self.invariant) x c.in-Some.position here xs ys h c.in_ok-moves.ensures.exact.successors
 
 pub returns-in_ok-repacked-in-Bits-clause-few : goal.returns-in_ok-repacked-in-Bits-clause-few
 returns-in_ok-repacked-in-Bits-clause-few c =
-    let compiled = c.args.self.now in
     let xs = map (λ (m : ShownMove). m.next) c.in_ok-moves.moves in
     let ys = map (λ (p : ArrayVec ℕ). p.items) c.in_ok-repacked-in-Bits.field-0.items in
     let same = ap (map (λ (p : ArrayVec ℕ). p.items)) c.deref-in-Bits.ensures.value ∙ c.in_ok-successors.ensures in
-    let many = repacked_many _ _ xs ys (again compiled c.requires xs (map (λ (p : ArrayVec ℕ). p.items) c.deref-in-Bits.result.now) ys same c.in_ok-repacked-in-Bits.ensures) in
+    let many = repacked_many _ _ xs ys (again c.self.inside c.args.self.now c.self.view_is c.self.invariant xs (map (λ (p : ArrayVec ℕ). p.items) c.deref-in-Bits.result.now) ys same c.in_ok-repacked-in-Bits.ensures) in
     omega (arith, c.in_ok-moves.ensures.few, many, length-map c.in_ok-repacked-in-Bits.field-0.items (λ (p : ArrayVec ℕ). p.items), length-map c.in_ok-moves.moves (λ (m : ShownMove). m.next))
 
 pub returns-in_ok-repacked-in-Bits-clause-narrow : goal.returns-in_ok-repacked-in-Bits-clause-narrow
 returns-in_ok-repacked-in-Bits-clause-narrow c =
-    let compiled = c.args.self.now in
+    let inside = c.self.inside in
+    let v = c.args.self.now in
     let x = c.args.at.now.items in
-    let here = unpacked_at compiled c.requires x c.deref.result.now c.in-Some.position c.deref.ensures.0 c.in-Some.ensures in
-    λ ok. narrow_at compiled.packing.kind (game_of compiled.game) c.requires.sound x c.in-Some.position here (c.in_ok-moves.ensures.narrow ok)
+    let here = unpacked_at inside v c.self.view_is c.self.invariant x c.deref.result.now c.in-Some.position c.deref.ensures.0 c.in-Some.ensures in
+    λ ok. narrow_at v.kind (compiled_game v) (sound inside v c.self.view_is c.self.invariant) x c.in-Some.position here (c.in_ok-moves.ensures.narrow ok)

@@ -1,4 +1,4 @@
-use Rattle.std.proofs.Common.{slice_index, ◌≡◌, ◌==◌, ℕ, inr, false, ◌+◌, ◌-◌, ◌<◌, ◌≤◌, length, vec_len, Some, Err, slice_get, refl, sym, ap, ◌∙◌, subst, arith}
+use Rattle.std.proofs.Common.{slice_index, ◌≡◌, ◌==◌, ℕ, inr, false, ◌+◌, ◌-◌, ◌<◌, ◌≤◌, length, vec_len, Some, Err, get_or, slice_get, [], ◌∷◌, refl, sym, ap, ◌∙◌, subst, arith, length-append}
 use Rattle.rbg_game.specs.Positions.{IsStateOf}
 use Rattle.rbg_game.specs.Rules.{count}
 use Rattle.rbg_game.specs.Meaning.{game_of}
@@ -28,9 +28,13 @@ use Rattle.legal_moves.proofs.StandingLemmas.{board_is, stood_at, any_stand}
 use Rattle.legal_moves.proofs.AttemptLemmas.{state_there, state_of, attempted, filled}
 use Rattle.legal_moves.specs.declared.found.Stand.{Stand}
 use Rattle.legal_moves.proofs.LookLemmas.{seen_at, stays_there, taken_look, new_position, any_look, place_zero, going_begun, look_leads}
+use Rattle.legal_moves.specs.Tables.{inner_of}
+use Rattle.legal_moves.specs.aid.Answers.{IsAnswerAt}
+use Rattle.legal_moves.specs.Searches.{IsWideFrom}
+use Rattle.legal_moves.proofs.AnswerLemmas.{same_expression, answer_along}
 use Rattle.legal_moves.proofs.ReadyLemmas.{read_at, count_steps, act_plain, act_tells, act_narrow, ask_before, ask_lacks, ask_ready, ask_narrow, ask_wide, ask_some, ask_none, ask_look, beq_true, beq_same}
 use Rattle.legal_moves.proofs.search.Searcher.+search.Goals as goal
-use Rattle.legal_moves.proofs.search.Searcher.+search.Goals.{look_on-in-Fails, look_on-in-At+in_ok-add-in-At, expand-then-last-eq0, expand-else-last-eq0, holds-then-ends, holds-else-ends, holds-then-ends-2, holds-else-ends-2}
+use Rattle.legal_moves.proofs.search.Searcher.+search.Goals.{look_on-in-Fails, look_on-in-At+in_ok-add-in-At, expand-then-last-eq0, expand-else-last-eq0, is_legal-then-ends, is_legal-else-ends, is_legal-then-ends-2, is_legal-else-ends-2}
 
 pub glance_at-step-requires-clause-upto : goal.glance_at-step-requires-clause-upto
 glance_at-step-requires-clause-upto t c =
@@ -64,7 +68,9 @@ glance_at-holds-requires t c =
     let at_T = read_at tables index T c.requires.ready.within c.index-self-index.is in
     let at_step = subst (λ x. slice_get x.steps.items (c.args.number - 1) ≡ Some c.step.result.now) (sym c.index-self-index.is) c.step.ensures in
     let before : c.in-Ask.inner < index = ask_before game tables index c.requires.ready T at_T c.args.number c.requires.from c.step.result.now at_step c.in-Ask.positive c.in-Ask.inner c.in-Ask.is in
-    (omega (arith, before), (ask_ready game tables index c.requires.ready T at_T c.args.number c.requires.from c.step.result.now at_step c.in-Ask.positive c.in-Ask.inner c.in-Ask.is, (c.requires.state, ask_lacks game tables index c.requires.ready T at_T c.args.number c.requires.from c.step.result.now at_step c.in-Ask.positive c.in-Ask.inner c.in-Ask.is)))
+    let es = inner_of game.rules in
+    let pattern : c.in-Ask.inner < length c.args.self.now.same.now = omega (arith, before, c.requires.ready.within, c.requires.ready.tables_are.as_many, length-append es (game.rules ∷ []), c.requires.same.as_many) in
+    (omega (arith, before), (ask_ready game tables index c.requires.ready T at_T c.args.number c.requires.from c.step.result.now at_step c.in-Ask.positive c.in-Ask.inner c.in-Ask.is, (c.requires.same, (c.requires.state, (ask_lacks game tables index c.requires.ready T at_T c.args.number c.requires.from c.step.result.now at_step c.in-Ask.positive c.in-Ask.inner c.in-Ask.is, (pattern, c.requires.known))))))
 
 pub glance_at-returns-in_err-holds-in-Ask-clause-wide : goal.glance_at-returns-in_err-holds-in-Ask-clause-wide
 glance_at-returns-in_err-holds-in-Ask-clause-wide t c =
@@ -145,8 +151,8 @@ glance_at-returns-else-holds-positive-clause-narrow t c =
     let at_step = subst (λ x. slice_get x.steps.items (c.args.number - 1) ≡ Some c.step.result.now) (sym c.index-self-index.is) c.step.ensures in
     λ ok. ask_narrow game tables index c.requires.ready T at_T c.args.number c.requires.from c.step.result.now at_step c.in-Ask.positive c.in-Ask.inner c.in-Ask.is (at_vertex c.args.state.now c.args.vertex) (c.in_ok-holds-in-Ask.ensures.narrow refl)
 
-pub holds-returns-clause-answer : goal.holds-returns-clause-answer
-holds-returns-clause-answer t c =
+pub is_legal-returns-clause-answer : goal.is_legal-returns-clause-answer
+is_legal-returns-clause-answer t c =
     let game = game_of c.args.self.now.game.now in
     let tables = c.args.self.now.tables.now in
     let index = c.args.index in
@@ -159,11 +165,11 @@ holds-returns-clause-answer t c =
     let search = subst (λ o. IfSome o (λ l. IsSearch game e 0 S (seen_from c.args.state.now l.looks.items))) c.in-Some.is c.in_ok-looks.ensures.found in
     let table_is = ap (λ x. x.ends.nullable) c.index-self-index-2.is in
     elim c.if-ends.branch [
-      | holds-then-ends w ↦
+      | is_legal-then-ends w ↦
           let null = table_is ∙ w.if-ends.true in
           subst (λ b. MatchBool b (IsLegal game e S) (¬ IsLegal game e S)) (sym (w.result-is ∙ w.if-ends.true))
           (legal_by_nullable game tables index c.requires.ready T at_T c.requires.lacks S cs search null)
-      | holds-else-ends w ↦
+      | is_legal-else-ends w ↦
           let configurations = w.deref.ensures.value in
           let last = w.deref-else-ends.ensures.value ∙ ap (λ x. x.ends.last.items) (sym c.index-self-index-2.is) in
           let any = w.any_looks_last.ensures ∙ ap (λ xs. list_any (λ x. list_any (λ k. k == x.place) xs) w.deref.result.now) last ∙ ap (λ xs. list_any (λ x. list_any (λ k. k == x.place) T.ends.last.items) xs) configurations ∙ sym (any_look c.args.state.now ls T.ends.last.items) in
@@ -171,8 +177,8 @@ holds-returns-clause-answer t c =
           (legal_by_any game tables index c.requires.ready T at_T c.requires.lacks S cs search w.any_looks_last.result any (table_is ∙ w.if-ends.false))
     ]
 
-pub holds-returns-clause-narrow : goal.holds-returns-clause-narrow
-holds-returns-clause-narrow t c =
+pub is_legal-returns-clause-narrow : goal.is_legal-returns-clause-narrow
+is_legal-returns-clause-narrow t c =
     let game = game_of c.args.self.now.game.now in
     let tables = c.args.self.now.tables.now in
     let index = c.args.index in
@@ -186,8 +192,8 @@ holds-returns-clause-narrow t c =
     let table_is = ap (λ x. x.ends.nullable) c.index-self-index-2.is in
     λ ok. narrow_by_search game e 0 S cs search
 
-pub holds-returns-2-clause-answer : goal.holds-returns-2-clause-answer
-holds-returns-2-clause-answer t c =
+pub is_legal-returns-2-clause-answer : goal.is_legal-returns-2-clause-answer
+is_legal-returns-2-clause-answer t c =
     let game = game_of c.args.self.now.game.now in
     let tables = c.args.self.now.tables.now in
     let index = c.args.index in
@@ -199,11 +205,11 @@ holds-returns-2-clause-answer t c =
     let S = at_vertex c.args.state.now c.args.vertex in
     let table_is = ap (λ x. x.ends.nullable) c.index-self-index-3.is in
     elim c.if-ends-2.branch [
-      | holds-then-ends-2 w ↦
+      | is_legal-then-ends-2 w ↦
           let null = table_is ∙ w.if-ends-2.true in
           subst (λ b. MatchBool b (IsLegal game e S) (¬ IsLegal game e S)) (sym (w.result-is ∙ w.if-ends-2.true))
           (legal_by_nullable game tables index c.requires.ready T at_T c.requires.lacks S cs search null)
-      | holds-else-ends-2 w ↦
+      | is_legal-else-ends-2 w ↦
           let configurations = w.deref-else-ends-2.ensures.value in
           let last = w.deref-else-ends-2-2.ensures.value ∙ ap (λ x. x.ends.last.items) (sym c.index-self-index-3.is) in
           let any = w.any_stands_last.ensures ∙ ap (λ xs. list_any (λ x. list_any (λ k. k == x.place) xs) w.deref-else-ends-2.result.now) last ∙ ap (λ xs. list_any (λ x. list_any (λ k. k == x.place) T.ends.last.items) xs) configurations ∙ sym (any_stand c.in_ok-found.found.boards.items c.in_ok-found.found.stands.items T.ends.last.items) in
@@ -211,8 +217,8 @@ holds-returns-2-clause-answer t c =
           (legal_by_any game tables index c.requires.ready T at_T c.requires.lacks S cs search w.any_stands_last.result any (table_is ∙ w.if-ends-2.false))
     ]
 
-pub holds-returns-2-clause-narrow : goal.holds-returns-2-clause-narrow
-holds-returns-2-clause-narrow t c =
+pub is_legal-returns-2-clause-narrow : goal.is_legal-returns-2-clause-narrow
+is_legal-returns-2-clause-narrow t c =
     let game = game_of c.args.self.now.game.now in
     let tables = c.args.self.now.tables.now in
     let index = c.args.index in
@@ -283,7 +289,7 @@ look_on-glance_at-requires t c =
     let at_k = slice_get-get_or ks i 0 c.loop-number-test.true in
     let next = listed_next game tables index c.requires.ready T at_T ks l.place p ks_is from_is i k at_k in
     let here = IsFollowed-upto game e 0 S now at (past ks i) k b now_b c.loop-number.invariant.here (λ m from_past less. skipped game tables index c.requires.ready T at_T ks l.place p ks_is from_is i k m at_k from_past less) in
-    (omega arith, (c.requires.ready, (c.loop-number.invariant.going.found_are.states_are at b now_b, (number_from e p k next, number_upto e p k next))))
+    (omega arith, (c.requires.ready, (c.requires.same, (c.loop-number.invariant.going.found_are.states_are at b now_b, (number_from e p k next, (number_upto e p k next, c.loop-number.invariant.known))))))
 
 pub look_on-returns-in_err-glance_at-clause-wide : goal.look_on-returns-in_err-glance_at-clause-wide
 look_on-returns-in_err-glance_at-clause-wide t c =
@@ -428,6 +434,7 @@ look_on-loop-number-preserved t c =
           record {
             marked = subst (λ F. AreMarked (count e + 1) F) (sym w.looks-is) (c.loop-number.invariant.marked);
             going = subst (λ F. IsGoing game e 0 S (seen_from state F.looks.items) at) (sym w.looks-is) c.loop-number.invariant.going;
+            known = c.in_ok-glance_at.ensures.known;
             here = subst (λ F. IsFollowed game e 0 (seen_from state F.looks.items) at (past ks (i + 1))) (sym w.looks-is) (subst (λ n. IsFollowed game e 0 now at n) more_is more);
             before = subst (λ F. slice_get F.looks.items at ≡ slice_get ls at) (sym w.looks-is) c.loop-number.invariant.before;
           }
@@ -440,6 +447,7 @@ look_on-loop-number-preserved t c =
           record {
             marked = subst (λ F. AreMarked (count e + 1) F) (sym w.looks-is) (subst (λ n. AreMarked n w.add.new.self) c.loop-number.invariant.marked.numbers_are w.in_ok-add-in-At.ensures.marked);
             going = subst (λ F. IsGoing game e 0 S (seen_from state F.looks.items) at) (sym w.looks-is) turn.goes;
+            known = c.in_ok-glance_at.ensures.known;
             here = subst (λ F. IsFollowed game e 0 (seen_from state F.looks.items) at (past ks (i + 1))) (sym w.looks-is) (subst (λ n. IsFollowed game e 0 (seen_from state looks') at n) more_is turn.expands);
             before = subst (λ F. slice_get F.looks.items at ≡ slice_get ls at) (sym w.looks-is) (stays_there looks looks' more at l (c.loop-number.invariant.before ∙ at_l) w.in_ok-add-in-At.ensures.added ∙ sym at_l);
           }
@@ -575,7 +583,7 @@ expand-attempt-requires t c =
     let here = IsFollowed-upto game e place S now at (past ks i) k b now_b c.loop-number.invariant.here (λ m from_past less. skipped game tables index c.requires.ready T at_T ks c.if-last-eq0.from p ks_is from_is i k m at_k from_past less) in
     let inside : at < length c.loop-number.found.stands.items = omega (arith, slice_get-within now at b now_b, length-map c.loop-number.found.stands.items (stood c.loop-number.found.boards.items)) in
     let state_is : b.at.state ≡ state_at now at = sym (state_of now at b now_b) in
-    (omega arith, (c.requires.ready, (inside, (c.loop-number.invariant.kept, (subst (IsStateOf game) state_is (c.loop-number.invariant.going.found_are.states_are at b now_b), (number_from e p k next, number_upto e p k next))))))
+    (omega arith, (c.requires.ready, (c.requires.same, (inside, (c.loop-number.invariant.kept, (subst (IsStateOf game) state_is (c.loop-number.invariant.going.found_are.states_are at b now_b), (number_from e p k next, (number_upto e p k next, answer_along game cs now at c.loop-number.known (sym c.loop-number.invariant.before) c.loop-number.invariant.known))))))))
 
 pub expand-returns-in_err-attempt-clause-wide : goal.expand-returns-in_err-attempt-clause-wide
 expand-returns-in_err-attempt-clause-wide t c =
@@ -641,6 +649,7 @@ expand-loop-number-preserved t c =
     record {
       kept = c.in_ok-attempt.ensures.kept;
       going = turn.goes;
+      known = answer_along game now cs at c.attempt.new.known c.loop-number.invariant.before c.in_ok-attempt.ensures.known;
       here = subst (λ n. IsFollowed game e place (configurations_of c.attempt.new.found) at n) (past_more ks i k at_k) turn.expands;
       before = turn.b_at ∙ sym at_b;
     }
@@ -671,3 +680,30 @@ expand-returns-clause-going t c =
     let from_is : c.if-last-eq0.from ≡ p = elim c.if-last-eq0.branch [ expand-then-last-eq0 w ↦ w.from-is ∙ place_first place b.at.place w.if-last-eq0.true | expand-else-last-eq0 w ↦ w.from-is ∙ place_last place b.at.place w.if-last-eq0.false ] in
     let all = λ (n : ℕ). IsFollowed-upto game e place S now at (past ks i) n b now_b c.loop-number.invariant.here (λ m from_past less. past_not game tables index c.requires.ready T at_T ks c.if-last-eq0.from p ks_is from_is i m (omega (arith, c.loop-number.auto.number-index-end, c.loop-number-test.false)) from_past) in
     going_next game e place S now at c.loop-number.invariant.going (slice_get-within now at b now_b) all
+
+pub holds-returns-clause-answer : goal.holds-returns-clause-answer
+holds-returns-clause-answer t c =
+    let game = game_of c.args.self.now.game.now in
+    let S = at_vertex c.args.state.now c.args.vertex in
+    let same = c.args.self.now.same.now in
+    let first = same_expression game same c.args.index (get_or same c.args.index 0) c.requires.same (slice_get-get_or same c.args.index 0 c.requires.pattern) in
+    let known : IsAnswerAt game S (Some c.in-Some.answer) = subst (IsAnswerAt game S) c.in-Some.is c.requires.known in
+    subst (λ e. MatchBool c.in-Some.answer.holds (IsLegal game e S) (¬ IsLegal game e S)) (ap (expression_at game) c.if-answer-pattern.true ∙ first) known.0
+
+pub holds-returns-clause-narrow : goal.holds-returns-clause-narrow
+holds-returns-clause-narrow t c =
+    let game = game_of c.args.self.now.game.now in
+    let S = at_vertex c.args.state.now c.args.vertex in
+    let same = c.args.self.now.same.now in
+    let first = same_expression game same c.args.index (get_or same c.args.index 0) c.requires.same (slice_get-get_or same c.args.index 0 c.requires.pattern) in
+    let known : IsAnswerAt game S (Some c.in-Some.answer) = subst (IsAnswerAt game S) c.in-Some.is c.requires.known in
+    λ ok. subst (λ e. ¬ IsWideFrom game e 0 S) (ap (expression_at game) c.if-answer-pattern.true ∙ first) known.1
+
+pub holds-returns-2-clause-known : goal.holds-returns-2-clause-known
+holds-returns-2-clause-known t c =
+    let game = game_of c.args.self.now.game.now in
+    let S = at_vertex c.args.state.now c.args.vertex in
+    let same = c.args.self.now.same.now in
+    let first = same_expression game same c.args.index (get_or same c.args.index 0) c.requires.same (slice_get-get_or same c.args.index 0 c.requires.pattern) in
+    let told = c.in_ok-holds.ensures in
+    subst (λ e. MatchBool c.in_ok-holds.holds (IsLegal game e S) (¬ IsLegal game e S) × ¬ IsWideFrom game e 0 S) (sym first) (told.answer, told.narrow refl)

@@ -3,36 +3,41 @@ use Rattle.rbg_game.specs.Rules.{count}
 use Rattle.rbg_game.specs.Meaning.{game_of}
 use Rattle.legal_moves.specs.aid.Configurations.{expression_at, IsFollowed}
 use Rattle.legal_moves.proofs.ListingLemmas.{past}
-use Rattle.legal_moves.specs.aid.Going.{began, IsGoing}
+use Rattle.legal_moves.specs.aid.Going.{began, state_at, IsGoing}
+use Rattle.legal_moves.specs.aid.Answers.{IsAnswerAt}
 use Rattle.legal_moves.specs.aid.Standing.{configurations_of, AreKept}
 use Rattle.legal_moves.specs.aid.Looking.{at_vertex, seen_from, AreMarked}
 use Rattle.legal_moves.proofs.search.Searcher.+search.Given as goal
 
+abbrev pub decreases-is_legal : goal.decreases-is_legal
+decreases-is_legal l = 6 * l.index + 5
+
 abbrev pub decreases-holds : goal.decreases-holds
-decreases-holds l = 5 * l.index + 5
+decreases-holds l = 6 * l.index + 6
 
 abbrev pub decreases-search : goal.decreases-search
-decreases-search l = 5 * l.index + 4
+decreases-search l = 6 * l.index + 4
 
 abbrev pub decreases-look : goal.decreases-look
-decreases-look l = 5 * l.index + 4
+decreases-look l = 6 * l.index + 4
 
 abbrev pub decreases-expand : goal.decreases-expand
-decreases-expand l = 5 * l.index + 3
+decreases-expand l = 6 * l.index + 3
 
 abbrev pub decreases-look_on : goal.decreases-look_on
-decreases-look_on l = 5 * l.index + 3
+decreases-look_on l = 6 * l.index + 3
 
 abbrev pub decreases-attempt : goal.decreases-attempt
-decreases-attempt l = 5 * l.index + 2
+decreases-attempt l = 6 * l.index + 2
 
 abbrev pub decreases-glance_at : goal.decreases-glance_at
-decreases-glance_at l = 5 * l.index + 1
+decreases-glance_at l = 6 * l.index + 1
 
 abbrev pub invariant-expand-loop-number : goal.invariant-expand-loop-number
 invariant-expand-loop-number l = record {
   kept : AreKept l.found;
   going : IsGoing (game_of l.self.game.now) (expression_at (game_of l.self.game.now) l.index) l.place (began (configurations_of l.initial.found)) (configurations_of l.found) l.at;
+  known : IsAnswerAt (game_of l.self.game.now) (state_at (configurations_of l.initial.found) l.at) l.known;
   here : IsFollowed (game_of l.self.game.now) (expression_at (game_of l.self.game.now) l.index) l.place (configurations_of l.found) l.at (past l.followers l.number-index);
   before : slice_get (configurations_of l.found) l.at ≡ slice_get (configurations_of l.initial.found) l.at;
 }
@@ -50,6 +55,7 @@ abbrev pub invariant-look_on-loop-number : goal.invariant-look_on-loop-number
 invariant-look_on-loop-number l = record {
   marked : AreMarked (count (expression_at (game_of l.self.game.now) l.index) + 1) l.looks;
   going : IsGoing (game_of l.self.game.now) (expression_at (game_of l.self.game.now) l.index) 0 (began (seen_from l.state l.initial.looks.looks.items)) (seen_from l.state l.looks.looks.items) l.at;
+  known : IsAnswerAt (game_of l.self.game.now) (at_vertex l.state l.vertex) l.known;
   here : IsFollowed (game_of l.self.game.now) (expression_at (game_of l.self.game.now) l.index) 0 (seen_from l.state l.looks.looks.items) l.at (past l.followers l.number-index);
   before : slice_get l.looks.looks.items l.at ≡ slice_get l.initial.looks.looks.items l.at;
 }

@@ -2,13 +2,13 @@ use Rattle.std.proofs.Common.{◌≡◌, ℕ, ap, sym, refl, subst, nat_eq, Cont
 use Rattle.std.specs.List.{IsDistinct}
 use Rattle.std.specs.Map.{keys_of}
 use Rattle.lru.proofs.CallerLemmas.{Contains-demoted}
-use Rattle.page_store.specs.Cache.{Holds, entries_of}
+use Rattle.page_store.specs.Cache.{HoldsPage, entries_of}
 use Rattle.page_store.proofs.Caching.{let_go_of, entries, within_kept, Entries}
 use Rattle.page_store.proofs.cache.PageCache.forget.Goals as goal
 
 pub returns-in_default : goal.returns-in_default
 returns-in_default c = λ p held there. (
-  λ same. c.in_default.ensures.none held (subst (λ (q : ℕ). Holds c.args.self.now q held) same there),
+  λ same. c.in_default.ensures.none held (subst (λ (q : ℕ). HoldsPage c.args.self.now q held) same there),
   there,
 )
 

@@ -7,7 +7,7 @@ use Rattle.position_pack.specs.Shape.{Shape}
 use Rattle.position_pack.specs.Fields.{fields_of}
 use Rattle.position_pack.specs.Bits.{width, greatest_of}
 use Rattle.position_pack.specs.Packings.{IsPacked}
-use Rattle.position_pack.specs.aid.Bits.{AreFields, AreFew, IsFieldsOf}
+use Rattle.position_pack.specs.aid.Bits.{AreFields, AreInRange, IsFieldsOf}
 use Rattle.position_pack.proofs.ShapeLemmas.{shape}
 use Rattle.position_pack.proofs.PackingLemmas.{as_many}
 use Rattle.position_pack.proofs.PartFields.{few_fields, are_fields, is_packed}
@@ -46,7 +46,7 @@ position_of-requires c =
     let are : AreFields c.deref-2.result.now c.args.bytes.now c.in_ok-fields.fields.items = c.in_ok-fields.ensures in
     let there = subst (λ g. AreFields g c.args.bytes.now c.in_ok-fields.fields.items) greatest are in
     let few = few_fields _ c.in_ok-fields.fields.items c.self.inside.small there.within in
-    subst (λ n. AreFew n c.deref-3.result.now) (sym c.from.ensures) (subst (AreFew c.self.inside.vertices) (sym c.deref-3.ensures.0) few)
+    subst (λ n. AreInRange n c.deref-3.result.now) (sym c.from.ensures) (subst (AreInRange c.self.inside.vertices) (sym c.deref-3.ensures.0) few)
 
 pub returns : goal.returns
 returns c =

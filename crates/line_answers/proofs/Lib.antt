@@ -1,0 +1,3 @@
+mod OneReply
+mod AskLemmas
+mod Telling

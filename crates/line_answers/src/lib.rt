@@ -1,0 +1,9 @@
+//! What a line of a session asks for, and how it is answered.
+#![tactic(auto)]
+
+pub mod advice;
+pub mod input;
+mod numbers;
+pub mod puts;
+pub mod questions;
+pub mod turns;

@@ -1,0 +1,5 @@
+mod Appending
+mod LineLemmas
+mod WritingLemmas
+mod AnswerLemmas
+mod Telling

@@ -1,0 +1,21 @@
+-- What was written where the moves were not written to their end.
+use Rattle.std.specs.Prelude.{◌≡◌, ℕ, ⊤, List, take}
+use Rattle.rbg_game.specs.Games.{Game}
+use Rattle.rbg_text.specs.Token.{Text}
+use Rattle.legal_moves.specs.Listed.{ShownMove}
+use Rattle.printed_lines.specs.Lines.{AreLines}
+use Rattle.printed_lines.specs.Answers.{IsRefused}
+use Rattle.printed_lines.specs.declared.moves.Stop.{Stop}
+use Rattle.printed_lines.specs.declared.moves.Stop.TheVariants.{Refused, Output}
+use Rattle.printed_lines.specs.declared.refused.Refused.TheVariants.{OutOfMemory}
+
+-- some lines were written, and then memory ran out or the output failed
+abbrev pub IsStoppedLine : Game → List ShownMove → (List ℕ → Type 0) → Stop → Type 0
+IsStoppedLine game moves Written (Refused why) = (why ≡ OutOfMemory)
+    × ((k : ℕ) × (lines : List ℕ) × AreLines game (take k moves) lines × Written lines)
+IsStoppedLine game moves Written Output = ⊤
+
+-- the text was refused, perhaps behind some lines, or the output failed
+abbrev pub IsStopped : Text → (List ℕ → Type 0) → Stop → Type 0
+IsStopped text Written (Refused why) = (lines : List ℕ) × IsRefused text why lines × Written lines
+IsStopped text Written Output = ⊤

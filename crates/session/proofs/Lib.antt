@@ -1,7 +1,0 @@
-pub mod Appending
-pub mod LineLemmas
-pub mod WritingLemmas
-pub mod AnswerLemmas
-pub mod OneReply
-mod AskLemmas
-mod Telling

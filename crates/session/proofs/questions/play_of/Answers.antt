@@ -1,7 +1,0 @@
-use Rattle.recover.specs.Solvers.{state}
-use Rattle.session.proofs.Telling.{line_told}
-use Rattle.session.proofs.questions.play_of.Goals as goal
-
-pub returns-clause-text : goal.returns-clause-text
-returns-clause-text g c = λ ready sound.
-    line_told _ _ _ (state c.args.solver.now) (c.in_ok-numbers.ensures.line ready sound) (rw c.deref.ensures.value at c.in_ok-numbers_line.ensures)
