@@ -140,7 +140,7 @@ impl Compiled {
             alloc,
         };
         let rules = self.tables.len() - 1;
-        let state = copied_state(&at.state)?;
+        let state = copied_state(&at.state);
         let found = searcher.search(rules, at.place, state)?;
         let moves = Moves::of(alloc, found)?;
         Ok(moves)

@@ -2,19 +2,24 @@
 ghost use Rattle.std.specs.Prelude.{◌≡◌, IfOk, map};
 ghost use Rattle.rbg_game.specs.Meaning.{expression_of};
 
+use arrayvec::ArrayVec;
 use rbg_game::position::SemiState;
 use rbg_game::rules::Expr;
 use std::alloc::{AllocError, Global};
 
-pub fn copied_state(state: &SemiState) -> Result<SemiState, AllocError>
-    ensures { IfOk result (λ s. s ≡ state.now) }
+pub fn copied_state(state: &SemiState) -> SemiState
+    ensures { result ≡ state.now }
 {
-    Ok(SemiState {
+    let mut pieces = ArrayVec::new();
+    let _room = pieces.try_extend_from_slice(&state.pieces);
+    let mut values = ArrayVec::new();
+    let _room = values.try_extend_from_slice(&state.values);
+    SemiState {
         mover: state.mover,
-        pieces: state.pieces.clone()?,
-        values: state.values.clone()?,
+        pieces,
+        values,
         vertex: state.vertex,
-    })
+    }
 }
 
 #[cycle(copies)]

@@ -4,11 +4,10 @@ ghost use Rattle.legal_moves.specs.Shown.{ComeFromBefore};
 ghost use Rattle.legal_moves.specs.aid.Configurations.{AreEnds, AreEndsShown, HaveOwnBytes};
 ghost use Rattle.legal_moves.specs.aid.Standing.{stood, configurations_of, AllStand, AreKept};
 
-use crate::copies::copied_state;
 use crate::found::{Found, Stand};
 use crate::successor::Successor;
-use position_pack::{Packed, pack_bytes};
-use rbg_game::position::{Position, SemiState};
+use position_pack::{Packed, pack_bytes_at};
+use rbg_game::position::SemiState;
 use smallvec::SmallVec;
 use std::alloc::{AllocError, Global};
 use std::collections::BTreeMap;
@@ -130,13 +129,10 @@ fn ends_by_bytes(
         if !stand.ends {
             continue;
         }
-        let mut state = copied_state(&boards[stand.board])?;
-        state.vertex = stand.vertex;
-        let at = Position {
-            state,
-            place: stand.place,
-        };
-        ends.insert(pack_bytes(&at), index)?;
+        ends.insert(
+            pack_bytes_at(&boards[stand.board], stand.vertex, stand.place),
+            index,
+        )?;
     }
     Ok(ends)
 }

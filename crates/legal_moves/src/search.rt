@@ -167,7 +167,7 @@ impl Searcher<'_> {
             → IsFull game e number at (configurations_of found.old) }
     {
         let Stand { board, vertex, .. } = found.stands[at];
-        let mut state = copied_state(&found.boards[board])?;
+        let mut state = copied_state(&found.boards[board]);
         state.vertex = vertex;
         let step = self.tables[index].step(number);
         let valid = match step {
@@ -211,7 +211,7 @@ impl Searcher<'_> {
             let ends = &self.tables[index].ends;
             return Ok(ends.nullable || any_looks_last(&looks.looks, &ends.last));
         }
-        let mut state = copied_state(state)?;
+        let mut state = copied_state(state);
         state.vertex = vertex;
         let found = self.search(index, 0, state)?;
         let ends = &self.tables[index].ends;

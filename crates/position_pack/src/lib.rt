@@ -15,6 +15,6 @@ mod words;
 mod writer;
 
 pub use kind::PackingKind;
-pub use packed::{Packed, Packing, pack_bytes};
+pub use packed::{Packed, Packing, pack_bytes, pack_bytes_at};
 pub use read::read_position;
 pub use text::show;

@@ -176,12 +176,18 @@ impl Packing {
 pub fn pack_bytes(at: &Position) -> Packed
     ensures { result.items ≡ bytes_of at.now }
 {
-    let state = &at.state;
+    pack_bytes_at(&at.state, at.state.vertex, at.place)
+}
+
+/// The bytes by packing 1 of the position with this vertex, this place, and else what the semi-state tells.
+pub fn pack_bytes_at(state: &SemiState, vertex: u8, place: u16) -> Packed
+    ensures { result.items ≡ bytes_of (record { state = record state.now { vertex = vertex }; place = place }) }
+{
     let mut bytes = Packed::new();
     put_bytes(&mut bytes, &state.pieces);
     put_values(&mut bytes, &state.values);
-    bytes.push(state.vertex);
+    bytes.push(vertex);
     bytes.push(role_byte(state.mover));
-    put_bytes(&mut bytes, &at.place.to_be_bytes());
+    put_bytes(&mut bytes, &place.to_be_bytes());
     bytes
 }

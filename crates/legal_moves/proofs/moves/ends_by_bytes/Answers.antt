@@ -34,6 +34,6 @@ loop-index-preserved c =
     let there = slice_get-get_or stands c.loop-index.index _ c.loop-index-test.true in
     let s = get_or stands c.loop-index.index _ in
     let here = read_at boards s.board c.index-boards-stand.result (c.requires.within c.loop-index.index s there) c.index-boards-stand.is in
-    let same = c.in_ok-state.ensures ∙ sym (board_is boards s.board c.index-boards-stand.result here) in
-    let bytes = c.pack_bytes.ensures ∙ ap (λ S. let at : Position = record { state = at_vertex S s.vertex; place = s.place } in bytes_of at) same in
-    ends_more (map (stood boards) stands) c.loop-index.index c.loop-index.ends _ c.loop-index.invariant (stood_at boards stands c.loop-index.index _ there) c.insert.new.self c.pack_bytes.result c.requires.apart c.if-not-stand.false bytes c.in_ok-insert.ensures.updates c.in_ok-insert.ensures.ordered
+    let same = sym (board_is boards s.board c.index-boards-stand.result here) in
+    let bytes = c.pack_bytes_at.ensures ∙ ap (λ S. let at : Position = record { state = at_vertex S s.vertex; place = s.place } in bytes_of at) same in
+    ends_more (map (stood boards) stands) c.loop-index.index c.loop-index.ends _ c.loop-index.invariant (stood_at boards stands c.loop-index.index _ there) c.insert.new.self c.pack_bytes_at.result c.requires.apart c.if-not-stand.false bytes c.in_ok-insert.ensures.updates c.in_ok-insert.ensures.ordered

@@ -19,7 +19,7 @@ of-requires c =
     let game = game_of c.self.inside.game in
     let cs = configurations_of c.in_ok-found.found in
     let many : c.len-rules.result ≡ length c.self.inside.tables.items = omega arith in
-    let search = rules_search game c.self.inside.tables.items c.len-rules.result c.args.at.now.place c.in_ok-state.state c.args.at.now.state cs c.self.invariant.tables_are many c.in_ok-state.ensures c.in_ok-found.ensures.found in
+    let search = rules_search game c.self.inside.tables.items c.len-rules.result c.args.at.now.place c.copied_state-state.result c.args.at.now.state cs c.self.invariant.tables_are many c.copied_state-state.ensures c.in_ok-found.ensures.found in
     record {
       before = before_by_found _ _ _ _ cs c.in_ok-found.ensures.found.found;
       kept = c.in_ok-found.ensures.kept;
@@ -31,7 +31,7 @@ returns-clause-exact c =
     let game = game_of c.self.inside.game in
     let cs = configurations_of c.in_ok-found.found in
     let many : c.len-rules.result ≡ length c.self.inside.tables.items = omega arith in
-    let search = rules_search game c.self.inside.tables.items c.len-rules.result c.args.at.now.place c.in_ok-state.state c.args.at.now.state cs c.self.invariant.tables_are many c.in_ok-state.ensures c.in_ok-found.ensures.found in
+    let search = rules_search game c.self.inside.tables.items c.len-rules.result c.args.at.now.place c.copied_state-state.result c.args.at.now.state cs c.self.invariant.tables_are many c.copied_state-state.ensures c.in_ok-found.ensures.found in
     subst (λ v. AreMoves (compiled_game v) c.args.at.now c.in_ok-moves.moves) c.self.view_is
     (subst (AreMoves game c.args.at.now) (sym c.in_ok-moves.ensures.moves_are) (are_moves game c.args.at.now cs c.in_ok-moves.ensures.ends search c.in_ok-moves.ensures.ends_are))
 
@@ -40,7 +40,7 @@ returns-clause-shortest c =
     let game = game_of c.self.inside.game in
     let cs = configurations_of c.in_ok-found.found in
     let many : c.len-rules.result ≡ length c.self.inside.tables.items = omega arith in
-    let search = rules_search game c.self.inside.tables.items c.len-rules.result c.args.at.now.place c.in_ok-state.state c.args.at.now.state cs c.self.invariant.tables_are many c.in_ok-state.ensures c.in_ok-found.ensures.found in
+    let search = rules_search game c.self.inside.tables.items c.len-rules.result c.args.at.now.place c.copied_state-state.result c.args.at.now.state cs c.self.invariant.tables_are many c.copied_state-state.ensures c.in_ok-found.ensures.found in
     subst (λ v. All (IsShortestMove (compiled_game v) c.args.at.now) c.in_ok-moves.moves) c.self.view_is
     (subst (All (IsShortestMove game c.args.at.now)) (sym c.in_ok-moves.ensures.moves_are) (shortest_moves game c.args.at.now cs c.in_ok-moves.ensures.ends search c.in_ok-moves.ensures.ends_are))
 
@@ -49,7 +49,7 @@ returns-clause-few c =
     let game = game_of c.self.inside.game in
     let cs = configurations_of c.in_ok-found.found in
     let many : c.len-rules.result ≡ length c.self.inside.tables.items = omega arith in
-    let search = rules_search game c.self.inside.tables.items c.len-rules.result c.args.at.now.place c.in_ok-state.state c.args.at.now.state cs c.self.invariant.tables_are many c.in_ok-state.ensures c.in_ok-found.ensures.found in
+    let search = rules_search game c.self.inside.tables.items c.len-rules.result c.args.at.now.place c.copied_state-state.result c.args.at.now.state cs c.self.invariant.tables_are many c.copied_state-state.ensures c.in_ok-found.ensures.found in
     subst (λ ms. length ms ≤ 65536) (sym c.in_ok-moves.ensures.moves_are) (few_moves game c.args.at.now cs c.in_ok-moves.ensures.ends search c.in_ok-moves.ensures.ends_are)
 
 pub returns-clause-narrow : goal.returns-clause-narrow
@@ -57,7 +57,7 @@ returns-clause-narrow c =
     let game = game_of c.self.inside.game in
     let cs = configurations_of c.in_ok-found.found in
     let many : c.len-rules.result ≡ length c.self.inside.tables.items = omega arith in
-    let search = rules_search game c.self.inside.tables.items c.len-rules.result c.args.at.now.place c.in_ok-state.state c.args.at.now.state cs c.self.invariant.tables_are many c.in_ok-state.ensures c.in_ok-found.ensures.found in
+    let search = rules_search game c.self.inside.tables.items c.len-rules.result c.args.at.now.place c.copied_state-state.result c.args.at.now.state cs c.self.invariant.tables_are many c.copied_state-state.ensures c.in_ok-found.ensures.found in
     λ ok. subst (λ v. ¬ IsWide (compiled_game v) c.args.at.now) c.self.view_is (narrow_by_search game game.rules c.args.at.now.place c.args.at.now.state cs search)
 
 pub search-requires : goal.search-requires
@@ -68,5 +68,5 @@ search-requires c =
     record {
       ready = subst (λ ts. IsReady game ts (c.len-rules.result - 1)) (sym c.deref.ensures.value) (subst (λ n. IsReady game c.self.inside.tables.items (n - 1)) (sym many) (rules_ready game c.self.inside.tables.items c.self.invariant.tables_are c.self.invariant.sound));
       same = subst (AreSame (inner_of game.rules)) (sym c.deref-2.ensures.value) c.self.invariant.same_are;
-      state = subst (IsStateOf game) (sym c.in_ok-state.ensures) here.state_is;
+      state = subst (IsStateOf game) (sym c.copied_state-state.ensures) here.state_is;
     }

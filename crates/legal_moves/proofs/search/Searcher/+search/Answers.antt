@@ -201,7 +201,7 @@ is_legal-returns-2-clause-answer t c =
     let T = c.index-self-index-3.result in
     let at_T = read_at tables index T c.requires.ready.within c.index-self-index-3.is in
     let cs = configurations_of c.in_ok-found.found in
-    let search = subst (λ S. IsSearch game e 0 (at_vertex S c.args.vertex) cs) c.in_ok-state.ensures c.in_ok-found.ensures.found in
+    let search = subst (λ S. IsSearch game e 0 (at_vertex S c.args.vertex) cs) c.copied_state-state.ensures c.in_ok-found.ensures.found in
     let S = at_vertex c.args.state.now c.args.vertex in
     let table_is = ap (λ x. x.ends.nullable) c.index-self-index-3.is in
     elim c.if-ends-2.branch [
@@ -226,7 +226,7 @@ is_legal-returns-2-clause-narrow t c =
     let T = c.index-self-index-3.result in
     let at_T = read_at tables index T c.requires.ready.within c.index-self-index-3.is in
     let cs = configurations_of c.in_ok-found.found in
-    let search = subst (λ S. IsSearch game e 0 (at_vertex S c.args.vertex) cs) c.in_ok-state.ensures c.in_ok-found.ensures.found in
+    let search = subst (λ S. IsSearch game e 0 (at_vertex S c.args.vertex) cs) c.copied_state-state.ensures c.in_ok-found.ensures.found in
     let S = at_vertex c.args.state.now c.args.vertex in
     let table_is = ap (λ x. x.ends.nullable) c.index-self-index-3.is in
     λ ok. narrow_by_search game e 0 S cs search

@@ -37,7 +37,7 @@ act-valid-requires-clause-state c =
     let s = c.index.result.now in
     let at_s = read_at stands c.args.at s c.requires.at c.index.ensures in
     let at_B = read_at boards s.board c.index-2.result.now (c.requires.kept.within c.args.at s at_s) c.index-2.ensures in
-    let state_is = state_there boards stands c.args.at s c.index-2.result.now at_s at_B ∙ ap (λ A. at_vertex A s.vertex) (sym c.in_ok-state.ensures) in
+    let state_is = state_there boards stands c.args.at s c.index-2.result.now at_s at_B ∙ ap (λ A. at_vertex A s.vertex) (sym c.copied_state-state.ensures) in
     subst (IsStateOf game) state_is c.requires.state
 
 pub act-valid-requires-clause-plain : goal.act-valid-requires-clause-plain
@@ -55,8 +55,8 @@ act-valid-requires-clause-plain c =
     let s = c.index.result.now in
     let at_s = read_at stands c.args.at s c.requires.at c.index.ensures in
     let at_B = read_at boards s.board c.index-2.result.now (c.requires.kept.within c.args.at s at_s) c.index-2.ensures in
-    let state_is = state_there boards stands c.args.at s c.index-2.result.now at_s at_B ∙ ap (λ A. at_vertex A s.vertex) (sym c.in_ok-state.ensures) in
-    act_plain game tables index c.requires.ready T at_T c.args.number c.requires.from c.step-step.result.now at_step c.in-Act.action c.in-Act.is (at_vertex c.in_ok-state.state s.vertex) (subst (IsStateOf game) state_is c.requires.state)
+    let state_is = state_there boards stands c.args.at s c.index-2.result.now at_s at_B ∙ ap (λ A. at_vertex A s.vertex) (sym c.copied_state-state.ensures) in
+    act_plain game tables index c.requires.ready T at_T c.args.number c.requires.from c.step-step.result.now at_step c.in-Act.action c.in-Act.is (at_vertex c.copied_state-state.result s.vertex) (subst (IsStateOf game) state_is c.requires.state)
 
 pub unreachable-requires : goal.unreachable-requires
 unreachable-requires c =
@@ -84,8 +84,8 @@ returns-then-not-valid-clause-tried c =
     let s = c.index.result.now in
     let at_s = read_at stands c.args.at s c.requires.at c.index.ensures in
     let at_B = read_at boards s.board c.index-2.result.now (c.requires.kept.within c.args.at s at_s) c.index-2.ensures in
-    let state_is = state_there boards stands c.args.at s c.index-2.result.now at_s at_B ∙ ap (λ A. at_vertex A s.vertex) (sym c.in_ok-state.ensures) in
-    let never = OnFalse-at c.act-valid.result _ c.if-not-valid.true (act_refused game tables index c.requires.ready T at_T c.args.number c.requires.from c.step-step.result.now at_step c.in-Act.action c.in-Act.is (at_vertex c.in_ok-state.state s.vertex) c.act-valid.result c.act-valid.ensures.refused) in
+    let state_is = state_there boards stands c.args.at s c.index-2.result.now at_s at_B ∙ ap (λ A. at_vertex A s.vertex) (sym c.copied_state-state.ensures) in
+    let never = OnFalse-at c.act-valid.result _ c.if-not-valid.true (act_refused game tables index c.requires.ready T at_T c.args.number c.requires.from c.step-step.result.now at_step c.in-Act.action c.in-Act.is (at_vertex c.copied_state-state.result s.vertex) c.act-valid.result c.act-valid.ensures.refused) in
     inl (refl, subst (λ S. (U : SemiState) → ¬ EffectAt game e 1 c.args.number S U) (sym state_is) never)
 
 pub returns-clause-tried : goal.returns-clause-tried
@@ -103,9 +103,9 @@ returns-clause-tried c =
     let s = c.index.result.now in
     let at_s = read_at stands c.args.at s c.requires.at c.index.ensures in
     let at_B = read_at boards s.board c.index-2.result.now (c.requires.kept.within c.args.at s at_s) c.index-2.ensures in
-    let state_is = state_there boards stands c.args.at s c.index-2.result.now at_s at_B ∙ ap (λ A. at_vertex A s.vertex) (sym c.in_ok-state.ensures) in
+    let state_is = state_there boards stands c.args.at s c.index-2.result.now at_s at_B ∙ ap (λ A. at_vertex A s.vertex) (sym c.copied_state-state.ensures) in
     let U = c.act-valid.new.state in
-    let valid = OnTrue-at c.act-valid.result _ c.if-not-valid.false (act_valid game tables index c.requires.ready T at_T c.args.number c.requires.from c.step-step.result.now at_step c.in-Act.action c.in-Act.is (at_vertex c.in_ok-state.state s.vertex) U c.act-valid.result c.act-valid.ensures.valid) in
+    let valid = OnTrue-at c.act-valid.result _ c.if-not-valid.false (act_valid game tables index c.requires.ready T at_T c.args.number c.requires.from c.step-step.result.now at_step c.in-Act.action c.in-Act.is (at_vertex c.copied_state-state.result s.vertex) U c.act-valid.result c.act-valid.ensures.valid) in
     let reached = subst (λ S. EffectAt game e 1 c.args.number S U) (sym state_is) valid in
     let t : Stand = record { board = c.in_ok-board.board; vertex = U.vertex; place = c.args.number; parent = c.args.at; shows = c.is_modifier.result; ends = c.is_switch.result } in
     let shows = c.is_modifier.ensures ∙ modifies_is game tables index c.requires.ready T at_T c.args.number c.requires.from c.step-step.result.now at_step in
@@ -130,9 +130,9 @@ returns-clause-wide c =
     let s = c.index.result.now in
     let at_s = read_at stands c.args.at s c.requires.at c.index.ensures in
     let at_B = read_at boards s.board c.index-2.result.now (c.requires.kept.within c.args.at s at_s) c.index-2.ensures in
-    let state_is = state_there boards stands c.args.at s c.index-2.result.now at_s at_B ∙ ap (λ A. at_vertex A s.vertex) (sym c.in_ok-state.ensures) in
+    let state_is = state_there boards stands c.args.at s c.index-2.result.now at_s at_B ∙ ap (λ A. at_vertex A s.vertex) (sym c.copied_state-state.ensures) in
     let U = c.act-valid.new.state in
-    let valid = OnTrue-at c.act-valid.result _ c.if-not-valid.false (act_valid game tables index c.requires.ready T at_T c.args.number c.requires.from c.step-step.result.now at_step c.in-Act.action c.in-Act.is (at_vertex c.in_ok-state.state s.vertex) U c.act-valid.result c.act-valid.ensures.valid) in
+    let valid = OnTrue-at c.act-valid.result _ c.if-not-valid.false (act_valid game tables index c.requires.ready T at_T c.args.number c.requires.from c.step-step.result.now at_step c.in-Act.action c.in-Act.is (at_vertex c.copied_state-state.result s.vertex) U c.act-valid.result c.act-valid.ensures.valid) in
     let reached = subst (λ S. EffectAt game e 1 c.args.number S U) (sym state_is) valid in
     let t : Stand = record { board = c.in_ok-board.board; vertex = U.vertex; place = c.args.number; parent = c.args.at; shows = c.is_modifier.result; ends = c.is_switch.result } in
     let shows = c.is_modifier.ensures ∙ modifies_is game tables index c.requires.ready T at_T c.args.number c.requires.from c.step-step.result.now at_step in
