@@ -128,7 +128,8 @@ impl Searcher<'_> {
         ensures narrow { let game = game_of self.now.game.now in let e = expression_at game index in IsOk result
             → ¬ AsksTooMuch game e number (state_at (configurations_of found.old) at) }
         ensures wide { let game = game_of self.now.game.now in let e = expression_at game index in result ≡ Err MoveFault.TooWide
-            → AsksTooMuch game e number (state_at (configurations_of found.old) at) ⊎ IsFull game e number at (configurations_of found.old) }
+            → AsksTooMuch game e number (state_at (configurations_of found.old) at)
+            ⊎ IsFull game e number at (configurations_of found.old) }
     {
         let Stand { board, vertex, .. } = found.stands[at];
         match self.glance_at(index, &found.boards[board], vertex, number, known)? {

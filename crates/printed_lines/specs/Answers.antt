@@ -10,7 +10,8 @@ use Rattle.legal_moves.specs.Searches.{IsWide}
 use Rattle.legal_moves.specs.Listed.{ShownMove, AreMoves, IsShortestMove}
 use Rattle.printed_lines.specs.Lines.{AreLines}
 use Rattle.printed_lines.specs.declared.refused.Refused.{Refused}
-use Rattle.printed_lines.specs.declared.refused.Refused.TheVariants.{Disk, OutOfMemory, AlreadyATable, TooSmall, Game as GameRefused, TooWide}
+use Rattle.printed_lines.specs.declared.refused.Refused.TheVariants.{Disk, OutOfMemory, AlreadyATable, TooSmall, TooWide}
+use Rattle.printed_lines.specs.declared.refused.Refused.TheVariants.{Game as GameRefused}
 
 -- the codes of refusals
 abbrev pub code_of : Refused → List ℕ

@@ -1,4 +1,4 @@
-//! Tests of tables in memory and on pages, of units of work on them, and of what they answer.
+//! Tests of tables in memory, of units of work on them, and of what they answer.
 #![tactic(auto)]
 
 #[cfg(test)]
@@ -11,8 +11,6 @@ mod games;
 mod line_tests;
 #[cfg(test)]
 mod memory_tests;
-#[cfg(test)]
-mod paged_tests;
 #[cfg(test)]
 mod plain;
 #[cfg(test)]

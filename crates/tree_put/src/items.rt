@@ -251,7 +251,8 @@ pub fn places_of(widths: Widths, page: &[u8; 4096], key: &[u8]) -> (usize, usize
 fn has_key(widths: Widths, page: &[u8; 4096], place: usize, key: &[u8]) -> bool
     requires page { IsPage widths Leaf page.now }
     requires within { place ≤ count_in page.now }
-    ensures { IsTrue result ↔ ((e : Item) × (slice_get (items_in widths Leaf page.now) (place - 1) ≡ Some e) × (1 ≤ place) × (e.0 ≡ key.now)) }
+    ensures { IsTrue result ↔ ((e : Item) × (slice_get (items_in widths Leaf page.now) (place - 1) ≡ Some e)
+        × (1 ≤ place) × (e.0 ≡ key.now)) }
 {
     if place == 0 {
         return false;

@@ -27,7 +27,8 @@ pub fn put<P: Pages>(
 ) -> Result<u32, PageFault>
     requires key { length key.now ≡ widths.key }
     requires value { length value.now ≡ widths.value }
-    ensures map { IsTrue (P.store store.old).disk.honest → (pages : List ℕ) (es : List Item) → HoldsMap widths (P.store store.old) root pages es
+    ensures map { IsTrue (P.store store.old).disk.honest → (pages : List ℕ) (es : List Item)
+        → HoldsMap widths (P.store store.old) root pages es
         → AreHeld (P.store store.old).marks pages
         → IfOk result (λ next. (others : List ℕ) × HoldsMap widths (P.store store.new) next others (put_entry es key.now value.now)
         × TakePlace pages others (P.store store.old) (P.store store.new)) }

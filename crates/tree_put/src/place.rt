@@ -46,7 +46,8 @@ pub fn write_on<P: Pages>(
     ensures page { IsTrue (P.store store.old).disk.honest → OnOk result (IsPage widths kind (reads (P.store store.new) page)) }
     ensures items { IsTrue (P.store store.old).disk.honest → OnOk result
         (items_in widths kind (reads (P.store store.new) page) ≡ items_of widths.key (behind_of widths kind) count items.now) }
-    ensures others { IsTrue (P.store store.old).disk.honest → (p : ℕ) → p ≢ page → reads (P.store store.new) p ≡ reads (P.store store.old) p }
+    ensures others { IsTrue (P.store store.old).disk.honest → (p : ℕ) → p ≢ page
+        → reads (P.store store.new) p ≡ reads (P.store store.old) p }
     ensures marks { (P.store store.new).marks ≡ (P.store store.old).marks }
     ensures open { OnOk result ((P.store store.new).closed ≡ false) }
     ensures works { StoreWorks (P.store store.old) (P.store store.new) }

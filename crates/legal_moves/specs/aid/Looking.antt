@@ -54,7 +54,8 @@ pub record AreMarked (numbers : ℕ) (looks : Looks) : Type 0 where
   pub numbers_are : looks.numbers ≡ numbers
   pub within : (i : ℕ) (l : Look) → slice_get looks.looks.items i ≡ Some l → l.place < numbers
   pub all : (i : ℕ) (l : Look) → slice_get looks.looks.items i ≡ Some l → IsMarkSet looks.marks.items (mark_of numbers l)
-  pub only : (j : ℕ) → IsMarkSet looks.marks.items j → (i : ℕ) × (l : Look) × (slice_get looks.looks.items i ≡ Some l) × (mark_of numbers l ≡ j)
+  pub only : (j : ℕ) → IsMarkSet looks.marks.items j
+    → (i : ℕ) × (l : Look) × (slice_get looks.looks.items i ≡ Some l) × (mark_of numbers l ≡ j)
 
 -- no look is at the same vertex with the same number
 abbrev pub IsNewLook : List Look → Look → Type 0
