@@ -2,7 +2,7 @@
 
 ghost use Rattle.std.specs.Prelude.{◌≡◌, ◌<◌, ◌⊎◌, ℕ, List, All, OnOk, IfOk, IfErr, IfSome, length, slice_get};
 ghost use Rattle.std.specs.Io.KnownBytes.{Appends};
-ghost use Rattle.legal_moves.specs.Compiled.{compiled_game};
+ghost use Rattle.legal_moves.specs.Compiled.{compiled_game, IsSoundCompiled};
 ghost use Rattle.printed_lines.specs.Lines.{IsLine, AreLines};
 ghost use Rattle.printed_lines.specs.aid.Lines.{HasPosition, SaysMoves};
 ghost use Rattle.printed_lines.specs.Answers.{status_of, refusal_line, IsAnswer};
@@ -108,6 +108,7 @@ fn write_answer<W: Write>(
     moves: &Moves,
     out: &mut W,
 ) -> Result<(), Stop>
+    requires compiled { IsSoundCompiled compiled.now }
     requires positions { All (HasPosition (compiled_game compiled.now)) moves.now }
     ensures ok { OnOk result ((written : List ℕ) × SaysMoves (compiled_game compiled.now) moves.now written
         × Appends (W.contents out.old) (W.contents out.new) written) }
@@ -129,6 +130,7 @@ fn write_lines<W: Write>(
     moves: &Moves,
     out: &mut W,
 ) -> Result<(), Stop>
+    requires compiled { IsSoundCompiled compiled.now }
     requires positions { All (HasPosition (compiled_game compiled.now)) moves.now }
     ensures ok { OnOk result ((written : List ℕ) × AreLines (compiled_game compiled.now) moves.now written
         × Appends (W.contents out.old) (W.contents out.new) written) }
@@ -149,6 +151,7 @@ fn line_at(
     moves: &Moves,
     k: usize,
 ) -> Result<Vec<u8>, AllocError>
+    requires compiled { IsSoundCompiled compiled.now }
     requires positions { All (HasPosition (compiled_game compiled.now)) moves.now }
     requires index { k < length moves.now }
     ensures { IfOk result (λ line. IfSome (slice_get moves.now k) (λ m. IsLine (compiled_game compiled.now) m line.items)) }
