@@ -188,7 +188,7 @@ module _ (old new : State) where
   -- why there is no verdict
   pub audit_cause : {Fails : TableFault → Type 0} (fault : AuditFault)
       → (fault ≡ audits.TooWide → IsTrue old.disk.honest → OfKept HasWidePosition old.kept)
-      → audit_causes.OfTable NeedsNoPage fault → audit_causes.OfTable Fails fault → ((f : TableFault) → Fails f → FileTableCause old new f)
+      → audit_causes.OfTableFault NeedsNoPage fault → audit_causes.OfTableFault Fails fault → ((f : TableFault) → Fails f → FileTableCause old new f)
       → AuditCause old new (audit_fault fault)
   audit_cause audits.TooWide wide no_page fails cause = wide refl
   audit_cause audits.OutOfMemory wide no_page fails cause = tt
