@@ -89,7 +89,7 @@ packed_cmp x y = slice_cmp nat_cmp x.items y.items
 -- the map has, by its bytes, the index of each configuration below n at which a move ends, and nothing else
 pub record AreEnds (cs : List Configuration) (n : ℕ) (ends : BTreeMap (ArrayVec ℕ) ℕ) : Type 0 where
   pub all : (i : ℕ) (c : Configuration) → i < n → slice_get cs i ≡ Some c → c.ends ≡ true
-    → get packed_cmp ends (record { items = bytes_of c.at }) ≡ Some i
+      → get packed_cmp ends (record { items = bytes_of c.at }) ≡ Some i
   pub only : (x : ArrayVec ℕ) (i : ℕ) → get packed_cmp ends x ≡ Some i → (c : Configuration) × (slice_get cs i ≡ Some c)
       × (c.ends ≡ true) × (i < n) × (x.items ≡ bytes_of c.at)
   pub ordered : IsOrdered packed_cmp ends

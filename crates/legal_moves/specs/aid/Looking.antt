@@ -55,7 +55,7 @@ pub record AreMarked (numbers : ℕ) (looks : Looks) : Type 0 where
   pub within : (i : ℕ) (l : Look) → slice_get looks.looks.items i ≡ Some l → l.place < numbers
   pub all : (i : ℕ) (l : Look) → slice_get looks.looks.items i ≡ Some l → IsMarkSet looks.marks.items (mark_of numbers l)
   pub only : (j : ℕ) → IsMarkSet looks.marks.items j
-    → (i : ℕ) × (l : Look) × (slice_get looks.looks.items i ≡ Some l) × (mark_of numbers l ≡ j)
+      → (i : ℕ) × (l : Look) × (slice_get looks.looks.items i ≡ Some l) × (mark_of numbers l ≡ j)
 
 -- no look is at the same vertex with the same number
 abbrev pub IsNewLook : List Look → Look → Type 0

@@ -16,8 +16,12 @@ board_at boards number = unwrap_or (slice_get boards number) (began [])
 -- the configuration that is kept as a stand
 abbrev pub stood : List SemiState → Stand → Configuration
 stood boards s =
-    record { at = record { state = at_vertex (board_at boards s.board) s.vertex; place = s.place };
-      parent = s.parent; shows = s.shows; ends = s.ends }
+    record {
+      at = record { state = at_vertex (board_at boards s.board) s.vertex; place = s.place };
+      parent = s.parent;
+      shows = s.shows;
+      ends = s.ends;
+    }
 
 -- the configurations that were found
 abbrev pub configurations_of : Found → List Configuration
@@ -46,7 +50,7 @@ AllStand boards stands = (i : ℕ) (s : Stand) → slice_get stands i ≡ Some s
 pub record AreKept (found : Found) : Type 0 where
   pub within : AllStand found.boards.items found.stands.items
   pub apart : (i j : ℕ) (A B : SemiState) → slice_get found.boards.items i ≡ Some A → slice_get found.boards.items j ≡ Some B
-    → IsSameBoard A B → i ≡ j
+      → IsSameBoard A B → i ≡ j
   pub boards_are : AreChained (map bucket_of_board found.boards.items) found.board_chains
   pub stands_are : AreChained (map bucket_at found.stands.items) found.stand_chains
 
