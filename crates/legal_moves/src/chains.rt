@@ -4,7 +4,7 @@ ghost use Rattle.std.specs.Prelude.{◌≡◌, ◌<◌, length, [], ◌∷◌, �
 use std::alloc::{AllocError, Global};
 
 /// How many chains there are.
-pub const BUCKETS: usize = 1024;
+pub const BUCKETS: usize = 2048;
 
 /// How many indices there is room for at first.
 const ROOM: usize = 64;
@@ -13,10 +13,10 @@ const ROOM: usize = 64;
 #[derive(Drop)]
 pub struct Chains {
     /// For each bucket the latest index that has it.
-    pub heads: Vec<usize>,
+    pub heads: Vec<u32>,
     /// For each index the latest one before it with the same bucket.
-    pub befores: Vec<usize>,
-    ghost all_buckets: { length heads.items ≡ 1024 },
+    pub befores: Vec<u32>,
+    ghost all_buckets: { length heads.items ≡ 2048 },
 }
 
 impl Chains {
@@ -34,20 +34,23 @@ impl Chains {
 
     /// The latest index that has the bucket.
     pub fn latest(&self, bucket: usize) -> usize
-        requires { bucket < 1024 }
+        requires { bucket < 2048 }
         ensures { result ≡ slice_index self.now.heads.items bucket }
     {
-        self.heads[bucket]
+        self.heads[bucket] as usize
     }
 
-    /// Chains the next index, which has the bucket.
+    /// Chains the next index, which has the bucket. An index beyond 32 bits, which no search comes to, is refused like a growth.
     pub fn push(&mut self, bucket: usize) -> Result<(), AllocError>
-        requires { bucket < 1024 }
+        requires { bucket < 2048 }
         ensures { (buckets : List ℕ) → AreChained buckets self.old → OnOk result (AreChained (buckets ++ bucket ∷ []) self.new) }
     {
         let before = self.heads[bucket];
         self.befores.push(before)?;
-        self.heads[bucket] = self.befores.len();
+        let Ok(latest) = u32::try_from(self.befores.len()) else {
+            return Err(AllocError);
+        };
+        self.heads[bucket] = latest;
         Ok(())
     }
 }

@@ -99,7 +99,7 @@ impl Found {
     fn like(&self, bucket: usize, state: &SemiState) -> Option<usize>
         requires kept { AreKept self.now }
         requires bucket { bucket ≡ bucket_of_board state.now }
-        requires small { bucket < 1024 }
+        requires small { bucket < 2048 }
         ensures some { IfSome result (λ number. (number < length self.now.boards.items)
             × IsSameBoard (board_at self.now.boards.items number) state.now) }
         ensures none { IfNone result (IsNewBoard self.now.boards.items state.now) }
@@ -109,7 +109,7 @@ impl Found {
             if is_same_board(&self.boards[at - 1], state) {
                 return Some(at - 1);
             }
-            at = self.board_chains.befores[at - 1];
+            at = self.board_chains.befores[at - 1] as usize;
         }
         None
     }
@@ -118,7 +118,7 @@ impl Found {
     fn has(&self, bucket: usize, stand: Stand) -> bool
         requires kept { AreKept self.now }
         requires bucket { bucket ≡ bucket_at stand }
-        requires small { bucket < 1024 }
+        requires small { bucket < 2048 }
         ensures there { OnTrue result ((i : ℕ) × (s : Stand) × (slice_get self.now.stands.items i ≡ Some s) × IsSameStand s stand) }
         ensures new { OnFalse result (IsNewStand self.now.stands.items stand) }
     {
@@ -127,7 +127,7 @@ impl Found {
             if is_same_stand(self.stands[at - 1], stand) {
                 return true;
             }
-            at = self.stand_chains.befores[at - 1];
+            at = self.stand_chains.befores[at - 1] as usize;
         }
         false
     }

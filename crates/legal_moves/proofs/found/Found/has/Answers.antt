@@ -12,7 +12,7 @@ loop-at-init c =
     let stands = c.args.self.now.stands.items in
     let stand = c.args.stand in
     subst (IsAlong bucket_at stands (λ s. IsSameStand s stand) (bucket_at stand)) (ap (slice_index c.args.self.now.stand_chains.heads.items) (sym c.requires.bucket) ∙ sym c.latest-at.ensures)
-    (along_first bucket_at stands (λ s. IsSameStand s stand) (bucket_at stand) (λ s same. same_stand_bucket s stand same) c.args.self.now.stand_chains c.requires.kept.stands_are (subst (λ b. b < 1024) c.requires.bucket c.requires.small))
+    (along_first bucket_at stands (λ s. IsSameStand s stand) (bucket_at stand) (λ s same. same_stand_bucket s stand same) c.args.self.now.stand_chains c.requires.kept.stands_are (subst (λ b. b < 2048) c.requires.bucket c.requires.small))
 
 pub returns-then-is_same_stand-clause-there : goal.returns-then-is_same_stand-clause-there
 returns-then-is_same_stand-clause-there c =
@@ -30,7 +30,7 @@ loop-at-smaller c =
     let unwanted : ¬ IsSameStand c.index.result.now wanted = λ same. let never : true ≡ false = sym (c.is_same_stand.ensures.1 same) ∙ c.if-is_same_stand.false in cc in
     let next = along_next bucket_at items (λ s. IsSameStand s wanted) (bucket_at wanted) (λ s same. same_stand_bucket s wanted same) chains c.loop-at.at c.index.result.now c.requires.kept.stands_are some c.loop-at.invariant at unwanted in
     let many : length chains.befores.items ≡ length items = c.requires.kept.stands_are.as_many ∙ length-map items bucket_at in
-    let is = get_or_from_slice_get chains.befores.items (c.loop-at.at - 1) c.index-at.result.now 0 (read_at chains.befores.items (c.loop-at.at - 1) c.index-at.result.now (omega (arith, many, c.loop-at.invariant.inside, some)) c.index-at.ensures) in
+    let is = get_or_from_slice_get chains.befores.items (c.loop-at.at - 1) c.index-in-loop-at.result.now 0 (read_at chains.befores.items (c.loop-at.at - 1) c.index-in-loop-at.result.now (omega (arith, many, c.loop-at.invariant.inside, some)) c.index-in-loop-at.ensures) in
     subst (λ n. n < c.loop-at.at) is next.1
 
 pub loop-at-preserved : goal.loop-at-preserved
@@ -43,5 +43,5 @@ loop-at-preserved c =
     let unwanted : ¬ IsSameStand c.index.result.now wanted = λ same. let never : true ≡ false = sym (c.is_same_stand.ensures.1 same) ∙ c.if-is_same_stand.false in cc in
     let next = along_next bucket_at items (λ s. IsSameStand s wanted) (bucket_at wanted) (λ s same. same_stand_bucket s wanted same) chains c.loop-at.at c.index.result.now c.requires.kept.stands_are some c.loop-at.invariant at unwanted in
     let many : length chains.befores.items ≡ length items = c.requires.kept.stands_are.as_many ∙ length-map items bucket_at in
-    let is = get_or_from_slice_get chains.befores.items (c.loop-at.at - 1) c.index-at.result.now 0 (read_at chains.befores.items (c.loop-at.at - 1) c.index-at.result.now (omega (arith, many, c.loop-at.invariant.inside, some)) c.index-at.ensures) in
+    let is = get_or_from_slice_get chains.befores.items (c.loop-at.at - 1) c.index-in-loop-at.result.now 0 (read_at chains.befores.items (c.loop-at.at - 1) c.index-in-loop-at.result.now (omega (arith, many, c.loop-at.invariant.inside, some)) c.index-in-loop-at.ensures) in
     subst (IsAlong bucket_at items (λ s. IsSameStand s wanted) (bucket_at wanted)) is next.0

@@ -13,7 +13,7 @@ loop-at-init c =
     let boards = c.args.self.now.boards.items in
     let state = c.args.state.now in
     subst (IsAlong bucket_of_board boards (λ A. IsSameBoard A state) (bucket_of_board state)) (ap (slice_index c.args.self.now.board_chains.heads.items) (sym c.requires.bucket) ∙ sym c.latest-at.ensures)
-    (along_first bucket_of_board boards (λ A. IsSameBoard A state) (bucket_of_board state) (λ A same. same_board_bucket A state same) c.args.self.now.board_chains c.requires.kept.boards_are (subst (λ b. b < 1024) c.requires.bucket c.requires.small))
+    (along_first bucket_of_board boards (λ A. IsSameBoard A state) (bucket_of_board state) (λ A same. same_board_bucket A state same) c.args.self.now.board_chains c.requires.kept.boards_are (subst (λ b. b < 2048) c.requires.bucket c.requires.small))
 
 pub returns-then-is_same_board-clause-some : goal.returns-then-is_same_board-clause-some
 returns-then-is_same_board-clause-some c =
@@ -31,7 +31,7 @@ loop-at-smaller c =
     let unwanted : ¬ IsSameBoard c.index.result.now wanted = λ same. let never : true ≡ false = sym (c.is_same_board.ensures.1 same) ∙ c.if-is_same_board.false in cc in
     let next = along_next bucket_of_board items (λ A. IsSameBoard A wanted) (bucket_of_board wanted) (λ A same. same_board_bucket A wanted same) chains c.loop-at.at c.index.result.now c.requires.kept.boards_are some c.loop-at.invariant at unwanted in
     let many : length chains.befores.items ≡ length items = c.requires.kept.boards_are.as_many ∙ length-map items bucket_of_board in
-    let is = get_or_from_slice_get chains.befores.items (c.loop-at.at - 1) c.index-at.result.now 0 (read_at chains.befores.items (c.loop-at.at - 1) c.index-at.result.now (omega (arith, many, c.loop-at.invariant.inside, some)) c.index-at.ensures) in
+    let is = get_or_from_slice_get chains.befores.items (c.loop-at.at - 1) c.index-in-loop-at.result.now 0 (read_at chains.befores.items (c.loop-at.at - 1) c.index-in-loop-at.result.now (omega (arith, many, c.loop-at.invariant.inside, some)) c.index-in-loop-at.ensures) in
     subst (λ n. n < c.loop-at.at) is next.1
 
 pub loop-at-preserved : goal.loop-at-preserved
@@ -44,5 +44,5 @@ loop-at-preserved c =
     let unwanted : ¬ IsSameBoard c.index.result.now wanted = λ same. let never : true ≡ false = sym (c.is_same_board.ensures.1 same) ∙ c.if-is_same_board.false in cc in
     let next = along_next bucket_of_board items (λ A. IsSameBoard A wanted) (bucket_of_board wanted) (λ A same. same_board_bucket A wanted same) chains c.loop-at.at c.index.result.now c.requires.kept.boards_are some c.loop-at.invariant at unwanted in
     let many : length chains.befores.items ≡ length items = c.requires.kept.boards_are.as_many ∙ length-map items bucket_of_board in
-    let is = get_or_from_slice_get chains.befores.items (c.loop-at.at - 1) c.index-at.result.now 0 (read_at chains.befores.items (c.loop-at.at - 1) c.index-at.result.now (omega (arith, many, c.loop-at.invariant.inside, some)) c.index-at.ensures) in
+    let is = get_or_from_slice_get chains.befores.items (c.loop-at.at - 1) c.index-in-loop-at.result.now 0 (read_at chains.befores.items (c.loop-at.at - 1) c.index-in-loop-at.result.now (omega (arith, many, c.loop-at.invariant.inside, some)) c.index-in-loop-at.ensures) in
     subst (IsAlong bucket_of_board items (λ A. IsSameBoard A wanted) (bucket_of_board wanted)) is next.0
