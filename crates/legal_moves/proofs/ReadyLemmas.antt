@@ -10,7 +10,7 @@ use Rattle.rbg_game.specs.Sound.{IsSoundRegex, IsSoundAction, LacksSwitch}
 use Rattle.rbg_game.specs.Positions.{IsStateOf}
 use Rattle.rbg_game.specs.declared.position.SemiState.{SemiState}
 use Rattle.legal_moves.specs.Plain.{IsPlain}
-use Rattle.legal_moves.specs.aid.Looking.{at_vertex, IsLook, IsNoPattern, Tells, TellsAt}
+use Rattle.legal_moves.specs.aid.Looking.{at_vertex, IsLook, IsNoPattern, GlanceTells, TellsAt}
 use Rattle.legal_moves.specs.declared.effect.Glance.{Glance}
 use Rattle.legal_moves.specs.declared.effect.Glance.TheVariants.{Fails, At, Writes}
 use Rattle.std.specs.Option.{IfSome, IfNone}
@@ -139,7 +139,7 @@ module _ (game : Game) (tables : List Table) (index : ℕ) (ready : IsReady game
         act_none S None h = act_never S h
         act_none S (Some T) h = h
 
-        pub act_tells : (S : SemiState) (g : Glance) → Tells game (action_of x) S g → TellsAt game (expression_at game index) number S g
+        pub act_tells : (S : SemiState) (g : Glance) → GlanceTells game (action_of x) S g → TellsAt game (expression_at game index) number S g
         act_tells S Fails h = act_never S h
         act_tells S (At v) h = (EffectAt-by_action game (expression_at game index) 1 number (action_of x) S (at_vertex S v) at_number h.0, subst IsLook (sym at_number) h.1)
         act_tells S Writes h = subst IsNoPattern (sym at_number) h

@@ -17,12 +17,12 @@ use Rattle.position_pack.proofs.ShapeLemmas.{small_shape, fits, is_position}
 use Rattle.position_pack.proofs.PackingLemmas.{packed_order}
 use Rattle.legal_moves.specs.Listed.{ListsExactly, IsSuccessorBytes}
 use Rattle.legal_moves.specs.Sources.{IsAt, IsMoveBetween}
-use Rattle.legal_moves.specs.aid.Repacked.{IsRepacked, AreRepacked, AreRows}
+use Rattle.legal_moves.specs.aid.Repacked.{IsRepacked, AreRepacked, AreAllPacked}
 use Rattle.legal_moves.proofs.ReachLemmas.{position_of}
 use Rattle.legal_moves.proofs.SourceLemmas.{one_position}
 
 -- the bytes of a position are not read as none
-pub row_at : (rows : Form) (xs : List (List ℕ)) (k : ℕ) → AreRows rows xs → k < length xs → (at : Position) × IsPacked rows at (get_or xs k [])
+pub row_at : (rows : Form) (xs : List (List ℕ)) (k : ℕ) → AreAllPacked rows xs → k < length xs → (at : Position) × IsPacked rows at (get_or xs k [])
 row_at rows [] k h lt = absurd (omega (arith, lt))
 row_at rows (x ∷ xs) zero h lt = h.0
 row_at rows (x ∷ xs) (suc k) h lt = row_at rows xs k h.1 (omega (arith, lt))
@@ -47,7 +47,7 @@ repacked_at rows form (a ∷ xs) (b ∷ ys) zero d h lt = h.0
 repacked_at rows form (a ∷ xs) (b ∷ ys) (suc k) d h lt = repacked_at rows form xs ys k d h.1 (omega (arith, lt))
 
 -- the rows of successors are those of positions
-pub rows_by_successors : (game : Game) → IsSoundGame game → (x : List ℕ) (at : Position) (kind : PackingKind) → IsAt kind game x at → (xs : List (List ℕ)) → All (IsSuccessorBytes game at) xs → AreRows (form_of Bytes game) xs
+pub rows_by_successors : (game : Game) → IsSoundGame game → (x : List ℕ) (at : Position) (kind : PackingKind) → IsAt kind game x at → (xs : List (List ℕ)) → All (IsSuccessorBytes game at) xs → AreAllPacked (form_of Bytes game) xs
 rows_by_successors game sound x at kind here [] h = tt
 rows_by_successors game sound x at kind here (y ∷ xs) h = (first (h 0 [] (omega arith)), rows_by_successors game sound x at kind here xs (λ k d lt. h (suc k) d (omega (arith, lt))))
   where

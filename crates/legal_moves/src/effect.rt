@@ -6,7 +6,7 @@ ghost use Rattle.rbg_game.specs.declared.position.SemiState.{SemiState};
 ghost use Rattle.legal_moves.specs.Effects.{Compares, Effect};
 ghost use Rattle.rbg_game.specs.Positions.{IsStateOf};
 ghost use Rattle.legal_moves.specs.Plain.{IsPlain};
-ghost use Rattle.legal_moves.specs.aid.Looking.{at_vertex, Tells};
+ghost use Rattle.legal_moves.specs.aid.Looking.{at_vertex, GlanceTells};
 
 use rbg_game::game::{Game, Vertex};
 use rbg_game::position::SemiState;
@@ -102,7 +102,7 @@ pub fn act(game: &Game, action: &Action, state: &mut SemiState) -> bool
 pub fn at_a_glance(game: &Game, action: &Action, state: &SemiState, vertex: u8) -> Glance
     requires state { IsStateOf (game_of game.now) (at_vertex state.now vertex) }
     requires plain { IsPlain state.now.values.items (action_of action.now) }
-    ensures { Tells (game_of game.now) (action_of action.now) (at_vertex state.now vertex) result }
+    ensures { GlanceTells (game_of game.now) (action_of action.now) (at_vertex state.now vertex) result }
 {
     match action {
         Action::Shift(label) => match neighbour(&game.vertices[usize::from(vertex)], *label) {

@@ -1,6 +1,6 @@
 //! The same positions by another packing.
 ghost use Rattle.std.specs.Prelude.{◌≡◌, IfOk, map};
-ghost use Rattle.legal_moves.specs.aid.Repacked.{AreRepacked, AreRows};
+ghost use Rattle.legal_moves.specs.aid.Repacked.{AreRepacked, AreAllPacked};
 
 use position_pack::{Packed, Packing};
 use std::alloc::{AllocError, Global};
@@ -13,7 +13,7 @@ pub fn repacked(
     packed: &[Packed],
 ) -> Result<Vec<Packed>, AllocError>
     requires same { rows.now.shape ≡ packing.now.shape }
-    requires rows { AreRows rows.now (map (λ p. p.items) packed.now) }
+    requires rows { AreAllPacked rows.now (map (λ p. p.items) packed.now) }
     ensures { IfOk result (λ found. AreRepacked rows.now packing.now (map (λ p. p.items) packed.now) (map
         (λ p. p.items) found.items)) }
 {

@@ -26,10 +26,10 @@ IsNoPattern None = ⊥
 IsNoPattern (Some a) = is_pattern a ≡ false
 
 -- what a glance at an action says of it
-abbrev pub Tells : Game → Action → SemiState → Glance → Type 0
-Tells game a S Fails = (T : SemiState) → ¬ Effect game a S T
-Tells game a S (At v) = Effect game a S (at_vertex S v) × IsLook (Some a)
-Tells game a S Writes = IsNoPattern (Some a)
+abbrev pub GlanceTells : Game → Action → SemiState → Glance → Type 0
+GlanceTells game a S Fails = (T : SemiState) → ¬ Effect game a S T
+GlanceTells game a S (At v) = Effect game a S (at_vertex S v) × IsLook (Some a)
+GlanceTells game a S Writes = IsNoPattern (Some a)
 
 -- the same of an occurrence
 abbrev pub TellsAt : Game → Regex → ℕ → SemiState → Glance → Type 0

@@ -12,7 +12,7 @@ use Rattle.legal_moves.specs.Compiled.{compiled_game, packing_kind, IsCompiled}
 use Rattle.legal_moves.specs.declared.compiled.Compiled.TheInside.{Inside}
 use Rattle.legal_moves.specs.Listed.{ListsExactly, ShownMove}
 use Rattle.legal_moves.specs.Sources.{IsAt, IsMoveBetween}
-use Rattle.legal_moves.specs.aid.Repacked.{AreRows, AreRepacked}
+use Rattle.legal_moves.specs.aid.Repacked.{AreAllPacked, AreRepacked}
 use Rattle.legal_moves.proofs.SourceLemmas.{at_by_packed, lists_between, narrow_at}
 use Rattle.legal_moves.proofs.RepackLemmas.{rows_by_successors, repacked_many, lists_repacked}
 use Rattle.legal_moves.proofs.compiled.CompiledMoveSource.successors.Goals as goal
@@ -74,7 +74,7 @@ repacked-requires-clause-rows c =
     let here = unpacked_at inside v c.self.view_is c.self.invariant x c.deref.result.now c.in-Some.position c.deref.ensures.0 c.in-Some.ensures in
     let rows = rows_by_successors game (sound inside v c.self.view_is c.self.invariant) x c.in-Some.position v.kind here (map (λ m. m.next) c.in_ok-moves.moves) c.in_ok-moves.ensures.exact.successors.only in
     let same = ap (map (λ (p : ArrayVec ℕ). p.items)) c.deref-in-Bits.ensures.value ∙ c.in_ok-successors.ensures in
-    subst (λ f. AreRows f (map (λ (p : ArrayVec ℕ). p.items) c.deref-in-Bits.result.now)) (sym (row_form inside v c.self.view_is c.self.invariant)) (subst (AreRows (form_of Bytes game)) (sym same) rows)
+    subst (λ f. AreAllPacked f (map (λ (p : ArrayVec ℕ). p.items) c.deref-in-Bits.result.now)) (sym (row_form inside v c.self.view_is c.self.invariant)) (subst (AreAllPacked (form_of Bytes game)) (sym same) rows)
 
 pub returns-in_ok-repacked-in-Bits-clause-exact : goal.returns-in_ok-repacked-in-Bits-clause-exact
 returns-in_ok-repacked-in-Bits-clause-exact c =
