@@ -12,7 +12,7 @@ use Rattle.tree_map.specs.aid.Laws.{not_empty}
 use Rattle.tree_map.specs.aid.Order.{Below, ascend_seam, find_below, find_here}
 use Rattle.tree_map.specs.aid.Parts.{begins}
 use Rattle.tree_map.specs.aid.Way.{reached_ascends, reached_finds, reached_next}
-use Rattle.tree_read.specs.aid.Steps.{Reaches}
+use Rattle.tree_read.specs.aid.Steps.{ReachesLeaf}
 
 no_entry : (w : Widths) (store : Store) (root : ℕ) (pages : List ℕ) (es : List Item) → root ≡ 0 → HoldsMap w store root pages es → es ≡ []
 no_entry w store root pages es none (inl empty) = empty.no_entry
@@ -25,14 +25,14 @@ pub none_next : (w : Widths) (store : Store) (root : ℕ) (key : List ℕ) → r
 none_next w store root key none pages es holds = ap (λ (fs : List Item). next_after fs key) (sym (no_entry w store root pages es none holds))
 
 -- what the leaf has at the key
-pub leaf_finds : (w : Widths) (store : Store) (root : ℕ) (key leaf : List ℕ) (next : Option (List ℕ)) (answer : Option (List ℕ)) → Reaches w store root key leaf next
+pub leaf_finds : (w : Widths) (store : Store) (root : ℕ) (key leaf : List ℕ) (next : Option (List ℕ)) (answer : Option (List ℕ)) → ReachesLeaf w store root key leaf next
     → (Ascend (items_in w Leaf leaf) → answer ≡ find_entry (items_in w Leaf leaf) key) → (pages : List ℕ) (es : List Item) → HoldsMap w store root pages es → answer ≡ find_entry es key
 leaf_finds w store root key leaf next answer reaches is pages es holds =
     let reached = reaches pages es holds in
     is (reached_ascends es key (items_in w Leaf leaf) next reached) ∙ sym (reached_finds es key (items_in w Leaf leaf) next reached)
 
 -- the leaf has the next entry
-pub leaf_nexts : (w : Widths) (store : Store) (root : ℕ) (key leaf : List ℕ) (next : Option (List ℕ)) (entry : Item) → Reaches w store root key leaf next
+pub leaf_nexts : (w : Widths) (store : Store) (root : ℕ) (key leaf : List ℕ) (next : Option (List ℕ)) (entry : Item) → ReachesLeaf w store root key leaf next
     → (Ascend (items_in w Leaf leaf) → Some entry ≡ next_after (items_in w Leaf leaf) key) → (pages : List ℕ) (es : List Item) → HoldsMap w store root pages es → Some entry ≡ next_after es key
 leaf_nexts w store root key leaf next entry reaches is pages es holds =
     let reached = reaches pages es holds in
@@ -44,7 +44,7 @@ no_first [] none = refl
 no_first (e ∷ es) none = absurd (cc)
 
 -- there is no next entry
-pub ends : (w : Widths) (store : Store) (root : ℕ) (key leaf : List ℕ) (next : Option (List ℕ)) → next ≡ None → Reaches w store root key leaf next
+pub ends : (w : Widths) (store : Store) (root : ℕ) (key leaf : List ℕ) (next : Option (List ℕ)) → next ≡ None → ReachesLeaf w store root key leaf next
     → (Ascend (items_in w Leaf leaf) → None ≡ next_after (items_in w Leaf leaf) key) → (pages : List ℕ) (es : List Item) → HoldsMap w store root pages es → None ≡ next_after es key
 ends w store root key leaf next none reaches is pages es holds =
     let reached = reaches pages es holds in
@@ -58,7 +58,7 @@ pub record IsBehind (es : List Item) (key next : List ℕ) : Type 0 where
   pub is : next_after es key ≡ Some entry
   pub found : find_entry es next ≡ Some entry.1
 
-pub behind : (w : Widths) (store : Store) (root : ℕ) (key leaf : List ℕ) (next : Option (List ℕ)) (first : List ℕ) → next ≡ Some first → Reaches w store root key leaf next
+pub behind : (w : Widths) (store : Store) (root : ℕ) (key leaf : List ℕ) (next : Option (List ℕ)) (first : List ℕ) → next ≡ Some first → ReachesLeaf w store root key leaf next
     → (Ascend (items_in w Leaf leaf) → None ≡ next_after (items_in w Leaf leaf) key) → (pages : List ℕ) (es : List Item) → HoldsMap w store root pages es → IsBehind es key first
 behind w store root key leaf next first some reaches is pages es holds =
     let here = items_in w Leaf leaf in

@@ -14,7 +14,7 @@ use Rattle.tree_map.specs.Entries.{Ascend, next_after}
 use Rattle.tree_read.specs.Answers.{found_bytes}
 use Rattle.tree_read.specs.aid.Ahead.{ReachesNext}
 use Rattle.tree_read.specs.aid.Seen.{SeenCause}
-use Rattle.tree_read.specs.aid.Steps.{IsStep}
+use Rattle.tree_read.specs.aid.Steps.{IsStepDown}
 use Rattle.tree_read.proofs.Reaching.{IsReaching, read_unchanged, read_works, read_damaged, read_leaf, read_on, read_cause}
 
 module _ (w : Widths) (old mid new : Store) (root : ℕ) (key : List ℕ) (level page : ℕ) (next : Option (List ℕ)) (so_far : IsReaching w old mid root key level page next)
@@ -39,7 +39,7 @@ module _ (w : Widths) (old mid new : Store) (root : ℕ) (key : List ℕ) (level
 
   -- an inner page
   pub looked_on : (child : ℕ) (behind rest found : Option (ArrayVec ℕ)) → found_bytes rest ≡ next → found ≡ option_or behind rest
-      → (IsTrue mid.disk.honest → IsPage w Inner (reads mid page) × IsStep w (reads mid page) key child (found_bytes behind)) → IsReaching w old new root key (level + 1) child (found_bytes found)
+      → (IsTrue mid.disk.honest → IsPage w Inner (reads mid page) × IsStepDown w (reads mid page) key child (found_bytes behind)) → IsReaching w old new root key (level + 1) child (found_bytes found)
   looked_on child behind rest found was is seen = record {
     unchanged = looked_unchanged;
     works = looked_works;

@@ -14,9 +14,9 @@ use Rattle.tree_page.specs.declared.widths.Widths.{Widths}
 use Rattle.tree_page.specs.Page.{Item, items_in, child_of, IsPage}
 use Rattle.tree_map.specs.Changes.{HoldsMap, MapReadCause}
 use Rattle.tree_map.specs.aid.Unchanged.{unchanged_refl, unchanged_then, unchanged_reads, grew_before}
-use Rattle.tree_map.specs.aid.Way.{IsWay, IsReached, way_begins, way_within, way_goes_on, way_has_kind, way_ends, way_down}
+use Rattle.tree_map.specs.aid.Way.{IsWay, BelongsHere, way_begins, way_within, way_goes_on, way_has_kind, way_ends, way_down}
 use Rattle.tree_read.specs.Answers.{found_bytes}
-use Rattle.tree_read.specs.aid.Steps.{IsStep, Reaches}
+use Rattle.tree_read.specs.aid.Steps.{IsStepDown, ReachesLeaf}
 
 -- so far only pages were read, and the key belongs below this page
 pub record IsReaching (w : Widths) (old now : Store) (root : ℕ) (key : List ℕ) (level page : ℕ) (next : Option (List ℕ)) : Type 0 where
@@ -54,25 +54,25 @@ module _ (w : Widths) (old mid new : Store) (root : ℕ) (key : List ℕ) (level
       (λ inner. none Inner (subst (λ (b : List ℕ). IsPage w Inner b) (sym (read_as honest)) inner))
 
   -- the leaf
-  pub read_leaf : IsPage w Leaf bytes → IsTrue old.disk.honest → Reaches w old root key bytes next
+  pub read_leaf : IsPage w Leaf bytes → IsTrue old.disk.honest → ReachesLeaf w old root key bytes next
   read_leaf leaf honest = λ pages es holds.
-      subst (λ (b : List ℕ). IsReached es key (items_in w Leaf b) next) (sym (read_as honest))
+      subst (λ (b : List ℕ). BelongsHere es key (items_in w Leaf b) next) (sym (read_as honest))
       (way_ends w (reads old) (length old.marks) es key level page next (so_far.way honest pages es holds) (subst (λ (b : List ℕ). IsPage w Leaf b) (read_as honest) leaf))
 
   -- an inner page
-  pub read_inner : IsPage w Inner bytes → (child : ℕ) (behind : Option (List ℕ)) → IsStep w bytes key child behind → IsReaching w old new root key (level + 1) child (option_or behind next)
+  pub read_inner : IsPage w Inner bytes → (child : ℕ) (behind : Option (List ℕ)) → IsStepDown w bytes key child behind → IsReaching w old new root key (level + 1) child (option_or behind next)
   read_inner inner child behind step = record {
     unchanged = read_unchanged;
     works = read_works;
     way = λ honest pages es holds.
         let is : bytes ≡ reads old page = read_as honest in
-        let there : IsStep w (reads old page) key child behind = subst (λ (b : List ℕ). IsStep w b key child behind) is step in
+        let there : IsStepDown w (reads old page) key child behind = subst (λ (b : List ℕ). IsStepDown w b key child behind) is step in
         let down = way_down w (reads old) (length old.marks) es key level page there.place next there.child (so_far.way honest pages es holds) (subst (λ (b : List ℕ). IsPage w Inner b) is inner) there.fits there.got in
         subst (λ (p : ℕ). IsWay w (reads old) (length old.marks) es key (level + 1) p (option_or behind next)) (sym there.leads)
         (subst (λ (n : Option (List ℕ)). IsWay w (reads old) (length old.marks) es key (level + 1) (child_of there.child) (option_or n next)) (sym there.next_is) down);
   }
 
-  pub read_on : IsPage w Inner bytes → (child : ℕ) (behind rest found : Option (ArrayVec ℕ)) → found_bytes rest ≡ next → found ≡ option_or behind rest → IsStep w bytes key child (found_bytes behind)
+  pub read_on : IsPage w Inner bytes → (child : ℕ) (behind rest found : Option (ArrayVec ℕ)) → found_bytes rest ≡ next → found ≡ option_or behind rest → IsStepDown w bytes key child (found_bytes behind)
       → IsReaching w old new root key (level + 1) child (found_bytes found)
   read_on inner child behind rest found was is step =
       let same : option_or (found_bytes behind) next ≡ found_bytes found = (λ i. option_or (found_bytes behind) (sym was i)) ∙ sym (ap found_bytes is ∙ bytes_or behind rest) in

@@ -7,7 +7,7 @@ ghost use Rattle.tree_page.specs.declared.kind.Kind.TheVariants.{Inner};
 ghost use Rattle.tree_map.specs.Changes.{MapReadCause};
 ghost use Rattle.tree_read.specs.Answers.{found_bytes, found_entry};
 ghost use Rattle.tree_read.specs.aid.Ahead.{ReachesNext};
-ghost use Rattle.tree_read.specs.aid.Steps.{IsStep};
+ghost use Rattle.tree_read.specs.aid.Steps.{IsStepDown};
 
 use crate::ahead::{Ahead, ahead_at};
 use crate::entry::{Bytes, Entry, copied};
@@ -34,7 +34,7 @@ fn key_at(widths: Widths, bytes: &[u8; 4096], place: usize) -> Option<Bytes>
 /// The child where the key belongs, and the key behind that child, if there is one.
 pub fn step(widths: Widths, bytes: &[u8; 4096], key: &[u8]) -> (u32, Option<Bytes>)
     requires { IsPage widths Inner bytes.now }
-    ensures { IsStep widths bytes.now key.now result.0 (found_bytes result.1) }
+    ensures { IsStepDown widths bytes.now key.now result.0 (found_bytes result.1) }
 {
     let place = place_of(widths, Kind::Inner, bytes, key);
     let at = place.saturating_sub(1);

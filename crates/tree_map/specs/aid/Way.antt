@@ -36,7 +36,7 @@ pub record IsWay (w : Widths) (bytes : ℕ → List ℕ) (capacity : ℕ) (es : 
   pub within : (p : ℕ) → Contains (pages_below w bytes depth page) p → (1 ≤ p) × (p < capacity)
 
 -- here is the part of a map where a key belongs, and `next` is the first key behind it
-pub record IsReached (es : List Item) (key : List ℕ) (here : List Item) (next : Option (List ℕ)) : Type 0 where
+pub record BelongsHere (es : List Item) (key : List ℕ) (here : List Item) (next : Option (List ℕ)) : Type 0 where
   pub before : List Item
   pub after : List Item
   pub is : es ≡ before ++ (here ++ after)
@@ -45,7 +45,7 @@ pub record IsReached (es : List Item) (key : List ℕ) (here : List Item) (next 
   pub past : Past after key
   pub next_is : first_key after ≡ next
 
-module _ (es : List Item) (key : List ℕ) (here : List Item) (next : Option (List ℕ)) (reached : IsReached es key here next) where
+module _ (es : List Item) (key : List ℕ) (here : List Item) (next : Option (List ℕ)) (reached : BelongsHere es key here next) where
   pub reached_ascends : Ascend here
   reached_ascends = ascend_front here reached.after
       (ascend_back reached.before (here ++ reached.after) (subst Ascend reached.is reached.ascending))
@@ -100,7 +100,7 @@ module _ (w : Widths) (bytes : ℕ → List ℕ) (capacity : ℕ) (es : List Ite
       by_depth (suc d) tree = inner tree.0
 
   -- at a leaf it ends
-  pub way_ends : IsPage w Leaf (bytes page) → IsReached es key (items_in w Leaf (bytes page)) next
+  pub way_ends : IsPage w Leaf (bytes page) → BelongsHere es key (items_in w Leaf (bytes page)) next
   way_ends leaf = record {
     before = way.before;
     after = way.after;

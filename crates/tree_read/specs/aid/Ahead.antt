@@ -6,7 +6,7 @@ use Rattle.tree_page.specs.declared.widths.Widths.{Widths}
 use Rattle.tree_page.specs.Page.{Item, items_in, IsPage}
 use Rattle.tree_map.specs.Entries.{Ascend, next_after}
 use Rattle.tree_read.specs.Answers.{found_bytes, found_entry}
-use Rattle.tree_read.specs.aid.Steps.{IsStep, Reaches}
+use Rattle.tree_read.specs.aid.Steps.{IsStepDown, ReachesLeaf}
 use Rattle.tree_read.specs.declared.ahead.Ahead.{Ahead}
 use Rattle.tree_read.specs.declared.ahead.Ahead.TheVariants.{Next, Below}
 
@@ -14,10 +14,10 @@ use Rattle.tree_read.specs.declared.ahead.Ahead.TheVariants.{Next, Below}
 abbrev pub SeesAhead : Widths → List ℕ → List ℕ → Ahead → Type 0
 SeesAhead w bytes key (Next found) = IsPage w Leaf bytes
     × (Ascend (items_in w Leaf bytes) → found_entry found ≡ next_after (items_in w Leaf bytes) key)
-SeesAhead w bytes key (Below child behind) = IsPage w Inner bytes × IsStep w bytes key child (found_bytes behind)
+SeesAhead w bytes key (Below child behind) = IsPage w Inner bytes × IsStepDown w bytes key child (found_bytes behind)
 
 -- a leaf where the key belongs was reached, which has this as the next entry
 pub record ReachesNext (w : Widths) (store : Store) (root : ℕ) (key : List ℕ) (entry : Option Item) (next : Option (List ℕ)) : Type 0 where
   pub leaf : List ℕ
-  pub reaches : Reaches w store root key leaf next
+  pub reaches : ReachesLeaf w store root key leaf next
   pub is : Ascend (items_in w Leaf leaf) → entry ≡ next_after (items_in w Leaf leaf) key

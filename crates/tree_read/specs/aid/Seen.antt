@@ -10,13 +10,13 @@ use Rattle.tree_page.specs.declared.widths.Widths.{Widths}
 use Rattle.tree_page.specs.Page.{items_in, IsPage}
 use Rattle.tree_map.specs.Entries.{Ascend, find_entry}
 use Rattle.tree_read.specs.Answers.{found_bytes}
-use Rattle.tree_read.specs.aid.Steps.{IsStep}
+use Rattle.tree_read.specs.aid.Steps.{IsStepDown}
 use Rattle.tree_read.specs.declared.look.Seen.{Seen}
 use Rattle.tree_read.specs.declared.look.Seen.TheVariants.{Value, Child}
 
 -- an inner page with these bytes leads to this child, whichever key is behind it
 abbrev pub LeadsOn : Widths → List ℕ → List ℕ → ℕ → Type 0
-LeadsOn w bytes key child = (next : Option (List ℕ)) × IsStep w bytes key child next
+LeadsOn w bytes key child = (next : Option (List ℕ)) × IsStepDown w bytes key child next
 
 -- a leaf says what it has at the key, and an inner page where the key belongs
 abbrev pub Sees : Widths → List ℕ → List ℕ → Seen → Type 0

@@ -8,10 +8,10 @@ use Rattle.tree_page.specs.Page.{Item, items_in, child_of}
 use Rattle.tree_page.specs.Place.{IsPlace}
 use Rattle.tree_map.specs.Changes.{HoldsMap}
 use Rattle.tree_map.specs.Entries.{Ascend}
-use Rattle.tree_map.specs.aid.Way.{IsReached}
+use Rattle.tree_map.specs.aid.Way.{BelongsHere}
 
 -- from an inner page with these bytes to the child where the key belongs; `next` is the key behind that child
-pub record IsStep (w : Widths) (bytes : List ℕ) (key : List ℕ) (page : ℕ) (next : Option (List ℕ)) : Type 0 where
+pub record IsStepDown (w : Widths) (bytes : List ℕ) (key : List ℕ) (page : ℕ) (next : Option (List ℕ)) : Type 0 where
   pub place : ℕ
   pub child : Item
   pub fits : Ascend (items_in w Inner bytes) → IsPlace (items_in w Inner bytes) key place
@@ -20,6 +20,6 @@ pub record IsStep (w : Widths) (bytes : List ℕ) (key : List ℕ) (page : ℕ) 
   pub next_is : next ≡ option_map (λ e. e.0) (slice_get (items_in w Inner bytes) (suc (place - 1)))
 
 -- a leaf with these bytes is where the key belongs, in each map that the store holds below this root
-abbrev pub Reaches : Widths → Store → ℕ → List ℕ → List ℕ → Option (List ℕ) → Type 0
-Reaches w store root key leaf next = (pages : List ℕ) (es : List Item) → HoldsMap w store root pages es
-    → IsReached es key (items_in w Leaf leaf) next
+abbrev pub ReachesLeaf : Widths → Store → ℕ → List ℕ → List ℕ → Option (List ℕ) → Type 0
+ReachesLeaf w store root key leaf next = (pages : List ℕ) (es : List Item) → HoldsMap w store root pages es
+    → BelongsHere es key (items_in w Leaf leaf) next
