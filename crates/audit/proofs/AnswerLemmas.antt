@@ -13,7 +13,7 @@ use Rattle.retrograde.proofs.Finished.{element, values_are_won, reach_is_known, 
 use Rattle.retrograde.proofs.Sound.{sound_right}
 use Rattle.audit.specs.declared.verdict.Reason.{Reason}
 use Rattle.audit.specs.declared.verdict.Verdict.TheVariants.{Right, Wrong}
-use Rattle.audit.specs.Answers.{IsAnswer, IsSo, reason_of}
+use Rattle.audit.specs.Answers.{IsAnswer, IsTableSo, reason_of}
 use Rattle.audit.specs.aid.Conditions.{IsLowest, own_condition}
 
 module _ {P : Type 0} (graph : Graph P) (IsWide : P → Type 0) (stored : Stored P) where
@@ -128,7 +128,7 @@ module _ {P : Type 0} (graph : Graph P) (IsWide : P → Type 0) (stored : Stored
   pub right_sound : IsTable stored → IsAnswer graph IsWide stored Right → IsLocallySound graph IsWide stored
   right_sound table answer = record { table = table; each = answer.verdict; narrow = answer.narrow }
 
-  pub right_so : IsTable stored → IsAnswer graph IsWide stored Right → IsSo graph (view_of stored)
+  pub right_so : IsTable stored → IsAnswer graph IsWide stored Right → IsTableSo graph (view_of stored)
   right_so table answer =
       let right : IsRight graph (view_of stored) = sound_right graph IsWide stored (right_sound table answer) in
       record {

@@ -40,7 +40,7 @@ pub record IsAnswer {P : Type 0} (graph : Graph P) (IsWide : P → Type 0) (stor
 -- what the table says is so in the game: the named player wins each settled position in exactly the named number of moves;
 -- and where it is finished, it knows the positions that play can come to and no other, and leaves unsettled the drawn ones and
 -- no other
-pub record IsSo {P : Type 0} (graph : Graph P) (view : View P) : Type 0 where
+pub record IsTableSo {P : Type 0} (graph : Graph P) (view : View P) : Type 0 where
   pub won : (x : P) (w : Player) (n : ℕ) → HasValue view x w n → WonIn graph w n x
   pub reached : IsFinished view → (x : P) → IsKnown view x ↔ IsReachable graph x
   pub drawn : IsFinished view → (i : ℕ) (x : P) → HasNumber view i x → (view.value i ≡ None) ↔ Drawn graph x

@@ -1,3 +1,12 @@
+pub use Rattle.retrograde.specs.Audit
+pub use Rattle.retrograde.specs.Changes
+pub use Rattle.retrograde.specs.Local
+pub use Rattle.retrograde.specs.Sound
+pub use Rattle.retrograde.specs.Stored
+pub use Rattle.retrograde.specs.Verdicts
+pub use Rattle.retrograde.specs.View
+pub use Rattle.table.specs.Faults
+pub use Rattle.table.specs.Memory
 pub mod Answers
 pub mod Causes
 pub mod aid

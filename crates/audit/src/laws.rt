@@ -2,12 +2,12 @@
 ghost use Rattle.std.specs.Prelude.{List, ℕ};
 ghost use Rattle.retrograde.specs.Stored.{Stored, IsTable, view_of};
 ghost use Rattle.audit.specs.declared.verdict.Verdict.TheVariants.{Right};
-ghost use Rattle.audit.specs.Answers.{IsAnswer, IsSo};
+ghost use Rattle.audit.specs.Answers.{IsAnswer, IsTableSo};
 
 use retrograde::GameGraph;
 
 /// A table of any origin of which audit answers that it is right says what is so in the game.
 pub fn right_is_so<M: GameGraph>()
     ensures { (game : M) (stored : Stored (List ℕ)) → IsTable stored
-        → IsAnswer (M.graph game) (M.is_wide game) stored Right → IsSo (M.graph game) (view_of stored) }
+        → IsAnswer (M.graph game) (M.is_wide game) stored Right → IsTableSo (M.graph game) (view_of stored) }
 {}

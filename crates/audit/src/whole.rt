@@ -4,7 +4,7 @@ ghost use Rattle.retrograde.specs.View.{HasNumber};
 ghost use Rattle.retrograde.specs.Stored.{IsTable, view_of};
 ghost use Rattle.retrograde.specs.Sound.{IsLocallySound};
 ghost use Rattle.table.specs.Faults.{NeedsNoPage};
-ghost use Rattle.audit.specs.Answers.{IsAnswer, IsSo};
+ghost use Rattle.audit.specs.Answers.{IsAnswer, IsTableSo};
 ghost use Rattle.audit.specs.Causes.{OfTableFault, HasWide};
 ghost use Rattle.audit.specs.aid.Conditions.{AreFloors};
 ghost use Rattle.audit.specs.declared.verdict.Verdict.TheVariants.{Right};
@@ -64,7 +64,7 @@ pub fn audit<M: MoveSource, T: Table>(
     ensures sound { T.is_honest table.old → IsTable (T.stored table.old) → result ≡ Ok Right
         → IsLocallySound (M.graph source.now) (M.is_wide source.now) (T.stored table.old) }
     ensures so { T.is_honest table.old → IsTable (T.stored table.old) → result ≡ Ok Right
-        → IsSo (M.graph source.now) (view_of (T.stored table.old)) }
+        → IsTableSo (M.graph source.now) (view_of (T.stored table.old)) }
     ensures wide { T.is_honest table.old → result ≡ Err TooWide → HasWide (M.is_wide source.now) (T.stored table.old) }
     ensures same { T.is_honest table.old → T.stored table.new ≡ T.stored table.old }
     ensures honest { T.is_honest table.old ↔ T.is_honest table.new }

@@ -1,3 +1,9 @@
+pub use Rattle.retrograde.specs.Changes
+pub use Rattle.retrograde.specs.Sound
+pub use Rattle.retrograde.specs.Stored
+pub use Rattle.retrograde.specs.View
+pub use Rattle.table.specs.Faults
+pub use Rattle.table.specs.Memory
 pub mod Values
 pub mod Rows
 pub mod Lines

@@ -9,6 +9,9 @@ use Rattle.table.specs.Fitting.{FitsTogether}
 use Rattle.flat_table.specs.declared.game.Game.{Game}
 use Rattle.flat_table.specs.Held.{KeepsTable}
 use Rattle.game_file.specs.Kept.{Kept}
+use Rattle.position_pack.specs.declared.limits.TheConstants.{MAX_PACKED}
+use Rattle.rbg_game.specs.declared.limits.TheConstants.{MAX_TEXT_BYTES}
+use Rattle.page_store.specs.declared.limits.TheConstants.{MIN_PAGES}
 
 -- a table's file: its pages, and in memory the game of the last commit, if one is loaded
 pub record FlatFile : Type 0 where
@@ -33,8 +36,8 @@ pages_of (Some game) = game.pages.items
 pub record IsGame (game : Game) : Type 0 where
   pub fits : FitsTogether game.packed (stored_in game.table)
   pub known : length (stored_in game.table).positions ≤ 2 ^ 24
-  pub text : length game.text.items ≤ 65536
-  pub packed : game.packed ≤ 240
+  pub text : length game.text.items ≤ MAX_TEXT_BYTES
+  pub packed : game.packed ≤ MAX_PACKED
 
 abbrev pub AreGames : Option Game → Type 0
 AreGames None = Unit {0}
@@ -43,7 +46,7 @@ AreGames (Some game) = IsGame game
 -- between commands: the pages of the committed root spell what is kept, nothing is handed out or released, and an empty
 -- table takes no page
 pub record IsBacked (store : Store) (pages : List ℕ) (kept : Option Kept) : Type 0 where
-  pub room : 16 ≤ length store.marks
+  pub room : MIN_PAGES ≤ length store.marks
   pub there : (p : ℕ) → Contains pages p → (1 ≤ p) × (p < length store.marks)
   pub calm : store.closed ≡ false → IsCalm store
   pub free : store.closed ≡ false → kept ≡ None → (p : ℕ) → 1 ≤ p → p < length store.marks → mark store.marks p ≡ Free

@@ -11,6 +11,7 @@ use Rattle.table_bytes.specs.Spelled.{SpellsTable}
 use Rattle.game_file.specs.Kept.{Kept, Older}
 pub use Rattle.root_slot.specs.Fields.{capacity_of}
 use Rattle.flat_table.specs.Slot.{layout_in, packing_in, number_of_packing, first_in, sizes_in, IsEmptySlot}
+use Rattle.page_store.specs.declared.limits.TheConstants.{MIN_PAGES}
 
 -- the slot names the packing, and the chain of pages that it names spells the text and a table whose parts fit together, and the slot
 -- counts it right
@@ -35,7 +36,7 @@ KeepsTable root capacity (Some kept) bytes = KeepsGame root capacity kept bytes
 pub record Stores (picture : Picture) (kept : Option Kept) : Type 0 where
   pub root : List ℕ
   pub holds : HoldsRoot root picture
-  pub room : 16 ≤ capacity_of picture
+  pub room : MIN_PAGES ≤ capacity_of picture
   pub keeps : KeepsTable root (capacity_of picture) kept (page picture)
 
 -- no picture holds a table of an earlier layout: this one is the first

@@ -19,6 +19,8 @@ ghost use Rattle.flat_table.specs.aid.Causes.{PutCause};
 ghost use Rattle.flat_table.specs.Pages.{ArePages};
 ghost use Rattle.flat_table.specs.aid.Drafts.{few_stored};
 ghost use Rattle.flat_table.specs.aid.Whole.{the_table_is_kept, unwritten_ahead, unwritten_asked, memory_cause};
+ghost use Rattle.position_pack.specs.declared.limits.TheConstants.{MAX_PACKED};
+ghost use Rattle.rbg_game.specs.declared.limits.TheConstants.{MAX_TEXT_BYTES};
 
 use crate::game::Game;
 use crate::put::put;
@@ -122,8 +124,8 @@ impl<D: SectorDisk> FlatTable<D> {
         packed: u32,
         table: MemTable,
     ) -> Result<(), FileFault>
-        requires text { length text.items ≤ 65536 }
-        requires packed { packed ≤ 240 }
+        requires text { length text.items ≤ MAX_TEXT_BYTES }
+        requires packed { packed ≤ MAX_PACKED }
         requires known { (counted_in table).known ≤ 2 ^ 24 }
         ensures draft { self.new.draft ≡ self.old.draft }
         ensures ahead { StoreGoesAhead (file_in self.old).store (file_in self.new).store }

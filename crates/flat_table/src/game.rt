@@ -1,5 +1,7 @@
 //! A game in memory, as a file keeps it.
 ghost use Rattle.std.specs.Prelude.{◌≤◌, length};
+ghost use Rattle.position_pack.specs.declared.limits.TheConstants.{MAX_PACKED};
+ghost use Rattle.rbg_game.specs.declared.limits.TheConstants.{MAX_TEXT_BYTES};
 
 use position_pack::PackingKind;
 use table::MemTable;
@@ -15,8 +17,8 @@ pub struct Game {
     /// The pages that hold both, in turn.
     pub pages: Vec<u32>,
     pub table: MemTable,
-    ghost text_fits: { length text.items ≤ 65536 },
-    ghost packed_fits: { packed ≤ 240 },
+    ghost text_fits: { length text.items ≤ MAX_TEXT_BYTES },
+    ghost packed_fits: { packed ≤ MAX_PACKED },
 }
 
 /// What a file holds as it is opened.

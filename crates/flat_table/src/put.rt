@@ -12,6 +12,8 @@ ghost use Rattle.flat_table.specs.aid.Calls.{IsPutInFile, IsNotPutInFile};
 ghost use Rattle.flat_table.specs.aid.Causes.{PutCause};
 ghost use Rattle.flat_table.specs.Pages.{ArePages};
 ghost use Rattle.flat_table.specs.aid.Bytes.{BytesCause};
+ghost use Rattle.position_pack.specs.declared.limits.TheConstants.{MAX_PACKED};
+ghost use Rattle.rbg_game.specs.declared.limits.TheConstants.{MAX_TEXT_BYTES};
 
 use crate::game::Game;
 use crate::write::save;
@@ -35,8 +37,8 @@ pub fn put<P: Pages>(
     packed: u32,
     table: MemTable,
 ) -> Result<Game, FileFault>
-    requires text { length text.items ≤ 65536 }
-    requires packed { packed ≤ 240 }
+    requires text { length text.items ≤ MAX_TEXT_BYTES }
+    requires packed { packed ≤ MAX_PACKED }
     requires known { (counted_in table).known ≤ 2 ^ 24 }
     requires there { ArePages (length (P.store store.old).marks) (pages_of old.now) }
     ensures pages { IfOk result (λ game. ArePages (length (P.store store.new).marks) game.pages.items) }
@@ -83,8 +85,8 @@ fn bytes_of(
     packed: u32,
     table: &mut MemTable,
 ) -> Result<Written, FileFault>
-    requires text { length text.now ≤ 65536 }
-    requires packed { packed ≤ 240 }
+    requires text { length text.now ≤ MAX_TEXT_BYTES }
+    requires packed { packed ≤ MAX_PACKED }
     requires known { (counted_in table.old).known ≤ 2 ^ 24 }
     ensures same { OnOk result (stored_in table.new ≡ stored_in table.old) }
     ensures fits { OnOk result (FitsTogether packed (stored_in table.new)) }

@@ -13,11 +13,8 @@ use crate::bytes::{game_of, length_of};
 use crate::game::{Game, Opened};
 use crate::slot::{GameSlot, Slot, read_slot};
 use page_chain::read_chain;
-use page_store::{PageFault, Pages};
+use page_store::{MIN_PAGES, PageFault, Pages};
 use std::alloc::Global;
-
-/// The fewest pages that a table's file has.
-const LEAST_PAGES: u32 = 16;
 
 /// Reads all that the root of a store that was just opened names, marks its pages, and seals the store. `Damaged` where
 /// slot and pages spell no table whose parts fit together. A stop meanwhile leaves what it could leave before.
@@ -38,7 +35,7 @@ pub fn read_all<P: Pages>(alloc: Global, store: &mut P) -> Result<Opened, PageFa
     ensures works { IfErr result (λ _. StoreWorks (P.store store.old) (P.store store.new)) }
     ensures cause { IfErr result (GameReadCause (P.store store.old) (P.store store.new)) }
 {
-    if store.capacity() < LEAST_PAGES {
+    if store.capacity() < MIN_PAGES {
         return Err(PageFault::Damaged);
     }
     let root = store.root();

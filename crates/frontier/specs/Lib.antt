@@ -1,3 +1,13 @@
+pub use Rattle.legal_moves.specs.Listed
+pub use Rattle.retrograde.specs.Changes
+pub use Rattle.retrograde.specs.Expands
+pub use Rattle.retrograde.specs.Graph
+pub use Rattle.retrograde.specs.Sound
+pub use Rattle.retrograde.specs.Stored
+pub use Rattle.retrograde.specs.Successors
+pub use Rattle.retrograde.specs.Values
+pub use Rattle.retrograde.specs.View
+pub use Rattle.table.specs.Memory
 pub mod Causes
 pub mod Done
 pub mod aid

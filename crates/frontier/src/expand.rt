@@ -17,12 +17,12 @@ ghost use Rattle.frontier.specs.declared.fault.StepFault.TheVariants.{TooWide, I
 use crate::fault::StepFault;
 use crate::finish::finish;
 use crate::note::note_all;
-use crate::numbers::{MAX_POSITIONS, numbers_of};
+use crate::numbers::numbers_of;
 use legal_moves::MoveSource;
 use position_pack::Packed;
 use rbg_game::roles::Role;
 use std::alloc::Global;
-use table::Table;
+use table::{MAX_POSITIONS, Table};
 
 /// Where a move leads, in the order of the bytes.
 fn successors_of<M: MoveSource>(

@@ -9,4 +9,4 @@ mod numbers;
 
 pub use expand::expand_one;
 pub use fault::StepFault;
-pub use numbers::MAX_POSITIONS;
+pub use table::MAX_POSITIONS;

@@ -10,9 +10,6 @@ use position_pack::Packed;
 use std::alloc::Global;
 use table::Table;
 
-/// The most positions that a table may have.
-pub const MAX_POSITIONS: u32 = 1 << 24;
-
 /// The numbers of some positions: each has its own, or gets the next one where it is not known.
 #[derive(Debug, Drop)]
 pub struct Numbers {

@@ -5,6 +5,7 @@ use Rattle.root_pair.specs.Root.{Begins}
 use Rattle.game_file.specs.Kept.{Kept, Layout, packing_kept, text_kept}
 use Rattle.game_file.specs.State.{State, GoesAhead, GoesFrom, count_behind}
 use Rattle.game_file.specs.Stops.{LeavesNow, LeavesTable, LeavesEither, OldOrEmpty}
+use Rattle.page_store.specs.declared.limits.TheConstants.{MAX_PAGES}
 
 -- the disk as a refused `open` gives it back: a stop since then leaves what it could leave before
 pub record IsNotOpened (disk : Disk) (count : ℕ) (back : Disk) (now : ℕ) : Type 0 where
@@ -15,7 +16,7 @@ module _ (Stores : Layout) where
   -- a file as `open` gives it: it keeps what the disk stores, and a stop since then leaves what it could leave before
   pub record IsOpenedFile (disk : Disk) (count : ℕ) (file : State) : Type 0 where
     pub from : GoesFrom disk count file.disk file.failures
-    pub capacity : file.capacity ≡ min (size disk / 8) 1048576
+    pub capacity : file.capacity ≡ min (size disk / 8) MAX_PAGES
     pub is_open : file.closed ≡ false
     pub stored : IsTrue disk.honest → Stores disk.now.contents file.kept
     pub leaves : IsTrue disk.honest → LeavesOnly disk file.disk (MayLeave disk.now)
@@ -23,7 +24,7 @@ module _ (Stores : Layout) where
   -- a file as `create` gives it: the empty table; a stop since then leaves no table, what it could leave before, or the empty table
   pub record IsCreatedFile (disk : Disk) (count : ℕ) (file : State) : Type 0 where
     pub from : GoesFrom disk count file.disk file.failures
-    pub capacity : file.capacity ≡ min (size disk / 8) 1048576
+    pub capacity : file.capacity ≡ min (size disk / 8) MAX_PAGES
     pub is_open : file.closed ≡ false
     pub commits : IsTrue disk.honest → file.commits ≡ 0
     pub empty : IsTrue disk.honest → file.kept ≡ None

@@ -1,3 +1,6 @@
+pub use Rattle.retrograde.specs.Stored
+pub use Rattle.root_pair.specs.Root
+pub use Rattle.sector_disk.specs.Disk
 pub mod Kept
 pub mod State
 pub mod Stops

@@ -10,6 +10,7 @@ ghost use Rattle.game_file.specs.State.{State, GoesAhead};
 ghost use Rattle.game_file.specs.Stops.{LeavesNow};
 ghost use Rattle.game_file.specs.Calls.{IsOpenedFile, IsNotOpened, IsCreatedFile, IsNotCreated, IsPut, IsNotPut, IsNothingPut, IsAsked};
 ghost use Rattle.game_file.specs.Causes.{FileOpenCause, FileCreateCause, FileLoadCause, FileCommitCause, FileTableCause};
+ghost use Rattle.rbg_game.specs.declared.limits.TheConstants.{MAX_TEXT_BYTES};
 
 use crate::{FileFault, Refused};
 use position_pack::{Packed, PackingKind};
@@ -79,7 +80,7 @@ pub trait GameFile: Table {
     /// Commits the table of a game that is loaded now, its start and no more, where none was, with this packing: E9, E1, E7, E8. After
     /// a refusal there is still none, but that after E1 in a write or a sync the file is closed, and the disk has the one or the other.
     fn load(&mut self, text: &[u8], packing: PackingKind, start: &Packed) -> Result<(), FileFault>
-        requires { length text.now ≤ 65536 }
+        requires { length text.now ≤ MAX_TEXT_BYTES }
         ensures ahead { GoesAhead (state self.old) (state self.new) }
         ensures whole { is_whole self.old → is_whole self.new }
         ensures ok { is_whole self.old → (state self.old).kept ≡ None

@@ -11,10 +11,11 @@ ghost use Rattle.retrograde.specs.Stored.{Stored, loaded};
 ghost use Rattle.retrograde.specs.Sound.{IsLocallySound};
 ghost use Rattle.table.specs.Fitting.{FitsTogether};
 ghost use Rattle.game_table.specs.Tables.{ArePositions, packed_length};
+ghost use Rattle.rbg_game.specs.declared.limits.TheConstants.{MAX_TEXT_BYTES};
 
 /// A text that reads to a game has at most 65,536 bytes.
 pub fn texts_are_short()
-    ensures { (text : Text) (game : Game) → Reads text game → length text ≤ 65536 }
+    ensures { (text : Text) (game : Game) → Reads text game → length text ≤ MAX_TEXT_BYTES }
 {}
 
 /// The start of a game that a text reads to is a position of the game.

@@ -14,6 +14,7 @@ ghost use Rattle.frontier.specs.Causes.{Leaves};
 ghost use Rattle.table_work.specs.Work.{StopsWith};
 ghost use Rattle.game_table.specs.Tables.{ArePositions, packed_length, IsWorkOf};
 ghost use Rattle.table.specs.Faults.{NeedsNoPage};
+ghost use Rattle.rbg_game.specs.declared.limits.TheConstants.{MAX_TEXT_BYTES};
 
 use crate::packings::are_packed;
 use legal_moves::{Compiled, MoveSource};
@@ -58,7 +59,7 @@ impl Source {
         ensures one { (game : TextbookGame) → Reads text.now game → IfOk result (λ source. compiled_game source ≡ game) }
         ensures fault { IfErr result (λ fault. fault ≢ GameFault.OutOfMemory → Fault text.now fault) }
         ensures only { (game : TextbookGame) → Reads text.now game → IfErr result (λ fault. fault ≡ GameFault.OutOfMemory) }
-        ensures short { OnOk result (length text.now ≤ 65536) }
+        ensures short { OnOk result (length text.now ≤ MAX_TEXT_BYTES) }
         ensures start { IfOk result (λ source. IsPositionOf (compiled_game source) (start_of (compiled_game source))) }
     {
         let game = read_game(alloc, text)?;

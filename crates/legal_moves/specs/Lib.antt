@@ -1,3 +1,9 @@
+pub use Rattle.position_pack.specs.Packings
+pub use Rattle.rbg_game.specs.Meaning
+pub use Rattle.rbg_game.specs.Positions
+pub use Rattle.rbg_game.specs.Rules
+pub use Rattle.rbg_game.specs.Sound
+pub use Rattle.rbg_game.specs.Take as RbgGameTake
 pub mod Words
 pub mod Effects
 pub mod Moves

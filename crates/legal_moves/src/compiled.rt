@@ -6,6 +6,7 @@ ghost use Rattle.rbg_game.specs.Positions.{IsPositionOf};
 ghost use Rattle.legal_moves.specs.Moves.{start_of};
 ghost use Rattle.legal_moves.specs.Searches.{IsWide};
 ghost use Rattle.legal_moves.specs.Listed.{AreMoves, IsShortestMove};
+ghost use Rattle.legal_moves.specs.declared.limits.TheConstants.{WIDEST};
 
 use crate::compile::add_table;
 use crate::copies::copied_state;
@@ -129,7 +130,7 @@ impl Compiled {
         requires at { IsPositionOf (compiled_game self.now) at.now }
         ensures exact { IfOk result (λ moves. AreMoves (compiled_game self.now) at.now moves) }
         ensures shortest { IfOk result (λ moves. All (IsShortestMove (compiled_game self.now) at.now) moves) }
-        ensures few { IfOk result (λ moves. length moves ≤ 65536) }
+        ensures few { IfOk result (λ moves. length moves ≤ WIDEST) }
         ensures wide { result ≡ Err MoveFault.TooWide → IsWide (compiled_game self.now) at.now }
         ensures narrow { IsOk result → ¬ IsWide (compiled_game self.now) at.now }
     {

@@ -10,11 +10,9 @@ ghost use Rattle.legal_moves.specs.aid.Standing.{IsSameBoard, IsSameStand};
 use crate::bucket::{board_bucket, stand_bucket};
 use crate::chains::Chains;
 use crate::fault::MoveFault;
+use crate::limits::WIDEST;
 use rbg_game::position::SemiState;
 use std::alloc::{AllocError, Global};
-
-/// How many configurations a search may have.
-pub const WIDEST: usize = 65536;
 
 /// How many boards there is room for at first.
 const ROOM: usize = 16;
@@ -139,7 +137,7 @@ impl Found {
         ensures boards { self.new.boards ≡ self.old.boards }
         ensures kept { OnOk result (AreKept self.new) }
         ensures added { OnOk result (IsStandAdded self.old.stands.items stand self.new.stands.items) }
-        ensures wide { result ≡ Err MoveFault.TooWide → 65536 ≤ length self.old.stands.items × IsNewStand self.old.stands.items stand }
+        ensures wide { result ≡ Err MoveFault.TooWide → WIDEST ≤ length self.old.stands.items × IsNewStand self.old.stands.items stand }
     {
         let bucket = stand_bucket(stand.board, stand.vertex, stand.place);
         if self.has(bucket, stand) {

@@ -12,6 +12,7 @@ pub mod fault;
 mod fields;
 mod found;
 pub mod laws;
+pub mod limits;
 mod looks;
 mod marks;
 pub mod moves;

@@ -1,8 +1,9 @@
 //! What a search that only looks has come to: it writes nothing, and so the vertex alone changes.
 ghost use Rattle.std.specs.Prelude.{◌≡◌, ◌≤◌, ◌<◌, [], ◌∷◌, length, IfOk, OnOk, Err};
+ghost use Rattle.legal_moves.specs.declared.limits.TheConstants.{WIDEST};
 
 use crate::fault::MoveFault;
-use crate::found::WIDEST;
+use crate::limits::WIDEST;
 use crate::marks::{is_marked, mark};
 use std::alloc::{AllocError, Global};
 
@@ -67,7 +68,7 @@ impl Looks {
         requires marked { AreMarked self.old.numbers self.old }
         ensures marked { OnOk result (AreMarked self.old.numbers self.new) }
         ensures added { OnOk result (IsLookAdded self.old.looks.items look self.new.looks.items) }
-        ensures wide { result ≡ Err MoveFault.TooWide → 65536 ≤ length self.old.looks.items × IsNewLook self.old.looks.items look }
+        ensures wide { result ≡ Err MoveFault.TooWide → WIDEST ≤ length self.old.looks.items × IsNewLook self.old.looks.items look }
     {
         let at = usize::from(look.vertex) * self.numbers + usize::from(look.place);
         if is_marked(&self.marks, at) {

@@ -1,6 +1,7 @@
 //! Where moves come from.
 ghost use Rattle.std.specs.Prelude.{◌≡◌, ◌≤◌, ℕ, List, Err, map, vec_len, IfOk, IsOk};
 ghost use Rattle.legal_moves.specs.Listed.{ListsExactly};
+ghost use Rattle.legal_moves.specs.declared.limits.TheConstants.{WIDEST};
 
 use crate::fault::MoveFault;
 use position_pack::Packed;
@@ -41,7 +42,7 @@ pub trait MoveSource: GameGraph {
         requires { is_sound self.now }
         ensures exact { IfOk result (λ found. ListsExactly ((Self.graph self.now).Successor at.now.items) (map
             (λ p. p.items) found.items)) }
-        ensures few { IfOk result (λ found. vec_len found ≤ 65536) }
+        ensures few { IfOk result (λ found. vec_len found ≤ WIDEST) }
         ensures wide { result ≡ Err MoveFault.TooWide → Self.is_wide self.now at.now.items }
         ensures narrow { IsOk result → ¬ Self.is_wide self.now at.now.items };
 

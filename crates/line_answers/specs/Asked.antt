@@ -6,6 +6,7 @@ use Rattle.recover.specs.Units.{units_in}
 use Rattle.line_answers.specs.declared.input.Asked.{Asked}
 use Rattle.line_answers.specs.declared.input.Asked.TheVariants.{Nothing, Work, Status, Question, Help, Quit, Usage}
 use Rattle.line_answers.specs.declared.input.Question.TheVariants.{Value, Line, List as ListFrom, Show, Find}
+use Rattle.line_answers.specs.declared.input.TheConstants.{MAX_LINE_BYTES}
 
 -- what follows a word: nothing, or a space
 abbrev pub EndsWord : List ℕ → Type 0
@@ -84,7 +85,7 @@ pub data AsksInWords (line : List ℕ) : Asked → Type 0 where
 
 -- what a line asks for, without what ends it
 abbrev pub Asks : List ℕ → Asked → Type 0
-Asks line asked = (1048576 < length line → asked ≡ Usage) × (length line ≤ 1048576 → AsksInWords line asked)
+Asks line asked = (MAX_LINE_BYTES < length line → asked ≡ Usage) × (length line ≤ MAX_LINE_BYTES → AsksInWords line asked)
 
 -- the line without the CR at its end, or as it is where there is none
 abbrev pub IsBare : List ℕ → List ℕ → Type 0

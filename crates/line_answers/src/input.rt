@@ -10,7 +10,7 @@ use recover::Units;
 use std::alloc::{AllocError, Global};
 
 /// The most bytes that a line has, without what ends it.
-const MOST_BYTES: usize = 1_048_576;
+pub const MAX_LINE_BYTES: usize = 1_048_576;
 
 /// The lines that a session takes, as its help shows them.
 pub const SESSION_LINES: &str = concat!(
@@ -49,11 +49,11 @@ impl Line {
 
     /// Puts a byte behind the line. One byte more than a line may have is kept, since it may belong to its end.
     pub fn push(&mut self, byte: u8) -> Result<(), AllocError>
-        ensures room { length self.old.bytes.items ≤ 1048576 → self.old.is_too_long ≡ false
+        ensures room { length self.old.bytes.items ≤ MAX_LINE_BYTES → self.old.is_too_long ≡ false
             → OnOk result ((self.new.bytes.items ≡ self.old.bytes.items ++ byte ∷ []) × (self.new.is_too_long ≡ false)) }
-        ensures full { 1048576 < length self.old.bytes.items → IsTrue self.new.is_too_long }
+        ensures full { MAX_LINE_BYTES < length self.old.bytes.items → IsTrue self.new.is_too_long }
     {
-        if self.bytes.len() > MOST_BYTES {
+        if self.bytes.len() > MAX_LINE_BYTES {
             self.is_too_long = true;
             return Ok(());
         }
@@ -134,7 +134,7 @@ pub enum Question<'a> {
 fn asked_by(line: &[u8]) -> Asked<'_>
     ensures { Asks line.now result }
 {
-    if line.len() > MOST_BYTES {
+    if line.len() > MAX_LINE_BYTES {
         return Asked::Usage;
     }
     let (first, rest) = next_word(line);

@@ -1,3 +1,4 @@
+pub use Rattle.sector_disk.specs.Disk
 pub mod Cache
 pub mod Causes
 pub mod Marks

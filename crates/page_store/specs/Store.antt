@@ -6,6 +6,7 @@ use Rattle.page_store.specs.declared.marks.Mark.{Mark}
 use Rattle.page_store.specs.declared.marks.Mark.TheVariants.{Committed, Waiting}
 use Rattle.page_store.specs.Marks.{mark, needs, IsNeeded, AreCommitted}
 use Rattle.page_store.specs.Page.{page, IsWithin}
+use Rattle.page_store.specs.declared.limits.TheConstants.{MAX_PAGES}
 
 -- a store of pages
 pub record Store : Type 0 where
@@ -57,7 +58,7 @@ pub record IsSafe (store : Store) : Type 0 where
 pub record IsSoundStore (store : Store) : Type 0 where
   pub least : 4 ≤ size store.disk
   pub fits : 8 * length store.marks ≤ size store.disk
-  pub few : length store.marks ≤ 1048576
+  pub few : length store.marks ≤ MAX_PAGES
   pub system : mark store.marks 0 ≡ Committed
   pub safe : IsTrue store.disk.honest → store.closed ≡ false → IsSafe store
 
@@ -110,7 +111,7 @@ pub record IsOpened (disk : Disk) (count : ℕ) (store : Store) : Type 0 where
   pub failures : count ≤ store.failures
   pub same_size : size store.disk ≡ size disk
   pub closed : store.closed ≡ false
-  pub capacity : length store.marks ≡ min (size disk / 8) 1048576
+  pub capacity : length store.marks ≡ min (size disk / 8) MAX_PAGES
   pub marks : (p : ℕ) → 1 ≤ p → p < length store.marks → mark store.marks p ≡ Waiting
   pub root : IsTrue disk.honest → HoldsRoot store.root disk.now.contents
   pub same : IsTrue disk.honest → SyncedMore disk.now store.disk.now

@@ -4,12 +4,14 @@
 mod cache;
 mod fault;
 pub mod laws;
+mod limits;
 mod marks;
 mod page;
 mod pages;
 mod store;
 
 pub use fault::PageFault;
+pub use limits::{MAX_PAGES, MIN_PAGES};
 pub use marks::Mark;
 pub use pages::Pages;
 pub use store::{MOST_CACHED, PageStore, Refused};

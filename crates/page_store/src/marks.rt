@@ -2,6 +2,7 @@
 ghost use Rattle.std.specs.Prelude.{◌≡◌, ◌≢◌, ◌≤◌, ◌<◌, ℕ, length, IfSome, IfNone};
 ghost use Rattle.page_store.specs.Marks.{mark as mark_of, turned as turned_of, keeps, let_go as let_go_of, free_one as free_one_of, Turned};
 ghost use Rattle.page_store.specs.Marks.{IsMarked, free_count};
+ghost use Rattle.page_store.specs.declared.limits.TheConstants.{MAX_PAGES};
 
 /// What a page is used for.
 #[derive(Clone, Copy, Debug, PartialEq, Eq)]
@@ -81,7 +82,7 @@ pub fn put_mark(marks: &mut Vec<Mark>, page: u32, now: Mark)
 
 /// The first free page from there on.
 fn find_free(marks: &[Mark], from: u32) -> Option<u32>
-    requires { length marks.now ≤ 1048576 }
+    requires { length marks.now ≤ MAX_PAGES }
     ensures free { IfSome result (λ page. mark_of marks.now page ≡ Mark.Free) }
     ensures none { IfNone result ((page : ℕ) → from ≤ page → page < length marks.now → mark_of marks.now page ≢ Mark.Free) }
 {
@@ -95,7 +96,7 @@ fn find_free(marks: &[Mark], from: u32) -> Option<u32>
 
 /// A free page: the first from there on, or else the first of all.
 pub fn find_any(marks: &[Mark], from: u32) -> Option<u32>
-    requires { length marks.now ≤ 1048576 }
+    requires { length marks.now ≤ MAX_PAGES }
     ensures free { IfSome result (λ page. mark_of marks.now page ≡ Mark.Free) }
     ensures none { IfNone result (free_count marks.now ≡ 0) }
 {
@@ -107,7 +108,7 @@ pub fn find_any(marks: &[Mark], from: u32) -> Option<u32>
 
 /// How many pages are free.
 pub fn count_free(marks: &[Mark]) -> u32
-    requires { length marks.now ≤ 1048576 }
+    requires { length marks.now ≤ MAX_PAGES }
     ensures { result ≡ free_count marks.now }
 {
     let mut count = 0;

@@ -7,15 +7,13 @@ ghost use Rattle.page_store.specs.Marks.{mark as mark_of};
 ghost use Rattle.page_store.specs.Store.{store_of, IsSoundStore, IsOpened, IsRefusedStore};
 
 use crate::cache::PageCache;
+use crate::limits::MAX_PAGES;
 use crate::marks::{count_free, find_any, is_kept, let_go, put_mark, turn};
 use crate::page::{get_page, put_page};
 use crate::{Mark, PageFault, Pages};
 use root_pair::{Root, RootFault, publish};
 use sector_disk::SectorDisk;
 use std::alloc::{AllocError, Global};
-
-/// The most pages that a store has, the system page counted.
-const MOST_PAGES: u64 = 1_048_576;
 
 /// The most pages that a cache holds.
 pub const MOST_CACHED: usize = 64;
@@ -79,7 +77,7 @@ impl<D: SectorDisk> PageStore<D> {
                 });
             }
         };
-        let capacity = (disk.sectors() / 8).min(MOST_PAGES);
+        let capacity = (disk.sectors() / 8).min(u64::from(MAX_PAGES));
         match (unmarked(alloc, capacity), PageCache::new(alloc, pages)) {
             (Ok(marks), Ok(cache)) => Ok(PageStore {
                 disk,
@@ -108,7 +106,7 @@ impl<D: SectorDisk> PageStore<D> {
 
 /// The system page, and pages that wait to be marked.
 fn unmarked(alloc: Global, capacity: u64) -> Result<Vec<Mark>, AllocError>
-    requires { capacity ≤ 1048576 }
+    requires { capacity ≤ MAX_PAGES }
     ensures length { IfOk result (λ marks. length marks.items ≡ capacity) }
     ensures system { IfOk result (λ marks. mark_of marks.items 0 ≡ Committed) }
     ensures others { IfOk result (λ marks. (p : ℕ) → 1 ≤ p → p < length marks.items → mark_of marks.items p ≡ Waiting) }

@@ -1,3 +1,9 @@
+pub use Rattle.rbg_game.specs.Games
+pub use Rattle.rbg_game.specs.Meaning
+pub use Rattle.rbg_game.specs.Names
+pub use Rattle.rbg_game.specs.Positions
+pub use Rattle.rbg_game.specs.Rules
+pub use Rattle.rbg_game.specs.Sound
 pub mod Shape
 pub mod Fields
 pub mod Bytes

@@ -1,7 +1,8 @@
 -- The ranges of a position's fields.
-use Rattle.std.specs.Prelude.{◌≡◌, ℕ, ◌≤◌, ◌<◌, List, length, map, All, EachIndex, slice_index}
+use Rattle.std.specs.Prelude.{◌≡◌, ℕ, ◌+◌, ◌≤◌, ◌<◌, List, length, map, All, EachIndex, slice_index}
 use Rattle.rbg_game.specs.Rules.{count}
 use Rattle.rbg_game.specs.Games.{Game}
+use Rattle.rbg_game.specs.declared.limits.TheConstants.{MAX_VERTICES, MAX_PIECES, MAX_VARIABLES, MAX_ACTIONS, MAX_NUMBER}
 use Rattle.rbg_game.specs.declared.position.Position.{Position}
 
 -- how many pieces and vertices there are, the bounds of the values, and the greatest place
@@ -20,13 +21,13 @@ shape_of game = record {
   actions = count game.rules;
 }
 
--- at most 64 pieces, 128 vertices and 34 values, no value over 1,000,000, and no place over 4,096
+-- no more pieces, vertices, values (those of the two players among them) and places than a game may have, and no value over the greatest number
 pub record IsSmall (shape : Shape) : Type 0 where
-  pub few_pieces : shape.pieces ≤ 64
-  pub few_vertices : shape.vertices ≤ 128
-  pub few_values : length shape.bounds ≤ 34
-  pub few_actions : shape.actions ≤ 4096
-  pub low_bounds : EachIndex shape.bounds (λ v. slice_index shape.bounds v ≤ 1000000)
+  pub few_pieces : shape.pieces ≤ MAX_PIECES
+  pub few_vertices : shape.vertices ≤ MAX_VERTICES
+  pub few_values : length shape.bounds ≤ 2 + MAX_VARIABLES
+  pub few_actions : shape.actions ≤ MAX_ACTIONS
+  pub low_bounds : EachIndex shape.bounds (λ v. slice_index shape.bounds v ≤ MAX_NUMBER)
 
 -- a piece for each vertex, a value for each bound, and each field in its range
 pub record Fits (shape : Shape) (at : Position) : Type 0 where

@@ -14,6 +14,7 @@ use crate::fields::{
     Fields, bits_in, fields_of, greatest_of, position_of, put_fields, take_fields, width_of,
 };
 use crate::kind::PackingKind;
+use crate::limits::MAX_PACKED;
 use crate::parts::{all_below, put_bytes, put_values, role_byte, role_of, values_of, vector_of};
 use crate::reader::number_at;
 use arrayvec::ArrayVec;
@@ -23,7 +24,7 @@ use rbg_game::position::{Position, SemiState};
 use std::marker::Model;
 
 /// The bytes of a position: at most 234 by the limits of a game.
-pub type Packed = ArrayVec<u8, 240>;
+pub type Packed = ArrayVec<u8, MAX_PACKED>;
 
 /// How the positions of a game are packed. By bytes each piece has one, each value three, the
 /// vertex and the role one each and the place two, the highest byte of a number first. By bits each

@@ -11,7 +11,7 @@ use Rattle.legal_moves.specs.Moves.{HasNoMove, start_of}
 use Rattle.legal_moves.specs.Listed.{ShownMove, AreMoves, IsShownMove, IsShortestMove}
 use Rattle.position_pack.specs.Bytes.{bytes_of}
 use Rattle.printed_lines.specs.aid.Lines.{HasPosition, SaysMoves}
-use Rattle.printed_lines.specs.Answers.{status_of, refusal_line, IsListing, IsRefused, IsAnswer}
+use Rattle.printed_lines.specs.Answers.{status_of, refusal_line, IsListing, IsRefused, IsMovesAnswer}
 use Rattle.printed_lines.specs.aid.Stops.{IsStoppedLine, IsStopped}
 use Rattle.printed_lines.specs.declared.moves.Stop.{Stop}
 use Rattle.printed_lines.specs.declared.moves.Stop.TheVariants as stop
@@ -29,10 +29,10 @@ no_moves game at moves are none next successor =
     let there = subst (λ ms. Contains (map (λ m. m.next) ms) (bytes_of next)) none (are.successors.all (bytes_of next) (next, refl, successor)) in
     absurd (omega (arith, there.1))
 
-pub answer_of : (text : Text) (game : Game) (moves : List ShownMove) (written : List ℕ) → IsListing text game moves → SaysMoves game moves written → IsAnswer text 0 written
+pub answer_of : (text : Text) (game : Game) (moves : List ShownMove) (written : List ℕ) → IsListing text game moves → SaysMoves game moves written → IsMovesAnswer text 0 written
 answer_of text game moves written listing says = elim says [
-  | inl none ↦ subst (IsAnswer text 0) (sym none.1) (IsAnswer.ended game listing.reads (no_moves game (start_of game) moves listing.moves_are none.0))
-  | inr some ↦ IsAnswer.listed game moves written listing some.0 some.1
+  | inl none ↦ subst (IsMovesAnswer text 0) (sym none.1) (IsMovesAnswer.ended game listing.reads (no_moves game (start_of game) moves listing.moves_are none.0))
+  | inr some ↦ IsMovesAnswer.listed game moves written listing some.0 some.1
 ]
 
 pub listing_of : (text : Text) (game read : Game) (at : Position) (moves : List ShownMove) → game ≡ read → at ≡ start_of game → Reads text read → AreMoves game at moves → All (IsShortestMove game at) moves → IsListing text game moves
@@ -52,8 +52,8 @@ stopped_of text game moves Written (Err stop.Output) listing h = tt
 stopped_of text game moves Written (Err (stop.Refused why)) listing h =
     (h.1.1, subst (λ w. IsRefused text w h.1.1) (sym h.0) (inr (game, moves, h.1.0, listing, h.1.2)), h.1.3)
 
-pub refusal_of : (text : Text) (why : Refused) (lines : List ℕ) (status : ℕ) → IsRefused text why lines → status ≡ status_of why → IsAnswer text status (lines ++ refusal_line why)
-refusal_of text why lines status is e = subst (λ n. IsAnswer text n (lines ++ refusal_line why)) (sym e) (IsAnswer.refused why lines is)
+pub refusal_of : (text : Text) (why : Refused) (lines : List ℕ) (status : ℕ) → IsRefused text why lines → status ≡ status_of why → IsMovesAnswer text status (lines ++ refusal_line why)
+refusal_of text why lines status is e = subst (λ n. IsMovesAnswer text n (lines ++ refusal_line why)) (sym e) (IsMovesAnswer.refused why lines is)
 
 pub nothing_left : {X : Type 0} (xs : List X) → length xs ≡ 0 → xs ≡ []
 nothing_left [] e = refl

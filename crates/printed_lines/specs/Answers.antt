@@ -54,8 +54,8 @@ IsRefused text (GameRefused fault) lines = (lines ≡ []) × Fault text fault
 IsRefused text TooWide lines = (lines ≡ []) × ((game : Game) × Reads text game × IsWide game (start_of game))
 
 -- the status and what is written: the lines of the moves; `ended` where there is none; or why not
-pub data IsAnswer (text : Text) : ℕ → List ℕ → Type 0 where
+pub data IsMovesAnswer (text : Text) : ℕ → List ℕ → Type 0 where
   listed : (game : Game) (moves : List ShownMove) (lines : List ℕ) → IsListing text game moves → moves ≢ [] → AreLines game moves lines
-      → IsAnswer text 0 lines
-  ended : (game : Game) → Reads text game → HasNoMove game (start_of game) → IsAnswer text 0 (codes "ended" ++ 10 ∷ [])
-  refused : (why : Refused) (lines : List ℕ) → IsRefused text why lines → IsAnswer text (status_of why) (lines ++ refusal_line why)
+      → IsMovesAnswer text 0 lines
+  ended : (game : Game) → Reads text game → HasNoMove game (start_of game) → IsMovesAnswer text 0 (codes "ended" ++ 10 ∷ [])
+  refused : (why : Refused) (lines : List ℕ) → IsRefused text why lines → IsMovesAnswer text (status_of why) (lines ++ refusal_line why)

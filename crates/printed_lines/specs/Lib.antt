@@ -1,3 +1,8 @@
+pub use Rattle.legal_moves.specs.Compiled
+pub use Rattle.position_pack.specs.Texts
+pub use Rattle.rbg_game.specs.Meaning
+pub use Rattle.rbg_game.specs.Positions
+pub use Rattle.rbg_game.specs.Sound
 pub mod Lines
 pub mod Answers
 pub mod Replies

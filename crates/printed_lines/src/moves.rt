@@ -5,7 +5,7 @@ ghost use Rattle.std.specs.Io.KnownBytes.{Appends};
 ghost use Rattle.legal_moves.specs.Compiled.{compiled_game, IsSoundCompiled};
 ghost use Rattle.printed_lines.specs.Lines.{IsLine, AreLines};
 ghost use Rattle.printed_lines.specs.aid.Lines.{HasPosition, SaysMoves};
-ghost use Rattle.printed_lines.specs.Answers.{status_of, refusal_line, IsAnswer};
+ghost use Rattle.printed_lines.specs.Answers.{status_of, refusal_line, IsMovesAnswer};
 ghost use Rattle.printed_lines.specs.aid.Stops.{IsStoppedLine, IsStopped};
 
 use crate::lines::move_line;
@@ -53,7 +53,7 @@ impl From<AllocError> for Stop {
 /// there is none; or `refused` and a code. Gives the exit status, which is 4 where the output failed.
 pub fn moves_to<W: Write>(alloc: Global, text: &[u8], out: &mut W) -> u8
     ensures { (result ≡ 4)
-        ⊎ ((written : List ℕ) × IsAnswer text.now result written × Appends (W.contents out.old) (W.contents out.new) written) }
+        ⊎ ((written : List ℕ) × IsMovesAnswer text.now result written × Appends (W.contents out.old) (W.contents out.new) written) }
 {
     match write_moves(alloc, text, out) {
         Ok(()) => 0,
@@ -83,7 +83,7 @@ fn put_refusal<W: Write>(refused: Refused, out: &mut W) -> io::Result<()>
 }
 
 fn write_moves<W: Write>(alloc: Global, text: &[u8], out: &mut W) -> Result<(), Stop>
-    ensures ok { OnOk result ((written : List ℕ) × IsAnswer text.now 0 written
+    ensures ok { OnOk result ((written : List ℕ) × IsMovesAnswer text.now 0 written
         × Appends (W.contents out.old) (W.contents out.new) written) }
     ensures stopped { IfErr result (IsStopped text.now (Appends (W.contents out.old) (W.contents out.new))) }
 {

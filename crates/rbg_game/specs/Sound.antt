@@ -3,6 +3,7 @@ use Rattle.std.specs.Prelude.{ℕ, ◌+◌, ◌≤◌, ◌<◌, ⊤, List, lengt
 use Rattle.rbg_game.specs.Expressions.{Expression, HasSmallParts, NamesBelow}
 use Rattle.rbg_game.specs.Rules.{Regex, one, empty, cat, alt, star, Action, shift, on, off, assignment, comparison, switch, pattern}
 use Rattle.rbg_game.specs.Games.{Game, Vertex, Arrow}
+use Rattle.rbg_game.specs.declared.limits.TheConstants.{MAX_VERTICES, MAX_LABELS, MAX_PIECES, MAX_VARIABLES, MAX_ACTIONS, MAX_NUMBER}
 
 -- how many actions an expression has, those in patterns counted too
 abbrev mutual
@@ -67,14 +68,14 @@ abbrev pub IsSoundVertex : Game → Vertex → Type 0
 IsSoundVertex game v = (v.piece < length game.pieces) × All (IsSoundArrow game) v.arrows
 
 pub record IsSoundGame (game : Game) : Type 0 where
-  -- two players, and at most 32 variables
+  -- two players, and no more variables beside theirs than there may be
   pub has_players : 2 ≤ length game.variables
-  pub few_variables : length game.variables ≤ 34
-  pub bounds_fit : All (λ v. v.bound ≤ 1000000) game.variables
-  pub few_pieces : length game.pieces ≤ 64
-  pub few_labels : length game.labels ≤ 64
+  pub few_variables : length game.variables ≤ 2 + MAX_VARIABLES
+  pub bounds_fit : All (λ v. v.bound ≤ MAX_NUMBER) game.variables
+  pub few_pieces : length game.pieces ≤ MAX_PIECES
+  pub few_labels : length game.labels ≤ MAX_LABELS
   pub has_vertex : 1 ≤ length game.vertices
-  pub few_vertices : length game.vertices ≤ 128
+  pub few_vertices : length game.vertices ≤ MAX_VERTICES
   pub vertices_are : All (IsSoundVertex game) game.vertices
-  pub few_actions : whole_count game.rules ≤ 4096
+  pub few_actions : whole_count game.rules ≤ MAX_ACTIONS
   pub rules_are : IsSoundRegex game game.rules

@@ -17,7 +17,7 @@ use Rattle.rbg_game.specs.Games.{Game}
 use Rattle.rbg_game.specs.Sound.{IsSoundArrow, IsSoundVertex, IsSoundGame}
 use Rattle.rbg_read.specs.Means.{decimal, first_appearances, Names, names_of, values_of, players_of, pieces_of, variables_of, vertices_of, rules_of, sum_rules, declared, arrow, vertex, Means}
 use Rattle.rbg_text.specs.Said.{further_vertex}
-use Rattle.rbg_read.specs.Causes.{max_number, actions_in, expressions_of, all_actions, is_board, has_wrong_sections, has_not_two_players, is_unknown, action_uses_unknown, vertex_uses_unknown, has_unknown_name, has_repeated_name, is_too_large, has_large_number, action_count, passes_a_limit, bounds_of, is_large, has_large_expression, has_switch_inside, has_switch_in_pattern, first_cause}
+use Rattle.rbg_read.specs.Causes.{actions_in, expressions_of, all_actions, is_board, has_wrong_sections, has_not_two_players, is_unknown, action_uses_unknown, vertex_uses_unknown, has_unknown_name, has_repeated_name, is_too_large, has_large_number, action_count, passes_a_limit, bounds_of, is_large, has_large_expression, has_switch_inside, has_switch_in_pattern, first_cause}
 use Rattle.rbg_read.specs.Reading.{Reads, reads}
 use Rattle.rbg_read.specs.declared.fault.GameFault.{GameFault}
 use Rattle.rbg_read.proofs.SmallExpressions.{index_below, none_parts}
@@ -107,7 +107,7 @@ limits_are [] = refl
 limits_are (d ∷ ds) = ap (λ ns. decimal d.bound ∷ ns) (limits_are ds)
 
 numbers_fit : (ds : List Declaration) → list_any (λ d. is_too_large d.bound) ds ≡ false → All (λ d. decimal d.bound ≤ 1000000) ds
-numbers_fit ds h = all_from (λ d. is_too_large d.bound) (λ d. decimal d.bound ≤ 1000000) (λ d k. ltb-false max_number (decimal d.bound) k) ds h
+numbers_fit ds h = all_from (λ d. is_too_large d.bound) (λ d. decimal d.bound ≤ 1000000) (λ d k. ltb-false 1000000 (decimal d.bound) k) ds h
 
 -- ---- actions
 

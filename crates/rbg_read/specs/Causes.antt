@@ -3,6 +3,7 @@ use Rattle.std.specs.Prelude.{ℕ, ◌+◌, ◌*◌, Bool, true, false, not, ◌
 use Rattle.std.specs.Prelude.{length, map, sum_by, count_by, slice_index, Option, Some, None}
 use Rattle.std.specs.List.{flat_map, list_any}
 use Rattle.std.specs.Str.{bytes_eq}
+use Rattle.rbg_game.specs.declared.limits.TheConstants.{MAX_VERTICES, MAX_LABELS, MAX_PIECES, MAX_VARIABLES, MAX_ACTIONS, MAX_NUMBER}
 use Rattle.rbg_text.specs.Token.{Text}
 use Rattle.rbg_text.specs.Syntax as syntax
 use Rattle.rbg_text.specs.Syntax.{Tokens, Declaration, Section, Base, Expr}
@@ -11,14 +12,6 @@ use Rattle.rbg_read.specs.declared.fault.GameFault.{GameFault}
 use Rattle.rbg_read.specs.declared.fault.GameFault.TheVariants as cause
 
 -- ---- limits
-
--- the most bytes of a text
-abbrev pub max_bytes : ℕ
-max_bytes = 65536
-
--- the greatest bound and the greatest number
-abbrev pub max_number : ℕ
-max_number = 1000000
 
 -- the greatest size of an expression, 2^62
 abbrev pub max_size : ℕ
@@ -187,7 +180,7 @@ has_repeated_name all =
 
 -- the digits spell a number over the limit
 abbrev pub is_too_large : Text → Bool
-is_too_large digits = nat_lt max_number (decimal digits)
+is_too_large digits = nat_lt MAX_NUMBER (decimal digits)
 
 -- a bound or a number is over the limit
 abbrev pub has_large_number : List Section → Bool
@@ -206,8 +199,8 @@ action_count _ = 1
 abbrev pub passes_a_limit : List Section → Bool
 passes_a_limit all =
     let names = names_of all in
-    nat_lt 128 (length names.vertices) || nat_lt 64 (length names.labels) || nat_lt 64 (length names.pieces)
-    || nat_lt 32 (length names.variables) || nat_lt 4096 (sum_by action_count (all_actions all))
+    nat_lt MAX_VERTICES (length names.vertices) || nat_lt MAX_LABELS (length names.labels) || nat_lt MAX_PIECES (length names.pieces)
+    || nat_lt MAX_VARIABLES (length names.variables) || nat_lt MAX_ACTIONS (sum_by action_count (all_actions all))
 
 -- ---- G8: no expression can become too large
 

@@ -1,3 +1,14 @@
+pub use Rattle.rbg_game.specs.Depth
+pub use Rattle.rbg_game.specs.Expressions
+pub use Rattle.rbg_game.specs.Games
+pub use Rattle.rbg_game.specs.Meaning
+pub use Rattle.rbg_game.specs.Names
+pub use Rattle.rbg_game.specs.Rules
+pub use Rattle.rbg_game.specs.Sound
+pub use Rattle.rbg_game.specs.Take
+pub use Rattle.rbg_text.specs.Said
+pub use Rattle.rbg_text.specs.Token
+pub use Rattle.rbg_text.specs.View
 pub mod Causes
 pub mod Codes
 pub mod Example

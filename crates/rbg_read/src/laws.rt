@@ -2,6 +2,7 @@
 
 ghost use Rattle.std.specs.Prelude.{◌≡◌, ◌≤◌, ◌⊎◌};
 ghost use Rattle.rbg_game.specs.Rules.{count};
+ghost use Rattle.rbg_game.specs.declared.limits.TheConstants.{MAX_ACTIONS};
 ghost use Rattle.rbg_text.specs.Token.{Text};
 ghost use Rattle.rbg_game.specs.Games.{Game};
 ghost use Rattle.rbg_read.specs.Reading.{Reads, Fault};
@@ -19,7 +20,7 @@ pub fn what_is_read_is_sound()
 
 /// The numbers of the actions of a sound game are within the limit.
 pub fn sound_games_are_numbered()
-    ensures { (game : Game) → IsSoundGame game → count game.rules ≤ 4096 }
+    ensures { (game : Game) → IsSoundGame game → count game.rules ≤ MAX_ACTIONS }
 {}
 
 /// The text of the small game reads to it.

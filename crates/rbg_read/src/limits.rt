@@ -11,20 +11,10 @@ ghost use Rattle.rbg_read.specs.aid.Parts.{known_view, parts_view};
 use crate::names::Names;
 use crate::numbers::{is_too_large, number};
 use crate::parts::Parts;
+use rbg_game::limits::{MAX_ACTIONS, MAX_LABELS, MAX_PIECES, MAX_VARIABLES, MAX_VERTICES};
 use rbg_text::parser::Step;
 use rbg_text::sections::Declaration;
 use std::alloc::{AllocError, Global};
-
-const MAX_VERTICES: usize = 128;
-
-const MAX_LABELS: usize = 64;
-
-const MAX_PIECES: usize = 64;
-
-/// Beside the two players.
-const MAX_VARIABLES: usize = 32;
-
-const MAX_ACTIONS: usize = 4096;
 
 fn has_large_bound(declarations: &[Declaration]) -> bool
     ensures { result ≡ list_any (λ d. spec.has_large_bound (declaration_view d)) declarations.now }

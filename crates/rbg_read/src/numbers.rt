@@ -1,15 +1,14 @@
 //! Numbers as digits.
 
-ghost use Rattle.std.specs.Prelude.{◌≡◌, min};
+ghost use Rattle.std.specs.Prelude.{◌≡◌, ◌+◌, min};
 ghost use Rattle.rbg_read.specs.Means.{decimal};
 ghost use Rattle.rbg_read.specs.Causes.{is_too_large};
 
-/// The greatest number and the greatest bound.
-pub const MAX_NUMBER: u32 = 1_000_000;
+use rbg_game::limits::MAX_NUMBER;
 
 /// The number that the digits spell, or one over the limit where it is over it.
 pub fn number(digits: &[u8]) -> u32
-    ensures { result ≡ min (decimal digits.now) 1000001 }
+    ensures { result ≡ min (decimal digits.now) (MAX_NUMBER + 1) }
 {
     let mut number: u32 = 0;
     for digit in digits {

@@ -4,10 +4,6 @@ use Rattle.rbg_text.specs.Token.{Token}
 use Rattle.rbg_text.specs.Syntax.{Tokens}
 use Rattle.rbg_text.specs.declared.token.Sign.TheVariants.{OpenParen, CloseParen, OpenBracket, CloseBracket, OpenBrace, CloseBrace}
 
--- the greatest nesting of a text
-abbrev pub max_nesting : ℕ
-max_nesting = 64
-
 -- an opening bracket
 abbrev pub opens : Token → Bool
 opens (Token.sign OpenParen) = true

@@ -2,7 +2,8 @@
 
 ghost use Rattle.std.specs.Prelude.{◌≡◌, ◌≤◌, List, Err, IfOk, map, length};
 ghost use Rattle.rbg_text.specs.Syntax as grammar;
-ghost use Rattle.rbg_text.specs.NestingCount.{nesting, max_nesting};
+ghost use Rattle.rbg_game.specs.declared.limits.TheConstants.{MAX_NESTING};
+ghost use Rattle.rbg_text.specs.NestingCount.{nesting};
 ghost use Rattle.rbg_text.specs.Said.{said_of, section_view};
 ghost use Rattle.rbg_text.specs.View.{token_view};
 
@@ -17,7 +18,7 @@ use std::alloc::Global;
 pub fn read_sections<'a>(alloc: Global, tokens: &[Token<'a>]) -> Result<Vec<Section<'a>>, ReadError>
     ensures found { IfOk result (λ sections. (all : List grammar.Section) × (map token_view tokens.now ≡ grammar.text all)
         × (map section_view sections.items ≡ map said_of all)) }
-    ensures none { result ≡ Err ReadError.Syntax → nesting (map token_view tokens.now) ≤ max_nesting
+    ensures none { result ≡ Err ReadError.Syntax → nesting (map token_view tokens.now) ≤ MAX_NESTING
         → (all : List grammar.Section) → ¬ (map token_view tokens.now ≡ grammar.text all) }
 {
     let mut parser = Parser::new(alloc, tokens);

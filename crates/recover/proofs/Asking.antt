@@ -25,7 +25,7 @@ use Rattle.best_line.specs.declared.fault.LineFault.TheVariants as line
 use Rattle.game_file.specs.Causes.{FileTableCause}
 use Rattle.game_file.specs.Kept.{Kept}
 use Rattle.game_file.specs.State.{State}
-use Rattle.audit.specs.Answers.{IsAnswer, IsSo}
+use Rattle.audit.specs.Answers.{IsAnswer, IsTableSo}
 use Rattle.audit.specs.Causes.{HasWide}
 use Rattle.audit.specs.Causes as audit_causes
 use Rattle.audit.specs.declared.fault.AuditFault.{AuditFault}
@@ -127,10 +127,10 @@ module _ (k : Kept) (stored : Stored (List ℕ)) (same : stored ≡ k.table) (fi
         (subst (λ (t : Stored (List ℕ)). IsAnswer (graph_of (packing_kind compiled) (compiled_game compiled)) (IsWideAt (packing_kind compiled) (compiled_game compiled)) t verdict) same (found its_table))
 
     -- so is what a right table says
-    pub so_found : (IsTable stored → IsSo (graph_of (packing_kind compiled) (compiled_game compiled)) (view_of stored)) → IsSoInGame k
+    pub so_found : (IsTable stored → IsTableSo (graph_of (packing_kind compiled) (compiled_game compiled)) (view_of stored)) → IsSoInGame k
     so_found found = λ game read.
-        of_any compiled k made (λ p g. IsSo (graph_of p g) (view_of k.table)) game read
-        (subst (λ (t : Stored (List ℕ)). IsSo (graph_of (packing_kind compiled) (compiled_game compiled)) (view_of t)) same (found its_table))
+        of_any compiled k made (λ p g. IsTableSo (graph_of p g) (view_of k.table)) game read
+        (subst (λ (t : Stored (List ℕ)). IsTableSo (graph_of (packing_kind compiled) (compiled_game compiled)) (view_of t)) same (found its_table))
 
     -- and that some expanded position is too wide
     pub wide_found : HasWide (IsWideAt (packing_kind compiled) (compiled_game compiled)) stored → HasWidePosition k

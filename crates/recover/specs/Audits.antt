@@ -3,7 +3,7 @@ use Rattle.std.specs.Prelude.{List, ℕ}
 use Rattle.rbg_game.specs.Games.{Game}
 use Rattle.rbg_read.specs.Reading.{Reads}
 use Rattle.retrograde.specs.Stored.{view_of}
-use Rattle.audit.specs.Answers.{IsAnswer, IsSo}
+use Rattle.audit.specs.Answers.{IsAnswer, IsTableSo}
 use Rattle.audit.specs.Causes.{HasWide}
 use Rattle.audit.specs.declared.verdict.Verdict.{Verdict}
 use Rattle.game_file.specs.Kept.{Kept}
@@ -20,7 +20,7 @@ HasVerdict verdict kept = (game : Game) → Reads kept.text game → IsAnswer (g
 -- what the table says is so in that game: each settled position is won by the named player in exactly the named number of moves, and
 -- where it is finished, its positions are those that play can come to, and the unsettled ones are the drawn
 abbrev pub IsSoInGame : Kept → Type 0
-IsSoInGame kept = (game : Game) → Reads kept.text game → IsSo (graph_in game kept) (view_of kept.table)
+IsSoInGame kept = (game : Game) → Reads kept.text game → IsTableSo (graph_in game kept) (view_of kept.table)
 
 -- some expanded position is too wide
 abbrev pub HasWidePosition : Kept → Type 0

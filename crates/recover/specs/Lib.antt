@@ -1,3 +1,18 @@
+pub use Rattle.best_line.specs.Laws
+pub use Rattle.best_line.specs.Values as BestLineValues
+pub use Rattle.game_file.specs.Calls
+pub use Rattle.game_file.specs.Kept
+pub use Rattle.game_file.specs.State as GameFileState
+pub use Rattle.game_file.specs.Stops as GameFileStops
+pub use Rattle.rbg_game.specs.Games
+pub use Rattle.rbg_game.specs.Meaning
+pub use Rattle.rbg_read.specs.Reading
+pub use Rattle.retrograde.specs.Changes
+pub use Rattle.retrograde.specs.Graph
+pub use Rattle.retrograde.specs.Stored
+pub use Rattle.retrograde.specs.Values as RetrogradeValues
+pub use Rattle.retrograde.specs.View
+pub use Rattle.sector_disk.specs.Disk
 pub mod Audits
 pub mod Faults
 pub mod Units

@@ -5,6 +5,7 @@ use Rattle.sector_disk.specs.Disk.{Picture}
 use Rattle.position_pack.specs.declared.kind.PackingKind.{PackingKind}
 use Rattle.position_pack.specs.declared.kind.PackingKind.TheVariants.{Bytes, Bits}
 use Rattle.table_bytes.specs.declared.sizes.Sizes.{Sizes}
+use Rattle.page_store.specs.declared.limits.TheConstants.{MAX_PAGES}
 
 -- the number in the four bytes from there on
 abbrev pub word_at : List ℕ → ℕ → ℕ
@@ -54,4 +55,4 @@ AreZero from to root = (k : ℕ) → from ≤ k → k < to → slice_index root 
 
 -- so many pages are used of a picture: those that it has room for, 1,048,576 at most
 abbrev pub capacity_of : Picture → ℕ
-capacity_of picture = min (length picture / 8) 1048576
+capacity_of picture = min (length picture / 8) MAX_PAGES

@@ -4,17 +4,11 @@ ghost use Rattle.table_bytes.specs.Numbers.{AreWithinLimits};
 ghost use Rattle.root_slot.specs.Fields.{word_at as word_in, long_at as long_in, sizes_in as sizes_of, AreZero};
 
 use byteorder::{BigEndian, ByteOrder};
+use position_pack::MAX_PACKED;
+use rbg_game::limits::MAX_TEXT_BYTES;
 use retrograde::Counts;
+use table::MAX_POSITIONS;
 use table_bytes::Sizes;
-
-/// The most bytes that a game text has.
-const MOST_TEXT: u32 = 65_536;
-
-/// The most bytes that a packed position has.
-const MOST_PACKED: u32 = 240;
-
-/// The most positions that a table knows.
-const MOST_KNOWN: u32 = 16_777_216;
 
 /// The number in the four bytes from there on.
 pub fn word_at(root: &[u8; 512], at: usize) -> u32
@@ -76,9 +70,9 @@ pub fn are_within_limits(sizes: &Sizes) -> bool
     ensures { (result ≡ true) ↔ AreWithinLimits sizes.now }
 {
     let counts = sizes.counts;
-    sizes.text <= MOST_TEXT
-        && sizes.packed <= MOST_PACKED
-        && (1..=MOST_KNOWN).contains(&counts.known)
+    sizes.text <= MAX_TEXT_BYTES as u32
+        && sizes.packed <= MAX_PACKED as u32
+        && (1..=MAX_POSITIONS).contains(&counts.known)
         && counts.expanded <= counts.known
         && counts.settled <= counts.expanded
         && counts.processed <= counts.settled

@@ -1,6 +1,7 @@
 //! Why a text is no game, for people: where the fault is, and what was met there.
 
 use crate::mentions::{Kind, Mention, Placed, Walk, Within, is_sign, mentions, scan};
+use rbg_game::limits::{MAX_NESTING, MAX_TEXT_BYTES};
 use rbg_read::fault::GameFault;
 use rbg_text::read::tokens_read;
 use rbg_text::token::{Sign, Token};
@@ -19,10 +20,6 @@ pub struct LineColumn {
     pub line: usize,
     pub column: usize,
 }
-
-const MAX_BYTES: usize = 65_536;
-
-const MAX_NESTING: usize = 64;
 
 /// The line and the column of a byte.
 pub fn line_column(text: &[u8], at: usize) -> LineColumn {
@@ -44,8 +41,12 @@ pub fn explain(alloc: Global, text: &[u8], fault: GameFault) -> Result<Explanati
     if fault == GameFault::OutOfMemory {
         return said(alloc, 0, "memory ran out");
     }
-    if text.len() > MAX_BYTES {
-        return said(alloc, MAX_BYTES, "the text is longer than 65,536 bytes");
+    if text.len() > MAX_TEXT_BYTES {
+        return said(
+            alloc,
+            MAX_TEXT_BYTES,
+            "the text is longer than 65,536 bytes",
+        );
     }
     let scanned = scan(alloc, text)?;
     if let Some(at) = scanned.stray {

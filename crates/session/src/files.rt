@@ -4,6 +4,7 @@ use crate::commands::{FileCommand, Outcome, command_on};
 use crate::line_by_line::session_over;
 use crate::program::{read_start, status_of_refused, tell, tell_game_fault};
 use line_answers::advice::advice;
+use page_store::MIN_PAGES;
 use printed_lines::refused::Refused;
 use rbg_read::read::read_game;
 use recover::SolverFault;
@@ -29,9 +30,6 @@ impl From<io::Error> for Unopened {
     }
 }
 
-/// The fewest pages that a table has.
-const LEAST_PAGES: u32 = 16;
-
 /// The bytes of a page.
 const PAGE: u64 = 4_096;
 
@@ -52,7 +50,7 @@ pub fn create_file(rt: &HostRuntime, alloc: Global, name: &str, pages: u32) -> u
         Err(Unopened::Failed(error)) if error.kind() == ErrorKind::NotFound => None,
         Err(why) => return refused_opening(rt, name, why),
     };
-    if pages < LEAST_PAGES {
+    if pages < MIN_PAGES {
         return refused_for(rt, name, Refused::TooSmall, SolverFault::TooSmall);
     }
     let (file, is_new) = match found {

@@ -6,6 +6,7 @@ use crate::streams::Streams;
 use crate::words::{Refusal, Words, words_of};
 use printed_lines::moves::moves_to;
 use printed_lines::refused::Refused;
+use rbg_game::limits::MAX_TEXT_BYTES;
 use rbg_read::fault::GameFault;
 use rbg_read::read::read_game;
 use std::alloc::Global;
@@ -15,7 +16,7 @@ use std::io::{self, BufWriter, Read};
 
 /// As many bytes as are read of a game text: one more than the limit, so that a longer text is seen
 /// to be too long.
-const READ_LIMIT: u64 = 65_537;
+const READ_LIMIT: u64 = MAX_TEXT_BYTES as u64 + 1;
 
 /// Does what the command line says, and gives the exit status. Nothing that it opens gets the descriptor of a standard stream, also where
 /// the program was started with one of them closed.

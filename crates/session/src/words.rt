@@ -5,6 +5,7 @@ ghost use Rattle.session.specs.Statuses.{IsStatusOfWords};
 use clap::builder::ValueParser;
 use clap::{Arg, ArgAction, ArgMatches, Command, Error};
 pub use line_answers::input::SESSION_LINES;
+use page_store::MAX_PAGES;
 use std::alloc::{AllocError, Global};
 
 /// What the words of a command line ask for.
@@ -199,7 +200,7 @@ fn pages_word<'a>(alloc: Global) -> Arg<'a> {
 }
 
 fn page_counts<'a>() -> ValueParser<'a> {
-    ValueParser::signed(1, 1_048_576)
+    ValueParser::signed(1, i64::from(MAX_PAGES))
 }
 
 fn create_command<'a>(alloc: Global) -> Result<Command<'a>, AllocError> {

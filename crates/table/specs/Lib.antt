@@ -1,3 +1,6 @@
+pub use Rattle.retrograde.specs.Changes
+pub use Rattle.retrograde.specs.Edges
+pub use Rattle.retrograde.specs.Stored
 pub mod Memory
 pub mod Fitting
 pub mod InMemory

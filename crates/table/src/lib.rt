@@ -3,9 +3,11 @@
 
 mod fault;
 mod fitting;
+mod limits;
 mod memory;
 mod table;
 
 pub use fault::TableFault;
+pub use limits::MAX_POSITIONS;
 pub use memory::MemTable;
 pub use table::Table;

@@ -1,6 +1,8 @@
 -- The numbers that go with the bytes of a table.
 use Rattle.std.specs.Prelude.{ℕ, ◌+◌, ◌*◌, ◌≤◌, ◌^◌}
 use Rattle.table_bytes.specs.declared.sizes.Sizes.{Sizes}
+use Rattle.position_pack.specs.declared.limits.TheConstants.{MAX_PACKED}
+use Rattle.rbg_game.specs.declared.limits.TheConstants.{MAX_TEXT_BYTES}
 
 -- how many bytes such a table takes
 abbrev pub bytes_in : Sizes → ℕ
@@ -8,8 +10,8 @@ bytes_in sizes = sizes.text + sizes.counts.known * (sizes.packed + 16) + 8 * siz
 
 -- the numbers are in order and within the limits
 pub record AreWithinLimits (sizes : Sizes) : Type 0 where
-  pub text : sizes.text ≤ 65536
-  pub packed : sizes.packed ≤ 240
+  pub text : sizes.text ≤ MAX_TEXT_BYTES
+  pub packed : sizes.packed ≤ MAX_PACKED
   pub started : 1 ≤ sizes.counts.known
   pub known : sizes.counts.known ≤ 2 ^ 24
   pub expanded : sizes.counts.expanded ≤ sizes.counts.known

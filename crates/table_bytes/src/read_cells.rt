@@ -6,6 +6,7 @@ ghost use Rattle.table_bytes.specs.Bytes.{IsCell, IsRecord};
 ghost use Rattle.table_bytes.specs.aid.Reading.{AreCells, KeepsRest, IsFirstEntry, AddsCell};
 ghost use Rattle.table_bytes.specs.declared.fault.BytesFault.TheVariants.{Damaged};
 ghost use Rattle.table.specs.InMemory.{stored_in};
+ghost use Rattle.position_pack.specs.declared.limits.TheConstants.{MAX_PACKED};
 
 use crate::BytesFault;
 use crate::record::{RECORD_BYTES, read_record};
@@ -15,7 +16,7 @@ use table::{MemTable, Table};
 
 /// The position with these bytes.
 fn position_of(bytes: &[u8]) -> Packed
-    requires { length bytes.now ≤ 240 }
+    requires { length bytes.now ≤ MAX_PACKED }
     ensures { result.items ≡ bytes.now }
 {
     let mut position = Packed::new();
@@ -39,7 +40,7 @@ fn read_first_record<T: Table>(table: &mut T, packed: usize, cell: &[u8]) -> Res
 
 /// The table that has the position and the record of one cell, and no more.
 pub fn read_first(alloc: Global, packed: usize, cell: &[u8]) -> Result<MemTable, BytesFault>
-    requires packed { packed ≤ 240 }
+    requires packed { packed ≤ MAX_PACKED }
     requires long { length cell.now ≡ packed + 16 }
     ensures first { IfOk result (λ table. IsFirstEntry packed cell.now (stored_in table)) }
     ensures damaged { result ≡ Err Damaged → (x : List ℕ × Record) → IsCell packed cell.now x → ⊥ }
@@ -52,7 +53,7 @@ pub fn read_first(alloc: Global, packed: usize, cell: &[u8]) -> Result<MemTable,
 /// Adds the position and the record of one cell. `Damaged` where the bytes are no cell, or the position is known.
 fn read_cell<T: Table>(table: &mut T, packed: usize, cell: &[u8]) -> Result<(), BytesFault>
     requires honest { T.is_honest table.old }
-    requires packed { packed ≤ 240 }
+    requires packed { packed ≤ MAX_PACKED }
     requires long { length cell.now ≡ packed + 16 }
     requires room { length (T.stored table.old).positions < 2 ^ 24 }
     ensures honest { OnOk result (T.is_honest table.new) }
@@ -79,7 +80,7 @@ pub fn read_cells<T: Table>(
     cells: &[u8],
 ) -> Result<(), BytesFault>
     requires honest { T.is_honest table.old }
-    requires packed { packed ≤ 240 }
+    requires packed { packed ≤ MAX_PACKED }
     requires known { known ≤ 2 ^ 24 }
     requires started { 1 ≤ known }
     requires long { length cells.now ≡ known * (packed + 16) }

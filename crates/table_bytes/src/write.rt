@@ -4,6 +4,8 @@ ghost use Rattle.retrograde.specs.Stored.{IsTable};
 ghost use Rattle.retrograde.specs.Changes.{counts_of};
 ghost use Rattle.table_bytes.specs.Numbers.{AreWithinLimits, bytes_in};
 ghost use Rattle.table_bytes.specs.Spelled.{SpellsTable, BeginsPlainly};
+ghost use Rattle.position_pack.specs.declared.limits.TheConstants.{MAX_PACKED};
+ghost use Rattle.rbg_game.specs.declared.limits.TheConstants.{MAX_TEXT_BYTES};
 
 use crate::Sizes;
 use crate::write_cells::{write_cells, write_order};
@@ -25,7 +27,7 @@ pub fn write_table<T: Table>(
     packed: u32,
     table: &mut T,
 ) -> Result<Written, TableFault>
-    requires text { length text.now ≤ 65536 }
+    requires text { length text.now ≤ MAX_TEXT_BYTES }
     ensures spelled { T.is_honest table.old → IsTable (T.stored table.old)
         → ((x : List ℕ) (i : ℕ) → slice_get (T.stored table.old).positions i ≡ Some x → length x ≡ packed)
         → IfOk result (λ written. SpellsTable written.sizes written.bytes.items text.now (T.stored table.old)) }
@@ -38,7 +40,7 @@ pub fn write_table<T: Table>(
     ensures long { T.is_honest table.old → IsTable (T.stored table.old)
         → ((x : List ℕ) (i : ℕ) → slice_get (T.stored table.old).positions i ≡ Some x → length x ≡ packed)
         → IfOk result (λ written. length written.bytes.items ≡ bytes_in written.sizes) }
-    ensures limits { T.is_honest table.old → IsTable (T.stored table.old) → length (T.stored table.old).positions ≤ 2 ^ 24 → packed ≤ 240
+    ensures limits { T.is_honest table.old → IsTable (T.stored table.old) → length (T.stored table.old).positions ≤ 2 ^ 24 → packed ≤ MAX_PACKED
         → IfOk result (λ written. AreWithinLimits written.sizes) }
     ensures same { T.is_honest table.old → OnOk result (T.stored table.new ≡ T.stored table.old) }
     ensures honest { OnOk result (T.is_honest table.old ↔ T.is_honest table.new) }

@@ -5,6 +5,7 @@ ghost use Rattle.retrograde.specs.declared.records.Record.{Record};
 ghost use Rattle.tree_table.specs.declared.tree.Tree.TheVariants.{Records};
 ghost use Rattle.tree_check.specs.aid.Reading.{TellsOfEntries, PlainCause};
 ghost use Rattle.tree_check.specs.aid.Right.{IsNumberAt, IsCellAt, IsRightAt};
+ghost use Rattle.position_pack.specs.declared.limits.TheConstants.{MAX_PACKED};
 
 use crate::fits::fits_place;
 use page_store::Pages;
@@ -19,7 +20,7 @@ pub fn number_at<P: Pages>(
     key: &[u8],
 ) -> Result<u32, TableFault>
     requires some { 1 ≤ slot.now.sizes.packed }
-    requires short { slot.now.sizes.packed ≤ 240 }
+    requires short { slot.now.sizes.packed ≤ MAX_PACKED }
     ensures number { TellsOfEntries slot.now (P.store store.old) (λ entries. IfOk result (IsNumberAt (entries tree) key.now)) }
     ensures unchanged { IsUnchanged (P.store store.old) (P.store store.new) }
     ensures works { StoreWorks (P.store store.old) (P.store store.new) }
@@ -38,7 +39,7 @@ pub fn number_at<P: Pages>(
 /// The position and the record that stand at the key of this number.
 fn cell_of<P: Pages>(store: &mut P, slot: &TreeSlot, number: u32) -> Result<Cell, TableFault>
     requires some { 1 ≤ slot.now.sizes.packed }
-    requires short { slot.now.sizes.packed ≤ 240 }
+    requires short { slot.now.sizes.packed ≤ MAX_PACKED }
     ensures cell { TellsOfEntries slot.now (P.store store.old) (λ entries. IfOk result (λ cell.
         IsCellAt slot.now.sizes.packed (entries Records) number (cell.position.items, cell.kept))) }
     ensures unchanged { IsUnchanged (P.store store.old) (P.store store.new) }
@@ -64,7 +65,7 @@ pub fn check_number<P: Pages>(
     place: Option<u32>,
 ) -> Result<(), TableFault>
     requires some { 1 ≤ slot.now.sizes.packed }
-    requires short { slot.now.sizes.packed ≤ 240 }
+    requires short { slot.now.sizes.packed ≤ MAX_PACKED }
     ensures right { TellsOfEntries slot.now (P.store store.old) (λ entries. OnOk result (IsRightAt slot.now.sizes entries number place)) }
     ensures unchanged { IsUnchanged (P.store store.old) (P.store store.new) }
     ensures works { StoreWorks (P.store store.old) (P.store store.new) }

@@ -4,6 +4,7 @@ ghost use Rattle.std.specs.Prelude.{slice_set};
 ghost use Rattle.page_store.specs.Store.{StoreWorks, IsUnchanged};
 ghost use Rattle.tree_check.specs.aid.Reading.{TellsOfEntries, CheckCause};
 ghost use Rattle.tree_check.specs.aid.Right.{AreRight, ArePlaces};
+ghost use Rattle.position_pack.specs.declared.limits.TheConstants.{MAX_PACKED};
 
 use crate::number::number_at;
 use page_store::Pages;
@@ -51,7 +52,7 @@ pub fn find_places<P: Pages>(
     count: usize,
 ) -> Result<Vec<Option<u32>>, TableFault>
     requires some { 1 ≤ slot.now.sizes.packed }
-    requires short { slot.now.sizes.packed ≤ 240 }
+    requires short { slot.now.sizes.packed ≤ MAX_PACKED }
     requires within { from + count ≤ slot.now.sizes.counts.known }
     ensures long { IfOk result (λ places. length places.items ≡ count) }
     ensures places { TellsOfEntries slot.now (P.store store.old) (λ entries. IfOk result (λ places.

@@ -3,6 +3,7 @@ ghost use Rattle.std.specs.Prelude.{◌≤◌, OnOk, IfErr};
 ghost use Rattle.page_store.specs.Store.{StoreWorks, IsUnchanged};
 ghost use Rattle.tree_check.specs.aid.Reading.{TellsOfEntries, CheckCause};
 ghost use Rattle.tree_check.specs.aid.Right.{AreRight};
+ghost use Rattle.position_pack.specs.declared.limits.TheConstants.{MAX_PACKED};
 
 use crate::number::check_number;
 use crate::places::find_places;
@@ -20,7 +21,7 @@ pub fn check_window<P: Pages>(
     to: u32,
 ) -> Result<(), TableFault>
     requires some { 1 ≤ slot.now.sizes.packed }
-    requires short { slot.now.sizes.packed ≤ 240 }
+    requires short { slot.now.sizes.packed ≤ MAX_PACKED }
     requires ordered { from ≤ to }
     requires within { to ≤ slot.now.sizes.counts.known }
     ensures right { TellsOfEntries slot.now (P.store store.old) (λ entries. OnOk result (AreRight slot.now.sizes entries from to)) }

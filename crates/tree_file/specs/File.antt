@@ -12,6 +12,7 @@ use Rattle.tree_table.specs.Keeping.{IsKeptInTrees, slot_or_bare}
 use Rattle.tree_table.specs.Slot.{slot_in, IsEmptyTreeSlot}
 use Rattle.tree_table.specs.Spelled.{table_in}
 use Rattle.tree_table.specs.Working.{Work}
+use Rattle.page_store.specs.declared.limits.TheConstants.{MIN_PAGES}
 
 -- a file: the table that a command has come to, and the slot of the committed root, if a game is loaded
 pub record File : Type 0 where
@@ -51,7 +52,7 @@ NamesSlot root (Some slot) = slot ≡ slot_in root
 -- page, and the committed root and its pages spell what is kept
 pub record IsWholeFile (file : File) : Type 0 where
   pub sound : IsSoundStore file.work.store
-  pub room : 16 ≤ length file.work.store.marks
+  pub room : MIN_PAGES ≤ length file.work.store.marks
   pub whole : file.work.torn ≡ false
   pub slot : file.work.slot ≡ slot_or_bare file.game
   pub names : NamesSlot file.work.store.root file.game

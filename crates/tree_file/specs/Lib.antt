@@ -1,3 +1,20 @@
+pub use Rattle.game_file.specs.Calls as GameFileCalls
+pub use Rattle.game_file.specs.Causes as GameFileCauses
+pub use Rattle.game_file.specs.Kept
+pub use Rattle.game_file.specs.Stops
+pub use Rattle.page_store.specs.Causes as PageStoreCauses
+pub use Rattle.page_store.specs.Marks
+pub use Rattle.page_store.specs.Pages
+pub use Rattle.page_store.specs.Store
+pub use Rattle.retrograde.specs.Stored
+pub use Rattle.root_pair.specs.Root
+pub use Rattle.root_slot.specs.Fields
+pub use Rattle.sector_disk.specs.Disk
+pub use Rattle.tree_table.specs.Held
+pub use Rattle.tree_table.specs.InTrees
+pub use Rattle.tree_table.specs.Keeping
+pub use Rattle.tree_table.specs.Slot
+pub use Rattle.tree_table.specs.Working
 pub mod File
 pub mod Calls
 pub mod InFile

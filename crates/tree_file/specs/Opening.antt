@@ -14,11 +14,12 @@ use Rattle.tree_table.specs.declared.slot.TreeSlot.{TreeSlot}
 use Rattle.tree_table.specs.Held.{KeepsTrees}
 use Rattle.tree_table.specs.Keeping.{IsKeptInTrees, IsOneOf, AreSized}
 use Rattle.tree_file.specs.File.{NamesSlot, kept_with}
+use Rattle.page_store.specs.declared.limits.TheConstants.{MIN_PAGES}
 
 -- the committed root tells this count of commits and this slot, and the pages that it names are in use and no others; on an honest
 -- disk they keep this text and the table that they spell
 pub record IsFoundInFile (commits : ℕ) (game : Option TreeSlot) (content : List ℕ) (store : Store) : Type 0 where
-  pub room : 16 ≤ length store.marks
+  pub room : MIN_PAGES ≤ length store.marks
   pub counted : commits ≡ commits_in store.root
   pub names : NamesSlot store.root game
   pub sized : AreSized game
@@ -35,7 +36,7 @@ abbrev pub TreesReadCause : Store → Store → FileFault → Type 0
 TreesReadCause old new Disk = Grew old.failures new.failures
 TreesReadCause old new Damaged =
     (IsTrue old.disk.honest → AllWait old → (kept : Option Kept) → KeepsTrees old.root (length old.marks) kept (reads old)
-    → length old.marks < 16) × (layout_in old.root ≡ 1 → ⊥)
+    → length old.marks < MIN_PAGES) × (layout_in old.root ≡ 1 → ⊥)
 TreesReadCause old new OldLayout = layout_in old.root ≡ 1
 TreesReadCause old new OutOfMemory = Unit {0}
 TreesReadCause old new Closed = old.closed ≡ true

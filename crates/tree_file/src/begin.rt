@@ -11,12 +11,9 @@ ghost use Rattle.tree_file.specs.aid.Making.{EmptyCause};
 use crate::file::TreeFile;
 use crate::on_disk::PagesOnDisk;
 use game_file::{FileFault, Refused};
-use page_store::{MOST_CACHED, Pages};
+use page_store::{MIN_PAGES, MOST_CACHED, Pages};
 use std::alloc::Global;
 use tree_table::{TreeTable, read_slot};
-
-/// The fewest pages that a table's file has.
-const LEAST_PAGES: u32 = 16;
 
 /// The commits that the slot of an empty table tells.
 fn empty_commits(root: &[u8; 512]) -> Option<u64>
@@ -56,7 +53,7 @@ impl<P: PagesOnDisk> TreeFile<P> {
         };
         let root = store.root();
         match empty_commits(&root.bytes) {
-            Some(commits) if store.capacity() >= LEAST_PAGES => {
+            Some(commits) if store.capacity() >= MIN_PAGES => {
                 store.seal();
                 let game = None;
                 Ok(TreeFile {

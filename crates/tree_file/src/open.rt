@@ -10,7 +10,7 @@ ghost use Rattle.tree_file.specs.aid.Reading.{IsReadFor, NoGameReadCause};
 
 use game_file::FileFault;
 use page_chain::read_chain;
-use page_store::Pages;
+use page_store::{MIN_PAGES, Pages};
 use root_slot::word_at;
 use std::alloc::Global;
 use tree_check::check_entries;
@@ -19,9 +19,6 @@ use tree_table::{Slot, TreeSlot, read_slot};
 
 /// The number of the layout before this one.
 const OLD_LAYOUT: u32 = 1;
-
-/// The fewest pages that a table's file has.
-const LEAST_PAGES: u32 = 16;
 
 /// What is read of a file.
 #[derive(Drop)]
@@ -56,7 +53,7 @@ pub fn read_all<P: Pages>(alloc: Global, store: &mut P) -> Result<Opened, FileFa
     if word_at(&root.bytes, 0) == OLD_LAYOUT {
         return Err(FileFault::OldLayout);
     }
-    if store.capacity() < LEAST_PAGES {
+    if store.capacity() < MIN_PAGES {
         return Err(FileFault::Damaged);
     }
     let Some(Slot { commits, game }) = read_slot(&root.bytes) else {

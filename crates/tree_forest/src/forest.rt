@@ -4,6 +4,7 @@ ghost use Rattle.page_store.specs.aid.Marking.{OnlyMarks};
 ghost use Rattle.tree_page.specs.Page.{Item};
 ghost use Rattle.tree_table.specs.declared.tree.Tree.{Tree};
 ghost use Rattle.tree_forest.specs.Walked.{AreWalked, ForestCause};
+ghost use Rattle.position_pack.specs.declared.limits.TheConstants.{MAX_PACKED};
 
 use crate::one::walk_tree;
 use page_store::{PageFault, Pages};
@@ -14,7 +15,7 @@ use tree_table::{Tree, TreeSlot};
 /// between known numbers. It never closes the store.
 pub fn walk_trees<P: Pages>(store: &mut P, slot: &TreeSlot) -> Result<(), PageFault>
     requires some { 1 ≤ slot.now.sizes.packed }
-    requires short { slot.now.sizes.packed ≤ 240 }
+    requires short { slot.now.sizes.packed ≤ MAX_PACKED }
     ensures trees { IsTrue (P.store store.old).disk.honest → OnOk result ((pages : Tree → List ℕ) × (entries : Tree → List Item)
         × AreWalked slot.now pages entries (P.store store.old) (P.store store.new)) }
     ensures only { OnlyMarks (P.store store.old) (P.store store.new) }

@@ -4,6 +4,7 @@ ghost use Rattle.page_store.specs.aid.Marking.{OnlyMarks};
 ghost use Rattle.tree_page.specs.Page.{Item};
 ghost use Rattle.tree_table.specs.declared.tree.Tree.TheVariants.{Edges};
 ghost use Rattle.tree_forest.specs.aid.One.{CountIs, EdgesAre, IsAsMany, IsWalkedTree, TreeCause, fault_of};
+ghost use Rattle.position_pack.specs.declared.limits.TheConstants.{MAX_PACKED};
 
 use crate::count::Count;
 use crate::edges::EdgeCount;
@@ -29,7 +30,7 @@ fn walk_counted<P: Pages>(
     wanted: u64,
 ) -> Result<(), PageFault>
     requires some { 1 ≤ slot.now.sizes.packed }
-    requires short { slot.now.sizes.packed ≤ 240 }
+    requires short { slot.now.sizes.packed ≤ MAX_PACKED }
     ensures tree { IsTrue (P.store store.old).disk.honest → OnOk result ((pages : List ℕ) × (es : List Item)
         × IsWalkedTree slot.now tree (CountIs wanted) pages es (P.store store.old) (P.store store.new)) }
     ensures only { OnlyMarks (P.store store.old) (P.store store.new) }
@@ -55,7 +56,7 @@ fn walk_edges<P: Pages>(
     known: u32,
 ) -> Result<(), PageFault>
     requires some { 1 ≤ slot.now.sizes.packed }
-    requires short { slot.now.sizes.packed ≤ 240 }
+    requires short { slot.now.sizes.packed ≤ MAX_PACKED }
     ensures tree { IsTrue (P.store store.old).disk.honest → OnOk result ((pages : List ℕ) × (es : List Item)
         × IsWalkedTree slot.now Edges (EdgesAre wanted known) pages es (P.store store.old) (P.store store.new)) }
     ensures only { OnlyMarks (P.store store.old) (P.store store.new) }
@@ -76,7 +77,7 @@ fn walk_edges<P: Pages>(
 /// Walks this tree, and looks that it has as much as the slot tells.
 pub fn walk_tree<P: Pages>(store: &mut P, slot: &TreeSlot, tree: Tree) -> Result<(), PageFault>
     requires some { 1 ≤ slot.now.sizes.packed }
-    requires short { slot.now.sizes.packed ≤ 240 }
+    requires short { slot.now.sizes.packed ≤ MAX_PACKED }
     ensures tree { IsTrue (P.store store.old).disk.honest → OnOk result ((pages : List ℕ) × (es : List Item)
         × IsWalkedTree slot.now tree (IsAsMany slot.now.sizes tree) pages es (P.store store.old) (P.store store.new)) }
     ensures only { OnlyMarks (P.store store.old) (P.store store.new) }

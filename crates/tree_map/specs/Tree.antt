@@ -6,6 +6,7 @@ use Rattle.tree_page.specs.Page.{Item, IsPage, items_in, child_of}
 use Rattle.tree_page.specs.declared.kind.Kind.TheVariants.{Leaf, Inner}
 use Rattle.tree_page.specs.declared.widths.Widths.{Widths}
 use Rattle.tree_map.specs.Entries.{Ascend, first_key}
+use Rattle.tree_map.specs.declared.limits.TheConstants.{MAX_LEVELS}
 
 -- the entries of the tree of this depth below this page, in order: those of a leaf, or those of each child in turn
 abbrev pub entries_below : Widths → (ℕ → List ℕ) → ℕ → ℕ → List Item
@@ -28,7 +29,7 @@ IsTree w bytes (suc d) page = IsPage w Inner (bytes page)
 -- once and below this capacity
 pub record IsRooted (w : Widths) (capacity root : ℕ) (pages : List ℕ) (es : List Item) (bytes : ℕ → List ℕ) : Type 0 where
   pub depth : ℕ
-  pub shallow : depth < 24
+  pub shallow : depth < MAX_LEVELS
   pub tree : IsTree w bytes depth root
   pub pages_are : pages_below w bytes depth root ≡ pages
   pub entries_are : entries_below w bytes depth root ≡ es

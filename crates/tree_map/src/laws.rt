@@ -11,6 +11,7 @@ ghost use Rattle.tree_map.specs.Changes.{AreHeld, HoldsMap, TakePlace};
 ghost use Rattle.tree_map.specs.Entries.{Ascend, find_entry, next_after, put_entry};
 ghost use Rattle.tree_map.specs.Next.{IsNextEntry};
 ghost use Rattle.tree_map.specs.Tree.{pages_below, IsTree, IsRooted, IsMap};
+ghost use Rattle.page_store.specs.declared.limits.TheConstants.{MAX_PAGES};
 
 /// A map rests on its own pages alone.
 pub fn a_map_rests_on_its_pages()
@@ -48,7 +49,7 @@ pub fn a_map_stands()
 /// A map has at most 21 levels, since there are at most 1,048,576 pages and it has each page once.
 pub fn a_map_is_shallow()
     ensures { (w : Widths) (capacity root : ℕ) (pages : List ℕ) (es : List Item) (bytes : ℕ → List ℕ)
-        (map : IsRooted w capacity root pages es bytes) → capacity ≤ 1048576 → map.depth ≤ 20 }
+        (map : IsRooted w capacity root pages es bytes) → capacity ≤ MAX_PAGES → map.depth ≤ 20 }
 {}
 
 /// Where pages take the place of those of one map, another map stays, on pages that are in use and its own.

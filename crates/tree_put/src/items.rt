@@ -8,6 +8,7 @@ ghost use Rattle.tree_page.specs.declared.kind.Kind.TheVariants.{Leaf, Inner};
 ghost use Rattle.tree_page.specs.Page.{Item, behind_of, child_of, count_in, item_width, items_in, items_of, least_of, IsPage};
 ghost use Rattle.tree_map.specs.Entries.{Ascend, put_entry};
 ghost use Rattle.tree_put.specs.aid.Items.{listed, AreWhole, IsCut};
+ghost use Rattle.tree_page.specs.declared.kind.TheConstants.{ROOM};
 
 use arrayvec::ArrayVec;
 use byteorder::{BigEndian, ByteOrder};
@@ -109,7 +110,7 @@ pub fn spliced(
     ensures count { result.count ≡ from + count + (count_in page.now - to) }
     ensures end { to ≡ count_in page.now → result.cut ≡ result.count - least_of kind }
     ensures half { to < count_in page.now → result.cut ≡ result.count / 2 }
-    ensures cut { 4092 < result.count * item_width widths kind → IsCut widths kind result.count result.cut }
+    ensures cut { ROOM < result.count * item_width widths kind → IsCut widths kind result.count result.cut }
     ensures whole { AreWhole widths kind result.count result.bytes.items }
     ensures listed { listed widths kind result.count result.bytes.items
         ≡ take from (items_in widths kind page.now) ++ (items_of widths.key (behind_of widths kind) count bytes.now
@@ -161,7 +162,7 @@ pub fn splice_in(
     requires few { count ≤ 2 }
     requires enough { least_of kind ≤ from + count + (count_in page.old - to) }
     requires whole { length bytes.now ≡ count * item_width widths kind }
-    requires room { (from + count + (count_in page.old - to)) * item_width widths kind ≤ 4092 }
+    requires room { (from + count + (count_in page.old - to)) * item_width widths kind ≤ ROOM }
     ensures page { IsPage widths kind page.new }
     ensures items { items_in widths kind page.new
         ≡ take from (items_in widths kind page.old)

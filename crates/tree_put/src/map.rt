@@ -11,10 +11,11 @@ use crate::below::put_below;
 use crate::items::{FewItems, first_child, new_entry};
 use crate::place::write_on;
 use page_store::{PageFault, Pages};
+use tree_map::MAX_LEVELS;
 use tree_page::{Kind, Widths};
 
 /// How many levels a map has at most below the page of its root.
-const LEVELS: usize = 23;
+const LEVELS: usize = MAX_LEVELS - 1;
 
 /// Puts this value at this key, and answers the new root. `Damaged` where below the root is no map, `TableFull` where a
 /// page is needed and none is free. After an error the store goes back by `discard`.

@@ -6,6 +6,7 @@ ghost use Rattle.page_store.specs.Store.{reads, StoreWorks};
 ghost use Rattle.tree_page.specs.Page.{behind_of, item_width, items_in, items_of, least_of, IsPage};
 ghost use Rattle.tree_map.specs.Changes.{TakePlace};
 ghost use Rattle.tree_put.specs.aid.Causes.{WriteCause};
+ghost use Rattle.tree_page.specs.declared.kind.TheConstants.{ROOM};
 
 use page_store::{PageFault, Pages};
 use tree_page::{Kind, Widths, page_of};
@@ -42,7 +43,7 @@ pub fn write_on<P: Pages>(
     requires fresh { mark_of (P.store store.old).marks page ≡ Fresh }
     requires enough { least_of kind ≤ count }
     requires whole { length items.now ≡ count * item_width widths kind }
-    requires fits { length items.now ≤ 4092 }
+    requires fits { length items.now ≤ ROOM }
     ensures page { IsTrue (P.store store.old).disk.honest → OnOk result (IsPage widths kind (reads (P.store store.new) page)) }
     ensures items { IsTrue (P.store store.old).disk.honest → OnOk result
         (items_in widths kind (reads (P.store store.new) page) ≡ items_of widths.key (behind_of widths kind) count items.now) }

@@ -6,6 +6,7 @@ ghost use Rattle.tree_page.specs.Page.{count_in, item_width, items_in, least_of,
 ghost use Rattle.tree_put.specs.aid.Causes.{WriteCause};
 ghost use Rattle.tree_put.specs.aid.Growing.{AreWritten};
 ghost use Rattle.tree_put.specs.aid.Items.{listed, AreWhole, IsCut};
+ghost use Rattle.tree_page.specs.declared.kind.TheConstants.{ROOM};
 
 use crate::items::{
     FewItems, Items, has_item, lead_to, no_few_items, one_lead, splice_in, spliced,
@@ -69,7 +70,7 @@ fn write_split<P: Pages>(
     requires within { to ≤ count_in bytes.now }
     requires few { items.now.count ≤ 2 }
     requires one_more { from + items.now.count ≤ to + 1 }
-    requires full { 4092 < (from + items.now.count + (count_in bytes.now - to)) * item_width widths kind }
+    requires full { ROOM < (from + items.now.count + (count_in bytes.now - to)) * item_width widths kind }
     requires whole { AreWhole widths kind items.now.count items.now.bytes.items }
     ensures written { IfOk result (λ tops. AreWritten widths kind page
         (take from (items_in widths kind bytes.now)

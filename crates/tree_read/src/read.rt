@@ -8,8 +8,9 @@ ghost use Rattle.tree_read.specs.Answers.{found_bytes, found_entry};
 
 use crate::entry::{Bytes, Entry};
 use crate::look::{Seen, look_at};
-use crate::way::{LEVELS, reach_next};
+use crate::way::reach_next;
 use page_store::{PageFault, Pages};
+use tree_map::MAX_LEVELS;
 use tree_page::Widths;
 
 /// The value at this key in the map below this root. `Damaged` only where below it is no map, or the disk is not honest.
@@ -29,7 +30,7 @@ pub fn get<P: Pages>(
         return Ok(None);
     }
     let mut page = root;
-    for _ in 0..LEVELS {
+    for _ in 0..MAX_LEVELS {
         match look_at(store, widths, page, key)? {
             Seen::Value(value) => return Ok(value),
             Seen::Child(child) => page = child,

@@ -13,10 +13,8 @@ use crate::ahead::{Ahead, ahead_at};
 use crate::entry::{Bytes, Entry, copied};
 use byteorder::{BigEndian, ByteOrder};
 use page_store::{PageFault, Pages};
+use tree_map::MAX_LEVELS;
 use tree_page::{Kind, Widths, count_of, item_at, place_of};
-
-/// How many levels a tree has at most.
-pub const LEVELS: usize = 24;
 
 /// The key of a place, if there is one.
 fn key_at(widths: Widths, bytes: &[u8; 4096], place: usize) -> Option<Bytes>
@@ -59,7 +57,7 @@ pub fn reach_next<P: Pages>(
 {
     let mut page = root;
     let mut next = None;
-    for _ in 0..LEVELS {
+    for _ in 0..MAX_LEVELS {
         match ahead_at(store, widths, page, key)? {
             Ahead::Next(entry) => return Ok((entry, next)),
             Ahead::Below(child, behind) => {

@@ -12,6 +12,7 @@ use Rattle.tree_table.specs.declared.tree.Tree.{Tree}
 use Rattle.tree_table.specs.Entries.{AreEntriesOf}
 use Rattle.tree_table.specs.Forest.{IsForest}
 use Rattle.tree_table.specs.Slot.{roots_in, IsEmptyTreeSlot, IsGameTreeSlot}
+use Rattle.page_store.specs.declared.limits.TheConstants.{MIN_PAGES}
 
 -- the slot is that of a table with a game of this packing, and these pages, which it names, each of them below the capacity and named
 -- once, hold this text as a chain and four trees whose entries are those of this table. The table's parts fit together, and the slot
@@ -42,5 +43,5 @@ KeepsTrees root capacity (Some kept) bytes = KeepsGameTrees root capacity kept b
 pub record StoresTrees (picture : Picture) (kept : Option Kept) : Type 0 where
   pub root : List ℕ
   pub holds : HoldsRoot root picture
-  pub room : 16 ≤ capacity_of picture
+  pub room : MIN_PAGES ≤ capacity_of picture
   pub keeps : KeepsTrees root (capacity_of picture) kept (page picture)

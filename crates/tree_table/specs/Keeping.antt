@@ -15,6 +15,9 @@ use Rattle.tree_table.specs.Forest.{IsForest}
 use Rattle.tree_table.specs.Held.{KeepsOnPages}
 use Rattle.tree_table.specs.Slot.{IsEmptyTreeSlot}
 use Rattle.tree_table.specs.Working.{HoldsTable, bare_slot}
+use Rattle.position_pack.specs.declared.limits.TheConstants.{MAX_PACKED}
+use Rattle.rbg_game.specs.declared.limits.TheConstants.{MAX_TEXT_BYTES}
+use Rattle.page_store.specs.declared.limits.TheConstants.{MIN_PAGES}
 
 -- it is a page of the text, or of one of the trees
 abbrev pub IsOneOf : List ℕ → (Tree → List ℕ) → ℕ → Type 0
@@ -38,14 +41,14 @@ pub record IsWorkedOn (slot : TreeSlot) (begun now : Store) (was : Option Kept) 
   pub honest : IsTrue begun.disk.honest
   pub safe : IsSafe begun
   pub kept : IsKeptInTrees begun was
-  pub enough : 16 ≤ length begun.marks
+  pub enough : MIN_PAGES ≤ length begun.marks
   pub works : StoreWorks begun now
   pub holds : HoldsTable slot is.text is.table now
   pub packing : is.packing ≡ slot.packing
   pub text : length is.text ≡ slot.sizes.text
   pub table : IsTable is.table
-  pub short : slot.sizes.text ≤ 65536
-  pub packed : slot.sizes.packed ≤ 240
+  pub short : slot.sizes.text ≤ MAX_TEXT_BYTES
+  pub packed : slot.sizes.packed ≤ MAX_PACKED
   pub some : 1 ≤ slot.sizes.packed
   pub few : slot.sizes.counts.known ≤ 2 ^ 24
 
@@ -77,7 +80,7 @@ StandsFor (Some slot) text store = StandsInTrees slot text store
 -- lengths and counts that a table may have
 pub record IsSizedSlot (slot : TreeSlot) : Type 0 where
   pub some : 1 ≤ slot.sizes.packed
-  pub short : slot.sizes.packed ≤ 240
+  pub short : slot.sizes.packed ≤ MAX_PACKED
   pub few : slot.sizes.counts.known ≤ 2 ^ 24
 
 -- so of the game that is loaded, if one is
@@ -95,4 +98,4 @@ pub record IsVacant (store : Store) : Type 0 where
   pub honest : IsTrue store.disk.honest
   pub safe : IsSafe store
   pub kept : IsKeptInTrees store None
-  pub enough : 16 ≤ length store.marks
+  pub enough : MIN_PAGES ≤ length store.marks

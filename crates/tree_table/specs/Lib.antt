@@ -1,3 +1,20 @@
+pub use Rattle.game_file.specs.Kept
+pub use Rattle.game_file.specs.Stops
+pub use Rattle.page_chain.specs.Chain
+pub use Rattle.page_store.specs.Causes as PageStoreCauses
+pub use Rattle.page_store.specs.Marks
+pub use Rattle.page_store.specs.Spelling
+pub use Rattle.page_store.specs.Store
+pub use Rattle.retrograde.specs.Changes
+pub use Rattle.retrograde.specs.Edges
+pub use Rattle.retrograde.specs.Stored
+pub use Rattle.root_slot.specs.Fields
+pub use Rattle.sector_disk.specs.Disk
+pub use Rattle.table.specs.Records
+pub use Rattle.table_bytes.specs.Bytes
+pub use Rattle.tree_map.specs.Entries as TreeMapEntries
+pub use Rattle.tree_page.specs.Page
+pub use Rattle.tree_read.specs.Answers
 pub mod Trees
 pub mod Entries
 pub mod Forest

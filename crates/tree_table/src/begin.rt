@@ -16,6 +16,7 @@ ghost use Rattle.tree_table.specs.Keeping.{IsKeptInTrees, IsSizedSlot, IsStill, 
 ghost use Rattle.tree_table.specs.Slot.{slot_in};
 ghost use Rattle.tree_table.specs.Working.{HoldsTable, text_slot};
 ghost use Rattle.page_chain.specs.Chain.{first_of};
+ghost use Rattle.rbg_game.specs.declared.limits.TheConstants.{MAX_TEXT_BYTES};
 
 use crate::change::add_position;
 use crate::fault::table_fault;
@@ -55,7 +56,7 @@ fn first_table<P: Pages>(
     start: &Packed,
 ) -> Result<TreeSlot, TableFault>
     requires some { 1 ≤ length start.now.items }
-    requires text { length text.now ≤ 65536 }
+    requires text { length text.now ≤ MAX_TEXT_BYTES }
     ensures table { IsTrue (P.store store.old).disk.honest
         → IfOk result (λ slot. HoldsTable slot text.now (loaded start.now.items) (P.store store.new)) }
     ensures long { IfOk result (λ slot. slot.sizes.text ≡ length text.now) }
@@ -91,7 +92,7 @@ pub fn load<P: Pages>(
     start: &Packed,
 ) -> Result<TreeSlot, TableFault>
     requires some { 1 ≤ length start.now.items }
-    requires text { length text.now ≤ 65536 }
+    requires text { length text.now ≤ MAX_TEXT_BYTES }
     ensures commits { OnOk result (commits_in (P.store store.new).root ≡ commits) }
     ensures root { IfOk result (λ slot. slot_in (P.store store.new).root ≡ slot) }
     ensures packing { IfOk result (λ slot. slot.packing ≡ packing) }

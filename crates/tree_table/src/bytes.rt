@@ -4,6 +4,7 @@ ghost use Rattle.retrograde.specs.declared.records.Record.{Record};
 ghost use Rattle.table_bytes.specs.Bytes.{IsCell, IsNumber, IsPlainCell};
 ghost use Rattle.tree_table.specs.Entries.{number_key, edge_key};
 ghost use Rattle.tree_table.specs.aid.Keys.{key_behind};
+ghost use Rattle.position_pack.specs.declared.limits.TheConstants.{MAX_PACKED};
 
 use byteorder::{BigEndian, ByteOrder};
 use position_pack::Packed;
@@ -69,7 +70,7 @@ pub fn edge_in(bytes: &[u8]) -> Option<(u32, u32)>
 
 /// A copy of the bytes of a position.
 fn position_of(bytes: &[u8]) -> Packed
-    requires { length bytes.now ≤ 240 }
+    requires { length bytes.now ≤ MAX_PACKED }
     ensures { result.items ≡ bytes.now }
 {
     let mut position = Packed::new();
@@ -79,7 +80,7 @@ fn position_of(bytes: &[u8]) -> Packed
 
 /// The position of so many bytes and the record that these bytes are, where they are that.
 pub fn cell_in(bytes: &[u8], packed: u32) -> Option<Cell>
-    requires { packed ≤ 240 }
+    requires { packed ≤ MAX_PACKED }
     ensures some { IfSome result (λ cell. IsCell packed bytes.now (cell.position.items, cell.kept)) }
     ensures none { IfNone result ((cell : List ℕ × Record) → IsCell packed bytes.now cell → ⊥) }
 {

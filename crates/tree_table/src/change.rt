@@ -10,6 +10,7 @@ ghost use Rattle.tree_table.specs.Causes.{HasNoForest, HasNoTable, AddCause, Cha
 ghost use Rattle.tree_table.specs.Trees.{key_width, value_width};
 ghost use Rattle.tree_table.specs.Working.{HoldsForest, HoldsTable, with_entry};
 ghost use Rattle.tree_table.specs.aid.Slots.{IsSameButRoots, IsSameFrame, counts_with, recounted};
+ghost use Rattle.position_pack.specs.declared.limits.TheConstants.{MAX_PACKED};
 
 use crate::bytes::{cell_bytes, key_behind, number_key};
 use crate::fault::table_fault;
@@ -31,7 +32,7 @@ fn put_in<P: Pages>(
     value: &[u8],
 ) -> Result<TreeSlot, TableFault>
     requires some { 1 ≤ slot.sizes.packed }
-    requires short { slot.sizes.packed ≤ 240 }
+    requires short { slot.sizes.packed ≤ MAX_PACKED }
     requires key { length key.now ≡ key_width slot.sizes.packed tree }
     requires value { length value.now ≡ value_width slot.sizes.packed tree }
     ensures slot { IfOk result (IsSameButRoots slot) }
@@ -75,7 +76,7 @@ pub fn add_position<P: Pages>(
     packed: &Packed,
 ) -> Result<TreeSlot, TableFault>
     requires some { 1 ≤ slot.sizes.packed }
-    requires short { slot.sizes.packed ≤ 240 }
+    requires short { slot.sizes.packed ≤ MAX_PACKED }
     requires room { slot.sizes.counts.known < 16777216 }
     ensures slot { IfOk result (IsSameFrame slot) }
     ensures known { IfOk result (λ next. next.sizes.counts.known ≡ slot.sizes.counts.known + 1) }
@@ -131,7 +132,7 @@ pub fn set_record<P: Pages>(
     kept: Record,
 ) -> Result<TreeSlot, TableFault>
     requires some { 1 ≤ slot.sizes.packed }
-    requires short { slot.sizes.packed ≤ 240 }
+    requires short { slot.sizes.packed ≤ MAX_PACKED }
     requires few { slot.sizes.counts.known ≤ 16777216 }
     requires known { number < slot.sizes.counts.known }
     ensures slot { IfOk result (IsSameFrame slot) }
@@ -160,7 +161,7 @@ pub fn add_edge<P: Pages>(
     predecessor: u32,
 ) -> Result<TreeSlot, TableFault>
     requires some { 1 ≤ slot.sizes.packed }
-    requires short { slot.sizes.packed ≤ 240 }
+    requires short { slot.sizes.packed ≤ MAX_PACKED }
     requires few { slot.sizes.counts.known ≤ 16777216 }
     requires successor { successor < slot.sizes.counts.known }
     requires predecessor { predecessor < slot.sizes.counts.known }
@@ -190,7 +191,7 @@ pub fn push_settled<P: Pages>(
     number: u32,
 ) -> Result<TreeSlot, TableFault>
     requires some { 1 ≤ slot.sizes.packed }
-    requires short { slot.sizes.packed ≤ 240 }
+    requires short { slot.sizes.packed ≤ MAX_PACKED }
     requires few { slot.sizes.counts.known ≤ 16777216 }
     requires settled { slot.sizes.counts.settled < slot.sizes.counts.known }
     ensures slot { IfOk result (IsSameFrame slot) }

@@ -17,6 +17,7 @@ ghost use Rattle.tree_table.specs.Causes.{StartCause};
 ghost use Rattle.tree_table.specs.Slot.{slot_in};
 ghost use Rattle.tree_table.specs.Keeping.{slot_or_bare as slot_of};
 ghost use Rattle.tree_table.specs.Working.{bare_slot as bare, work_of};
+ghost use Rattle.rbg_game.specs.declared.limits.TheConstants.{MAX_TEXT_BYTES};
 
 use crate::begin::load;
 use crate::saving::commit;
@@ -158,7 +159,7 @@ impl<P: Pages> TreeTable<P> {
         start: &Packed,
     ) -> Result<(), TableFault>
         requires some { 1 ≤ length start.now.items }
-        requires text { length text.items ≤ 65536 }
+        requires text { length text.items ≤ MAX_TEXT_BYTES }
         ensures text { OnOk result ((work_in self.new).text ≡ text.items) }
         ensures packing { OnOk result ((work_in self.new).slot.packing ≡ packing) }
         ensures kept_text { OnErr result ((work_in self.new).text ≡ (work_in self.old).text) }

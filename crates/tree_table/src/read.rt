@@ -9,6 +9,7 @@ ghost use Rattle.tree_read.specs.Answers.{found_bytes, found_entry};
 ghost use Rattle.tree_table.specs.declared.tree.Tree.{Tree};
 ghost use Rattle.tree_table.specs.Causes.{HasNoForest, HasNoTable, ReadCause};
 ghost use Rattle.tree_table.specs.Working.{HoldsForest, HoldsTable};
+ghost use Rattle.position_pack.specs.declared.limits.TheConstants.{MAX_PACKED};
 
 use crate::bytes::{Cell, cell_in, edge_in, key_behind, number_in, number_key};
 use crate::fault::table_fault;
@@ -27,7 +28,7 @@ pub fn value_at<P: Pages>(
     key: &[u8],
 ) -> Result<Option<Bytes>, TableFault>
     requires some { 1 ≤ slot.now.sizes.packed }
-    requires short { slot.now.sizes.packed ≤ 240 }
+    requires short { slot.now.sizes.packed ≤ MAX_PACKED }
     ensures found { IsTrue (P.store store.old).disk.honest → (text : List ℕ) (entries : Tree → List Item)
         → HoldsForest slot.now text entries (P.store store.old)
         → IfOk result (λ found. found_bytes found ≡ find_entry (entries tree) key.now) }
@@ -50,7 +51,7 @@ fn entry_after<P: Pages>(
     key: &[u8],
 ) -> Result<Option<Entry>, TableFault>
     requires some { 1 ≤ slot.now.sizes.packed }
-    requires short { slot.now.sizes.packed ≤ 240 }
+    requires short { slot.now.sizes.packed ≤ MAX_PACKED }
     ensures found { IsTrue (P.store store.old).disk.honest → (text : List ℕ) (entries : Tree → List Item)
         → HoldsForest slot.now text entries (P.store store.old)
         → IfOk result (λ found. found_entry found ≡ next_in (entries tree) key.now) }
@@ -68,7 +69,7 @@ fn entry_after<P: Pages>(
 /// The position with a number, and its record.
 pub fn cell_at<P: Pages>(store: &mut P, slot: &TreeSlot, number: u32) -> Result<Cell, TableFault>
     requires some { 1 ≤ slot.now.sizes.packed }
-    requires short { slot.now.sizes.packed ≤ 240 }
+    requires short { slot.now.sizes.packed ≤ MAX_PACKED }
     requires known { number < slot.now.sizes.counts.known }
     ensures position { IsTrue (P.store store.old).disk.honest → (text : List ℕ) (table : Stored (List ℕ))
         → HoldsTable slot.now text table (P.store store.old)
@@ -98,7 +99,7 @@ pub fn number_of<P: Pages>(
     packed: &Packed,
 ) -> Result<Option<u32>, TableFault>
     requires some { 1 ≤ slot.now.sizes.packed }
-    requires short { slot.now.sizes.packed ≤ 240 }
+    requires short { slot.now.sizes.packed ≤ MAX_PACKED }
     ensures found { IsTrue (P.store store.old).disk.honest → (text : List ℕ) (table : Stored (List ℕ))
         → HoldsTable slot.now text table (P.store store.old)
         → IfOk result (λ r. IfSome r (λ i. slice_get table.positions i ≡ Some packed.now.items)) }
@@ -141,7 +142,7 @@ pub fn edge_after<P: Pages>(
     after: Option<u32>,
 ) -> Result<Option<u32>, TableFault>
     requires some { 1 ≤ slot.now.sizes.packed }
-    requires short { slot.now.sizes.packed ≤ 240 }
+    requires short { slot.now.sizes.packed ≤ MAX_PACKED }
     requires few { slot.now.sizes.counts.known ≤ 16777216 }
     ensures next { IsTrue (P.store store.old).disk.honest → (text : List ℕ) (table : Stored (List ℕ))
         → HoldsTable slot.now text table (P.store store.old)
@@ -178,7 +179,7 @@ pub fn edge_after<P: Pages>(
 /// The number at a place of the settled order.
 pub fn settled_at<P: Pages>(store: &mut P, slot: &TreeSlot, place: u32) -> Result<u32, TableFault>
     requires some { 1 ≤ slot.now.sizes.packed }
-    requires short { slot.now.sizes.packed ≤ 240 }
+    requires short { slot.now.sizes.packed ≤ MAX_PACKED }
     requires settled { place < slot.now.sizes.counts.settled }
     ensures number { IsTrue (P.store store.old).disk.honest → (text : List ℕ) (table : Stored (List ℕ))
         → HoldsTable slot.now text table (P.store store.old)

@@ -1,6 +1,7 @@
 //! The four trees of a table.
 ghost use Rattle.std.specs.Prelude.{◌≡◌, ◌≤◌};
 ghost use Rattle.tree_table.specs.Trees.{key_width, value_width, root_of, with_root};
+ghost use Rattle.position_pack.specs.declared.limits.TheConstants.{MAX_PACKED};
 
 use tree_page::Widths;
 
@@ -57,7 +58,7 @@ impl Roots {
 /// How long keys and values of this tree are, where a position has so many bytes.
 pub fn widths_of(packed: u32, tree: Tree) -> Widths
     requires some { 1 ≤ packed }
-    requires few { packed ≤ 240 }
+    requires few { packed ≤ MAX_PACKED }
     ensures keys { result.key ≡ key_width packed tree }
     ensures values { result.value ≡ value_width packed tree }
 {

@@ -4,6 +4,7 @@ ghost use Rattle.tree_table.specs.Working.{HoldsWork, IsHonestWork, bare_slot as
 ghost use Rattle.table.specs.Records.{nothing};
 ghost use Rattle.tree_table.specs.Working as work;
 ghost use Rattle.tree_table.specs.aid.Frames as frames;
+ghost use Rattle.position_pack.specs.declared.limits.TheConstants.{MAX_PACKED};
 
 use crate::change::{add_edge, add_position, push_settled, set_record};
 use crate::keeping::bare_slot;
@@ -27,7 +28,7 @@ pub struct TreeTable<P: Pages> {
     /// A call that writes has stopped half way.
     pub torn: bool,
     ghost some: { 1 ≤ slot.sizes.packed },
-    ghost short: { slot.sizes.packed ≤ 240 },
+    ghost short: { slot.sizes.packed ≤ MAX_PACKED },
     ghost few: { slot.sizes.counts.known ≤ 2 ^ 24 },
     ghost holds: { IsHonestWork (work_of slot text.items torn (P.store store))
         → ∥ HoldsWork (work_of slot text.items torn (P.store store)) ∥₁ },
@@ -39,7 +40,7 @@ impl<P: Pages> TreeTable<P> {
     /// The table of no game in this store, for positions of so many bytes.
     pub fn empty(alloc: Global, store: P, packed: u32) -> Self
         requires some { 1 ≤ packed }
-        requires short { packed ≤ 240 }
+        requires short { packed ≤ MAX_PACKED }
         ensures nothing { IsTrue (P.store store).disk.honest → table_now (work_in result) ≡ nothing }
         ensures honest { IsTrue (P.store store).disk.honest ↔ IsHonestWork (work_in result) }
         ensures work { work_in result ≡ work_of (bare packed) [] false (P.store store) }

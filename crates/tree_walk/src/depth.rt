@@ -6,15 +6,13 @@ ghost use Rattle.tree_map.specs.Tree.{IsTree};
 
 use byteorder::{BigEndian, ByteOrder};
 use page_store::{PageFault, Pages};
+use tree_map::MAX_LEVELS;
 use tree_page::{Kind, Widths, item_at, kind_of};
-
-/// How many levels a tree has at most.
-const LEVELS: usize = 24;
 
 /// How many levels are below this root, as far down as its first leaf is.
 pub fn depth_of<P: Pages>(store: &mut P, widths: Widths, root: u32) -> Result<usize, PageFault>
     requires { root ≢ 0 }
-    ensures shallow { IfOk result (λ depth. depth < 24) }
+    ensures shallow { IfOk result (λ depth. depth < MAX_LEVELS) }
     ensures depth { IsTrue (P.store store.old).disk.honest → IfOk result (λ depth.
         (d : ℕ) → IsTree widths (reads (P.store store.old)) d root → d ≡ depth) }
     ensures unchanged { IsUnchanged (P.store store.old) (P.store store.new) }
@@ -23,7 +21,7 @@ pub fn depth_of<P: Pages>(store: &mut P, widths: Widths, root: u32) -> Result<us
 {
     let mut bytes = [0; 4096];
     let mut page = root;
-    for depth in 0..LEVELS {
+    for depth in 0..MAX_LEVELS {
         store.read_page(page, &mut bytes)?;
         match kind_of(widths, &bytes) {
             None => return Err(PageFault::Damaged),

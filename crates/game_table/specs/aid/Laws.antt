@@ -20,9 +20,10 @@ use Rattle.legal_moves.specs.Sources.{IsPositionBytes, IsWideAt, graph_of}
 use Rattle.legal_moves.proofs.CompiledLemmas.{start_position}
 use Rattle.table.specs.Fitting.{FitsTogether}
 use Rattle.game_table.specs.Tables.{ArePositions, packed_length}
+use Rattle.rbg_game.specs.declared.limits.TheConstants.{MAX_TEXT_BYTES}
 
 -- a text that reads to a game has at most 65,536 bytes
-pub texts_are_short : (text : Text) (game : Game) → Reads text game → length text ≤ 65536
+pub texts_are_short : (text : Text) (game : Game) → Reads text game → length text ≤ MAX_TEXT_BYTES
 texts_are_short text game (reads short nested parsed without means) = short
 
 -- the start of a game that a text reads to is a position of the game

@@ -7,6 +7,7 @@ use Rattle.std.specs.declared.cmp.Ordering.{Ordering}
 use Rattle.arrayvec.specs.ArrayVec.{ArrayVec}
 use Rattle.rbg_game.specs.Rules.{Regex, empty, pattern, action_at, is_switch, is_modifier}
 use Rattle.rbg_game.specs.Games.{Game}
+use Rattle.rbg_game.specs.declared.limits.TheConstants.{MAX_ACTIONS}
 use Rattle.rbg_game.specs.Sound.{IsSoundGame, IsSoundRegex, whole_count}
 use Rattle.rbg_game.specs.Positions.{IsStateOf}
 use Rattle.rbg_game.specs.declared.position.SemiState.{SemiState}
@@ -19,6 +20,7 @@ use Rattle.legal_moves.specs.Shown.{moves_of}
 use Rattle.legal_moves.specs.Tables.{AreTables}
 use Rattle.legal_moves.specs.declared.table.Table.{Table}
 use Rattle.legal_moves.specs.Configurations.{Configuration, expressions_of}
+use Rattle.legal_moves.specs.declared.limits.TheConstants.{WIDEST}
 
 abbrev pub expression_at : Game → ℕ → Regex
 expression_at game index = unwrap_or (slice_get (expressions_of game) index) empty
@@ -29,7 +31,7 @@ pub record IsReady (game : Game) (tables : List Table) (index : ℕ) : Type 0 wh
   pub tables_are : AreTables (expressions_of game) tables
   pub within : index < length tables
   pub expression_is : IsSoundRegex game (expression_at game index)
-  pub small : whole_count (expression_at game index) ≤ 4096
+  pub small : whole_count (expression_at game index) ≤ MAX_ACTIONS
 
 -- the occurrence k is a pattern whose search from S reaches too many
 abbrev pub AsksTooMuch : Game → Regex → ℕ → SemiState → Type 0
@@ -68,7 +70,7 @@ pub record AreFound (game : Game) (e : Regex) (place : ℕ) (S : SemiState) (cs 
   pub ascending : (i j : ℕ) (c d : Configuration) → i ≤ j → slice_get cs i ≡ Some c → slice_get cs j ≡ Some d → c.parent ≤ d.parent
   pub different : (i j : ℕ) (c d : Configuration) → slice_get cs i ≡ Some c → slice_get cs j ≡ Some d → c.at ≡ d.at → i ≡ j
   pub states_are : (i : ℕ) (c : Configuration) → slice_get cs i ≡ Some c → IsStateOf game c.at.state
-  pub few : length cs ≤ 65536
+  pub few : length cs ≤ WIDEST
 
 -- the configuration of U and k is among them, from no later one than j
 abbrev pub IsMet : List Configuration → ℕ → SemiState → ℕ → Type 0

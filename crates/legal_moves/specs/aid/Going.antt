@@ -7,6 +7,7 @@ use Rattle.rbg_game.specs.declared.position.SemiState.{SemiState}
 use Rattle.legal_moves.specs.Effects.{EffectAt}
 use Rattle.legal_moves.specs.aid.Configurations.{OccurrenceLeads, AreFound, IsFollowed}
 use Rattle.legal_moves.specs.Configurations.{Configuration}
+use Rattle.legal_moves.specs.declared.limits.TheConstants.{WIDEST}
 
 -- the semi-state in which the search began
 abbrev pub began : List Configuration → SemiState
@@ -29,7 +30,7 @@ pub record IsGoing (game : Game) (e : Regex) (place : ℕ) (S : SemiState) (cs :
 abbrev pub IsTaken : List Configuration → Configuration → List Configuration → Type 0
 IsTaken cs c cs' =
     ((cs' ≡ cs) × (i : ℕ) × (d : Configuration) × (slice_get cs i ≡ Some d) × (d.at ≡ c.at))
-    ⊎ ((cs' ≡ cs ++ c ∷ []) × (length cs < 65536) × ((i : ℕ) (d : Configuration) → slice_get cs i ≡ Some d → ¬ (d.at ≡ c.at)))
+    ⊎ ((cs' ≡ cs ++ c ∷ []) × (length cs < WIDEST) × ((i : ℕ) (d : Configuration) → slice_get cs i ≡ Some d → ¬ (d.at ≡ c.at)))
 
 -- the semi-state of the configuration at the index
 abbrev pub state_at : List Configuration → ℕ → SemiState
@@ -44,5 +45,5 @@ IsTried game e k at cs cs' =
 -- what the occurrence k leads to is new, and there are too many
 abbrev pub IsFull : Game → Regex → ℕ → ℕ → List Configuration → Type 0
 IsFull game e k at cs =
-    (c : Configuration) × OccurrenceLeads game e k (state_at cs at) c × (c.parent ≡ at) × (65536 ≤ length cs)
+    (c : Configuration) × OccurrenceLeads game e k (state_at cs at) c × (c.parent ≡ at) × (WIDEST ≤ length cs)
     × ((i : ℕ) (d : Configuration) → slice_get cs i ≡ Some d → ¬ (d.at ≡ c.at))

@@ -11,6 +11,7 @@ use Rattle.legal_moves.specs.declared.effect.Glance.{Glance}
 use Rattle.legal_moves.specs.declared.effect.Glance.TheVariants.{Fails, At, Writes}
 use Rattle.legal_moves.specs.declared.looks.Look.{Look}
 use Rattle.legal_moves.specs.declared.looks.Looks.{Looks}
+use Rattle.legal_moves.specs.declared.limits.TheConstants.{WIDEST}
 
 -- the semi-state with this vertex
 abbrev pub at_vertex : SemiState → ℕ → SemiState
@@ -65,4 +66,4 @@ IsNewLook looks l = (i : ℕ) (k : Look) → slice_get looks i ≡ Some k → ¬
 abbrev pub IsLookAdded : List Look → Look → List Look → Type 0
 IsLookAdded looks l looks' =
     ((looks' ≡ looks) × (i : ℕ) × (k : Look) × (slice_get looks i ≡ Some k) × (k.vertex ≡ l.vertex) × (k.place ≡ l.place))
-    ⊎ ((looks' ≡ looks ++ l ∷ []) × (length looks < 65536) × IsNewLook looks l)
+    ⊎ ((looks' ≡ looks ++ l ∷ []) × (length looks < WIDEST) × IsNewLook looks l)

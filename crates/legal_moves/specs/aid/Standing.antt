@@ -8,6 +8,7 @@ use Rattle.legal_moves.specs.aid.Looking.{at_vertex}
 use Rattle.legal_moves.specs.Configurations.{Configuration}
 use Rattle.legal_moves.specs.declared.found.Stand.{Stand}
 use Rattle.legal_moves.specs.declared.found.Found.{Found}
+use Rattle.legal_moves.specs.declared.limits.TheConstants.{WIDEST}
 
 -- the board with the number
 abbrev pub board_at : List SemiState → ℕ → SemiState
@@ -62,4 +63,4 @@ IsNewStand stands s = (i : ℕ) (t : Stand) → slice_get stands i ≡ Some t �
 abbrev pub IsStandAdded : List Stand → Stand → List Stand → Type 0
 IsStandAdded stands s stands' =
     ((stands' ≡ stands) × (i : ℕ) × (t : Stand) × (slice_get stands i ≡ Some t) × IsSameStand t s)
-    ⊎ ((stands' ≡ stands ++ s ∷ []) × (length stands < 65536) × IsNewStand stands s)
+    ⊎ ((stands' ≡ stands ++ s ∷ []) × (length stands < WIDEST) × IsNewStand stands s)

@@ -2,6 +2,7 @@
 use Rattle.std.specs.Prelude.{ℕ, Bool, true, false, not, ◌||◌, if◌then◌else◌, ◌==◌, nat_lt, List, ◌++◌, length, map, count_by, Option, Some}
 use Rattle.std.specs.Prelude.{None}
 use Rattle.std.specs.List.{list_any}
+use Rattle.rbg_game.specs.declared.limits.TheConstants.{MAX_VERTICES, MAX_LABELS, MAX_PIECES, MAX_VARIABLES, MAX_ACTIONS}
 use Rattle.rbg_text.specs.Syntax.{Declaration, WrittenVertex}
 use Rattle.rbg_text.specs.Parse.{ParseStep}
 use Rattle.rbg_read.specs.Means.{decimal}
@@ -72,8 +73,8 @@ is_action _ = false
 -- there is more of something than a game may have
 abbrev pub is_past_a_limit : Known → Parts → Bool
 is_past_a_limit known p =
-    nat_lt 128 (length known.vertices) || nat_lt 64 (length known.labels) || nat_lt 64 (length known.pieces)
-    || nat_lt 32 (length p.variables) || nat_lt 4096 (count_by is_action p.steps)
+    nat_lt MAX_VERTICES (length known.vertices) || nat_lt MAX_LABELS (length known.labels) || nat_lt MAX_PIECES (length known.pieces)
+    || nat_lt MAX_VARIABLES (length p.variables) || nat_lt MAX_ACTIONS (count_by is_action p.steps)
 
 -- the first that applies, in the order of the codes
 abbrev pub flat_cause : Known → Parts → Option GameFault

@@ -18,6 +18,7 @@ use Rattle.tree_map.specs.Changes.{AreHeld, HoldsMap, TakePlace}
 use Rattle.tree_map.specs.aid.Laws.{a_map_rests_on_its_pages, a_tree_is_wide}
 use Rattle.tree_map.specs.Tree.{IsMap, IsRooted}
 use Rattle.page_store.specs.Pages.{IsOnce}
+use Rattle.page_store.specs.declared.limits.TheConstants.{MAX_PAGES}
 
 -- a page that is in use, and not by the map that changes, stays
 held_apart : (m : Mark) → (m ≡ Committed) ⊎ (m ≡ Fresh) → m ≡ Free → ⊥
@@ -77,7 +78,7 @@ few_pages ps capacity once within =
 
 -- and so it has fewer levels than it may have
 pub a_map_is_shallow : (w : Widths) (capacity root : ℕ) (pages : List ℕ) (es : List Item) (bytes : ℕ → List ℕ)
-    (map : IsRooted w capacity root pages es bytes) → capacity ≤ 1048576 → map.depth ≤ 20
+    (map : IsRooted w capacity root pages es bytes) → capacity ≤ MAX_PAGES → map.depth ≤ 20
 a_map_is_shallow w capacity root pages es bytes map small =
     let wide : 2 ^ map.depth ≤ length pages =
     subst (λ (ps : List ℕ). 2 ^ map.depth ≤ length ps) map.pages_are (a_tree_is_wide w bytes map.depth root map.tree) in

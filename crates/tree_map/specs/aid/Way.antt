@@ -18,13 +18,14 @@ use Rattle.tree_map.specs.aid.Order.{Below, Past, all_both, ascend_front, ascend
 use Rattle.tree_map.specs.aid.Parts.{HasFirst, flat_at, all_got, contains_part, children_ascend, below_part, past_part, first_below}
 use Rattle.tree_map.specs.aid.Parts.{first_key-append, got_first}
 use Rattle.tree_map.specs.Tree.{entries_below, pages_below, IsTree, IsMap}
+use Rattle.tree_map.specs.declared.limits.TheConstants.{MAX_LEVELS}
 
 -- where a key belongs in the map of these entries: below this page on this level, where `next` is the first key of those
 -- that come after the page's own
 pub record IsWay (w : Widths) (bytes : ℕ → List ℕ) (capacity : ℕ) (es : List Item) (key : List ℕ) (level page : ℕ)
     (next : Option (List ℕ)) : Type 0 where
   pub depth : ℕ
-  pub shallow : depth + level < 24
+  pub shallow : depth + level < MAX_LEVELS
   pub tree : IsTree w bytes depth page
   pub before : List Item
   pub after : List Item
@@ -83,7 +84,7 @@ module _ (w : Widths) (bytes : ℕ → List ℕ) (capacity : ℕ) (es : List Ite
   pub way_within : (1 ≤ page) × (page < capacity)
   way_within = way.within page (contains_root w bytes way.depth page)
 
-  pub way_goes_on : level < 24
+  pub way_goes_on : level < MAX_LEVELS
   way_goes_on = omega (arith, way.shallow)
 
   -- what is below its page ascends

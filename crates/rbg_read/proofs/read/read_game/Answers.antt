@@ -12,18 +12,18 @@ use Rattle.rbg_read.proofs.ShallowRules.{read_shallow}
 use Rattle.rbg_read.proofs.OneReading.{no_fault, refused_only}
 use Rattle.rbg_read.proofs.read.read_game.Goals as goal
 
-pub returns-then-text-gt-MAX_BYTES-clause-fault : goal.returns-then-text-gt-MAX_BYTES-clause-fault
-returns-then-text-gt-MAX_BYTES-clause-fault c = λ _. too_long c.if-text-gt-MAX_BYTES.true
+pub returns-then-text-gt-MAX_TEXT_BYTES-clause-fault : goal.returns-then-text-gt-MAX_TEXT_BYTES-clause-fault
+returns-then-text-gt-MAX_TEXT_BYTES-clause-fault c = λ _. too_long c.if-text-gt-MAX_TEXT_BYTES.true
 
 pub returns-in_err-tokens-clause-fault : goal.returns-in_err-tokens-clause-fault
 returns-in_err-tokens-clause-fault c =
     passed_on c.args.text.now c.from_residual.result c.in_err-tokens.field-0.0 c.from_residual.ensures
-    (λ is. stray_byte c.if-text-gt-MAX_BYTES.false (c.in_err-tokens.ensures.stray (ap Rattle.std.proofs.Common.Err is)))
+    (λ is. stray_byte c.if-text-gt-MAX_TEXT_BYTES.false (c.in_err-tokens.ensures.stray (ap Rattle.std.proofs.Common.Err is)))
 
 pub returns-then-nesting-gt-MAX_NESTING-clause-fault : goal.returns-then-nesting-gt-MAX_NESTING-clause-fault
 returns-then-nesting-gt-MAX_NESTING-clause-fault c = λ _.
     let deep : c.nesting.result ≡ nesting (map token_view c.in_ok-tokens.tokens.items) = c.nesting.ensures ∙ ap (λ ts. nesting (map token_view ts)) c.as_slice.ensures.value in
-    nested c.if-text-gt-MAX_BYTES.false c.in_ok-tokens.ensures.split (omega arith)
+    nested c.if-text-gt-MAX_TEXT_BYTES.false c.in_ok-tokens.ensures.split (omega arith)
 
 pub returns-in_err-sections-clause-fault : goal.returns-in_err-sections-clause-fault
 returns-in_err-sections-clause-fault c =
@@ -33,7 +33,7 @@ returns-in_err-sections-clause-fault c =
     let same : map token_view c.as_slice-2.result.now ≡ map token_view tokens = ap (map token_view) c.as_slice-2.ensures.value in
     passed_on c.args.text.now c.from_residual-in_err-sections.result c.in_err-sections.field-0.0 c.from_residual-in_err-sections.ensures
     (λ is.
-    grammar c.if-text-gt-MAX_BYTES.false c.in_ok-tokens.ensures.split flat
+    grammar c.if-text-gt-MAX_TEXT_BYTES.false c.in_ok-tokens.ensures.split flat
     (λ all spelled. c.in_err-sections.ensures.none (ap Rattle.std.proofs.Common.Err is) (subst (λ ts. nesting ts ≤ 64) (sym same) flat) all (same ∙ spelled)))
 
 pub returns-in_default-clause-fault : goal.returns-in_default-clause-fault
@@ -44,7 +44,7 @@ returns-in_default-clause-fault c = λ _.
     let same : map token_view c.as_slice-2.result.now ≡ map token_view tokens = ap (map token_view) c.as_slice-2.ensures.value in
     let sections = c.in_ok-sections.ensures.found in
     lacks c.args.text.now (map token_view tokens) sections.0 (map section_view c.in_ok-sections.sections.items)
-    c.if-text-gt-MAX_BYTES.false flat c.in_ok-tokens.ensures.split (sym same ∙ sections.1) sections.2
+    c.if-text-gt-MAX_TEXT_BYTES.false flat c.in_ok-tokens.ensures.split (sym same ∙ sections.1) sections.2
     (sym c.in_ok-parts.ensures ∙ ap (option_map parts_view) c.in_default.is)
 
 pub returns-in_err-check-clause-fault : goal.returns-in_err-check-clause-fault
@@ -57,7 +57,7 @@ returns-in_err-check-clause-fault c =
     kept_on c.args.text.now c.from_residual-in_err-check.result c.in_err-check.field-0.0 c.from_residual-in_err-check.ensures
     (λ no.
     refused c.args.text.now (map token_view tokens) sections.0 (map section_view c.in_ok-sections.sections.items)
-    c.if-text-gt-MAX_BYTES.false flat c.in_ok-tokens.ensures.split (sym same ∙ sections.1) sections.2
+    c.if-text-gt-MAX_TEXT_BYTES.false flat c.in_ok-tokens.ensures.split (sym same ∙ sections.1) sections.2
     (parts_view c.in-Some.parts) (known_view c.in_ok-names.names) c.in_err-check.field-0.0
     (sym c.in_ok-parts.ensures ∙ ap (option_map parts_view) c.in-Some.is) c.in_ok-names.ensures (c.in_err-check.ensures no))
 
@@ -69,12 +69,12 @@ returns-clause-reads c =
     let same : map token_view c.as_slice-2.result.now ≡ map token_view tokens = ap (map token_view) c.as_slice-2.ensures.value in
     let sections = c.in_ok-sections.ensures.found in
     read c.args.text.now (map token_view tokens) sections.0 (map section_view c.in_ok-sections.sections.items)
-    c.if-text-gt-MAX_BYTES.false flat c.in_ok-tokens.ensures.split (sym same ∙ sections.1) sections.2
+    c.if-text-gt-MAX_TEXT_BYTES.false flat c.in_ok-tokens.ensures.split (sym same ∙ sections.1) sections.2
     (parts_view c.in-Some.parts) (known_view c.in_ok-names.names) (game_of c.in_ok-build.field-0)
     (sym c.in_ok-parts.ensures ∙ ap (option_map parts_view) c.in-Some.is) c.in_ok-names.ensures c.in_ok-check.ensures c.in_ok-build.ensures.means
 
-pub returns-then-text-gt-MAX_BYTES-clause-only : goal.returns-then-text-gt-MAX_BYTES-clause-only
-returns-then-text-gt-MAX_BYTES-clause-only c = λ game is. absurd (no_fault c.args.text.now game _ is (returns-then-text-gt-MAX_BYTES-clause-fault c (λ e. absurd (cc))))
+pub returns-then-text-gt-MAX_TEXT_BYTES-clause-only : goal.returns-then-text-gt-MAX_TEXT_BYTES-clause-only
+returns-then-text-gt-MAX_TEXT_BYTES-clause-only c = λ game is. absurd (no_fault c.args.text.now game _ is (returns-then-text-gt-MAX_TEXT_BYTES-clause-fault c (λ e. absurd (cc))))
 
 pub returns-then-nesting-gt-MAX_NESTING-clause-only : goal.returns-then-nesting-gt-MAX_NESTING-clause-only
 returns-then-nesting-gt-MAX_NESTING-clause-only c = λ game is. absurd (no_fault c.args.text.now game _ is (returns-then-nesting-gt-MAX_NESTING-clause-fault c (λ e. absurd (cc))))

@@ -9,8 +9,8 @@ use Rattle.tree_file.proofs.open.read_all.Goals as goal
 pub returns-then-word_at-eq-OLD_LAYOUT-clause-works : goal.returns-then-word_at-eq-OLD_LAYOUT-clause-works
 returns-then-word_at-eq-OLD_LAYOUT-clause-works g c = works_refl (g.P.Pages.store c.args.store.now)
 
-pub returns-then-capacity-lt-LEAST_PAGES-clause-works : goal.returns-then-capacity-lt-LEAST_PAGES-clause-works
-returns-then-capacity-lt-LEAST_PAGES-clause-works g c = works_refl (g.P.Pages.store c.args.store.now)
+pub returns-then-capacity-lt-MIN_PAGES-clause-works : goal.returns-then-capacity-lt-MIN_PAGES-clause-works
+returns-then-capacity-lt-MIN_PAGES-clause-works g c = works_refl (g.P.Pages.store c.args.store.now)
 
 pub returns-in_default-clause-works : goal.returns-in_default-clause-works
 returns-in_default-clause-works g c = works_refl (g.P.Pages.store c.args.store.now)
@@ -28,4 +28,4 @@ returns-clause-found g c = λ is_open wait.
     (g.met.P.Pages.sound c.args.store.now) wait c.in-Some.field-0.game c.in_ok-text.text.items c.in-Some.field-0.commits
     (subst (λ (r : List ℕ). SaysTrees r c.in-Some.field-0.game) c.root-root.ensures c.in-Some.ensures.says)
     (c.in-Some.ensures.commits ∙ ap commits_in c.root-root.ensures)
-    (omega (arith, c.capacity.ensures, c.if-capacity-lt-LEAST_PAGES.false)) c.in_ok-text.ensures.read
+    (omega (arith, c.capacity.ensures, c.if-capacity-lt-MIN_PAGES.false)) c.in_ok-text.ensures.read

@@ -13,13 +13,13 @@ use Rattle.tree_file.proofs.file.TreeFile.begin.Goals as goal
 pub standing-requires-clause-calm : goal.standing-requires-clause-calm
 standing-requires-clause-calm g c = begun_calm _ _ _ _ c.in-Ok.ensures.ok c.seal.ensures.marks c.seal.ensures.others
     (g.met.P.Pages.sound c.in-Ok.store).system (subst IsEmptyTreeSlot c.root-root.ensures c.in-Some.ensures.empty)
-    (omega (arith, c.if-capacity-ge-LEAST_PAGES.true, c.capacity.ensures))
+    (omega (arith, c.if-capacity-ge-MIN_PAGES.true, c.capacity.ensures))
 
 pub invariant_of-result : goal.invariant_of-result
 invariant_of-result g c =
     let new = g.P.Pages.store c.seal.new.self in
     let calm = begun_calm _ _ _ new c.in-Ok.ensures.ok c.seal.ensures.marks c.seal.ensures.others (g.met.P.Pages.sound c.in-Ok.store).system
-    (subst IsEmptyTreeSlot c.root-root.ensures c.in-Some.ensures.empty) (omega (arith, c.if-capacity-ge-LEAST_PAGES.true, c.capacity.ensures)) in
+    (subst IsEmptyTreeSlot c.root-root.ensures c.in-Some.ensures.empty) (omega (arith, c.if-capacity-ge-MIN_PAGES.true, c.capacity.ensures)) in
     let work : work_in c.standing.result ≡ work_of (slot_or_bare None) [] false new
     = c.standing.ensures.work ∙ (λ i. work_of (slot_or_bare None) (c.new.ensures.items i) false new) in
     let was : IsBackedFile c.in-Some.commits (file_of (work_of (slot_or_bare None) [] false new) None) = record {
@@ -38,5 +38,5 @@ returns-in-Some-clause-whole g c =
     = c.standing.ensures.work ∙ (λ i. work_of (slot_or_bare None) (c.new.ensures.items i) false new) in
     subst (λ (w : Work). IsWholeFile (file_of w None)) (sym work)
     (begun_whole _ _ _ new c.in-Ok.ensures.ok c.seal.ensures.marks c.seal.ensures.others (g.met.P.Pages.sound c.in-Ok.store).system
-    (subst IsEmptyTreeSlot c.root-root.ensures c.in-Some.ensures.empty) (omega (arith, c.if-capacity-ge-LEAST_PAGES.true, c.capacity.ensures))
+    (subst IsEmptyTreeSlot c.root-root.ensures c.in-Some.ensures.empty) (omega (arith, c.if-capacity-ge-MIN_PAGES.true, c.capacity.ensures))
     (g.met.P.Pages.sound c.seal.new.self))
