@@ -21,7 +21,8 @@ shape_of game = record {
   actions = count game.rules;
 }
 
--- no more pieces, vertices, values (those of the two players among them) and places than a game may have, and no value over the greatest number
+-- no more pieces, vertices, values (those of the two players among them) and places than a game may have, and no value over the
+-- greatest number
 pub record IsSmall (shape : Shape) : Type 0 where
   pub few_pieces : shape.pieces ≤ MAX_PIECES
   pub few_vertices : shape.vertices ≤ MAX_VERTICES

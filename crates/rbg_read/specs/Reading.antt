@@ -24,7 +24,8 @@ pub data Reads : Text → Game → Type 0 where
 pub data Fault : Text → GameFault → Type 0 where
   too_long : {bytes : Text} → MAX_TEXT_BYTES < length bytes → Fault bytes cause.TooLarge
   stray_byte : {bytes : Text} → length bytes ≤ MAX_TEXT_BYTES → ((ts : Tokens) → ¬ Splits bytes ts) → Fault bytes cause.Syntax
-  nested : {bytes : Text} {ts : Tokens} → length bytes ≤ MAX_TEXT_BYTES → Splits bytes ts → MAX_NESTING < nesting ts → Fault bytes cause.TooLarge
+  nested : {bytes : Text} {ts : Tokens} → length bytes ≤ MAX_TEXT_BYTES → Splits bytes ts → MAX_NESTING < nesting ts
+      → Fault bytes cause.TooLarge
   grammar : {bytes : Text} {ts : Tokens} → length bytes ≤ MAX_TEXT_BYTES → Splits bytes ts → nesting ts ≤ MAX_NESTING
       → ((all : List Section) → ¬ (ts ≡ text all)) → Fault bytes cause.Syntax
   first : {bytes : Text} {ts : Tokens} {all : List Section} {c : GameFault} → length bytes ≤ MAX_TEXT_BYTES → nesting ts ≤ MAX_NESTING

@@ -40,8 +40,8 @@ pub fn write_table<T: Table>(
     ensures long { T.is_honest table.old → IsTable (T.stored table.old)
         → ((x : List ℕ) (i : ℕ) → slice_get (T.stored table.old).positions i ≡ Some x → length x ≡ packed)
         → IfOk result (λ written. length written.bytes.items ≡ bytes_in written.sizes) }
-    ensures limits { T.is_honest table.old → IsTable (T.stored table.old) → length (T.stored table.old).positions ≤ 2 ^ 24 → packed ≤ MAX_PACKED
-        → IfOk result (λ written. AreWithinLimits written.sizes) }
+    ensures limits { T.is_honest table.old → IsTable (T.stored table.old) → length (T.stored table.old).positions ≤ 2 ^ 24
+        → packed ≤ MAX_PACKED → IfOk result (λ written. AreWithinLimits written.sizes) }
     ensures same { T.is_honest table.old → OnOk result (T.stored table.new ≡ T.stored table.old) }
     ensures honest { OnOk result (T.is_honest table.old ↔ T.is_honest table.new) }
     ensures still { OnOk result (T.counted table.new ≡ T.counted table.old) }
