@@ -1,8 +1,8 @@
-//! Tables as bytes by hand, and bytes that spell no table (`table_bytes`).
+//! Tables as bytes by hand (`table_bytes`).
 ghost use Rattle.std.specs.Prelude.{◌≡◌, ◌∷◌, []};
 ghost use Rattle.retrograde.specs.Stored.{loaded};
 
-use crate::two_positions::{TWO, TWO_COUNTS, TWO_SIZES, two_with};
+use crate::two_positions::{TWO, TWO_COUNTS, TWO_SIZES};
 use position_pack::Packed;
 use rbg_game::roles::Player;
 use retrograde::{Counts, Record, State};
@@ -30,12 +30,12 @@ const MORE_SIZES: Sizes = Sizes {
     edges: 2,
 };
 
-/// Reads the bytes with one edge, or others of their length.
+/// Reads the bytes with one edge.
 fn read_two(alloc: Global, bytes: &[u8; 49]) -> Result<MemTable, BytesFault> {
     read_table(alloc, &TWO_SIZES, bytes)
 }
 
-/// Reads the bytes with two edges, or others of their length.
+/// Reads the bytes with two edges.
 fn read_more(alloc: Global, bytes: &[u8; 57]) -> Result<MemTable, BytesFault> {
     read_table(alloc, &MORE_SIZES, bytes)
 }
@@ -61,7 +61,7 @@ const TAKE: [u8; 34] = [
     0, 0, 0, 0, 0, 0, 0, 0, 0, 0, 0, 0, 0, 0, 0, 0, // the record
 ];
 
-/// Reads those bytes, or others of their length.
+/// Reads those bytes.
 fn read_take(alloc: Global, bytes: &[u8; 34]) -> Result<MemTable, BytesFault> {
     read_table(alloc, &TAKE_SIZES, bytes)
 }
@@ -198,53 +198,4 @@ fn the_first_table_of_take_is_read(rt: HostRuntime) -> Result<(), Fail> {
     let mut start = Packed::new();
     let _fits = start.try_extend_from_slice(&[0; 14]);
     expect(table.number_of(&start)?, Some(0), "number")
-}
-
-const DAMAGED: Option<BytesFault> = Some(BytesFault::Damaged);
-
-/// What the bytes with another one at one place give.
-const WITH_ANOTHER_BYTE: [(usize, u8, Option<BytesFault>); 11] = [
-    (20, 7, DAMAGED), // a position that stands twice
-    (20, 8, None),
-    (4, 4, DAMAGED), // states and winners that there are not
-    (5, 3, DAMAGED),
-    (21, 4, DAMAGED),
-    (22, 3, DAMAGED),
-    (6, 9, None), // the two bytes behind the winner
-    (24, 9, None),
-    (40, 2, DAMAGED), // edges of numbers that are not known
-    (44, 2, DAMAGED),
-    (48, 9, None), // the settled order is not looked at here
-];
-
-#[test]
-fn another_byte_at_one_place_is_damaged_or_ignored(rt: HostRuntime) -> Result<(), Fail> {
-    for (at, byte, fault) in WITH_ANOTHER_BYTE {
-        let told = read_two(rt.alloc(), &two_with(at, byte)).err();
-        expect(told, fault, (at, byte))?;
-    }
-    Ok(())
-}
-
-/// The bytes with two edges: to these numbers, and the second from this one.
-fn edges_with(first: u8, second: u8, predecessor: u8) -> [u8; 57] {
-    let mut bytes = TWO_EDGES;
-    bytes[40] = first;
-    bytes[48] = second;
-    bytes[52] = predecessor;
-    bytes
-}
-
-#[test]
-fn edges_that_do_not_ascend_are_damaged(rt: HostRuntime) -> Result<(), Fail> {
-    // Descending, twice the same, and as they are.
-    for (first, second, predecessor, fault) in [
-        (1, 0, 0, DAMAGED),
-        (0, 0, 1, DAMAGED),
-        (0, 1, 0, None),
-    ] {
-        let told = read_more(rt.alloc(), &edges_with(first, second, predecessor)).err();
-        expect(told, fault, (first, second, predecessor))?;
-    }
-    Ok(())
 }

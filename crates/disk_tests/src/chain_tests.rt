@@ -1,4 +1,4 @@
-//! Chains are written, committed and read back on a disk in memory; chains that are none are refused (`page_chain`).
+//! Chains are written, committed and read back on a disk in memory, and on one of which a call fails (`page_chain`).
 
 use crate::disks::{bytes_of, commit, opened, sealed, table_disk};
 use page_chain::{Chain, PAYLOAD, read_chain, write_chain};
@@ -104,84 +104,6 @@ fn a_page_names_the_next_in_its_first_four_bytes(rt: HostRuntime) -> Result<(), 
     expect((heads, zero), (wanted, true), "heads")
 }
 
-/// What a chain of this size answers, as its length, and how many pages of 16 are free then.
-fn told_writing(alloc: Global, size: usize) -> Result<(Result<usize, PageFault>, u32), Fail> {
-    let mut store = sealed(alloc, disk_of(alloc, SIXTEEN)?)?;
-    let told = write_chain(alloc, &mut store, &content_of(alloc, size)?);
-    Ok((told.map(|pages| pages.len()), store.free_pages()))
-}
-
-#[test]
-fn a_chain_that_is_too_long_takes_no_page(rt: HostRuntime) -> Result<(), Fail> {
-    let rows = [
-        (65_786, (Err(PageFault::TableFull), 15)),
-        (15 * PAYLOAD, (Ok(15), 0)),
-    ];
-    for (size, wanted) in rows {
-        expect(told_writing(rt.alloc(), size)?, wanted, size)?;
-    }
-    Ok(())
-}
-
-/// Pages from 1 on that name these next ones, and hold 100 fives.
-fn link<P: Pages>(store: &mut P, links: &[u32]) -> Result<(), PageFault> {
-    for next in links {
-        let page = store.new_page()?;
-        let mut bytes = [0; 4096];
-        bytes[..4].copy_from_slice(&next.to_be_bytes());
-        bytes[4..104].fill(5);
-        store.write_page(page, &bytes)?;
-    }
-    Ok(())
-}
-
-/// The fault of reading so many bytes from page `first` on, on a disk of 16 pages that name these.
-fn following_fault(
-    alloc: Global,
-    links: &[u32],
-    first: u32,
-    size: usize,
-) -> Result<Option<PageFault>, Fail> {
-    Ok(read_back(alloc, linked(alloc, links)?, first, size).err())
-}
-
-/// A disk of 16 pages that name these.
-fn linked(alloc: Global, links: &[u32]) -> Result<MemDisk, Fail> {
-    let mut store = sealed(alloc, disk_of(alloc, SIXTEEN)?)?;
-    link(&mut store, links)?;
-    commit(&mut store, 8)?;
-    Ok(store.into_disk())
-}
-
-#[test]
-fn a_chain_goes_where_its_pages_lead(rt: HostRuntime) -> Result<(), Fail> {
-    let chain = read_back(rt.alloc(), linked(rt.alloc(), &[3, 0, 2])?, 1, 12_276)?;
-    expect(chain.pages.as_slice(), [1, 3, 2].as_slice(), "goes on")?;
-    let none = read_back(rt.alloc(), linked(rt.alloc(), &[0])?, 0, 0)?;
-    expect(none.pages.len(), 0, "of no bytes")
-}
-
-/// What is no chain of its size: the pages from 1 on name these, and so many bytes are read from the first page on.
-const NO_CHAINS: [(&str, &[u32], u32, usize); 8] = [
-    ("goes round", &[2, 3, 1], 1, 16_368),
-    ("ends early", &[2, 0], 1, 12_276),
-    ("goes on", &[2, 3, 0], 1, 8_184),
-    ("begins at the system page", &[0], 0, 1),
-    ("names a page that is not there", &[16], 1, 4_093),
-    ("begins at a page that is not there", &[0], u32::MAX, 1),
-    ("is longer than all memory", &[0], 1, usize::MAX),
-    ("has a page and no bytes", &[0], 1, 0),
-];
-
-#[test]
-fn what_is_no_chain_of_its_size_is_damaged(rt: HostRuntime) -> Result<(), Fail> {
-    for (name, links, first, size) in NO_CHAINS {
-        let told = following_fault(rt.alloc(), links, first, size)?;
-        expect(told, Some(PageFault::Damaged), name)?;
-    }
-    Ok(())
-}
-
 /// The fault of writing 5,000 bytes on a disk of which this call fails, the opening counted.
 fn writing_fault(alloc: Global, at_call: u64) -> Result<Option<PageFault>, Fail> {
     match sealed(
@@ -218,21 +140,4 @@ fn a_call_that_fails_is_told(rt: HostRuntime) -> Result<(), Fail> {
         expect(found, (fault, (fault, all_pass)), at_call)?;
     }
     Ok(())
-}
-
-/// What reading a chain answers of which the seventh sector cannot be read, and then reading its first page.
-fn told_reading(alloc: Global) -> Result<(Option<PageFault>, Result<(), PageFault>), Fail> {
-    let (disk, first) = written(alloc, &[6; 5_000])?;
-    let mut store = opened(alloc, FlakyDisk::new(disk, 10, false))?;
-    let told = read_chain(alloc, &mut store, first, 5_000).err();
-    Ok((told, store.read_page(first, &mut [0; 4096])))
-}
-
-#[test]
-fn a_read_that_fails_leaves_the_store_open(rt: HostRuntime) -> Result<(), Fail> {
-    expect(
-        told_reading(rt.alloc())?,
-        (Some(PageFault::Disk), Ok(())),
-        "told",
-    )
 }

@@ -12,12 +12,6 @@ use std::test::Fail;
 /// To open takes four disk calls: a sync, the header, the gate and the slot.
 pub const OPENING: u64 = 4;
 
-/// To write a page takes eight.
-pub const WRITING: u64 = 8;
-
-/// To commit takes five: the gate is read, the spare slot written, a sync, the gate written, a sync.
-pub const COMMIT: u64 = 5;
-
 /// A disk of so many sectors with a table on it that has this root.
 pub fn table_disk(alloc: Global, sectors: u64, root: &[u8; 512]) -> Result<MemDisk, Fail> {
     let mut disk = MemDisk::new(alloc, sectors)?;

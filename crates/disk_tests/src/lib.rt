@@ -1,4 +1,4 @@
-//! Tests of disks, of their roots, pages and chains, and of tables on them.
+//! Tests of disks, of their roots, pages and chains, and of tables as bytes.
 #![tactic(auto)]
 
 #[cfg(test)]
@@ -10,15 +10,11 @@ mod chain_tests;
 #[cfg(test)]
 mod disks;
 #[cfg(test)]
-mod flat_tests;
-#[cfg(test)]
 mod root_tests;
 #[cfg(test)]
 mod sector_tests;
 #[cfg(test)]
 mod soak_tests;
-#[cfg(test)]
-mod stop_tests;
 #[cfg(test)]
 mod store_tests;
 #[cfg(test)]

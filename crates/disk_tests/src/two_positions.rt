@@ -26,12 +26,3 @@ pub const TWO_SIZES: Sizes = Sizes {
     counts: TWO_COUNTS,
     edges: 1,
 };
-
-/// The bytes with another one at this place; as they are where there is no such place.
-pub fn two_with(at: usize, byte: u8) -> [u8; 49] {
-    let mut bytes = TWO;
-    if at < bytes.len() {
-        bytes[at] = byte;
-    }
-    bytes
-}

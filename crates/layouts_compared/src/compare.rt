@@ -1,17 +1,15 @@
-//! One game, worked to its end in each table, with questions on the way.
+//! What tables of both layouts say of one game, compared.
 
-use crate::tables::{Replies, Tables};
-use recover::Units;
-use retrograde::Counts;
-use session::input::{Asked, Question};
+use crate::layout::{Flat, SECTORS, Trees};
+use crate::sitting::{Told, told_of};
+use page_store::MOST_CACHED;
+use sector_disk::{MemDisk, SectorDisk};
 use std::alloc::Global;
 use std::fmt::{self, Display, Formatter, Write};
+use std::str::from_utf8;
 
-/// So many units are asked for in turn.
-const STEPS: [u32; 4] = [1, 7, 97, 256];
-
-/// So many commands are between two openings.
-const COMMANDS: usize = 16;
+/// So many bytes of a difference are told.
+const SHOWN: usize = 200;
 
 /// What came of a game.
 #[derive(Drop)]
@@ -25,184 +23,86 @@ pub enum Outcome {
     NotRight,
 }
 
-/// Answers to one line.
+/// Where two tables begin to say different things.
 #[derive(Drop)]
 pub struct Difference {
-    asked: String,
-    replies: Replies,
+    flat: Vec<u8>,
+    trees: Vec<u8>,
 }
 
 impl Display for Difference {
     fn fmt<W: Write>(&self, f: &mut Formatter<W>) -> fmt::Result {
-        write!(f, "{}: {}", self.asked, self.replies)
+        let flat = from_utf8(&self.flat).unwrap_or("?");
+        let trees = from_utf8(&self.trees).unwrap_or("?");
+        write!(f, "layout 1 says\n{flat}\nlayout 2 says\n{trees}")
     }
 }
 
-/// Loads the game of this text, does up to so many units of work, and asks on the way and at the end. One table keeps so many pages
-/// in memory, two at most.
+/// Loads the game of this text into a table of layout 1, and into two of layout 2 of which one keeps so many pages in memory, two at
+/// most; does up to so many units of work in each, and compares all that they say.
 pub fn compare(alloc: Global, text: &[u8], most: u32, pages: usize) -> anyhow::Result<Outcome> {
-    let mut tables = Tables::create(alloc, pages)?;
-    tables.load(text)?;
-    for first in (0..most).step_by(COMMANDS) {
-        if let Some(difference) = some_steps(alloc, &mut tables, first, most)? {
-            return Ok(Outcome::Differs(difference));
-        }
-        tables = tables.reopened(alloc)?;
-        if is_done(tables.counts(), most) {
-            break;
-        }
-    }
-    at_the_end(alloc, tables)
-}
-
-/// As many commands as there are between two openings, from this one on, but no more once the table is finished or so many units are done.
-fn some_steps(
-    alloc: Global,
-    tables: &mut Tables,
-    first: u32,
-    most: u32,
-) -> anyhow::Result<Option<Difference>> {
-    for round in (first..most).take(COMMANDS) {
-        let difference = step(alloc, tables, round)?;
-        if difference.is_some() || is_done(tables.counts(), most) {
-            return Ok(difference);
-        }
-    }
-    Ok(None)
-}
-
-/// Asks about each position, audits the tables, and compares the files.
-fn at_the_end(alloc: Global, tables: Tables) -> anyhow::Result<Outcome> {
-    let mut tables = tables;
-    let known = known_of(tables.counts());
-    if let Some(difference) = ask_all(alloc, &mut tables, known)? {
+    let flat = told_of::<Flat>(alloc, text, most, MOST_CACHED)?;
+    let trees = told_of::<Trees>(alloc, text, most, MOST_CACHED)?;
+    if let Some(difference) = difference(alloc, &flat.said, &trees.said)? {
         return Ok(Outcome::Differs(difference));
     }
-    if !tables.are_right()? {
+    let spare = told_of::<Trees>(alloc, text, most, pages.min(2))?;
+    if let Some(difference) = difference(alloc, &flat.said, &spare.said)? {
+        return Ok(Outcome::Differs(difference));
+    }
+    if !(flat.is_right && trees.is_right && spare.is_right) {
         return Ok(Outcome::NotRight);
     }
-    if tables.have_equal_files()? {
+    let Told { disk, known, .. } = trees;
+    if have_equal_sectors(disk, spare.disk)? {
         Ok(Outcome::Equal(known))
     } else {
         Ok(Outcome::OtherFiles)
     }
 }
 
-/// How many positions are known.
-fn known_of(counts: Option<Counts>) -> u32 {
-    match counts {
-        Some(counts) => counts.known,
-        None => 0,
-    }
-}
-
-/// Whether the table is finished, or so many units are done.
-fn is_done(counts: Option<Counts>, most: u32) -> bool {
-    match counts {
-        Some(counts) => {
-            counts.expanded == counts.known && counts.processed == counts.settled
-                || counts.expanded.saturating_add(counts.processed) >= most
-        }
-        None => true,
-    }
-}
-
-/// The next command, and a few questions behind it.
-fn step(alloc: Global, tables: &mut Tables, round: u32) -> anyhow::Result<Option<Difference>> {
-    let Some(units) = Units::new(STEPS[round as usize % 4]) else {
-        return Ok(None);
-    };
-    if let Some(difference) = asked_of(alloc, tables, Asked::Work(units))? {
-        return Ok(Some(difference));
-    }
-    let known = known_of(tables.counts());
-    ask_few(
-        alloc,
-        tables,
-        [0, known / 3, known / 2, known.saturating_sub(1), known],
-    )
-}
-
-/// Questions about a few numbers, and how far the table is.
-fn ask_few(
-    alloc: Global,
-    tables: &mut Tables,
-    numbers: [u32; 5],
-) -> anyhow::Result<Option<Difference>> {
-    for number in &numbers {
-        let difference = ask_number(alloc, tables, *number)?;
-        if difference.is_some() {
-            return Ok(difference);
-        }
-    }
-    asked_of(alloc, tables, Asked::Status)
-}
-
-/// All questions about one number.
-fn ask_number(
-    alloc: Global,
-    tables: &mut Tables,
-    number: u32,
-) -> anyhow::Result<Option<Difference>> {
-    for question in &[Question::Value(number), Question::Line(number)] {
-        let difference = asked_of(alloc, tables, Asked::Question(*question))?;
-        if difference.is_some() {
-            return Ok(difference);
-        }
-    }
-    let show = Asked::Question(Question::Show(number));
-    let replies = tables.ask(alloc, show)?;
-    if !replies.are_equal() {
-        return differing(alloc, show, replies);
-    }
-    match replies.flat.line.as_slice() {
-        [text @ .., b'\n'] => asked_of(alloc, tables, Asked::Question(Question::Find(text))),
-        _ => Ok(None),
-    }
-}
-
-/// The values of all positions, and all questions about each seventeenth of them.
-fn ask_all(alloc: Global, tables: &mut Tables, known: u32) -> anyhow::Result<Option<Difference>> {
-    let Some(rows) = Units::new(256) else {
-        return Ok(None);
-    };
-    for number in 0..known {
-        if number % 256 == 0 {
-            let question = Question::List(number, rows);
-            let difference = asked_of(alloc, tables, Asked::Question(question))?;
-            if difference.is_some() {
-                return Ok(difference);
-            }
-        }
-        if number % 17 == 0 {
-            let difference = ask_number(alloc, tables, number)?;
-            if difference.is_some() {
-                return Ok(difference);
-            }
-        }
-    }
-    Ok(None)
-}
-
-/// The replies to this line, where they differ.
-fn asked_of(
-    alloc: Global,
-    tables: &mut Tables,
-    asked: Asked<'_>,
-) -> anyhow::Result<Option<Difference>> {
-    let replies = tables.ask(alloc, asked)?;
-    if replies.are_equal() {
+/// What the two say from the first byte on that differs, if one does.
+fn difference(alloc: Global, flat: &[u8], trees: &[u8]) -> anyhow::Result<Option<Difference>> {
+    if flat == trees {
         return Ok(None);
     }
-    differing(alloc, asked, replies)
+    let same = flat
+        .iter()
+        .zip(trees)
+        .take_while(|(one, other)| one == other)
+        .count();
+    Ok(Some(Difference {
+        flat: shown(alloc, flat, same)?,
+        trees: shown(alloc, trees, same)?,
+    }))
 }
 
-/// Answers that differ, with what was asked.
-fn differing(
-    alloc: Global,
-    asked: Asked<'_>,
-    replies: Replies,
-) -> anyhow::Result<Option<Difference>> {
-    let asked = format!(in alloc; "{asked:?}")?;
-    Ok(Some(Difference { asked, replies }))
+/// Some bytes around this one.
+fn shown(alloc: Global, said: &[u8], at: usize) -> anyhow::Result<Vec<u8>> {
+    let mut bytes = Vec::new(alloc);
+    let from = at.saturating_sub(SHOWN);
+    for byte in said.iter().skip(from).take(2 * SHOWN) {
+        bytes.push(*byte)?;
+    }
+    Ok(bytes)
+}
+
+/// Whether two files are the same, byte for byte.
+fn have_equal_sectors(one: MemDisk, other: MemDisk) -> anyhow::Result<bool> {
+    let (mut one, mut other) = (one, other);
+    for at in 0..SECTORS {
+        if sector(&mut one, at)? != sector(&mut other, at)? {
+            return Ok(false);
+        }
+    }
+    Ok(true)
+}
+
+/// The bytes of a sector; zeros where there is none.
+fn sector(disk: &mut MemDisk, at: u64) -> anyhow::Result<[u8; 512]> {
+    let mut bytes = [0; 512];
+    if at < disk.sectors() {
+        disk.read(at, &mut bytes)?;
+    }
+    Ok(bytes)
 }

@@ -3,7 +3,8 @@
 #![tactic(auto)]
 
 mod compare;
-mod tables;
+mod layout;
+mod sitting;
 
 use crate::compare::{Outcome, compare};
 use std::alloc::Global;

@@ -6,6 +6,7 @@ use retrograde::Counts;
 use sector_disk::{FlakyDisk, MemDisk, SectorDisk};
 use std::alloc::Global;
 use std::test::Fail;
+use test_aids::expect;
 
 /// The disk calls that open the table of the game of takes that is just loaded. Four find the root: a sync, the header, the gate and
 /// the slot. A page is eight sectors, and four times a page is read: the text, the one leaf of the positions and that of the records,
@@ -106,7 +107,7 @@ fn after_a_failed_write_or_sync_all_is_closed_until_it_is_opened_again(
     for call in [TO_OPEN + 8, TO_OPEN + TO_WORK + TO_COMMIT - 1] {
         let mut solver = solver_on(rt.alloc(), 64, call)?;
         let before = status(&solver);
-        assert_eq!(rt; worked(&mut solver), Err(SolverFault::Disk));
+        expect(worked(&mut solver), Err(SolverFault::Disk), call)?;
         for question in [
             Question::Work,
             Question::Load,
@@ -116,10 +117,18 @@ fn after_a_failed_write_or_sync_all_is_closed_until_it_is_opened_again(
             Question::Show,
             Question::Find,
         ] {
-            assert_eq!(rt; refusal(&mut solver, question), Some(SolverFault::Closed));
+            expect(
+                refusal(&mut solver, question),
+                Some(SolverFault::Closed),
+                (call, question),
+            )?;
         }
-        assert_eq!(rt; status(&solver), before);
-        assert!(rt; all_say(rt.alloc(), &disk_of(solver), &[LOADED, WORKED])?);
+        expect(status(&solver), before, call)?;
+        expect(
+            all_say(rt.alloc(), &disk_of(solver), &[LOADED, WORKED])?,
+            true,
+            call,
+        )?;
     }
     Ok(())
 }
@@ -135,14 +144,18 @@ fn a_read_that_fails_within_work_changes_nothing(rt: HostRuntime) -> Result<(), 
     ] {
         let mut solver = solver_on(rt.alloc(), pages, call)?;
         let before = status(&solver);
-        assert_eq!(rt; worked(&mut solver), Err(SolverFault::Disk));
-        assert_eq!(rt; status(&solver), before);
+        expect(worked(&mut solver), Err(SolverFault::Disk), call)?;
+        expect(status(&solver), before, call)?;
         let first = Worked {
             units: 7,
             counts: SEVEN_WORKED,
         };
-        assert_eq!(rt; worked(&mut solver), Ok(first));
-        assert!(rt; all_say(rt.alloc(), &disk_of(solver), &[WORKED])?);
+        expect(worked(&mut solver), Ok(first), (pages, call))?;
+        expect(
+            all_say(rt.alloc(), &disk_of(solver), &[WORKED])?,
+            true,
+            (pages, call),
+        )?;
     }
     Ok(())
 }
@@ -156,7 +169,7 @@ fn a_disk_of_which_the_first_sync_fails_comes_back_and_is_opened(
         Ok(_) => return Err("the table was opened")?,
         Err(refused) => refused,
     };
-    assert_eq!(rt; refused.fault, SolverFault::Disk);
+    expect(refused.fault, SolverFault::Disk, 0)?;
     let loaded = Counts {
         known: 1,
         expanded: 0,
@@ -164,8 +177,7 @@ fn a_disk_of_which_the_first_sync_fails_comes_back_and_is_opened(
         processed: 0,
     };
     match Solver::open(rt.alloc(), refused.disk) {
-        Ok(solver) => assert_eq!(rt; status(&solver), Some(loaded)),
+        Ok(solver) => expect(status(&solver), Some(loaded), 1),
         Err(_) => Err("the table was refused")?,
     }
-    Ok(())
 }

@@ -6,7 +6,7 @@ use retrograde::Counts;
 use sector_disk::{FlakyDisk, SectorDisk};
 use std::alloc::Global;
 use std::test::Fail;
-use test_aids::TAKE;
+use test_aids::{TAKE, expect};
 
 /// The number of the last disk call of the run here, counted from 0: four calls open the empty table; to load takes eight for the text and
 /// each of two leaves, and five to commit; and 224 work, as in `fault_tests` with both leaves in memory, and five commit.
@@ -71,7 +71,7 @@ fn a_run_answers_each_command(rt: HostRuntime) -> Result<(), Fail> {
         &[],
         &mut replies,
     )?;
-    assert_eq!(rt; replies.len(), 0);
+    expect(replies.len(), 0, "no commands")?;
     replies.push(Reply::Loaded)?;
     let commands = commands(
         alloc,
@@ -85,9 +85,8 @@ fn a_run_answers_each_command(rt: HostRuntime) -> Result<(), Fail> {
         Reply::Refused(SolverFault::GameAlready),
         worked(7, 7, 7),
     ];
-    assert_eq!(rt; replies.as_slice(), wanted.as_slice());
-    assert!(rt; is_right(alloc, disk)?);
-    Ok(())
+    expect(replies.as_slice(), wanted.as_slice(), "the replies")?;
+    expect(is_right(alloc, disk)?, true, "the table")
 }
 
 #[test]
@@ -100,7 +99,10 @@ fn a_sync_that_fails_in_a_run_leaves_the_table_before_that_command_or_after(
     let flaky = FlakyDisk::new(disk, LAST_SYNC, false);
     let disk = run_on(rt.alloc(), flaky, &commands, &mut replies)?.into_inner();
     let wanted = [Reply::Loaded, Reply::Refused(SolverFault::Disk)];
-    assert_eq!(rt; replies.as_slice(), wanted.as_slice());
-    assert!(rt; all_say(rt.alloc(), &disk, &[LOADED, WORKED])?);
-    Ok(())
+    expect(replies.as_slice(), wanted.as_slice(), "the replies")?;
+    expect(
+        all_say(rt.alloc(), &disk, &[LOADED, WORKED])?,
+        true,
+        "the pictures",
+    )
 }

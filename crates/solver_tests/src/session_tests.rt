@@ -15,7 +15,7 @@ use session::replies::{put_status, value_line};
 use std::alloc::Global;
 use std::io::{self, ErrorKind, Write};
 use std::test::Fail;
-use test_aids::TAKE;
+use test_aids::{TAKE, expect};
 
 /// A writer that takes so many bytes, and then fails.
 #[derive(Drop)]
@@ -49,7 +49,11 @@ fn an_output_that_fails_is_status_four(rt: HostRuntime) -> Result<(), Fail> {
         (0, b"".as_slice(), 4),
         (10, b"".as_slice(), 4),
     ] {
-        assert_eq!(rt; moves_to(rt.alloc(), text, &mut Narrow { room }), status);
+        expect(
+            moves_to(rt.alloc(), text, &mut Narrow { room }),
+            status,
+            room,
+        )?;
     }
     Ok(())
 }
@@ -81,8 +85,8 @@ fn refusals_have_a_line_and_a_status(rt: HostRuntime) -> Result<(), Fail> {
         (SolverFault::Game(GameFault::Syntax), 1, b"refused G1\n"),
     ];
     for (fault, status, line) in rows {
-        assert_eq!(rt; refused_line(rt.alloc(), fault)?.as_slice(), line);
-        assert_eq!(rt; status_of(fault), status);
+        expect(refused_line(rt.alloc(), fault)?.as_slice(), line, fault)?;
+        expect(status_of(fault), status, fault)?;
     }
     Ok(())
 }
@@ -114,8 +118,11 @@ fn replies_tell_the_greatest_numbers(rt: HostRuntime) -> Result<(), Fail> {
 known 4294967295 expanded 7 settled 7 processed 7 open
 hen in 4294967295
 ";
-    assert_eq!(rt; greatest_lines(rt.alloc())?.as_slice(), wanted.as_slice());
-    Ok(())
+    expect(
+        greatest_lines(rt.alloc())?.as_slice(),
+        wanted.as_slice(),
+        MOST,
+    )
 }
 
 /// What a command on this disk comes to, with the line that it prints.
@@ -131,27 +138,30 @@ fn a_game_is_loaded_once_and_a_table_made_once_and_with_room(rt: HostRuntime) ->
     let loaded = [Deed::Create, Deed::LoadTake];
     let again = FileCommand::Load(TAKE.as_bytes().to_vec(alloc)?);
     let (outcome, line) = outcome_on(alloc, disk_after(alloc, &loaded)?, again);
-    assert_eq!(rt;
+    expect(
         (outcome.status, outcome.refused),
-        (1, Some(SolverFault::GameAlready))
-    );
-    assert_eq!(rt; line.as_slice(), b"refused S2\n".as_slice());
+        (1, Some(SolverFault::GameAlready)),
+        line.as_slice(),
+    )?;
+    expect(line.as_slice(), b"refused S2\n".as_slice(), outcome.status)?;
     let (outcome, line) = outcome_on(alloc, disk_after(alloc, &loaded)?, FileCommand::Create);
-    assert_eq!(rt;
+    expect(
         (outcome.status, outcome.refused),
-        (1, Some(SolverFault::AlreadyATable))
-    );
-    assert_eq!(rt; line.as_slice(), b"refused E3\n".as_slice());
+        (1, Some(SolverFault::AlreadyATable)),
+        line.as_slice(),
+    )?;
+    expect(line.as_slice(), b"refused E3\n".as_slice(), outcome.status)?;
     let (outcome, line) = outcome_on(
         alloc,
         MemDisk::new(alloc, SECTORS - 1)?,
         FileCommand::Create,
     );
-    assert_eq!(rt;
+    expect(
         (outcome.status, outcome.refused),
-        (1, Some(SolverFault::TooSmall))
-    );
-    assert_eq!(rt; line.as_slice(), b"refused E6\n".as_slice());
+        (1, Some(SolverFault::TooSmall)),
+        line.as_slice(),
+    )?;
+    expect(line.as_slice(), b"refused E6\n".as_slice(), outcome.status)?;
     Ok(())
 }
 
@@ -180,16 +190,15 @@ fn a_disk_that_fails_ends_a_session(rt: HostRuntime) -> Result<(), Fail> {
     // 36 calls to open, 232 to work and five to commit, as in `fault_tests`
     for passes in [0, 1, 35, 36, 150, 267, 268, 272] {
         let said = session_with(rt.alloc(), passes, b"work 7\nworks\n")?;
-        assert_eq!(rt; said.status, 4, "{passes} calls pass");
-        assert_eq!(rt; said.out.as_slice(), b"refused E1\n".as_slice());
-        assert_eq!(rt; said.told.as_slice(), advice);
+        expect(said.status, 4, passes)?;
+        expect(said.out.as_slice(), b"refused E1\n".as_slice(), passes)?;
+        expect(said.told.as_slice(), advice, passes)?;
     }
     let said = session_with(rt.alloc(), 273, b"work 7\nworks\n")?;
-    assert_eq!(rt; said.status, 0);
+    expect(said.status, 0, 273)?;
     let done = b"units 7 known 7 expanded 7 settled 2 processed 0 open\nusage\n".as_slice();
-    assert_eq!(rt; said.out.as_slice(), done);
-    assert!(rt; said.told.is_empty());
-    Ok(())
+    expect(said.out.as_slice(), done, 273)?;
+    expect(said.told.is_empty(), true, 273)
 }
 
 /// The status of a session whose output takes so many bytes.
@@ -204,7 +213,7 @@ fn status_with(alloc: Global, room: usize) -> Result<u8, Fail> {
 #[test]
 fn an_output_that_fails_ends_a_session(rt: HostRuntime) -> Result<(), Fail> {
     for (room, status) in [(0, 4), (LOADED.len() - 1, 4), (LOADED.len(), 4), (1_000, 0)] {
-        assert_eq!(rt; status_with(rt.alloc(), room)?, status, "{room} bytes");
+        expect(status_with(rt.alloc(), room)?, status, room)?;
     }
     Ok(())
 }

@@ -3,6 +3,7 @@
 use best_line::Value;
 use rbg_game::roles::Player;
 use std::test::Fail;
+use test_aids::expect;
 use witness::value_after_a_stop;
 
 /// More disk calls than the sitting makes, which are 216 at most: four to open the empty table, 29 to load, 37 and 77 to work one unit and
@@ -16,7 +17,7 @@ fn white_wins_in_two_whenever_the_power_stops(rt: HostRuntime) -> Result<(), Fai
     for calls in 0..MOST_CALLS {
         for pick in 0..8 {
             let value = value_after_a_stop(rt.alloc(), calls, pick)?;
-            assert_eq!(rt; value, Value::Won(Player::First, 2));
+            expect(value, Value::Won(Player::First, 2), (calls, pick))?;
         }
     }
     Ok(())

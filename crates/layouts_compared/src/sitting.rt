@@ -1,0 +1,191 @@
+//! One game, worked to its end in one table, with questions on the way.
+
+use crate::layout::Layout;
+use audit::Verdict;
+use line_answers::input::{Asked, Question};
+use line_answers::questions::put_answer;
+use page_store::MOST_CACHED;
+use recover::{FileSolver, Units};
+use retrograde::Counts;
+use std::alloc::Global;
+use std::io::Write;
+
+/// So many units are asked for in turn.
+const STEPS: [u32; 4] = [1, 7, 97, 256];
+
+/// So many commands are between two openings.
+const COMMANDS: usize = 16;
+
+/// What one table said, and what is left of it.
+#[derive(Drop)]
+pub struct Told<D> {
+    /// What was asked, and each reply: the line, what it tells besides, and the status.
+    pub said: Vec<u8>,
+    /// How many positions are known.
+    pub known: u32,
+    /// What the audit says.
+    pub is_right: bool,
+    /// Its disk.
+    pub disk: D,
+}
+
+/// Loads the game of this text into an empty table with so many pages in memory, does up to so many units of work, and asks on
+/// the way and at the end.
+pub fn told_of<F: Layout>(
+    alloc: Global,
+    text: &[u8],
+    most: u32,
+    pages: usize,
+) -> anyhow::Result<Told<F::Device>> {
+    let mut said = Vec::new(alloc);
+    let mut solver = begun::<F>(alloc, pages)?;
+    solver.load(text)?;
+    for first in (0..most).step_by(COMMANDS) {
+        some_steps(alloc, &mut solver, &mut said, first, most)?;
+        solver = opened(alloc, F::stopped(alloc, solver.close())?, pages)?;
+        if is_done(solver.status(), most) {
+            break;
+        }
+    }
+    let known = known_of(solver.status());
+    ask_all(alloc, &mut solver, &mut said, known)?;
+    let is_right = solver.audit()? == Verdict::Right;
+    let disk = solver.close();
+    Ok(Told {
+        said,
+        known,
+        is_right,
+        disk,
+    })
+}
+
+/// An empty table with so many pages in memory.
+fn begun<F: Layout>(alloc: Global, pages: usize) -> anyhow::Result<FileSolver<F>> {
+    match FileSolver::<F>::create(alloc, F::new_disk(alloc)?) {
+        Ok(solver) if pages == MOST_CACHED => Ok(solver),
+        Ok(solver) => opened(alloc, solver.close(), pages),
+        Err(refused) => Err(refused.fault.into()),
+    }
+}
+
+/// The table on this disk, with so many of its pages in memory.
+fn opened<F: Layout>(
+    alloc: Global,
+    disk: F::Device,
+    pages: usize,
+) -> anyhow::Result<FileSolver<F>> {
+    match FileSolver::<F>::open_with_cache(alloc, disk, pages.min(MOST_CACHED)) {
+        Ok(solver) => Ok(solver),
+        Err(refused) => Err(refused.fault.into()),
+    }
+}
+
+/// As many commands as there are between two openings, from this one on, but no more once the table is finished or so many units are done.
+fn some_steps<F: Layout>(
+    alloc: Global,
+    solver: &mut FileSolver<F>,
+    said: &mut Vec<u8>,
+    first: u32,
+    most: u32,
+) -> anyhow::Result<()> {
+    for round in (first..most).take(COMMANDS) {
+        step(alloc, solver, said, round)?;
+        if is_done(solver.status(), most) {
+            return Ok(());
+        }
+    }
+    Ok(())
+}
+
+/// How many positions are known.
+fn known_of(counts: Option<Counts>) -> u32 {
+    match counts {
+        Some(counts) => counts.known,
+        None => 0,
+    }
+}
+
+/// Whether the table is finished, or so many units are done.
+fn is_done(counts: Option<Counts>, most: u32) -> bool {
+    match counts {
+        Some(counts) => {
+            counts.expanded == counts.known && counts.processed == counts.settled
+                || counts.expanded.saturating_add(counts.processed) >= most
+        }
+        None => true,
+    }
+}
+
+/// The next command, and a few questions behind it.
+fn step<F: Layout>(
+    alloc: Global,
+    solver: &mut FileSolver<F>,
+    said: &mut Vec<u8>,
+    round: u32,
+) -> anyhow::Result<()> {
+    if let Some(units) = Units::new(STEPS[round as usize % 4]) {
+        ask(alloc, solver, said, Asked::Work(units))?;
+    }
+    let known = known_of(solver.status());
+    for number in &[0, known / 3, known / 2, known.saturating_sub(1), known] {
+        ask_number(alloc, solver, said, *number)?;
+    }
+    ask(alloc, solver, said, Asked::Status)
+}
+
+/// All questions about one number.
+fn ask_number<F: Layout>(
+    alloc: Global,
+    solver: &mut FileSolver<F>,
+    said: &mut Vec<u8>,
+    number: u32,
+) -> anyhow::Result<()> {
+    for question in &[Question::Value(number), Question::Line(number)] {
+        ask(alloc, solver, said, Asked::Question(*question))?;
+    }
+    let mut text = Vec::new(alloc);
+    let show = Asked::Question(Question::Show(number));
+    put_answer(alloc, solver, show, &mut text, said)?;
+    said.write_all(&text)?;
+    match text.as_slice() {
+        [text @ .., b'\n'] => ask(alloc, solver, said, Asked::Question(Question::Find(text))),
+        _ => Ok(()),
+    }
+}
+
+/// The values of all positions, and all questions about each seventeenth of them.
+fn ask_all<F: Layout>(
+    alloc: Global,
+    solver: &mut FileSolver<F>,
+    said: &mut Vec<u8>,
+    known: u32,
+) -> anyhow::Result<()> {
+    let Some(rows) = Units::new(256) else {
+        return Ok(());
+    };
+    for number in 0..known {
+        if number % 256 == 0 {
+            let list = Question::List(number, rows);
+            ask(alloc, solver, said, Asked::Question(list))?;
+        }
+        if number % 17 == 0 {
+            ask_number(alloc, solver, said, number)?;
+        }
+    }
+    Ok(())
+}
+
+/// Asks this, and keeps what was asked and the reply.
+fn ask<F: Layout>(
+    alloc: Global,
+    solver: &mut FileSolver<F>,
+    said: &mut Vec<u8>,
+    asked: Asked<'_>,
+) -> anyhow::Result<()> {
+    writeln!(said, "{asked:?}")?;
+    let mut told = Vec::new(alloc);
+    let status = put_answer(alloc, solver, asked, said, &mut told)?;
+    said.write_all(&told)?;
+    writeln!(said, "status {status}")?;
+    Ok(())
+}
