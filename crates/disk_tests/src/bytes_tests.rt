@@ -5,11 +5,12 @@ ghost use Rattle.retrograde.specs.Stored.{loaded};
 use crate::two_positions::{TWO, TWO_COUNTS, TWO_SIZES};
 use position_pack::Packed;
 use rbg_game::roles::Player;
+use record_bytes::Sizes;
 use retrograde::{Counts, Record, State};
 use std::alloc::Global;
 use std::test::Fail;
 use table::{MemTable, Table, TableFault};
-use table_bytes::{BytesFault, Sizes, read_table, write_table};
+use table_bytes::{BytesFault, read_table, write_table};
 use test_aids::expect;
 
 /// The bytes of two positions, with edges to 0 from 1 and to 1 from 0.

@@ -1,7 +1,7 @@
 //! The bytes of a table of two positions, by hand.
 
+use record_bytes::Sizes;
 use retrograde::Counts;
-use table_bytes::Sizes;
 
 /// A text of three bytes, two positions of one byte with their records, one edge, and one settled number.
 pub const TWO: [u8; 49] = [

@@ -18,7 +18,7 @@ use Rattle.page_store.specs.aid.Carrying.{saved_spells, works_stands, discard_go
 use Rattle.page_chain.specs.Causes.{ChainWriteCause}
 use Rattle.page_chain.specs.Chain.{first_of}
 use Rattle.position_pack.specs.declared.kind.PackingKind.{PackingKind}
-use Rattle.table_bytes.specs.declared.sizes.Sizes.{Sizes}
+use Rattle.record_bytes.specs.declared.sizes.Sizes.{Sizes}
 use Rattle.flat_table.specs.Held.{KeepsTable, Stores}
 use Rattle.game_file.specs.Kept.{Kept}
 use Rattle.flat_table.specs.File.{IsBacked}

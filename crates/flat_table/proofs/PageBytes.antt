@@ -4,7 +4,7 @@ use Rattle.page_store.specs.declared.fault.PageFault.{PageFault}
 use Rattle.page_store.specs.declared.fault.PageFault.TheVariants as page
 use Rattle.page_store.specs.Store.{Store}
 use Rattle.position_pack.specs.declared.kind.PackingKind.{PackingKind}
-use Rattle.table_bytes.specs.declared.sizes.Sizes.{Sizes}
+use Rattle.record_bytes.specs.declared.sizes.Sizes.{Sizes}
 use Rattle.game_file.specs.Kept.{Kept}
 use Rattle.flat_table.specs.SaveCauses.{SaveCause}
 use Rattle.flat_table.specs.Saving.{AreBytesOf}

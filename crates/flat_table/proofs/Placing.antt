@@ -14,8 +14,8 @@ use Rattle.page_store.specs.aid.Carrying.{commit_carries, committed_stands, comm
 use Rattle.page_chain.specs.Chain.{IsChain, first_of}
 use Rattle.position_pack.specs.declared.kind.PackingKind.{PackingKind}
 use Rattle.root_slot.specs.Fields.{number_of_packing}
-use Rattle.table_bytes.specs.declared.sizes.Sizes.{Sizes}
-use Rattle.table_bytes.specs.Numbers.{AreWithinLimits}
+use Rattle.record_bytes.specs.declared.sizes.Sizes.{Sizes}
+use Rattle.record_bytes.specs.Numbers.{AreWithinLimits}
 use Rattle.table_bytes.specs.Spelled.{SpellsTable}
 use Rattle.flat_table.specs.Held.{KeepsGame, KeepsTable, Stores}
 use Rattle.game_file.specs.Kept.{Kept}

@@ -10,8 +10,8 @@ use Rattle.page_chain.specs.Causes.{ChainReadCause as ChainCause}
 use Rattle.page_chain.specs.Chain.{IsChain}
 use Rattle.page_chain.specs.aid.Resting.{a_chain_has_one_content}
 use Rattle.table.specs.InMemory.{stored_in}
-use Rattle.table_bytes.specs.declared.sizes.Sizes.{Sizes}
-use Rattle.table_bytes.specs.Numbers.{bytes_in}
+use Rattle.record_bytes.specs.declared.sizes.Sizes.{Sizes}
+use Rattle.table_bytes.specs.Length.{bytes_in}
 use Rattle.table_bytes.specs.Spelled.{SpellsTable}
 use Rattle.table_bytes.specs.aid.Laws.{tables_have_their_length}
 use Rattle.flat_table.specs.declared.slot.GameSlot.{GameSlot}

@@ -5,8 +5,8 @@ use Rattle.std.specs.Prelude.{slice_get, zip}
 use Rattle.retrograde.specs.declared.records.Record.{Record}
 use Rattle.retrograde.specs.Stored.{Stored}
 use Rattle.page_store.specs.declared.fault.PageFault.TheVariants.{Damaged}
-use Rattle.table_bytes.specs.declared.sizes.Sizes.{Sizes}
-use Rattle.table_bytes.specs.Bytes.{IsCell}
+use Rattle.record_bytes.specs.declared.sizes.Sizes.{Sizes}
+use Rattle.record_bytes.specs.Bytes.{IsCell}
 use Rattle.table_bytes.specs.Spelled.{AreSpelled, SpellsTable}
 use Rattle.table_bytes.specs.aid.Laws.{bytes_spell_one_table}
 use Rattle.flat_table.specs.aid.Reading.{IsWhole, SpellingCause}

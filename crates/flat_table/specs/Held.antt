@@ -6,7 +6,7 @@ use Rattle.page_store.specs.Page.{page}
 use Rattle.page_chain.specs.Chain.{IsChain}
 use Rattle.retrograde.specs.Stored.{IsTable}
 use Rattle.retrograde.specs.Changes.{counts_of}
-use Rattle.table_bytes.specs.Numbers.{AreWithinLimits}
+use Rattle.record_bytes.specs.Numbers.{AreWithinLimits}
 use Rattle.table_bytes.specs.Spelled.{SpellsTable}
 use Rattle.game_file.specs.Kept.{Kept, Older}
 pub use Rattle.root_slot.specs.Fields.{capacity_of}

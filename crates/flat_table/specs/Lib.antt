@@ -14,7 +14,7 @@ pub use Rattle.root_pair.specs.Root
 pub use Rattle.sector_disk.specs.Disk
 pub use Rattle.table.specs.Fitting
 pub use Rattle.table.specs.InMemory
-pub use Rattle.table_bytes.specs.Numbers
+pub use Rattle.record_bytes.specs.Numbers
 pub mod Slot
 pub mod Held
 pub mod File

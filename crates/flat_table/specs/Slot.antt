@@ -1,7 +1,7 @@
 -- What the 512 bytes of a root slot say. All numbers have their highest byte first.
 use Rattle.std.specs.Prelude.{◌≡◌, ℕ, ◌≤◌, ◌^◌, List, Option, None, Some}
 use Rattle.position_pack.specs.declared.kind.PackingKind.{PackingKind}
-use Rattle.table_bytes.specs.Numbers.{AreWithinLimits}
+use Rattle.record_bytes.specs.Numbers.{AreWithinLimits}
 use Rattle.flat_table.specs.declared.slot.GameSlot.{GameSlot}
 pub use Rattle.root_slot.specs.Fields.{word_at, long_at, layout_in, packing_in, number_of_packing, commits_in, first_in, sizes_in, AreZero}
 

@@ -1,16 +1,18 @@
 //! The bytes of a chain become a game in memory.
 ghost use Rattle.std.specs.Prelude.{◌≡◌, ◌↔◌, ◌≤◌, ◌^◌, true, length, IfOk, IfErr};
 ghost use Rattle.table.specs.InMemory.{stored_in};
-ghost use Rattle.table_bytes.specs.Numbers.{AreWithinLimits, bytes_in};
+ghost use Rattle.record_bytes.specs.Numbers.{AreWithinLimits};
+ghost use Rattle.table_bytes.specs.Length.{bytes_in};
 ghost use Rattle.flat_table.specs.aid.Reading.{IsWhole, IsTableOf, IsGameIn, SpellingCause};
 
 use crate::game::Game;
 use page_chain::Chain;
 use page_store::PageFault;
 use position_pack::PackingKind;
+use record_bytes::Sizes;
 use std::alloc::Global;
 use table::{MemTable, Table};
-use table_bytes::{BytesFault, Sizes, read_table};
+use table_bytes::{BytesFault, read_table};
 
 /// How many bytes such a table takes.
 pub fn length_of(sizes: &Sizes) -> usize

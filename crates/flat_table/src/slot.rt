@@ -1,16 +1,16 @@
 //! The root slot of layout 1: what its 512 bytes say.
 ghost use Rattle.std.specs.Prelude.{◌≡◌, ◌↔◌, ◌+◌, ◌≤◌, ◌<◌, ℕ, true, slice_index, IfSome, IfNone};
-ghost use Rattle.table_bytes.specs.Numbers.{AreWithinLimits};
+ghost use Rattle.record_bytes.specs.Numbers.{AreWithinLimits};
 ghost use Rattle.flat_table.specs.Slot.{word_at as word_in, long_at as long_in, layout_in, packing_in, commits_in, first_in};
 ghost use Rattle.flat_table.specs.Slot.{number_of_packing as number_of};
 ghost use Rattle.flat_table.specs.Slot.{sizes_in as sizes_of, IsEmptySlot, AreZero, Says, IsNoSlot};
 
 use position_pack::PackingKind;
+use record_bytes::Sizes;
 use root_slot::{
     are_within_limits, are_zero, long_at, number_of_packing, packing_numbered, put_long, put_word,
     sizes_in, word_at,
 };
-use table_bytes::Sizes;
 
 /// The number of this layout.
 const LAYOUT: u32 = 1;

@@ -19,8 +19,9 @@ use crate::slot::{GameSlot, game_slot};
 use page_chain::write_chain;
 use page_store::{PageFault, Pages};
 use position_pack::PackingKind;
+use record_bytes::Sizes;
 use std::alloc::Global;
-use table_bytes::{Sizes, Written};
+use table_bytes::Written;
 
 /// Writes a chain with these bytes on free pages, and commits a root that names it and this packing in the place of the one that names the
 /// old chain, whose pages are free then. The new root tells this count of commits. Answers the pages of the new chain.

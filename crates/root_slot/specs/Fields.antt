@@ -4,7 +4,7 @@ use Rattle.byteorder.specs.Endian.{big_number}
 use Rattle.sector_disk.specs.Disk.{Picture}
 use Rattle.position_pack.specs.declared.kind.PackingKind.{PackingKind}
 use Rattle.position_pack.specs.declared.kind.PackingKind.TheVariants.{Bytes, Bits}
-use Rattle.table_bytes.specs.declared.sizes.Sizes.{Sizes}
+use Rattle.record_bytes.specs.declared.sizes.Sizes.{Sizes}
 use Rattle.page_store.specs.declared.limits.TheConstants.{MAX_PAGES}
 
 -- the number in the four bytes from there on

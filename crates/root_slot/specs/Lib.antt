@@ -1,3 +1,3 @@
-pub use Rattle.table_bytes.specs.Numbers
+pub use Rattle.record_bytes.specs.Numbers
 pub mod Fields
 pub mod aid

@@ -1,14 +1,14 @@
 //! The fields of a root slot, which stand at the same places in all layouts.
 ghost use Rattle.std.specs.Prelude.{◌≡◌, ◌↔◌, ◌+◌, ◌≤◌, ◌<◌, ℕ, true, slice_index};
-ghost use Rattle.table_bytes.specs.Numbers.{AreWithinLimits};
+ghost use Rattle.record_bytes.specs.Numbers.{AreWithinLimits};
 ghost use Rattle.root_slot.specs.Fields.{word_at as word_in, long_at as long_in, sizes_in as sizes_of, AreZero};
 
 use byteorder::{BigEndian, ByteOrder};
 use position_pack::MAX_PACKED;
 use rbg_game::limits::MAX_TEXT_BYTES;
+use record_bytes::Sizes;
 use retrograde::Counts;
 use table::MAX_POSITIONS;
-use table_bytes::Sizes;
 
 /// The number in the four bytes from there on.
 pub fn word_at(root: &[u8; 512], at: usize) -> u32

@@ -6,7 +6,7 @@ use Rattle.std.proofs.lemmas.Option.{slice_get_within}
 use Rattle.retrograde.specs.declared.records.Record.{Record}
 use Rattle.retrograde.specs.Stored.{Stored, IsTable, loaded}
 use Rattle.retrograde.specs.Changes.{with_position, with_record, fresh_record}
-use Rattle.table_bytes.specs.Bytes.{IsCell, IsRecord}
+use Rattle.record_bytes.specs.Bytes.{IsCell, IsRecord}
 use Rattle.table_bytes.specs.Spelled.{AreSpelled}
 use Rattle.table_bytes.specs.aid.Items.{spelled_more, spelled_next}
 use Rattle.table_bytes.specs.aid.Laws.{long_pairs}

@@ -6,8 +6,8 @@ use Rattle.retrograde.specs.declared.records.State.{State}
 use Rattle.retrograde.specs.declared.records.State.TheVariants.{Known, Expanded, Settled, Processed}
 use Rattle.retrograde.specs.declared.records.Record.{Record}
 use Rattle.retrograde.specs.Stored.{Stored, IsTable, is_expanded, is_settled, is_processed, expanded_count, settled_count, processed_count}
-use Rattle.table_bytes.specs.Numbers.{AreWithinLimits}
-use Rattle.table_bytes.specs.declared.sizes.Sizes.{Sizes}
+use Rattle.record_bytes.specs.Numbers.{AreWithinLimits}
+use Rattle.record_bytes.specs.declared.sizes.Sizes.{Sizes}
 
 one_le : (b c : Bool) → (b ≡ true → c ≡ true) → cond b 1 0 ≤ cond c 1 0
 one_le true true is = omega arith

@@ -11,7 +11,7 @@ use Rattle.retrograde.specs.Stored.{Stored}
 use Rattle.retrograde.specs.Changes.{with_edge}
 use Rattle.retrograde.proofs.Adding.{is_first, is_later, first_or_later, none_in_empty, edge_cases, edge_kept}
 use Rattle.table.specs.Memory.{edge_cmp}
-use Rattle.table_bytes.specs.Bytes.{IsEdge}
+use Rattle.record_bytes.specs.Bytes.{IsEdge}
 use Rattle.table_bytes.specs.Spelled.{AreSpelled}
 use Rattle.table_bytes.specs.aid.Items.{spelled_more, spelled_next}
 use Rattle.table_bytes.specs.aid.Parts.{fixed_edges}

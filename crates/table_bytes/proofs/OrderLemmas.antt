@@ -2,7 +2,7 @@
 use Rattle.std.proofs.Common.{◌≡◌, ◌∙◌, sym, ap, subst, ℕ, ◌+◌, List, [], ◌∷◌, ◌++◌, length, arith, length-append}
 use Rattle.retrograde.specs.Stored.{Stored}
 use Rattle.retrograde.specs.Changes.{with_settled}
-use Rattle.table_bytes.specs.Bytes.{IsNumber}
+use Rattle.record_bytes.specs.Bytes.{IsNumber}
 use Rattle.table_bytes.specs.Spelled.{AreSpelled}
 use Rattle.table_bytes.specs.aid.Items.{spelled_more}
 use Rattle.table_bytes.specs.aid.Reading.{AddsOrder}

@@ -2,13 +2,13 @@
 use Rattle.std.proofs.Common.{◌≡◌, ◌∙◌, sym, ap, subst, ℕ, ◌+◌, ◌*◌, ◌≤◌, ◌<◌, List, [], ◌∷◌, ◌++◌, length, take, drop, zip, Contains, arith, append_assoc, length-append}
 use Rattle.retrograde.specs.declared.records.Record.{Record}
 use Rattle.retrograde.specs.Stored.{Stored, IsTable}
-use Rattle.table_bytes.specs.Bytes.{IsCell, IsEdge}
+use Rattle.record_bytes.specs.Bytes.{IsCell, IsEdge}
 use Rattle.table_bytes.specs.Spelled.{AreSpelled, SpellsTable}
-use Rattle.table_bytes.specs.aid.Items.{same_fronts}
+use Rattle.record_bytes.specs.aid.Records.{same_fronts}
 use Rattle.table_bytes.specs.aid.Laws.{PartLengths, part_lengths, long_pairs}
 use Rattle.table_bytes.specs.aid.Parts.{fixed_cells}
 use Rattle.table_bytes.specs.aid.Reading.{AreCells, AreEdges, ChangesEdges, AddsOrder}
-use Rattle.table_bytes.specs.declared.sizes.Sizes.{Sizes}
+use Rattle.record_bytes.specs.declared.sizes.Sizes.{Sizes}
 use Rattle.table_bytes.proofs.Splits.{both_parts}
 
 -- these are the parts of the bytes

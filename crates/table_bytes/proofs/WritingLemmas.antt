@@ -9,7 +9,7 @@ use Rattle.retrograde.specs.Stored.{Stored, HasRecord}
 use Rattle.retrograde.specs.Edges.{IsAfter, IsNextEdge, HasNoMoreEdges}
 use Rattle.retrograde.proofs.Adding.{none_in_empty}
 use Rattle.table.specs.Memory.{edge_cmp}
-use Rattle.table_bytes.specs.Bytes.{IsPlainRecord, IsPlainCell, IsEdge}
+use Rattle.record_bytes.specs.Bytes.{IsPlainRecord, IsPlainCell, IsEdge}
 use Rattle.table_bytes.specs.aid.Items.{spelled_more}
 use Rattle.table_bytes.specs.aid.Writing.{Writes, WritesOne, WritesEdges, IsBefore, WritesCell}
 use Rattle.table_bytes.proofs.EdgeLemmas.{ComesFirst, is_less, sorted_push, all_contained, in_front, front_or_last, at_seam}

@@ -2,12 +2,12 @@
 use Rattle.std.proofs.Common.{◌≡◌, ◌∙◌, ap, subst, inl, ℕ, ◌+◌, ◌-◌, ◌*◌, ◌/◌, List, [], ◌∷◌, ◌++◌, length, zip, arith, append_assoc, length-append}
 use Rattle.retrograde.specs.declared.records.Record.{Record}
 use Rattle.retrograde.specs.Stored.{Stored, IsTable}
-use Rattle.table_bytes.specs.Bytes.{IsCell, IsPlainCell, IsEdge, IsNumber}
+use Rattle.record_bytes.specs.Bytes.{IsCell, IsPlainCell, IsEdge, IsNumber}
 use Rattle.table_bytes.specs.Spelled.{AreSpelled, SpellsTable, BeginsPlainly}
 use Rattle.table_bytes.specs.aid.Items.{spelled_long}
 use Rattle.table_bytes.specs.aid.Parts.{fixed_edges}
 use Rattle.table_bytes.specs.aid.Writing.{Writes, WritesEdges}
-use Rattle.table_bytes.specs.declared.sizes.Sizes.{Sizes}
+use Rattle.record_bytes.specs.declared.sizes.Sizes.{Sizes}
 
 -- what is written plainly is a cell
 plain_cells : (packed : ℕ) (bytes : List ℕ) (xs : List (List ℕ × Record)) → AreSpelled (IsPlainCell packed) bytes xs → AreSpelled (IsCell packed) bytes xs

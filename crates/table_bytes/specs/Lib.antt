@@ -2,7 +2,8 @@ pub use Rattle.retrograde.specs.Changes
 pub use Rattle.retrograde.specs.Stored
 pub use Rattle.table.specs.InMemory
 pub use Rattle.table.specs.Memory
-pub mod Bytes
+pub use Rattle.record_bytes.specs.Bytes
+pub use Rattle.record_bytes.specs.Numbers
 pub mod Spelled
-pub mod Numbers
+pub mod Length
 pub mod aid

@@ -3,8 +3,8 @@ use Rattle.std.specs.Prelude.{◌≡◌, ◌↔◌, ℕ, true, List, [], ◌∷�
 use Rattle.std.specs.List.Sorted.{IsStrictlySortedBy}
 use Rattle.retrograde.specs.Stored.{Stored}
 use Rattle.table.specs.Memory.{edge_cmp}
-use Rattle.table_bytes.specs.declared.sizes.Sizes.{Sizes}
-use Rattle.table_bytes.specs.Bytes.{IsCell, IsPlainCell, IsEdge, IsNumber}
+use Rattle.record_bytes.specs.declared.sizes.Sizes.{Sizes}
+use Rattle.record_bytes.specs.Bytes.{IsCell, IsPlainCell, IsEdge, IsNumber}
 
 -- the bytes of these items one after another
 abbrev pub AreSpelled : {A : Type 0} → (List ℕ → A → Type 0) → List ℕ → List A → Type 0

@@ -1,9 +1,9 @@
 //! What holds of the bytes of tables: each function's contract is a law.
 ghost use Rattle.std.specs.Prelude.{◌≡◌, ℕ, List, length};
 ghost use Rattle.retrograde.specs.Stored.{Stored};
-ghost use Rattle.table_bytes.specs.Numbers.{bytes_in};
+ghost use Rattle.table_bytes.specs.Length.{bytes_in};
 ghost use Rattle.table_bytes.specs.Spelled.{SpellsTable};
-ghost use Rattle.table_bytes.specs.declared.sizes.Sizes.{Sizes};
+ghost use Rattle.record_bytes.specs.declared.sizes.Sizes.{Sizes};
 
 /// Bytes spell one table at most.
 pub fn bytes_spell_one_table()

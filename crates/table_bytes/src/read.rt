@@ -1,16 +1,17 @@
 //! Bytes become a table in memory.
 ghost use Rattle.std.specs.Prelude.{◌≡◌, ◌+◌, ℕ, List, length, take, drop, IfOk, OnOk, Err};
 ghost use Rattle.retrograde.specs.Stored.{Stored, IsTable};
-ghost use Rattle.table_bytes.specs.Numbers.{AreWithinLimits, bytes_in};
+ghost use Rattle.record_bytes.specs.Numbers.{AreWithinLimits};
+ghost use Rattle.table_bytes.specs.Length.{bytes_in};
 ghost use Rattle.table_bytes.specs.aid.Reading.{IsFirstEntry};
 ghost use Rattle.table_bytes.specs.Spelled.{SpellsTable};
 ghost use Rattle.table_bytes.specs.declared.fault.BytesFault.TheVariants.{Damaged};
 ghost use Rattle.table.specs.InMemory.{stored_in};
 
+use crate::BytesFault;
 use crate::read_cells::{read_cells, read_first};
 use crate::read_edges::{read_edges, read_order};
-use crate::record::RECORD_BYTES;
-use crate::{BytesFault, Sizes};
+use record_bytes::{RECORD_BYTES, Sizes};
 use std::alloc::Global;
 use table::{MemTable, Table};
 

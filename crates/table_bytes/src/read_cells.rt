@@ -2,15 +2,15 @@
 ghost use Rattle.std.specs.Prelude.{◌≡◌, ◌+◌, ◌-◌, ◌*◌, ◌^◌, ◌≤◌, ◌<◌, ℕ, List, length, take, drop, slice_get, IfOk, OnOk, Some, Err};
 ghost use Rattle.retrograde.specs.declared.records.Record.{Record};
 ghost use Rattle.retrograde.specs.Stored.{Stored, IsTable, loaded};
-ghost use Rattle.table_bytes.specs.Bytes.{IsCell, IsRecord};
+ghost use Rattle.record_bytes.specs.Bytes.{IsCell, IsRecord};
 ghost use Rattle.table_bytes.specs.aid.Reading.{AreCells, KeepsRest, IsFirstEntry, AddsCell};
 ghost use Rattle.table_bytes.specs.declared.fault.BytesFault.TheVariants.{Damaged};
 ghost use Rattle.table.specs.InMemory.{stored_in};
 ghost use Rattle.position_pack.specs.declared.limits.TheConstants.{MAX_PACKED};
 
 use crate::BytesFault;
-use crate::record::{RECORD_BYTES, read_record};
 use position_pack::Packed;
+use record_bytes::{RECORD_BYTES, read_record};
 use std::alloc::Global;
 use table::{MemTable, Table};
 

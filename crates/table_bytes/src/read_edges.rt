@@ -3,7 +3,7 @@ ghost use Rattle.std.specs.Prelude.{◌≡◌, ◌+◌, ◌*◌, ◌≤◌, ◌<
 ghost use Rattle.std.specs.List.Sorted.{IsStrictlySortedBy};
 ghost use Rattle.retrograde.specs.Changes.{with_edge};
 ghost use Rattle.table.specs.Memory.{edge_cmp};
-ghost use Rattle.table_bytes.specs.Bytes.{IsEdge};
+ghost use Rattle.record_bytes.specs.Bytes.{IsEdge};
 ghost use Rattle.table_bytes.specs.Spelled.{AreSpelled};
 ghost use Rattle.table_bytes.specs.aid.Reading.{AreEdges, ChangesEdges, AddsOrder, HasNoRest, IsPast};
 ghost use Rattle.table_bytes.specs.declared.fault.BytesFault.TheVariants.{Damaged};

@@ -2,14 +2,15 @@
 ghost use Rattle.std.specs.Prelude.{◌≡◌, ◌↔◌, ◌≤◌, ◌^◌, ℕ, List, length, slice_get, Some, IfOk, IfErr, OnOk};
 ghost use Rattle.retrograde.specs.Stored.{IsTable};
 ghost use Rattle.retrograde.specs.Changes.{counts_of};
-ghost use Rattle.table_bytes.specs.Numbers.{AreWithinLimits, bytes_in};
+ghost use Rattle.record_bytes.specs.Numbers.{AreWithinLimits};
+ghost use Rattle.table_bytes.specs.Length.{bytes_in};
 ghost use Rattle.table_bytes.specs.Spelled.{SpellsTable, BeginsPlainly};
 ghost use Rattle.position_pack.specs.declared.limits.TheConstants.{MAX_PACKED};
 ghost use Rattle.rbg_game.specs.declared.limits.TheConstants.{MAX_TEXT_BYTES};
 
-use crate::Sizes;
 use crate::write_cells::{write_cells, write_order};
 use crate::write_edges::write_edges;
+use record_bytes::Sizes;
 use std::alloc::Global;
 use table::{Table, TableFault};
 

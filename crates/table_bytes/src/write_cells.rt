@@ -2,10 +2,10 @@
 ghost use Rattle.std.specs.Prelude.{◌≡◌, ◌↔◌, ◌<◌, ℕ, List, length, zip, slice_get, Some, IfErr, OnOk};
 ghost use Rattle.retrograde.specs.Stored.{HasRecord};
 ghost use Rattle.table.specs.declared.fault.TableFault.TheVariants.{OutOfMemory};
-ghost use Rattle.table_bytes.specs.Bytes.{IsPlainCell, IsNumber};
+ghost use Rattle.record_bytes.specs.Bytes.{IsPlainCell, IsNumber};
 ghost use Rattle.table_bytes.specs.aid.Writing.{Writes, WritesOne, WritesCell};
 
-use crate::record::{push_number, push_record};
+use crate::push::{push_number, push_record};
 use table::{Table, TableFault};
 
 /// Puts the position and the record of a number behind other bytes.

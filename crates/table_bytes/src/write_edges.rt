@@ -1,10 +1,10 @@
 //! Edges are written.
 ghost use Rattle.std.specs.Prelude.{◌≡◌, ◌↔◌, ◌+◌, ◌≤◌, ◌<◌, ℕ, List, length, IfErr, OnOk};
 ghost use Rattle.table.specs.declared.fault.TableFault.TheVariants.{OutOfMemory};
-ghost use Rattle.table_bytes.specs.Bytes.{IsEdge};
+ghost use Rattle.record_bytes.specs.Bytes.{IsEdge};
 ghost use Rattle.table_bytes.specs.aid.Writing.{WritesOne, WritesEdges};
 
-use crate::record::push_number;
+use crate::push::push_number;
 use table::{Table, TableFault};
 
 /// Puts the bytes of an edge behind others.

@@ -10,9 +10,9 @@ use Rattle.retrograde.specs.declared.records.Record.{Record}
 use Rattle.retrograde.specs.Changes.{fresh_record}
 use Rattle.retrograde.specs.Stored.{Stored, FitsState, IsTable, is_expanded, is_processed, is_settled}
 use Rattle.retrograde.specs.Stored.{expanded_count, processed_count, settled_count, processed_in}
-use Rattle.table_bytes.specs.declared.sizes.Sizes.{Sizes}
-use Rattle.table_bytes.specs.Bytes.{IsCell, IsNumber}
-use Rattle.table_bytes.specs.Numbers.{AreWithinLimits}
+use Rattle.record_bytes.specs.declared.sizes.Sizes.{Sizes}
+use Rattle.record_bytes.specs.Bytes.{IsCell, IsNumber}
+use Rattle.record_bytes.specs.Numbers.{AreWithinLimits}
 use Rattle.tree_page.specs.Page.{Item}
 use Rattle.tree_map.specs.Entries.{find_entry}
 use Rattle.tree_table.specs.declared.tree.Tree.{Tree}

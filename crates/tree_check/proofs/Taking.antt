@@ -5,9 +5,9 @@ use Rattle.std.proofs.lemmas.Bool.{cases_eq, cases_lt}
 use Rattle.std.proofs.lemmas.List.{get_or_default, get_or-set_same, get_or-set_other, length-set, set_past}
 use Rattle.std.proofs.lemmas.Option.{same_Some}
 use Rattle.retrograde.specs.declared.records.Record.{Record}
-use Rattle.table_bytes.specs.Bytes.{IsCell, IsNumber}
-use Rattle.table_bytes.specs.aid.Parts.{one_cell}
-use Rattle.table_bytes.specs.declared.sizes.Sizes.{Sizes}
+use Rattle.record_bytes.specs.Bytes.{IsCell, IsNumber}
+use Rattle.record_bytes.specs.aid.Records.{one_cell}
+use Rattle.record_bytes.specs.declared.sizes.Sizes.{Sizes}
 use Rattle.tree_page.specs.Page.{Item}
 use Rattle.tree_table.specs.declared.tree.Tree.{Tree}
 use Rattle.tree_table.specs.declared.tree.Tree.TheVariants.{Order}

@@ -1,6 +1,6 @@
 -- How much there is in the four trees of a table.
 use Rattle.std.specs.Prelude.{◌≡◌, ◌<◌, ℕ, List, length, All}
-use Rattle.table_bytes.specs.declared.sizes.Sizes.{Sizes}
+use Rattle.record_bytes.specs.declared.sizes.Sizes.{Sizes}
 use Rattle.tree_page.specs.Page.{Item}
 use Rattle.tree_table.specs.declared.tree.Tree.{Tree}
 use Rattle.tree_table.specs.declared.tree.Tree.TheVariants.{Positions, Records, Edges, Order}

@@ -2,7 +2,7 @@
 use Rattle.std.specs.Prelude.{◌≡◌, ℕ, List}
 use Rattle.retrograde.specs.Stored.{Stored, IsTable}
 use Rattle.retrograde.specs.Changes.{counts_of}
-use Rattle.table_bytes.specs.declared.sizes.Sizes.{Sizes}
+use Rattle.record_bytes.specs.declared.sizes.Sizes.{Sizes}
 use Rattle.tree_page.specs.Page.{Item}
 use Rattle.tree_table.specs.declared.tree.Tree.{Tree}
 use Rattle.tree_table.specs.Entries.{AreEntriesOf}

@@ -2,7 +2,7 @@
 ghost use Rattle.std.specs.Prelude.{◌≤◌, ℕ, List, OnOk, IfErr, IsTrue};
 ghost use Rattle.page_store.specs.Store.{StoreWorks, IsUnchanged};
 ghost use Rattle.retrograde.specs.Stored.{Stored};
-ghost use Rattle.table_bytes.specs.Numbers.{AreWithinLimits};
+ghost use Rattle.record_bytes.specs.Numbers.{AreWithinLimits};
 ghost use Rattle.tree_page.specs.Page.{Item};
 ghost use Rattle.tree_table.specs.declared.tree.Tree.{Tree};
 ghost use Rattle.tree_table.specs.Working.{HoldsForest};

@@ -7,7 +7,7 @@ use Rattle.page_store.specs.declared.fault.PageFault.TheVariants.{Disk, NotATabl
 use Rattle.page_store.specs.declared.marks.Mark.TheVariants.{Committed}
 use Rattle.page_store.specs.Marks.{mark}
 use Rattle.page_store.specs.Store.{Store, reads}
-use Rattle.table_bytes.specs.declared.sizes.Sizes.{Sizes}
+use Rattle.record_bytes.specs.declared.sizes.Sizes.{Sizes}
 use Rattle.tree_map.specs.aid.Unchanged.{grew_before}
 use Rattle.tree_page.specs.Page.{Item}
 use Rattle.page_store.specs.Pages.{AreWaiting}

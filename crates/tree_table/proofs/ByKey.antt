@@ -10,7 +10,7 @@ use Rattle.tree_page.specs.Page.{Item}
 use Rattle.tree_map.specs.Entries.{find_entry, put_entry}
 use Rattle.tree_map.specs.aid.Putting.{a_put_is_found, others_are_found}
 use Rattle.tree_table.specs.Entries.{number_key, edge_key, AreByNumber, AreByPosition, AreByEdge}
-use Rattle.table_bytes.specs.Bytes.{IsNumber}
+use Rattle.record_bytes.specs.Bytes.{IsNumber}
 use Rattle.tree_table.specs.aid.Lists.{set_cases, push_cases, push_keeps, push_last, push_long}
 use Rattle.tree_table.specs.aid.Numbers.{same_number, same_edge}
 use Rattle.tree_table.proofs.Puts.{found_now, keys_same}

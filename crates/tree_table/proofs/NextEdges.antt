@@ -12,7 +12,7 @@ use Rattle.byteorder.specs.Endian.{big_number}
 use Rattle.page_store.specs.Store.{Store, reads}
 use Rattle.retrograde.specs.Edges.{IsAfter, IsNextEdge, HasNoMoreEdges}
 use Rattle.retrograde.specs.Stored.{Stored}
-use Rattle.table_bytes.specs.Bytes.{IsNumber}
+use Rattle.record_bytes.specs.Bytes.{IsNumber}
 use Rattle.tree_page.specs.Page.{Item, key_cmp}
 use Rattle.tree_page.specs.declared.widths.Widths.{Widths}
 use Rattle.tree_map.specs.Entries.{Ascend, find_entry, next_after}

@@ -6,8 +6,8 @@ use Rattle.page_store.specs.Store.{Store}
 use Rattle.retrograde.specs.declared.records.Record.{Record}
 use Rattle.retrograde.specs.Stored.{Stored, HasRecord}
 use Rattle.retrograde.specs.Changes.{fresh_record}
-use Rattle.table_bytes.specs.Bytes.{IsCell, IsNumber}
-use Rattle.table_bytes.specs.aid.Parts.{one_cell}
+use Rattle.record_bytes.specs.Bytes.{IsCell, IsNumber}
+use Rattle.record_bytes.specs.aid.Records.{one_cell}
 use Rattle.tree_page.specs.Page.{Item}
 use Rattle.tree_map.specs.Entries.{find_entry}
 use Rattle.tree_table.specs.declared.slot.TreeSlot.{TreeSlot}

@@ -11,7 +11,7 @@ pub use Rattle.retrograde.specs.Stored
 pub use Rattle.root_slot.specs.Fields
 pub use Rattle.sector_disk.specs.Disk
 pub use Rattle.table.specs.Records
-pub use Rattle.table_bytes.specs.Bytes
+pub use Rattle.record_bytes.specs.Bytes
 pub use Rattle.tree_map.specs.Entries as TreeMapEntries
 pub use Rattle.tree_page.specs.Page
 pub use Rattle.tree_read.specs.Answers

@@ -2,7 +2,7 @@
 use Rattle.std.specs.Prelude.{◌≡◌, ◌≤◌, List, ℕ, Option, None, Some}
 use Rattle.position_pack.specs.declared.kind.PackingKind.{PackingKind}
 use Rattle.root_slot.specs.Fields.{word_at, layout_in, packing_in, number_of_packing, kind_in, first_in, sizes_in, AreZero}
-use Rattle.table_bytes.specs.Numbers.{AreWithinLimits}
+use Rattle.record_bytes.specs.Numbers.{AreWithinLimits}
 use Rattle.tree_table.specs.declared.slot.TreeSlot.{TreeSlot}
 use Rattle.tree_table.specs.declared.tree.Roots.{Roots}
 

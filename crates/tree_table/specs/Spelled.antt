@@ -6,7 +6,7 @@ use Rattle.byteorder.specs.Endian.{big_number}
 use Rattle.retrograde.specs.declared.records.Record.{Record}
 use Rattle.retrograde.specs.Stored.{Stored}
 use Rattle.table.specs.Records.{state_in, winner_in}
-use Rattle.table_bytes.specs.declared.sizes.Sizes.{Sizes}
+use Rattle.record_bytes.specs.declared.sizes.Sizes.{Sizes}
 use Rattle.tree_page.specs.Page.{Item, items_of, count_in, child_of}
 use Rattle.tree_map.specs.Entries.{find_entry}
 use Rattle.tree_table.specs.declared.slot.TreeSlot.{TreeSlot}

@@ -26,10 +26,10 @@ use crate::tree::Roots;
 use crate::working::TreeTable;
 use page_store::{PageFault, Pages};
 use position_pack::{Packed, PackingKind};
+use record_bytes::Sizes;
 use retrograde::Counts;
 use std::alloc::Global;
 use table::TableFault;
-use table_bytes::Sizes;
 
 /// The slot that names no page, for positions of so many bytes.
 pub fn bare_slot(packed: u32) -> TreeSlot

@@ -5,11 +5,11 @@ ghost use Rattle.tree_table.specs.Slot.{roots_in, slot_in, IsEmptyTreeSlot, IsNo
 
 use crate::tree::Roots;
 use position_pack::PackingKind;
+use record_bytes::Sizes;
 use root_slot::{
     are_within_limits, are_zero, long_at, number_of_packing, packing_numbered, put_long, put_word,
     sizes_in, word_at,
 };
-use table_bytes::Sizes;
 
 /// The number of this layout.
 const LAYOUT: u32 = 2;

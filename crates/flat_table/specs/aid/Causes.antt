@@ -4,8 +4,8 @@ use Rattle.page_store.specs.declared.marks.Mark.{Mark}
 use Rattle.page_store.specs.Marks.{free_count}
 use Rattle.page_store.specs.Store.{Store}
 use Rattle.table.specs.Fitting.{FitsTogether}
-use Rattle.table_bytes.specs.declared.sizes.Sizes.{Sizes}
-use Rattle.table_bytes.specs.Numbers.{AreWithinLimits}
+use Rattle.record_bytes.specs.declared.sizes.Sizes.{Sizes}
+use Rattle.record_bytes.specs.Numbers.{AreWithinLimits}
 use Rattle.table_bytes.specs.Spelled.{SpellsTable}
 use Rattle.sector_disk.specs.Disk.{Grew}
 use Rattle.game_file.specs.Kept.{Kept}

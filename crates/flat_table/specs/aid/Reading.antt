@@ -7,7 +7,7 @@ use Rattle.retrograde.specs.Stored.{Stored, IsTable}
 use Rattle.retrograde.specs.Changes.{counts_of}
 use Rattle.table.specs.Fitting.{FitsTogether}
 use Rattle.table.specs.InMemory.{stored_in}
-use Rattle.table_bytes.specs.declared.sizes.Sizes.{Sizes}
+use Rattle.record_bytes.specs.declared.sizes.Sizes.{Sizes}
 use Rattle.table_bytes.specs.Spelled.{SpellsTable}
 use Rattle.flat_table.specs.declared.game.Game.{Game}
 use Rattle.page_store.specs.declared.marks.Mark.TheVariants.{Committed, Waiting}

@@ -9,7 +9,7 @@ use Rattle.page_store.specs.Marks.{mark}
 use Rattle.page_store.specs.Store.{Store, reads, StoreWorks, IsRemarked}
 use Rattle.page_chain.specs.Chain.{IsChain, first_of}
 use Rattle.position_pack.specs.declared.kind.PackingKind.{PackingKind}
-use Rattle.table_bytes.specs.declared.sizes.Sizes.{Sizes}
+use Rattle.record_bytes.specs.declared.sizes.Sizes.{Sizes}
 use Rattle.flat_table.specs.Slot.{layout_in, packing_in, number_of_packing, first_in, sizes_in}
 use Rattle.game_file.specs.Kept.{Kept}
 use Rattle.flat_table.specs.File.{IsBacked}

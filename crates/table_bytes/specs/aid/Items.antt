@@ -2,22 +2,13 @@
 use Rattle.std.specs.Prelude.{◌≡◌, ℕ, ◌*◌, ◌≤◌, ◌<◌, List, [], ◌∷◌, ◌++◌, length}
 use Rattle.std.proofs.Common.{refl, sym, ap, subst, ◌∙◌, append_assoc, length-append, arith}
 use Rattle.std.proofs.lemmas.List.{append-nil}
+use Rattle.record_bytes.specs.aid.Records.{same_fronts}
 use Rattle.table_bytes.specs.Spelled.{AreSpelled}
 
 -- each item takes so many bytes, which are those of no other
 pub record IsFixed {A : Type 0} (IsOf : List ℕ → A → Type 0) (width : ℕ) : Type 0 where
   pub long : (bytes : List ℕ) (x : A) → IsOf bytes x → length bytes ≡ width
   pub one : (bytes : List ℕ) (x y : A) → IsOf bytes x → IsOf bytes y → x ≡ y
-
--- fronts of one length of the same list are the same
-pub same_fronts : {A : Type 0} (a b x y : List A) → length a ≡ length b → a ++ x ≡ b ++ y → (a ≡ b) × (x ≡ y)
-same_fronts [] [] x y long is = (refl, is)
-same_fronts [] (q ∷ b) x y long is = absurd (cc)
-same_fronts (p ∷ a) [] x y long is = absurd (cc)
-same_fronts (p ∷ a) (q ∷ b) x y long is =
-    let tails : a ++ x ≡ b ++ y = cc in
-    let (front, back) = same_fronts a b x y (omega (arith, long)) tails in
-    (cc, back)
 
 -- one more item
 pub spelled_more : {A : Type 0} (IsOf : List ℕ → A → Type 0) (bytes : List ℕ) (xs : List A) (one : List ℕ) (x : A)

@@ -2,11 +2,12 @@
 use Rattle.std.specs.Prelude.{◌≡◌, ℕ, ◌+◌, ◌*◌, Bool, true, false, List, [], ◌∷◌, ◌++◌, length, zip, Contains}
 use Rattle.std.proofs.Common.{refl, sym, ap, subst, ◌∙◌, length-append, arith}
 use Rattle.retrograde.specs.Stored.{Stored}
-use Rattle.table_bytes.specs.Bytes.{IsCell, IsEdge, IsNumber}
+use Rattle.record_bytes.specs.Bytes.{IsCell, IsEdge, IsNumber}
 use Rattle.table_bytes.specs.Spelled.{AreSpelled, SpellsTable}
-use Rattle.table_bytes.specs.Numbers.{bytes_in}
-use Rattle.table_bytes.specs.declared.sizes.Sizes.{Sizes}
-use Rattle.table_bytes.specs.aid.Items.{same_fronts, spelled_long, spelled_same}
+use Rattle.table_bytes.specs.Length.{bytes_in}
+use Rattle.record_bytes.specs.declared.sizes.Sizes.{Sizes}
+use Rattle.record_bytes.specs.aid.Records.{same_fronts}
+use Rattle.table_bytes.specs.aid.Items.{spelled_long, spelled_same}
 use Rattle.table_bytes.specs.aid.Parts.{fixed_cells, fixed_edges, fixed_numbers}
 
 -- how many pairs

@@ -3,7 +3,7 @@ use Rattle.std.specs.Prelude.{◌≡◌, ◌↔◌, ℕ, true, List, [], length,
 use Rattle.std.specs.List.Sorted.{IsStrictlySortedBy}
 use Rattle.retrograde.specs.Stored.{Stored}
 use Rattle.table.specs.Memory.{edge_cmp}
-use Rattle.table_bytes.specs.Bytes.{IsCell, IsEdge, IsNumber}
+use Rattle.record_bytes.specs.Bytes.{IsCell, IsEdge, IsNumber}
 use Rattle.table_bytes.specs.Spelled.{AreSpelled}
 use Rattle.std.specs.declared.cmp.Ordering.TheVariants.{Less}
 use Rattle.retrograde.specs.declared.records.Record.{Record}

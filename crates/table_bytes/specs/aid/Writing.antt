@@ -3,7 +3,7 @@ use Rattle.std.specs.Prelude.{◌≡◌, ◌⊎◌, ℕ, ◌<◌, true, List, �
 use Rattle.std.specs.List.Sorted.{IsStrictlySortedBy}
 use Rattle.retrograde.specs.Stored.{Stored, HasRecord}
 use Rattle.table.specs.Memory.{edge_cmp}
-use Rattle.table_bytes.specs.Bytes.{IsEdge, IsPlainCell}
+use Rattle.record_bytes.specs.Bytes.{IsEdge, IsPlainCell}
 use Rattle.table_bytes.specs.Spelled.{AreSpelled}
 use Rattle.retrograde.specs.declared.records.Record.{Record}
 

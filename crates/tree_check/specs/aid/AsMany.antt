@@ -17,8 +17,8 @@ use Rattle.std.proofs.lemmas.Map.Views.{lookup-from_Contains}
 use Rattle.std.proofs.lemmas.Option.{same_Some, slice_get_within, slice_get-get_or}
 use Rattle.retrograde.specs.Changes.{fresh_record}
 use Rattle.retrograde.specs.Stored.{Stored, IsTable}
-use Rattle.table_bytes.specs.declared.sizes.Sizes.{Sizes}
-use Rattle.table_bytes.specs.Bytes.{IsCell, IsNumber}
+use Rattle.record_bytes.specs.declared.sizes.Sizes.{Sizes}
+use Rattle.record_bytes.specs.Bytes.{IsCell, IsNumber}
 use Rattle.tree_page.specs.Page.{Item, key_cmp}
 use Rattle.tree_map.specs.Entries.{Ascend, find_entry}
 use Rattle.tree_table.specs.declared.tree.Tree.{Tree}

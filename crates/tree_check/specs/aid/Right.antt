@@ -4,8 +4,8 @@ use Rattle.std.specs.Option.{is_some}
 use Rattle.retrograde.specs.declared.records.Record.{Record}
 use Rattle.retrograde.specs.declared.records.Counts.{Counts}
 use Rattle.retrograde.specs.Stored.{FitsState, is_expanded, is_processed, is_settled}
-use Rattle.table_bytes.specs.declared.sizes.Sizes.{Sizes}
-use Rattle.table_bytes.specs.Bytes.{IsCell, IsNumber}
+use Rattle.record_bytes.specs.declared.sizes.Sizes.{Sizes}
+use Rattle.record_bytes.specs.Bytes.{IsCell, IsNumber}
 use Rattle.tree_page.specs.Page.{Item}
 use Rattle.tree_map.specs.Entries.{find_entry}
 use Rattle.tree_table.specs.declared.tree.Tree.{Tree}

@@ -19,8 +19,8 @@ use Rattle.retrograde.specs.declared.records.State.{State}
 use Rattle.retrograde.specs.declared.records.State.TheVariants.{Known, Expanded, Settled, Processed}
 use Rattle.retrograde.specs.declared.records.Record.{Record}
 use Rattle.retrograde.specs.Stored.{Stored}
-use Rattle.table_bytes.specs.declared.sizes.Sizes.{Sizes}
-use Rattle.table_bytes.specs.Bytes.{state_byte, winner_byte, IsRecord, IsCell}
+use Rattle.record_bytes.specs.declared.sizes.Sizes.{Sizes}
+use Rattle.record_bytes.specs.Bytes.{state_byte, winner_byte, IsRecord, IsCell}
 use Rattle.tree_page.specs.declared.kind.Kind.TheVariants.{Inner}
 use Rattle.tree_page.specs.declared.widths.Widths.{Widths}
 use Rattle.tree_page.specs.Page.{Item, items_in, items_of, count_in, child_of}

@@ -1,5 +1,5 @@
 use Rattle.std.proofs.Common.{List, ℕ, subst, arith, rules}
-use Rattle.table_bytes.specs.Bytes.{IsRecord}
+use Rattle.record_bytes.specs.Bytes.{IsRecord}
 use Rattle.table_bytes.proofs.CellLemmas.{first_cell}
 use Rattle.table_bytes.proofs.read_cells.read_first_record.Goals as goal
 

@@ -1,5 +1,5 @@
 use Rattle.std.proofs.Common.{◌≡◌, ◌++◌, [], ap, length, subst, List, ℕ, refl, arith, rules}
-use Rattle.table_bytes.specs.Bytes.{IsEdge}
+use Rattle.record_bytes.specs.Bytes.{IsEdge}
 use Rattle.table_bytes.specs.Spelled.{AreSpelled}
 use Rattle.table_bytes.proofs.EdgeLemmas.{none_so_far, one_more_edge, edge_changes, edge_refused}
 use Rattle.table_bytes.proofs.Splits.{split_on, split_between}

@@ -2,10 +2,10 @@ use Rattle.std.proofs.Common.{◌≡◌, ◌∙◌, ◌++◌, ◌-◌, ◌/◌, 
 use Rattle.retrograde.specs.declared.records.Counts.{Counts}
 use Rattle.retrograde.specs.Stored.{Stored}
 use Rattle.retrograde.specs.Changes.{counts_of}
-use Rattle.table_bytes.specs.Bytes.{IsNumber}
+use Rattle.record_bytes.specs.Bytes.{IsNumber}
 use Rattle.table_bytes.specs.aid.Laws.{tables_have_their_length}
 use Rattle.table_bytes.specs.aid.Writing.{Writes}
-use Rattle.table_bytes.specs.declared.sizes.Sizes.{Sizes}
+use Rattle.record_bytes.specs.declared.sizes.Sizes.{Sizes}
 use Rattle.table_bytes.proofs.CountLemmas.{within_limits}
 use Rattle.table_bytes.proofs.WrittenLemmas.{spells_written, begins_plainly, edges_of}
 use Rattle.table_bytes.proofs.write.write_table.Goals as goal

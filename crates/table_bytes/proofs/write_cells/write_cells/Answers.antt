@@ -2,7 +2,7 @@ use Rattle.std.proofs.Common.{◌≡◌, ◌≤◌, ◌∙◌, ap, subst, List, 
 use Rattle.retrograde.specs.declared.records.Record.{Record}
 use Rattle.retrograde.specs.declared.records.Counts.{Counts}
 use Rattle.retrograde.specs.Stored.{Stored}
-use Rattle.table_bytes.specs.Bytes.{IsPlainCell}
+use Rattle.record_bytes.specs.Bytes.{IsPlainCell}
 use Rattle.table_bytes.specs.aid.Laws.{long_pairs}
 use Rattle.table_bytes.specs.aid.Writing.{Writes, WritesCell}
 use Rattle.table_bytes.proofs.WritingLemmas.{writes_cell, take_all}

@@ -1,5 +1,5 @@
 use Rattle.std.proofs.Common.{◌≡◌, ◌↔◌, ℕ, List, length, zip, take, slice_get, Some}
-use Rattle.table_bytes.specs.Bytes.{IsPlainCell}
+use Rattle.record_bytes.specs.Bytes.{IsPlainCell}
 use Rattle.table_bytes.specs.aid.Writing.{Writes}
 use Rattle.table_bytes.proofs.write_cells.write_cells.Given as goal
 

@@ -1,6 +1,6 @@
 use Rattle.std.proofs.Common.{◌≡◌, ◌∙◌, subst, List, ℕ, slice_get, Some}
 use Rattle.retrograde.specs.Stored.{Stored}
-use Rattle.table_bytes.specs.Bytes.{IsNumber}
+use Rattle.record_bytes.specs.Bytes.{IsNumber}
 use Rattle.table_bytes.proofs.WritingLemmas.{writes_next}
 use Rattle.table_bytes.proofs.write_cells.write_order.Goals as goal
 

@@ -1,5 +1,5 @@
 use Rattle.std.proofs.Common.{◌≡◌, ◌↔◌, take}
-use Rattle.table_bytes.specs.Bytes.{IsNumber}
+use Rattle.record_bytes.specs.Bytes.{IsNumber}
 use Rattle.table_bytes.specs.aid.Writing.{Writes}
 use Rattle.table_bytes.proofs.write_cells.write_order.Given as goal
 

@@ -2,7 +2,7 @@ use Rattle.std.proofs.Common.{◌<◌, ◌∙◌, ap, subst, List, ℕ, arith}
 use Rattle.retrograde.specs.declared.records.Counts.{Counts}
 use Rattle.retrograde.specs.Stored.{Stored}
 use Rattle.retrograde.specs.Edges.{IsNextEdge, HasNoMoreEdges}
-use Rattle.table_bytes.specs.Bytes.{IsEdge}
+use Rattle.record_bytes.specs.Bytes.{IsEdge}
 use Rattle.table_bytes.proofs.WritingLemmas.{edge_written, edges_done, longer_one}
 use Rattle.table_bytes.proofs.write_edges.write_edges_to.Goals as goal
 

@@ -1,7 +1,7 @@
 use Rattle.std.proofs.Common.{◌∙◌, ◌≡◌, ℕ, List, Some, None, sym, ap, subst}
 use Rattle.std.proofs.lemmas.Option.{same_Some}
 use Rattle.retrograde.specs.declared.records.Record.{Record}
-use Rattle.table_bytes.specs.Bytes.{IsCell}
+use Rattle.record_bytes.specs.Bytes.{IsCell}
 use Rattle.tree_map.specs.Entries.{find_entry}
 use Rattle.tree_read.specs.Answers.{found_bytes}
 use Rattle.tree_table.specs.declared.tree.Tree.TheVariants.{Records}

@@ -1,6 +1,6 @@
 use Rattle.std.proofs.Common.{◌∙◌, ◌≡◌, ℕ, List, Some, None, sym, ap, subst}
 use Rattle.std.proofs.lemmas.Option.{same_Some}
-use Rattle.table_bytes.specs.Bytes.{IsNumber}
+use Rattle.record_bytes.specs.Bytes.{IsNumber}
 use Rattle.tree_read.specs.Answers.{found_bytes}
 use Rattle.tree_check.specs.aid.Right.{IsNumberAt}
 use Rattle.tree_check.proofs.Passing.{passed_on, read_plain}

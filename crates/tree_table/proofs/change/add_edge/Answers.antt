@@ -3,7 +3,7 @@ use Rattle.sector_disk.specs.aid.Moments.{still_honest}
 use Rattle.page_store.specs.Store.{reads}
 use Rattle.page_store.specs.aid.Works.{works_then}
 use Rattle.retrograde.specs.Changes.{with_edge}
-use Rattle.table_bytes.specs.declared.sizes.Sizes.{Sizes}
+use Rattle.record_bytes.specs.declared.sizes.Sizes.{Sizes}
 use Rattle.tree_map.specs.aid.Unchanged.{unchanged_reads}
 use Rattle.tree_table.specs.declared.tree.Tree.TheVariants.{Edges}
 use Rattle.tree_table.specs.Causes.{HasNoForest, HasNoTable}

@@ -1,6 +1,6 @@
 use Rattle.std.proofs.Common.{◌≡◌, ◌∙◌, ◌+◌, sym, subst, length, arith}
 use Rattle.retrograde.specs.Changes.{fresh_record, with_position}
-use Rattle.table_bytes.specs.Bytes.{IsCell}
+use Rattle.record_bytes.specs.Bytes.{IsCell}
 use Rattle.tree_table.specs.declared.tree.Tree.TheVariants.{Positions, Records}
 use Rattle.tree_table.specs.Entries.{number_key}
 use Rattle.tree_table.specs.Working.{HoldsForest, HoldsTable, with_entry}

@@ -1,5 +1,5 @@
 use Rattle.std.proofs.Common.{◌∙◌, ℕ, List, sym, ap, subst}
-use Rattle.table_bytes.specs.Bytes.{IsCell}
+use Rattle.record_bytes.specs.Bytes.{IsCell}
 use Rattle.retrograde.specs.declared.records.Record.{Record}
 use Rattle.tree_map.specs.Entries.{find_entry}
 use Rattle.tree_read.specs.Answers.{found_bytes}

@@ -1,5 +1,5 @@
 use Rattle.std.proofs.Common.{◌≡◌, ◌∙◌, ◌++◌, ◌<◌, ◌≤◌, ◌^◌, ℕ, Some, false, true, length, sym, ap, subst, arith}
-use Rattle.table_bytes.specs.Bytes.{IsNumber}
+use Rattle.record_bytes.specs.Bytes.{IsNumber}
 use Rattle.tree_table.specs.Causes.{HasNoForest, HasNoTable}
 use Rattle.tree_table.proofs.Faults.{passed_on, read_for}
 use Rattle.tree_page.specs.Page.{Item}

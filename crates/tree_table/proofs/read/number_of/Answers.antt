@@ -1,5 +1,5 @@
 use Rattle.std.proofs.Common.{◌∙◌, ℕ, List, sym, ap, subst, arith}
-use Rattle.table_bytes.specs.Bytes.{IsNumber}
+use Rattle.record_bytes.specs.Bytes.{IsNumber}
 use Rattle.tree_map.specs.Entries.{find_entry}
 use Rattle.tree_read.specs.Answers.{found_bytes}
 use Rattle.tree_table.specs.declared.tree.Tree.TheVariants.{Positions}

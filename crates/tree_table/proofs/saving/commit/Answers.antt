@@ -5,7 +5,7 @@ use Rattle.page_store.specs.Store.{Store, IsUnchanged, IsCommitted}
 use Rattle.page_store.specs.declared.fault.PageFault.{PageFault}
 use Rattle.page_store.specs.declared.fault.PageFault.TheVariants.{Disk, NotATable, Damaged, TableFull, OutOfMemory, Closed}
 use Rattle.game_file.specs.Stops.{LeavesTable}
-use Rattle.table_bytes.specs.Numbers.{AreWithinLimits}
+use Rattle.record_bytes.specs.Numbers.{AreWithinLimits}
 use Rattle.position_pack.specs.declared.kind.PackingKind.{PackingKind}
 use Rattle.root_slot.specs.Fields.{layout_in, packing_in, number_of_packing}
 use Rattle.tree_map.specs.aid.Unchanged.{unchanged_refl}

@@ -1,8 +1,8 @@
 use Rattle.std.proofs.Common.{◌≡◌, ◌∙◌, sym, ap, subst, arith}
 use Rattle.root_slot.specs.Fields.{number_of_packing, packing_in}
 use Rattle.root_slot.specs.aid.Packings.{kind_is}
-use Rattle.table_bytes.specs.Numbers.{AreWithinLimits}
-use Rattle.table_bytes.specs.declared.sizes.Sizes.{Sizes}
+use Rattle.record_bytes.specs.Numbers.{AreWithinLimits}
+use Rattle.record_bytes.specs.declared.sizes.Sizes.{Sizes}
 use Rattle.tree_table.proofs.slot.read_slot.Goals as goal
 
 pub returns-clause-says : goal.returns-clause-says

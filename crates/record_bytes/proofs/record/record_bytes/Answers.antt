@@ -1,5 +1,5 @@
 use Rattle.std.proofs.Common.{◌∙◌, arith}
-use Rattle.table_bytes.proofs.record.record_bytes.Goals as goal
+use Rattle.record_bytes.proofs.record.record_bytes.Goals as goal
 
 pub returns : goal.returns
 returns c =

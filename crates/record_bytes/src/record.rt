@@ -1,17 +1,14 @@
 //! The bytes of a record.
-ghost use Rattle.std.specs.Prelude.{◌≡◌, ◌+◌, ◌≤◌, ◌<◌, ◌++◌, ℕ, Option, length, drop, slice_index, IfSome, IfNone, IfErr, OnOk};
-ghost use Rattle.byteorder.specs.Endian.{big_bytes, big_number};
+ghost use Rattle.std.specs.Prelude.{◌≡◌, ◌+◌, ◌≤◌, ◌<◌, ℕ, Option, length, drop, slice_index, IfSome, IfNone};
+ghost use Rattle.byteorder.specs.Endian.{big_number};
 ghost use Rattle.rbg_game.specs.declared.roles.Player.{Player};
 ghost use Rattle.retrograde.specs.declared.records.State.{State};
 ghost use Rattle.retrograde.specs.declared.records.Record.{Record};
-ghost use Rattle.table.specs.declared.fault.TableFault.TheVariants.{OutOfMemory};
-ghost use Rattle.table_bytes.specs.Bytes.{state_byte, winner_byte, IsRecord, IsPlainRecord};
-ghost use Rattle.table_bytes.specs.aid.Writing.{WritesOne};
+ghost use Rattle.record_bytes.specs.Bytes.{state_byte, winner_byte, IsRecord, IsPlainRecord};
 
 use byteorder::{BigEndian, ByteOrder};
 use rbg_game::roles::Player;
 use retrograde::{Record, State};
-use table::TableFault;
 
 /// How many bytes a record takes.
 pub const RECORD_BYTES: usize = 16;
@@ -83,17 +80,6 @@ pub fn read_record(bytes: &[u8]) -> Option<Record>
     })
 }
 
-/// Puts the four bytes of a number behind others.
-pub fn push_number(bytes: &mut Vec<u8>, number: u32) -> Result<(), TableFault>
-    ensures bytes { OnOk result (bytes.new.items ≡ bytes.old.items ++ big_bytes 4 number) }
-    ensures memory { IfErr result (λ fault. fault ≡ OutOfMemory) }
-{
-    let mut four = [0; 4];
-    BigEndian::write_u32(&mut four, number);
-    bytes.extend_from_slice(&four)?;
-    Ok(())
-}
-
 /// Puts a number into the four bytes from there on.
 fn put_word(bytes: &mut [u8; 16], at: usize, number: u32)
     requires { at ≤ 12 }
@@ -115,13 +101,4 @@ pub fn record_bytes(kept: &Record) -> [u8; 16]
     put_word(&mut bytes, 8, kept.left);
     put_word(&mut bytes, 12, kept.successors);
     bytes
-}
-
-/// Puts the 16 bytes of a record behind others.
-pub fn push_record(bytes: &mut Vec<u8>, kept: &Record) -> Result<(), TableFault>
-    ensures bytes { OnOk result (WritesOne IsPlainRecord kept.now bytes.old.items bytes.new.items) }
-    ensures memory { IfErr result (λ fault. fault ≡ OutOfMemory) }
-{
-    bytes.extend_from_slice(&record_bytes(kept))?;
-    Ok(())
 }

@@ -1,12 +1,8 @@
 -- The numbers that go with the bytes of a table.
-use Rattle.std.specs.Prelude.{ℕ, ◌+◌, ◌*◌, ◌≤◌, ◌^◌}
-use Rattle.table_bytes.specs.declared.sizes.Sizes.{Sizes}
+use Rattle.std.specs.Prelude.{◌≤◌, ◌^◌}
+use Rattle.record_bytes.specs.declared.sizes.Sizes.{Sizes}
 use Rattle.position_pack.specs.declared.limits.TheConstants.{MAX_PACKED}
 use Rattle.rbg_game.specs.declared.limits.TheConstants.{MAX_TEXT_BYTES}
-
--- how many bytes such a table takes
-abbrev pub bytes_in : Sizes → ℕ
-bytes_in sizes = sizes.text + sizes.counts.known * (sizes.packed + 16) + 8 * sizes.edges + 4 * sizes.counts.settled
 
 -- the numbers are in order and within the limits
 pub record AreWithinLimits (sizes : Sizes) : Type 0 where

@@ -1,0 +1,4 @@
+pub use Rattle.retrograde.specs.Stored
+pub mod Bytes
+pub mod Numbers
+pub mod aid
