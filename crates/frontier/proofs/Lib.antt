@@ -1,4 +1,5 @@
 pub mod NumberLemmas
 pub mod NotedLemmas
+pub mod Passing
 pub mod DoneLemmas
 pub mod ExpandLemmas

@@ -1,4 +1,4 @@
-use Rattle.std.proofs.Common.{◌≡◌, ◌∙◌, rules, ◌≤◌, ◌<◌, ◌^◌, sym, ap, subst, ℕ, List, Some, length, refl, arith, slice_get}
+use Rattle.std.proofs.Common.{◌≡◌, ◌∙◌, ◌≤◌, ◌<◌, ◌^◌, sym, ap, subst, ℕ, List, Some, Err, All, length, refl, arith, slice_get}
 use Rattle.std.proofs.lemmas.Cmp.{nat_list_cmp_total}
 use Rattle.std.proofs.lemmas.List.{length-map}
 use Rattle.arrayvec.specs.ArrayVec.{ArrayVec}
@@ -13,6 +13,8 @@ use Rattle.retrograde.specs.Expands.{IsTooMany}
 use Rattle.retrograde.proofs.Expands.{choice, no_choice}
 use Rattle.frontier.specs.aid.Numbering.{AreNumbersOf}
 use Rattle.frontier.proofs.NumberLemmas.{too_many}
+use Rattle.frontier.specs.declared.fault.StepFault.{StepFault}
+use Rattle.frontier.proofs.Passing.{passed_on, consistent, fault_is, leaves_after, search_leaves, search_consistent, search_cause}
 use Rattle.frontier.proofs.ExpandLemmas.{IsDone, successor_list, done, fits, room}
 use Rattle.frontier.proofs.expand.expand_one.Given
 use Rattle.frontier.proofs.expand.expand_one.Goals as goal
@@ -65,7 +67,7 @@ returns-in_err-finish-clause-consistent g c = λ honest sound is.
     omega (arith, ap (λ (k : Counts). k.expanded) counts, ap (λ (k : Counts). k.known) counts, c.requires.waiting) in
     let fits : length (g.T.Table.stored c.note_all.new.table).order < length (g.T.Table.stored c.note_all.new.table).positions
     = room (g.M.GameGraph.graph c.args.source.now) (g.M.GameGraph.is_wide c.args.source.now) (g.T.Table.stored c.args.table.now) sound ys (g.T.Table.stored c.note_all.new.table) c.counts-before.result.expanded noted waiting in
-    let full : length (g.T.Table.stored c.note_all.new.table).positions ≤ length (g.T.Table.stored c.note_all.new.table).order = c.in_err-finish.ensures.full h3 (search rules) in
+    let full : length (g.T.Table.stored c.note_all.new.table).positions ≤ length (g.T.Table.stored c.note_all.new.table).order = c.in_err-finish.ensures.full h3 (ap (λ (f : StepFault). Err f) (fault_is c.from_residual-in_err-finish.result _ c.from_residual-in_err-finish.ensures is)) in
     omega arith
 
 -- what the unit has done
@@ -117,3 +119,202 @@ returns-clause-fits g c = λ honest table.
     c.in_ok-packed.packed.items ys c.counts-before.result.expanded _ c.ahead.result
     (ap (λ (k : Counts). k.expanded) (c.counts-before.ensures ∙ g.met.T.Table.counts_are _ honest)) (c.in_ok-packed.ensures.position honest)
     noted (omega (arith, few, c.len-2.ensures, c.in_ok-found.found.ok.0)) c.ahead.ensures (c.in_ok-finish.ensures.expanded h3)
+
+pub returns-in_err-packed-clause-cause : goal.returns-in_err-packed-clause-cause
+returns-in_err-packed-clause-cause g c =
+    λ honest. passed_on _ c.from_residual.result _ c.from_residual.ensures (λ refused. absurd refused)
+
+pub returns-in_err-packed-clause-unchanged : goal.returns-in_err-packed-clause-unchanged
+returns-in_err-packed-clause-unchanged g c =
+    λ honest. passed_on _ c.from_residual.result _ c.from_residual.ensures (λ refused. absurd refused)
+
+pub returns-in_err-packed-clause-consistent : goal.returns-in_err-packed-clause-consistent
+returns-in_err-packed-clause-consistent g c =
+    λ honest sound. consistent c.from_residual.result _ c.from_residual.ensures (λ is. cc)
+
+pub returns-in_err-packed-clause-left : goal.returns-in_err-packed-clause-left
+returns-in_err-packed-clause-left g c =
+    passed_on _ c.from_residual.result _ c.from_residual.ensures c.in_err-packed.ensures.fault
+
+pub returns-in_err-found-clause-cause : goal.returns-in_err-found-clause-cause
+returns-in_err-found-clause-cause g c =
+    λ honest.
+    let number : c.counts-before.result.expanded ≡ expanded_count (g.T.Table.stored c.args.table.now) = ap (λ (k : Counts). k.expanded) (c.counts-before.ensures ∙ g.met.T.Table.counts_are _ honest) in
+    let at = subst (λ (k : ℕ). slice_get (g.T.Table.stored c.args.table.now).positions k ≡ Some c.in_ok-packed.packed.items) number (c.in_ok-packed.ensures.position honest) in
+    passed_on _ c.from_residual-in_err-found.result _ c.from_residual-in_err-found.ensures
+    (search_cause _ c.in_err-found.ensures.others (g.M.GameGraph.graph c.args.source.now) (g.M.GameGraph.is_wide c.args.source.now) (g.T.Table.stored c.args.table.now)
+    c.in_ok-packed.packed.items at (λ is. c.in_err-found.ensures.wide (ap (λ (f : StepFault). Err f) is)))
+
+pub returns-in_err-found-clause-unchanged : goal.returns-in_err-found-clause-unchanged
+returns-in_err-found-clause-unchanged g c =
+    λ honest. passed_on _ c.from_residual-in_err-found.result _ c.from_residual-in_err-found.ensures (λ refused. (c.in_ok-packed.ensures.honest.0 honest, c.in_ok-packed.ensures.same honest))
+
+pub returns-in_err-found-clause-consistent : goal.returns-in_err-found-clause-consistent
+returns-in_err-found-clause-consistent g c =
+    λ honest sound. consistent c.from_residual-in_err-found.result _ c.from_residual-in_err-found.ensures (search_consistent _ c.in_err-found.ensures.others)
+
+pub returns-in_err-found-clause-left : goal.returns-in_err-found-clause-left
+returns-in_err-found-clause-left g c =
+    passed_on _ c.from_residual-in_err-found.result _ c.from_residual-in_err-found.ensures (search_leaves _ c.in_err-found.ensures.others _ _ (g.met.T.Table.stays_goes_on _ _ c.in_ok-packed.ensures.stays))
+
+pub returns-then-keeper_chooses-clause-unchanged : goal.returns-then-keeper_chooses-clause-unchanged
+returns-then-keeper_chooses-clause-unchanged g c =
+    λ honest refused. (c.in_ok-packed.ensures.honest.0 honest, c.in_ok-packed.ensures.same honest)
+
+pub returns-then-keeper_chooses-clause-consistent : goal.returns-then-keeper_chooses-clause-consistent
+returns-then-keeper_chooses-clause-consistent g c =
+    λ honest sound is. cc
+
+pub returns-then-keeper_chooses-clause-left : goal.returns-then-keeper_chooses-clause-left
+returns-then-keeper_chooses-clause-left g c =
+    g.met.T.Table.stays_goes_on _ _ c.in_ok-packed.ensures.stays
+
+pub numbers_of-requires-clause-few : goal.numbers_of-requires-clause-few
+numbers_of-requires-clause-few g c =
+    let same = ap (λ (xs : List (ArrayVec ℕ)). length xs) c.deref.ensures.value in omega (arith, c.in_ok-found.ensures.few, c.in_ok-found.found.ok.0)
+
+pub numbers_of-requires-clause-limit : goal.numbers_of-requires-clause-limit
+numbers_of-requires-clause-limit g c =
+    let same = ap (λ (k : Counts). k.known) c.in_ok-packed.ensures.counts in omega (arith, c.requires.limit)
+
+pub returns-in_err-numbers-clause-cause : goal.returns-in_err-numbers-clause-cause
+returns-in_err-numbers-clause-cause g c =
+    λ honest. passed_on _ c.from_residual-in_err-numbers.result _ c.from_residual-in_err-numbers.ensures (λ refused. absurd (c.in_err-numbers.ensures.goes_on refused))
+
+pub returns-in_err-numbers-clause-unchanged : goal.returns-in_err-numbers-clause-unchanged
+returns-in_err-numbers-clause-unchanged g c =
+    λ honest. passed_on _ c.from_residual-in_err-numbers.result _ c.from_residual-in_err-numbers.ensures (λ refused. absurd (c.in_err-numbers.ensures.goes_on refused))
+
+pub returns-in_err-numbers-clause-consistent : goal.returns-in_err-numbers-clause-consistent
+returns-in_err-numbers-clause-consistent g c =
+    λ honest sound. consistent c.from_residual-in_err-numbers.result _ c.from_residual-in_err-numbers.ensures (λ is. c.in_err-numbers.ensures.consistent (ap (λ (f : StepFault). Err f) is))
+
+pub returns-in_err-numbers-clause-left : goal.returns-in_err-numbers-clause-left
+returns-in_err-numbers-clause-left g c =
+    passed_on _ c.from_residual-in_err-numbers.result _ c.from_residual-in_err-numbers.ensures
+    (leaves_after _ _ _ _ _ (g.met.T.Table.goes_on_then _ _ _ (g.met.T.Table.stays_goes_on _ _ c.in_ok-packed.ensures.stays)) (λ fault. g.met.T.Table.fails_since _ _ _ fault (g.met.T.Table.stays_goes_on _ _ c.in_ok-packed.ensures.stays)) c.in_err-numbers.ensures.left)
+
+pub returns-in_err-note_all-clause-cause : goal.returns-in_err-note_all-clause-cause
+returns-in_err-note_all-clause-cause g c =
+    λ honest. passed_on _ c.from_residual-in_err-note_all.result _ c.from_residual-in_err-note_all.ensures (λ refused. absurd (c.in_err-note_all.ensures.goes_on refused))
+
+pub returns-in_err-note_all-clause-unchanged : goal.returns-in_err-note_all-clause-unchanged
+returns-in_err-note_all-clause-unchanged g c =
+    λ honest. passed_on _ c.from_residual-in_err-note_all.result _ c.from_residual-in_err-note_all.ensures (λ refused. absurd (c.in_err-note_all.ensures.goes_on refused))
+
+pub returns-in_err-note_all-clause-consistent : goal.returns-in_err-note_all-clause-consistent
+returns-in_err-note_all-clause-consistent g c =
+    λ honest sound. consistent c.from_residual-in_err-note_all.result _ c.from_residual-in_err-note_all.ensures (λ is. c.in_err-note_all.ensures.consistent (ap (λ (f : StepFault). Err f) is))
+
+pub returns-in_err-note_all-clause-left : goal.returns-in_err-note_all-clause-left
+returns-in_err-note_all-clause-left g c =
+    passed_on _ c.from_residual-in_err-note_all.result _ c.from_residual-in_err-note_all.ensures
+    (leaves_after _ _ _ _ _ (g.met.T.Table.goes_on_then _ _ _ (g.met.T.Table.stays_goes_on _ _ (g.met.T.Table.stays_then _ _ _ c.in_ok-packed.ensures.stays c.in_ok-numbers.ensures.stays))) (λ fault. g.met.T.Table.fails_since _ _ _ fault (g.met.T.Table.stays_goes_on _ _ (g.met.T.Table.stays_then _ _ _ c.in_ok-packed.ensures.stays c.in_ok-numbers.ensures.stays))) c.in_err-note_all.ensures.left)
+
+pub returns-in_err-finish-clause-cause : goal.returns-in_err-finish-clause-cause
+returns-in_err-finish-clause-cause g c =
+    λ honest. passed_on _ c.from_residual-in_err-finish.result _ c.from_residual-in_err-finish.ensures (λ refused. absurd (c.in_err-finish.ensures.goes_on refused))
+
+pub returns-in_err-finish-clause-unchanged : goal.returns-in_err-finish-clause-unchanged
+returns-in_err-finish-clause-unchanged g c =
+    λ honest. passed_on _ c.from_residual-in_err-finish.result _ c.from_residual-in_err-finish.ensures (λ refused. absurd (c.in_err-finish.ensures.goes_on refused))
+
+pub returns-in_err-finish-clause-left : goal.returns-in_err-finish-clause-left
+returns-in_err-finish-clause-left g c =
+    passed_on _ c.from_residual-in_err-finish.result _ c.from_residual-in_err-finish.ensures
+    (leaves_after _ _ _ _ _ (g.met.T.Table.goes_on_then _ _ _ (g.met.T.Table.goes_on_then _ _ _ (g.met.T.Table.stays_goes_on _ _ (g.met.T.Table.stays_then _ _ _ c.in_ok-packed.ensures.stays c.in_ok-numbers.ensures.stays)) c.in_ok-note_all.ensures.ahead)) (λ fault. g.met.T.Table.fails_since _ _ _ fault (g.met.T.Table.goes_on_then _ _ _ (g.met.T.Table.stays_goes_on _ _ (g.met.T.Table.stays_then _ _ _ c.in_ok-packed.ensures.stays c.in_ok-numbers.ensures.stays)) c.in_ok-note_all.ensures.ahead)) c.in_err-finish.ensures.left)
+
+pub returns-then-numbers-gt-MAX_POSITIONS-clause-unchanged : goal.returns-then-numbers-gt-MAX_POSITIONS-clause-unchanged
+returns-then-numbers-gt-MAX_POSITIONS-clause-unchanged g c =
+    λ honest refused.
+    let h1 = c.in_ok-packed.ensures.honest.0 honest in
+    (c.in_ok-numbers.ensures.honest.0 h1, c.in_ok-numbers.ensures.same h1 ∙ c.in_ok-packed.ensures.same honest)
+
+pub returns-then-numbers-gt-MAX_POSITIONS-clause-consistent : goal.returns-then-numbers-gt-MAX_POSITIONS-clause-consistent
+returns-then-numbers-gt-MAX_POSITIONS-clause-consistent g c =
+    λ honest sound is. cc
+
+pub returns-then-numbers-gt-MAX_POSITIONS-clause-left : goal.returns-then-numbers-gt-MAX_POSITIONS-clause-left
+returns-then-numbers-gt-MAX_POSITIONS-clause-left g c =
+    g.met.T.Table.stays_goes_on _ _ (g.met.T.Table.stays_then _ _ _ c.in_ok-packed.ensures.stays c.in_ok-numbers.ensures.stays)
+
+pub note_all-requires-clause-predecessor : goal.note_all-requires-clause-predecessor
+note_all-requires-clause-predecessor g c =
+    let before = ap (λ (k : Counts). k.known) c.in_ok-packed.ensures.counts in
+    let between = ap (λ (k : Counts). k.known) c.in_ok-numbers.ensures.counts in
+    let count = ap (λ (k : Counts). k.expanded) c.counts-before.ensures in
+    omega (arith, c.requires.waiting)
+
+pub note_all-requires-clause-lengths : goal.note_all-requires-clause-lengths
+note_all-requires-clause-lengths g c =
+    ap (λ (ns : List ℕ). length ns) c.deref-2.ensures.value
+    ∙ (c.in_ok-numbers.ensures.lengths ∙ ap (λ (ps : List (ArrayVec ℕ)). length ps) (c.deref.ensures.value ∙ sym c.deref-3.ensures.value))
+
+pub note_all-requires-clause-limit : goal.note_all-requires-clause-limit
+note_all-requires-clause-limit g c =
+    subst (λ (ns : List ℕ). All (λ i. i < 2 ^ 24) ns) (sym c.deref-2.ensures.value)
+    (λ k d inside. omega (arith, c.in_ok-numbers.ensures.within k d inside, c.if-numbers-gt-MAX_POSITIONS.false))
+
+pub note_all-requires-clause-numbers : goal.note_all-requires-clause-numbers
+note_all-requires-clause-numbers g c =
+    λ h2.
+    let h1 = c.in_ok-numbers.ensures.honest.1 h2 in
+    let ys = bytes_of_each c.in_ok-found.found.items in
+    let are = rw c.deref.ensures.value at c.in_ok-numbers.ensures.numbers h1 in
+    let here = subst (λ (t : Stored (List ℕ)). AreNumbersOf t.positions (length t.positions) ys c.in_ok-numbers.numbers.each.items c.in_ok-numbers.numbers.next) (sym (c.in_ok-numbers.ensures.same h1)) are in
+    (c.in_ok-numbers.numbers.next, rw (c.deref-2.ensures.value, c.deref-3.ensures.value) here)
+
+pub finish-requires : goal.finish-requires
+finish-requires g c =
+    let before = ap (λ (k : Counts). k.known) c.in_ok-packed.ensures.counts in
+    let between = ap (λ (k : Counts). k.known) c.in_ok-numbers.ensures.counts in
+    let count = ap (λ (k : Counts). k.expanded) c.counts-before.ensures in
+    let more = c.in_ok-note_all.ensures.more in
+    omega (arith, c.requires.waiting)
+
+pub overflow_sub-result : goal.overflow_sub-result
+overflow_sub-result g c =
+    let before = ap (λ (k : Counts). k.known) c.in_ok-packed.ensures.counts in
+    let between = ap (λ (k : Counts). k.known) c.in_ok-numbers.ensures.counts in
+    let count = ap (λ (k : Counts). k.known) c.counts-before.ensures in
+    let now = ap (λ (k : Counts). k.known) c.counts.ensures in
+    let more = c.in_ok-note_all.ensures.more in
+    let known = c.in_ok-finish.ensures.known in
+    omega arith
+
+pub overflow_cast-len : goal.overflow_cast-len
+overflow_cast-len g c =
+    omega (arith, c.len-2.ensures, c.in_ok-found.ensures.few)
+
+pub returns-clause-ahead : goal.returns-clause-ahead
+returns-clause-ahead g c =
+    g.met.T.Table.goes_on_then _ _ _ (g.met.T.Table.goes_on_then _ _ _ (g.met.T.Table.stays_goes_on _ _ (g.met.T.Table.stays_then _ _ _ c.in_ok-packed.ensures.stays c.in_ok-numbers.ensures.stays)) c.in_ok-note_all.ensures.ahead) c.in_ok-finish.ensures.ahead
+
+pub returns-clause-honest : goal.returns-clause-honest
+returns-clause-honest g c = (
+  λ h. c.in_ok-finish.ensures.honest.0 (c.in_ok-note_all.ensures.honest.0 (c.in_ok-numbers.ensures.honest.0 (c.in_ok-packed.ensures.honest.0 h))),
+  λ h. c.in_ok-packed.ensures.honest.1 (c.in_ok-numbers.ensures.honest.1 (c.in_ok-note_all.ensures.honest.1 (c.in_ok-finish.ensures.honest.1 h))),
+)
+
+pub returns-clause-room : goal.returns-clause-room
+returns-clause-room g c =
+    let before = ap (λ (k : Counts). k.known) c.in_ok-packed.ensures.counts in
+    let between = ap (λ (k : Counts). k.known) c.in_ok-numbers.ensures.counts in
+    let few = c.in_ok-note_all.ensures.room (omega (arith, before, between, c.requires.limit)) in
+    omega (arith, few, c.in_ok-finish.ensures.known)
+
+pub returns-clause-more : goal.returns-clause-more
+returns-clause-more g c =
+    λ honest.
+    let h1 = c.in_ok-packed.ensures.honest.0 honest in
+    let h2 = c.in_ok-numbers.ensures.honest.0 h1 in
+    let h4 = c.in_ok-finish.ensures.honest.0 (c.in_ok-note_all.ensures.honest.0 h2) in
+    let before = ap (λ (k : Counts). k.known) c.in_ok-packed.ensures.counts in
+    let between = ap (λ (k : Counts). k.known) c.in_ok-numbers.ensures.counts in
+    let more = c.in_ok-note_all.ensures.more in
+    let known = c.in_ok-finish.ensures.known in
+    let count = ap (λ (k : Counts). k.known) c.counts-before.ensures in
+    let now = ap (λ (k : Counts). k.known) c.counts.ensures in
+    let first = ap (λ (k : Counts). k.known) (g.met.T.Table.counts_are c.args.table.now honest) in
+    let last = ap (λ (k : Counts). k.known) (g.met.T.Table.counts_are c.finish.new.table h4) in
+    omega arith

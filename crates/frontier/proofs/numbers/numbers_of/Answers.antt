@@ -1,19 +1,35 @@
-use Rattle.std.proofs.Common.{◌∙◌, ℕ, List, rules, not, ap, subst, arith}
+use Rattle.std.proofs.Common.{◌≡◌, ◌∙◌, ◌+◌, ◌<◌, ◌≤◌, ℕ, List, Err, All, not, ap, sym, subst, refl, length, arith}
+use Rattle.std.proofs.lemmas.List.{length-map, length_push, take_all}
+use Rattle.std.proofs.lemmas.List.Elements.{All-nil, All-push, All-weaker}
+use Rattle.arrayvec.specs.ArrayVec.{ArrayVec}
+use Rattle.table.specs.Memory.{bytes_of_each}
+use Rattle.retrograde.specs.declared.records.Counts.{Counts}
 use Rattle.retrograde.specs.Stored.{Stored}
+use Rattle.frontier.specs.aid.Numbering.{AreNumbersOf}
+use Rattle.frontier.specs.declared.fault.StepFault.{StepFault}
+use Rattle.frontier.proofs.Passing.{passed_on, consistent, leaves_after}
 use Rattle.frontier.proofs.NumberLemmas.{IsNumberOf, numbers_push, next_after, pushed}
 use Rattle.frontier.proofs.NotedLemmas.{take_at}
 use Rattle.frontier.proofs.numbers.numbers_of.Goals as goal
 
 pub loop-position-preserved : goal.loop-position-preserved
 loop-position-preserved g c = record {
-  counts = search rules;
-  known = search rules;
-  few = search rules;
-  lengths = search rules;
-  within = search rules;
-  honest = search rules;
+  counts = c.in_ok-number.ensures.counts ∙ c.loop-position.invariant.counts;
+  known = omega (arith, c.loop-position.invariant.known, c.max-next.ensures);
+  few = omega (arith, c.loop-position.invariant.few, c.in_ok-number.ensures.within, c.max-next.ensures);
+  lengths =
+      let items = pushed _ _ _ _ (c.is_err.ensures.negation ∙ ap not c.if-is_err.false) c.push.ensures.items in
+      ap (λ (ns : List ℕ). length ns) items ∙ (length_push c.loop-position.each.items c.in_ok-number.number ∙ ap (λ (n : ℕ). n + 1) c.loop-position.invariant.lengths);
+  within =
+      let items = pushed _ _ _ _ (c.is_err.ensures.negation ∙ ap not c.if-is_err.false) c.push.ensures.items in
+      let longer : (n : ℕ) → n < c.loop-position.next → n < c.max-next.result = λ n less. omega (arith, less, c.max-next.ensures) in
+      let last : c.in_ok-number.number < c.max-next.result = omega (arith, c.max-next.ensures) in
+      subst (λ (ns : List ℕ). All (λ i. i < c.max-next.result) ns) (sym items)
+      (All-push (λ i. i < c.max-next.result) c.loop-position.each.items c.in_ok-number.number
+      (All-weaker (λ i. i < c.loop-position.next) (λ i. i < c.max-next.result) longer c.loop-position.each.items c.loop-position.invariant.within) last);
+  honest = (λ h. c.in_ok-number.ensures.honest.0 (c.loop-position.invariant.honest.0 h), λ h. c.loop-position.invariant.honest.1 (c.in_ok-number.ensures.honest.1 h));
   stays = g.met.T.Table.stays_then _ _ _ c.loop-position.invariant.stays c.in_ok-number.ensures.stays;
-  same = search rules;
+  same = λ h. c.in_ok-number.ensures.same (c.loop-position.invariant.honest.0 h) ∙ c.loop-position.invariant.same h;
   numbers = λ honest.
       let h = c.loop-position.invariant.honest.0 honest in
       let y = c.position-item.result.items in
@@ -26,3 +42,96 @@ loop-position-preserved g c = record {
       (numbers_push (g.T.Table.stored c.args.table.now).positions _ c.loop-position.each.items _ c.loop-position.next y c.in_ok-number.number c.max-next.result
       (omega arith) before is (next_after c.loop-position.next c.in_ok-number.number c.max-next.result c.in_ok-number.ensures.within c.max-next.ensures));
 }
+
+pub loop-position-init : goal.loop-position-init
+loop-position-init g c =
+    record {
+      counts = refl;
+      known = let count = ap (λ (k : Counts). k.known) c.counts-next.ensures in omega arith;
+      few = let count = ap (λ (k : Counts). k.known) c.counts-next.ensures in omega arith;
+      lengths = ap (λ (ns : List ℕ). length ns) c.new-each.ensures.items;
+      within = subst (λ (ns : List ℕ). All (λ i. i < c.counts-next.result.known) ns) (sym c.new-each.ensures.items) (All-nil (λ i. i < c.counts-next.result.known));
+      honest = (λ h. h, λ h. h);
+      stays = g.met.T.Table.stays_here _;
+      same = λ h. refl;
+      numbers = λ honest.
+          let count = ap (λ (k : Counts). k.known) (c.counts-next.ensures ∙ g.met.T.Table.counts_are _ honest) in
+          rw c.new-each.ensures.items (sym count);
+    }
+
+pub number_or_next-requires : goal.number_or_next-requires
+number_or_next-requires g c =
+    let count = ap (λ (k : Counts). k.known) c.loop-position.invariant.counts in omega (arith, c.loop-position.invariant.known)
+
+pub overflow_add-number : goal.overflow_add-number
+overflow_add-number g c =
+    omega (arith, c.in_ok-number.ensures.within, c.loop-position.invariant.few, c.requires.limit, c.requires.few, c.loop-position-test.true)
+
+pub returns-in_err-number-clause-goes_on : goal.returns-in_err-number-clause-goes_on
+returns-in_err-number-clause-goes_on g c =
+    passed_on _ c.from_residual.result _ c.from_residual.ensures c.in_err-number.ensures.goes_on
+
+pub returns-in_err-number-clause-consistent : goal.returns-in_err-number-clause-consistent
+returns-in_err-number-clause-consistent g c =
+    consistent c.from_residual.result _ c.from_residual.ensures (λ is. c.in_err-number.ensures.consistent (ap (λ (f : StepFault). Err f) is))
+
+pub returns-in_err-number-clause-stays : goal.returns-in_err-number-clause-stays
+returns-in_err-number-clause-stays g c =
+    g.met.T.Table.stays_then _ _ _ c.loop-position.invariant.stays c.in_err-number.ensures.stays
+
+pub returns-in_err-number-clause-left : goal.returns-in_err-number-clause-left
+returns-in_err-number-clause-left g c =
+    passed_on _ c.from_residual.result _ c.from_residual.ensures
+    (leaves_after _ _ _ _ _ (g.met.T.Table.goes_on_then _ _ _ (g.met.T.Table.stays_goes_on _ _ c.loop-position.invariant.stays)) (λ fault. g.met.T.Table.fails_since _ _ _ fault (g.met.T.Table.stays_goes_on _ _ c.loop-position.invariant.stays)) c.in_err-number.ensures.left)
+
+pub returns-then-is_err-clause-goes_on : goal.returns-then-is_err-clause-goes_on
+returns-then-is_err-clause-goes_on g c =
+    λ refused. refused
+
+pub returns-then-is_err-clause-consistent : goal.returns-then-is_err-clause-consistent
+returns-then-is_err-clause-consistent g c =
+    λ is. cc
+
+pub returns-then-is_err-clause-stays : goal.returns-then-is_err-clause-stays
+returns-then-is_err-clause-stays g c =
+    g.met.T.Table.stays_then _ _ _ c.loop-position.invariant.stays c.in_ok-number.ensures.stays
+
+pub returns-then-is_err-clause-left : goal.returns-then-is_err-clause-left
+returns-then-is_err-clause-left g c =
+    g.met.T.Table.stays_goes_on _ _ (g.met.T.Table.stays_then _ _ _ c.loop-position.invariant.stays c.in_ok-number.ensures.stays)
+
+pub returns-clause-numbers : goal.returns-clause-numbers
+returns-clause-numbers g c =
+    λ honest.
+    let long = length-map c.args.positions.now (λ (p : ArrayVec ℕ). p.items) in
+    let all = take_all c.loop-position.position-index (bytes_of_each c.args.positions.now) (omega (arith, long, c.loop-position-test.false)) in
+    subst (λ (ys : List (List ℕ)). AreNumbersOf (g.T.Table.stored c.args.table.now).positions (length (g.T.Table.stored c.args.table.now).positions) ys
+    c.loop-position.each.items c.loop-position.next) all (c.loop-position.invariant.numbers honest)
+
+pub returns-clause-lengths : goal.returns-clause-lengths
+returns-clause-lengths g c =
+    omega (arith, c.loop-position.invariant.lengths, c.loop-position-test.false, c.loop-position.auto.position-index-end)
+
+pub returns-clause-within : goal.returns-clause-within
+returns-clause-within g c =
+    c.loop-position.invariant.within
+
+pub returns-clause-next : goal.returns-clause-next
+returns-clause-next g c =
+    c.loop-position.invariant.known
+
+pub returns-clause-same : goal.returns-clause-same
+returns-clause-same g c =
+    c.loop-position.invariant.same
+
+pub returns-clause-honest : goal.returns-clause-honest
+returns-clause-honest g c =
+    c.loop-position.invariant.honest
+
+pub returns-clause-counts : goal.returns-clause-counts
+returns-clause-counts g c =
+    c.loop-position.invariant.counts
+
+pub returns-clause-stays : goal.returns-clause-stays
+returns-clause-stays g c =
+    c.loop-position.invariant.stays
