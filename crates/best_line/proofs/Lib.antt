@@ -1,3 +1,4 @@
+pub mod Passing
 mod ListLemmas
 pub mod FinishLemmas
 mod StepLemmas

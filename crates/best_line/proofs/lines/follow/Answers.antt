@@ -1,5 +1,6 @@
-use Rattle.std.proofs.Common.{◌≡◌, sym, ap, rules, subst, ℕ, suc, ◌+◌, ◌-◌, List, [], ◌∷◌, ◌++◌, Some, refl, arith}
+use Rattle.std.proofs.Common.{◌≡◌, ◌∙◌, sym, ap, subst, ℕ, suc, ◌+◌, ◌-◌, ◌<◌, List, [], ◌∷◌, ◌++◌, Some, refl, arith}
 use Rattle.std.specs.Prelude.{Err}
+use Rattle.retrograde.specs.declared.records.Counts.{Counts}
 use Rattle.retrograde.specs.Stored.{Stored, IsTable, view_of}
 use Rattle.retrograde.proofs.Adding.{push_before}
 use Rattle.retrograde.proofs.Finished.{is_some_at}
@@ -7,6 +8,7 @@ use Rattle.best_line.specs.Causes.{IsLineCause}
 use Rattle.best_line.specs.Lines.{IsBestStep}
 use Rattle.best_line.specs.aid.Lines.{HasNoStep}
 use Rattle.best_line.specs.declared.fault.LineFault.{LineFault}
+use Rattle.best_line.proofs.Passing.{passed_on, memory_settled, of_table_after}
 use Rattle.best_line.proofs.LineLemmas.{IsLineTo, line_value, line_push, line_done}
 use Rattle.best_line.proofs.StepLemmas.{step_cause}
 use Rattle.best_line.proofs.lines.follow.Goals as goal
@@ -28,18 +30,18 @@ returns-in_err-at-clause-cause g c = λ honest sound value.
     (λ is. subst (λ (t : Stored (List ℕ)). HasNoStep graph (view_of t) c.loop-step.at c.args.winner left) same (c.in_err-at.ensures.none h table' (ap (λ (f : LineFault). Err f) is)))
     (λ is. rw same at c.in_err-at.ensures.wide h (ap (λ (f : LineFault). Err f) is))
     c.in_err-at.ensures.settled in
-    search rules
+    passed_on _ c.from_residual-in_err-at.result _ c.from_residual-in_err-at.ensures it
 
 pub loop-step-preserved : goal.loop-step-preserved
 loop-step-preserved g c = record {
-  counts = search rules;
+  counts = c.in_ok-at.ensures.counts ∙ c.loop-step.invariant.counts;
   stays = g.met.T.Table.stays_then _ _ _ c.loop-step.invariant.stays c.in_ok-at.ensures.stays;
-  known = search rules;
+  known = subst (λ (k : Counts). c.in_ok-at.at < k.known) c.loop-step.invariant.counts c.in_ok-at.ensures.within;
   source = refl;
-  honest = search rules;
-  same = search rules;
+  honest = (λ h. c.in_ok-at.ensures.honest.0 (c.loop-step.invariant.honest.0 h), λ h. c.loop-step.invariant.honest.1 (c.in_ok-at.ensures.honest.1 h));
+  same = λ h. c.in_ok-at.ensures.same (c.loop-step.invariant.honest.0 h) ∙ c.loop-step.invariant.same h;
   begins =
-      let items : c.push-in-loop-step.new.self.items ≡ c.loop-step.numbers.items ++ c.in_ok-at.at ∷ [] = search rules in
+      let items : c.push-in-loop-step.new.self.items ≡ c.loop-step.numbers.items ++ c.in_ok-at.at ∷ [] = c.in_ok-push-2.ensures.items in
       rw items (push_before c.loop-step.numbers.items c.in_ok-at.at 0 c.args.number c.loop-step.invariant.begins);
   line = λ honest table value.
       let h = c.loop-step.invariant.honest.0 honest in
@@ -48,7 +50,7 @@ loop-step-preserved g c = record {
       let graph = g.M.GameGraph.graph c.args.source.now in
       let view = view_of (g.T.Table.stored c.args.table.now) in
       let left = c.args.distance - c.loop-step.step - 1 in
-      let items : c.push-in-loop-step.new.self.items ≡ c.loop-step.numbers.items ++ c.in_ok-at.at ∷ [] = search rules in
+      let items : c.push-in-loop-step.new.self.items ≡ c.loop-step.numbers.items ++ c.in_ok-at.at ∷ [] = c.in_ok-push-2.ensures.items in
       let one : c.args.distance - c.loop-step.step ≡ suc (c.args.distance - c.loop-step.step - 1) = omega (arith, c.loop-step-test.true) in
       let less : c.args.distance - c.loop-step.step - 1 ≡ c.args.distance - (c.loop-step.step + 1) = omega arith in
       let line = subst (λ (l : ℕ). IsLineTo graph view c.args.winner c.args.distance c.loop-step.numbers.items c.loop-step.at l) one (c.loop-step.invariant.line honest table value) in
@@ -65,3 +67,139 @@ returns-clause-line g c = λ honest table value.
     let none : c.args.distance - c.loop-step.step ≡ 0 = omega (arith, c.loop-step-test.false) in
     line_done graph view c.args.winner c.args.distance c.loop-step.numbers.items c.loop-step.at
     (subst (λ (l : ℕ). IsLineTo graph view c.args.winner c.args.distance c.loop-step.numbers.items c.loop-step.at l) none (c.loop-step.invariant.line honest table value))
+
+pub loop-step-init : goal.loop-step-init
+loop-step-init g c =
+    let items : c.push.new.self.items ≡ c.args.number ∷ [] = c.in_ok-push.ensures.items ∙ ap (λ (ns : List ℕ). ns ++ c.args.number ∷ []) c.new-numbers.ensures.items in
+    record {
+      counts = refl;
+      known = c.requires.known;
+      source = refl;
+      stays = g.met.T.Table.stays_here _;
+      honest = (λ h. h, λ h. h);
+      same = λ h. refl;
+      begins = rw items refl;
+      line = λ honest table value.
+          let all : c.args.distance ≡ c.args.distance - 0 = omega arith in
+          subst (λ (ns : List ℕ). IsLineTo (g.M.GameGraph.graph c.args.source.now) (view_of (g.T.Table.stored c.args.table.now)) c.args.winner c.args.distance ns c.args.number (c.args.distance - 0))
+          (sym items) (refl, all, value);
+    }
+
+pub next_on_line-requires-clause-known : goal.next_on_line-requires-clause-known
+next_on_line-requires-clause-known g c =
+    subst (λ (k : Counts). c.loop-step.at < k.known) (sym c.loop-step.invariant.counts) c.loop-step.invariant.known
+
+pub returns-in_err-push-clause-same : goal.returns-in_err-push-clause-same
+returns-in_err-push-clause-same g c =
+    λ h. refl
+
+pub returns-in_err-push-clause-honest : goal.returns-in_err-push-clause-honest
+returns-in_err-push-clause-honest g c =
+    (λ h. h, λ h. h)
+
+pub returns-in_err-push-clause-counts : goal.returns-in_err-push-clause-counts
+returns-in_err-push-clause-counts g c =
+    refl
+
+pub returns-in_err-push-clause-stays : goal.returns-in_err-push-clause-stays
+returns-in_err-push-clause-stays g c =
+    g.met.T.Table.stays_here _
+
+pub returns-in_err-at-clause-same : goal.returns-in_err-at-clause-same
+returns-in_err-at-clause-same g c =
+    λ h. c.in_err-at.ensures.same (c.loop-step.invariant.honest.0 h) ∙ c.loop-step.invariant.same h
+
+pub returns-in_err-at-clause-honest : goal.returns-in_err-at-clause-honest
+returns-in_err-at-clause-honest g c =
+    (λ h. c.in_err-at.ensures.honest.0 (c.loop-step.invariant.honest.0 h), λ h. c.loop-step.invariant.honest.1 (c.in_err-at.ensures.honest.1 h))
+
+pub returns-in_err-at-clause-counts : goal.returns-in_err-at-clause-counts
+returns-in_err-at-clause-counts g c =
+    c.in_err-at.ensures.counts ∙ c.loop-step.invariant.counts
+
+pub returns-in_err-at-clause-stays : goal.returns-in_err-at-clause-stays
+returns-in_err-at-clause-stays g c =
+    g.met.T.Table.stays_then _ _ _ c.loop-step.invariant.stays c.in_err-at.ensures.stays
+
+pub returns-in_err-at-clause-settled : goal.returns-in_err-at-clause-settled
+returns-in_err-at-clause-settled g c =
+    passed_on _ c.from_residual-in_err-at.result _ c.from_residual-in_err-at.ensures c.in_err-at.ensures.settled
+
+pub returns-in_err-at-clause-room : goal.returns-in_err-at-clause-room
+returns-in_err-at-clause-room g c =
+    passed_on _ c.from_residual-in_err-at.result _ c.from_residual-in_err-at.ensures c.in_err-at.ensures.room
+
+pub returns-in_err-at-clause-fault : goal.returns-in_err-at-clause-fault
+returns-in_err-at-clause-fault g c =
+    passed_on _ c.from_residual-in_err-at.result _ c.from_residual-in_err-at.ensures
+    (of_table_after _ _ _ (λ fault. g.met.T.Table.fails_since _ _ _ fault (g.met.T.Table.stays_goes_on _ _ c.loop-step.invariant.stays)) c.in_err-at.ensures.fault)
+
+pub returns-in_err-push-2-clause-same : goal.returns-in_err-push-2-clause-same
+returns-in_err-push-2-clause-same g c =
+    λ h. c.in_ok-at.ensures.same (c.loop-step.invariant.honest.0 h) ∙ c.loop-step.invariant.same h
+
+pub returns-in_err-push-2-clause-honest : goal.returns-in_err-push-2-clause-honest
+returns-in_err-push-2-clause-honest g c =
+    (λ h. c.in_ok-at.ensures.honest.0 (c.loop-step.invariant.honest.0 h), λ h. c.loop-step.invariant.honest.1 (c.in_ok-at.ensures.honest.1 h))
+
+pub returns-in_err-push-2-clause-counts : goal.returns-in_err-push-2-clause-counts
+returns-in_err-push-2-clause-counts g c =
+    c.in_ok-at.ensures.counts ∙ c.loop-step.invariant.counts
+
+pub returns-in_err-push-2-clause-stays : goal.returns-in_err-push-2-clause-stays
+returns-in_err-push-2-clause-stays g c =
+    g.met.T.Table.stays_then _ _ _ c.loop-step.invariant.stays c.in_ok-at.ensures.stays
+
+pub returns-in_err-push-clause-cause : goal.returns-in_err-push-clause-cause
+returns-in_err-push-clause-cause g c =
+    λ honest sound value. passed_on _ c.from_residual.result _ c.from_residual.ensures
+    (is_some_at ((view_of (g.T.Table.stored c.args.table.now)).value c.args.number) (c.args.winner, c.args.distance) value)
+
+pub returns-in_err-push-clause-settled : goal.returns-in_err-push-clause-settled
+returns-in_err-push-clause-settled g c =
+    passed_on _ c.from_residual.result _ c.from_residual.ensures memory_settled
+
+pub returns-in_err-push-clause-room : goal.returns-in_err-push-clause-room
+returns-in_err-push-clause-room g c =
+    passed_on _ c.from_residual.result _ c.from_residual.ensures tt
+
+pub returns-in_err-push-clause-fault : goal.returns-in_err-push-clause-fault
+returns-in_err-push-clause-fault g c =
+    passed_on _ c.from_residual.result _ c.from_residual.ensures tt
+
+pub returns-in_err-push-2-clause-cause : goal.returns-in_err-push-2-clause-cause
+returns-in_err-push-2-clause-cause g c =
+    λ honest sound value. passed_on _ c.from_residual-in_err-push-2.result _ c.from_residual-in_err-push-2.ensures
+    (is_some_at ((view_of (g.T.Table.stored c.args.table.now)).value c.args.number) (c.args.winner, c.args.distance) value)
+
+pub returns-in_err-push-2-clause-settled : goal.returns-in_err-push-2-clause-settled
+returns-in_err-push-2-clause-settled g c =
+    passed_on _ c.from_residual-in_err-push-2.result _ c.from_residual-in_err-push-2.ensures memory_settled
+
+pub returns-in_err-push-2-clause-room : goal.returns-in_err-push-2-clause-room
+returns-in_err-push-2-clause-room g c =
+    passed_on _ c.from_residual-in_err-push-2.result _ c.from_residual-in_err-push-2.ensures tt
+
+pub returns-in_err-push-2-clause-fault : goal.returns-in_err-push-2-clause-fault
+returns-in_err-push-2-clause-fault g c =
+    passed_on _ c.from_residual-in_err-push-2.result _ c.from_residual-in_err-push-2.ensures tt
+
+pub returns-clause-same : goal.returns-clause-same
+returns-clause-same g c =
+    λ h. c.loop-step.invariant.same h
+
+pub returns-clause-honest : goal.returns-clause-honest
+returns-clause-honest g c =
+    (λ h. c.loop-step.invariant.honest.0 h, λ h. c.loop-step.invariant.honest.1 h)
+
+pub returns-clause-counts : goal.returns-clause-counts
+returns-clause-counts g c =
+    c.loop-step.invariant.counts
+
+pub returns-clause-stays : goal.returns-clause-stays
+returns-clause-stays g c =
+    c.loop-step.invariant.stays
+
+pub returns-clause-begins : goal.returns-clause-begins
+returns-clause-begins g c =
+    c.loop-step.invariant.begins

@@ -1,9 +1,12 @@
-use Rattle.std.proofs.Common.{sym, subst, ℕ, List}
+use Rattle.std.proofs.Common.{◌∙◌, sym, ap, subst, ℕ, ◌<◌, List, Err}
 use Rattle.std.specs.Prelude.{Contains}
 use Rattle.table.specs.Memory.{bytes_of_each}
 use Rattle.retrograde.specs.View.{HasValue}
+use Rattle.retrograde.specs.declared.records.Counts.{Counts}
 use Rattle.retrograde.specs.Stored.{Stored, IsTable, view_of}
+use Rattle.legal_moves.specs.declared.fault.MoveFault.{MoveFault}
 use Rattle.best_line.specs.aid.Lines.{IsFirstWon}
+use Rattle.best_line.proofs.Passing.{passed_on, not_this, ok_differs, search_consistent, search_wide, search_settled, search_of_none, table_consistent, table_narrow, table_settled, inconsistent_narrow, inconsistent_settled}
 use Rattle.best_line.proofs.StepLemmas.{best_step, no_step}
 use Rattle.best_line.proofs.steps.next_on_line.Goals as goal
 
@@ -26,3 +29,166 @@ returns-clause-none g c = λ honest table is.
     let none' = subst (λ (t : Stored (List ℕ)). (y : List ℕ) → Contains (bytes_of_each c.in_ok-found.found.items) y → HasValue (view_of t) y c.args.winner c.args.distance → ⊥) same none in
     no_step (g.M.GameGraph.graph c.args.source.now) (view_of (g.T.Table.stored c.args.table.now)) c.in_ok-packed.packed.items (bytes_of_each c.in_ok-found.found.items)
     c.in_ok-found.ensures.exact c.args.number (c.in_ok-packed.ensures.position honest) c.args.winner c.args.distance none'
+
+pub returns-in_err-packed-clause-same : goal.returns-in_err-packed-clause-same
+returns-in_err-packed-clause-same g c =
+    λ h. c.in_err-packed.ensures.same h
+
+pub returns-in_err-packed-clause-honest : goal.returns-in_err-packed-clause-honest
+returns-in_err-packed-clause-honest g c =
+    (λ h. c.in_err-packed.ensures.honest.0 h, λ h. c.in_err-packed.ensures.honest.1 h)
+
+pub returns-in_err-packed-clause-counts : goal.returns-in_err-packed-clause-counts
+returns-in_err-packed-clause-counts g c =
+    c.in_err-packed.ensures.counts
+
+pub returns-in_err-packed-clause-stays : goal.returns-in_err-packed-clause-stays
+returns-in_err-packed-clause-stays g c =
+    c.in_err-packed.ensures.stays
+
+pub returns-in_err-found-clause-same : goal.returns-in_err-found-clause-same
+returns-in_err-found-clause-same g c =
+    λ h. c.in_ok-packed.ensures.same h
+
+pub returns-in_err-found-clause-honest : goal.returns-in_err-found-clause-honest
+returns-in_err-found-clause-honest g c =
+    (λ h. c.in_ok-packed.ensures.honest.0 h, λ h. c.in_ok-packed.ensures.honest.1 h)
+
+pub returns-in_err-found-clause-counts : goal.returns-in_err-found-clause-counts
+returns-in_err-found-clause-counts g c =
+    c.in_ok-packed.ensures.counts
+
+pub returns-in_err-found-clause-stays : goal.returns-in_err-found-clause-stays
+returns-in_err-found-clause-stays g c =
+    c.in_ok-packed.ensures.stays
+
+pub returns-in_err-next-clause-same : goal.returns-in_err-next-clause-same
+returns-in_err-next-clause-same g c =
+    λ h. c.in_err-next.ensures.same (c.in_ok-packed.ensures.honest.0 h) ∙ c.in_ok-packed.ensures.same h
+
+pub returns-in_err-next-clause-honest : goal.returns-in_err-next-clause-honest
+returns-in_err-next-clause-honest g c =
+    (λ h. c.in_err-next.ensures.honest.0 (c.in_ok-packed.ensures.honest.0 h), λ h. c.in_ok-packed.ensures.honest.1 (c.in_err-next.ensures.honest.1 h))
+
+pub returns-in_err-next-clause-counts : goal.returns-in_err-next-clause-counts
+returns-in_err-next-clause-counts g c =
+    c.in_err-next.ensures.counts ∙ c.in_ok-packed.ensures.counts
+
+pub returns-in_err-next-clause-stays : goal.returns-in_err-next-clause-stays
+returns-in_err-next-clause-stays g c =
+    g.met.T.Table.stays_then _ _ _ c.in_ok-packed.ensures.stays c.in_err-next.ensures.stays
+
+pub returns-in-Some-clause-same : goal.returns-in-Some-clause-same
+returns-in-Some-clause-same g c =
+    λ h. c.in_ok-next.ensures.same (c.in_ok-packed.ensures.honest.0 h) ∙ c.in_ok-packed.ensures.same h
+
+pub returns-in-Some-clause-honest : goal.returns-in-Some-clause-honest
+returns-in-Some-clause-honest g c =
+    (λ h. c.in_ok-next.ensures.honest.0 (c.in_ok-packed.ensures.honest.0 h), λ h. c.in_ok-packed.ensures.honest.1 (c.in_ok-next.ensures.honest.1 h))
+
+pub returns-in-Some-clause-counts : goal.returns-in-Some-clause-counts
+returns-in-Some-clause-counts g c =
+    c.in_ok-next.ensures.counts ∙ c.in_ok-packed.ensures.counts
+
+pub returns-in-Some-clause-stays : goal.returns-in-Some-clause-stays
+returns-in-Some-clause-stays g c =
+    g.met.T.Table.stays_then _ _ _ c.in_ok-packed.ensures.stays c.in_ok-next.ensures.stays
+
+pub returns-clause-same : goal.returns-clause-same
+returns-clause-same g c =
+    λ h. c.in_ok-next.ensures.same (c.in_ok-packed.ensures.honest.0 h) ∙ c.in_ok-packed.ensures.same h
+
+pub returns-clause-honest : goal.returns-clause-honest
+returns-clause-honest g c =
+    (λ h. c.in_ok-next.ensures.honest.0 (c.in_ok-packed.ensures.honest.0 h), λ h. c.in_ok-packed.ensures.honest.1 (c.in_ok-next.ensures.honest.1 h))
+
+pub returns-clause-counts : goal.returns-clause-counts
+returns-clause-counts g c =
+    c.in_ok-next.ensures.counts ∙ c.in_ok-packed.ensures.counts
+
+pub returns-clause-stays : goal.returns-clause-stays
+returns-clause-stays g c =
+    g.met.T.Table.stays_then _ _ _ c.in_ok-packed.ensures.stays c.in_ok-next.ensures.stays
+
+pub returns-in_err-found-clause-none : goal.returns-in_err-found-clause-none
+returns-in_err-found-clause-none g c =
+    λ honest table is. absurd (search_consistent _ (not_this c.from_residual-in_err-found.result _ _ c.from_residual-in_err-found.ensures is))
+
+pub returns-in_err-found-clause-wide : goal.returns-in_err-found-clause-wide
+returns-in_err-found-clause-wide g c =
+    λ honest is.
+    let wide = search_wide _ (not_this c.from_residual-in_err-found.result _ _ c.from_residual-in_err-found.ensures is) in
+    (c.in_ok-packed.packed.items, c.in_ok-packed.ensures.position honest, c.in_err-found.ensures.wide (ap (λ (f : MoveFault). Err f) wide))
+
+pub returns-in_err-found-clause-settled : goal.returns-in_err-found-clause-settled
+returns-in_err-found-clause-settled g c =
+    passed_on _ c.from_residual-in_err-found.result _ c.from_residual-in_err-found.ensures (search_settled _)
+
+pub returns-in_err-found-clause-room : goal.returns-in_err-found-clause-room
+returns-in_err-found-clause-room g c =
+    passed_on _ c.from_residual-in_err-found.result _ c.from_residual-in_err-found.ensures (search_of_none _ _)
+
+pub returns-in_err-found-clause-fault : goal.returns-in_err-found-clause-fault
+returns-in_err-found-clause-fault g c =
+    passed_on _ c.from_residual-in_err-found.result _ c.from_residual-in_err-found.ensures (search_of_none _ _)
+
+pub returns-in_err-packed-clause-none : goal.returns-in_err-packed-clause-none
+returns-in_err-packed-clause-none g c =
+    λ honest table is. absurd (table_consistent _ (not_this c.from_residual.result _ _ c.from_residual.ensures is))
+
+pub returns-in_err-packed-clause-wide : goal.returns-in_err-packed-clause-wide
+returns-in_err-packed-clause-wide g c =
+    λ honest is. absurd (table_narrow _ (not_this c.from_residual.result _ _ c.from_residual.ensures is))
+
+pub returns-in_err-packed-clause-settled : goal.returns-in_err-packed-clause-settled
+returns-in_err-packed-clause-settled g c =
+    passed_on _ c.from_residual.result _ c.from_residual.ensures (table_settled _)
+
+pub returns-in_err-packed-clause-room : goal.returns-in_err-packed-clause-room
+returns-in_err-packed-clause-room g c =
+    passed_on _ c.from_residual.result _ c.from_residual.ensures c.in_err-packed.ensures.room
+
+pub returns-in_err-next-clause-none : goal.returns-in_err-next-clause-none
+returns-in_err-next-clause-none g c =
+    λ honest table is. absurd (table_consistent _ (not_this c.from_residual-in_err-next.result _ _ c.from_residual-in_err-next.ensures is))
+
+pub returns-in_err-next-clause-wide : goal.returns-in_err-next-clause-wide
+returns-in_err-next-clause-wide g c =
+    λ honest is. absurd (table_narrow _ (not_this c.from_residual-in_err-next.result _ _ c.from_residual-in_err-next.ensures is))
+
+pub returns-in_err-next-clause-settled : goal.returns-in_err-next-clause-settled
+returns-in_err-next-clause-settled g c =
+    passed_on _ c.from_residual-in_err-next.result _ c.from_residual-in_err-next.ensures (table_settled _)
+
+pub returns-in_err-next-clause-room : goal.returns-in_err-next-clause-room
+returns-in_err-next-clause-room g c =
+    passed_on _ c.from_residual-in_err-next.result _ c.from_residual-in_err-next.ensures c.in_err-next.ensures.room
+
+pub returns-in_err-packed-clause-fault : goal.returns-in_err-packed-clause-fault
+returns-in_err-packed-clause-fault g c =
+    passed_on _ c.from_residual.result _ c.from_residual.ensures c.in_err-packed.ensures.fault
+
+pub returns-in_err-next-clause-fault : goal.returns-in_err-next-clause-fault
+returns-in_err-next-clause-fault g c =
+    passed_on _ c.from_residual-in_err-next.result _ c.from_residual-in_err-next.ensures
+    (g.met.T.Table.fails_since _ _ _ _ (g.met.T.Table.stays_goes_on _ _ c.in_ok-packed.ensures.stays) c.in_err-next.ensures.fault)
+
+pub returns-in-Some-clause-within : goal.returns-in-Some-clause-within
+returns-in-Some-clause-within g c =
+    subst (λ (k : Counts). c.in-Some.next < k.known) c.in_ok-packed.ensures.counts (rw c.in-Some.is at c.in_ok-next.ensures.within)
+
+pub returns-in-Some-clause-none : goal.returns-in-Some-clause-none
+returns-in-Some-clause-none g c =
+    λ honest table is. absurd (ok_differs _ _ is)
+
+pub returns-in-Some-clause-wide : goal.returns-in-Some-clause-wide
+returns-in-Some-clause-wide g c =
+    λ honest is. absurd (ok_differs _ _ is)
+
+pub returns-clause-wide : goal.returns-clause-wide
+returns-clause-wide g c =
+    λ honest is. absurd (inconsistent_narrow is)
+
+pub returns-clause-settled : goal.returns-clause-settled
+returns-clause-settled g c =
+    inconsistent_settled
