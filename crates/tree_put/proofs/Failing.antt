@@ -2,10 +2,11 @@
 use Rattle.std.proofs.Common.{◌≡◌, ◌⊎◌, ℕ, zero, suc, ◌-◌, ◌^◌, ◌<◌, ◌≤◌, List, Some, Contains, false, true, Result, Ok, Err, length, IsTrue, sym, ◌∙◌, ap, subst, inl, inr, arith}
 use Rattle.std.specs.List.{flat_map, slice_get}
 use Rattle.std.specs.Result.{IsErr, IfErr, IsErrAnd}
-use Rattle.page_store.specs.Causes.{PageReadCause as PageCause}
+use Rattle.page_store.specs.Causes.{PageReadCause as PageCause, NewCause}
 use Rattle.page_store.specs.declared.fault.PageFault.{PageFault}
 use Rattle.page_store.specs.declared.fault.PageFault.TheVariants.{Disk, NotATable, Damaged, TableFull, OutOfMemory, Closed}
 use Rattle.page_store.specs.declared.marks.Mark.{Mark}
+use Rattle.page_store.specs.Marks.{free_count}
 use Rattle.page_store.specs.Page.{page}
 use Rattle.page_store.specs.Store.{Store, reads, StoreWorks, IsUnchanged}
 use Rattle.sector_disk.specs.Disk.{Shown}
@@ -18,12 +19,42 @@ use Rattle.tree_map.specs.Entries.{first_key}
 use Rattle.tree_map.specs.aid.Laws.{contains_root, contains_later}
 use Rattle.tree_map.specs.aid.Parts.{all_got, contains_part}
 use Rattle.tree_map.specs.Tree.{entries_below, pages_below, IsTree}
-use Rattle.tree_put.specs.aid.Causes.{BelowCause, IsReadable}
+use Rattle.tree_put.specs.aid.Causes.{WriteCause, BelowCause, IsReadable}
 
 -- a fault is passed on
 pub passed_on : {X E : Type 0} (Cause : E → Type 0) (r : Result X E) (fault : E) → IsErr r × IsErrAnd r (λ f. f ≡ fault) → Cause fault → IfErr r Cause
 passed_on Cause (Ok x) fault is cause = tt
 passed_on Cause (Err f) fault is cause = subst Cause (sym is.1) cause
+
+-- why nothing is written: of a store after some work, as of the one before
+grew_later : (a b c : ℕ) → a ≤ b → (b < c) ⊎ (2 ^ 64 - 1 ≤ c) → (a < c) ⊎ (2 ^ 64 - 1 ≤ c)
+grew_later a b c before (inl more) = inl (omega (arith, before, more))
+grew_later a b c before (inr many) = inr many
+
+pub cause_later : (old mid new : Store) (fault : PageFault) → StoreWorks old mid → mid.closed ≡ false → WriteCause mid new fault → WriteCause old new fault
+cause_later old mid new Disk works open_ cause = grew_later old.failures mid.failures new.failures works.failures cause
+cause_later old mid new NotATable works open_ cause = absurd cause
+cause_later old mid new Damaged works open_ cause = absurd cause
+cause_later old mid new TableFull works open_ cause = cause
+cause_later old mid new OutOfMemory works open_ cause = absurd cause
+cause_later old mid new Closed works open_ cause = let no : false ≡ true = sym open_ ∙ cause in absurd (cc)
+
+pub none_free : (old mid new : Store) (fault : PageFault) → new ≡ mid → mid.closed ≡ old.closed → NewCause mid fault → WriteCause old new fault
+none_free old mid new Disk same closed cause = absurd cause
+none_free old mid new NotATable same closed cause = absurd cause
+none_free old mid new Damaged same closed cause = absurd cause
+none_free old mid new TableFull same closed cause = ap (λ (s : Store). free_count s.marks) same ∙ cause
+none_free old mid new OutOfMemory same closed cause = absurd cause
+none_free old mid new Closed same closed cause = sym closed ∙ cause
+
+-- nor put below a page
+pub as_below : (w : Widths) (levels q : ℕ) (old new : Store) (fault : PageFault) → WriteCause old new fault → BelowCause w levels q old new fault
+as_below w levels q old new Disk cause = cause
+as_below w levels q old new NotATable cause = absurd cause
+as_below w levels q old new Damaged cause = absurd cause
+as_below w levels q old new TableFull cause = cause
+as_below w levels q old new OutOfMemory cause = absurd cause
+as_below w levels q old new Closed cause = cause
 
 -- what is read of a store that a read left unchanged
 pub reads_unchanged : (old new : Store) → IsUnchanged old new → IsTrue old.disk.honest → reads new ≡ reads old
@@ -53,6 +84,15 @@ no_kind w levels q old page is none honest tree = elim (has_kind w (reads old) t
   | inl leaf ↦ none Leaf (subst (IsPage w Leaf) (sym (is honest)) leaf)
   | inr inner ↦ none Inner (subst (IsPage w Inner) (sym (is honest)) inner)
 ]
+
+-- an inner page with no level below it
+pub too_deep : (w : Widths) (levels q : ℕ) (old : Store) (page : List ℕ) → levels ≡ 0 → (IsTrue old.disk.honest → page ≡ reads old q) → IsPage w Inner page
+    → IsTrue old.disk.honest → IsReadable w levels q old → ⊥
+too_deep w levels q old page none is inner honest tree = by_depth tree.depth (omega (arith, tree.shallow, none)) tree.tree (subst (IsPage w Inner) (is honest) inner)
+  where
+    by_depth : (d : ℕ) → d ≤ 0 → IsTree w (reads old) d q → IsPage w Inner (reads old q) → ⊥
+    by_depth zero shallow tree inner = omega (arith, inner.first, tree.first)
+    by_depth (suc d) shallow tree inner = omega (arith, shallow)
 
 -- a child is readable where its page is
 pub readable_child : (w : Widths) (levels q place : ℕ) (c : Item) (old mid : Store) (page : List ℕ) → page ≡ reads old q → IsPage w Inner page

@@ -1,4 +1,4 @@
-use Rattle.std.proofs.Common.{◌≡◌, ◌≤◌, ◌<◌, ◌+◌, ◌*◌, ◌-◌, ◌∙◌, ◌∷◌, ◌++◌, [], ℕ, List, length, take, sym, ap, subst, arith}
+use Rattle.std.proofs.Common.{◌≡◌, ◌≤◌, ◌<◌, ◌+◌, ◌*◌, ◌-◌, ◌∙◌, ◌∷◌, ◌++◌, [], ℕ, List, length, take, sym, ap, subst, Fits, w64, arith}
 use Rattle.std.proofs.lemmas.List.{length-take}
 use Rattle.byteorder.specs.Endian.{big_bytes}
 use Rattle.page_store.specs.aid.Works.{works_then}
@@ -8,6 +8,7 @@ use Rattle.tree_page.specs.declared.widths.Widths.{Widths}
 use Rattle.tree_page.specs.Page.{Item, behind_of, item_width, items_of, least_of}
 use Rattle.tree_put.specs.aid.Growing.{AreWritten}
 use Rattle.tree_put.specs.aid.Items.{listed, IsCut}
+use Rattle.tree_put.proofs.Failing.{passed_on, none_free, cause_later}
 use Rattle.tree_put.proofs.Listing.{mul-mono}
 use Rattle.tree_put.proofs.Writing.{items_parts, leads_back, first_of, rest_is, written_two}
 use Rattle.tree_put.proofs.write.write_two.Goals as goal
@@ -15,6 +16,101 @@ use Rattle.tree_put.proofs.write.write_two.Goals as goal
 some : (kind : Kind) (n : ℕ) → least_of kind ≤ n → 1 ≤ n
 some Leaf n enough = enough
 some Inner n enough = omega (arith, enough)
+
+-- how much stays in front
+cut_within : (w : Widths) (kind : Kind) (count cut : ℕ) → IsCut w kind count cut → cut ≤ count
+cut_within w kind count cut parts = let more = some kind (count - cut) parts.back_enough in omega (arith, more)
+
+cut_long : (w : Widths) (kind : Kind) (cut b : ℕ) → b ≡ behind_of w kind → cut * (w.key + b) ≡ cut * item_width w kind
+cut_long w kind cut b is = ap (λ (b : ℕ). cut * (w.key + b)) is
+
+cut_fits : (w : Widths) (kind : Kind) (count cut b : ℕ) → b ≡ behind_of w kind → IsCut w kind count cut → Fits w64 (cut * (w.key + b))
+cut_fits w kind count cut b is parts = omega (arith, cut_long w kind cut b is, parts.front_fits)
+
+cut_there : (w : Widths) (kind : Kind) (count cut b : ℕ) (bytes whole : List ℕ) → b ≡ behind_of w kind → IsCut w kind count cut → length bytes ≡ count * item_width w kind → whole ≡ bytes
+    → cut * (w.key + b) ≤ length whole
+cut_there w kind count cut b bytes whole is parts all same =
+    let less = mul-mono cut count (item_width w kind) (cut_within w kind count cut parts) in
+    omega (arith, cut_long w kind cut b is, less, all, ap length same)
+
+-- as many bytes as are taken
+taken : (n : ℕ) (bytes : List ℕ) → n ≤ length bytes → length (take n bytes) ≡ n
+taken n bytes there = omega (arith, there, length-take n bytes)
+
+none_is_few : (n : ℕ) → n ≡ 0 → n ≤ 1
+none_is_few n none = omega (arith, none)
+
+one_is_few : (n m : ℕ) → m ≡ n + 1 → n ≡ 0 → m ≤ 1
+one_is_few n m more none = omega (arith, more, none)
+
+pub overflow_mul-cut : goal.overflow_mul-cut
+overflow_mul-cut g c = cut_fits c.args.widths c.args.kind c.args.items.now.count c.args.items.now.cut c.behind_of.result c.behind_of.ensures c.requires.cut
+
+pub split_at-requires : goal.split_at-requires
+split_at-requires g c =
+    let items = c.args.items.now in
+    cut_there c.args.widths c.args.kind items.count items.cut c.behind_of.result items.bytes.items c.deref.result.now c.behind_of.ensures c.requires.cut c.requires.whole c.deref.ensures.0
+
+pub overflow_sub-items : goal.overflow_sub-items
+overflow_sub-items g c = cut_within c.args.widths c.args.kind c.args.items.now.count c.args.items.now.cut c.requires.cut
+
+pub write_on-requires-clause-whole : goal.write_on-requires-clause-whole
+write_on-requires-clause-whole g c = c.split_at.ensures.front_len ∙ cut_long c.args.widths c.args.kind c.args.items.now.cut c.behind_of.result c.behind_of.ensures
+
+pub lead_to-requires-clause-few : goal.lead_to-requires-clause-few
+lead_to-requires-clause-few g c = none_is_few c.no_few_items-tops.result.count c.no_few_items-tops.ensures.count
+
+pub lead_to-requires-2-clause-few : goal.lead_to-requires-2-clause-few
+lead_to-requires-2-clause-few g c = one_is_few c.no_few_items-tops.result.count c.lead_to.new.items.count c.lead_to.ensures.count c.no_few_items-tops.ensures.count
+
+pub lead_to-requires-2-clause-whole : goal.lead_to-requires-2-clause-whole
+lead_to-requires-2-clause-whole g c = c.lead_to.ensures.whole
+
+pub returns-clause-two : goal.returns-clause-two
+returns-clause-two g c = c.lead_to-2.ensures.count ∙ ap (λ (n : ℕ). n + 1) (c.lead_to.ensures.count ∙ ap (λ (n : ℕ). n + 1) c.no_few_items-tops.ensures.count)
+
+pub returns-clause-whole : goal.returns-clause-whole
+returns-clause-whole g c = c.lead_to-2.ensures.whole
+
+pub returns-in_err-first-clause-still : goal.returns-in_err-first-clause-still
+returns-in_err-first-clause-still g c = passed_on _ c.from_residual.result _ c.from_residual.ensures (λ other. c.renewed.ensures.closed)
+
+pub returns-in_err-second-clause-still : goal.returns-in_err-second-clause-still
+returns-in_err-second-clause-still g c =
+    passed_on _ c.from_residual-in_err-second.result _ c.from_residual-in_err-second.ensures (λ other. c.in_err-second.ensures.others.closed ∙ c.renewed.ensures.closed)
+
+pub returns-in_err-write_on-clause-still : goal.returns-in_err-write_on-clause-still
+returns-in_err-write_on-clause-still g c =
+    passed_on _ c.from_residual-in_err-write_on.result _ c.from_residual-in_err-write_on.ensures
+    (λ other. c.in_err-write_on.ensures.still other ∙ (c.in_ok-second.ensures.others.closed ∙ c.in_ok-first.ensures.closed))
+
+pub returns-in_err-write_on-2-clause-still : goal.returns-in_err-write_on-2-clause-still
+returns-in_err-write_on-2-clause-still g c =
+    passed_on _ c.from_residual-in_err-write_on-2.result _ c.from_residual-in_err-write_on-2.ensures
+    (λ other. c.in_err-write_on-2.ensures.still other ∙ (c.in_ok-write_on.ensures.open ∙ sym (c.in_ok-first.ensures.works.closed (c.in_ok-second.ensures.works.closed c.in_ok-second.ensures.open))))
+
+pub returns-in_err-first-clause-cause : goal.returns-in_err-first-clause-cause
+returns-in_err-first-clause-cause g c = passed_on _ c.from_residual.result _ c.from_residual.ensures c.in_err-first.ensures.cause
+
+pub returns-in_err-second-clause-cause : goal.returns-in_err-second-clause-cause
+returns-in_err-second-clause-cause g c =
+    let store = g.P.Pages.store in
+    passed_on _ c.from_residual-in_err-second.result _ c.from_residual-in_err-second.ensures
+    (none_free (store c.args.store.now) (store c.renewed.new.store) (store c.new_page.new.self) _ c.in_err-second.ensures.refused c.renewed.ensures.closed c.in_err-second.ensures.cause)
+
+pub returns-in_err-write_on-clause-cause : goal.returns-in_err-write_on-clause-cause
+returns-in_err-write_on-clause-cause g c =
+    let store = g.P.Pages.store in
+    passed_on _ c.from_residual-in_err-write_on.result _ c.from_residual-in_err-write_on.ensures
+    (cause_later (store c.args.store.now) (store c.new_page.new.self) (store c.write_on.new.store) _
+    (works_then c.in_ok-first.ensures.works c.in_ok-second.ensures.works) c.in_ok-second.ensures.open c.in_err-write_on.ensures.cause)
+
+pub returns-in_err-write_on-2-clause-cause : goal.returns-in_err-write_on-2-clause-cause
+returns-in_err-write_on-2-clause-cause g c =
+    let store = g.P.Pages.store in
+    passed_on _ c.from_residual-in_err-write_on-2.result _ c.from_residual-in_err-write_on-2.ensures
+    (cause_later (store c.args.store.now) (store c.write_on.new.store) (store c.write_on-2.new.store) _
+    (works_then (works_then c.in_ok-first.ensures.works c.in_ok-second.ensures.works) c.write_on.ensures.works) c.in_ok-write_on.ensures.open c.in_err-write_on-2.ensures.cause)
 
 pub returns-in_err-write_on-clause-works : goal.returns-in_err-write_on-clause-works
 returns-in_err-write_on-clause-works g c = works_then (works_then c.in_ok-first.ensures.works c.in_ok-second.ensures.works) c.write_on.ensures.works
@@ -58,6 +154,11 @@ module _ (w : Widths) (kind : Kind) (count cut b : ℕ) (bytes whole front back 
   back_fits : length back ≤ 4092
   back_fits = omega (arith, rest, parts.back_fits)
 
+  other_key_there : w.key ≤ length back
+  other_key_there =
+      let one : 1 * width ≤ (count - cut) * width = mul-mono 1 (count - cut) width (some kind (count - cut) parts.back_enough) in
+      omega (arith, rest, one)
+
   key_there : w.key ≤ length front
   key_there =
       let one : 1 * width ≤ cut * width = mul-mono 1 cut width (some kind cut parts.front_enough) in
@@ -99,6 +200,22 @@ lead_to-requires-clause-key g c =
     let key = key_there c.args.widths c.args.kind items.count items.cut c.behind_of.result items.bytes.items c.deref.result.now c.split_at.result.0.now c.split_at.result.1.now c.behind_of.ensures c.requires.whole
     c.deref.ensures.0 c.requires.cut cut.front_len cut.back_len in
     omega (arith, key, length-take c.args.widths.key c.split_at.result.0.now)
+
+pub slice_bounds-lead_to-end-2 : goal.slice_bounds-lead_to-end-2
+slice_bounds-lead_to-end-2 g c =
+    let items = c.args.items.now in
+    let cut = c.split_at.ensures in
+    sym (taken c.args.widths.key c.split_at.result.1.now
+    (other_key_there c.args.widths c.args.kind items.count items.cut c.behind_of.result items.bytes.items c.deref.result.now c.split_at.result.0.now c.split_at.result.1.now c.behind_of.ensures c.requires.whole
+    c.deref.ensures.0 c.requires.cut cut.front_len cut.back_len))
+
+pub lead_to-requires-2-clause-key : goal.lead_to-requires-2-clause-key
+lead_to-requires-2-clause-key g c =
+    let items = c.args.items.now in
+    let cut = c.split_at.ensures in
+    taken c.args.widths.key c.split_at.result.1.now
+    (other_key_there c.args.widths c.args.kind items.count items.cut c.behind_of.result items.bytes.items c.deref.result.now c.split_at.result.0.now c.split_at.result.1.now c.behind_of.ensures c.requires.whole
+    c.deref.ensures.0 c.requires.cut cut.front_len cut.back_len)
 
 pub returns-clause-written : goal.returns-clause-written
 returns-clause-written g c =
