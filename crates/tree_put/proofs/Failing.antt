@@ -2,7 +2,7 @@
 use Rattle.std.proofs.Common.{◌≡◌, ◌⊎◌, ℕ, zero, suc, ◌-◌, ◌^◌, ◌<◌, ◌≤◌, List, Some, Contains, false, true, Result, Ok, Err, length, IsTrue, sym, ◌∙◌, ap, subst, inl, inr, arith}
 use Rattle.std.specs.List.{flat_map, slice_get}
 use Rattle.std.specs.Result.{IsErr, IfErr, IsErrAnd}
-use Rattle.page_store.specs.Causes.{PageReadCause as PageCause, NewCause}
+use Rattle.page_store.specs.Causes.{PageReadCause as PageCause, NewCause, PageWriteCause}
 use Rattle.page_store.specs.declared.fault.PageFault.{PageFault}
 use Rattle.page_store.specs.declared.fault.PageFault.TheVariants.{Disk, NotATable, Damaged, TableFull, OutOfMemory, Closed}
 use Rattle.page_store.specs.declared.marks.Mark.{Mark}
@@ -46,6 +46,14 @@ none_free old mid new Damaged same closed cause = absurd cause
 none_free old mid new TableFull same closed cause = ap (λ (s : Store). free_count s.marks) same ∙ cause
 none_free old mid new OutOfMemory same closed cause = absurd cause
 none_free old mid new Closed same closed cause = sym closed ∙ cause
+
+pub write_fails : (old mid new : Store) (fault : PageFault) → StoreWorks old mid → mid.closed ≡ old.closed → PageWriteCause mid new fault → WriteCause old new fault
+write_fails old mid new Disk works closed cause = grew_later old.failures mid.failures new.failures works.failures cause.0
+write_fails old mid new NotATable works closed cause = absurd cause
+write_fails old mid new Damaged works closed cause = absurd cause
+write_fails old mid new TableFull works closed cause = absurd cause
+write_fails old mid new OutOfMemory works closed cause = absurd cause
+write_fails old mid new Closed works closed cause = sym closed ∙ cause
 
 -- nor put below a page
 pub as_below : (w : Widths) (levels q : ℕ) (old new : Store) (fault : PageFault) → WriteCause old new fault → BelowCause w levels q old new fault

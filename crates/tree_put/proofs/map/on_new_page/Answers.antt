@@ -1,5 +1,70 @@
+use Rattle.std.proofs.Common.{◌≡◌, ◌≤◌, ◌*◌, ◌∙◌, ℕ, List, length, refl, ap, arith}
 use Rattle.page_store.specs.aid.Works.{works_then}
+use Rattle.tree_page.specs.declared.kind.Kind.{Kind}
+use Rattle.tree_page.specs.declared.widths.Widths.{Widths}
+use Rattle.tree_page.specs.Page.{item_width}
+use Rattle.tree_put.proofs.Failing.{passed_on, none_free, cause_later}
+use Rattle.tree_put.proofs.Listing.{mul-mono, narrow}
 use Rattle.tree_put.proofs.map.on_new_page.Goals as goal
+
+-- few items fit on a page
+few_fit : (w : Widths) (kind : Kind) (count : ℕ) (bytes : List ℕ) → count ≤ 2 → length bytes ≡ count * item_width w kind → length bytes ≤ 4092
+few_fit w kind count bytes few whole =
+    let less = mul-mono count 2 (item_width w kind) few in
+    omega (arith, less, whole, narrow w kind)
+
+pub write_on-requires-clause-fresh : goal.write_on-requires-clause-fresh
+write_on-requires-clause-fresh g c =
+    c.in_ok-page.ensures.ok.is
+
+pub write_on-requires-clause-enough : goal.write_on-requires-clause-enough
+write_on-requires-clause-enough g c =
+    c.requires.enough
+
+pub write_on-requires-clause-whole : goal.write_on-requires-clause-whole
+write_on-requires-clause-whole g c =
+    ap length c.deref.ensures.0 ∙ c.requires.whole
+
+pub write_on-requires-clause-fits : goal.write_on-requires-clause-fits
+write_on-requires-clause-fits g c =
+    few_fit c.args.widths c.args.kind c.args.items.now.count c.deref.result.now c.requires.few (ap length c.deref.ensures.0 ∙ c.requires.whole)
+
+pub returns-in_err-page-clause-works : goal.returns-in_err-page-clause-works
+returns-in_err-page-clause-works g c =
+    c.new_page.ensures.works
+
+pub returns-in_err-page-clause-still : goal.returns-in_err-page-clause-still
+returns-in_err-page-clause-still g c =
+    passed_on _ c.from_residual.result _ c.from_residual.ensures (λ other. c.new_page.ensures.others.closed)
+
+pub returns-in_err-page-clause-cause : goal.returns-in_err-page-clause-cause
+returns-in_err-page-clause-cause g c =
+    let store = g.P.Pages.store in
+    passed_on _ c.from_residual.result _ c.from_residual.ensures
+    (none_free (store c.args.store.now) (store c.args.store.now) (store c.new_page.new.self) _ c.in_err-page.ensures.refused refl c.in_err-page.ensures.cause)
+
+pub returns-in_err-write_on-clause-still : goal.returns-in_err-write_on-clause-still
+returns-in_err-write_on-clause-still g c =
+    passed_on _ c.from_residual-in_err-write_on.result _ c.from_residual-in_err-write_on.ensures
+    (λ other. c.in_err-write_on.ensures.still other ∙ c.in_ok-page.ensures.others.closed)
+
+pub returns-in_err-write_on-clause-cause : goal.returns-in_err-write_on-clause-cause
+returns-in_err-write_on-clause-cause g c =
+    let store = g.P.Pages.store in
+    passed_on _ c.from_residual-in_err-write_on.result _ c.from_residual-in_err-write_on.ensures
+    (cause_later (store c.args.store.now) (store c.new_page.new.self) (store c.write_on.new.store) _ c.in_ok-page.ensures.works c.in_ok-page.ensures.open c.in_err-write_on.ensures.cause)
+
+pub returns-clause-is_page : goal.returns-clause-is_page
+returns-clause-is_page g c =
+    c.in_ok-page.ensures.is_page
+
+pub returns-clause-there : goal.returns-clause-there
+returns-clause-there g c =
+    c.in_ok-page.ensures.within
+
+pub returns-clause-open : goal.returns-clause-open
+returns-clause-open g c =
+    c.in_ok-write_on.ensures.open
 
 pub returns-in_err-write_on-clause-works : goal.returns-in_err-write_on-clause-works
 returns-in_err-write_on-clause-works g c = works_then c.in_ok-page.ensures.works c.write_on.ensures.works
