@@ -1,4 +1,5 @@
 mod Failing
+mod Fitting
 mod Listing
 mod Placing
 mod Rising

@@ -1,5 +1,5 @@
 -- Items as bytes, edited.
-use Rattle.std.proofs.Common.{◌≡◌, ℕ, zero, suc, ◌+◌, ◌-◌, ◌*◌, ◌<◌, ◌≤◌, List, [], ◌∷◌, ◌++◌, Some, length, take, drop, false, refl, sym, ◌∙◌, ap, subst, inl, inr, Fits, w64, arith, length-append, length-drop, get_or}
+use Rattle.std.proofs.Common.{◌≡◌, ℕ, zero, suc, ◌+◌, ◌-◌, ◌*◌, ◌<◌, ◌≤◌, List, [], ◌∷◌, ◌++◌, Some, length, take, drop, false, refl, sym, ◌∙◌, ap, subst, inl, inr, arith, length-append, length-drop, get_or}
 use Rattle.std.proofs.lemmas.Bool.{cases_eq}
 use Rattle.std.proofs.lemmas.List.{append_assoc, take-append-drop, length-take, take-append-le, drop-append-le, drop-drop, drop_at, take-take, get_or-take, get_or_append_left}
 use Rattle.std.proofs.lemmas.Slice.{between_is}
@@ -13,7 +13,7 @@ use Rattle.tree_page.specs.declared.kind.Kind.{Kind}
 use Rattle.tree_page.specs.declared.kind.Kind.TheVariants.{Leaf, Inner}
 use Rattle.tree_page.specs.declared.widths.Widths.{Widths}
 use Rattle.tree_page.specs.aid.Items.{items-append, items-front}
-use Rattle.tree_page.specs.Page.{Item, behind_of, item_width, items_of, key_cmp}
+use Rattle.tree_page.specs.Page.{Item, item_width, items_of, key_cmp}
 use Rattle.tree_page.specs.Place.{IsPlace}
 use Rattle.tree_map.specs.aid.Found.{place_past, split_got}
 use Rattle.tree_map.specs.Entries.{Ascend, put_entry}
@@ -33,49 +33,6 @@ distribute a b (suc c) = let rest = distribute a b c in omega (arith, rest)
 pub narrow : (w : Widths) (kind : Kind) → item_width w kind ≤ 512
 narrow w Leaf = omega (arith, w.key_fits, w.value_fits)
 narrow w Inner = omega (arith, w.key_fits)
-
--- how far the items of a page reach, up to two places and up to the end
-pub record AreWithin (w : Widths) (b from to all : ℕ) : Type 0 where
-  pub front : from * (w.key + b) ≤ 4092
-  pub upto : to * (w.key + b) ≤ 4092
-  pub whole : all * (w.key + b) ≤ 4092
-  pub rest : to * (w.key + b) ≤ all * (w.key + b)
-
-pub are_within : (w : Widths) (kind : Kind) (b from to count all : ℕ) → b ≡ behind_of w kind → from ≤ to → to ≤ count → count * item_width w kind ≤ 4092 → all ≡ count → AreWithin w b from to all
-are_within w kind b from to count all is order within fits same =
-    let wide : w.key + b ≡ item_width w kind = ap (λ (b : ℕ). w.key + b) is in
-    let last : all * (w.key + b) ≤ 4092 = subst (λ (n : ℕ). n ≤ 4092) (λ i. sym same i * sym wide i) fits in
-    let more : to * (w.key + b) ≤ all * (w.key + b) = mul-mono to all (w.key + b) (omega (arith, within, same)) in
-    let less : from * (w.key + b) ≤ to * (w.key + b) = mul-mono from to (w.key + b) order in
-    record { front = omega (arith, less, more, last); upto = omega (arith, more, last); whole = last; rest = more }
-
--- what is short enough for a page fits in a word
-pub word : (n : ℕ) → n ≤ 4092 → Fits w64 n
-word n short = omega (arith, short)
-
-pub head_word : (n : ℕ) → n ≤ 4092 → Fits w64 (4 + n)
-head_word n short = omega (arith, short)
-
-pub head_within : (n : ℕ) → n ≤ 4092 → 4 + n ≤ 4096
-head_within n short = omega (arith, short)
-
-pub width_word : (w : Widths) (kind : Kind) (b : ℕ) → b ≡ behind_of w kind → Fits w64 (w.key + b)
-width_word w kind b is = omega (arith, narrow w kind, is)
-
--- a page has no more items than bytes
-pub few_items : (w : Widths) (kind : Kind) (count : ℕ) → count * item_width w kind ≤ 4092 → count ≤ 4092
-few_items w kind count fits = by_width (item_width w kind) (omega (arith, w.some)) fits
-  where
-    by_width : (width : ℕ) → 1 ≤ width → count * width ≤ 4092 → count ≤ 4092
-    by_width zero some fits = absurd (omega (arith, some))
-    by_width (suc n) some fits = omega (arith, fits)
-
--- how many items there are, with some in the place of others
-pub more_word : (from count to n : ℕ) → from + count ≤ to + 1 → to ≤ n → n ≤ 4092 → Fits w64 (from + count)
-more_word from count to n one_more within few = omega (arith, one_more, within, few)
-
-pub total_word : (from count to n all : ℕ) → from + count ≤ to + 1 → to ≤ n → n ≤ 4092 → all ≡ n → Fits w64 (from + count + (all - to))
-total_word from count to n all one_more within few same = omega (arith, one_more, within, few, same)
 
 -- one item
 pub one_item : (key behind : ℕ) (k v : List ℕ) → length k ≡ key → length v ≡ behind → items_of key behind 1 (k ++ v) ≡ (k, v) ∷ []

@@ -1,5 +1,5 @@
 -- Pages take the place of others, step by step.
-use Rattle.std.proofs.Common.{◌≡◌, ◌≢◌, ◌⊎◌, ℕ, List, [], ◌∷◌, ◌++◌, Contains, IsTrue, refl, sym, ◌∙◌, ap, subst, inl, inr}
+use Rattle.std.proofs.Common.{◌≡◌, ◌≢◌, ◌⊎◌, ℕ, List, [], ◌∷◌, ◌++◌, Contains, IsTrue, refl, sym, ◌∙◌, ap, subst, inl, inr, arith}
 use Rattle.std.proofs.lemmas.Bool.{cases_eq}
 use Rattle.std.proofs.lemmas.List.Elements.{Contains-append_left, Contains-append_right, Contains-append_cases}
 use Rattle.sector_disk.specs.Disk.{Disk}
@@ -35,6 +35,19 @@ stays q store fresh = record {
   held = λ p here. inr (subst (λ (r : ℕ). mark store.marks r ≡ Fresh) (sym (only_one q p here)) fresh);
   from = λ p here. inl here;
   gone = λ p here not. absurd (not here);
+  kept = λ p not other. refl;
+  reads = λ honest p not used. refl;
+}
+
+-- nothing is taken
+none_in : (p : ℕ) → Contains [] p → ⊥
+none_in p here = omega (arith, here.1)
+
+pub take_none : (store : Store) → TakePlace [] [] store store
+take_none store = record {
+  held = λ p here. absurd (none_in p here);
+  from = λ p here. absurd (none_in p here);
+  gone = λ p here not. absurd (none_in p here);
   kept = λ p not other. refl;
   reads = λ honest p not used. refl;
 }

@@ -17,7 +17,7 @@ use Rattle.tree_map.specs.aid.Order.{ascend_none}
 use Rattle.tree_map.specs.aid.Putting.{puts_ascend}
 use Rattle.tree_map.specs.aid.Taking.{take_then, only_one}
 use Rattle.tree_map.specs.Tree.{entries_below, pages_below, IsTree, IsRooted, IsEmpty, IsMap}
-use Rattle.tree_put.specs.aid.Causes.{BelowCause, IsReadable}
+use Rattle.tree_put.specs.aid.Causes.{WriteCause, BelowCause, IsReadable}
 use Rattle.tree_put.specs.aid.Growing.{IsGrowing, IsGrown}
 use Rattle.tree_map.specs.aid.Once.{contains_cons, once_cons}
 use Rattle.tree_put.proofs.Placing.{IsUnion, held_not_free, take_beside}
@@ -81,6 +81,15 @@ put_fails w root old new Damaged some cause = λ honest pages es holds.
 put_fails w root old new TableFull some cause = cause
 put_fails w root old new OutOfMemory some cause = cause
 put_fails w root old new Closed some cause = cause
+
+-- nothing is written
+pub as_put : (w : Widths) (root : ℕ) (old new : Store) (fault : PageFault) → WriteCause old new fault → MapPutCause w root old new fault
+as_put w root old new Disk cause = cause
+as_put w root old new NotATable cause = absurd cause
+as_put w root old new Damaged cause = absurd cause
+as_put w root old new TableFull cause = cause
+as_put w root old new OutOfMemory cause = absurd cause
+as_put w root old new Closed cause = cause
 
 -- lists of one and of two
 one_listed : (tops : List Item) → length tops ≡ 1 → (c : Item) × (tops ≡ c ∷ [])

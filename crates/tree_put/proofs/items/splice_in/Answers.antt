@@ -3,7 +3,8 @@ use Rattle.std.proofs.lemmas.List.{length-take}
 use Rattle.tree_page.specs.declared.kind.Kind.{Kind}
 use Rattle.tree_page.specs.declared.widths.Widths.{Widths}
 use Rattle.tree_page.specs.Page.{behind_of, count_in, item_width}
-use Rattle.tree_put.proofs.Listing.{distribute, are_within, word, head_word, head_within, width_word, few_items, head_stays, page_listed}
+use Rattle.tree_put.proofs.Fitting.{are_within, word, head_word, head_within, width_word, few_items}
+use Rattle.tree_put.proofs.Listing.{distribute, head_stays, page_listed}
 use Rattle.tree_put.proofs.items.splice_in.Goals as goal
 
 -- where the items lie that are put in

@@ -1,10 +1,12 @@
-use Rattle.std.proofs.Common.{◌≡◌, ◌≤◌, ◌*◌, ◌∙◌, ℕ, List, length, refl, ap, arith}
+use Rattle.std.proofs.Common.{◌≡◌, ◌≤◌, ◌*◌, ◌∙◌, ◌∷◌, [], ℕ, List, length, refl, ap, arith}
+use Rattle.sector_disk.specs.aid.Moments.{still_honest}
 use Rattle.page_store.specs.aid.Works.{works_then}
 use Rattle.tree_page.specs.declared.kind.Kind.{Kind}
 use Rattle.tree_page.specs.declared.widths.Widths.{Widths}
-use Rattle.tree_page.specs.Page.{item_width}
+use Rattle.tree_page.specs.Page.{behind_of, item_width, items_of}
 use Rattle.tree_put.proofs.Failing.{passed_on, none_free, cause_later}
 use Rattle.tree_put.proofs.Listing.{mul-mono, narrow}
+use Rattle.tree_put.proofs.Placing.{one_contains, take_none, take_more, take_wrote}
 use Rattle.tree_put.proofs.map.on_new_page.Goals as goal
 
 -- few items fit on a page
@@ -71,3 +73,24 @@ returns-in_err-write_on-clause-works g c = works_then c.in_ok-page.ensures.works
 
 pub returns-clause-works : goal.returns-clause-works
 returns-clause-works g c = works_then c.in_ok-page.ensures.works c.write_on.ensures.works
+
+pub returns-clause-place : goal.returns-clause-place
+returns-clause-place g c =
+    let store = g.P.Pages.store in
+    let old = store c.args.store.now in
+    let mid = store c.new_page.new.self in
+    let new = store c.write_on.new.store in
+    let page = c.in_ok-page.page in
+    let got = c.in_ok-page.ensures in
+    let wrote = c.in_ok-write_on.ensures in
+    take_wrote [] (page ∷ []) page old mid new (take_more [] [] page old old mid (take_none old) got.free got.ok got.others) (one_contains page page refl) got.works wrote.others wrote.marks
+
+pub returns-clause-page : goal.returns-clause-page
+returns-clause-page g c =
+    λ honest. c.in_ok-write_on.ensures.page (still_honest c.in_ok-page.ensures.works.goes_on honest)
+
+pub returns-clause-items : goal.returns-clause-items
+returns-clause-items g c =
+    λ honest.
+    c.in_ok-write_on.ensures.items (still_honest c.in_ok-page.ensures.works.goes_on honest)
+    ∙ ap (items_of c.args.widths.key (behind_of c.args.widths c.args.kind) c.args.items.now.count) c.deref.ensures.0

@@ -1,15 +1,18 @@
-use Rattle.std.proofs.Common.{◌≡◌, ◌∙◌, ◌<◌, ◌≤◌, ◌∷◌, [], ℕ, List, Result, Ok, Err, IfOk, length}
+use Rattle.std.proofs.Common.{◌≡◌, ◌≢◌, ◌∙◌, ◌<◌, ◌≤◌, ◌∷◌, [], ℕ, List, Result, Ok, Err, IfOk, length, sym}
+use Rattle.std.proofs.lemmas.Result.{IfErr-weaker}
 use Rattle.sector_disk.specs.aid.Moments.{still_honest}
+use Rattle.page_store.specs.declared.fault.PageFault.TheVariants.{Disk}
 use Rattle.page_store.specs.Store.{reads}
 use Rattle.page_store.specs.aid.Works.{works_then}
 use Rattle.tree_page.specs.declared.kind.Kind.TheVariants.{Leaf, Inner}
 use Rattle.tree_page.specs.aid.Items.{length-items}
 use Rattle.tree_page.specs.Page.{IsPage, items_in}
-use Rattle.tree_map.specs.Changes.{HoldsMap, TakePlace}
+use Rattle.tree_map.specs.Changes.{HoldsMap, TakePlace, MapPutCause}
 use Rattle.tree_map.specs.Entries.{put_entry}
+use Rattle.tree_put.specs.aid.Causes.{WriteCause}
 use Rattle.tree_put.specs.aid.Items.{listed}
-use Rattle.tree_put.proofs.Failing.{passed_on}
-use Rattle.tree_put.proofs.Rooting.{first_put, put_fails, put_one, put_two}
+use Rattle.tree_put.proofs.Failing.{passed_on, cause_later}
+use Rattle.tree_put.proofs.Rooting.{first_put, as_put, put_fails, put_one, put_two}
 use Rattle.tree_put.proofs.map.put.Goals as goal
 
 -- what five clauses say of an answer, taken together
@@ -67,3 +70,58 @@ returns-else-tops-eq1-clause-map g c honest pages es holds held =
 
 pub returns-else-tops-eq1-clause-works : goal.returns-else-tops-eq1-clause-works
 returns-else-tops-eq1-clause-works g c = works_then c.in_ok-tops.ensures.works c.on_new_page-else-tops-eq1.ensures.works
+
+pub returns-then-root-eq0-clause-open : goal.returns-then-root-eq0-clause-open
+returns-then-root-eq0-clause-open g c =
+    c.on_new_page.ensures.open
+
+pub returns-then-root-eq0-clause-works : goal.returns-then-root-eq0-clause-works
+returns-then-root-eq0-clause-works g c =
+    c.on_new_page.ensures.works
+
+pub returns-then-root-eq0-clause-still : goal.returns-then-root-eq0-clause-still
+returns-then-root-eq0-clause-still g c =
+    c.on_new_page.ensures.still
+
+pub returns-then-root-eq0-clause-cause : goal.returns-then-root-eq0-clause-cause
+returns-then-root-eq0-clause-cause g c =
+    let old = g.P.Pages.store c.args.store.now in
+    let new = g.P.Pages.store c.on_new_page.new.store in
+    IfErr-weaker c.on_new_page.result (WriteCause old new) (MapPutCause c.args.widths c.args.root old new)
+    (λ fault cause. as_put c.args.widths c.args.root old new fault cause) c.on_new_page.ensures.cause
+
+pub returns-in_err-tops-clause-works : goal.returns-in_err-tops-clause-works
+returns-in_err-tops-clause-works g c =
+    c.put_below.ensures.works
+
+pub returns-in_err-tops-clause-still : goal.returns-in_err-tops-clause-still
+returns-in_err-tops-clause-still g c =
+    passed_on _ c.from_residual.result _ c.from_residual.ensures c.in_err-tops.ensures.still
+
+pub returns-then-tops-eq1-clause-open : goal.returns-then-tops-eq1-clause-open
+returns-then-tops-eq1-clause-open g c =
+    c.in_ok-tops.ensures.open
+
+pub returns-then-tops-eq1-clause-works : goal.returns-then-tops-eq1-clause-works
+returns-then-tops-eq1-clause-works g c =
+    c.in_ok-tops.ensures.works
+
+pub returns-else-tops-eq1-clause-open : goal.returns-else-tops-eq1-clause-open
+returns-else-tops-eq1-clause-open g c =
+    c.on_new_page-else-tops-eq1.ensures.open
+
+pub returns-else-tops-eq1-clause-still : goal.returns-else-tops-eq1-clause-still
+returns-else-tops-eq1-clause-still g c =
+    let store = g.P.Pages.store in
+    IfErr-weaker c.on_new_page-else-tops-eq1.result (λ fault. fault ≢ Disk → (store c.on_new_page-else-tops-eq1.new.store).closed ≡ (store c.put_below.new.store).closed)
+    (λ fault. fault ≢ Disk → (store c.on_new_page-else-tops-eq1.new.store).closed ≡ (store c.args.store.now).closed)
+    (λ fault still other. still other ∙ (c.in_ok-tops.ensures.open ∙ sym (c.in_ok-tops.ensures.works.closed c.in_ok-tops.ensures.open)))
+    c.on_new_page-else-tops-eq1.ensures.still
+
+pub returns-else-tops-eq1-clause-cause : goal.returns-else-tops-eq1-clause-cause
+returns-else-tops-eq1-clause-cause g c =
+    let old = g.P.Pages.store c.args.store.now in
+    let mid = g.P.Pages.store c.put_below.new.store in
+    let new = g.P.Pages.store c.on_new_page-else-tops-eq1.new.store in
+    IfErr-weaker c.on_new_page-else-tops-eq1.result (WriteCause mid new) (MapPutCause c.args.widths c.args.root old new)
+    (λ fault cause. as_put c.args.widths c.args.root old new fault (cause_later old mid new fault c.in_ok-tops.ensures.works c.in_ok-tops.ensures.open cause)) c.on_new_page-else-tops-eq1.ensures.cause

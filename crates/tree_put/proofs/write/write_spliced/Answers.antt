@@ -12,7 +12,8 @@ use Rattle.tree_map.specs.Entries.{first_key}
 use Rattle.tree_put.specs.aid.Growing.{AreWritten}
 use Rattle.tree_put.specs.aid.Items.{listed}
 use Rattle.tree_put.proofs.Failing.{passed_on, write_fails}
-use Rattle.tree_put.proofs.Listing.{mul-mono, narrow, width_word, few_items, more_word, total_word}
+use Rattle.tree_put.proofs.Fitting.{width_word, few_items, more_word, total_word, key_word, key_within, head_first, key_long}
+use Rattle.tree_put.proofs.Listing.{mul-mono, narrow}
 use Rattle.tree_put.proofs.Writing.{leads_back, first_of, written_one}
 use Rattle.tree_put.proofs.write.write_spliced.Goals as goal
 
@@ -35,18 +36,6 @@ full_word w kind b from count to n all is one_more within few same =
 as_wide : (w : Widths) (kind : Kind) (b from count to n all : ℕ) → b ≡ behind_of w kind → all ≡ n
     → (from + count + (all - to)) * (w.key + b) ≡ (from + count + (n - to)) * item_width w kind
 as_wide w kind b from count to n all is same = λ i. (from + count + (same i - to)) * (w.key + is i)
-
-key_word : (w : Widths) → Fits w64 (4 + w.key)
-key_word w = omega (arith, w.key_fits)
-
-key_within : (w : Widths) → 4 + w.key ≤ 4096
-key_within w = omega (arith, w.key_fits)
-
-head_first : (n : ℕ) → 4 ≤ 4 + n
-head_first n = omega arith
-
-key_long : (w : Widths) (page : List ℕ) → length page ≡ 4096 → length (take (4 + w.key - 4) (drop 4 page)) ≡ w.key
-key_long w page long = omega (arith, w.key_fits, long, length-drop 4 page, length-take (4 + w.key - 4) (drop 4 page))
 
 -- one item, or two
 none_whole : (wide n : ℕ) (bytes : List ℕ) → n ≡ 0 → bytes ≡ [] → length bytes ≡ n * wide
