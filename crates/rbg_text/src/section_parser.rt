@@ -3,7 +3,10 @@
 ghost use Rattle.std.specs.Prelude.{◌≡◌, [], map, option_map};
 ghost use Rattle.std.specs.Str.{bytes_eq};
 ghost use Rattle.rbg_text.specs.aid.Parse.{ReadsAs, name, turns};
+ghost use Rattle.rbg_text.specs.aid.Parse as parse;
 ghost use Rattle.rbg_text.specs.aid.ParseSections as spec;
+ghost use Rattle.rbg_text.specs.Token.{Text};
+ghost use Rattle.rbg_text.specs.Syntax as syntax;
 ghost use Rattle.rbg_text.specs.View.{token_view, step_view};
 ghost use Rattle.rbg_text.specs.Said.{declaration_view, arrow_view, vertex_view, section_view};
 
@@ -15,6 +18,65 @@ use std::alloc::Global;
 
 /// How deep the rules are read; a text that nests deeper is refused before.
 const DEPTH: usize = 65;
+
+/// What lists are made of, with commas between.
+trait Item<'a>: Drop {
+    ghost Said: { Type 0 };
+
+    /// The item without where its words lie in memory.
+    ghost said: { Self → Said };
+
+    /// How it is read.
+    ghost grammar: { parse.Parser Said };
+
+    fn parse(parser: &mut Parser<'_, 'a>) -> Result<Self, ReadError>
+        ensures { ReadsAs said (grammar parser.old) result parser.new };
+}
+
+impl<'a> Item<'a> for &'a [u8] {
+    ghost Said = { Text };
+
+    ghost said = { λ w. w.now };
+
+    ghost grammar = { name };
+
+    fn parse(parser: &mut Parser<'_, 'a>) -> Result<&'a [u8], ReadError> {
+        parser.name()
+    }
+}
+
+impl<'a> Item<'a> for Declaration<'a> {
+    ghost Said = { syntax.Declaration };
+
+    ghost said = { declaration_view };
+
+    ghost grammar = { spec.declaration };
+
+    #[tactic(auto, unfolding(crate::specs::aid::ParseSections::declaration))]
+    fn parse(parser: &mut Parser<'_, 'a>) -> Result<Declaration<'a>, ReadError> {
+        let name = parser.name()?;
+        parser.expect(Sign::OpenParen)?;
+        let bound = parser.number()?;
+        parser.expect(Sign::CloseParen)?;
+        Ok(Declaration { name, bound })
+    }
+}
+
+impl<'a> Item<'a> for Arrow<'a> {
+    ghost Said = { syntax.WrittenArrow };
+
+    ghost said = { arrow_view };
+
+    ghost grammar = { spec.arrow };
+
+    #[tactic(auto, unfolding(crate::specs::aid::ParseSections::arrow))]
+    fn parse(parser: &mut Parser<'_, 'a>) -> Result<Arrow<'a>, ReadError> {
+        let label = parser.name()?;
+        parser.expect(Sign::Colon)?;
+        let to = parser.name()?;
+        Ok(Arrow { label, to })
+    }
+}
 
 impl<'t, 'a> Parser<'t, 'a> {
     #[tactic(auto, unfolding(crate::specs::aid::ParseSections::number))]
@@ -28,68 +90,18 @@ impl<'t, 'a> Parser<'t, 'a> {
         Ok(digits)
     }
 
-    #[tactic(auto, unfolding(crate::specs::aid::ParseSections::declaration))]
-    fn declaration(&mut self) -> Result<Declaration<'a>, ReadError>
-        ensures { ReadsAs declaration_view (spec.declaration self.old) result self.new }
-    {
-        let name = self.name()?;
-        self.expect(Sign::OpenParen)?;
-        let bound = self.number()?;
-        self.expect(Sign::CloseParen)?;
-        Ok(Declaration { name, bound })
-    }
-
+    /// One item or more.
     #[tactic(auto, unfolding(crate::specs::aid::ParseSections::listed, crate::specs::aid::ParseSections::items))]
-    fn declarations(&mut self, alloc: Global) -> Result<Vec<Declaration<'a>>, ReadError>
-        ensures { ReadsAs (λ all. map declaration_view all.items) (spec.listed spec.declaration self.old) result self.new }
+    fn listed<T: Item<'a>>(&mut self, alloc: Global) -> Result<Vec<T>, ReadError>
+        ensures { ReadsAs (λ all. map T.said all.items) (spec.listed T.grammar self.old) result self.new }
     {
         let mut all = Vec::new(alloc);
-        all.push(self.declaration()?)?;
+        all.push(T::parse(self)?)?;
         for _turn in 0..self.turns() {
             if !self.eat(Sign::Comma) {
                 return Ok(all);
             }
-            all.push(self.declaration()?)?;
-        }
-        Ok(all)
-    }
-
-    #[tactic(auto, unfolding(crate::specs::aid::ParseSections::listed, crate::specs::aid::ParseSections::items))]
-    fn names(&mut self, alloc: Global) -> Result<Vec<&'a [u8]>, ReadError>
-        ensures { ReadsAs (λ all. map (λ w. w.now) all.items) (spec.listed name self.old) result self.new }
-    {
-        let mut all = Vec::new(alloc);
-        all.push(self.name()?)?;
-        for _turn in 0..self.turns() {
-            if !self.eat(Sign::Comma) {
-                return Ok(all);
-            }
-            all.push(self.name()?)?;
-        }
-        Ok(all)
-    }
-
-    #[tactic(auto, unfolding(crate::specs::aid::ParseSections::arrow))]
-    fn arrow(&mut self) -> Result<Arrow<'a>, ReadError>
-        ensures { ReadsAs arrow_view (spec.arrow self.old) result self.new }
-    {
-        let label = self.name()?;
-        self.expect(Sign::Colon)?;
-        let to = self.name()?;
-        Ok(Arrow { label, to })
-    }
-
-    #[tactic(auto, unfolding(crate::specs::aid::ParseSections::listed, crate::specs::aid::ParseSections::items))]
-    fn some_arrows(&mut self, alloc: Global) -> Result<Vec<Arrow<'a>>, ReadError>
-        ensures { ReadsAs (λ all. map arrow_view all.items) (spec.listed spec.arrow self.old) result self.new }
-    {
-        let mut all = Vec::new(alloc);
-        all.push(self.arrow()?)?;
-        for _turn in 0..self.turns() {
-            if !self.eat(Sign::Comma) {
-                return Ok(all);
-            }
-            all.push(self.arrow()?)?;
+            all.push(T::parse(self)?)?;
         }
         Ok(all)
     }
@@ -101,7 +113,7 @@ impl<'t, 'a> Parser<'t, 'a> {
         if self.sees(Sign::CloseBrace) {
             Ok(Vec::new(alloc))
         } else {
-            self.some_arrows(alloc)
+            self.listed(alloc)
         }
     }
 
@@ -144,7 +156,7 @@ impl<'t, 'a> Parser<'t, 'a> {
         ensures { ReadsAs (λ all. map declaration_view all.items) (spec.all_variables self.old) result self.new }
     {
         if is_name(self.peek()) {
-            self.declarations(alloc)
+            self.listed(alloc)
         } else {
             Ok(Vec::new(alloc))
         }
@@ -163,9 +175,9 @@ impl<'t, 'a> Parser<'t, 'a> {
         ensures { ReadsAs section_view (spec.section_by title.now self.old) result self.new }
     {
         if is_word(title, b"players") {
-            Ok(Section::Players(self.declarations(alloc)?))
+            Ok(Section::Players(self.listed(alloc)?))
         } else if is_word(title, b"pieces") {
-            Ok(Section::Pieces(self.names(alloc)?))
+            Ok(Section::Pieces(self.listed(alloc)?))
         } else if is_word(title, b"variables") {
             Ok(Section::Variables(self.variables(alloc)?))
         } else if is_word(title, b"board") {
