@@ -7,6 +7,7 @@ pub mod FlatNodes
 pub mod Labels
 pub mod NoCause
 pub mod Lists
+pub mod FirstCause
 pub mod StepRules
 pub mod StepSizes
 pub mod StepSwitches

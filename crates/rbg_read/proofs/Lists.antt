@@ -1,5 +1,5 @@
 -- Tests and places in lists that are mapped.
-use Rattle.std.proofs.Common.{◌≡◌, ℕ, ◌+◌, ◌<◌, ◌≤◌, Bool, true, false, List, [], ◌∷◌, ◌++◌, length, take, get_or, map, fold, inl, inr, refl, ap, sym, ◌∙◌, arith}
+use Rattle.std.proofs.Common.{◌≡◌, ℕ, ◌+◌, ◌<◌, ◌≤◌, Bool, true, false, List, [], ◌∷◌, ◌++◌, length, take, get_or, map, fold, inl, inr, refl, ap, sym, ◌∙◌, append_assoc, arith}
 use Rattle.std.specs.Prelude.{position}
 use Rattle.std.specs.List.{list_any, position_or_len}
 use Rattle.std.proofs.lemmas.Bool.{cases_Bool}
@@ -48,10 +48,31 @@ none_at p f xs i d below h = elim (cases_Bool (p (f (get_or xs i d)))) [
   | inr off ↦ off
 ]
 
+-- where no element passes a test, this one does not
+pub none_here : {X : Type 0} (p : X → Bool) (xs : List X) (i : ℕ) (d : X) → i < length xs → list_any p xs ≡ false → p (get_or xs i d) ≡ false
+none_here p xs i d below none = elim (cases_Bool (p (get_or xs i d))) [
+  | inl on ↦ (let some : list_any p xs ≡ true = list_any_at p xs i d below on in absurd (cc))
+  | inr off ↦ off
+]
+
 -- one turn of a loop that makes one list of another
 pub map_turn : {X Y Z : Type 0} (f : X → Z) (g : Y → Z) (made more : List X) (new : X) (ys : List Y) (i : ℕ) (d : Y) → i < length ys → more ≡ made ++ new ∷ [] → f new ≡ g (get_or ys i d) → map f made ≡ map g (take i ys) → map f more ≡ map g (take (i + 1) ys)
 map_turn f g made more new ys i d below pushed same so_far =
     ap (map f) pushed ∙ map_push f made new ∙ ap (λ zs. map f made ++ zs ∷ []) same ∙ ap (λ zs. zs ++ g (get_or ys i d) ∷ []) so_far ∙ sym (map_more g ys i d below)
+
+-- the same behind a list that was there
+pub turn_behind : {X Y Z : Type 0} (f : X → Z) (g : Y → Z) (made more : List X) (new : X) (old : List Z) (ys : List Y) (i : ℕ) (d : Y) → i < length ys → more ≡ made ++ new ∷ [] → f new ≡ g (get_or ys i d) → map f made ≡ old ++ map g (take i ys) → map f more ≡ old ++ map g (take (i + 1) ys)
+turn_behind f g made more new old ys i d below pushed same so_far =
+    ap (map f) pushed ∙ map_push f made new ∙ ap (λ z. map f made ++ z ∷ []) same ∙ ap (λ zs. zs ++ g (get_or ys i d) ∷ []) so_far ∙ append_assoc old (map g (take i ys)) (g (get_or ys i d) ∷ []) ∙ ap (λ zs. old ++ zs) (sym (map_more g ys i d below))
+
+-- the same where the new list is of what is made of the elements
+pub plain_behind : {Y Z : Type 0} (g : Y → Z) (made more : List Z) (new : Z) (old : List Z) (ys : List Y) (i : ℕ) (d : Y) → i < length ys → more ≡ made ++ new ∷ [] → new ≡ g (get_or ys i d) → made ≡ old ++ map g (take i ys) → more ≡ old ++ map g (take (i + 1) ys)
+plain_behind g made more new old ys i d below pushed same so_far =
+    pushed ∙ ap (λ z. made ++ z ∷ []) same ∙ ap (λ zs. zs ++ g (get_or ys i d) ∷ []) so_far ∙ append_assoc old (map g (take i ys)) (g (get_or ys i d) ∷ []) ∙ ap (λ zs. old ++ zs) (sym (map_more g ys i d below))
+
+-- after the last turn
+pub end_behind : {Y Z : Type 0} (g : Y → Z) {all : List Z} (old : List Z) (ys : List Y) (i : ℕ) → length ys ≤ i → all ≡ old ++ map g (take i ys) → all ≡ old ++ map g ys
+end_behind g old ys i over so_far = so_far ∙ ap (λ zs. old ++ map g zs) (take_all i ys over)
 
 -- a list of two that are mapped twice
 pub two_maps : {X Y Z : Type 0} (g : Y → Z) (f : X → Y) (xs ys : List X) → map g (map f xs ++ map f ys) ≡ map (λ x. g (f x)) xs ++ map (λ x. g (f x)) ys
