@@ -35,7 +35,7 @@ use Rattle.recover.specs.Audits.{HasVerdict, IsSoInGame, HasWidePosition, AuditC
 use Rattle.recover.specs.Faults.{line_fault, table_fault, audit_fault}
 use Rattle.recover.specs.Held.{IsSound}
 use Rattle.recover.specs.State.{IsMadeOf}
-use Rattle.recover.specs.Queries.{OfKept, IsThere, HasValueAt, HasRows, HasLine, HasText, IsOfUnknown, IsOfNone, AskCause, NumberCause, LineCause}
+use Rattle.recover.specs.Queries.{OfKept, IsThere, HasValueAt, HasRows, HasLine, HasText, IsOfUnknown, IsOfNone, AskCause, NumberCause, LineCause, ShowCause}
 use Rattle.recover.proofs.Working.{of_any, sound_here}
 
 -- what an answer has in it
@@ -170,6 +170,13 @@ module _ (old new : State) where
   number_cause number table.TableFull no_page cause = absurd (no_page refl)
   number_cause number table.OutOfMemory no_page cause = tt
   number_cause number table.Closed no_page cause = cause
+
+  pub show_cause : (number : ℕ) (fault : TableFault) → NeedsNoPage fault → FileTableCause old new fault → ShowCause number old new (table_fault fault)
+  show_cause number table.Disk no_page cause = cause
+  show_cause number table.Damaged no_page cause = cause
+  show_cause number table.TableFull no_page cause = absurd (no_page refl)
+  show_cause number table.OutOfMemory no_page cause = tt
+  show_cause number table.Closed no_page cause = cause
 
   line_table_cause : (number : ℕ) (fault : TableFault) → NeedsNoPage fault → FileTableCause old new fault → LineCause number old new (table_fault fault)
   line_table_cause number table.Disk no_page cause = cause

@@ -191,6 +191,16 @@ given_up Fails Cause step.Inconsistent left back failed = let b = back left in (
 given_up Fails Cause step.OutOfMemory left back failed = let b = back left in (b.0, b.1)
 given_up Fails Cause (step.Table fault) left back failed = let b = failed fault left in (b.0, b.1)
 
+-- what is so of each state that it may leave
+pub left_so : {Ahead So : Type 0} (Fails : TableFault → Type 0) (fault : StepFault) → LeavesUnit Ahead Fails fault → (Ahead → So)
+    → ((f : TableFault) → Fails f → So) → So
+left_so Fails step.TooWide left back failed = back left
+left_so Fails (step.KeeperChooses number) left back failed = back left
+left_so Fails step.TooManyPositions left back failed = back left
+left_so Fails step.Inconsistent left back failed = back left
+left_so Fails step.OutOfMemory left back failed = back left
+left_so Fails (step.Table fault) left back failed = failed fault left
+
 module _ (Stores : Layout) (old new : State) (source : Compiled) (k : Kept) (made : IsMadeOf source k) (loaded : old.kept ≡ Some k) (units : ℕ) where
   stops_at : (fault : StepFault) → (IsTrue old.disk.honest → IsLocallySound (graph_of (packing_kind source) (compiled_game source)) (IsWideAt (packing_kind source) (compiled_game source)) k.table
       → StopsWith (graph_of (packing_kind source) (compiled_game source)) (IsWideAt (packing_kind source) (compiled_game source)) k.table units fault) → IsTrue old.disk.honest → StopsAt units old.kept fault

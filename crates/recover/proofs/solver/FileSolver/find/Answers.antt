@@ -1,4 +1,4 @@
-use Rattle.std.proofs.Common.{subst, Option}
+use Rattle.std.proofs.Common.{subst, Option, rules}
 use Rattle.legal_moves.specs.declared.compiled.Compiled.{Compiled}
 use Rattle.recover.specs.State.{IsSourceOf}
 use Rattle.recover.proofs.Asking.{text_found, text_unknown, text_of_none}
@@ -31,3 +31,72 @@ returns-in-None-clause-cause g c = λ ready honest.
     rw is
     (text_unknown k _ stored.1 stored.2 _ (g.met.F.Table.counts_are file stored.0) c.in-Some.source made c.in-Some-position.packed.items c.args.text.now
     c.in-Some-position.ensures (rw c.in-None.is at c.in_ok-number.ensures.unknown stored.0))
+
+pub returns-in_err-known-clause-ready : goal.returns-in_err-known-clause-ready
+returns-in_err-known-clause-ready g c = search rules
+
+pub returns-in_err-known-clause-asked : goal.returns-in_err-known-clause-asked
+returns-in_err-known-clause-asked g c = search rules
+
+pub returns-in_err-known-clause-number : goal.returns-in_err-known-clause-number
+returns-in_err-known-clause-number g c = search rules
+
+pub returns-in_err-known-clause-cause : goal.returns-in_err-known-clause-cause
+returns-in_err-known-clause-cause g c = search rules
+
+pub returns-in_err-known-clause-closed : goal.returns-in_err-known-clause-closed
+returns-in_err-known-clause-closed g c = search rules
+
+pub returns-in_default-clause-ready : goal.returns-in_default-clause-ready
+returns-in_default-clause-ready g c = search rules
+
+pub returns-in_default-clause-asked : goal.returns-in_default-clause-asked
+returns-in_default-clause-asked g c = search rules
+
+pub returns-in_default-clause-cause : goal.returns-in_default-clause-cause
+returns-in_default-clause-cause g c = search rules
+
+pub returns-in_default-clause-closed : goal.returns-in_default-clause-closed
+returns-in_default-clause-closed g c = search rules
+
+pub returns-in_default-position-clause-ready : goal.returns-in_default-position-clause-ready
+returns-in_default-position-clause-ready g c = search rules
+
+pub returns-in_default-position-clause-asked : goal.returns-in_default-position-clause-asked
+returns-in_default-position-clause-asked g c = search rules
+
+pub returns-in_default-position-clause-closed : goal.returns-in_default-position-clause-closed
+returns-in_default-position-clause-closed g c = search rules
+
+pub returns-in_err-number-clause-ready : goal.returns-in_err-number-clause-ready
+returns-in_err-number-clause-ready g c = search rules
+
+pub returns-in_err-number-clause-asked : goal.returns-in_err-number-clause-asked
+returns-in_err-number-clause-asked g c = λ ready. (g.met.F.GameFile.whole_stays c.args.self.now.file c.number_of.new.self ready.0 c.number_of.ensures.stays).1
+
+pub returns-in_err-number-clause-number : goal.returns-in_err-number-clause-number
+returns-in_err-number-clause-number g c = search rules
+
+pub returns-in_err-number-clause-cause : goal.returns-in_err-number-clause-cause
+returns-in_err-number-clause-cause g c = search rules
+
+pub returns-in_err-number-clause-closed : goal.returns-in_err-number-clause-closed
+returns-in_err-number-clause-closed g c = search rules
+
+pub returns-in-Some-2-clause-ready : goal.returns-in-Some-2-clause-ready
+returns-in-Some-2-clause-ready g c = search rules
+
+pub returns-in-Some-2-clause-asked : goal.returns-in-Some-2-clause-asked
+returns-in-Some-2-clause-asked g c = λ ready. (g.met.F.GameFile.whole_stays c.args.self.now.file c.number_of.new.self ready.0 c.number_of.ensures.stays).1
+
+pub returns-in-Some-2-clause-closed : goal.returns-in-Some-2-clause-closed
+returns-in-Some-2-clause-closed g c = search rules
+
+pub returns-in-None-clause-ready : goal.returns-in-None-clause-ready
+returns-in-None-clause-ready g c = search rules
+
+pub returns-in-None-clause-asked : goal.returns-in-None-clause-asked
+returns-in-None-clause-asked g c = λ ready. (g.met.F.GameFile.whole_stays c.args.self.now.file c.number_of.new.self ready.0 c.number_of.ensures.stays).1
+
+pub returns-in-None-clause-closed : goal.returns-in-None-clause-closed
+returns-in-None-clause-closed g c = search rules

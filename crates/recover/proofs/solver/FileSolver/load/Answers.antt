@@ -1,4 +1,4 @@
-use Rattle.std.proofs.Common.{refl, sym, ◌∙◌}
+use Rattle.std.proofs.Common.{refl, sym, ◌∙◌, rules}
 use Rattle.recover.proofs.Loading.{loaded_done, loaded_refused, loaded_sound, has_none}
 use Rattle.recover.proofs.Passing.{passed_on}
 use Rattle.recover.proofs.Refusing.{nothing_done}
@@ -30,3 +30,93 @@ pub returns-clause-sound : goal.returns-clause-sound
 returns-clause-sound g c = λ ready honest sound.
     let none = has_none c.text.result _ c.is_some.result c.is_some.ensures c.if-is_some.false c.text.ensures.none in
     loaded_sound _ _ _ _ c.in_ok-source.ensures.reads (rw c.in_ok-source.ensures.packing at c.start.ensures.start) _ _ none honest (c.in_ok-load.ensures.ok ready.0 none)
+
+pub returns-then-is_closed-clause-ready : goal.returns-then-is_closed-clause-ready
+returns-then-is_closed-clause-ready g c = search rules
+
+pub returns-then-is_closed-clause-ahead : goal.returns-then-is_closed-clause-ahead
+returns-then-is_closed-clause-ahead g c = search rules
+
+pub returns-then-is_closed-clause-refused : goal.returns-then-is_closed-clause-refused
+returns-then-is_closed-clause-refused g c = search rules
+
+pub returns-then-is_closed-clause-closed : goal.returns-then-is_closed-clause-closed
+returns-then-is_closed-clause-closed g c = search rules
+
+pub returns-then-is_closed-clause-already : goal.returns-then-is_closed-clause-already
+returns-then-is_closed-clause-already g c = search rules
+
+pub returns-then-is_closed-clause-sound : goal.returns-then-is_closed-clause-sound
+returns-then-is_closed-clause-sound g c = search rules
+
+pub returns-then-is_some-clause-ready : goal.returns-then-is_some-clause-ready
+returns-then-is_some-clause-ready g c = search rules
+
+pub returns-then-is_some-clause-ahead : goal.returns-then-is_some-clause-ahead
+returns-then-is_some-clause-ahead g c = search rules
+
+pub returns-then-is_some-clause-refused : goal.returns-then-is_some-clause-refused
+returns-then-is_some-clause-refused g c = search rules
+
+pub returns-then-is_some-clause-closed : goal.returns-then-is_some-clause-closed
+returns-then-is_some-clause-closed g c = search rules
+
+pub returns-then-is_some-clause-already : goal.returns-then-is_some-clause-already
+returns-then-is_some-clause-already g c = search rules
+
+pub returns-then-is_some-clause-sound : goal.returns-then-is_some-clause-sound
+returns-then-is_some-clause-sound g c = search rules
+
+pub returns-in_err-source-clause-ready : goal.returns-in_err-source-clause-ready
+returns-in_err-source-clause-ready g c = search rules
+
+pub returns-in_err-source-clause-ahead : goal.returns-in_err-source-clause-ahead
+returns-in_err-source-clause-ahead g c = search rules
+
+pub returns-in_err-source-clause-done : goal.returns-in_err-source-clause-done
+returns-in_err-source-clause-done g c = search rules
+
+pub returns-in_err-source-clause-closed : goal.returns-in_err-source-clause-closed
+returns-in_err-source-clause-closed g c = search rules
+
+pub returns-in_err-source-clause-already : goal.returns-in_err-source-clause-already
+returns-in_err-source-clause-already g c = search rules
+
+pub returns-in_err-source-clause-sound : goal.returns-in_err-source-clause-sound
+returns-in_err-source-clause-sound g c = search rules
+
+pub load-requires : goal.load-requires
+load-requires g c = search rules
+
+pub returns-in_err-load-clause-ready : goal.returns-in_err-load-clause-ready
+returns-in_err-load-clause-ready g c = search rules
+
+pub returns-in_err-load-clause-ahead : goal.returns-in_err-load-clause-ahead
+returns-in_err-load-clause-ahead g c = search rules
+
+pub returns-in_err-load-clause-done : goal.returns-in_err-load-clause-done
+returns-in_err-load-clause-done g c = search rules
+
+pub returns-in_err-load-clause-closed : goal.returns-in_err-load-clause-closed
+returns-in_err-load-clause-closed g c = search rules
+
+pub returns-in_err-load-clause-already : goal.returns-in_err-load-clause-already
+returns-in_err-load-clause-already g c = search rules
+
+pub returns-in_err-load-clause-sound : goal.returns-in_err-load-clause-sound
+returns-in_err-load-clause-sound g c = search rules
+
+pub same-source : goal.same-source
+same-source g c = search rules
+
+pub returns-clause-ready : goal.returns-clause-ready
+returns-clause-ready g c = search rules
+
+pub returns-clause-ahead : goal.returns-clause-ahead
+returns-clause-ahead g c = search rules
+
+pub returns-clause-closed : goal.returns-clause-closed
+returns-clause-closed g c = search rules
+
+pub returns-clause-already : goal.returns-clause-already
+returns-clause-already g c = search rules

@@ -33,3 +33,66 @@ pub returns-clause-stopped : goal.returns-clause-stopped
 returns-clause-stopped g c = λ ready sound is_open honest.
     let so_far = c.loop-command.invariant in
     stopped_run _ c.args.commands.now _ _ _ _ _ (take_all c.loop-command.command-index c.args.commands.now c.loop-command-test.false) (so_far.run ready) honest is_open sound
+
+pub returns-in_err-reserve-clause-ready : goal.returns-in_err-reserve-clause-ready
+returns-in_err-reserve-clause-ready g c = search rules
+
+pub returns-in_err-reserve-clause-ahead : goal.returns-in_err-reserve-clause-ahead
+returns-in_err-reserve-clause-ahead g c = search rules
+
+pub returns-in_err-reserve-clause-run : goal.returns-in_err-reserve-clause-run
+returns-in_err-reserve-clause-run g c = search rules
+
+pub returns-in_err-reserve-clause-stopped : goal.returns-in_err-reserve-clause-stopped
+returns-in_err-reserve-clause-stopped g c = search rules
+
+pub returns-in_err-reserve-clause-sound : goal.returns-in_err-reserve-clause-sound
+returns-in_err-reserve-clause-sound g c = search rules
+
+pub returns-in_err-reserve-clause-fault : goal.returns-in_err-reserve-clause-fault
+returns-in_err-reserve-clause-fault g c = search rules
+
+pub returns-in_err-reserve-clause-refused : goal.returns-in_err-reserve-clause-refused
+returns-in_err-reserve-clause-refused g c = search rules
+
+pub returns-in_err-reserve-clause-unanswered : goal.returns-in_err-reserve-clause-unanswered
+returns-in_err-reserve-clause-unanswered g c = search rules
+
+pub offset_bounds-commands-command-index : goal.offset_bounds-commands-command-index
+offset_bounds-commands-command-index g c = search rules
+
+pub returns-in_err-push-clause-ready : goal.returns-in_err-push-clause-ready
+returns-in_err-push-clause-ready g c = search rules
+
+pub returns-in_err-push-clause-ahead : goal.returns-in_err-push-clause-ahead
+returns-in_err-push-clause-ahead g c = search rules
+
+pub returns-in_err-push-clause-run : goal.returns-in_err-push-clause-run
+returns-in_err-push-clause-run g c = search rules
+
+pub returns-in_err-push-clause-stopped : goal.returns-in_err-push-clause-stopped
+returns-in_err-push-clause-stopped g c = search rules
+
+pub returns-in_err-push-clause-sound : goal.returns-in_err-push-clause-sound
+returns-in_err-push-clause-sound g c = search rules
+
+pub returns-in_err-push-clause-fault : goal.returns-in_err-push-clause-fault
+returns-in_err-push-clause-fault g c = search rules
+
+pub returns-in_err-push-clause-refused : goal.returns-in_err-push-clause-refused
+returns-in_err-push-clause-refused g c = search rules
+
+pub returns-in_err-push-clause-unanswered : goal.returns-in_err-push-clause-unanswered
+returns-in_err-push-clause-unanswered g c = search rules
+
+pub returns-clause-ready : goal.returns-clause-ready
+returns-clause-ready g c = search rules
+
+pub returns-clause-ahead : goal.returns-clause-ahead
+returns-clause-ahead g c = search rules
+
+pub returns-clause-run : goal.returns-clause-run
+returns-clause-run g c = λ ready. rw (take_all c.loop-command.command-index c.args.commands.now c.loop-command-test.false) at c.loop-command.invariant.run ready
+
+pub returns-clause-sound : goal.returns-clause-sound
+returns-clause-sound g c = search rules

@@ -1,11 +1,11 @@
-use Rattle.std.proofs.Common.{refl, sym, ◌∙◌, ap, subst, arith, Option, Err}
+use Rattle.std.proofs.Common.{refl, sym, ◌∙◌, ap, subst, arith, Option, Err, rules}
 use Rattle.frontier.specs.declared.fault.StepFault.{StepFault}
 use Rattle.legal_moves.specs.declared.compiled.Compiled.{Compiled}
 use Rattle.recover.specs.State.{IsSourceOf}
 use Rattle.recover.proofs.Loading.{same_source, source_of_text}
 use Rattle.recover.proofs.Passing.{passed_on}
 use Rattle.recover.proofs.Turning.{ahead_then}
-use Rattle.recover.proofs.Working.{kept_there, works_on, stops_on, worked_done, kept_sound, not_kept, idle_done, given_up, work_refused}
+use Rattle.recover.proofs.Working.{kept_there, works_on, stops_on, worked_done, kept_sound, not_kept, idle_done, given_up, left_so, work_refused}
 use Rattle.recover.proofs.solver.FileSolver.work.Goals as goal
 
 pub returns-in-Err-clause-refused : goal.returns-in-Err-clause-refused
@@ -102,3 +102,116 @@ pub returns-else-done-gt0-clause-idle : goal.returns-else-done-gt0-clause-idle
 returns-else-done-gt0-clause-idle g c = λ none.
     let same = c.in-Ok.ensures.idle (omega (arith, c.if-done-gt0.false)) in
     rw same refl
+
+pub returns-then-is_closed-clause-ready : goal.returns-then-is_closed-clause-ready
+returns-then-is_closed-clause-ready g c = search rules
+
+pub returns-then-is_closed-clause-ahead : goal.returns-then-is_closed-clause-ahead
+returns-then-is_closed-clause-ahead g c = search rules
+
+pub returns-then-is_closed-clause-refused : goal.returns-then-is_closed-clause-refused
+returns-then-is_closed-clause-refused g c = search rules
+
+pub returns-then-is_closed-clause-no_game : goal.returns-then-is_closed-clause-no_game
+returns-then-is_closed-clause-no_game g c = search rules
+
+pub returns-then-is_closed-clause-sound : goal.returns-then-is_closed-clause-sound
+returns-then-is_closed-clause-sound g c = search rules
+
+pub returns-then-is_none-clause-ready : goal.returns-then-is_none-clause-ready
+returns-then-is_none-clause-ready g c = search rules
+
+pub returns-then-is_none-clause-ahead : goal.returns-then-is_none-clause-ahead
+returns-then-is_none-clause-ahead g c = search rules
+
+pub returns-then-is_none-clause-refused : goal.returns-then-is_none-clause-refused
+returns-then-is_none-clause-refused g c = search rules
+
+pub returns-then-is_none-clause-closed : goal.returns-then-is_none-clause-closed
+returns-then-is_none-clause-closed g c = search rules
+
+pub returns-then-is_none-clause-sound : goal.returns-then-is_none-clause-sound
+returns-then-is_none-clause-sound g c = search rules
+
+pub returns-in_default-clause-ready : goal.returns-in_default-clause-ready
+returns-in_default-clause-ready g c = search rules
+
+pub returns-in_default-clause-ahead : goal.returns-in_default-clause-ahead
+returns-in_default-clause-ahead g c = search rules
+
+pub returns-in_default-clause-refused : goal.returns-in_default-clause-refused
+returns-in_default-clause-refused g c = search rules
+
+pub returns-in_default-clause-closed : goal.returns-in_default-clause-closed
+returns-in_default-clause-closed g c = search rules
+
+pub returns-in_default-clause-no_game : goal.returns-in_default-clause-no_game
+returns-in_default-clause-no_game g c = search rules
+
+pub returns-in_default-clause-sound : goal.returns-in_default-clause-sound
+returns-in_default-clause-sound g c = search rules
+
+pub work-requires : goal.work-requires
+work-requires g c = search rules
+
+pub returns-in-Err-clause-ready : goal.returns-in-Err-clause-ready
+returns-in-Err-clause-ready g c = search rules
+
+pub returns-in-Err-clause-ahead : goal.returns-in-Err-clause-ahead
+returns-in-Err-clause-ahead g c =
+    let file = c.args.self.now.file in
+    ahead_then
+    (left_so (g.F.Table.fails file c.work.new.table) c.in-Err.fault c.in-Err.ensures.left (λ ahead. g.met.F.GameFile.goes_ahead file c.work.new.table ahead)
+    (λ f fails. g.met.F.GameFile.fails_ahead file c.work.new.table f fails))
+    c.discard.ensures.ahead
+
+pub returns-in-Err-clause-closed : goal.returns-in-Err-clause-closed
+returns-in-Err-clause-closed g c = search rules
+
+pub returns-in-Err-clause-no_game : goal.returns-in-Err-clause-no_game
+returns-in-Err-clause-no_game g c = search rules
+
+pub returns-in-Err-clause-sound : goal.returns-in-Err-clause-sound
+returns-in-Err-clause-sound g c = search rules
+
+pub returns-in_err-commit-clause-ahead : goal.returns-in_err-commit-clause-ahead
+returns-in_err-commit-clause-ahead g c = ahead_then (g.met.F.GameFile.goes_ahead c.args.self.now.file c.work.new.table c.in-Ok.ensures.ahead) c.commit.ensures.ahead
+
+pub returns-in_err-commit-clause-done : goal.returns-in_err-commit-clause-done
+returns-in_err-commit-clause-done g c = search rules
+
+pub returns-in_err-commit-clause-closed : goal.returns-in_err-commit-clause-closed
+returns-in_err-commit-clause-closed g c = search rules
+
+pub returns-in_err-commit-clause-no_game : goal.returns-in_err-commit-clause-no_game
+returns-in_err-commit-clause-no_game g c = search rules
+
+pub returns-in_err-commit-clause-idle : goal.returns-in_err-commit-clause-idle
+returns-in_err-commit-clause-idle g c = search rules
+
+pub returns-in_ok-commit-clause-ahead : goal.returns-in_ok-commit-clause-ahead
+returns-in_ok-commit-clause-ahead g c = ahead_then (g.met.F.GameFile.goes_ahead c.args.self.now.file c.work.new.table c.in-Ok.ensures.ahead) c.commit.ensures.ahead
+
+pub returns-in_ok-commit-clause-closed : goal.returns-in_ok-commit-clause-closed
+returns-in_ok-commit-clause-closed g c = search rules
+
+pub returns-in_ok-commit-clause-no_game : goal.returns-in_ok-commit-clause-no_game
+returns-in_ok-commit-clause-no_game g c = search rules
+
+pub returns-in_ok-commit-clause-idle : goal.returns-in_ok-commit-clause-idle
+returns-in_ok-commit-clause-idle g c = search rules
+
+pub returns-else-done-gt0-clause-ready : goal.returns-else-done-gt0-clause-ready
+returns-else-done-gt0-clause-ready g c = search rules
+
+pub returns-else-done-gt0-clause-ahead : goal.returns-else-done-gt0-clause-ahead
+returns-else-done-gt0-clause-ahead g c = search rules
+
+pub returns-else-done-gt0-clause-closed : goal.returns-else-done-gt0-clause-closed
+returns-else-done-gt0-clause-closed g c = search rules
+
+pub returns-else-done-gt0-clause-no_game : goal.returns-else-done-gt0-clause-no_game
+returns-else-done-gt0-clause-no_game g c = search rules
+
+pub returns-else-done-gt0-clause-sound : goal.returns-else-done-gt0-clause-sound
+returns-else-done-gt0-clause-sound g c = search rules
