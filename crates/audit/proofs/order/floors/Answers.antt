@@ -1,4 +1,5 @@
-use Rattle.std.proofs.Common.{◌≡◌, ◌<◌, sym, ap, rules, subst, ℕ, List, Some, length, arith, slice_get, slice_set}
+use Rattle.audit.proofs.Passing.{passed_on, table_narrow}
+use Rattle.std.proofs.Common.{◌≡◌, ◌<◌, sym, ap, subst, ℕ, List, Some, length, arith, slice_get, slice_set, ◌∙◌}
 use Rattle.retrograde.specs.declared.records.Counts.{Counts}
 use Rattle.retrograde.specs.Stored.{Stored, IsTable}
 use Rattle.retrograde.proofs.Finished.{element}
@@ -26,11 +27,11 @@ place_here g c = λ honest table.
 
 pub loop-place-preserved : goal.loop-place-preserved
 loop-place-preserved g c = record {
-  lengths = search rules;
-  counts = search rules;
+  lengths = c.in_ok-last.ensures.lengths ∙ c.loop-place.invariant.lengths;
+  counts = c.in_ok-last.ensures.counts ∙ c.loop-place.invariant.counts;
   stays = g.met.T.Table.stays_then _ _ _ c.loop-place.invariant.stays c.in_ok-last.ensures.stays;
-  honest = search rules;
-  same = search rules;
+  honest = (λ h. c.in_ok-last.ensures.honest.0 (c.loop-place.invariant.honest.0 h), λ h. c.loop-place.invariant.honest.1 (c.in_ok-last.ensures.honest.1 h));
+  same = λ h. c.in_ok-last.ensures.same (c.loop-place.invariant.honest.0 h) ∙ c.loop-place.invariant.same h;
   last = λ honest table.
       let (i, at, (distance, _, _)) = place_here g c honest table in
       distance_next (g.T.Table.stored c.args.table.now) c.loop-place.place i c.in_ok-last.last at distance;
@@ -39,3 +40,48 @@ loop-place-preserved g c = record {
       floors_step (g.T.Table.stored c.args.table.now) table c.loop-place.place i c.loop-place.last c.loop-place.floors.items c.write_floor.new.floors.items
       (c.loop-place.invariant.floors honest table) at (c.loop-place.invariant.last honest table) within written;
 }
+
+pub returns-in_err-last-clause-same : goal.returns-in_err-last-clause-same
+returns-in_err-last-clause-same g c =
+    λ h. c.in_err-last.ensures.same (c.loop-place.invariant.honest.0 h) ∙ c.loop-place.invariant.same h
+
+pub returns-in_err-last-clause-honest : goal.returns-in_err-last-clause-honest
+returns-in_err-last-clause-honest g c =
+    (λ h. c.in_err-last.ensures.honest.0 (c.loop-place.invariant.honest.0 h), λ h. c.loop-place.invariant.honest.1 (c.in_err-last.ensures.honest.1 h))
+
+pub returns-in_err-last-clause-counts : goal.returns-in_err-last-clause-counts
+returns-in_err-last-clause-counts g c =
+    c.in_err-last.ensures.counts ∙ c.loop-place.invariant.counts
+
+pub returns-in_err-last-clause-stays : goal.returns-in_err-last-clause-stays
+returns-in_err-last-clause-stays g c =
+    g.met.T.Table.stays_then _ _ _ c.loop-place.invariant.stays c.in_err-last.ensures.stays
+
+pub returns-in_err-last-clause-room : goal.returns-in_err-last-clause-room
+returns-in_err-last-clause-room g c =
+    passed_on _ c.from_residual-in_err-last.result _ c.from_residual-in_err-last.ensures c.in_err-last.ensures.room
+
+pub returns-in_err-last-clause-fault : goal.returns-in_err-last-clause-fault
+returns-in_err-last-clause-fault g c =
+    passed_on _ c.from_residual-in_err-last.result _ c.from_residual-in_err-last.ensures
+    (g.met.T.Table.fails_since _ _ _ _ (g.met.T.Table.stays_goes_on _ _ c.loop-place.invariant.stays) c.in_err-last.ensures.fault)
+
+pub returns-in_err-last-clause-narrow : goal.returns-in_err-last-clause-narrow
+returns-in_err-last-clause-narrow g c =
+    passed_on _ c.from_residual-in_err-last.result _ c.from_residual-in_err-last.ensures (table_narrow _)
+
+pub returns-clause-same : goal.returns-clause-same
+returns-clause-same g c =
+    λ h. c.loop-place.invariant.same h
+
+pub returns-clause-honest : goal.returns-clause-honest
+returns-clause-honest g c =
+    (λ h. c.loop-place.invariant.honest.0 h, λ h. c.loop-place.invariant.honest.1 h)
+
+pub returns-clause-counts : goal.returns-clause-counts
+returns-clause-counts g c =
+    c.loop-place.invariant.counts
+
+pub returns-clause-stays : goal.returns-clause-stays
+returns-clause-stays g c =
+    c.loop-place.invariant.stays

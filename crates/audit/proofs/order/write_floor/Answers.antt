@@ -1,3 +1,4 @@
+use Rattle.audit.proofs.Passing.{passed_on}
 use Rattle.std.proofs.Common.{◌≡◌, ◌∙◌, ◌<◌, sym, ap, subst, ℕ, List, Option, Some, length, arith, slice_get, slice_set}
 use Rattle.std.proofs.lemmas.Option.{same_Some}
 use Rattle.retrograde.specs.declared.records.Counts.{Counts}
@@ -28,3 +29,85 @@ returns-then-number-len-clause-written g c = λ honest table i at.
     let count = ap (λ (k : Counts). k.known) (g.met.T.Table.counts_are c.args.table.now honest) in
     let within = in_range (g.T.Table.stored c.args.table.now) table c.args.place i at in
     absurd (omega (arith, same, count, within, c.requires.lengths, c.if-number-len.true))
+
+pub returns-in_err-number-clause-same : goal.returns-in_err-number-clause-same
+returns-in_err-number-clause-same g c =
+    λ h. c.in_err-number.ensures.same h
+
+pub returns-in_err-number-clause-honest : goal.returns-in_err-number-clause-honest
+returns-in_err-number-clause-honest g c =
+    (λ h. c.in_err-number.ensures.honest.0 h, λ h. c.in_err-number.ensures.honest.1 h)
+
+pub returns-in_err-number-clause-counts : goal.returns-in_err-number-clause-counts
+returns-in_err-number-clause-counts g c =
+    c.in_err-number.ensures.counts
+
+pub returns-in_err-number-clause-stays : goal.returns-in_err-number-clause-stays
+returns-in_err-number-clause-stays g c =
+    c.in_err-number.ensures.stays
+
+pub returns-in_err-number-clause-room : goal.returns-in_err-number-clause-room
+returns-in_err-number-clause-room g c =
+    passed_on _ c.from_residual.result _ c.from_residual.ensures c.in_err-number.ensures.room
+
+pub returns-in_err-number-clause-fault : goal.returns-in_err-number-clause-fault
+returns-in_err-number-clause-fault g c =
+    passed_on _ c.from_residual.result _ c.from_residual.ensures
+    c.in_err-number.ensures.fault
+
+pub returns-then-number-len-clause-same : goal.returns-then-number-len-clause-same
+returns-then-number-len-clause-same g c =
+    λ h. c.in_ok-number.ensures.same h
+
+pub returns-then-number-len-clause-honest : goal.returns-then-number-len-clause-honest
+returns-then-number-len-clause-honest g c =
+    (λ h. c.in_ok-number.ensures.honest.0 h, λ h. c.in_ok-number.ensures.honest.1 h)
+
+pub returns-then-number-len-clause-counts : goal.returns-then-number-len-clause-counts
+returns-then-number-len-clause-counts g c =
+    c.in_ok-number.ensures.counts
+
+pub returns-then-number-len-clause-stays : goal.returns-then-number-len-clause-stays
+returns-then-number-len-clause-stays g c =
+    c.in_ok-number.ensures.stays
+
+pub returns-in_err-record-clause-same : goal.returns-in_err-record-clause-same
+returns-in_err-record-clause-same g c =
+    λ h. c.in_err-record.ensures.same (c.in_ok-number.ensures.honest.0 h) ∙ c.in_ok-number.ensures.same h
+
+pub returns-in_err-record-clause-honest : goal.returns-in_err-record-clause-honest
+returns-in_err-record-clause-honest g c =
+    (λ h. c.in_err-record.ensures.honest.0 (c.in_ok-number.ensures.honest.0 h), λ h. c.in_ok-number.ensures.honest.1 (c.in_err-record.ensures.honest.1 h))
+
+pub returns-in_err-record-clause-counts : goal.returns-in_err-record-clause-counts
+returns-in_err-record-clause-counts g c =
+    c.in_err-record.ensures.counts ∙ c.in_ok-number.ensures.counts
+
+pub returns-in_err-record-clause-stays : goal.returns-in_err-record-clause-stays
+returns-in_err-record-clause-stays g c =
+    g.met.T.Table.stays_then _ _ _ c.in_ok-number.ensures.stays c.in_err-record.ensures.stays
+
+pub returns-in_err-record-clause-room : goal.returns-in_err-record-clause-room
+returns-in_err-record-clause-room g c =
+    passed_on _ c.from_residual-in_err-record.result _ c.from_residual-in_err-record.ensures c.in_err-record.ensures.room
+
+pub returns-in_err-record-clause-fault : goal.returns-in_err-record-clause-fault
+returns-in_err-record-clause-fault g c =
+    passed_on _ c.from_residual-in_err-record.result _ c.from_residual-in_err-record.ensures
+    (g.met.T.Table.fails_since _ _ _ _ (g.met.T.Table.stays_goes_on _ _ c.in_ok-number.ensures.stays) c.in_err-record.ensures.fault)
+
+pub returns-clause-same : goal.returns-clause-same
+returns-clause-same g c =
+    λ h. c.in_ok-record.ensures.same (c.in_ok-number.ensures.honest.0 h) ∙ c.in_ok-number.ensures.same h
+
+pub returns-clause-honest : goal.returns-clause-honest
+returns-clause-honest g c =
+    (λ h. c.in_ok-record.ensures.honest.0 (c.in_ok-number.ensures.honest.0 h), λ h. c.in_ok-number.ensures.honest.1 (c.in_ok-record.ensures.honest.1 h))
+
+pub returns-clause-counts : goal.returns-clause-counts
+returns-clause-counts g c =
+    c.in_ok-record.ensures.counts ∙ c.in_ok-number.ensures.counts
+
+pub returns-clause-stays : goal.returns-clause-stays
+returns-clause-stays g c =
+    g.met.T.Table.stays_then _ _ _ c.in_ok-number.ensures.stays c.in_ok-record.ensures.stays

@@ -1,4 +1,7 @@
-use Rattle.std.proofs.Common.{◌≡◌, ◌∙◌, ◌<◌, ap, subst, rules, ℕ, List, None, refl, true, eqb, length, slice_get, get_or, arith}
+use Rattle.audit.specs.Causes.{HasWide}
+use Rattle.audit.specs.declared.fault.AuditFault.{AuditFault}
+use Rattle.audit.proofs.Passing.{passed_on, not_this, ok_differs, of_table_after}
+use Rattle.std.proofs.Common.{◌≡◌, ◌∙◌, ◌<◌, ap, subst, rules, ℕ, List, None, refl, true, eqb, length, slice_get, get_or, arith, Err}
 use Rattle.std.proofs.lemmas.Option.{slice_get-get_or}
 use Rattle.retrograde.specs.declared.records.Counts.{Counts}
 use Rattle.retrograde.specs.View.{HasNumber}
@@ -24,10 +27,10 @@ loop-number-preserved g c = record {
   source = refl;
   few_moves = search rules;
   few_edges = search rules;
-  counts = search rules;
+  counts = c.in_ok-tally.ensures.counts ∙ c.loop-number.invariant.counts;
   stays = g.met.T.Table.stays_then _ _ _ c.loop-number.invariant.stays c.in_ok-tally.ensures.stays;
-  honest = search rules;
-  same = search rules;
+  honest = (λ h. c.in_ok-tally.ensures.honest.0 (c.loop-number.invariant.honest.0 h), λ h. c.loop-number.invariant.honest.1 (c.in_ok-tally.ensures.honest.1 h));
+  same = λ h. c.in_ok-tally.ensures.same (c.loop-number.invariant.honest.0 h) ∙ c.loop-number.invariant.same h;
   moves = λ honest.
       let h = c.loop-number.invariant.honest.0 honest in
       let one = rw c.in-Some.is at c.in_ok-tally.ensures.moves h in
@@ -59,3 +62,74 @@ loop-number-preserved g c = record {
       → c.loop-number.number < expanded_count t → IsWide x → ⊥) same narrow in
       own_more graph IsWide stored c.loop-number.number (c.loop-number.invariant.sound honest table floors) (holds' table floor) narrow';
 }
+
+pub returns-in_err-tally-clause-same : goal.returns-in_err-tally-clause-same
+returns-in_err-tally-clause-same g c =
+    λ h. c.in_err-tally.ensures.same (c.loop-number.invariant.honest.0 h) ∙ c.loop-number.invariant.same h
+
+pub returns-in_err-tally-clause-honest : goal.returns-in_err-tally-clause-honest
+returns-in_err-tally-clause-honest g c =
+    (λ h. c.in_err-tally.ensures.honest.0 (c.loop-number.invariant.honest.0 h), λ h. c.loop-number.invariant.honest.1 (c.in_err-tally.ensures.honest.1 h))
+
+pub returns-in_err-tally-clause-counts : goal.returns-in_err-tally-clause-counts
+returns-in_err-tally-clause-counts g c =
+    c.in_err-tally.ensures.counts ∙ c.loop-number.invariant.counts
+
+pub returns-in_err-tally-clause-stays : goal.returns-in_err-tally-clause-stays
+returns-in_err-tally-clause-stays g c =
+    g.met.T.Table.stays_then _ _ _ c.loop-number.invariant.stays c.in_err-tally.ensures.stays
+
+pub returns-in_err-tally-clause-room : goal.returns-in_err-tally-clause-room
+returns-in_err-tally-clause-room g c =
+    passed_on _ c.from_residual.result _ c.from_residual.ensures c.in_err-tally.ensures.room
+
+pub returns-in_err-tally-clause-fault : goal.returns-in_err-tally-clause-fault
+returns-in_err-tally-clause-fault g c =
+    passed_on _ c.from_residual.result _ c.from_residual.ensures
+    (of_table_after _ _ _ (λ fault. g.met.T.Table.fails_since _ _ _ fault (g.met.T.Table.stays_goes_on _ _ c.loop-number.invariant.stays)) c.in_err-tally.ensures.fault)
+
+pub returns-in_err-tally-clause-wide : goal.returns-in_err-tally-clause-wide
+returns-in_err-tally-clause-wide g c =
+    λ honest is.
+    subst (λ (t : Stored (List ℕ)). HasWide (g.M.GameGraph.is_wide c.args.source.now) t) (c.loop-number.invariant.same honest)
+    (c.in_err-tally.ensures.wide (c.loop-number.invariant.honest.0 honest) (ap (λ (f : AuditFault). Err f) (not_this c.from_residual.result _ _ c.from_residual.ensures is)))
+
+pub returns-in_default-clause-same : goal.returns-in_default-clause-same
+returns-in_default-clause-same g c =
+    λ h. c.in_ok-tally.ensures.same (c.loop-number.invariant.honest.0 h) ∙ c.loop-number.invariant.same h
+
+pub returns-in_default-clause-honest : goal.returns-in_default-clause-honest
+returns-in_default-clause-honest g c =
+    (λ h. c.in_ok-tally.ensures.honest.0 (c.loop-number.invariant.honest.0 h), λ h. c.loop-number.invariant.honest.1 (c.in_ok-tally.ensures.honest.1 h))
+
+pub returns-in_default-clause-counts : goal.returns-in_default-clause-counts
+returns-in_default-clause-counts g c =
+    c.in_ok-tally.ensures.counts ∙ c.loop-number.invariant.counts
+
+pub returns-in_default-clause-stays : goal.returns-in_default-clause-stays
+returns-in_default-clause-stays g c =
+    g.met.T.Table.stays_then _ _ _ c.loop-number.invariant.stays c.in_ok-tally.ensures.stays
+
+pub returns-in_default-clause-wide : goal.returns-in_default-clause-wide
+returns-in_default-clause-wide g c =
+    λ honest is. absurd (ok_differs _ _ is)
+
+pub returns-clause-same : goal.returns-clause-same
+returns-clause-same g c =
+    λ h. c.loop-number.invariant.same h
+
+pub returns-clause-honest : goal.returns-clause-honest
+returns-clause-honest g c =
+    (λ h. c.loop-number.invariant.honest.0 h, λ h. c.loop-number.invariant.honest.1 h)
+
+pub returns-clause-counts : goal.returns-clause-counts
+returns-clause-counts g c =
+    c.loop-number.invariant.counts
+
+pub returns-clause-stays : goal.returns-clause-stays
+returns-clause-stays g c =
+    c.loop-number.invariant.stays
+
+pub returns-clause-wide : goal.returns-clause-wide
+returns-clause-wide g c =
+    λ honest is. absurd (ok_differs _ _ is)

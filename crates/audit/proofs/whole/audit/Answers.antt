@@ -1,4 +1,6 @@
-use Rattle.std.proofs.Common.{◌≡◌, ◌∙◌, subst, ℕ, List, Bool, true, length}
+use Rattle.audit.specs.Causes.{HasWide}
+use Rattle.audit.proofs.Passing.{passed_on, not_this, ok_differs, of_table_after}
+use Rattle.std.proofs.Common.{◌≡◌, ◌∙◌, subst, ℕ, List, Bool, true, length, ap, Err}
 use Rattle.std.specs.Prelude.{IfOk, Ok}
 use Rattle.std.specs.declared.result.Result.{Result}
 use Rattle.retrograde.specs.Stored.{Stored, IsTable}
@@ -61,3 +63,99 @@ returns-clause-so g c = λ honest table is.
     → IfOk c.first_wrong.result (IsAnswer graph IsWide t))
     (c.in_ok-adds_up.ensures.same h1 ∙ c.in_ok-floors.ensures.same honest) (rw c.deref-2.ensures.value at c.first_wrong.ensures.answer h2) in
     right_so graph IsWide stored table (rw is at answer table (c.in_ok-floors.ensures.floors honest table))
+
+pub returns-in_err-floors-clause-same : goal.returns-in_err-floors-clause-same
+returns-in_err-floors-clause-same g c =
+    λ h. c.in_err-floors.ensures.same h
+
+pub returns-in_err-floors-clause-honest : goal.returns-in_err-floors-clause-honest
+returns-in_err-floors-clause-honest g c =
+    (λ h. c.in_err-floors.ensures.honest.0 h, λ h. c.in_err-floors.ensures.honest.1 h)
+
+pub returns-in_err-floors-clause-counts : goal.returns-in_err-floors-clause-counts
+returns-in_err-floors-clause-counts g c =
+    c.in_err-floors.ensures.counts
+
+pub returns-in_err-floors-clause-stays : goal.returns-in_err-floors-clause-stays
+returns-in_err-floors-clause-stays g c =
+    c.in_err-floors.ensures.stays
+
+pub returns-in_err-floors-clause-room : goal.returns-in_err-floors-clause-room
+returns-in_err-floors-clause-room g c =
+    passed_on _ c.from_residual.result _ c.from_residual.ensures c.in_err-floors.ensures.room
+
+pub returns-in_err-floors-clause-fault : goal.returns-in_err-floors-clause-fault
+returns-in_err-floors-clause-fault g c =
+    passed_on _ c.from_residual.result _ c.from_residual.ensures
+    c.in_err-floors.ensures.fault
+
+pub returns-in_err-floors-clause-wide : goal.returns-in_err-floors-clause-wide
+returns-in_err-floors-clause-wide g c =
+    λ honest is. absurd (c.in_err-floors.ensures.narrow (not_this c.from_residual.result _ _ c.from_residual.ensures is))
+
+pub returns-in_err-adds_up-clause-same : goal.returns-in_err-adds_up-clause-same
+returns-in_err-adds_up-clause-same g c =
+    λ h. c.in_err-adds_up.ensures.same (c.in_ok-floors.ensures.honest.0 h) ∙ c.in_ok-floors.ensures.same h
+
+pub returns-in_err-adds_up-clause-honest : goal.returns-in_err-adds_up-clause-honest
+returns-in_err-adds_up-clause-honest g c =
+    (λ h. c.in_err-adds_up.ensures.honest.0 (c.in_ok-floors.ensures.honest.0 h), λ h. c.in_ok-floors.ensures.honest.1 (c.in_err-adds_up.ensures.honest.1 h))
+
+pub returns-in_err-adds_up-clause-counts : goal.returns-in_err-adds_up-clause-counts
+returns-in_err-adds_up-clause-counts g c =
+    c.in_err-adds_up.ensures.counts ∙ c.in_ok-floors.ensures.counts
+
+pub returns-in_err-adds_up-clause-stays : goal.returns-in_err-adds_up-clause-stays
+returns-in_err-adds_up-clause-stays g c =
+    g.met.T.Table.stays_then _ _ _ c.in_ok-floors.ensures.stays c.in_err-adds_up.ensures.stays
+
+pub returns-in_err-adds_up-clause-room : goal.returns-in_err-adds_up-clause-room
+returns-in_err-adds_up-clause-room g c =
+    passed_on _ c.from_residual-in_err-adds_up.result _ c.from_residual-in_err-adds_up.ensures c.in_err-adds_up.ensures.room
+
+pub returns-in_err-adds_up-clause-fault : goal.returns-in_err-adds_up-clause-fault
+returns-in_err-adds_up-clause-fault g c =
+    passed_on _ c.from_residual-in_err-adds_up.result _ c.from_residual-in_err-adds_up.ensures
+    (of_table_after _ _ _ (λ fault. g.met.T.Table.fails_since _ _ _ fault (g.met.T.Table.stays_goes_on _ _ c.in_ok-floors.ensures.stays)) c.in_err-adds_up.ensures.fault)
+
+pub returns-in_err-adds_up-clause-wide : goal.returns-in_err-adds_up-clause-wide
+returns-in_err-adds_up-clause-wide g c =
+    λ honest is.
+    subst (λ (t : Stored (List ℕ)). HasWide (g.M.GameGraph.is_wide c.args.source.now) t) (c.in_ok-floors.ensures.same honest)
+    (c.in_err-adds_up.ensures.wide (c.in_ok-floors.ensures.honest.0 honest) (ap (λ (f : AuditFault). Err f) (not_this c.from_residual-in_err-adds_up.result _ _ c.from_residual-in_err-adds_up.ensures is)))
+
+pub returns-then-branch-clause-same : goal.returns-then-branch-clause-same
+returns-then-branch-clause-same g c =
+    λ h. c.in_ok-adds_up.ensures.same (c.in_ok-floors.ensures.honest.0 h) ∙ c.in_ok-floors.ensures.same h
+
+pub returns-then-branch-clause-honest : goal.returns-then-branch-clause-honest
+returns-then-branch-clause-honest g c =
+    (λ h. c.in_ok-adds_up.ensures.honest.0 (c.in_ok-floors.ensures.honest.0 h), λ h. c.in_ok-floors.ensures.honest.1 (c.in_ok-adds_up.ensures.honest.1 h))
+
+pub returns-then-branch-clause-counts : goal.returns-then-branch-clause-counts
+returns-then-branch-clause-counts g c =
+    c.in_ok-adds_up.ensures.counts ∙ c.in_ok-floors.ensures.counts
+
+pub returns-then-branch-clause-stays : goal.returns-then-branch-clause-stays
+returns-then-branch-clause-stays g c =
+    g.met.T.Table.stays_then _ _ _ c.in_ok-floors.ensures.stays c.in_ok-adds_up.ensures.stays
+
+pub returns-then-branch-clause-wide : goal.returns-then-branch-clause-wide
+returns-then-branch-clause-wide g c =
+    λ honest is. absurd (ok_differs _ _ is)
+
+pub returns-clause-same : goal.returns-clause-same
+returns-clause-same g c =
+    λ h. c.first_wrong.ensures.same (c.in_ok-adds_up.ensures.honest.0 (c.in_ok-floors.ensures.honest.0 h)) ∙ (c.in_ok-adds_up.ensures.same (c.in_ok-floors.ensures.honest.0 h) ∙ c.in_ok-floors.ensures.same h)
+
+pub returns-clause-honest : goal.returns-clause-honest
+returns-clause-honest g c =
+    (λ h. c.first_wrong.ensures.honest.0 (c.in_ok-adds_up.ensures.honest.0 (c.in_ok-floors.ensures.honest.0 h)), λ h. c.in_ok-floors.ensures.honest.1 (c.in_ok-adds_up.ensures.honest.1 (c.first_wrong.ensures.honest.1 h)))
+
+pub returns-clause-counts : goal.returns-clause-counts
+returns-clause-counts g c =
+    c.first_wrong.ensures.counts ∙ (c.in_ok-adds_up.ensures.counts ∙ c.in_ok-floors.ensures.counts)
+
+pub returns-clause-stays : goal.returns-clause-stays
+returns-clause-stays g c =
+    g.met.T.Table.stays_then _ _ _ (g.met.T.Table.stays_then _ _ _ c.in_ok-floors.ensures.stays c.in_ok-adds_up.ensures.stays) c.first_wrong.ensures.stays
