@@ -1,5 +1,6 @@
 pub mod NumberLemmas
 pub mod NotedLemmas
+pub mod Counted
 pub mod Passing
 pub mod DoneLemmas
 pub mod ExpandLemmas

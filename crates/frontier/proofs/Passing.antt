@@ -23,6 +23,16 @@ pub fault_is : {X : Type 0} (r : Result X StepFault) (fault : StepFault) → IsE
 fault_is (Ok x) fault is same = absurd is.1
 fault_is (Err f) fault is same = let here : f ≡ Inconsistent = cc in sym is.1 ∙ here
 
+-- what these are not
+pub table_consistent : (fault : TableFault) → Table fault ≡ Inconsistent → ⊥
+table_consistent fault is = cc
+
+pub choice_consistent : {X : Type 0} (number : ℕ) → ◌≡◌ {A = Result X StepFault} (Err (KeeperChooses number)) (Err Inconsistent) → ⊥
+choice_consistent number is = cc
+
+pub limit_consistent : {X : Type 0} → ◌≡◌ {A = Result X StepFault} (Err TooManyPositions) (Err Inconsistent) → ⊥
+limit_consistent is = cc
+
 -- after calls that were answered
 pub leaves_after : (Ahead On : Type 0) (Fails Since : TableFault → Type 0) (fault : StepFault) → (Ahead → On) → ((f : TableFault) → Fails f → Since f)
     → Leaves Ahead Fails fault → Leaves On Since fault

@@ -14,7 +14,8 @@ use Rattle.retrograde.proofs.Expands.{choice, no_choice}
 use Rattle.frontier.specs.aid.Numbering.{AreNumbersOf}
 use Rattle.frontier.proofs.NumberLemmas.{too_many}
 use Rattle.frontier.specs.declared.fault.StepFault.{StepFault}
-use Rattle.frontier.proofs.Passing.{passed_on, consistent, fault_is, leaves_after, search_leaves, search_consistent, search_cause}
+use Rattle.frontier.proofs.Counted.{below, full_or_not, waits, waits_still, grew, more_known}
+use Rattle.frontier.proofs.Passing.{passed_on, table_consistent, choice_consistent, limit_consistent, consistent, fault_is, leaves_after, search_leaves, search_consistent, search_cause}
 use Rattle.frontier.proofs.ExpandLemmas.{IsDone, successor_list, done, fits, room}
 use Rattle.frontier.proofs.expand.expand_one.Given
 use Rattle.frontier.proofs.expand.expand_one.Goals as goal
@@ -64,11 +65,11 @@ returns-in_err-finish-clause-consistent g c = λ honest sound is.
     let noted = subst (λ (t : Stored (List ℕ)). AreNoted c.counts-before.result.expanded ys t (g.T.Table.stored c.note_all.new.table)) same (rw c.deref-3.ensures.value at c.in_ok-note_all.ensures.noted h2) in
     let counts = g.met.T.Table.counts_are c.args.table.now honest in
     let waiting : expanded_count (g.T.Table.stored c.args.table.now) < length (g.T.Table.stored c.args.table.now).positions =
-    omega (arith, ap (λ (k : Counts). k.expanded) counts, ap (λ (k : Counts). k.known) counts, c.requires.waiting) in
+    subst (λ (k : Counts). k.expanded < k.known) counts c.requires.waiting in
     let fits : length (g.T.Table.stored c.note_all.new.table).order < length (g.T.Table.stored c.note_all.new.table).positions
     = room (g.M.GameGraph.graph c.args.source.now) (g.M.GameGraph.is_wide c.args.source.now) (g.T.Table.stored c.args.table.now) sound ys (g.T.Table.stored c.note_all.new.table) c.counts-before.result.expanded noted waiting in
     let full : length (g.T.Table.stored c.note_all.new.table).positions ≤ length (g.T.Table.stored c.note_all.new.table).order = c.in_err-finish.ensures.full h3 (ap (λ (f : StepFault). Err f) (fault_is c.from_residual-in_err-finish.result _ c.from_residual-in_err-finish.ensures is)) in
-    omega arith
+    full_or_not _ _ fits full
 
 -- what the unit has done
 is_done : (g : Given.Over) (c : goal.After-drop-found-2 g) → g.T.Table.is_honest c.args.table.now
@@ -88,10 +89,9 @@ is_done g c honest sound =
     let same = c.in_ok-numbers.ensures.same h1 ∙ c.in_ok-packed.ensures.same honest in
     let noted = subst (λ (t : Stored (List ℕ)). AreNoted c.counts-before.result.expanded ys t (g.T.Table.stored c.note_all.new.table)) same (rw c.deref-3.ensures.value at c.in_ok-note_all.ensures.noted h2) in
     let count = ap (λ (k : Counts). k.known) (g.met.T.Table.counts_are c.finish.new.table h4) in
-    let before = ap (λ (k : Counts). k.known) c.in_ok-packed.ensures.counts in
-    let between = ap (λ (k : Counts). k.known) c.in_ok-numbers.ensures.counts in
-    let few' = c.in_ok-note_all.ensures.room (omega (arith, before, between, c.requires.limit)) in
-    let room : length (g.T.Table.stored c.finish.new.table).positions ≤ 2 ^ 24 = omega (arith, count, few', c.in_ok-finish.ensures.known) in
+    let few' = c.in_ok-note_all.ensures.room (subst (λ (k : Counts). k.known ≤ 2 ^ 24) (sym (c.in_ok-numbers.ensures.counts ∙ c.in_ok-packed.ensures.counts)) c.requires.limit) in
+    let room : length (g.T.Table.stored c.finish.new.table).positions ≤ 2 ^ 24 =
+    subst (λ (n : ℕ). n ≤ 2 ^ 24) count (subst (λ (n : ℕ). n ≤ 2 ^ 24) (sym c.in_ok-finish.ensures.known) few') in
     done graph (g.M.GameGraph.is_wide c.args.source.now) (g.T.Table.stored c.args.table.now) (g.T.Table.stored c.finish.new.table) sound
     c.in_ok-packed.packed.items ys (g.T.Table.stored c.note_all.new.table) c.counts-before.result.expanded _ c.ahead.result
     (ap (λ (k : Counts). k.expanded) (c.counts-before.ensures ∙ g.met.T.Table.counts_are _ honest)) (c.in_ok-packed.ensures.position honest) list forced
@@ -130,7 +130,7 @@ returns-in_err-packed-clause-unchanged g c =
 
 pub returns-in_err-packed-clause-consistent : goal.returns-in_err-packed-clause-consistent
 returns-in_err-packed-clause-consistent g c =
-    λ honest sound. consistent c.from_residual.result _ c.from_residual.ensures (λ is. cc)
+    λ honest sound. consistent c.from_residual.result _ c.from_residual.ensures (table_consistent _)
 
 pub returns-in_err-packed-clause-left : goal.returns-in_err-packed-clause-left
 returns-in_err-packed-clause-left g c =
@@ -163,7 +163,7 @@ returns-then-keeper_chooses-clause-unchanged g c =
 
 pub returns-then-keeper_chooses-clause-consistent : goal.returns-then-keeper_chooses-clause-consistent
 returns-then-keeper_chooses-clause-consistent g c =
-    λ honest sound is. cc
+    λ honest sound is. choice_consistent _ is
 
 pub returns-then-keeper_chooses-clause-left : goal.returns-then-keeper_chooses-clause-left
 returns-then-keeper_chooses-clause-left g c =
@@ -171,11 +171,11 @@ returns-then-keeper_chooses-clause-left g c =
 
 pub numbers_of-requires-clause-few : goal.numbers_of-requires-clause-few
 numbers_of-requires-clause-few g c =
-    let same = ap (λ (xs : List (ArrayVec ℕ)). length xs) c.deref.ensures.value in omega (arith, c.in_ok-found.ensures.few, c.in_ok-found.found.ok.0)
+    subst (λ (n : ℕ). n ≤ 65536) (sym c.deref.ensures.len) c.in_ok-found.ensures.few
 
 pub numbers_of-requires-clause-limit : goal.numbers_of-requires-clause-limit
 numbers_of-requires-clause-limit g c =
-    let same = ap (λ (k : Counts). k.known) c.in_ok-packed.ensures.counts in omega (arith, c.requires.limit)
+    subst (λ (k : Counts). k.known ≤ 2 ^ 24) (sym c.in_ok-packed.ensures.counts) c.requires.limit
 
 pub returns-in_err-numbers-clause-cause : goal.returns-in_err-numbers-clause-cause
 returns-in_err-numbers-clause-cause g c =
@@ -232,7 +232,7 @@ returns-then-numbers-gt-MAX_POSITIONS-clause-unchanged g c =
 
 pub returns-then-numbers-gt-MAX_POSITIONS-clause-consistent : goal.returns-then-numbers-gt-MAX_POSITIONS-clause-consistent
 returns-then-numbers-gt-MAX_POSITIONS-clause-consistent g c =
-    λ honest sound is. cc
+    λ honest sound is. limit_consistent is
 
 pub returns-then-numbers-gt-MAX_POSITIONS-clause-left : goal.returns-then-numbers-gt-MAX_POSITIONS-clause-left
 returns-then-numbers-gt-MAX_POSITIONS-clause-left g c =
@@ -240,10 +240,7 @@ returns-then-numbers-gt-MAX_POSITIONS-clause-left g c =
 
 pub note_all-requires-clause-predecessor : goal.note_all-requires-clause-predecessor
 note_all-requires-clause-predecessor g c =
-    let before = ap (λ (k : Counts). k.known) c.in_ok-packed.ensures.counts in
-    let between = ap (λ (k : Counts). k.known) c.in_ok-numbers.ensures.counts in
-    let count = ap (λ (k : Counts). k.expanded) c.counts-before.ensures in
-    omega (arith, c.requires.waiting)
+    waits c.counts-before.result _ _ c.counts-before.ensures (c.in_ok-numbers.ensures.counts ∙ c.in_ok-packed.ensures.counts) c.requires.waiting
 
 pub note_all-requires-clause-lengths : goal.note_all-requires-clause-lengths
 note_all-requires-clause-lengths g c =
@@ -253,7 +250,7 @@ note_all-requires-clause-lengths g c =
 pub note_all-requires-clause-limit : goal.note_all-requires-clause-limit
 note_all-requires-clause-limit g c =
     subst (λ (ns : List ℕ). All (λ i. i < 2 ^ 24) ns) (sym c.deref-2.ensures.value)
-    (λ k d inside. omega (arith, c.in_ok-numbers.ensures.within k d inside, c.if-numbers-gt-MAX_POSITIONS.false))
+    (λ k d inside. below _ c.in_ok-numbers.numbers.next _ (c.in_ok-numbers.ensures.within k d inside) c.if-numbers-gt-MAX_POSITIONS.false)
 
 pub note_all-requires-clause-numbers : goal.note_all-requires-clause-numbers
 note_all-requires-clause-numbers g c =
@@ -266,21 +263,11 @@ note_all-requires-clause-numbers g c =
 
 pub finish-requires : goal.finish-requires
 finish-requires g c =
-    let before = ap (λ (k : Counts). k.known) c.in_ok-packed.ensures.counts in
-    let between = ap (λ (k : Counts). k.known) c.in_ok-numbers.ensures.counts in
-    let count = ap (λ (k : Counts). k.expanded) c.counts-before.ensures in
-    let more = c.in_ok-note_all.ensures.more in
-    omega (arith, c.requires.waiting)
+    waits_still c.counts-before.result _ _ c.counts-before.ensures (c.in_ok-numbers.ensures.counts ∙ c.in_ok-packed.ensures.counts) _ c.in_ok-note_all.ensures.more c.requires.waiting
 
 pub overflow_sub-result : goal.overflow_sub-result
 overflow_sub-result g c =
-    let before = ap (λ (k : Counts). k.known) c.in_ok-packed.ensures.counts in
-    let between = ap (λ (k : Counts). k.known) c.in_ok-numbers.ensures.counts in
-    let count = ap (λ (k : Counts). k.known) c.counts-before.ensures in
-    let now = ap (λ (k : Counts). k.known) c.counts.ensures in
-    let more = c.in_ok-note_all.ensures.more in
-    let known = c.in_ok-finish.ensures.known in
-    omega arith
+    grew c.counts-before.result _ _ c.counts-before.ensures (c.in_ok-numbers.ensures.counts ∙ c.in_ok-packed.ensures.counts) _ c.in_ok-note_all.ensures.more _ _ c.in_ok-finish.ensures.known c.counts.ensures
 
 pub overflow_cast-len : goal.overflow_cast-len
 overflow_cast-len g c =
@@ -298,10 +285,8 @@ returns-clause-honest g c = (
 
 pub returns-clause-room : goal.returns-clause-room
 returns-clause-room g c =
-    let before = ap (λ (k : Counts). k.known) c.in_ok-packed.ensures.counts in
-    let between = ap (λ (k : Counts). k.known) c.in_ok-numbers.ensures.counts in
-    let few = c.in_ok-note_all.ensures.room (omega (arith, before, between, c.requires.limit)) in
-    omega (arith, few, c.in_ok-finish.ensures.known)
+    let few = c.in_ok-note_all.ensures.room (subst (λ (k : Counts). k.known ≤ 2 ^ 24) (sym (c.in_ok-numbers.ensures.counts ∙ c.in_ok-packed.ensures.counts)) c.requires.limit) in
+    subst (λ (n : ℕ). n ≤ 2 ^ 24) (sym c.in_ok-finish.ensures.known) few
 
 pub returns-clause-more : goal.returns-clause-more
 returns-clause-more g c =
@@ -309,12 +294,6 @@ returns-clause-more g c =
     let h1 = c.in_ok-packed.ensures.honest.0 honest in
     let h2 = c.in_ok-numbers.ensures.honest.0 h1 in
     let h4 = c.in_ok-finish.ensures.honest.0 (c.in_ok-note_all.ensures.honest.0 h2) in
-    let before = ap (λ (k : Counts). k.known) c.in_ok-packed.ensures.counts in
-    let between = ap (λ (k : Counts). k.known) c.in_ok-numbers.ensures.counts in
-    let more = c.in_ok-note_all.ensures.more in
-    let known = c.in_ok-finish.ensures.known in
-    let count = ap (λ (k : Counts). k.known) c.counts-before.ensures in
-    let now = ap (λ (k : Counts). k.known) c.counts.ensures in
     let first = ap (λ (k : Counts). k.known) (g.met.T.Table.counts_are c.args.table.now honest) in
     let last = ap (λ (k : Counts). k.known) (g.met.T.Table.counts_are c.finish.new.table h4) in
-    omega arith
+    more_known c.counts-before.result _ _ c.counts-before.ensures (c.in_ok-numbers.ensures.counts ∙ c.in_ok-packed.ensures.counts) _ c.in_ok-note_all.ensures.more _ _ c.in_ok-finish.ensures.known c.counts.ensures _ _ first last
