@@ -1,4 +1,4 @@
-use Rattle.std.proofs.Common.{slice_index, ◌≡◌, ◌==◌, ℕ, inr, false, ◌+◌, ◌-◌, ◌<◌, ◌≤◌, length, vec_len, Some, Err, get_or, slice_get, [], ◌∷◌, refl, sym, ap, ◌∙◌, subst, arith, length-append}
+use Rattle.std.proofs.Common.{slice_index, inl, ◌≡◌, ◌==◌, ℕ, inr, false, ◌+◌, ◌-◌, ◌<◌, ◌≤◌, length, vec_len, Some, Err, get_or, slice_get, [], ◌∷◌, refl, sym, ap, ◌∙◌, subst, arith, length-append}
 use Rattle.rbg_game.specs.Positions.{IsStateOf}
 use Rattle.rbg_game.specs.Rules.{count}
 use Rattle.rbg_game.specs.Meaning.{game_of}
@@ -25,6 +25,7 @@ use Rattle.legal_moves.proofs.GetLemmas.{slice_get-within}
 use Rattle.legal_moves.proofs.FoundLemmas.{count_whole, IsFollowed-end, IsFollowed-upto}
 use Rattle.legal_moves.proofs.ExpandLemmas.{ends_at, place_first, place_last, listed_next, skipped, past_not, number_from, number_upto, going_next, more_invalid, asked, turned, full, tried, tried_wide}
 use Rattle.legal_moves.proofs.StandingLemmas.{board_is, stood_at, any_stand}
+use Rattle.legal_moves.proofs.Exits.{refused, not_ok, no_error}
 use Rattle.legal_moves.proofs.AttemptLemmas.{state_there, state_of, attempted, filled}
 use Rattle.legal_moves.specs.declared.found.Stand.{Stand}
 use Rattle.legal_moves.proofs.LookLemmas.{seen_at, stays_there, taken_look, new_position, any_look, place_zero, going_begun, look_leads}
@@ -707,3 +708,291 @@ holds-returns-2-clause-known t c =
     let first = same_expression game same c.args.index (get_or same c.args.index 0) c.requires.same (slice_get-get_or same c.args.index 0 c.requires.pattern) in
     let told = c.in_ok-holds.ensures in
     subst (λ e. MatchBool c.in_ok-holds.holds (IsLegal game e S) (¬ IsLegal game e S) × ¬ IsWideFrom game e 0 S) (sym first) (told.answer, told.narrow refl)
+
+pub attempt-glance_at-requires : goal.attempt-glance_at-requires
+attempt-glance_at-requires t c =
+    let game = game_of c.args.self.now.game.now in
+    let e = expression_at game c.args.index in
+    let stands = c.args.found.now.stands.items in
+    let boards = c.args.found.now.boards.items in
+    let s = c.index.result.now in
+    let at_s = read_at stands c.args.at s c.requires.at c.index.ensures in
+    let B = c.index-2.result.now in
+    let at_B = read_at boards s.board B (c.requires.kept.within c.args.at s at_s) c.index-2.ensures in
+    let state_is = state_there boards stands c.args.at s B at_s at_B in
+    (omega arith, (c.requires.ready, (c.requires.same, (subst (IsStateOf game) state_is c.requires.state, (c.requires.from, (c.requires.upto, subst (λ S. IsAnswerAt game S c.args.known.now) state_is c.requires.known))))))
+
+pub attempt-returns-in-At-clause-kept : goal.attempt-returns-in-At-clause-kept
+attempt-returns-in-At-clause-kept t c = c.add.ensures.kept
+
+pub attempt-returns-in-At-clause-known : goal.attempt-returns-in-At-clause-known
+attempt-returns-in-At-clause-known t c =
+    let game = game_of c.args.self.now.game.now in
+    let e = expression_at game c.args.index in
+    let stands = c.args.found.now.stands.items in
+    let boards = c.args.found.now.boards.items in
+    let s = c.index.result.now in
+    let at_s = read_at stands c.args.at s c.requires.at c.index.ensures in
+    let B = c.index-2.result.now in
+    let at_B = read_at boards s.board B (c.requires.kept.within c.args.at s at_s) c.index-2.ensures in
+    let state_is = state_there boards stands c.args.at s B at_s at_B in
+    on_ok_weaker c.add.result (λ kept. subst (λ S. IsAnswerAt game S c.glance_at.new.known) (sym state_is) c.in_ok-glance_at.ensures.known) c.add.ensures.kept
+
+pub attempt-returns-in-Fails-clause-kept : goal.attempt-returns-in-Fails-clause-kept
+attempt-returns-in-Fails-clause-kept t c = c.requires.kept
+
+pub attempt-returns-in-Fails-clause-known : goal.attempt-returns-in-Fails-clause-known
+attempt-returns-in-Fails-clause-known t c =
+    let game = game_of c.args.self.now.game.now in
+    let e = expression_at game c.args.index in
+    let stands = c.args.found.now.stands.items in
+    let boards = c.args.found.now.boards.items in
+    let s = c.index.result.now in
+    let at_s = read_at stands c.args.at s c.requires.at c.index.ensures in
+    let B = c.index-2.result.now in
+    let at_B = read_at boards s.board B (c.requires.kept.within c.args.at s at_s) c.index-2.ensures in
+    let state_is = state_there boards stands c.args.at s B at_s at_B in
+    subst (λ S. IsAnswerAt game S c.glance_at.new.known) (sym state_is) c.in_ok-glance_at.ensures.known
+
+pub attempt-returns-in-Fails-clause-narrow : goal.attempt-returns-in-Fails-clause-narrow
+attempt-returns-in-Fails-clause-narrow t c =
+    let game = game_of c.args.self.now.game.now in
+    let e = expression_at game c.args.index in
+    let stands = c.args.found.now.stands.items in
+    let boards = c.args.found.now.boards.items in
+    let s = c.index.result.now in
+    let at_s = read_at stands c.args.at s c.requires.at c.index.ensures in
+    let B = c.index-2.result.now in
+    let at_B = read_at boards s.board B (c.requires.kept.within c.args.at s at_s) c.index-2.ensures in
+    let state_is = state_there boards stands c.args.at s B at_s at_B in
+    λ ok. subst (λ S. ¬ AsksTooMuch game e c.args.number S) (sym state_is) (c.in_ok-glance_at.ensures.narrow refl)
+
+pub attempt-returns-in-Fails-clause-tried : goal.attempt-returns-in-Fails-clause-tried
+attempt-returns-in-Fails-clause-tried t c =
+    let game = game_of c.args.self.now.game.now in
+    let e = expression_at game c.args.index in
+    let stands = c.args.found.now.stands.items in
+    let boards = c.args.found.now.boards.items in
+    let s = c.index.result.now in
+    let at_s = read_at stands c.args.at s c.requires.at c.index.ensures in
+    let B = c.index-2.result.now in
+    let at_B = read_at boards s.board B (c.requires.kept.within c.args.at s at_s) c.index-2.ensures in
+    let state_is = state_there boards stands c.args.at s B at_s at_B in
+    inl (refl, λ U. subst (λ S. ¬ EffectAt game e 1 c.args.number S U) (sym state_is) (subst (TellsAt game e c.args.number (at_vertex B s.vertex)) c.in-Fails.is c.in_ok-glance_at.ensures.tells U))
+
+pub attempt-returns-in-Fails-clause-wide : goal.attempt-returns-in-Fails-clause-wide
+attempt-returns-in-Fails-clause-wide t c = no_error
+
+pub attempt-returns-in-Writes-clause-kept : goal.attempt-returns-in-Writes-clause-kept
+attempt-returns-in-Writes-clause-kept t c = c.write.ensures.kept
+
+pub attempt-returns-in-Writes-clause-known : goal.attempt-returns-in-Writes-clause-known
+attempt-returns-in-Writes-clause-known t c =
+    let game = game_of c.args.self.now.game.now in
+    let e = expression_at game c.args.index in
+    let stands = c.args.found.now.stands.items in
+    let boards = c.args.found.now.boards.items in
+    let s = c.index.result.now in
+    let at_s = read_at stands c.args.at s c.requires.at c.index.ensures in
+    let B = c.index-2.result.now in
+    let at_B = read_at boards s.board B (c.requires.kept.within c.args.at s at_s) c.index-2.ensures in
+    let state_is = state_there boards stands c.args.at s B at_s at_B in
+    on_ok_weaker c.write.result (λ kept. subst (λ S. IsAnswerAt game S c.glance_at.new.known) (sym state_is) c.in_ok-glance_at.ensures.known) c.write.ensures.kept
+
+pub attempt-returns-in-Writes-clause-narrow : goal.attempt-returns-in-Writes-clause-narrow
+attempt-returns-in-Writes-clause-narrow t c =
+    let game = game_of c.args.self.now.game.now in
+    let e = expression_at game c.args.index in
+    let stands = c.args.found.now.stands.items in
+    let boards = c.args.found.now.boards.items in
+    let s = c.index.result.now in
+    let at_s = read_at stands c.args.at s c.requires.at c.index.ensures in
+    let B = c.index-2.result.now in
+    let at_B = read_at boards s.board B (c.requires.kept.within c.args.at s at_s) c.index-2.ensures in
+    let state_is = state_there boards stands c.args.at s B at_s at_B in
+    λ ok. subst (λ S. ¬ AsksTooMuch game e c.args.number S) (sym state_is) (c.in_ok-glance_at.ensures.narrow refl)
+
+pub attempt-returns-in-Writes-clause-tried : goal.attempt-returns-in-Writes-clause-tried
+attempt-returns-in-Writes-clause-tried t c = c.write.ensures.tried
+
+pub attempt-returns-in-Writes-clause-wide : goal.attempt-returns-in-Writes-clause-wide
+attempt-returns-in-Writes-clause-wide t c = λ wide. inr (c.write.ensures.wide wide)
+
+pub attempt-write-requires-clause-ready : goal.attempt-write-requires-clause-ready
+attempt-write-requires-clause-ready t c = c.requires.ready
+
+pub attempt-write-requires-clause-at : goal.attempt-write-requires-clause-at
+attempt-write-requires-clause-at t c = c.requires.at
+
+pub attempt-write-requires-clause-kept : goal.attempt-write-requires-clause-kept
+attempt-write-requires-clause-kept t c = c.requires.kept
+
+pub attempt-write-requires-clause-state : goal.attempt-write-requires-clause-state
+attempt-write-requires-clause-state t c = c.requires.state
+
+pub attempt-write-requires-clause-from : goal.attempt-write-requires-clause-from
+attempt-write-requires-clause-from t c = c.requires.from
+
+pub attempt-write-requires-clause-upto : goal.attempt-write-requires-clause-upto
+attempt-write-requires-clause-upto t c = c.requires.upto
+
+pub attempt-write-requires-clause-writes : goal.attempt-write-requires-clause-writes
+attempt-write-requires-clause-writes t c =
+    let game = game_of c.args.self.now.game.now in
+    let e = expression_at game c.args.index in
+    subst (TellsAt game e c.args.number (at_vertex c.index-2.result.now c.index.result.now.vertex)) c.in-Writes.is c.in_ok-glance_at.ensures.tells
+
+pub attempt-add-requires-clause-kept : goal.attempt-add-requires-clause-kept
+attempt-add-requires-clause-kept t c = c.requires.kept
+
+pub attempt-returns-in_err-glance_at-clause-wide : goal.attempt-returns-in_err-glance_at-clause-wide
+attempt-returns-in_err-glance_at-clause-wide t c =
+    let game = game_of c.args.self.now.game.now in
+    let e = expression_at game c.args.index in
+    let stands = c.args.found.now.stands.items in
+    let boards = c.args.found.now.boards.items in
+    let s = c.index.result.now in
+    let at_s = read_at stands c.args.at s c.requires.at c.index.ensures in
+    let B = c.index-2.result.now in
+    let at_B = read_at boards s.board B (c.requires.kept.within c.args.at s at_s) c.index-2.ensures in
+    let state_is = state_there boards stands c.args.at s B at_s at_B in
+    λ wide.
+    let err = err_from_is_err_and c.from_residual.result c.from_residual.ensures.1 in
+    let fault : c.in_err-glance_at.field-0.0 ≡ MoveFault.TooWide = cc in
+    inl (subst (AsksTooMuch game e c.args.number) (sym state_is) (c.in_err-glance_at.ensures.wide (ap Err fault)))
+
+pub attempt-returns-in_err-glance_at-clause-kept : goal.attempt-returns-in_err-glance_at-clause-kept
+attempt-returns-in_err-glance_at-clause-kept t c = refused _ c.from_residual.result _ c.from_residual.ensures.1
+
+pub attempt-returns-in_err-glance_at-clause-known : goal.attempt-returns-in_err-glance_at-clause-known
+attempt-returns-in_err-glance_at-clause-known t c = refused _ c.from_residual.result _ c.from_residual.ensures.1
+
+pub attempt-returns-in_err-glance_at-clause-tried : goal.attempt-returns-in_err-glance_at-clause-tried
+attempt-returns-in_err-glance_at-clause-tried t c = refused _ c.from_residual.result _ c.from_residual.ensures.1
+
+pub attempt-returns-in_err-glance_at-clause-narrow : goal.attempt-returns-in_err-glance_at-clause-narrow
+attempt-returns-in_err-glance_at-clause-narrow t c = not_ok _ c.from_residual.result c.from_residual.ensures.1
+
+pub expand-returns-in_err-attempt-clause-kept : goal.expand-returns-in_err-attempt-clause-kept
+expand-returns-in_err-attempt-clause-kept t c = refused _ c.from_residual.result _ c.from_residual.ensures.1
+
+pub expand-returns-in_err-attempt-clause-going : goal.expand-returns-in_err-attempt-clause-going
+expand-returns-in_err-attempt-clause-going t c = refused _ c.from_residual.result _ c.from_residual.ensures.1
+
+pub expand-returns-clause-kept : goal.expand-returns-clause-kept
+expand-returns-clause-kept t c = c.loop-number.invariant.kept
+
+pub expand-returns-clause-wide : goal.expand-returns-clause-wide
+expand-returns-clause-wide t c = no_error
+
+pub expand-returns-then-ends-clause-kept : goal.expand-returns-then-ends-clause-kept
+expand-returns-then-ends-clause-kept t c = c.requires.kept
+
+pub expand-returns-then-ends-clause-wide : goal.expand-returns-then-ends-clause-wide
+expand-returns-then-ends-clause-wide t c = no_error
+
+pub glance_at-returns-in_err-holds-in-Ask-clause-known : goal.glance_at-returns-in_err-holds-in-Ask-clause-known
+glance_at-returns-in_err-holds-in-Ask-clause-known t c = refused _ c.from_residual.result _ c.from_residual.ensures.1
+
+pub glance_at-returns-in_err-holds-in-Ask-clause-tells : goal.glance_at-returns-in_err-holds-in-Ask-clause-tells
+glance_at-returns-in_err-holds-in-Ask-clause-tells t c = refused _ c.from_residual.result _ c.from_residual.ensures.1
+
+pub glance_at-returns-in_err-holds-in-Ask-clause-narrow : goal.glance_at-returns-in_err-holds-in-Ask-clause-narrow
+glance_at-returns-in_err-holds-in-Ask-clause-narrow t c = not_ok _ c.from_residual.result c.from_residual.ensures.1
+
+pub glance_at-returns-then-holds-positive-clause-known : goal.glance_at-returns-then-holds-positive-clause-known
+glance_at-returns-then-holds-positive-clause-known t c = c.in_ok-holds-in-Ask.ensures.known
+
+pub glance_at-returns-then-holds-positive-clause-wide : goal.glance_at-returns-then-holds-positive-clause-wide
+glance_at-returns-then-holds-positive-clause-wide t c = no_error
+
+pub glance_at-returns-else-holds-positive-clause-known : goal.glance_at-returns-else-holds-positive-clause-known
+glance_at-returns-else-holds-positive-clause-known t c = c.in_ok-holds-in-Ask.ensures.known
+
+pub glance_at-returns-else-holds-positive-clause-wide : goal.glance_at-returns-else-holds-positive-clause-wide
+glance_at-returns-else-holds-positive-clause-wide t c = no_error
+
+pub glance_at-returns-in-Act-clause-known : goal.glance_at-returns-in-Act-clause-known
+glance_at-returns-in-Act-clause-known t c = c.requires.known
+
+pub glance_at-returns-in-Act-clause-wide : goal.glance_at-returns-in-Act-clause-wide
+glance_at-returns-in-Act-clause-wide t c = no_error
+
+pub holds-is_legal-requires : goal.holds-is_legal-requires
+holds-is_legal-requires t c = (omega arith, (c.requires.ready, (c.requires.same, (c.requires.state, c.requires.lacks))))
+
+pub holds-returns-in_err-holds-clause-known : goal.holds-returns-in_err-holds-clause-known
+holds-returns-in_err-holds-clause-known t c = refused _ c.from_residual.result _ c.from_residual.ensures.1
+
+pub holds-returns-in_err-holds-clause-answer : goal.holds-returns-in_err-holds-clause-answer
+holds-returns-in_err-holds-clause-answer t c = refused _ c.from_residual.result _ c.from_residual.ensures.1
+
+pub holds-returns-in_err-holds-clause-narrow : goal.holds-returns-in_err-holds-clause-narrow
+holds-returns-in_err-holds-clause-narrow t c = not_ok _ c.from_residual.result c.from_residual.ensures.1
+
+pub holds-returns-clause-known : goal.holds-returns-clause-known
+holds-returns-clause-known t c = c.requires.known
+
+pub holds-returns-clause-wide : goal.holds-returns-clause-wide
+holds-returns-clause-wide t c = no_error
+
+pub holds-returns-2-clause-answer : goal.holds-returns-2-clause-answer
+holds-returns-2-clause-answer t c = c.in_ok-holds.ensures.answer
+
+pub holds-returns-2-clause-narrow : goal.holds-returns-2-clause-narrow
+holds-returns-2-clause-narrow t c = λ ok. c.in_ok-holds.ensures.narrow refl
+
+pub holds-returns-2-clause-wide : goal.holds-returns-2-clause-wide
+holds-returns-2-clause-wide t c = no_error
+
+pub holds-returns-in_err-holds-clause-wide : goal.holds-returns-in_err-holds-clause-wide
+holds-returns-in_err-holds-clause-wide t c =
+    λ wide.
+    let err = err_from_is_err_and c.from_residual.result c.from_residual.ensures.1 in
+    let fault : c.in_err-holds.field-0.0 ≡ MoveFault.TooWide = cc in
+    c.in_err-holds.ensures.wide (ap Err fault)
+
+pub is_legal-look-requires : goal.is_legal-look-requires
+is_legal-look-requires t c = (omega arith, (c.requires.ready, (c.requires.same, (c.requires.state, c.requires.lacks))))
+
+pub is_legal-search-requires : goal.is_legal-search-requires
+is_legal-search-requires t c =
+    let game = game_of c.args.self.now.game.now in
+    (omega arith, (c.requires.ready, (c.requires.same, subst (λ A. IsStateOf game (at_vertex A c.args.vertex)) (sym c.copied_state-state.ensures) c.requires.state)))
+
+pub is_legal-returns-clause-wide : goal.is_legal-returns-clause-wide
+is_legal-returns-clause-wide t c = no_error
+
+pub is_legal-returns-2-clause-wide : goal.is_legal-returns-2-clause-wide
+is_legal-returns-2-clause-wide t c = no_error
+
+pub is_legal-returns-in_err-looks-clause-answer : goal.is_legal-returns-in_err-looks-clause-answer
+is_legal-returns-in_err-looks-clause-answer t c = refused _ c.from_residual.result _ c.from_residual.ensures.1
+
+pub is_legal-returns-in_err-looks-clause-narrow : goal.is_legal-returns-in_err-looks-clause-narrow
+is_legal-returns-in_err-looks-clause-narrow t c = not_ok _ c.from_residual.result c.from_residual.ensures.1
+
+pub is_legal-returns-in_err-found-clause-answer : goal.is_legal-returns-in_err-found-clause-answer
+is_legal-returns-in_err-found-clause-answer t c = refused _ c.from_residual-in_err-found.result _ c.from_residual-in_err-found.ensures.1
+
+pub is_legal-returns-in_err-found-clause-narrow : goal.is_legal-returns-in_err-found-clause-narrow
+is_legal-returns-in_err-found-clause-narrow t c = not_ok _ c.from_residual-in_err-found.result c.from_residual-in_err-found.ensures.1
+
+pub is_legal-returns-in_err-looks-clause-wide : goal.is_legal-returns-in_err-looks-clause-wide
+is_legal-returns-in_err-looks-clause-wide t c =
+    λ wide.
+    let err = err_from_is_err_and c.from_residual.result c.from_residual.ensures.1 in
+    let fault : c.in_err-looks.field-0.0 ≡ MoveFault.TooWide = cc in
+    c.in_err-looks.ensures.wide (ap Err fault)
+
+pub look-returns-in_err-looks-clause-found : goal.look-returns-in_err-looks-clause-found
+look-returns-in_err-looks-clause-found t c = refused _ c.from_residual.result _ c.from_residual.ensures.1
+
+pub look-returns-in_err-look_on-clause-found : goal.look-returns-in_err-look_on-clause-found
+look-returns-in_err-look_on-clause-found t c = refused _ c.from_residual-in_err-look_on.result _ c.from_residual-in_err-look_on.ensures.1
+
+pub look-returns-clause-wide : goal.look-returns-clause-wide
+look-returns-clause-wide t c = no_error
+
+pub look-returns-then-not-branch-clause-wide : goal.look-returns-then-not-branch-clause-wide
+look-returns-then-not-branch-clause-wide t c = no_error
