@@ -1,12 +1,12 @@
 -- What an occurrence leads to, once it is kept.
-use Rattle.std.proofs.Common.{◌≡◌, ℕ, ◌<◌, ◌≤◌, inr, List, [], length, map, Some, slice_get, option_map, unwrap_or, sym, ap, ◌∙◌, subst, arith}
+use Rattle.std.proofs.Common.{◌≡◌, ℕ, ◌<◌, ◌≤◌, inr, List, [], ◌∷◌, length, map, Some, slice_get, option_map, unwrap_or, sym, ap, ◌∙◌, subst, arith}
 use Rattle.std.proofs.lemmas.List.{length-map}
 use Rattle.rbg_game.specs.Rules.{Regex, action_at, is_switch, is_modifier}
 use Rattle.rbg_game.specs.Games.{Game}
 use Rattle.rbg_game.specs.declared.position.SemiState.{SemiState}
 use Rattle.legal_moves.specs.Effects.{EffectAt}
-use Rattle.legal_moves.specs.aid.Configurations.{OccurrenceLeads}
-use Rattle.legal_moves.specs.aid.Going.{began, state_at, IsTaken, IsTried, IsFull}
+use Rattle.legal_moves.specs.aid.Configurations.{opening, OccurrenceLeads}
+use Rattle.legal_moves.specs.aid.Going.{began, state_at, IsGoing, IsTaken, IsTried, IsFull}
 use Rattle.legal_moves.specs.aid.Looking.{at_vertex}
 use Rattle.legal_moves.specs.aid.Standing.{board_at, stood, configurations_of, AreKept, IsNewStand, IsStandAdded}
 use Rattle.legal_moves.specs.Configurations.{Configuration}
@@ -17,6 +17,11 @@ use Rattle.legal_moves.proofs.StandingLemmas.{board_is, stood_at, taken_stand, n
 -- the semi-state of the configuration at an index
 pub state_of : (cs : List Configuration) (at : ℕ) (c : Configuration) → slice_get cs at ≡ Some c → state_at cs at ≡ c.at.state
 state_of cs at c is = ap (λ o. unwrap_or (option_map (λ x. x.at.state) o) (began [])) is
+
+-- the first is where the search began
+pub began_is : (game : Game) (e : Regex) (place : ℕ) (S : SemiState) (cs : List Configuration) (at : ℕ) → IsGoing game e place S cs at → began cs ≡ S
+began_is game e place S [] at going = absurd (cc (going.found_are.opening_is))
+began_is game e place S (c ∷ cs) at going = state_of (c ∷ cs) 0 (opening S) going.found_are.opening_is
 
 pub state_there : (boards : List SemiState) (stands : List Stand) (at : ℕ) (s : Stand) (B : SemiState) → slice_get stands at ≡ Some s → slice_get boards s.board ≡ Some B → state_at (map (stood boards) stands) at ≡ at_vertex B s.vertex
 state_there boards stands at s B at_s at_B =

@@ -10,7 +10,7 @@ use Rattle.rbg_game.specs.Games.{Game}
 use Rattle.rbg_game.specs.Positions.{IsStateOf}
 use Rattle.legal_moves.specs.aid.Marks.{IsMarkSet}
 use Rattle.legal_moves.specs.Searches.{place_at}
-use Rattle.legal_moves.specs.aid.Configurations.{opening, OccurrenceLeads}
+use Rattle.legal_moves.specs.aid.Configurations.{opening, OccurrenceLeads, IsFollowed}
 use Rattle.legal_moves.specs.declared.effect.Glance.TheVariants.{At}
 use Rattle.legal_moves.specs.aid.Looking.{at_vertex, TellsAt, looked, seen_from, mark_of, AreMarked, IsNewLook, IsLookAdded}
 use Rattle.legal_moves.specs.aid.Going.{IsGoing, IsTaken}
@@ -127,13 +127,17 @@ only_opening S zero c h = let same : opening S ≡ c = cc in sym (ap (λ x. x.pa
 only_opening S (suc i) c h = absurd (cc)
 
 -- a search that begins
-pub going_begun : (game : Game) (e : Regex) (S : SemiState) → IsStateOf game S → IsGoing game e 0 S (opening S ∷ []) 0
-going_begun game e S state = record {
-  found_are = AreFound-begun game e 0 S state;
+pub going_begun : (game : Game) (e : Regex) (place : ℕ) (S : SemiState) → IsStateOf game S → IsGoing game e place S (opening S ∷ []) 0
+going_begun game e place S state = record {
+  found_are = AreFound-begun game e place S state;
   parents_are = λ i c at. omega (arith, only_opening S i c at);
   expanded = λ j n less. absurd (omega (arith, less));
   within = omega arith;
 }
+
+-- no occurrence has been tried
+pub not_begun : (game : Game) (e : Regex) (place : ℕ) (cs : List Configuration) (at : ℕ) → IsFollowed game e place cs at 0
+not_begun game e place cs at = record { met = λ c k U at_c plain less. absurd (omega arith); narrow = λ c k at_c plain less. absurd (omega arith) }
 
 -- what a look leads to
 pub look_leads : (game : Game) (e : Regex) (k : ℕ) (S : SemiState) (v w parent : ℕ) → TellsAt game e k (at_vertex S v) (At w) → OccurrenceLeads game e k (at_vertex S v) (looked S (record { vertex = w; place = k; parent = parent }))

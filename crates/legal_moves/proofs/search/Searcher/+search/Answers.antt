@@ -26,14 +26,14 @@ use Rattle.legal_moves.proofs.FoundLemmas.{count_whole, IsFollowed-end, IsFollow
 use Rattle.legal_moves.proofs.ExpandLemmas.{ends_at, place_first, place_last, listed_next, skipped, past_not, number_from, number_upto, going_next, more_invalid, asked, turned, full, tried, tried_wide}
 use Rattle.legal_moves.proofs.StandingLemmas.{board_is, stood_at, any_stand}
 use Rattle.legal_moves.proofs.Exits.{refused, not_ok, no_error}
-use Rattle.legal_moves.proofs.AttemptLemmas.{state_there, state_of, attempted, filled}
+use Rattle.legal_moves.proofs.AttemptLemmas.{state_there, state_of, began_is, attempted, filled}
 use Rattle.legal_moves.specs.declared.found.Stand.{Stand}
-use Rattle.legal_moves.proofs.LookLemmas.{seen_at, stays_there, taken_look, new_position, any_look, place_zero, going_begun, look_leads}
+use Rattle.legal_moves.proofs.LookLemmas.{seen_at, stays_there, taken_look, new_position, any_look, place_zero, going_begun, not_begun, look_leads}
 use Rattle.legal_moves.specs.Tables.{inner_of}
 use Rattle.legal_moves.specs.aid.Answers.{IsAnswerAt}
 use Rattle.legal_moves.specs.Searches.{IsWideFrom}
 use Rattle.legal_moves.proofs.AnswerLemmas.{same_expression, answer_along}
-use Rattle.legal_moves.proofs.ReadyLemmas.{read_at, count_steps, act_plain, act_tells, act_narrow, ask_before, ask_lacks, ask_ready, ask_narrow, ask_wide, ask_some, ask_none, ask_look, beq_true, beq_same}
+use Rattle.legal_moves.proofs.ReadyLemmas.{OnTrue-at, read_at, count_steps, act_plain, act_tells, act_narrow, ask_before, ask_lacks, ask_ready, ask_narrow, ask_wide, ask_some, ask_none, ask_look, beq_true, beq_same}
 use Rattle.legal_moves.proofs.search.Searcher.+search.Goals as goal
 use Rattle.legal_moves.proofs.search.Searcher.+search.Goals.{look_on-in-Fails, look_on-in-At+in_ok-add-in-At, expand-then-last-eq0, expand-else-last-eq0, is_legal-then-ends, is_legal-else-ends, is_legal-then-ends-2, is_legal-else-ends-2}
 
@@ -259,7 +259,7 @@ look-loop-at-init t c =
     let S = at_vertex c.args.state.now c.args.vertex in
     record {
       marked = subst (λ n. AreMarked n c.in_ok-looks.looks) numbers c.in_ok-looks.ensures.marked;
-      going = subst (λ ls. IsGoing game e 0 S (seen_from c.args.state.now ls) 0) (sym c.in_ok-looks.ensures.opening) (going_begun game e S c.requires.state);
+      going = subst (λ ls. IsGoing game e 0 S (seen_from c.args.state.now ls) 0) (sym c.in_ok-looks.ensures.opening) (going_begun game e 0 S c.requires.state);
     }
 
 pub look_on-glance_at-requires : goal.look_on-glance_at-requires
@@ -996,3 +996,180 @@ look-returns-clause-wide t c = no_error
 
 pub look-returns-then-not-branch-clause-wide : goal.look-returns-then-not-branch-clause-wide
 look-returns-then-not-branch-clause-wide t c = no_error
+
+pub look_on-returns-in_err-glance_at-clause-going : goal.look_on-returns-in_err-glance_at-clause-going
+look_on-returns-in_err-glance_at-clause-going t c = refused _ c.from_residual.result _ c.from_residual.ensures.1
+
+pub look_on-returns-in_err-glance_at-clause-marked : goal.look_on-returns-in_err-glance_at-clause-marked
+look_on-returns-in_err-glance_at-clause-marked t c = refused _ c.from_residual.result _ c.from_residual.ensures.1
+
+pub look_on-returns-in_err-add-in-At-clause-going : goal.look_on-returns-in_err-add-in-At-clause-going
+look_on-returns-in_err-add-in-At-clause-going t c = refused _ c.from_residual-in_err-add-in-At.result _ c.from_residual-in_err-add-in-At.ensures.1
+
+pub look_on-returns-in_err-add-in-At-clause-marked : goal.look_on-returns-in_err-add-in-At-clause-marked
+look_on-returns-in_err-add-in-At-clause-marked t c = refused _ c.from_residual-in_err-add-in-At.result _ c.from_residual-in_err-add-in-At.ensures.1
+
+pub look_on-returns-clause-marked : goal.look_on-returns-clause-marked
+look_on-returns-clause-marked t c = c.loop-number.invariant.marked
+
+pub look_on-returns-clause-wide : goal.look_on-returns-clause-wide
+look_on-returns-clause-wide t c = no_error
+
+pub look_on-returns-in-Writes-clause-marked : goal.look_on-returns-in-Writes-clause-marked
+look_on-returns-in-Writes-clause-marked t c = c.loop-number.invariant.marked
+
+pub look_on-returns-in-Writes-clause-going : goal.look_on-returns-in-Writes-clause-going
+look_on-returns-in-Writes-clause-going t c = tt
+
+pub look_on-returns-in-Writes-clause-wide : goal.look_on-returns-in-Writes-clause-wide
+look_on-returns-in-Writes-clause-wide t c = no_error
+
+pub search-returns-clause-kept : goal.search-returns-clause-kept
+search-returns-clause-kept t c = c.loop-at.invariant.kept
+
+pub search-returns-clause-wide : goal.search-returns-clause-wide
+search-returns-clause-wide t c = no_error
+
+pub search-returns-in_err-expand-clause-found : goal.search-returns-in_err-expand-clause-found
+search-returns-in_err-expand-clause-found t c = refused _ c.from_residual-in_err-expand.result _ c.from_residual-in_err-expand.ensures.1
+
+pub search-returns-in_err-expand-clause-kept : goal.search-returns-in_err-expand-clause-kept
+search-returns-in_err-expand-clause-kept t c = refused _ c.from_residual-in_err-expand.result _ c.from_residual-in_err-expand.ensures.1
+
+pub search-returns-in_err-found-clause-found : goal.search-returns-in_err-found-clause-found
+search-returns-in_err-found-clause-found t c = refused _ c.from_residual.result _ c.from_residual.ensures.1
+
+pub search-returns-in_err-found-clause-kept : goal.search-returns-in_err-found-clause-kept
+search-returns-in_err-found-clause-kept t c = refused _ c.from_residual.result _ c.from_residual.ensures.1
+
+pub look-returns-then-not-branch-clause-found : goal.look-returns-then-not-branch-clause-found
+look-returns-then-not-branch-clause-found t c = tt
+
+pub search-expand-requires : goal.search-expand-requires
+search-expand-requires t c =
+    let game = game_of c.args.self.now.game.now in
+    let e = expression_at game c.args.index in
+    let cs = configurations_of c.loop-at.found in
+    let began_here = began_is game e c.args.place c.args.state cs c.loop-at.at c.loop-at.invariant.going in
+    let inside : c.loop-at.at < length c.loop-at.found.stands.items = omega arith in
+    (omega arith, (c.requires.ready, (c.requires.same, (inside, (c.loop-at.invariant.kept, subst (λ S. IsGoing game e c.args.place S cs c.loop-at.at) (sym began_here) c.loop-at.invariant.going)))))
+
+pub search-loop-at-preserved : goal.search-loop-at-preserved
+search-loop-at-preserved t c =
+    let game = game_of c.args.self.now.game.now in
+    let e = expression_at game c.args.index in
+    let cs = configurations_of c.loop-at.found in
+    let began_here = began_is game e c.args.place c.args.state cs c.loop-at.at c.loop-at.invariant.going in
+    record {
+      kept = c.in_ok-expand.ensures.kept;
+      going = subst (λ S. IsGoing game e c.args.place S (configurations_of c.expand.new.found) (c.loop-at.at + 1)) began_here c.in_ok-expand.ensures.going;
+    }
+
+pub look-look_on-requires : goal.look-look_on-requires
+look-look_on-requires t c =
+    let game = game_of c.args.self.now.game.now in
+    let e = expression_at game c.args.index in
+    let S = at_vertex c.args.state.now c.args.vertex in
+    let cs = seen_from c.args.state.now c.loop-at.looks.looks.items in
+    let began_here = began_is game e 0 S cs c.loop-at.at c.loop-at.invariant.going in
+    let inside : c.loop-at.at < length c.loop-at.looks.looks.items = omega arith in
+    (omega arith, (c.requires.ready, (c.requires.same, (c.requires.lacks, (inside, (c.loop-at.invariant.marked, subst (λ B. IsGoing game e 0 B cs c.loop-at.at) (sym began_here) c.loop-at.invariant.going))))))
+
+pub look-loop-at-preserved : goal.look-loop-at-preserved
+look-loop-at-preserved t c =
+    let game = game_of c.args.self.now.game.now in
+    let e = expression_at game c.args.index in
+    let S = at_vertex c.args.state.now c.args.vertex in
+    let cs = seen_from c.args.state.now c.loop-at.looks.looks.items in
+    let began_here = began_is game e 0 S cs c.loop-at.at c.loop-at.invariant.going in
+    record {
+      marked = c.in_ok-look_on.ensures.marked;
+      going = subst (λ B. IsGoing game e 0 B (seen_from c.args.state.now c.look_on.new.looks.looks.items) (c.loop-at.at + 1)) began_here (OnTrue-at c.in_ok-look_on.field-0 _ c.if-not-branch.false c.in_ok-look_on.ensures.going);
+    }
+
+pub search-loop-at-init : goal.search-loop-at-init
+search-loop-at-init t c =
+    let game = game_of c.args.self.now.game.now in
+    let e = expression_at game c.args.index in
+    record {
+      kept = c.in_ok-found.ensures.kept;
+      going = subst (λ cs. IsGoing game e c.args.place c.args.state cs 0) (sym c.in_ok-found.ensures.opening) (going_begun game e c.args.place c.args.state c.requires.state);
+    }
+
+pub expand-loop-number-init : goal.expand-loop-number-init
+expand-loop-number-init t c =
+    let game = game_of c.args.self.now.game.now in
+    let e = expression_at game c.args.index in
+    let cs = configurations_of c.args.found.now in
+    record { kept = c.requires.kept; going = c.requires.going; known = tt; here = not_begun game e c.args.place cs c.args.at; before = refl }
+
+pub look_on-loop-number-init : goal.look_on-loop-number-init
+look_on-loop-number-init t c =
+    let game = game_of c.args.self.now.game.now in
+    let e = expression_at game c.args.index in
+    let cs = seen_from c.args.state.now c.args.looks.now.looks.items in
+    record { marked = c.requires.marked; going = c.requires.going; known = tt; here = not_begun game e 0 cs c.args.at; before = refl }
+
+pub search-returns-clause-found : goal.search-returns-clause-found
+search-returns-clause-found t c =
+    let whole : length (configurations_of c.loop-at.found) ≤ c.loop-at.at = omega (arith, length-map c.loop-at.found.stands.items (stood c.loop-at.found.boards.items)) in
+    record { found = c.loop-at.invariant.going.found_are; expanded = λ j n less. c.loop-at.invariant.going.expanded j n (omega (arith, less, whole)) }
+
+pub look-returns-clause-found : goal.look-returns-clause-found
+look-returns-clause-found t c =
+    let whole : length (seen_from c.args.state.now c.loop-at.looks.looks.items) ≤ c.loop-at.at = omega (arith, length-map c.loop-at.looks.looks.items (looked c.args.state.now)) in
+    record { found = c.loop-at.invariant.going.found_are; expanded = λ j n less. c.loop-at.invariant.going.expanded j n (omega (arith, less, whole)) }
+
+pub search-loop-at-smaller : goal.search-loop-at-smaller
+search-loop-at-smaller t c =
+    let going = c.in_ok-expand.ensures.going in
+    omega (arith, going.within, going.found_are.few)
+
+pub look-loop-at-smaller : goal.look-loop-at-smaller
+look-loop-at-smaller t c =
+    let going = OnTrue-at c.in_ok-look_on.field-0 _ c.if-not-branch.false c.in_ok-look_on.ensures.going in
+    omega (arith, going.within, going.found_are.few)
+
+pub search-returns-in_err-expand-clause-wide : goal.search-returns-in_err-expand-clause-wide
+search-returns-in_err-expand-clause-wide t c =
+    let game = game_of c.args.self.now.game.now in
+    let e = expression_at game c.args.index in
+    let cs = configurations_of c.loop-at.found in
+    let began_here = began_is game e c.args.place c.args.state cs c.loop-at.at c.loop-at.invariant.going in
+    λ wide.
+    let err = err_from_is_err_and c.from_residual-in_err-expand.result c.from_residual-in_err-expand.ensures.1 in
+    let fault : c.in_err-expand.field-0.0 ≡ MoveFault.TooWide = cc in
+    subst (IsWideFrom game e c.args.place) began_here (c.in_err-expand.ensures.wide (ap Err fault))
+
+pub look-returns-in_err-look_on-clause-wide : goal.look-returns-in_err-look_on-clause-wide
+look-returns-in_err-look_on-clause-wide t c =
+    let game = game_of c.args.self.now.game.now in
+    let e = expression_at game c.args.index in
+    let S = at_vertex c.args.state.now c.args.vertex in
+    let cs = seen_from c.args.state.now c.loop-at.looks.looks.items in
+    let began_here = began_is game e 0 S cs c.loop-at.at c.loop-at.invariant.going in
+    λ wide.
+    let err = err_from_is_err_and c.from_residual-in_err-look_on.result c.from_residual-in_err-look_on.ensures.1 in
+    let fault : c.in_err-look_on.field-0.0 ≡ MoveFault.TooWide = cc in
+    subst (IsWideFrom game e 0) began_here (c.in_err-look_on.ensures.wide (ap Err fault))
+
+pub is_legal-returns-in_err-found-clause-wide : goal.is_legal-returns-in_err-found-clause-wide
+is_legal-returns-in_err-found-clause-wide t c =
+    let game = game_of c.args.self.now.game.now in
+    let e = expression_at game c.args.index in
+    λ wide.
+    let err = err_from_is_err_and c.from_residual-in_err-found.result c.from_residual-in_err-found.ensures.1 in
+    let fault : c.in_err-found.field-0.0 ≡ MoveFault.TooWide = cc in
+    subst (λ A. IsWideFrom game e 0 (at_vertex A c.args.vertex)) c.copied_state-state.ensures (c.in_err-found.ensures.wide (ap Err fault))
+
+pub search-returns-in_err-found-clause-wide : goal.search-returns-in_err-found-clause-wide
+search-returns-in_err-found-clause-wide t c =
+    λ wide.
+    let err = err_from_is_err_and c.from_residual.result c.from_residual.ensures.1 in
+    absurd (cc)
+
+pub look-returns-in_err-looks-clause-wide : goal.look-returns-in_err-looks-clause-wide
+look-returns-in_err-looks-clause-wide t c =
+    λ wide.
+    let err = err_from_is_err_and c.from_residual.result c.from_residual.ensures.1 in
+    absurd (cc)
