@@ -1,7 +1,7 @@
 -- What a pattern answered last is true of each pattern that asks the same.
-use Rattle.std.proofs.Common.{◌≡◌, ℕ, ◌<◌, List, [], ◌∷◌, ◌++◌, length, get_or, Option, Some, slice_get, option_map, unwrap_or, sym, ap, ◌∙◌, subst, arith}
+use Rattle.std.proofs.Common.{◌≡◌, ℕ, ◌<◌, List, [], ◌∷◌, length, get_or, Option, Some, slice_get, option_map, unwrap_or, sym, ap, ◌∙◌, subst, arith}
 use Rattle.std.proofs.lemmas.Option.{slice_get-get_or}
-use Rattle.rbg_game.specs.Rules.{Regex, empty}
+use Rattle.rbg_game.specs.Rules.{empty}
 use Rattle.rbg_game.specs.Games.{Game}
 use Rattle.legal_moves.specs.Configurations.{Configuration}
 use Rattle.legal_moves.specs.Tables.{inner_of, AreSame}

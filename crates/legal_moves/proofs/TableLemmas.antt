@@ -1,12 +1,14 @@
 -- How the tables and the draft of one grow with each part of an expression.
-use Rattle.std.proofs.Common.{◌≡◌, ℕ, zero, suc, ◌+◌, ◌⊎◌, inl, inr, ◌↔◌, Bool, cond, List, [], ◌∷◌, ◌++◌, length, take, Some, slice_get, Contains, refl, sym, ap, ◌∙◌, subst, arith, append_assoc, append-nil, length-append}
+use Rattle.std.proofs.Common.{◌≡◌, ℕ, zero, suc, ◌+◌, ◌⊎◌, inl, inr, ◌↔◌, Bool, false, cond, List, [], ◌∷◌, ◌++◌, length, take, Some, slice_get, Contains, refl, sym, ap, ◌∙◌, subst, arith, append_assoc, append-nil, length-append}
 use Rattle.std.specs.List.{AllZip}
 use Rattle.rbg_game.specs.Rules.{Regex, one, empty, cat, alt, star, count, Action, pattern}
 use Rattle.legal_moves.specs.Glushkov.{is_nullable, IsFirst, IsLast, IsNext, IsNextAt}
 use Rattle.legal_moves.specs.aid.Relations.{IsRelated}
 use Rattle.legal_moves.specs.Listing.{AreListed, list_at}
 use Rattle.legal_moves.proofs.ListingLemmas.{listed_by}
-use Rattle.legal_moves.specs.Tables.{actions_of, inner_of, inner_in, first_of, last_of, IsStep, IsExpressionTable, AreTables}
+use Rattle.rbg_game.specs.Meaning.{action_of}
+use Rattle.rbg_game.specs.declared.rules.Action.{Action as CodeAction}
+use Rattle.legal_moves.specs.Tables.{actions_of, inner_of, inner_in, is_pattern, first_of, last_of, IsStep, IsExpressionTable, AreTables}
 use Rattle.legal_moves.specs.aid.Tables.{IsAdded}
 use Rattle.legal_moves.specs.declared.relation.Relation.{Relation}
 use Rattle.legal_moves.specs.declared.table.Step.{Step}
@@ -284,3 +286,8 @@ asked es e positive index tables a is at made =
 pub AreTables-pushed : (es : List Regex) (e : Regex) (tables tables' : List Table) (table : Table) → AreTables es tables → IsExpressionTable es table e → tables' ≡ tables ++ table ∷ [] → AreTables (es ++ e ∷ []) tables'
 AreTables-pushed es e tables tables' table h new same =
     subst (AreTables (es ++ e ∷ [])) (sym same) (AreTables-push es e tables table h new)
+
+-- an action that asks no pattern
+pub unasked : (es : List Regex) (tables : List Table) (x : CodeAction) (a : Action) → action_of x ≡ a → inner_in a ≡ [] → is_pattern a ≡ false → AreTables es tables → AreTables (es ++ inner_in a) tables × ((action_of x ≡ a) × (is_pattern a ≡ false))
+unasked es tables x a same none plain are =
+    (subst (λ fs. AreTables fs tables) (sym (ap (λ f. es ++ f) none ∙ append-nil es)) are, (same, plain))

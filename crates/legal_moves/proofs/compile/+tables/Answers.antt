@@ -1,12 +1,16 @@
 use Rattle.std.proofs.Common.{◌≡◌, true, ◌||◌, ◌&&◌, ◌==◌, ◌∷◌, ◌++◌, [], length, map, take, refl, sym, ap, ◌∙◌, subst, arith}
 use Rattle.rbg_game.specs.Rules.{cat, alt, pattern, cat_all, alt_all}
 use Rattle.rbg_game.specs.Meaning.{regex_of, action_of}
-use Rattle.rbg_game.proofs.MeaningLemmas.{regex_of-Action, regex_of-Star, action_of-Pattern}
+use Rattle.rbg_game.proofs.MeaningLemmas.{regex_of-Action, regex_of-Star, regex_of-Concat, regex_of-Sum, action_of-Pattern, action_of-Off, action_of-Shift, action_of-Switch}
 use Rattle.legal_moves.specs.Glushkov.{is_nullable}
-use Rattle.legal_moves.specs.Tables.{inner_of}
+use Rattle.rbg_game.specs.declared.rules.Action.TheVariants as Action
+use Rattle.std.proofs.lemmas.List.{take_all, length-map}
+use Rattle.std.specs.Result.{IfOk}
+use Rattle.legal_moves.specs.Tables.{inner_of, inner_in, is_pattern}
 use Rattle.legal_moves.specs.aid.Tables.{IsAdded}
+use Rattle.legal_moves.proofs.Exits.{refused}
 use Rattle.legal_moves.proofs.AlikeLemmas.{some_nullable, IsAdded-along, cat_all-push, alt_all-push, nullable_cat-push, some_nullable-push, take_map-more, or_none, or_assoc}
-use Rattle.legal_moves.proofs.TableLemmas.{IsAdded-empty, IsAdded-one, IsAdded-star, IsAdded-cat, IsAdded-alt, IsExpressionTable-made, AreTables-pushed, related_along, asked}
+use Rattle.legal_moves.proofs.TableLemmas.{IsAdded-empty, IsAdded-one, IsAdded-star, IsAdded-cat, IsAdded-alt, IsExpressionTable-made, AreTables-pushed, related_along, asked, unasked}
 use Rattle.legal_moves.proofs.compile.+tables.Goals as goal
 
 pub add_parts-loop-part-init : goal.add_parts-loop-part-init
@@ -80,3 +84,143 @@ step_of-returns-in_ok-index-in-Pattern t c =
     let is = ap action_of c.in-Pattern.is ∙ action_of-Pattern c.in-Pattern.positive c.in-Pattern.inner ∙ ap (λ r. pattern c.in-Pattern.positive (regex_of r)) (sym c.deref-in-Pattern.ensures) in
     let made = c.in_ok-index-in-Pattern.ensures es tables in
     asked es e c.in-Pattern.positive c.in_ok-index-in-Pattern.index c.add_table.new.tables.items _ is made.0 made.1
+
+pub add_table-returns-in_err-ends : goal.add_table-returns-in_err-ends
+add_table-returns-in_err-ends t c = refused _ c.from_residual.result _ c.from_residual.ensures.1
+
+pub add_table-returns-in_err-relate_all : goal.add_table-returns-in_err-relate_all
+add_table-returns-in_err-relate_all t c = refused _ c.from_residual-in_err-relate_all.result _ c.from_residual-in_err-relate_all.ensures.1
+
+pub add_table-returns-in_err-follows : goal.add_table-returns-in_err-follows
+add_table-returns-in_err-follows t c = refused _ c.from_residual-in_err-follows.result _ c.from_residual-in_err-follows.ensures.1
+
+pub add_table-returns-in_err-push : goal.add_table-returns-in_err-push
+add_table-returns-in_err-push t c = refused _ c.from_residual-in_err-push.result _ c.from_residual-in_err-push.ensures.1
+
+pub add_rules-returns-in_err-step-in-Action-clause-added : goal.add_rules-returns-in_err-step-in-Action-clause-added
+add_rules-returns-in_err-step-in-Action-clause-added t c = refused _ c.from_residual.result _ c.from_residual.ensures.1
+
+pub add_rules-returns-in_err-step-in-Action-clause-nullable : goal.add_rules-returns-in_err-step-in-Action-clause-nullable
+add_rules-returns-in_err-step-in-Action-clause-nullable t c = refused _ c.from_residual.result _ c.from_residual.ensures.1
+
+pub add_rules-returns-in_err-push-in-Action-clause-added : goal.add_rules-returns-in_err-push-in-Action-clause-added
+add_rules-returns-in_err-push-in-Action-clause-added t c = refused _ c.from_residual-in_err-push-in-Action.result _ c.from_residual-in_err-push-in-Action.ensures.1
+
+pub add_rules-returns-in_err-push-in-Action-clause-nullable : goal.add_rules-returns-in_err-push-in-Action-clause-nullable
+add_rules-returns-in_err-push-in-Action-clause-nullable t c = refused _ c.from_residual-in_err-push-in-Action.result _ c.from_residual-in_err-push-in-Action.ensures.1
+
+pub add_rules-returns-in_err-ends-in-Action-clause-added : goal.add_rules-returns-in_err-ends-in-Action-clause-added
+add_rules-returns-in_err-ends-in-Action-clause-added t c = refused _ c.from_residual-in_err-ends-in-Action.result _ c.from_residual-in_err-ends-in-Action.ensures.1
+
+pub add_rules-returns-in_err-ends-in-Action-clause-nullable : goal.add_rules-returns-in_err-ends-in-Action-clause-nullable
+add_rules-returns-in_err-ends-in-Action-clause-nullable t c = refused _ c.from_residual-in_err-ends-in-Action.result _ c.from_residual-in_err-ends-in-Action.ensures.1
+
+pub add_rules-returns-in_err-ends-in-Star-clause-added : goal.add_rules-returns-in_err-ends-in-Star-clause-added
+add_rules-returns-in_err-ends-in-Star-clause-added t c = refused _ c.from_residual-in_err-ends-in-Star.result _ c.from_residual-in_err-ends-in-Star.ensures.1
+
+pub add_rules-returns-in_err-ends-in-Star-clause-nullable : goal.add_rules-returns-in_err-ends-in-Star-clause-nullable
+add_rules-returns-in_err-ends-in-Star-clause-nullable t c = refused _ c.from_residual-in_err-ends-in-Star.result _ c.from_residual-in_err-ends-in-Star.ensures.1
+
+pub add_rules-returns-in_err-relate_all-in-Star-clause-added : goal.add_rules-returns-in_err-relate_all-in-Star-clause-added
+add_rules-returns-in_err-relate_all-in-Star-clause-added t c = refused _ c.from_residual-in_err-relate_all-in-Star.result _ c.from_residual-in_err-relate_all-in-Star.ensures.1
+
+pub add_rules-returns-in_err-relate_all-in-Star-clause-nullable : goal.add_rules-returns-in_err-relate_all-in-Star-clause-nullable
+add_rules-returns-in_err-relate_all-in-Star-clause-nullable t c = refused _ c.from_residual-in_err-relate_all-in-Star.result _ c.from_residual-in_err-relate_all-in-Star.ensures.1
+
+pub add_parts-returns-in_err-next-clause-added : goal.add_parts-returns-in_err-next-clause-added
+add_parts-returns-in_err-next-clause-added t c = refused _ c.from_residual.result _ c.from_residual.ensures.1
+
+pub add_parts-returns-in_err-next-clause-nullable : goal.add_parts-returns-in_err-next-clause-nullable
+add_parts-returns-in_err-next-clause-nullable t c = refused _ c.from_residual.result _ c.from_residual.ensures.1
+
+pub add_parts-returns-in_err-relate_all-clause-added : goal.add_parts-returns-in_err-relate_all-clause-added
+add_parts-returns-in_err-relate_all-clause-added t c = refused _ c.from_residual-in_err-relate_all.result _ c.from_residual-in_err-relate_all.ensures.1
+
+pub add_parts-returns-in_err-relate_all-clause-nullable : goal.add_parts-returns-in_err-relate_all-clause-nullable
+add_parts-returns-in_err-relate_all-clause-nullable t c = refused _ c.from_residual-in_err-relate_all.result _ c.from_residual-in_err-relate_all.ensures.1
+
+pub add_parts-returns-in_err-ends-clause-added : goal.add_parts-returns-in_err-ends-clause-added
+add_parts-returns-in_err-ends-clause-added t c = refused _ c.from_residual-in_err-ends.result _ c.from_residual-in_err-ends.ensures.1
+
+pub add_parts-returns-in_err-ends-clause-nullable : goal.add_parts-returns-in_err-ends-clause-nullable
+add_parts-returns-in_err-ends-clause-nullable t c = refused _ c.from_residual-in_err-ends.result _ c.from_residual-in_err-ends.ensures.1
+
+pub add_branches-returns-in_err-next-clause-added : goal.add_branches-returns-in_err-next-clause-added
+add_branches-returns-in_err-next-clause-added t c = refused _ c.from_residual.result _ c.from_residual.ensures.1
+
+pub add_branches-returns-in_err-next-clause-nullable : goal.add_branches-returns-in_err-next-clause-nullable
+add_branches-returns-in_err-next-clause-nullable t c = refused _ c.from_residual.result _ c.from_residual.ensures.1
+
+pub add_branches-returns-in_err-ends-clause-added : goal.add_branches-returns-in_err-ends-clause-added
+add_branches-returns-in_err-ends-clause-added t c = refused _ c.from_residual-in_err-ends.result _ c.from_residual-in_err-ends.ensures.1
+
+pub add_branches-returns-in_err-ends-clause-nullable : goal.add_branches-returns-in_err-ends-clause-nullable
+add_branches-returns-in_err-ends-clause-nullable t c = refused _ c.from_residual-in_err-ends.result _ c.from_residual-in_err-ends.ensures.1
+
+pub step_of-returns-in_err-pieces-in-On : goal.step_of-returns-in_err-pieces-in-On
+step_of-returns-in_err-pieces-in-On t c = refused _ c.from_residual.result _ c.from_residual.ensures.1
+
+pub step_of-returns-in_err-right-in-Assignment : goal.step_of-returns-in_err-right-in-Assignment
+step_of-returns-in_err-right-in-Assignment t c = refused _ c.from_residual-in_err-right-in-Assignment.result _ c.from_residual-in_err-right-in-Assignment.ensures.1
+
+pub step_of-returns-in_err-left-in-Comparison : goal.step_of-returns-in_err-left-in-Comparison
+step_of-returns-in_err-left-in-Comparison t c = refused _ c.from_residual-in_err-left-in-Comparison.result _ c.from_residual-in_err-left-in-Comparison.ensures.1
+
+pub step_of-returns-in_err-right-in-Comparison : goal.step_of-returns-in_err-right-in-Comparison
+step_of-returns-in_err-right-in-Comparison t c = refused _ c.from_residual-in_err-right-in-Comparison.result _ c.from_residual-in_err-right-in-Comparison.ensures.1
+
+pub step_of-returns-in_err-index-in-Pattern : goal.step_of-returns-in_err-index-in-Pattern
+step_of-returns-in_err-index-in-Pattern t c = refused _ c.from_residual-in_err-index-in-Pattern.result _ c.from_residual-in_err-index-in-Pattern.ensures.1
+
+pub step_of-returns-in-Off : goal.step_of-returns-in-Off
+step_of-returns-in-Off t c =
+    λ es tables.
+    let e = ap action_of c.in-Off.is ∙ action_of-Off c.in-Off.piece in
+    unasked es c.args.tables.now.items (Action.Off c.in-Off.piece) (action_of c.args.action.now) (sym (ap action_of c.in-Off.is)) (ap inner_in e) (ap is_pattern e) tables
+
+pub step_of-returns-in-Shift : goal.step_of-returns-in-Shift
+step_of-returns-in-Shift t c =
+    λ es tables.
+    let e = ap action_of c.in-Shift.is ∙ action_of-Shift c.in-Shift.label in
+    unasked es c.args.tables.now.items (Action.Shift c.in-Shift.label) (action_of c.args.action.now) (sym (ap action_of c.in-Shift.is)) (ap inner_in e) (ap is_pattern e) tables
+
+pub step_of-returns-in-Switch : goal.step_of-returns-in-Switch
+step_of-returns-in-Switch t c =
+    λ es tables.
+    let e = ap action_of c.in-Switch.is ∙ action_of-Switch c.in-Switch.role in
+    unasked es c.args.tables.now.items (Action.Switch c.in-Switch.role) (action_of c.args.action.now) (sym (ap action_of c.in-Switch.is)) (ap inner_in e) (ap is_pattern e) tables
+
+pub add_rules-returns-in-Concat-clause-added : goal.add_rules-returns-in-Concat-clause-added
+add_rules-returns-in-Concat-clause-added t c =
+    let is = ap cat_all (ap (map regex_of) c.deref.ensures.value) ∙ sym (ap regex_of c.in-Concat.is ∙ regex_of-Concat c.in-Concat.parts) in
+    subst (λ e. IfOk c.add_parts.result (λ ends. IsAdded e c.args.tables.now.items c.add_parts.new.tables.items c.args.draft.now c.add_parts.new.draft ends)) is c.add_parts.ensures.added
+
+pub add_rules-returns-in-Concat-clause-nullable : goal.add_rules-returns-in-Concat-clause-nullable
+add_rules-returns-in-Concat-clause-nullable t c =
+    let is = ap cat_all (ap (map regex_of) c.deref.ensures.value) ∙ sym (ap regex_of c.in-Concat.is ∙ regex_of-Concat c.in-Concat.parts) in
+    subst (λ e. IfOk c.add_parts.result (λ ends. ends.nullable ≡ is_nullable e)) is c.add_parts.ensures.nullable
+
+pub add_rules-returns-in-Sum-clause-added : goal.add_rules-returns-in-Sum-clause-added
+add_rules-returns-in-Sum-clause-added t c =
+    let is = ap alt_all (ap (map regex_of) c.deref-in-Sum.ensures.value) ∙ sym (ap regex_of c.in-Sum.is ∙ regex_of-Sum c.in-Sum.branches) in
+    subst (λ e. IfOk c.add_branches.result (λ ends. IsAdded e c.args.tables.now.items c.add_branches.new.tables.items c.args.draft.now c.add_branches.new.draft ends)) is c.add_branches.ensures.added
+
+pub add_rules-returns-in-Sum-clause-nullable : goal.add_rules-returns-in-Sum-clause-nullable
+add_rules-returns-in-Sum-clause-nullable t c =
+    let is = ap alt_all (ap (map regex_of) c.deref-in-Sum.ensures.value) ∙ sym (ap regex_of c.in-Sum.is ∙ regex_of-Sum c.in-Sum.branches) in
+    subst (λ e. IfOk c.add_branches.result (λ ends. ends.nullable ≡ is_nullable e)) is c.add_branches.ensures.nullable
+
+pub add_parts-returns-clause-added : goal.add_parts-returns-clause-added
+add_parts-returns-clause-added t c =
+    let whole = take_all c.loop-part.part-index (map regex_of c.args.parts.now) (omega (arith, length-map c.args.parts.now regex_of)) in
+    subst (λ es. IsAdded (cat_all es) c.args.tables.now.items c.loop-part.tables.items c.args.draft.now c.loop-part.draft c.loop-part.ends) whole c.loop-part.invariant.added
+
+pub add_parts-returns-clause-nullable : goal.add_parts-returns-clause-nullable
+add_parts-returns-clause-nullable t c =
+    let whole = take_all c.loop-part.part-index (map regex_of c.args.parts.now) (omega (arith, length-map c.args.parts.now regex_of)) in
+    c.loop-part.invariant.nullable ∙ ap (λ es. is_nullable (cat_all es)) whole
+
+pub add_branches-returns-clause-added : goal.add_branches-returns-clause-added
+add_branches-returns-clause-added t c =
+    let whole = take_all c.loop-branch.branch-index (map regex_of c.args.branches.now) (omega (arith, length-map c.args.branches.now regex_of)) in
+    subst (λ es. IsAdded (alt_all es) c.args.tables.now.items c.loop-branch.tables.items c.args.draft.now c.loop-branch.draft c.loop-branch.ends) whole c.loop-branch.invariant.added

@@ -1,4 +1,4 @@
-use Rattle.std.proofs.Common.{◌≡◌, ◌++◌, map, take, flat_map, ap, sym, ◌∙◌, subst}
+use Rattle.std.proofs.Common.{◌++◌, map, take, flat_map, ap, sym, ◌∙◌}
 use Rattle.std.proofs.lemmas.Result.{on_ok_weaker}
 use Rattle.std.proofs.lemmas.List.{flat_map_more}
 use Rattle.legal_moves.proofs.AlikeLemmas.{take_map-more}
