@@ -258,7 +258,7 @@ def public_name(line: str) -> str:
     if rest.startswith("<"):
         rest = rest[balanced_angles(rest, 0) :]
     target = rest.split(" for ")[-1]
-    return re.match(r"\s*&?(?:\w+::)*(\w+)", target).group(1)
+    return re.match(r"\s*&?(?:'\w+\s+)?\[?(?:\w+::)*(\w+)", target).group(1)
 
 
 def trait_name(line: str) -> str:
