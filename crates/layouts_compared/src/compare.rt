@@ -43,11 +43,11 @@ impl Display for Difference {
 pub fn compare(alloc: Global, text: &[u8], most: u32, pages: usize) -> anyhow::Result<Outcome> {
     let flat = told_of::<Flat>(alloc, text, most, MOST_CACHED)?;
     let trees = told_of::<Trees>(alloc, text, most, MOST_CACHED)?;
-    if let Some(difference) = difference(alloc, &flat.said, &trees.said)? {
+    if let Some(difference) = first_difference(alloc, &flat.said, &trees.said)? {
         return Ok(Outcome::Differs(difference));
     }
     let spare = told_of::<Trees>(alloc, text, most, pages.min(2))?;
-    if let Some(difference) = difference(alloc, &flat.said, &spare.said)? {
+    if let Some(difference) = first_difference(alloc, &flat.said, &spare.said)? {
         return Ok(Outcome::Differs(difference));
     }
     if !(flat.is_right && trees.is_right && spare.is_right) {
@@ -62,7 +62,11 @@ pub fn compare(alloc: Global, text: &[u8], most: u32, pages: usize) -> anyhow::R
 }
 
 /// What the two say from the first byte on that differs, if one does.
-fn difference(alloc: Global, flat: &[u8], trees: &[u8]) -> anyhow::Result<Option<Difference>> {
+fn first_difference(
+    alloc: Global,
+    flat: &[u8],
+    trees: &[u8],
+) -> anyhow::Result<Option<Difference>> {
     if flat == trees {
         return Ok(None);
     }

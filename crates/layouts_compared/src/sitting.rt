@@ -31,12 +31,15 @@ pub struct Told<D> {
 
 /// Loads the game of this text into an empty table with so many pages in memory, does up to so many units of work, and asks on
 /// the way and at the end.
-pub fn told_of<F: Layout>(
+pub fn told_of<F: Layout + Drop>(
     alloc: Global,
     text: &[u8],
     most: u32,
     pages: usize,
-) -> anyhow::Result<Told<F::Device>> {
+) -> anyhow::Result<Told<F::Device>>
+where
+    F::Device: Drop,
+{
     let mut said = Vec::new(alloc);
     let mut solver = begun::<F>(alloc, pages)?;
     solver.load(text)?;
@@ -60,7 +63,10 @@ pub fn told_of<F: Layout>(
 }
 
 /// An empty table with so many pages in memory.
-fn begun<F: Layout>(alloc: Global, pages: usize) -> anyhow::Result<FileSolver<F>> {
+fn begun<F: Layout>(alloc: Global, pages: usize) -> anyhow::Result<FileSolver<F>>
+where
+    F::Device: Drop,
+{
     match FileSolver::<F>::create(alloc, F::new_disk(alloc)?) {
         Ok(solver) if pages == MOST_CACHED => Ok(solver),
         Ok(solver) => opened(alloc, solver.close(), pages),
@@ -69,11 +75,10 @@ fn begun<F: Layout>(alloc: Global, pages: usize) -> anyhow::Result<FileSolver<F>
 }
 
 /// The table on this disk, with so many of its pages in memory.
-fn opened<F: Layout>(
-    alloc: Global,
-    disk: F::Device,
-    pages: usize,
-) -> anyhow::Result<FileSolver<F>> {
+fn opened<F: Layout>(alloc: Global, disk: F::Device, pages: usize) -> anyhow::Result<FileSolver<F>>
+where
+    F::Device: Drop,
+{
     match FileSolver::<F>::open_with_cache(alloc, disk, pages.min(MOST_CACHED)) {
         Ok(solver) => Ok(solver),
         Err(refused) => Err(refused.fault.into()),
