@@ -150,8 +150,9 @@ fn ask_number<F: Layout>(
     }
     let mut text = Vec::new(alloc);
     let show = Asked::Question(Question::Show(number));
-    put_answer(alloc, solver, show, &mut text, said)?;
+    let status = put_answer(alloc, solver, show, &mut text, said)?;
     said.write_all(&text)?;
+    writeln!(said, "status {status}")?;
     match text.as_slice() {
         [text @ .., b'\n'] => ask(alloc, solver, said, Asked::Question(Question::Find(text))),
         _ => Ok(()),
