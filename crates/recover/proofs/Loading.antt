@@ -1,6 +1,6 @@
 -- A game is loaded, or not.
-use Rattle.std.proofs.Common.{◌≡◌, ◌≢◌, ◌⊎◌, ℕ, List, Option, None, Some, length, refl, sym, ◌∙◌, ap, subst, Bool, false, true}
-use Rattle.std.specs.Prelude.{is_some, IsSome, IfSome, IfNone, IsTrue}
+use Rattle.std.proofs.Common.{◌≡◌, ◌≢◌, ◌⊎◌, ℕ, List, Option, None, Some, length, refl, sym, ◌∙◌, ap, subst, false}
+use Rattle.std.specs.Prelude.{IsTrue}
 use Rattle.std.proofs.lemmas.Option.{same_Some}
 use Rattle.sector_disk.specs.Disk.{GoesOn}
 use Rattle.sector_disk.specs.aid.Moments.{leaves_more, still_honest}
@@ -110,13 +110,3 @@ module _ (Stores : Layout) (text start : List ℕ) (game : Game) (reads : Reads 
   loaded_sound honest put =
       subst (λ (kept : Option Kept). IsSound kept) (sym (put.kept honest))
       (game, reads, subst (λ (s : List ℕ). IsLocallySound (graph_of Bits game) (IsWideAt Bits game) (loaded s)) (sym start_is) (a_first_table_is_sound Bits game))
-
--- a file with a text has a game, and one without has none
-pub has_game : {A : Type 0} (text : Option A) (bytes : A → List ℕ) (kept : Option Kept) (b : Bool) → b ≡ is_some text → b ≡ true → IfSome text (λ t. text_kept kept ≡ Some (bytes t)) → IsSome kept
-has_game None bytes kept b is yes_ some = absurd (cc)
-has_game (Some t) bytes None b is yes_ some = absurd (cc)
-has_game (Some t) bytes (Some kept) b is yes_ some = refl
-
-pub has_none : {A : Type 0} (text : Option A) (kept : Option Kept) (b : Bool) → b ≡ is_some text → b ≡ false → IfNone text (kept ≡ None) → kept ≡ None
-has_none None kept b is no_ none = none
-has_none (Some t) kept b is no_ none = absurd (cc)

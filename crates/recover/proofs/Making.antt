@@ -9,7 +9,14 @@ use Rattle.legal_moves.specs.declared.compiled.Compiled.{Compiled}
 use Rattle.retrograde.specs.Stored.{Stored}
 use Rattle.game_table.specs.Tables.{ArePositions}
 use Rattle.game_file.specs.Kept.{Kept, text_kept, packing_kept}
+use Rattle.game_file.specs.Causes.{FileTableCause}
+use Rattle.game_file.specs.State.{State}
+use Rattle.table.specs.Faults.{NeedsNoPage}
+use Rattle.table.specs.declared.fault.TableFault.{TableFault}
+use Rattle.table.specs.declared.fault.TableFault.TheVariants as table
+use Rattle.recover.specs.Faults.{table_fault}
 use Rattle.recover.specs.Held.{IsOfAGame}
+use Rattle.recover.specs.aid.Ready.{NoGameCause}
 use Rattle.recover.proofs.Refusing.{apart}
 
 -- a file with a text keeps something
@@ -45,3 +52,11 @@ module _ (text : List ℕ) (packing : PackingKind) (compiled : Compiled) (is_rea
       (tells.1 (subst (λ (p : PackingKind). ArePositions p (compiled_game compiled) stored) (sym (same_kind k packed))
       (subst (λ (s : Stored (List ℕ)). ArePositions k.packing (compiled_game compiled) s) (sym (same k refl))
       (subst (λ (g : Game). ArePositions k.packing g k.table) (sym is_game) of.positions))))
+
+-- why the positions of a file could not be looked at
+pub no_game_cause : (old new : State) (fault : TableFault) → NeedsNoPage fault → FileTableCause old new fault → NoGameCause old new.failures (table_fault fault)
+no_game_cause old new table.Disk no_page cause = cause
+no_game_cause old new table.Damaged no_page cause = λ honest. absurd (cause honest)
+no_game_cause old new table.TableFull no_page cause = absurd (no_page refl)
+no_game_cause old new table.OutOfMemory no_page cause = tt
+no_game_cause old new table.Closed no_page cause = cause

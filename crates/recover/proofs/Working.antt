@@ -29,11 +29,14 @@ use Rattle.game_file.specs.Kept.{Kept, Layout, kept_as}
 use Rattle.game_file.specs.State.{State}
 use Rattle.game_file.specs.declared.fault.FileFault.{FileFault}
 use Rattle.game_file.specs.declared.fault.FileFault.TheVariants as file
+use Rattle.recover.specs.declared.fault.SolverFault.{SolverFault}
 use Rattle.recover.specs.declared.fault.SolverFault.TheVariants.{Disk}
+use Rattle.recover.specs.declared.fault.SolverFault.TheVariants as solver
 use Rattle.recover.specs.Faults.{file_fault, step_fault, table_fault}
 use Rattle.recover.specs.Held.{IsSound}
 use Rattle.recover.specs.declared.replies.Reply.TheVariants.{Worked, Refused}
 use Rattle.recover.specs.Machine.{work, WorksOnTable, WorkCause, StopsAt}
+use Rattle.recover.specs.Queries.{AskCause}
 use Rattle.recover.specs.State.{IsMadeOf, IsSourceOf}
 use Rattle.recover.specs.Steps.{IsDone, IsRefused}
 use Rattle.recover.proofs.Loading.{Leaves, put_stops}
@@ -256,3 +259,25 @@ module _ (Stores : Layout) (old new : State) (source : Compiled) (k : Kept) (mad
         by_fault step.Inconsistent left other = back left
         by_fault step.OutOfMemory left other = back left
         by_fault (step.Table f) left other = failed f left (λ is. other (ap table_fault is))
+
+-- what forbids a question forbids work
+pub asked_work : (units : ℕ) (state : State) (fault : SolverFault) → AskCause state state fault → WorkCause units state state fault
+asked_work units state solver.Disk cause = cause
+asked_work units state solver.NotATable cause = absurd cause
+asked_work units state solver.AlreadyATable cause = absurd cause
+asked_work units state solver.Damaged cause = cause
+asked_work units state solver.OldLayout cause = absurd cause
+asked_work units state solver.TooSmall cause = absurd cause
+asked_work units state solver.TableFull cause = absurd cause
+asked_work units state solver.OutOfMemory cause = tt
+asked_work units state solver.Closed cause = cause
+asked_work units state (solver.Game g) cause = absurd cause
+asked_work units state solver.NoGame cause = cause.1
+asked_work units state solver.GameAlready cause = absurd cause
+asked_work units state (solver.KeeperChooses n) cause = absurd cause
+asked_work units state solver.TooWide cause = absurd cause
+asked_work units state solver.TooManyPositions cause = absurd cause
+asked_work units state solver.Inconsistent cause = absurd cause
+asked_work units state solver.NoSuchPosition cause = absurd cause
+asked_work units state solver.NotSettled cause = absurd cause
+asked_work units state solver.BadPosition cause = absurd cause

@@ -38,12 +38,7 @@ impl<F: GameFile> FileSolver<F> {
         ensures cause { IfErr result (AskCause (F.state self.now.file) (F.state self.now.file)) }
         ensures closed { (F.state self.now.file).closed ≡ true → IsErrOf result SolverFault.Closed }
     {
-        if self.file.is_closed() {
-            return Err(SolverFault::Closed);
-        }
-        if self.file.text().is_none() {
-            return Err(SolverFault::NoGame);
-        }
+        self.needs_game()?;
         Ok(self.file.counts().known)
     }
 

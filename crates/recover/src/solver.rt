@@ -1,5 +1,5 @@
 //! A solver over a disk.
-ghost use Rattle.std.specs.Prelude.{◌≡◌, ◌≤◌, ◌↔◌, true, false, Option, None, option_map, IsSome, OnOk, IfOk, IfErr, IsErrOf, IsTrue};
+ghost use Rattle.std.specs.Prelude.{◌≡◌, ◌≤◌, ◌↔◌, ℕ, List, true, false, Option, None, option_map, IsSome, OnOk, IfOk, IfErr, IsErrOf, IsTrue};
 ghost use Rattle.sector_disk.specs.Disk.{Picture};
 ghost use Rattle.retrograde.specs.Changes.{counts_of};
 ghost use Rattle.game_file.specs.Kept.{Kept};
@@ -8,8 +8,9 @@ ghost use Rattle.game_file.specs.State.{GoesAhead};
 ghost use Rattle.game_file.specs.Stops.{LeavesNow};
 ghost use Rattle.recover.specs.Headline.{IsUnlucky};
 ghost use Rattle.recover.specs.Held.{Holds, IsSound};
-ghost use Rattle.recover.specs.Machine.{load as load_it, work as work_on};
+ghost use Rattle.recover.specs.Machine.{load as load_it, work as work_on, LoadCause};
 ghost use Rattle.recover.specs.Opening.{IsOpened, IsCreated, OpenCause, LayoutCause, CreateCause};
+ghost use Rattle.recover.specs.Queries.{AskCause};
 ghost use Rattle.recover.specs.Steps.{IsDone, IsRefused};
 ghost use Rattle.recover.specs.Units.{units_in};
 
@@ -103,6 +104,44 @@ impl<F: GameFile> FileSolver<F> {
         }
     }
 
+    /// Whether a game may be loaded: E9, S2.
+    fn needs_no_game(&self) -> Result<(), SolverFault>
+        ensures open { OnOk result ((state self.now).closed ≡ false) }
+        ensures none { OnOk result ((state self.now).kept ≡ None) }
+        ensures closed { (state self.now).closed ≡ true → IsErrOf result SolverFault.Closed }
+        ensures already { (state self.now).closed ≡ false
+            → IsSome (state self.now).kept
+            → IsErrOf result SolverFault.GameAlready }
+        ensures cause { (text : List ℕ) → IfErr result (LoadCause text (state self.now) (state self.now)) }
+    {
+        if self.file.is_closed() {
+            return Err(SolverFault::Closed);
+        }
+        match self.file.text() {
+            Some(_) => Err(SolverFault::GameAlready),
+            None => Ok(()),
+        }
+    }
+
+    /// Whether a game is loaded, and may be asked and worked on: E9, S1.
+    pub(crate) fn needs_game(&self) -> Result<(), SolverFault>
+        ensures open { OnOk result ((state self.now).closed ≡ false) }
+        ensures some { OnOk result (IsSome (state self.now).kept) }
+        ensures closed { (state self.now).closed ≡ true → IsErrOf result SolverFault.Closed }
+        ensures no_game { (state self.now).closed ≡ false
+            → (state self.now).kept ≡ None
+            → IsErrOf result SolverFault.NoGame }
+        ensures cause { IfErr result (AskCause (state self.now) (state self.now)) }
+    {
+        if self.file.is_closed() {
+            return Err(SolverFault::Closed);
+        }
+        match self.file.text() {
+            Some(_) => Ok(()),
+            None => Err(SolverFault::NoGame),
+        }
+    }
+
     /// Loads the game of this text: E9, S2, then G1 to G10, then E1, E7, E8.
     pub fn load(&mut self, text: &[u8]) -> Result<(), SolverFault>
         ensures ready { IsReady self.old → IsReady self.new }
@@ -121,12 +160,7 @@ impl<F: GameFile> FileSolver<F> {
             → IsSound (state self.old).kept
             → IsSound (state self.new).kept }
     {
-        if self.file.is_closed() {
-            return Err(SolverFault::Closed);
-        }
-        if self.file.text().is_some() {
-            return Err(SolverFault::GameAlready);
-        }
+        self.needs_no_game()?;
         let source = Source::read(self.alloc, text, PackingKind::Bits)?;
         self.file.load(text, PackingKind::Bits, &source.start())?;
         self.source = Some(source);
@@ -153,12 +187,7 @@ impl<F: GameFile> FileSolver<F> {
             → IsSound (state self.old).kept
             → IsSound (state self.new).kept }
     {
-        if self.file.is_closed() {
-            return Err(SolverFault::Closed);
-        }
-        if self.file.text().is_none() {
-            return Err(SolverFault::NoGame);
-        }
+        self.needs_game()?;
         let Some(source) = &self.source else {
             return Err(SolverFault::NoGame);
         };

@@ -14,6 +14,17 @@ use Rattle.audit.proofs.whole.audit.Goals as goal
 is_ok : (b : Bool) → b ≡ true → ◌≡◌ {A = Result Bool AuditFault} (Ok b) (Ok true)
 is_ok b is = cc
 
+pub returns-then-branch-clause-answer : goal.returns-then-branch-clause-answer
+returns-then-branch-clause-answer g c = λ honest table.
+    let h1 = c.in_ok-floors.ensures.honest.0 honest in
+    let graph = g.M.GameGraph.graph c.args.source.now in
+    let IsWide = g.M.GameGraph.is_wide c.args.source.now in
+    let right = subst (λ (t : Stored (List ℕ)). IsTable t → AreFloors t (length t.order) c.in_ok-floors.floors.items
+    → ◌≡◌ {A = Result Bool AuditFault} (Ok c.in_ok-adds_up.field-0) (Ok true) → IsAnswer graph IsWide t Right)
+    (c.in_ok-floors.ensures.same honest) (rw c.deref.ensures.value at c.in_ok-adds_up.ensures.right h1) in
+    let added = right table (c.in_ok-floors.ensures.floors honest table) (is_ok c.in_ok-adds_up.field-0 c.if-branch.true) in
+    search (added)
+
 pub returns-then-branch-clause-sound : goal.returns-then-branch-clause-sound
 returns-then-branch-clause-sound g c = λ honest table is.
     let h1 = c.in_ok-floors.ensures.honest.0 honest in

@@ -58,6 +58,32 @@ two_is_few n two = omega (arith, two)
 two_is_some : (n : ℕ) → n ≡ 2 → 1 ≤ n
 two_is_some n two = omega (arith, two)
 
+pub returns-clause-written : goal.returns-clause-written
+returns-clause-written g c =
+    let w = c.args.widths in
+    let kind = c.args.kind in
+    let items = c.args.items.now in
+    let was = items_in w kind c.args.bytes.now in
+    let now = c.splice_in.new.page in
+    let old = g.P.Pages.store c.args.store.now in
+    let new = g.P.Pages.store c.write_page.new.self in
+    let first = c.in_ok-first.ensures in
+    let wrote = c.in_ok-write_page.ensures in
+    let q = c.in_ok-first.first in
+    let few = (g.met.P.Pages.sound c.args.store.now).few in
+    let list : List Item = take c.args.from was ++ (listed w kind items.count items.bytes.items ++ drop c.args.to was) in
+    let key : List ℕ = take (4 + w.key - 4) (drop 4 now) in
+    let amount : 4 + w.key - 4 ≡ w.key = omega arith in
+    let top : Item = (key, big_bytes 4 q) in
+    let are : items_in w kind now ≡ list = c.splice_in.ensures.items ∙ ap (λ (bs : List ℕ). take c.args.from was ++ (items_of w.key (behind_of w kind) items.count bs ++ drop c.args.to was)) c.deref.ensures.0 in
+    subst (λ (tops : List Item). AreWritten w kind c.args.page list tops old new)
+    (sym (as_listed w.key c.no_few_items-tops.result.count c.lead_to.new.items.count c.no_few_items-tops.result.bytes.items c.lead_to.new.items.bytes.items key q c.no_few_items-tops.ensures.count c.lead_to.ensures.listed))
+    (written_one w kind c.args.page old list q top (g.P.Pages.store c.renewed.new.store) new
+    (leads_back q (omega (arith, first.there, few)))
+    (sym (ap first_key are) ∙ first_of w.key (behind_of w kind) (count_in now) (drop 4 now) (some kind (count_in now) c.splice_in.ensures.page.enough) ∙ ap (λ (n : ℕ). Some (take n (drop 4 now))) (sym amount))
+    first.place first.works first.is_page first.there (λ honest. subst (IsPage w kind) (sym (wrote.written honest)) c.splice_in.ensures.page)
+    (λ honest. ap (items_in w kind) (wrote.written honest) ∙ are) wrote.others wrote.marks)
+
 pub overflow_add-total : goal.overflow_add-total
 overflow_add-total g c =
     let few = few_items c.args.widths c.args.kind (count_in c.args.bytes.now) c.requires.form.fits in
@@ -261,29 +287,3 @@ returns-in_err-write_page-clause-works g c = works_then c.in_ok-first.ensures.wo
 
 pub returns-clause-works : goal.returns-clause-works
 returns-clause-works g c = works_then c.in_ok-first.ensures.works c.write_page.ensures.works
-
-pub returns-clause-written : goal.returns-clause-written
-returns-clause-written g c =
-    let w = c.args.widths in
-    let kind = c.args.kind in
-    let items = c.args.items.now in
-    let was = items_in w kind c.args.bytes.now in
-    let now = c.splice_in.new.page in
-    let old = g.P.Pages.store c.args.store.now in
-    let new = g.P.Pages.store c.write_page.new.self in
-    let first = c.in_ok-first.ensures in
-    let wrote = c.in_ok-write_page.ensures in
-    let q = c.in_ok-first.first in
-    let few = (g.met.P.Pages.sound c.args.store.now).few in
-    let list : List Item = take c.args.from was ++ (listed w kind items.count items.bytes.items ++ drop c.args.to was) in
-    let key : List ℕ = take (4 + w.key - 4) (drop 4 now) in
-    let amount : 4 + w.key - 4 ≡ w.key = omega arith in
-    let top : Item = (key, big_bytes 4 q) in
-    let are : items_in w kind now ≡ list = c.splice_in.ensures.items ∙ ap (λ (bs : List ℕ). take c.args.from was ++ (items_of w.key (behind_of w kind) items.count bs ++ drop c.args.to was)) c.deref.ensures.0 in
-    subst (λ (tops : List Item). AreWritten w kind c.args.page list tops old new)
-    (sym (as_listed w.key c.no_few_items-tops.result.count c.lead_to.new.items.count c.no_few_items-tops.result.bytes.items c.lead_to.new.items.bytes.items key q c.no_few_items-tops.ensures.count c.lead_to.ensures.listed))
-    (written_one w kind c.args.page old list q top (g.P.Pages.store c.renewed.new.store) new
-    (leads_back q (omega (arith, first.there, few)))
-    (sym (ap first_key are) ∙ first_of w.key (behind_of w kind) (count_in now) (drop 4 now) (some kind (count_in now) c.splice_in.ensures.page.enough) ∙ ap (λ (n : ℕ). Some (take n (drop 4 now))) (sym amount))
-    first.place first.works first.is_page first.there (λ honest. subst (IsPage w kind) (sym (wrote.written honest)) c.splice_in.ensures.page)
-    (λ honest. ap (items_in w kind) (wrote.written honest) ∙ are) wrote.others wrote.marks)

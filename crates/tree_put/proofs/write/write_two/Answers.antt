@@ -164,6 +164,45 @@ module _ (w : Widths) (kind : Kind) (count cut b : ℕ) (bytes whole front back 
       let one : 1 * width ≤ cut * width = mul-mono 1 cut width (some kind cut parts.front_enough) in
       omega (arith, long, one)
 
+pub returns-clause-written : goal.returns-clause-written
+returns-clause-written g c =
+    let w = c.args.widths in
+    let kind = c.args.kind in
+    let items = c.args.items.now in
+    let behind = behind_of w kind in
+    let store = g.P.Pages.store in
+    let old = store c.args.store.now in
+    let first = c.in_ok-first.ensures in
+    let second = c.in_ok-second.ensures in
+    let q = c.in_ok-first.first in
+    let r = c.in_ok-second.second in
+    let few = (g.met.P.Pages.sound c.args.store.now).few in
+    let cut = c.split_at.ensures in
+    let front = c.split_at.result.0.now in
+    let back = c.split_at.result.1.now in
+    let parted = c.requires.cut in
+    let before = items.cut in
+    let other = items.count - items.cut in
+    let top : Item = (take w.key front, big_bytes 4 q) in
+    let more : Item = (take w.key back, big_bytes 4 r) in
+    let one = c.in_ok-write_on.ensures in
+    let two = c.in_ok-write_on-2.ensures in
+    let there_r : r < length (store c.renewed.new.store).marks = second.within in
+    let sum : items.count ≡ before + other = let more = some kind other parted.back_enough in omega (arith, more) in
+    let parts : listed w kind items.count items.bytes.items ≡ items_of w.key behind before front ++ items_of w.key behind other back =
+    items_parts w.key behind c.behind_of.result before other items.count items.bytes.items c.deref.result.now front back c.behind_of.ensures sum c.deref.ensures.0 cut.front cut.back cut.front_len in
+    let list : items_of w.key 4 c.lead_to-2.new.items.count c.lead_to-2.new.items.bytes.items ≡ top ∷ more ∷ [] =
+    c.lead_to-2.ensures.listed
+    ∙ ap (λ (tops : List Item). tops ++ more ∷ [])
+    (as_listed w.key c.no_few_items-tops.result.count c.lead_to.new.items.count c.no_few_items-tops.result.bytes.items c.lead_to.new.items.bytes.items (take w.key front) q c.no_few_items-tops.ensures.count c.lead_to.ensures.listed) in
+    subst (λ (tops : List Item). AreWritten w kind c.args.page (listed w kind items.count items.bytes.items) tops old (store c.write_on-2.new.store)) (sym list)
+    (written_two w kind c.args.page old (listed w kind items.count items.bytes.items) (items_of w.key behind before front) (items_of w.key behind other back) q r top more
+    (store c.renewed.new.store) (store c.new_page.new.self) (store c.write_on.new.store) (store c.write_on-2.new.store) parts
+    (leads_back q (omega (arith, first.there, few))) (leads_back r (omega (arith, there_r, first.works.same_pages, few)))
+    (first_of w.key behind before front (some kind before parted.front_enough)) (first_of w.key behind other back (some kind other parted.back_enough))
+    first.place first.works first.fresh first.is_page first.there second.free second.ok second.others second.works second.is_page there_r
+    one.page one.items one.others one.marks one.works two.page two.items two.others two.marks)
+
 pub write_on-requires-clause-fits : goal.write_on-requires-clause-fits
 write_on-requires-clause-fits g c =
     let items = c.args.items.now in
@@ -217,41 +256,5 @@ lead_to-requires-2-clause-key g c =
     (other_key_there c.args.widths c.args.kind items.count items.cut c.behind_of.result items.bytes.items c.deref.result.now c.split_at.result.0.now c.split_at.result.1.now c.behind_of.ensures c.requires.whole
     c.deref.ensures.0 c.requires.cut cut.front_len cut.back_len)
 
-pub returns-clause-written : goal.returns-clause-written
-returns-clause-written g c =
-    let w = c.args.widths in
-    let kind = c.args.kind in
-    let items = c.args.items.now in
-    let behind = behind_of w kind in
-    let store = g.P.Pages.store in
-    let old = store c.args.store.now in
-    let first = c.in_ok-first.ensures in
-    let second = c.in_ok-second.ensures in
-    let q = c.in_ok-first.first in
-    let r = c.in_ok-second.second in
-    let few = (g.met.P.Pages.sound c.args.store.now).few in
-    let cut = c.split_at.ensures in
-    let front = c.split_at.result.0.now in
-    let back = c.split_at.result.1.now in
-    let parted = c.requires.cut in
-    let before = items.cut in
-    let other = items.count - items.cut in
-    let top : Item = (take w.key front, big_bytes 4 q) in
-    let more : Item = (take w.key back, big_bytes 4 r) in
-    let one = c.in_ok-write_on.ensures in
-    let two = c.in_ok-write_on-2.ensures in
-    let there_r : r < length (store c.renewed.new.store).marks = second.within in
-    let sum : items.count ≡ before + other = let more = some kind other parted.back_enough in omega (arith, more) in
-    let parts : listed w kind items.count items.bytes.items ≡ items_of w.key behind before front ++ items_of w.key behind other back =
-    items_parts w.key behind c.behind_of.result before other items.count items.bytes.items c.deref.result.now front back c.behind_of.ensures sum c.deref.ensures.0 cut.front cut.back cut.front_len in
-    let list : items_of w.key 4 c.lead_to-2.new.items.count c.lead_to-2.new.items.bytes.items ≡ top ∷ more ∷ [] =
-    c.lead_to-2.ensures.listed
-    ∙ ap (λ (tops : List Item). tops ++ more ∷ [])
-    (as_listed w.key c.no_few_items-tops.result.count c.lead_to.new.items.count c.no_few_items-tops.result.bytes.items c.lead_to.new.items.bytes.items (take w.key front) q c.no_few_items-tops.ensures.count c.lead_to.ensures.listed) in
-    subst (λ (tops : List Item). AreWritten w kind c.args.page (listed w kind items.count items.bytes.items) tops old (store c.write_on-2.new.store)) (sym list)
-    (written_two w kind c.args.page old (listed w kind items.count items.bytes.items) (items_of w.key behind before front) (items_of w.key behind other back) q r top more
-    (store c.renewed.new.store) (store c.new_page.new.self) (store c.write_on.new.store) (store c.write_on-2.new.store) parts
-    (leads_back q (omega (arith, first.there, few))) (leads_back r (omega (arith, there_r, first.works.same_pages, few)))
-    (first_of w.key behind before front (some kind before parted.front_enough)) (first_of w.key behind other back (some kind other parted.back_enough))
-    first.place first.works first.fresh first.is_page first.there second.free second.ok second.others second.works second.is_page there_r
-    one.page one.items one.others one.marks one.works two.page two.items two.others two.marks)
+pub write_on-requires-2-clause-enough : goal.write_on-requires-2-clause-enough
+write_on-requires-2-clause-enough g c = c.requires.cut.back_enough

@@ -1,19 +1,25 @@
-use Rattle.std.proofs.Common.{refl, sym, ◌∙◌, rules}
-use Rattle.recover.proofs.Loading.{loaded_done, loaded_refused, loaded_sound, has_none}
+use Rattle.std.proofs.Common.{refl, rules}
+use Rattle.recover.proofs.Loading.{loaded_done, loaded_refused, loaded_sound}
 use Rattle.recover.proofs.Passing.{passed_on}
 use Rattle.recover.proofs.Refusing.{nothing_done}
 use Rattle.recover.proofs.solver.FileSolver.load.Goals as goal
 
+pub returns-in_err-needs_no_game-clause-refused : goal.returns-in_err-needs_no_game-clause-refused
+returns-in_err-needs_no_game-clause-refused g c = λ ready.
+    passed_on _ c.from_residual.result _ c.from_residual.ensures
+    (nothing_done _ _ _ _ (λ honest is_open. g.met.F.GameFile.whole_leaves c.args.self.now.file ready.0 honest is_open)
+    (record { does = λ honest. refl; reason = c.in_err-needs_no_game.ensures.cause c.args.text.now }))
+
 pub returns-in_err-source-clause-refused : goal.returns-in_err-source-clause-refused
 returns-in_err-source-clause-refused g c = λ ready.
-    passed_on _ c.from_residual.result _ c.from_residual.ensures
+    passed_on _ c.from_residual-in_err-source.result _ c.from_residual-in_err-source.ensures
     (nothing_done _ _ _ _ (λ honest is_open. g.met.F.GameFile.whole_leaves c.args.self.now.file ready.0 honest is_open)
     (record { does = λ honest. refl; reason = c.in_err-source.ensures.fault }))
 
 pub returns-in_err-load-clause-refused : goal.returns-in_err-load-clause-refused
 returns-in_err-load-clause-refused g c = λ ready.
-    let none = has_none c.text.result _ c.is_some.result c.is_some.ensures c.if-is_some.false c.text.ensures.none in
-    let is_open = sym c.is_closed.ensures ∙ c.if-is_closed.false in
+    let none = c.in_ok-needs_no_game.ensures.none in
+    let is_open = c.in_ok-needs_no_game.ensures.open in
     let refused = c.in_err-load.ensures in
     passed_on _ c.from_residual-in_err-load.result _ c.from_residual-in_err-load.ensures
     (loaded_refused _ _ _ _ c.in_ok-source.ensures.reads (rw c.in_ok-source.ensures.packing at c.start.ensures.start) _ _ none _ (rw c.in_ok-source.ensures.packing at c.start.ensures.long)
@@ -21,51 +27,15 @@ returns-in_err-load-clause-refused g c = λ ready.
 
 pub returns-clause-done : goal.returns-clause-done
 returns-clause-done g c = λ ready.
-    let none = has_none c.text.result _ c.is_some.result c.is_some.ensures c.if-is_some.false c.text.ensures.none in
+    let none = c.in_ok-needs_no_game.ensures.none in
     loaded_done _ _ _ _ c.in_ok-source.ensures.reads (rw c.in_ok-source.ensures.packing at c.start.ensures.start) _ _ none
     (λ honest is_open. g.met.F.GameFile.whole_leaves c.load.new.self (c.load.ensures.whole ready.0) honest is_open)
     c.load.ensures.ahead.goes_on (c.in_ok-load.ensures.ok ready.0 none)
 
 pub returns-clause-sound : goal.returns-clause-sound
 returns-clause-sound g c = λ ready honest sound.
-    let none = has_none c.text.result _ c.is_some.result c.is_some.ensures c.if-is_some.false c.text.ensures.none in
+    let none = c.in_ok-needs_no_game.ensures.none in
     loaded_sound _ _ _ _ c.in_ok-source.ensures.reads (rw c.in_ok-source.ensures.packing at c.start.ensures.start) _ _ none honest (c.in_ok-load.ensures.ok ready.0 none)
-
-pub returns-then-is_closed-clause-ready : goal.returns-then-is_closed-clause-ready
-returns-then-is_closed-clause-ready g c = search rules
-
-pub returns-then-is_closed-clause-ahead : goal.returns-then-is_closed-clause-ahead
-returns-then-is_closed-clause-ahead g c = search rules
-
-pub returns-then-is_closed-clause-refused : goal.returns-then-is_closed-clause-refused
-returns-then-is_closed-clause-refused g c = search rules
-
-pub returns-then-is_closed-clause-closed : goal.returns-then-is_closed-clause-closed
-returns-then-is_closed-clause-closed g c = search rules
-
-pub returns-then-is_closed-clause-already : goal.returns-then-is_closed-clause-already
-returns-then-is_closed-clause-already g c = search rules
-
-pub returns-then-is_closed-clause-sound : goal.returns-then-is_closed-clause-sound
-returns-then-is_closed-clause-sound g c = search rules
-
-pub returns-then-is_some-clause-ready : goal.returns-then-is_some-clause-ready
-returns-then-is_some-clause-ready g c = search rules
-
-pub returns-then-is_some-clause-ahead : goal.returns-then-is_some-clause-ahead
-returns-then-is_some-clause-ahead g c = search rules
-
-pub returns-then-is_some-clause-refused : goal.returns-then-is_some-clause-refused
-returns-then-is_some-clause-refused g c = search rules
-
-pub returns-then-is_some-clause-closed : goal.returns-then-is_some-clause-closed
-returns-then-is_some-clause-closed g c = search rules
-
-pub returns-then-is_some-clause-already : goal.returns-then-is_some-clause-already
-returns-then-is_some-clause-already g c = search rules
-
-pub returns-then-is_some-clause-sound : goal.returns-then-is_some-clause-sound
-returns-then-is_some-clause-sound g c = search rules
 
 pub returns-in_err-source-clause-ready : goal.returns-in_err-source-clause-ready
 returns-in_err-source-clause-ready g c = search rules

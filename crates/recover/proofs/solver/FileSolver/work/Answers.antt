@@ -4,9 +4,16 @@ use Rattle.legal_moves.specs.declared.compiled.Compiled.{Compiled}
 use Rattle.recover.specs.State.{IsSourceOf}
 use Rattle.recover.proofs.Loading.{same_source, source_of_text}
 use Rattle.recover.proofs.Passing.{passed_on}
+use Rattle.recover.proofs.Refusing.{nothing_done}
 use Rattle.recover.proofs.Turning.{ahead_then}
-use Rattle.recover.proofs.Working.{kept_there, works_on, stops_on, worked_done, kept_sound, not_kept, idle_done, given_up, left_so, work_refused}
+use Rattle.recover.proofs.Working.{kept_there, works_on, stops_on, worked_done, kept_sound, not_kept, idle_done, given_up, left_so, work_refused, asked_work}
 use Rattle.recover.proofs.solver.FileSolver.work.Goals as goal
+
+pub returns-in_err-needs_game-clause-refused : goal.returns-in_err-needs_game-clause-refused
+returns-in_err-needs_game-clause-refused g c = λ ready.
+    passed_on _ c.from_residual.result _ c.from_residual.ensures
+    (nothing_done _ _ _ _ (λ honest is_open. g.met.F.GameFile.whole_leaves c.args.self.now.file ready.0 honest is_open)
+    (record { does = λ honest. refl; reason = asked_work _ (g.F.GameFile.state c.args.self.now.file) _ c.in_err-needs_game.ensures.cause }))
 
 pub returns-in-Err-clause-refused : goal.returns-in-Err-clause-refused
 returns-in-Err-clause-refused g c = λ ready.
@@ -20,7 +27,7 @@ returns-in-Err-clause-refused g c = λ ready.
     (λ honest sound inconsistent.
     let stored = g.met.F.GameFile.whole_stored file k ready.0 honest is in
     c.in-Err.ensures.consistent stored.0 (rw stored.1 sound) (ap (λ (f : StepFault). Err f) inconsistent))
-    c.in-Err.ensures.left (sym c.is_closed.ensures ∙ c.if-is_closed.false) given.1
+    c.in-Err.ensures.left c.in_ok-needs_game.ensures.open given.1
     (λ ahead. (c.discard.ensures.back file ready.0 ahead).2) (λ f fails other. c.discard.ensures.still file f ready.0 fails other))
 
 pub returns-in_err-commit-clause-refused : goal.returns-in_err-commit-clause-refused
@@ -28,7 +35,7 @@ returns-in_err-commit-clause-refused g c = λ ready.
     let file = c.args.self.now.file in
     let (k, is, made) = kept_there c.in-Some.source _ (subst (λ (o : Option Compiled). IsSourceOf o (g.F.GameFile.state file).kept) c.in-Some.is ready.1) in
     let refused = c.in_err-commit.ensures in
-    passed_on _ c.from_residual.result _ c.from_residual.ensures
+    passed_on _ c.from_residual-in_err-commit.result _ c.from_residual-in_err-commit.ensures
     (not_kept _ _ _ c.in-Some.source k made is _ c.in-Ok.done _
     (λ honest. let stored = g.met.F.GameFile.whole_stored file k ready.0 honest is in works_on c.in-Some.source k _ stored.1 _ _ _ _ c.count.ensures.is (c.in-Ok.ensures.works stored.0))
     _ (refused.err file k ready.0 is c.in-Ok.ensures.ahead (λ honest. let stored = g.met.F.GameFile.whole_stored file k ready.0 honest is in c.in-Ok.ensures.fits stored.0 (rw stored.1 stored.2))).1 (refused.cause file k ready.0 is c.in-Ok.ensures.ahead) (refused.still file c.in-Ok.ensures.ahead))
@@ -90,48 +97,12 @@ returns-else-done-gt0-clause-done g c = λ ready.
     (λ honest. let stored = g.met.F.GameFile.whole_stored file k ready.0 honest is in works_on c.in-Some.source k _ stored.1 _ _ _ _ c.count.ensures.is (c.in-Ok.ensures.works stored.0))
     (λ honest. ap g.F.Table.stored same ∙ (g.met.F.GameFile.whole_stored file k ready.0 honest is).1)
     (λ honest. c.counts-counts.ensures ∙ g.met.F.Table.counts_are c.work.new.table (c.in-Ok.ensures.honest.0 (g.met.F.GameFile.whole_stored file k ready.0 honest is).0))
-    (λ honest is_open. g.met.F.GameFile.whole_leaves file ready.0 honest is_open) (sym c.is_closed.ensures ∙ c.if-is_closed.false))
-
-pub returns-then-is_closed-clause-closed : goal.returns-then-is_closed-clause-closed
-returns-then-is_closed-clause-closed g c = λ closed. (refl, refl)
-
-pub returns-then-is_none-clause-no_game : goal.returns-then-is_none-clause-no_game
-returns-then-is_none-clause-no_game g c = λ is_open none. (refl, refl)
+    (λ honest is_open. g.met.F.GameFile.whole_leaves file ready.0 honest is_open) c.in_ok-needs_game.ensures.open)
 
 pub returns-else-done-gt0-clause-idle : goal.returns-else-done-gt0-clause-idle
 returns-else-done-gt0-clause-idle g c = λ none.
     let same = c.in-Ok.ensures.idle (omega (arith, c.if-done-gt0.false)) in
     rw same refl
-
-pub returns-then-is_closed-clause-ready : goal.returns-then-is_closed-clause-ready
-returns-then-is_closed-clause-ready g c = search rules
-
-pub returns-then-is_closed-clause-ahead : goal.returns-then-is_closed-clause-ahead
-returns-then-is_closed-clause-ahead g c = search rules
-
-pub returns-then-is_closed-clause-refused : goal.returns-then-is_closed-clause-refused
-returns-then-is_closed-clause-refused g c = search rules
-
-pub returns-then-is_closed-clause-no_game : goal.returns-then-is_closed-clause-no_game
-returns-then-is_closed-clause-no_game g c = search rules
-
-pub returns-then-is_closed-clause-sound : goal.returns-then-is_closed-clause-sound
-returns-then-is_closed-clause-sound g c = search rules
-
-pub returns-then-is_none-clause-ready : goal.returns-then-is_none-clause-ready
-returns-then-is_none-clause-ready g c = search rules
-
-pub returns-then-is_none-clause-ahead : goal.returns-then-is_none-clause-ahead
-returns-then-is_none-clause-ahead g c = search rules
-
-pub returns-then-is_none-clause-refused : goal.returns-then-is_none-clause-refused
-returns-then-is_none-clause-refused g c = search rules
-
-pub returns-then-is_none-clause-closed : goal.returns-then-is_none-clause-closed
-returns-then-is_none-clause-closed g c = search rules
-
-pub returns-then-is_none-clause-sound : goal.returns-then-is_none-clause-sound
-returns-then-is_none-clause-sound g c = search rules
 
 pub returns-in_default-clause-ready : goal.returns-in_default-clause-ready
 returns-in_default-clause-ready g c = search rules
