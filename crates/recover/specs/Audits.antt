@@ -1,5 +1,4 @@
 -- What an audit of the table says, and why it says nothing.
-use Rattle.std.specs.Prelude.{List, ℕ}
 use Rattle.rbg_game.specs.Games.{Game}
 use Rattle.rbg_read.specs.Reading.{Reads}
 use Rattle.retrograde.specs.Stored.{view_of}

@@ -1,5 +1,4 @@
-use Rattle.std.proofs.Common.{◌≡◌, ◌≤◌, ◌<◌, ◌+◌, ◌-◌, ◌*◌, ◌∙◌, ◌∷◌, ◌++◌, [], ℕ, List, Some, length, take, drop, sym, ap, subst, Fits, w64, arith, length-drop}
-use Rattle.std.proofs.lemmas.List.{length-take}
+use Rattle.std.proofs.Common.{◌≡◌, ◌≤◌, ◌<◌, ◌+◌, ◌-◌, ◌*◌, ◌∙◌, ◌∷◌, ◌++◌, [], ℕ, List, Some, length, take, drop, sym, ap, subst, Fits, w64, arith}
 use Rattle.std.proofs.lemmas.Result.{IfOk-weaker}
 use Rattle.byteorder.specs.Endian.{big_bytes}
 use Rattle.page_store.specs.Store.{Store}

@@ -1,5 +1,4 @@
-use Rattle.std.proofs.Common.{ap, subst, Option, Err, Ok, sym, ◌∙◌}
-use Rattle.legal_moves.specs.Compiled.{compiled_game}
+use Rattle.std.proofs.Common.{ap, subst, Option, Err}
 use Rattle.legal_moves.specs.declared.compiled.Compiled.{Compiled}
 use Rattle.audit.specs.declared.fault.AuditFault.{AuditFault}
 use Rattle.recover.specs.State.{IsSourceOf}
