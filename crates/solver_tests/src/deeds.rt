@@ -10,7 +10,7 @@ use std::test::Fail;
 use test_aids::TAKE;
 
 /// Sectors of the smallest disk that takes a table.
-pub const SECTORS: u64 = 128;
+const SECTORS: u64 = 128;
 
 /// What is answered to `status` where the table has the game of takes,
 pub const LOADED: &[u8] = b"known 1 expanded 0 settled 0 processed 0 open\n";

@@ -1,16 +1,12 @@
 //! A list of commands in one call.
 
-use crate::deeds::{Deed, LOADED, WORKED, all_say, disk_after, is_right};
+use crate::deeds::{Deed, disk_after, is_right};
 use recover::{Command, Reply, Solver, SolverFault, Units};
 use retrograde::Counts;
-use sector_disk::{FlakyDisk, SectorDisk};
+use sector_disk::SectorDisk;
 use std::alloc::Global;
 use std::test::Fail;
 use test_aids::{TAKE, expect};
-
-/// The number of the last disk call of the run here, counted from 0: four calls open the empty table; to load takes eight for the text and
-/// each of two leaves, and five to commit; and 224 work, as in `fault_tests` with both leaves in memory, and five commit.
-const LAST_SYNC: u64 = 4 + 3 * 8 + 5 + 224 + 5 - 1;
 
 /// To load the game of takes, or to work so many units.
 #[derive(Clone, Copy)]
@@ -87,22 +83,4 @@ fn a_run_answers_each_command(rt: HostRuntime) -> Result<(), Fail> {
     ];
     expect(replies.as_slice(), wanted.as_slice(), "the replies")?;
     expect(is_right(alloc, disk)?, true, "the table")
-}
-
-#[test]
-fn a_sync_that_fails_in_a_run_leaves_the_table_before_that_command_or_after(
-    rt: HostRuntime,
-) -> Result<(), Fail> {
-    let commands = commands(rt.alloc(), &[Step::Load, Step::Work(7)])?;
-    let mut replies = Vec::new(rt.alloc());
-    let disk = disk_after(rt.alloc(), &[Deed::Create])?;
-    let flaky = FlakyDisk::new(disk, LAST_SYNC, false);
-    let disk = run_on(rt.alloc(), flaky, &commands, &mut replies)?.into_inner();
-    let wanted = [Reply::Loaded, Reply::Refused(SolverFault::Disk)];
-    expect(replies.as_slice(), wanted.as_slice(), "the replies")?;
-    expect(
-        all_say(rt.alloc(), &disk, &[LOADED, WORKED])?,
-        true,
-        "the pictures",
-    )
 }

@@ -1,21 +1,21 @@
 //! Disks and outputs that fail in a session, and what is printed of refusals and of the greatest numbers.
 
-use crate::deeds::{Deed, LOADED, SECTORS, disk_after};
+use crate::deeds::{Deed, LOADED, disk_after};
 use best_line::Value;
 use rbg_game::roles::Player;
 use rbg_read::fault::GameFault;
 use rbg_read::read::read_game;
 use recover::{Reply, SolverFault};
 use retrograde::Counts;
-use sector_disk::{FuseDisk, MemDisk};
-use session::commands::{FileCommand, Outcome, command_on, put_refused, put_reply, status_of};
+use sector_disk::FuseDisk;
+use session::commands::{put_refused, put_reply, status_of};
 use session::line_by_line::session_over;
 use session::moves::moves_to;
 use session::replies::{put_status, value_line};
 use std::alloc::Global;
 use std::io::{self, ErrorKind, Write};
 use std::test::Fail;
-use test_aids::{TAKE, expect};
+use test_aids::expect;
 
 /// A writer that takes so many bytes, and then fails.
 #[derive(Drop)]
@@ -123,46 +123,6 @@ hen in 4294967295
         wanted.as_slice(),
         MOST,
     )
-}
-
-/// What a command on this disk comes to, with the line that it prints.
-fn outcome_on(alloc: Global, disk: MemDisk, command: FileCommand) -> (Outcome, Vec<u8>) {
-    let mut out = Vec::new(alloc);
-    let (outcome, _) = command_on(alloc, disk, command, &mut out);
-    (outcome, out)
-}
-
-#[test]
-fn a_game_is_loaded_once_and_a_table_made_once_and_with_room(rt: HostRuntime) -> Result<(), Fail> {
-    let alloc = rt.alloc();
-    let loaded = [Deed::Create, Deed::LoadTake];
-    let again = FileCommand::Load(TAKE.as_bytes().to_vec(alloc)?);
-    let (outcome, line) = outcome_on(alloc, disk_after(alloc, &loaded)?, again);
-    expect(
-        (outcome.status, outcome.refused),
-        (1, Some(SolverFault::GameAlready)),
-        line.as_slice(),
-    )?;
-    expect(line.as_slice(), b"refused S2\n".as_slice(), outcome.status)?;
-    let (outcome, line) = outcome_on(alloc, disk_after(alloc, &loaded)?, FileCommand::Create);
-    expect(
-        (outcome.status, outcome.refused),
-        (1, Some(SolverFault::AlreadyATable)),
-        line.as_slice(),
-    )?;
-    expect(line.as_slice(), b"refused E3\n".as_slice(), outcome.status)?;
-    let (outcome, line) = outcome_on(
-        alloc,
-        MemDisk::new(alloc, SECTORS - 1)?,
-        FileCommand::Create,
-    );
-    expect(
-        (outcome.status, outcome.refused),
-        (1, Some(SolverFault::TooSmall)),
-        line.as_slice(),
-    )?;
-    expect(line.as_slice(), b"refused E6\n".as_slice(), outcome.status)?;
-    Ok(())
 }
 
 /// What a session says, on its output and besides, and its status.

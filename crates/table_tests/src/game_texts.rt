@@ -28,41 +28,6 @@ pub const NIM: &str = "#players = first(1), second(1)
     )*
 ";
 
-/// Three in a row.
-pub const TIC_TAC_TOE: &str = "#players = cross(1), nought(1)
-#pieces = e, x, o
-#board =
-    a3[e]{right: b3, down: a2, next: b3, home: a3}
-    b3[e]{left: a3, right: c3, down: b2, next: c3, home: a3}
-    c3[e]{left: b3, down: c2, next: a2, home: a3}
-    a2[e]{right: b2, down: a1, next: b2, home: a3}
-    b2[e]{left: a2, right: c2, down: b1, next: c2, home: a3}
-    c2[e]{left: b2, down: c1, next: a1, home: a3}
-    a1[e]{right: b1, next: b1, home: a3}
-    b1[e]{left: a1, right: c1, next: c1, home: a3}
-    c1[e]{left: b1, home: a3}
-#rules =
-    ->cross
-    (
-        {$ nought == 0}
-        (next)* {e} [x] home
-        (
-            {? (next)* {x} (right {x} right {x} + down {x} down {x} + right down {x} right down {x} + left down {x} left down {x})}
-            [$ cross = 1]
-          + {! (next)* {x} (right {x} right {x} + down {x} down {x} + right down {x} right down {x} + left down {x} left down {x})}
-        )
-        ->nought
-        {$ cross == 0}
-        (next)* {e} [o] home
-        (
-            {? (next)* {o} (right {o} right {o} + down {o} down {o} + right down {o} right down {o} + left down {o} left down {o})}
-            [$ nought = 1]
-          + {! (next)* {o} (right {o} right {o} + down {o} down {o} + right down {o} right down {o} + left down {o} left down {o})}
-        )
-        ->cross
-    )*
-";
-
 /// Three pawns a side.
 pub const HEXAPAWN: &str = "#players = white(1), black(1)
 #pieces = e, w, b
@@ -157,7 +122,3 @@ pub const SMALL: [(&str, &str); 24] = [
         "[$n=2] ->white (({$ n<4}[$n=n+1] + {$ n==4}[$white=1]) ->black {$ white==0} ({$ n>0}[$n=n-1] + {$ n<2}[$n=n]) ->white)*",
     ),
 ];
-
-/// Play that goes round.
-pub const ROUND: &str =
-    "#players = white(1), black(1)  #pieces = e  #board = v[e]{}  #rules = ->white (->black ->white)*";

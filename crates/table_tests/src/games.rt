@@ -75,7 +75,7 @@ pub fn expect_audited<M: MoveSource, T: Table>(
 }
 
 /// The record of a number.
-pub fn record_of<T: Table>(table: &mut T, number: u32) -> Result<Record, Fail> {
+fn record_of<T: Table>(table: &mut T, number: u32) -> Result<Record, Fail> {
     if number >= table.counts().known {
         return Err("the number is not known".into());
     }

@@ -2,15 +2,9 @@
 #![tactic(auto)]
 
 #[cfg(test)]
-mod audit_tests;
-#[cfg(test)]
 mod game_texts;
 #[cfg(test)]
 mod games;
-#[cfg(test)]
-mod line_tests;
-#[cfg(test)]
-mod memory_tests;
 #[cfg(test)]
 mod plain;
 #[cfg(test)]

@@ -1,15 +1,14 @@
 //! Worked examples of the two units of work, on tables in memory.
-use crate::game_texts::{FORK, HEXAPAWN, TIC_TAC_TOE};
-use crate::games::{Solving, begun, expect_audited, small, winner, works};
+use crate::game_texts::FORK;
+use crate::games::{Solving, begun, expect_audited, winner};
 use frontier::expand_one;
 use legal_moves::MoveSource;
 use rbg_game::roles::Player;
-use retrograde::Counts;
 use settle::settle_one;
 use std::alloc::Global;
 use std::test::Fail;
 use table::Table;
-use table_work::{MAX_POSITIONS, StepFault};
+use table_work::MAX_POSITIONS;
 use test_aids::{TAKE, expect};
 
 /// A number with one of its predecessors.
@@ -244,131 +243,4 @@ fn takes_are_expanded_and_processed(rt: HostRuntime) -> Result<(), Fail> {
 #[test]
 fn a_fork_is_expanded_and_processed(rt: HostRuntime) -> Result<(), Fail> {
     expect_worked(rt.alloc(), &FORK_WORKED)
-}
-
-/// How many positions are known, expanded, settled and processed.
-type Far = (u32, u32, u32, u32);
-
-/// How many units of work are asked for, the answer, and how far the table is then.
-type Request = (u32, Result<u32, StepFault>, Far);
-
-fn far(counts: Counts) -> Far {
-    (
-        counts.known,
-        counts.expanded,
-        counts.settled,
-        counts.processed,
-    )
-}
-
-/// Expects the answers to these requests, one after another.
-fn expect_requests<M: MoveSource, T: Table>(
-    alloc: Global,
-    source: &M,
-    table: &mut T,
-    requests: &[Request],
-) -> Result<(), Fail>
-    requires { M.is_sound source.now }
-{
-    for (units, done, counts) in requests {
-        let found = works(alloc, source, table, *units);
-        expect(
-            (found, far(table.counts())),
-            (*done, *counts),
-            "units of work",
-        )?;
-    }
-    Ok(())
-}
-
-/// Expects the answers to these requests, and who wins the start then, and that the table is right.
-fn expect_start<M: MoveSource, T: Table>(
-    alloc: Global,
-    source: &M,
-    table: &mut T,
-    requests: &[Request],
-    wins: Option<Player>,
-) -> Result<(), Fail>
-    requires { M.is_sound source.now }
-{
-    expect_requests(alloc, source, table, requests)?;
-    let (found, _) = winner(table, 0)?;
-    expect(found, wins, "the start")?;
-    expect_audited(alloc, source, table)
-}
-
-/// Expects of a game what is answered to these requests, and who wins its start then.
-fn expect_units(
-    alloc: Global,
-    text: &str,
-    requests: &[Request],
-    wins: Option<Player>,
-) -> Result<(), Fail> {
-    let Solving { source, mut table } = begun(alloc, text)?;
-    expect_start(alloc, source.moves(), &mut table, requests, wins)
-}
-
-/// Small games by their variables and rules, none of which is won, with a request.
-const GAMES: [(&str, &str, Request); 5] = [
-    // the keeper chooses: it is refused, and nothing changes
-    (
-        "x(2)",
-        "([$x=1]+[$x=2]) ->white",
-        (1, Err(StepFault::KeeperChooses(0)), (1, 0, 0, 0)),
-    ),
-    // it has one outcome by two ways
-    (
-        "x(2)",
-        "([$x=1]+[$x=0][$x=1]) ->white",
-        (9, Ok(2), (2, 2, 0, 0)),
-    ),
-    // a search that is too wide comes before the keeper
-    (
-        "n(32768)",
-        "([$n=n+1])* ->white",
-        (1, Err(StepFault::TooWide), (1, 0, 0, 0)),
-    ),
-    // play that goes round is drawn
-    ("", "->white (->black ->white)*", (9, Ok(4), (4, 4, 0, 0))),
-    // and so is play that ends with the keeper to move
-    ("", "->white ->> {} ->black", (9, Ok(3), (3, 3, 0, 0))),
-];
-
-/// Expects of each of these games the answer to its request.
-fn expect_games(alloc: Global, games: &[(&str, &str, Request)]) -> Result<(), Fail> {
-    for (variables, rules, request) in games {
-        let text = small(alloc, variables, rules)?;
-        expect_units(alloc, text.as_str(), &[*request], None)?;
-    }
-    Ok(())
-}
-
-#[test]
-fn small_games_are_worked_or_refused(rt: HostRuntime) -> Result<(), Fail> {
-    expect_games(rt.alloc(), &GAMES)
-}
-
-const CUTS: [Request; 4] = [
-    (7, Ok(7), (7, 7, 2, 0)),
-    (6, Ok(6), (7, 7, 7, 6)),
-    (1, Ok(1), (7, 7, 7, 7)),
-    (5, Ok(0), (7, 7, 7, 7)),
-];
-
-#[test]
-fn work_is_cut_where_it_is_asked(rt: HostRuntime) -> Result<(), Fail> {
-    expect_units(rt.alloc(), TAKE, &CUTS, BLACK)
-}
-
-/// The numbers of positions and units are those of games/README.md.
-#[test]
-fn three_in_a_row_is_a_draw(rt: HostRuntime) -> Result<(), Fail> {
-    let whole = (u32::MAX, Ok(9_889), (5_479, 5_479, 4_410, 4_410));
-    expect_units(rt.alloc(), TIC_TAC_TOE, &[whole], None)
-}
-
-#[test]
-fn three_pawns_a_side_are_lost_for_who_begins(rt: HostRuntime) -> Result<(), Fail> {
-    let whole = (u32::MAX, Ok(272), (136, 136, 136, 136));
-    expect_units(rt.alloc(), HEXAPAWN, &[whole], BLACK)
 }
