@@ -1,5 +1,5 @@
 //! A solver over a disk.
-ghost use Rattle.std.specs.Prelude.{◌≡◌, ◌≤◌, ◌↔◌, ℕ, List, true, false, Option, None, option_map, IsSome, OnOk, IfOk, IfErr, IsErrOf, IsTrue};
+ghost use Rattle.std.specs.Prelude.{◌≡◌, ◌≤◌, ◌↔◌, ℕ, List, true, false, Option, None, option_map, IsSome, IsOk, OnOk, IfOk, IfErr, IsErrOf, IsTrue};
 ghost use Rattle.sector_disk.specs.Disk.{Picture};
 ghost use Rattle.retrograde.specs.Changes.{counts_of};
 ghost use Rattle.game_file.specs.Kept.{Kept};
@@ -112,6 +112,7 @@ impl<F: GameFile> FileSolver<F> {
         ensures already { (state self.now).closed ≡ false
             → IsSome (state self.now).kept
             → IsErrOf result SolverFault.GameAlready }
+        ensures free { (state self.now).closed ≡ false → (state self.now).kept ≡ None → IsOk result }
         ensures cause { (text : List ℕ) → IfErr result (LoadCause text (state self.now) (state self.now)) }
     {
         if self.file.is_closed() {
@@ -131,6 +132,7 @@ impl<F: GameFile> FileSolver<F> {
         ensures no_game { (state self.now).closed ≡ false
             → (state self.now).kept ≡ None
             → IsErrOf result SolverFault.NoGame }
+        ensures free { (state self.now).closed ≡ false → IsSome (state self.now).kept → IsOk result }
         ensures cause { IfErr result (AskCause (state self.now) (state self.now)) }
     {
         if self.file.is_closed() {
