@@ -1,8 +1,9 @@
-use Rattle.std.proofs.Common.{ap, subst, Option, Err}
+use Rattle.std.proofs.Common.{ap, subst, Option, Err, rules}
 use Rattle.legal_moves.specs.declared.compiled.Compiled.{Compiled}
 use Rattle.audit.specs.declared.fault.AuditFault.{AuditFault}
 use Rattle.recover.specs.State.{IsSourceOf}
 use Rattle.recover.proofs.Asking.{verdict_found, so_found, wide_found, audit_cause, ok_is}
+use Rattle.recover.proofs.Loading.{same_source}
 use Rattle.recover.proofs.Passing.{passed_on}
 use Rattle.recover.proofs.Working.{kept_there}
 use Rattle.recover.proofs.solver.FileSolver.audit.Goals as goal
@@ -40,3 +41,70 @@ returns-in_err-audit-clause-cause g c = λ ready.
     (wide_found k _ stored.1 stored.2 _ (g.met.F.Table.counts_are file stored.0) c.in-Some.source made
     (rw c.moves.ensures.is at c.in_err-audit.ensures.wide stored.0 (ap (λ (f : AuditFault). Err f) wide))))
     c.in_err-audit.ensures.room c.in_err-audit.ensures.fault (λ f fails. g.met.F.GameFile.fails_for file c.audit.new.table f ready.0 fails))
+
+pub returns-in_err-known-clause-ready : goal.returns-in_err-known-clause-ready
+returns-in_err-known-clause-ready g c = search rules
+
+pub returns-in_err-known-clause-asked : goal.returns-in_err-known-clause-asked
+returns-in_err-known-clause-asked g c = search rules
+
+pub returns-in_err-known-clause-verdict : goal.returns-in_err-known-clause-verdict
+returns-in_err-known-clause-verdict g c = search rules
+
+pub returns-in_err-known-clause-so : goal.returns-in_err-known-clause-so
+returns-in_err-known-clause-so g c = search rules
+
+pub returns-in_err-known-clause-cause : goal.returns-in_err-known-clause-cause
+returns-in_err-known-clause-cause g c = search rules
+
+pub returns-in_err-known-clause-closed : goal.returns-in_err-known-clause-closed
+returns-in_err-known-clause-closed g c = search rules
+
+pub returns-in_default-clause-ready : goal.returns-in_default-clause-ready
+returns-in_default-clause-ready g c = search rules
+
+pub returns-in_default-clause-asked : goal.returns-in_default-clause-asked
+returns-in_default-clause-asked g c = search rules
+
+pub returns-in_default-clause-verdict : goal.returns-in_default-clause-verdict
+returns-in_default-clause-verdict g c = search rules
+
+pub returns-in_default-clause-so : goal.returns-in_default-clause-so
+returns-in_default-clause-so g c = search rules
+
+pub returns-in_default-clause-cause : goal.returns-in_default-clause-cause
+returns-in_default-clause-cause g c = search rules
+
+pub returns-in_default-clause-closed : goal.returns-in_default-clause-closed
+returns-in_default-clause-closed g c = search rules
+
+pub audit-requires : goal.audit-requires
+audit-requires g c = search rules
+
+pub returns-in_err-audit-clause-ready : goal.returns-in_err-audit-clause-ready
+returns-in_err-audit-clause-ready g c = λ ready.
+    let asked = g.met.F.GameFile.whole_stays c.args.self.now.file c.audit.new.table ready.0 c.audit.ensures.stays in
+    (asked.0, same_source _ _ _ asked.1.text asked.1.packing ready.1)
+
+pub returns-in_err-audit-clause-asked : goal.returns-in_err-audit-clause-asked
+returns-in_err-audit-clause-asked g c = λ ready. (g.met.F.GameFile.whole_stays c.args.self.now.file c.audit.new.table ready.0 c.audit.ensures.stays).1
+
+pub returns-in_err-audit-clause-verdict : goal.returns-in_err-audit-clause-verdict
+returns-in_err-audit-clause-verdict g c = search rules
+
+pub returns-in_err-audit-clause-so : goal.returns-in_err-audit-clause-so
+returns-in_err-audit-clause-so g c = search rules
+
+pub returns-in_err-audit-clause-closed : goal.returns-in_err-audit-clause-closed
+returns-in_err-audit-clause-closed g c = search rules
+
+pub returns-clause-ready : goal.returns-clause-ready
+returns-clause-ready g c = λ ready.
+    let asked = g.met.F.GameFile.whole_stays c.args.self.now.file c.audit.new.table ready.0 c.audit.ensures.stays in
+    (asked.0, same_source _ _ _ asked.1.text asked.1.packing ready.1)
+
+pub returns-clause-asked : goal.returns-clause-asked
+returns-clause-asked g c = λ ready. (g.met.F.GameFile.whole_stays c.args.self.now.file c.audit.new.table ready.0 c.audit.ensures.stays).1
+
+pub returns-clause-closed : goal.returns-clause-closed
+returns-clause-closed g c = search rules

@@ -1,10 +1,11 @@
-use Rattle.std.proofs.Common.{ap, subst, Option, Err}
+use Rattle.std.proofs.Common.{ap, subst, Option, Err, rules}
 use Rattle.legal_moves.specs.declared.compiled.Compiled.{Compiled}
 use Rattle.recover.specs.State.{IsSourceOf}
 use Rattle.retrograde.specs.Stored.{view_of}
 use Rattle.best_line.specs.Causes.{IsLineCause}
 use Rattle.best_line.specs.declared.fault.LineFault.{LineFault}
 use Rattle.recover.proofs.Asking.{unsettled, never, line_found, line_cause}
+use Rattle.recover.proofs.Loading.{same_source}
 use Rattle.recover.proofs.Passing.{passed_on}
 use Rattle.recover.proofs.Working.{kept_there}
 use Rattle.recover.proofs.solver.FileSolver.line.Goals as goal
@@ -40,3 +41,61 @@ returns-clause-line g c = λ ready sound honest.
     rw is
     (line_found k _ stored.1 stored.2 _ (g.met.F.Table.counts_are file stored.0) c.in-Some.source made c.args.number c.in_ok-line.field-0.items (rw is at sound)
     (λ here. rw c.moves.ensures.is at c.in_ok-line.ensures.line stored.0 here))
+
+pub returns-in_err-check-clause-ready : goal.returns-in_err-check-clause-ready
+returns-in_err-check-clause-ready g c = search rules
+
+pub returns-in_err-check-clause-asked : goal.returns-in_err-check-clause-asked
+returns-in_err-check-clause-asked g c = search rules
+
+pub returns-in_err-check-clause-line : goal.returns-in_err-check-clause-line
+returns-in_err-check-clause-line g c = search rules
+
+pub returns-in_err-check-clause-cause : goal.returns-in_err-check-clause-cause
+returns-in_err-check-clause-cause g c = search rules
+
+pub returns-in_err-check-clause-closed : goal.returns-in_err-check-clause-closed
+returns-in_err-check-clause-closed g c = search rules
+
+pub returns-in_default-clause-ready : goal.returns-in_default-clause-ready
+returns-in_default-clause-ready g c = search rules
+
+pub returns-in_default-clause-asked : goal.returns-in_default-clause-asked
+returns-in_default-clause-asked g c = search rules
+
+pub returns-in_default-clause-line : goal.returns-in_default-clause-line
+returns-in_default-clause-line g c = search rules
+
+pub returns-in_default-clause-cause : goal.returns-in_default-clause-cause
+returns-in_default-clause-cause g c = search rules
+
+pub returns-in_default-clause-closed : goal.returns-in_default-clause-closed
+returns-in_default-clause-closed g c = search rules
+
+pub line-requires-clause-known : goal.line-requires-clause-known
+line-requires-clause-known g c = search rules
+
+pub returns-in_err-line-clause-ready : goal.returns-in_err-line-clause-ready
+returns-in_err-line-clause-ready g c = λ ready.
+    let asked = g.met.F.GameFile.whole_stays c.args.self.now.file c.line.new.table ready.0 c.line.ensures.stays in
+    (asked.0, same_source _ _ _ asked.1.text asked.1.packing ready.1)
+
+pub returns-in_err-line-clause-asked : goal.returns-in_err-line-clause-asked
+returns-in_err-line-clause-asked g c = λ ready. (g.met.F.GameFile.whole_stays c.args.self.now.file c.line.new.table ready.0 c.line.ensures.stays).1
+
+pub returns-in_err-line-clause-line : goal.returns-in_err-line-clause-line
+returns-in_err-line-clause-line g c = search rules
+
+pub returns-in_err-line-clause-closed : goal.returns-in_err-line-clause-closed
+returns-in_err-line-clause-closed g c = search rules
+
+pub returns-clause-ready : goal.returns-clause-ready
+returns-clause-ready g c = λ ready.
+    let asked = g.met.F.GameFile.whole_stays c.args.self.now.file c.line.new.table ready.0 c.line.ensures.stays in
+    (asked.0, same_source _ _ _ asked.1.text asked.1.packing ready.1)
+
+pub returns-clause-asked : goal.returns-clause-asked
+returns-clause-asked g c = λ ready. (g.met.F.GameFile.whole_stays c.args.self.now.file c.line.new.table ready.0 c.line.ensures.stays).1
+
+pub returns-clause-closed : goal.returns-clause-closed
+returns-clause-closed g c = search rules

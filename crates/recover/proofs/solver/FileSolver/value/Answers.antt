@@ -1,0 +1,65 @@
+use Rattle.std.proofs.Common.{rules}
+use Rattle.recover.specs.Queries.{HasValueAt}
+use Rattle.recover.proofs.Asking.{number_cause, value_found, tells}
+use Rattle.recover.proofs.Loading.{same_source}
+use Rattle.recover.proofs.Passing.{passed_on}
+use Rattle.recover.proofs.solver.FileSolver.value.Goals as goal
+
+pub returns-clause-value : goal.returns-clause-value
+returns-clause-value g c = λ ready honest.
+    let file = c.args.self.now.file in
+    tells (g.F.GameFile.state file).kept (HasValueAt c.args.number c.in_ok-value.field-0) c.in_ok-check.ensures.some
+    (λ k is.
+    let stored = g.met.F.GameFile.whole_stored file k ready.0 honest is in
+    value_found k _ stored.1 stored.2 _ (g.met.F.Table.counts_are file stored.0) c.args.number c.in_ok-value.field-0
+    c.in_ok-check.ensures.there (λ fits. c.in_ok-value.ensures.value stored.0 fits))
+
+pub returns-in_err-check-clause-ready : goal.returns-in_err-check-clause-ready
+returns-in_err-check-clause-ready g c = search rules
+
+pub returns-in_err-check-clause-asked : goal.returns-in_err-check-clause-asked
+returns-in_err-check-clause-asked g c = search rules
+
+pub returns-in_err-check-clause-value : goal.returns-in_err-check-clause-value
+returns-in_err-check-clause-value g c = search rules
+
+pub returns-in_err-check-clause-cause : goal.returns-in_err-check-clause-cause
+returns-in_err-check-clause-cause g c = search rules
+
+pub returns-in_err-check-clause-closed : goal.returns-in_err-check-clause-closed
+returns-in_err-check-clause-closed g c = search rules
+
+pub value-requires : goal.value-requires
+value-requires g c = search rules
+
+pub returns-in_err-value-clause-ready : goal.returns-in_err-value-clause-ready
+returns-in_err-value-clause-ready g c = λ ready.
+    let asked = g.met.F.GameFile.whole_stays c.args.self.now.file c.value.new.table ready.0 c.value.ensures.stays in
+    (asked.0, same_source _ _ _ asked.1.text asked.1.packing ready.1)
+
+pub returns-in_err-value-clause-asked : goal.returns-in_err-value-clause-asked
+returns-in_err-value-clause-asked g c = λ ready. (g.met.F.GameFile.whole_stays c.args.self.now.file c.value.new.table ready.0 c.value.ensures.stays).1
+
+pub returns-in_err-value-clause-value : goal.returns-in_err-value-clause-value
+returns-in_err-value-clause-value g c = search rules
+
+pub returns-in_err-value-clause-cause : goal.returns-in_err-value-clause-cause
+returns-in_err-value-clause-cause g c = λ ready.
+    let file = c.args.self.now.file in
+    passed_on _ c.from_residual-in_err-value.result _ c.from_residual-in_err-value.ensures
+    (number_cause (g.F.GameFile.state file) (g.F.GameFile.state c.value.new.table) c.args.number c.in_err-value.field-0.0 c.in_err-value.ensures.room
+    (g.met.F.GameFile.fails_for file c.value.new.table c.in_err-value.field-0.0 ready.0 c.in_err-value.ensures.fault))
+
+pub returns-in_err-value-clause-closed : goal.returns-in_err-value-clause-closed
+returns-in_err-value-clause-closed g c = search rules
+
+pub returns-clause-ready : goal.returns-clause-ready
+returns-clause-ready g c = λ ready.
+    let asked = g.met.F.GameFile.whole_stays c.args.self.now.file c.value.new.table ready.0 c.value.ensures.stays in
+    (asked.0, same_source _ _ _ asked.1.text asked.1.packing ready.1)
+
+pub returns-clause-asked : goal.returns-clause-asked
+returns-clause-asked g c = λ ready. (g.met.F.GameFile.whole_stays c.args.self.now.file c.value.new.table ready.0 c.value.ensures.stays).1
+
+pub returns-clause-closed : goal.returns-clause-closed
+returns-clause-closed g c = search rules
