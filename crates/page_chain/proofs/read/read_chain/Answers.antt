@@ -1,6 +1,6 @@
 use Rattle.std.proofs.Common.{◌∙◌, List, length, ap, rules, arith}
 use Rattle.std.proofs.lemmas.List.{length-take-le}
-use Rattle.page_chain.proofs.Passing.{passed_on}
+use Rattle.page_chain.proofs.Passing.{passed_on, none_answered}
 use Rattle.page_chain.proofs.Reading.{none_read, read_more, only_marks_then, read_chain, chain_ends, link_cause}
 use Rattle.page_chain.proofs.read.read_chain.Goals as goal
 
@@ -14,11 +14,11 @@ pub returns-in_err-next : goal.returns-in_err-next
 returns-in_err-next g c =
     let only = only_marks_then c.loop.invariant.only c.read_link.ensures.marks in
     record {
-      chain = search rules;
-      long = search rules;
-      marked = search rules;
-      waited = search rules;
-      kept = search rules;
+      chain = λ honest. none_answered _ c.from_residual.result c.from_residual.ensures.0;
+      long = none_answered _ c.from_residual.result c.from_residual.ensures.0;
+      marked = none_answered _ c.from_residual.result c.from_residual.ensures.0;
+      waited = none_answered _ c.from_residual.result c.from_residual.ensures.0;
+      kept = none_answered _ c.from_residual.result c.from_residual.ensures.0;
       others = only.others;
       shown = only.shown;
       leaves = only.leaves;
@@ -32,11 +32,11 @@ pub returns-then-next-ne0 : goal.returns-then-next-ne0
 returns-then-next-ne0 g c =
     let read = c.loop.invariant in
     record {
-      chain = search rules;
-      long = search rules;
-      marked = search rules;
-      waited = search rules;
-      kept = search rules;
+      chain = λ honest. tt;
+      long = tt;
+      marked = tt;
+      waited = tt;
+      kept = tt;
       others = read.only.others;
       shown = read.only.shown;
       leaves = read.only.leaves;

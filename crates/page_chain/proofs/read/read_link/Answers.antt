@@ -23,3 +23,33 @@ returns-clause-marks g c =
 pub returns-in_err-mark-clause-marks : goal.returns-in_err-mark-clause-marks
 returns-in_err-mark-clause-marks g c =
     subst (λ (store : Store). OnlyMarks (g.P.Pages.store c.args.store.now) store) (sym c.in_err-mark.ensures.refused) (only_marks_refl (g.P.Pages.store c.args.store.now))
+
+pub returns-in_err-read_page-clause-marks : goal.returns-in_err-read_page-clause-marks
+returns-in_err-read_page-clause-marks g c =
+    let marking = c.mark.ensures in
+    let reading = c.read_page.ensures in
+    one_marked c.args.page _ _ (works_then marking.works reading.works)
+    (λ honest. reading.unchanged.shown (still_honest marking.works.goes_on honest) ∙ ap (λ (d : Disk). d.now) marking.others.disk)
+    (leaves_same _ _ (g.P.Pages.store c.read_page.new.self).disk marking.others.disk reading.unchanged.leaves)
+    (reading.unchanged.closed ∙ marking.others.closed)
+    (subst (λ (ms : List Mark). IsMarked c.args.page Committed (g.P.Pages.store c.args.store.now).marks ms) (sym reading.unchanged.marks) c.in_ok-mark.ensures.ok)
+
+pub returns-in_err-add_page-clause-marks : goal.returns-in_err-add_page-clause-marks
+returns-in_err-add_page-clause-marks g c =
+    let marking = c.mark.ensures in
+    let reading = c.read_page.ensures in
+    one_marked c.args.page _ _ (works_then marking.works reading.works)
+    (λ honest. reading.unchanged.shown (still_honest marking.works.goes_on honest) ∙ ap (λ (d : Disk). d.now) marking.others.disk)
+    (leaves_same _ _ (g.P.Pages.store c.read_page.new.self).disk marking.others.disk reading.unchanged.leaves)
+    (reading.unchanged.closed ∙ marking.others.closed)
+    (subst (λ (ms : List Mark). IsMarked c.args.page Committed (g.P.Pages.store c.args.store.now).marks ms) (sym reading.unchanged.marks) c.in_ok-mark.ensures.ok)
+
+pub returns-in_err-add_payload-clause-marks : goal.returns-in_err-add_payload-clause-marks
+returns-in_err-add_payload-clause-marks g c =
+    let marking = c.mark.ensures in
+    let reading = c.read_page.ensures in
+    one_marked c.args.page _ _ (works_then marking.works reading.works)
+    (λ honest. reading.unchanged.shown (still_honest marking.works.goes_on honest) ∙ ap (λ (d : Disk). d.now) marking.others.disk)
+    (leaves_same _ _ (g.P.Pages.store c.read_page.new.self).disk marking.others.disk reading.unchanged.leaves)
+    (reading.unchanged.closed ∙ marking.others.closed)
+    (subst (λ (ms : List Mark). IsMarked c.args.page Committed (g.P.Pages.store c.args.store.now).marks ms) (sym reading.unchanged.marks) c.in_ok-mark.ensures.ok)
