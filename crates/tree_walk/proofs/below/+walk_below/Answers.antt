@@ -61,3 +61,18 @@ returns-clause-walked g t c = λ honest.
     (let long = length-items c.args.widths.key 4 (count_in c.take_page-2.new.bytes) (drop 4 c.take_page-2.new.bytes) in
     omega (arith, long, c.loop-place-test.false, c.count_of-place-end.ensures))
     c.first_key-2.ensures (c.loop-place.invariant.over honest)
+
+pub returns-then-depth-eq0-clause-marks : goal.returns-then-depth-eq0-clause-marks
+returns-then-depth-eq0-clause-marks g t c = c.take_page.ensures.marks
+
+pub returns-in_err-take_page-clause-marks : goal.returns-in_err-take_page-clause-marks
+returns-in_err-take_page-clause-marks g t c = c.take_page.ensures.marks
+
+pub returns-in_err-tell_leaf-clause-marks : goal.returns-in_err-tell_leaf-clause-marks
+returns-in_err-tell_leaf-clause-marks g t c = c.take_page.ensures.marks
+
+pub returns-in_err-take_page-2-clause-marks : goal.returns-in_err-take_page-2-clause-marks
+returns-in_err-take_page-2-clause-marks g t c = c.take_page-2.ensures.marks
+
+pub returns-clause-marks : goal.returns-clause-marks
+returns-clause-marks g t c = c.loop-place.invariant.marks
