@@ -1,6 +1,8 @@
 -- What was written is the answer to the text.
-use Rattle.std.proofs.Common.{◌≡◌, ℕ, List, [], ◌∷◌, ◌++◌, length, map, Result, Ok, Err, refl, sym, subst, inl, inr, arith}
-use Rattle.std.specs.Prelude.{All, OnOk, IfErr, Contains}
+use Rattle.std.proofs.Common.{◌≡◌, ℕ, List, [], ◌∷◌, ◌++◌, length, map, Option, Result, Ok, Err, refl, sym, subst, inl, inr, arith}
+use Rattle.std.specs.Prelude.{All, OnOk, IfErr, IsErr, Contains}
+use Rattle.std.specs.Result.{IsErrAnd}
+use Rattle.std.specs.Io.KnownBytes.{Appends}
 use Rattle.rbg_game.specs.Games.{Game}
 use Rattle.rbg_game.specs.Sound.{IsSoundGame}
 use Rattle.rbg_game.specs.Positions.{IsPositionOf}
@@ -17,6 +19,7 @@ use Rattle.printed_lines.specs.declared.moves.Stop.{Stop}
 use Rattle.printed_lines.specs.declared.moves.Stop.TheVariants as stop
 use Rattle.printed_lines.specs.declared.refused.Refused.{Refused}
 use Rattle.legal_moves.proofs.ReachLemmas.{position_of}
+use Rattle.printed_lines.proofs.Appending.{appends_nothing}
 
 -- each successor that is listed is a position of the game
 pub positions_of : (game : Game) (at : Position) (moves : List ShownMove) → IsSoundGame game → IsPositionOf game at → All (IsShownMove game at) moves → All (HasPosition game) moves
@@ -51,6 +54,17 @@ stopped_of text game moves Written (Ok x) listing h = tt
 stopped_of text game moves Written (Err stop.Output) listing h = tt
 stopped_of text game moves Written (Err (stop.Refused why)) listing h =
     (h.1.1, subst (λ w. IsRefused text w h.1.1) (sym h.0) (inr (game, moves, h.1.0, listing, h.1.2)), h.1.3)
+
+-- refused before anything was written
+written_nothing : (text : Text) (contents : Option (List ℕ)) (why : Stop) → IsStopped text (λ lines. lines ≡ []) why → IsStopped text (Appends contents contents) why
+written_nothing text contents stop.Output stopped = tt
+written_nothing text contents (stop.Refused why) stopped =
+    (stopped.0, stopped.1.0, subst (Appends contents contents) (sym stopped.1.1) (appends_nothing contents))
+
+pub stopped_before : {X : Type 0} (text : Text) (contents : Option (List ℕ)) (r : Result X Stop) (why : Stop) → IsErr r × IsErrAnd r (λ stop. stop ≡ why)
+    → IsStopped text (λ lines. lines ≡ []) why → IfErr r (IsStopped text (Appends contents contents))
+stopped_before text contents (Ok x) why is stopped = tt
+stopped_before text contents (Err f) why is stopped = subst (IsStopped text (Appends contents contents)) (sym is.1) (written_nothing text contents why stopped)
 
 pub refusal_of : (text : Text) (why : Refused) (lines : List ℕ) (status : ℕ) → IsRefused text why lines → status ≡ status_of why → IsMovesAnswer text status (lines ++ refusal_line why)
 refusal_of text why lines status is e = subst (λ n. IsMovesAnswer text n (lines ++ refusal_line why)) (sym e) (IsMovesAnswer.refused why lines is)

@@ -1,7 +1,8 @@
 //! The moves of a game's start.
 
-ghost use Rattle.std.specs.Prelude.{◌≡◌, ◌<◌, ◌⊎◌, ℕ, List, All, OnOk, IfOk, IfErr, IfSome, length, slice_get};
+ghost use Rattle.std.specs.Prelude.{◌≡◌, ◌<◌, ◌⊎◌, ℕ, List, [], All, OnOk, IfOk, IfErr, IfSome, length, slice_get};
 ghost use Rattle.std.specs.Io.KnownBytes.{Appends};
+ghost use Rattle.rbg_read.specs.Reading.{Reads};
 ghost use Rattle.legal_moves.specs.Compiled.{compiled_game, IsSoundCompiled};
 ghost use Rattle.printed_lines.specs.Lines.{IsLine, AreLines};
 ghost use Rattle.printed_lines.specs.aid.Lines.{HasPosition, SaysMoves};
@@ -87,11 +88,7 @@ fn write_moves<W: Write>(alloc: Global, text: &[u8], out: &mut W) -> Result<(), 
         × Appends (W.contents out.old) (W.contents out.new) written) }
     ensures stopped { IfErr result (IsStopped text.now (Appends (W.contents out.old) (W.contents out.new))) }
 {
-    let game = match read_game(alloc, text) {
-        Ok(game) => game,
-        Err(fault) => return Err(Stop::Refused(Refused::Game(fault))),
-    };
-    let compiled = Compiled::new(alloc, game, PackingKind::Bytes)?;
+    let compiled = compiled_of(alloc, text)?;
     let start = compiled.start();
     let moves = match compiled.moves(alloc, &start) {
         Ok(moves) => moves,
@@ -99,6 +96,19 @@ fn write_moves<W: Write>(alloc: Global, text: &[u8], out: &mut W) -> Result<(), 
         Err(MoveFault::OutOfMemory) => return Err(Stop::Refused(Refused::OutOfMemory)),
     };
     write_answer(alloc, &compiled, &moves, out)
+}
+
+/// The game that the text reads to, with the tables of its rules.
+fn compiled_of(alloc: Global, text: &[u8]) -> Result<Compiled, Stop>
+    ensures reads { IfOk result (λ compiled. Reads text.now (compiled_game compiled)) }
+    ensures sound { IfOk result IsSoundCompiled }
+    ensures stopped { IfErr result (IsStopped text.now (λ lines. lines ≡ [])) }
+{
+    let game = match read_game(alloc, text) {
+        Ok(game) => game,
+        Err(fault) => return Err(Stop::Refused(Refused::Game(fault))),
+    };
+    Ok(Compiled::new(alloc, game, PackingKind::Bytes)?)
 }
 
 /// Writes the lines of the moves, or `ended` where there is none.

@@ -52,7 +52,16 @@ pub fn explain(alloc: Global, text: &[u8], fault: GameFault) -> Result<Explanati
     if let Some(at) = scanned.stray {
         return stray_byte(alloc, text, at);
     }
-    let tokens = scanned.tokens.as_slice();
+    explain_tokens(alloc, text, scanned.tokens.as_slice(), fault)
+}
+
+/// What is wrong with a text of these tokens.
+fn explain_tokens(
+    alloc: Global,
+    text: &[u8],
+    tokens: &[Placed<'_>],
+    fault: GameFault,
+) -> Result<Explanation, AllocError> {
     match fault {
         GameFault::Syntax => unfit_token(alloc, text, tokens),
         GameFault::Section => wrong_section(alloc, text, tokens),
@@ -99,14 +108,23 @@ fn unfit_token(
     text: &[u8],
     placed: &[Placed<'_>],
 ) -> Result<Explanation, AllocError> {
-    let tokens: Vec<Token<'_>> = placed.iter().map(|p| p.token).collect(alloc)?;
-    let read = tokens_read(alloc, tokens.as_slice());
-    if let Some(unknown) = unknown_section(alloc, placed, read)? {
-        return Ok(unknown);
+    let read = count_read(alloc, placed)?;
+    if let Some(unknown) = unknown_section(placed, read) {
+        return unknown_title(alloc, unknown);
     }
-    let Some(next) = placed.get(read) else {
-        return said(alloc, text.len(), "the text ends too early");
-    };
+    match placed.get(read) {
+        Some(next) => unfit(alloc, text, *next),
+        None => said(alloc, text.len(), "the text ends too early"),
+    }
+}
+
+/// How many tokens were read before one did not fit.
+fn count_read(alloc: Global, placed: &[Placed<'_>]) -> Result<usize, AllocError> {
+    let tokens: Vec<Token<'_>> = placed.iter().map(|p| p.token).collect(alloc)?;
+    Ok(tokens_read(alloc, tokens.as_slice()))
+}
+
+fn unfit(alloc: Global, text: &[u8], next: Placed<'_>) -> Result<Explanation, AllocError> {
     let message = match next.token {
         Token::Name(word) => {
             let word = word_text(alloc, word)?;
@@ -128,11 +146,7 @@ fn unfit_token(
 }
 
 /// The first word behind a `#` that names no section, up to the place that was read.
-fn unknown_section(
-    alloc: Global,
-    placed: &[Placed<'_>],
-    read: usize,
-) -> Result<Option<Explanation>, AllocError> {
+fn unknown_section<'a>(placed: &[Placed<'a>], read: usize) -> Option<Titled<'a>> {
     for place in 1..placed.len() {
         if place > read {
             break;
@@ -142,13 +156,27 @@ fn unknown_section(
         };
         let is_known = TITLES.iter().any(|title| title.as_bytes() == word);
         if !is_known && is_sign(placed, place - 1, Sign::Hash) {
-            let word = word_text(alloc, word)?;
-            let message = format!(in alloc; "no section is called `{word}`")?;
             let at = placed[place].at;
-            return Ok(Some(Explanation { at, message }));
+            return Some(Titled { word, at });
         }
     }
-    Ok(None)
+    None
+}
+
+/// A word that stands where a title does.
+#[derive(Clone, Copy)]
+struct Titled<'a> {
+    word: &'a [u8],
+    at: usize,
+}
+
+fn unknown_title(alloc: Global, titled: Titled<'_>) -> Result<Explanation, AllocError> {
+    let word = word_text(alloc, titled.word)?;
+    let message = format!(in alloc; "no section is called `{word}`")?;
+    Ok(Explanation {
+        at: titled.at,
+        message,
+    })
 }
 
 fn sign_text(text: &[u8], at: usize) -> char {
@@ -163,25 +191,35 @@ fn wrong_section(
     tokens: &[Placed<'_>],
 ) -> Result<Explanation, AllocError> {
     for title in TITLES {
-        let mut count = 0usize;
-        for place in 1..tokens.len() {
-            if !is_title(tokens, place, title) {
-                continue;
-            }
-            count = count.saturating_add(1);
-            if count > 1 {
-                let at = tokens[place - 1].at;
-                let message = format!(in alloc; "the section #{title} stands twice")?;
-                return Ok(Explanation { at, message });
-            }
+        if let Some(at) = second_title(tokens, title) {
+            let message = format!(in alloc; "the section #{title} stands twice")?;
+            return Ok(Explanation { at, message });
         }
-        if count == 0 && title != "variables" {
+        if title != "variables" && !has_title(tokens, title) {
             let at = text.len();
             let message = format!(in alloc; "the section #{title} is missing")?;
             return Ok(Explanation { at, message });
         }
     }
     said(alloc, 0, "a section is missing or stands twice")
+}
+
+fn has_title(tokens: &[Placed<'_>], title: &str) -> bool {
+    (1..tokens.len()).any(|place| is_title(tokens, place, title))
+}
+
+/// The byte of the `#` before the second of such titles.
+fn second_title(tokens: &[Placed<'_>], title: &str) -> Option<usize> {
+    let mut stood = false;
+    for place in 1..tokens.len() {
+        if is_title(tokens, place, title) {
+            if stood {
+                return Some(tokens[place - 1].at);
+            }
+            stood = true;
+        }
+    }
+    None
 }
 
 fn is_title(tokens: &[Placed<'_>], place: usize, title: &str) -> bool {
@@ -195,6 +233,13 @@ fn is_title(tokens: &[Placed<'_>], place: usize, title: &str) -> bool {
 }
 
 fn wrong_players(alloc: Global, tokens: &[Placed<'_>]) -> Result<Explanation, AllocError> {
+    let (count, at) = count_players(alloc, tokens)?;
+    let message = format!(in alloc; "the number of players is {count}, and has to be 2")?;
+    Ok(Explanation { at, message })
+}
+
+/// How many names are players, and where the third of them is, or else the last.
+fn count_players(alloc: Global, tokens: &[Placed<'_>]) -> Result<(usize, usize), AllocError> {
     let mut walk = Walk::new(alloc);
     let mut count = 0usize;
     let mut at = 0;
@@ -208,8 +253,7 @@ fn wrong_players(alloc: Global, tokens: &[Placed<'_>]) -> Result<Explanation, Al
             }
         }
     }
-    let message = format!(in alloc; "the number of players is {count}, and has to be 2")?;
-    Ok(Explanation { at, message })
+    Ok((count, at))
 }
 
 fn kind_text(kind: Kind) -> &'static str {
@@ -230,18 +274,30 @@ fn serves(declared: &Mention<'_>, used: &Mention<'_>) -> bool {
 
 fn unknown_name(alloc: Global, tokens: &[Placed<'_>]) -> Result<Explanation, AllocError> {
     let all = mentions(alloc, tokens)?;
-    for used in &all {
+    match first_unknown(&all) {
+        Some(used) => no_such_name(alloc, used),
+        None => said(alloc, 0, "a name is used that is not declared as such"),
+    }
+}
+
+/// The first name that is used, and declared nowhere.
+fn first_unknown<'a>(all: &[Mention<'a>]) -> Option<Mention<'a>> {
+    for used in all {
         if !used.declared && !all.iter().any(|declared| serves(declared, used)) {
-            let kind = kind_text(used.kind);
-            let word = word_text(alloc, used.word)?;
-            let message = format!(in alloc; "no {kind} is called `{word}`")?;
-            return Ok(Explanation {
-                at: used.at,
-                message,
-            });
+            return Some(*used);
         }
     }
-    said(alloc, 0, "a name is used that is not declared as such")
+    None
+}
+
+fn no_such_name(alloc: Global, used: Mention<'_>) -> Result<Explanation, AllocError> {
+    let kind = kind_text(used.kind);
+    let word = word_text(alloc, used.word)?;
+    let message = format!(in alloc; "no {kind} is called `{word}`")?;
+    Ok(Explanation {
+        at: used.at,
+        message,
+    })
 }
 
 /// Whether both declare the same name, where it may be declared once.
@@ -256,19 +312,30 @@ fn repeats(first: &Mention<'_>, second: &Mention<'_>) -> bool {
 
 fn repeated_name(alloc: Global, tokens: &[Placed<'_>]) -> Result<Explanation, AllocError> {
     let all = mentions(alloc, tokens)?;
+    match first_repeated(&all) {
+        Some(second) => declared_twice(alloc, second),
+        None => said(alloc, 0, "a name is declared twice"),
+    }
+}
+
+/// The first name that is declared once more.
+fn first_repeated<'a>(all: &[Mention<'a>]) -> Option<Mention<'a>> {
     for (index, second) in all.iter().enumerate() {
-        let repeated = all.iter().take(index).any(|first| repeats(first, second));
-        if second.declared && repeated {
-            let kind = kind_text(second.kind);
-            let word = word_text(alloc, second.word)?;
-            let message = format!(in alloc; "the {kind} `{word}` is declared twice")?;
-            return Ok(Explanation {
-                at: second.at,
-                message,
-            });
+        if second.declared && all.iter().take(index).any(|first| repeats(first, second)) {
+            return Some(*second);
         }
     }
-    said(alloc, 0, "a name is declared twice")
+    None
+}
+
+fn declared_twice(alloc: Global, second: Mention<'_>) -> Result<Explanation, AllocError> {
+    let kind = kind_text(second.kind);
+    let word = word_text(alloc, second.word)?;
+    let message = format!(in alloc; "the {kind} `{word}` is declared twice")?;
+    Ok(Explanation {
+        at: second.at,
+        message,
+    })
 }
 
 /// Whether the number that the digits write is over 1,000,000.
@@ -315,28 +382,28 @@ fn too_large(alloc: Global, tokens: &[Placed<'_>]) -> Result<Explanation, AllocE
 
 fn too_many(alloc: Global, tokens: &[Placed<'_>]) -> Result<Explanation, AllocError> {
     let all = mentions(alloc, tokens)?;
-    let limits = [(Kind::Vertex, 128, "vertices"), (Kind::Piece, 64, "pieces")];
+    let limits = [
+        (Kind::Vertex, 128, "vertices"),
+        (Kind::Piece, 64, "pieces"),
+        (Kind::Variable, 32, "variables"),
+    ];
     for (kind, limit, plural) in limits {
-        let mut declared = all.iter().filter(|m| m.declared && m.kind == kind);
-        if let Some(first_over) = declared.nth(limit) {
+        if let Some(at) = first_over(&all, kind, limit) {
             let message = format!(in alloc; "there are more than {limit} {plural}")?;
-            return Ok(Explanation {
-                at: first_over.at,
-                message,
-            });
+            return Ok(Explanation { at, message });
         }
     }
-    let mut variables = all
-        .iter()
-        .filter(|m| m.declared && m.kind == Kind::Variable);
-    match variables.nth(32) {
-        Some(first_over) => said(alloc, first_over.at, "there are more than 32 variables"),
-        None => said(
-            alloc,
-            0,
-            "there are more than 64 labels or more than 4,096 actions",
-        ),
-    }
+    said(
+        alloc,
+        0,
+        "there are more than 64 labels or more than 4,096 actions",
+    )
+}
+
+/// Where the first name is declared that is one too many of its kind.
+fn first_over(all: &[Mention<'_>], kind: Kind, limit: usize) -> Option<usize> {
+    let mut declared = all.iter().filter(|m| m.declared && m.kind == kind);
+    declared.nth(limit).map(|m| m.at)
 }
 
 fn large_expression(alloc: Global, tokens: &[Placed<'_>]) -> Result<Explanation, AllocError> {

@@ -123,11 +123,15 @@ pub fn words_of(alloc: Global, words: &[String]) -> Result<Words, Refusal>
 fn parsed<'a>(alloc: Global, words: &'a [String]) -> Result<Words, Error> {
     let command: Command<'a> = command(alloc)?;
     let matches = command.try_get_matches_from(words)?;
-    let asked = match matches.subcommand() {
-        Some((name, inner)) => asked_for(alloc, name, inner)?,
-        None => asked_for(alloc, "", &matches)?,
-    };
-    Ok(asked)
+    Ok(asked_in(alloc, &matches)?)
+}
+
+/// What the command that was given asks for.
+fn asked_in(alloc: Global, matches: &ArgMatches<'_>) -> Result<Words, AllocError> {
+    match matches.subcommand() {
+        Some((name, inner)) => asked_for(alloc, name, inner),
+        None => asked_for(alloc, "", matches),
+    }
 }
 
 /// What the command of this name asks for, with the words behind it.
@@ -159,6 +163,15 @@ fn given(alloc: Global, matches: &ArgMatches<'_>, id: &str) -> Result<String, Al
 }
 
 fn command<'a>(alloc: Global) -> Result<Command<'a>, AllocError> {
+    let command = with(whole_command(alloc), create_command(alloc))?;
+    let command = with(command, load_command(alloc))?;
+    let command = with(command, session_command(alloc))?;
+    let command = with(command, audit_command(alloc))?;
+    with(command, moves_command(alloc))
+}
+
+/// The program's command but for what can be done.
+fn whole_command<'a>(alloc: Global) -> Command<'a> {
     Command::new(alloc, "rbgsolve")
         .version(VERSION)
         .about(ABOUT)
@@ -166,11 +179,14 @@ fn command<'a>(alloc: Global) -> Result<Command<'a>, AllocError> {
         .after_help(AFTER_HELP)
         .subcommand_required(true)
         .arg_required_else_help(true)
-        .subcommand(create_command(alloc)?)?
-        .subcommand(load_command(alloc)?)?
-        .subcommand(session_command(alloc)?)?
-        .subcommand(audit_command(alloc)?)?
-        .subcommand(moves_command(alloc)?)
+}
+
+/// The command with one more thing that can be done.
+fn with<'a>(
+    command: Command<'a>,
+    more: Result<Command<'a>, AllocError>,
+) -> Result<Command<'a>, AllocError> {
+    command.subcommand(more?)
 }
 
 fn file_word<'a>(alloc: Global) -> Arg<'a> {
