@@ -1,7 +1,7 @@
 use Rattle.std.proofs.Common.{◌≡◌, true, ◌||◌, ◌&&◌, ◌==◌, ◌∷◌, ◌++◌, [], length, map, take, refl, sym, ap, ◌∙◌, subst, arith}
-use Rattle.rbg_game.specs.Rules.{cat, alt, pattern, cat_all, alt_all}
-use Rattle.rbg_game.specs.Meaning.{regex_of, action_of}
-use Rattle.rbg_game.proofs.MeaningLemmas.{regex_of-Action, regex_of-Star, regex_of-Concat, regex_of-Sum, action_of-Pattern, action_of-Off, action_of-Shift, action_of-Switch}
+use Rattle.rbg_game.specs.Rules.{cat, alt, on, assignment, comparison, pattern, cat_all, alt_all}
+use Rattle.rbg_game.specs.Meaning.{regex_of, action_of, expression_of}
+use Rattle.rbg_game.proofs.MeaningLemmas.{regex_of-Action, regex_of-Star, regex_of-Concat, regex_of-Sum, action_of-Pattern, action_of-On, action_of-Off, action_of-Shift, action_of-Switch, action_of-Assignment, action_of-Comparison}
 use Rattle.legal_moves.specs.Glushkov.{is_nullable}
 use Rattle.rbg_game.specs.declared.rules.Action.TheVariants as Action
 use Rattle.std.proofs.lemmas.List.{take_all, length-map}
@@ -9,7 +9,7 @@ use Rattle.std.specs.Result.{IfOk}
 use Rattle.legal_moves.specs.Tables.{inner_of, inner_in, is_pattern}
 use Rattle.legal_moves.specs.aid.Tables.{IsAdded}
 use Rattle.legal_moves.proofs.Exits.{refused}
-use Rattle.legal_moves.proofs.AlikeLemmas.{some_nullable, IsAdded-along, cat_all-push, alt_all-push, nullable_cat-push, some_nullable-push, take_map-more, or_none, or_assoc}
+use Rattle.legal_moves.proofs.AlikeLemmas.{some_nullable, IsAdded-along, cat_all-push, alt_all-push, nullable_cat-push, some_nullable-push, nullable_alt_all, take_map-more, or_none, or_assoc}
 use Rattle.legal_moves.proofs.TableLemmas.{IsAdded-empty, IsAdded-one, IsAdded-star, IsAdded-cat, IsAdded-alt, IsExpressionTable-made, AreTables-pushed, related_along, asked, unasked}
 use Rattle.legal_moves.proofs.compile.+tables.Goals as goal
 
@@ -224,3 +224,47 @@ pub add_branches-returns-clause-added : goal.add_branches-returns-clause-added
 add_branches-returns-clause-added t c =
     let whole = take_all c.loop-branch.branch-index (map regex_of c.args.branches.now) (omega (arith, length-map c.args.branches.now regex_of)) in
     subst (λ es. IsAdded (alt_all es) c.args.tables.now.items c.loop-branch.tables.items c.args.draft.now c.loop-branch.draft c.loop-branch.ends) whole c.loop-branch.invariant.added
+
+pub add_branches-returns-clause-nullable : goal.add_branches-returns-clause-nullable
+add_branches-returns-clause-nullable t c =
+    let es = map regex_of c.args.branches.now in
+    let many = length-map c.args.branches.now regex_of in
+    let whole = take_all c.loop-branch.branch-index es (omega (arith, many)) in
+    c.loop-branch.invariant.nullable ∙ ap (λ xs. (length c.args.branches.now == 0) || some_nullable xs) whole
+    ∙ ap (λ n. (n == 0) || some_nullable es) (sym many) ∙ nullable_alt_all es
+
+pub add_rules-returns-in_ok-ends-in-Action-clause-nullable : goal.add_rules-returns-in_ok-ends-in-Action-clause-nullable
+add_rules-returns-in_ok-ends-in-Action-clause-nullable t c =
+    c.in_ok-ends-in-Action.ensures.nullable ∙ sym (ap is_nullable (ap regex_of c.in-Action.is ∙ regex_of-Action c.in-Action.action))
+
+pub add_rules-returns-in_ok-relate_all-in-Star-clause-nullable : goal.add_rules-returns-in_ok-relate_all-in-Star-clause-nullable
+add_rules-returns-in_ok-relate_all-in-Star-clause-nullable t c = sym (ap is_nullable (ap regex_of c.in-Star.is ∙ regex_of-Star c.in-Star.part))
+
+pub step_of-returns-in_ok-pieces-in-On : goal.step_of-returns-in_ok-pieces-in-On
+step_of-returns-in_ok-pieces-in-On t c =
+    λ es tables.
+    let copied = c.in_ok-pieces-in-On.pieces in
+    let e = ap action_of c.in-On.is ∙ action_of-On c.in-On.pieces in
+    let same = action_of-On copied ∙ ap on (c.in_ok-pieces-in-On.ensures.items ∙ c.deref.ensures.value) ∙ sym e in
+    unasked es c.args.tables.now.items (Action.On copied) (action_of c.args.action.now) same (ap inner_in e) (ap is_pattern e) tables
+
+pub step_of-returns-in_ok-right-in-Assignment : goal.step_of-returns-in_ok-right-in-Assignment
+step_of-returns-in_ok-right-in-Assignment t c =
+    λ es tables.
+    let v = c.in-Assignment.variable in
+    let right = c.in_ok-right-in-Assignment.right in
+    let e = ap action_of c.in-Assignment.is ∙ action_of-Assignment v c.in-Assignment.right in
+    let same = action_of-Assignment v right ∙ ap (assignment v) c.in_ok-right-in-Assignment.ensures ∙ sym e in
+    unasked es c.args.tables.now.items (Action.Assignment v right) (action_of c.args.action.now) same (ap inner_in e) (ap is_pattern e) tables
+
+pub step_of-returns-in_ok-right-in-Comparison : goal.step_of-returns-in_ok-right-in-Comparison
+step_of-returns-in_ok-right-in-Comparison t c =
+    λ es tables.
+    let op = c.in-Comparison.comparison in
+    let left = c.in_ok-left-in-Comparison.left in
+    let right = c.in_ok-right-in-Comparison.right in
+    let e = ap action_of c.in-Comparison.is ∙ action_of-Comparison c.in-Comparison.left op c.in-Comparison.right in
+    let same = action_of-Comparison left op right
+    ∙ ap (λ x. comparison x op (expression_of right)) c.in_ok-left-in-Comparison.ensures
+    ∙ ap (comparison (expression_of c.in-Comparison.left) op) c.in_ok-right-in-Comparison.ensures ∙ sym e in
+    unasked es c.args.tables.now.items (Action.Comparison left op right) (action_of c.args.action.now) same (ap inner_in e) (ap is_pattern e) tables

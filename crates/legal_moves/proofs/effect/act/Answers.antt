@@ -1,17 +1,23 @@
-use Rattle.std.proofs.Common.{◌≡◌, true, false, Contains, Some, None, refl, sym, ap, ◌∙◌, subst, arith, get_or, slice_set, slice_index, length, pos, nat_abs, w64, to_z, of_z}
+use Rattle.std.proofs.Common.{◌≡◌, Bool, true, false, Contains, Some, None, refl, sym, ap, ◌∙◌, subst, arith, get_or, slice_set, slice_index, length, pos, nat_abs, w64, to_z, of_z}
 use Rattle.std.proofs.lemmas.List.{length-map}
 use Rattle.rbg_game.specs.Meaning.{game_of, action_of, vertex_of, variable_of, expression_of}
 use Rattle.legal_moves.specs.Effects.{Effect}
-use Rattle.rbg_game.proofs.MeaningLemmas.{action_of-Shift, action_of-On, action_of-Off, action_of-Assignment}
+use Rattle.rbg_game.proofs.MeaningLemmas.{action_of-Shift, action_of-On, action_of-Off, action_of-Assignment, action_of-Switch}
 use Rattle.legal_moves.proofs.ActionLemmas.{neighbour_is, bound_is, refill-set, contains, OnTrue-along, assigns, not_below, not_above}
 use Rattle.legal_moves.specs.Plain.{IsPlain}
 use Rattle.rbg_game.specs.Expressions.{value_of}
 use Rattle.std.specs.List.{refill}
+use Rattle.std.specs.Bool.{OnFalse}
 use Rattle.std.proofs.lemmas.Int.{to_z-of_z}
 use lib.Signed.{le_z}
 use mir.Val.{SFits}
 use Rattle.legal_moves.proofs.effect.act.Goals as goal
 use Rattle.legal_moves.proofs.effect.act.Goals.{else-n-ge0-via-then-n-ge0+else-n-from, else-n-ge0-via-else-n-ge0}
+
+-- what holds anyhow
+anyhow : {P : Type 0} (r : Bool) → P → OnFalse r P
+anyhow true h = tt
+anyhow false h = h
 
 pub returns-in-Some-clause-valid : goal.returns-in-Some-clause-valid
 returns-in-Some-clause-valid c =
@@ -94,3 +100,52 @@ returns-else-n-ge0-clause-refused c =
       | else-n-ge0-via-then-n-ge0+else-n-from w ↦ not_above (game_of game) S v e (to_z w64 (of_z w64 c.value-n.result)) T is effect (subst (λ b. le_z (to_z w64 (of_z w64 c.value-n.result)) b ≡ false) (to_z-of_z w64 w.from-then-n-ge0.result (record { sfits = w.from-then-n-ge0.type_inv }) ∙ w.from-then-n-ge0.ensures ∙ ap pos (sym bound)) w.if-n-from.false)
       | else-n-ge0-via-else-n-ge0 w ↦ not_below (game_of game) S v e (to_z w64 (of_z w64 c.value-n.result)) T is effect w.if-n-ge0.false
     ]
+
+pub returns-in-Some-clause-unchanged : goal.returns-in-Some-clause-unchanged
+returns-in-Some-clause-unchanged c = tt
+
+pub returns-in-Some-clause-refused : goal.returns-in-Some-clause-refused
+returns-in-Some-clause-refused c = tt
+
+pub returns-in-Off-clause-unchanged : goal.returns-in-Off-clause-unchanged
+returns-in-Off-clause-unchanged c = tt
+
+pub returns-in-Off-clause-refused : goal.returns-in-Off-clause-refused
+returns-in-Off-clause-refused c = tt
+
+pub returns-then-n-from-clause-unchanged : goal.returns-then-n-from-clause-unchanged
+returns-then-n-from-clause-unchanged c = tt
+
+pub returns-then-n-from-clause-refused : goal.returns-then-n-from-clause-refused
+returns-then-n-from-clause-refused c = tt
+
+pub returns-in-Switch-clause-unchanged : goal.returns-in-Switch-clause-unchanged
+returns-in-Switch-clause-unchanged c = tt
+
+pub returns-in-Switch-clause-refused : goal.returns-in-Switch-clause-refused
+returns-in-Switch-clause-refused c = tt
+
+pub returns-in-None-clause-valid : goal.returns-in-None-clause-valid
+returns-in-None-clause-valid c = tt
+
+pub returns-in-None-clause-unchanged : goal.returns-in-None-clause-unchanged
+returns-in-None-clause-unchanged c = refl
+
+pub returns-else-n-ge0-clause-valid : goal.returns-else-n-ge0-clause-valid
+returns-else-n-ge0-clause-valid c = tt
+
+pub returns-else-n-ge0-clause-unchanged : goal.returns-else-n-ge0-clause-unchanged
+returns-else-n-ge0-clause-unchanged c = refl
+
+pub returns-in-On-clause-unchanged : goal.returns-in-On-clause-unchanged
+returns-in-On-clause-unchanged c = anyhow c.contains.result refl
+
+pub returns-in-Comparison-clause-unchanged : goal.returns-in-Comparison-clause-unchanged
+returns-in-Comparison-clause-unchanged c = anyhow c.compares.result refl
+
+pub returns-in-Switch-clause-valid : goal.returns-in-Switch-clause-valid
+returns-in-Switch-clause-valid c =
+    let game = c.args.game.now in
+    let S = c.args.state.now in
+    let action = ap action_of c.in-Switch.is ∙ action_of-Switch c.in-Switch.role in
+    subst (λ a. Effect (game_of game) a S (record S { mover = c.in-Switch.role })) (sym action) refl

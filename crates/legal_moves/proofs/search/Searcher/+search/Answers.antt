@@ -1173,3 +1173,28 @@ look-returns-in_err-looks-clause-wide t c =
     λ wide.
     let err = err_from_is_err_and c.from_residual.result c.from_residual.ensures.1 in
     absurd (cc)
+
+pub attempt-index-requires : goal.attempt-index-requires
+attempt-index-requires t c = omega (arith, c.args.found.now.stands.ok.0, c.requires.at)
+
+pub attempt-index-requires-2 : goal.attempt-index-requires-2
+attempt-index-requires-2 t c = omega (arith, c.args.found.now.boards.ok.0, c.requires.kept.within c.args.at _ (read_at c.args.found.now.stands.items c.args.at c.index.result.now c.requires.at c.index.ensures))
+
+pub attempt-add-requires-clause-board : goal.attempt-add-requires-clause-board
+attempt-add-requires-clause-board t c = c.requires.kept.within c.args.at _ (read_at c.args.found.now.stands.items c.args.at c.index.result.now c.requires.at c.index.ensures)
+
+pub expand-index-requires : goal.expand-index-requires
+expand-index-requires t c = omega (arith, c.args.found.now.stands.ok.0, c.requires.at)
+
+pub look_on-index-requires : goal.look_on-index-requires
+look_on-index-requires t c = omega (arith, c.args.looks.now.looks.ok.0, c.requires.at)
+
+pub glance_at-at_a_glance-requires-clause-state : goal.glance_at-at_a_glance-requires-clause-state
+glance_at-at_a_glance-requires-clause-state t c = c.requires.state
+
+pub glance_at-step-requires-clause-from : goal.glance_at-step-requires-clause-from
+glance_at-step-requires-clause-from t c = c.requires.from
+
+pub look_on-add-requires-clause-marked : goal.look_on-add-requires-clause-marked
+look_on-add-requires-clause-marked t c =
+    subst (λ n. AreMarked n c.loop-number.looks) (sym c.loop-number.invariant.marked.numbers_are) c.loop-number.invariant.marked

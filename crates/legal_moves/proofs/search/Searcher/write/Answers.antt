@@ -1,5 +1,5 @@
 use Rattle.std.proofs.Common.{◌≡◌, ◌-◌, ◌≤◌, inl, length, Some, slice_get, refl, sym, ap, ◌∙◌, subst, arith}
-use Rattle.std.proofs.lemmas.Result.{on_ok_weaker}
+use Rattle.std.proofs.lemmas.Result.{err_from_is_err_and, on_ok_weaker}
 use Rattle.rbg_game.specs.Meaning.{game_of}
 use Rattle.rbg_game.specs.Positions.{IsStateOf}
 use Rattle.rbg_game.specs.declared.position.SemiState.{SemiState}
@@ -8,6 +8,7 @@ use Rattle.legal_moves.specs.aid.Configurations.{expression_at}
 use Rattle.legal_moves.specs.aid.Looking.{at_vertex}
 use Rattle.legal_moves.specs.declared.found.Stand.{Stand}
 use Rattle.legal_moves.proofs.ReadyLemmas.{read_at, count_steps, act_plain, act_valid, act_refused, ask_pattern, switches_is, modifies_is, OnTrue-at, OnFalse-at}
+use Rattle.legal_moves.proofs.Exits.{refused, no_error}
 use Rattle.legal_moves.proofs.AttemptLemmas.{state_there, attempted, filled}
 use Rattle.legal_moves.proofs.search.Searcher.write.Goals as goal
 
@@ -142,3 +143,39 @@ returns-clause-wide c =
     let same = c.in_ok-board.ensures.same in
     λ wide. let too_many = c.add.ensures.wide wide in
     filled game e c.args.number c.args.at old mid t U same kept c.in_ok-board.ensures.number.0 c.in_ok-board.ensures.number.1 reached refl refl shows ends too_many.0 too_many.1
+
+pub returns-clause-kept : goal.returns-clause-kept
+returns-clause-kept c = c.add.ensures.kept
+
+pub returns-in_err-board-clause-kept : goal.returns-in_err-board-clause-kept
+returns-in_err-board-clause-kept c = refused _ c.from_residual.result _ c.from_residual.ensures.1
+
+pub returns-in_err-board-clause-tried : goal.returns-in_err-board-clause-tried
+returns-in_err-board-clause-tried c = refused _ c.from_residual.result _ c.from_residual.ensures.1
+
+pub returns-in_err-board-clause-wide : goal.returns-in_err-board-clause-wide
+returns-in_err-board-clause-wide c =
+    λ wide.
+    let err = err_from_is_err_and c.from_residual.result c.from_residual.ensures.1 in
+    absurd (cc)
+
+pub returns-then-not-valid-clause-kept : goal.returns-then-not-valid-clause-kept
+returns-then-not-valid-clause-kept c = c.requires.kept
+
+pub returns-then-not-valid-clause-wide : goal.returns-then-not-valid-clause-wide
+returns-then-not-valid-clause-wide c = no_error
+
+pub add-requires-clause-board : goal.add-requires-clause-board
+add-requires-clause-board c = c.in_ok-board.ensures.number.0
+
+pub add-requires-clause-kept : goal.add-requires-clause-kept
+add-requires-clause-kept c = c.in_ok-board.ensures.kept
+
+pub index-requires : goal.index-requires
+index-requires c = omega (arith, c.args.found.now.stands.ok.0, c.requires.at)
+
+pub index-requires-2 : goal.index-requires-2
+index-requires-2 c = omega (arith, c.args.found.now.boards.ok.0, c.requires.kept.within c.args.at _ (read_at c.args.found.now.stands.items c.args.at c.index.result.now c.requires.at c.index.ensures))
+
+pub step-step-requires-clause-from : goal.step-step-requires-clause-from
+step-step-requires-clause-from c = c.requires.from
