@@ -1,7 +1,13 @@
 use Rattle.std.proofs.Common.{◌≡◌, ◌⊎◌, inl, inr, ℕ, [], ◌∷◌, ◌++◌, map, length, slice_get, Some, sym, ap, ◌∙◌, subst, arith}
 use Rattle.rbg_game.specs.Meaning.{regex_of}
+use Rattle.std.proofs.lemmas.List.{length-map}
+use Rattle.legal_moves.specs.Tables.{inner_of, AreSame}
+use Rattle.legal_moves.proofs.Exits.{refused}
 use Rattle.legal_moves.proofs.GetLemmas.{slice_get-push}
 use Rattle.legal_moves.proofs.patterns.same_patterns.Goals as goal
+
+nothing : (i j : ℕ) → slice_get [] i ≡ Some j → ⊥
+nothing i j h = cc
 
 pub loop-number-preserved : goal.loop-number-preserved
 loop-number-preserved c =
@@ -22,3 +28,24 @@ loop-number-preserved c =
         let here = h.0 ∙ c.loop-number.invariant.many in
         ap (λ k. slice_get (map (λ r. regex_of r.now) c.list_patterns.new.list.items) k) h.1 ∙ first
         ∙ ap (λ k. slice_get (map (λ r. regex_of r.now) c.list_patterns.new.list.items) k) (sym here)
+
+pub returns-in_err-list_patterns : goal.returns-in_err-list_patterns
+returns-in_err-list_patterns c = refused _ c.from_residual.result _ c.from_residual.ensures.1
+
+pub returns-in_err-push : goal.returns-in_err-push
+returns-in_err-push c = refused _ c.from_residual-in_err-push.result _ c.from_residual-in_err-push.ensures.1
+
+pub loop-number-init : goal.loop-number-init
+loop-number-init c =
+    let none = c.new-same.ensures.items in
+    record {
+      many = ap length none;
+      each = λ i j at. absurd (nothing i j (subst (λ xs. slice_get xs i ≡ Some j) none at));
+    }
+
+pub returns : goal.returns
+returns c =
+    let listed = c.in_ok-list_patterns.ensures ∙ ap (λ ps. map (λ r. regex_of r.now) ps ++ inner_of (regex_of c.args.rules.now)) c.new-patterns.ensures.items in
+    let many : length c.loop-number.same.items ≡ length c.list_patterns.new.list.items = omega arith in
+    subst (λ es. AreSame es c.loop-number.same.items) listed
+    (record { as_many = many ∙ sym (length-map c.list_patterns.new.list.items (λ r. regex_of r.now)); each = c.loop-number.invariant.each })

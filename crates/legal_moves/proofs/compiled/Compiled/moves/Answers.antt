@@ -1,4 +1,5 @@
-use Rattle.std.proofs.Common.{◌≡◌, ◌≤◌, ◌-◌, sym, subst, length, All, arith}
+use Rattle.std.proofs.Common.{◌≡◌, ◌≤◌, ◌-◌, Err, ap, sym, subst, length, All, arith}
+use Rattle.std.proofs.lemmas.Result.{err_from_is_err_and}
 use Rattle.rbg_game.specs.Meaning.{game_of}
 use Rattle.legal_moves.specs.aid.Configurations.{IsReady}
 use Rattle.legal_moves.specs.aid.Standing.{configurations_of}
@@ -7,7 +8,9 @@ use Rattle.legal_moves.specs.Compiled.{compiled_game}
 use Rattle.legal_moves.specs.Searches.{IsWide}
 use Rattle.legal_moves.specs.Tables.{inner_of, AreSame}
 use Rattle.legal_moves.specs.Listed.{AreMoves, IsShortestMove}
-use Rattle.legal_moves.proofs.CompiledLemmas.{rules_search, rules_ready}
+use Rattle.legal_moves.proofs.CompiledLemmas.{rules_search, rules_wide, rules_ready}
+use Rattle.legal_moves.specs.declared.fault.MoveFault.TheVariants as MoveFault
+use Rattle.legal_moves.proofs.Exits.{refused, not_ok, no_error}
 use Rattle.legal_moves.proofs.FoundLemmas.{own_bytes}
 use Rattle.legal_moves.proofs.ShownLemmas.{before_by_found}
 use Rattle.legal_moves.proofs.WidthLemmas.{narrow_by_search}
@@ -70,3 +73,49 @@ search-requires c =
       same = subst (AreSame (inner_of game.rules)) (sym c.deref-2.ensures.value) c.self.invariant.same_are;
       state = subst (IsStateOf game) (sym c.copied_state-state.ensures) here.state_is;
     }
+
+pub returns-in_err-found-clause-exact : goal.returns-in_err-found-clause-exact
+returns-in_err-found-clause-exact c = refused _ c.from_residual.result _ c.from_residual.ensures.1
+
+pub returns-in_err-found-clause-few : goal.returns-in_err-found-clause-few
+returns-in_err-found-clause-few c = refused _ c.from_residual.result _ c.from_residual.ensures.1
+
+pub returns-in_err-found-clause-shortest : goal.returns-in_err-found-clause-shortest
+returns-in_err-found-clause-shortest c = refused _ c.from_residual.result _ c.from_residual.ensures.1
+
+pub returns-in_err-found-clause-narrow : goal.returns-in_err-found-clause-narrow
+returns-in_err-found-clause-narrow c = not_ok _ c.from_residual.result c.from_residual.ensures.1
+
+pub returns-in_err-moves-clause-exact : goal.returns-in_err-moves-clause-exact
+returns-in_err-moves-clause-exact c = refused _ c.from_residual-in_err-moves.result _ c.from_residual-in_err-moves.ensures.1
+
+pub returns-in_err-moves-clause-few : goal.returns-in_err-moves-clause-few
+returns-in_err-moves-clause-few c = refused _ c.from_residual-in_err-moves.result _ c.from_residual-in_err-moves.ensures.1
+
+pub returns-in_err-moves-clause-shortest : goal.returns-in_err-moves-clause-shortest
+returns-in_err-moves-clause-shortest c = refused _ c.from_residual-in_err-moves.result _ c.from_residual-in_err-moves.ensures.1
+
+pub returns-in_err-moves-clause-narrow : goal.returns-in_err-moves-clause-narrow
+returns-in_err-moves-clause-narrow c = not_ok _ c.from_residual-in_err-moves.result c.from_residual-in_err-moves.ensures.1
+
+pub returns-clause-wide : goal.returns-clause-wide
+returns-clause-wide c = no_error
+
+pub returns-in_err-found-clause-wide : goal.returns-in_err-found-clause-wide
+returns-in_err-found-clause-wide c =
+    λ wide.
+    let err = err_from_is_err_and c.from_residual.result c.from_residual.ensures.1 in
+    let fault : c.in_err-found.field-0.0 ≡ MoveFault.TooWide = cc in
+    let game = game_of c.self.inside.game in
+    let tables = c.self.inside.tables.items in
+    let many : c.len-rules.result ≡ length tables = omega arith in
+    let at = c.args.at.now in
+    let there = rules_wide game tables c.len-rules.result at.place c.copied_state-state.result at.state c.self.invariant.tables_are many c.copied_state-state.ensures
+    (c.in_err-found.ensures.wide (ap Err fault)) in
+    subst (λ v. IsWide (compiled_game v) at) c.self.view_is there
+
+pub returns-in_err-moves-clause-wide : goal.returns-in_err-moves-clause-wide
+returns-in_err-moves-clause-wide c =
+    λ wide.
+    let err = err_from_is_err_and c.from_residual-in_err-moves.result c.from_residual-in_err-moves.ensures.1 in
+    absurd (cc)

@@ -1,6 +1,8 @@
 use Rattle.std.proofs.Common.{◌≡◌, ◌+◌, ◌*◌, ◌⊎◌, ℕ, refl, sym, ◌∙◌, subst}
+use Rattle.std.proofs.lemmas.Result.{err_from_is_err_and}
 use Rattle.legal_moves.specs.aid.Marks.{IsMarkSet}
 use Rattle.legal_moves.specs.aid.Looking.{mark_of}
+use Rattle.legal_moves.proofs.Exits.{refused, no_error}
 use Rattle.legal_moves.proofs.LookLemmas.{there, marked_more}
 use Rattle.legal_moves.proofs.looks.Looks.add.Goals as goal
 
@@ -16,3 +18,36 @@ returns-clause-marked c =
     let at : c.from.result * c.args.self.now.numbers + c.from-2.result ≡ mark_of c.args.self.now.numbers c.args.look = rw (c.from.ensures, c.from-2.ensures) refl in
     marked_more c.args.self.now.numbers c.args.self.now c.args.look c.requires.marked c.requires.within _ c.in_ok-push.ensures.items refl
     (subst (λ m. (j : ℕ) → (IsMarkSet c.mark.new.row.items j → IsMarkSet c.args.self.now.marks.items j ⊎ (j ≡ m)) × (IsMarkSet c.args.self.now.marks.items j ⊎ (j ≡ m) → IsMarkSet c.mark.new.row.items j)) at c.in_ok-mark.ensures)
+
+pub returns-clause-wide : goal.returns-clause-wide
+returns-clause-wide c = no_error
+
+pub returns-then-is_marked-clause-marked : goal.returns-then-is_marked-clause-marked
+returns-then-is_marked-clause-marked c = c.requires.marked
+
+pub returns-then-is_marked-clause-wide : goal.returns-then-is_marked-clause-wide
+returns-then-is_marked-clause-wide c = no_error
+
+pub returns-in_err-mark-clause-added : goal.returns-in_err-mark-clause-added
+returns-in_err-mark-clause-added c = refused _ c.from_residual.result _ c.from_residual.ensures.1
+
+pub returns-in_err-mark-clause-marked : goal.returns-in_err-mark-clause-marked
+returns-in_err-mark-clause-marked c = refused _ c.from_residual.result _ c.from_residual.ensures.1
+
+pub returns-in_err-mark-clause-wide : goal.returns-in_err-mark-clause-wide
+returns-in_err-mark-clause-wide c =
+    λ wide.
+    let err = err_from_is_err_and c.from_residual.result c.from_residual.ensures.1 in
+    absurd (cc)
+
+pub returns-in_err-push-clause-added : goal.returns-in_err-push-clause-added
+returns-in_err-push-clause-added c = refused _ c.from_residual-in_err-push.result _ c.from_residual-in_err-push.ensures.1
+
+pub returns-in_err-push-clause-marked : goal.returns-in_err-push-clause-marked
+returns-in_err-push-clause-marked c = refused _ c.from_residual-in_err-push.result _ c.from_residual-in_err-push.ensures.1
+
+pub returns-in_err-push-clause-wide : goal.returns-in_err-push-clause-wide
+returns-in_err-push-clause-wide c =
+    λ wide.
+    let err = err_from_is_err_and c.from_residual-in_err-push.result c.from_residual-in_err-push.ensures.1 in
+    absurd (cc)

@@ -3,6 +3,7 @@ use Rattle.legal_moves.specs.aid.Marks.{IsMarkSet}
 use Rattle.legal_moves.specs.aid.Looking.{AreMarked, mark_of}
 use Rattle.legal_moves.specs.declared.looks.Look.{Look}
 use Rattle.legal_moves.specs.declared.looks.Looks.{Looks}
+use Rattle.legal_moves.proofs.Exits.{refused}
 use Rattle.legal_moves.proofs.LookLemmas.{none_marked, marked_more}
 use Rattle.legal_moves.proofs.looks.Looks.begun.Goals as goal
 
@@ -25,3 +26,27 @@ returns-clause-marked c =
     } in
     marked_more numbers before first empty c.requires.some _ c.in_ok-push.ensures.items refl
     (subst (λ m. (j : ℕ) → (IsMarkSet c.mark.new.row.items j → IsMarkSet c.in_ok-marks.marks.items j ⊎ (j ≡ m)) × (IsMarkSet c.in_ok-marks.marks.items j ⊎ (j ≡ m) → IsMarkSet c.mark.new.row.items j)) at c.in_ok-mark.ensures)
+
+pub returns-in_err-looks-clause-opening : goal.returns-in_err-looks-clause-opening
+returns-in_err-looks-clause-opening c = refused _ c.from_residual.result _ c.from_residual.ensures.1
+
+pub returns-in_err-looks-clause-marked : goal.returns-in_err-looks-clause-marked
+returns-in_err-looks-clause-marked c = refused _ c.from_residual.result _ c.from_residual.ensures.1
+
+pub returns-in_err-marks-clause-opening : goal.returns-in_err-marks-clause-opening
+returns-in_err-marks-clause-opening c = refused _ c.from_residual-in_err-marks.result _ c.from_residual-in_err-marks.ensures.1
+
+pub returns-in_err-marks-clause-marked : goal.returns-in_err-marks-clause-marked
+returns-in_err-marks-clause-marked c = refused _ c.from_residual-in_err-marks.result _ c.from_residual-in_err-marks.ensures.1
+
+pub returns-in_err-mark-clause-opening : goal.returns-in_err-mark-clause-opening
+returns-in_err-mark-clause-opening c = refused _ c.from_residual-in_err-mark.result _ c.from_residual-in_err-mark.ensures.1
+
+pub returns-in_err-mark-clause-marked : goal.returns-in_err-mark-clause-marked
+returns-in_err-mark-clause-marked c = refused _ c.from_residual-in_err-mark.result _ c.from_residual-in_err-mark.ensures.1
+
+pub returns-in_err-push-clause-opening : goal.returns-in_err-push-clause-opening
+returns-in_err-push-clause-opening c = refused _ c.from_residual-in_err-push.result _ c.from_residual-in_err-push.ensures.1
+
+pub returns-in_err-push-clause-marked : goal.returns-in_err-push-clause-marked
+returns-in_err-push-clause-marked c = refused _ c.from_residual-in_err-push.result _ c.from_residual-in_err-push.ensures.1
