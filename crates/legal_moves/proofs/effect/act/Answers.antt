@@ -1,14 +1,17 @@
-use Rattle.std.proofs.Common.{◌≡◌, Bool, true, false, Contains, Some, None, refl, sym, ap, ◌∙◌, subst, arith, get_or, slice_set, slice_index, length, pos, nat_abs, w64, to_z, of_z}
+use Rattle.std.proofs.Common.{◌≡◌, ℕ, ℤ, Bool, true, false, List, nat_eq, Contains, Some, None, refl, sym, ap, ◌∙◌, subst, arith, get_or, slice_set, slice_index, length, pos, nat_abs, w64, to_z, of_z}
 use Rattle.std.proofs.lemmas.List.{length-map}
 use Rattle.rbg_game.specs.Meaning.{game_of, action_of, vertex_of, variable_of, expression_of}
-use Rattle.legal_moves.specs.Effects.{Effect}
-use Rattle.rbg_game.proofs.MeaningLemmas.{action_of-Shift, action_of-On, action_of-Off, action_of-Assignment, action_of-Switch}
+use Rattle.legal_moves.specs.Effects.{Compares, Effect}
+use Rattle.rbg_game.specs.declared.rules.Comparison.{Comparison}
+use Rattle.rbg_game.specs.declared.position.SemiState.{SemiState}
+use Rattle.rbg_game.proofs.MeaningLemmas.{action_of-Shift, action_of-On, action_of-Off, action_of-Assignment, action_of-Comparison, action_of-Switch}
 use Rattle.legal_moves.proofs.ActionLemmas.{neighbour_is, bound_is, refill-set, contains, OnTrue-along, assigns, not_below, not_above}
 use Rattle.legal_moves.specs.Plain.{IsPlain}
-use Rattle.rbg_game.specs.Expressions.{value_of}
-use Rattle.std.specs.List.{refill}
-use Rattle.std.specs.Bool.{OnFalse}
+use Rattle.rbg_game.specs.Expressions.{value_of, NamesBelow, HasSmallParts}
+use Rattle.std.specs.List.{refill, IsAnyAnswer}
+use Rattle.std.specs.Bool.{OnTrue, OnFalse}
 use Rattle.std.proofs.lemmas.Int.{to_z-of_z}
+use Rattle.std.proofs.lemmas.Bool.{eqb-false}
 use lib.Signed.{le_z}
 use mir.Val.{SFits}
 use Rattle.legal_moves.proofs.effect.act.Goals as goal
@@ -18,6 +21,30 @@ use Rattle.legal_moves.proofs.effect.act.Goals.{else-n-ge0-via-then-n-ge0+else-n
 anyhow : {P : Type 0} (r : Bool) → P → OnFalse r P
 anyhow true h = tt
 anyhow false h = h
+
+-- what holds where the test says so
+when_true : {P : Type 0} (r : Bool) → (r ≡ true → P) → OnTrue r P
+when_true true h = h refl
+when_true false h = tt
+
+when_false : {P : Type 0} (r : Bool) → (r ≡ false → P) → OnFalse r P
+when_false true h = tt
+when_false false h = h refl
+
+OnFalse-along : (r : Bool) (P Q : Type 0) → (P → Q) → OnFalse r P → OnFalse r Q
+OnFalse-along true P Q f h = tt
+OnFalse-along false P Q f h = f h
+
+-- the numbers as the machine has them
+said : (op : Comparison) (x y : ℤ) → SFits w64 x → SFits w64 y → Compares op (to_z w64 (of_z w64 x)) (to_z w64 (of_z w64 y)) → Compares op x y
+said op x y fits fits' h = subst (λ n. Compares op n y) (to_z-of_z w64 x fits) (subst (Compares op (to_z w64 (of_z w64 x))) (to_z-of_z w64 y fits') h)
+
+asked : (op : Comparison) (x y : ℤ) → SFits w64 x → SFits w64 y → Compares op x y → Compares op (to_z w64 (of_z w64 x)) (to_z w64 (of_z w64 y))
+asked op x y fits fits' h = subst (λ n. Compares op n (to_z w64 (of_z w64 y))) (sym (to_z-of_z w64 x fits)) (subst (Compares op x) (sym (to_z-of_z w64 y fits')) h)
+
+lacks : (xs : List ℕ) (x : ℕ) (r : Bool) → IsAnyAnswer (λ y b. nat_eq y x ≡ b) xs r → OnFalse r (¬ Contains xs x)
+lacks xs x true h = tt
+lacks xs x false h = λ k. eqb-false (get_or xs k.0 x) x (h k.0 x (omega arith) k.1) k.2
 
 pub returns-in-Some-clause-valid : goal.returns-in-Some-clause-valid
 returns-in-Some-clause-valid c =
@@ -149,3 +176,87 @@ returns-in-Switch-clause-valid c =
     let S = c.args.state.now in
     let action = ap action_of c.in-Switch.is ∙ action_of-Switch c.in-Switch.role in
     subst (λ a. Effect (game_of game) a S (record S { mover = c.in-Switch.role })) (sym action) refl
+
+pub returns-in-Comparison-clause-valid : goal.returns-in-Comparison-clause-valid
+returns-in-Comparison-clause-valid c =
+    let game = c.args.game.now in
+    let S = c.args.state.now in
+    let left = c.in-Comparison.left in
+    let op = c.in-Comparison.comparison in
+    let right = c.in-Comparison.right in
+    let action = ap action_of c.in-Comparison.is ∙ action_of-Comparison left op right in
+    let x = c.value.ensures ∙ ap (λ vs. value_of vs (expression_of left)) c.deref-in-Comparison.ensures.0 in
+    let y = c.value-in-Comparison.ensures ∙ ap (λ vs. value_of vs (expression_of right)) c.deref-in-Comparison-2.ensures.0 in
+    when_true c.compares.result (λ is. subst (λ a. Effect (game_of game) a S S) (sym action) (
+      refl,
+      subst (λ n. Compares op n (value_of S.values.items (expression_of right))) x (subst (Compares op c.value.result) y
+          (said op c.value.result c.value-in-Comparison.result (record { sfits = c.value.type_inv }) (record { sfits = c.value-in-Comparison.type_inv }) (c.compares.ensures.0 is))),
+    ))
+
+pub returns-in-Comparison-clause-refused : goal.returns-in-Comparison-clause-refused
+returns-in-Comparison-clause-refused c =
+    let game = c.args.game.now in
+    let S = c.args.state.now in
+    let left = c.in-Comparison.left in
+    let op = c.in-Comparison.comparison in
+    let right = c.in-Comparison.right in
+    let action = ap action_of c.in-Comparison.is ∙ action_of-Comparison left op right in
+    let x = c.value.ensures ∙ ap (λ vs. value_of vs (expression_of left)) c.deref-in-Comparison.ensures.0 in
+    let y = c.value-in-Comparison.ensures ∙ ap (λ vs. value_of vs (expression_of right)) c.deref-in-Comparison-2.ensures.0 in
+    when_false c.compares.result (λ is T h.
+    let effect = subst (λ a. Effect (game_of game) a S T) action h in
+    let holds = subst (λ n. Compares op n c.value-in-Comparison.result) (sym x) (subst (Compares op (value_of S.values.items (expression_of left))) (sym y) effect.1) in
+    let never : true ≡ false = sym (c.compares.ensures.1 (asked op c.value.result c.value-in-Comparison.result (record { sfits = c.value.type_inv }) (record { sfits = c.value-in-Comparison.type_inv }) holds)) ∙ is in
+    cc)
+
+pub returns-in-On-clause-refused : goal.returns-in-On-clause-refused
+returns-in-On-clause-refused c =
+    let game = c.args.game.now in
+    let S = c.args.state.now in
+    let action = ap action_of c.in-On.is ∙ action_of-On c.in-On.pieces in
+    let piece = get_or c.deref-in-On.result.now c.from-in-On.result 0 in
+    let here : piece ≡ slice_index S.pieces.items S.vertex = ap (λ ys. get_or ys c.from-in-On.result 0) c.deref-in-On.ensures.0 ∙ ap (λ i. get_or S.pieces.items i 0) c.from-in-On.ensures in
+    OnFalse-along c.contains.result (¬ Contains c.deref.result.now piece) ((T : SemiState) → ¬ Effect (game_of game) (action_of c.args.action.now) S T)
+    (λ none T h. none (subst (Contains c.deref.result.now) (sym here) (subst (λ xs. Contains xs (slice_index S.pieces.items S.vertex)) (sym c.deref.ensures.value) (subst (λ a. Effect (game_of game) a S T) action h).1)))
+    (lacks c.deref.result.now piece c.contains.result c.contains.ensures.cases)
+
+pub value-requires-clause-names : goal.value-requires-clause-names
+value-requires-clause-names c =
+    let action = ap action_of c.in-Comparison.is ∙ action_of-Comparison c.in-Comparison.left c.in-Comparison.comparison c.in-Comparison.right in
+    let plain = subst (IsPlain c.args.state.now.values.items) action c.requires.plain in
+    subst (λ vs. NamesBelow (length vs) (expression_of c.in-Comparison.left)) (sym c.deref-in-Comparison.ensures.0) plain.0.0
+
+pub value-requires-clause-small : goal.value-requires-clause-small
+value-requires-clause-small c =
+    let action = ap action_of c.in-Comparison.is ∙ action_of-Comparison c.in-Comparison.left c.in-Comparison.comparison c.in-Comparison.right in
+    let plain = subst (IsPlain c.args.state.now.values.items) action c.requires.plain in
+    subst (λ vs. HasSmallParts vs (expression_of c.in-Comparison.left)) (sym c.deref-in-Comparison.ensures.0) plain.0.1
+
+pub value-requires-in-Comparison-clause-names : goal.value-requires-in-Comparison-clause-names
+value-requires-in-Comparison-clause-names c =
+    let action = ap action_of c.in-Comparison.is ∙ action_of-Comparison c.in-Comparison.left c.in-Comparison.comparison c.in-Comparison.right in
+    let plain = subst (IsPlain c.args.state.now.values.items) action c.requires.plain in
+    subst (λ vs. NamesBelow (length vs) (expression_of c.in-Comparison.right)) (sym c.deref-in-Comparison-2.ensures.0) plain.1.0
+
+pub value-requires-in-Comparison-clause-small : goal.value-requires-in-Comparison-clause-small
+value-requires-in-Comparison-clause-small c =
+    let action = ap action_of c.in-Comparison.is ∙ action_of-Comparison c.in-Comparison.left c.in-Comparison.comparison c.in-Comparison.right in
+    let plain = subst (IsPlain c.args.state.now.values.items) action c.requires.plain in
+    subst (λ vs. HasSmallParts vs (expression_of c.in-Comparison.right)) (sym c.deref-in-Comparison-2.ensures.0) plain.1.1
+
+pub value-n-requires-clause-names : goal.value-n-requires-clause-names
+value-n-requires-clause-names c =
+    let action = ap action_of c.in-Assignment.is ∙ action_of-Assignment c.in-Assignment.variable c.in-Assignment.right in
+    let plain = subst (IsPlain c.args.state.now.values.items) action c.requires.plain in
+    subst (λ vs. NamesBelow (length vs) (expression_of c.in-Assignment.right)) (sym c.deref-in-Assignment.ensures.0) plain.1
+
+pub value-n-requires-clause-small : goal.value-n-requires-clause-small
+value-n-requires-clause-small c =
+    let action = ap action_of c.in-Assignment.is ∙ action_of-Assignment c.in-Assignment.variable c.in-Assignment.right in
+    let plain = subst (IsPlain c.args.state.now.values.items) action c.requires.plain in
+    subst (λ vs. HasSmallParts vs (expression_of c.in-Assignment.right)) (sym c.deref-in-Assignment.ensures.0) plain.2
+
+pub index-requires : goal.index-requires
+index-requires c =
+    let game = c.args.game.now in
+    omega (arith, length-map game.vertices.items vertex_of, c.requires.state.vertex_is, c.from.ensures, game.vertices.ok.0)

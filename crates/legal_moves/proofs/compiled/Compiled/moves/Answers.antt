@@ -1,5 +1,4 @@
 use Rattle.std.proofs.Common.{◌≡◌, ◌≤◌, ◌-◌, Err, ap, sym, subst, length, All, arith}
-use Rattle.std.proofs.lemmas.Result.{err_from_is_err_and}
 use Rattle.rbg_game.specs.Meaning.{game_of}
 use Rattle.legal_moves.specs.aid.Configurations.{IsReady}
 use Rattle.legal_moves.specs.aid.Standing.{configurations_of}
@@ -9,12 +8,12 @@ use Rattle.legal_moves.specs.Searches.{IsWide}
 use Rattle.legal_moves.specs.Tables.{inner_of, AreSame}
 use Rattle.legal_moves.specs.Listed.{AreMoves, IsShortestMove}
 use Rattle.legal_moves.proofs.CompiledLemmas.{rules_search, rules_wide, rules_ready}
-use Rattle.legal_moves.specs.declared.fault.MoveFault.TheVariants as MoveFault
 use Rattle.legal_moves.proofs.Exits.{refused, not_ok, no_error}
 use Rattle.legal_moves.proofs.FoundLemmas.{own_bytes}
 use Rattle.legal_moves.proofs.ShownLemmas.{before_by_found}
 use Rattle.legal_moves.proofs.WidthLemmas.{narrow_by_search}
 use Rattle.legal_moves.proofs.ListedLemmas.{are_moves, shortest_moves, few_moves}
+use Rattle.legal_moves.proofs.Faults.{passed, for_want}
 use Rattle.legal_moves.proofs.compiled.Compiled.moves.Goals as goal
 
 pub of-requires : goal.of-requires
@@ -104,8 +103,7 @@ returns-clause-wide c = no_error
 pub returns-in_err-found-clause-wide : goal.returns-in_err-found-clause-wide
 returns-in_err-found-clause-wide c =
     λ wide.
-    let err = err_from_is_err_and c.from_residual.result c.from_residual.ensures.1 in
-    let fault : c.in_err-found.field-0.0 ≡ MoveFault.TooWide = cc in
+    let fault = passed c.from_residual.result c.in_err-found.field-0.0 c.from_residual.ensures.1 wide in
     let game = game_of c.self.inside.game in
     let tables = c.self.inside.tables.items in
     let many : c.len-rules.result ≡ length tables = omega arith in
@@ -115,7 +113,4 @@ returns-in_err-found-clause-wide c =
     subst (λ v. IsWide (compiled_game v) at) c.self.view_is there
 
 pub returns-in_err-moves-clause-wide : goal.returns-in_err-moves-clause-wide
-returns-in_err-moves-clause-wide c =
-    λ wide.
-    let err = err_from_is_err_and c.from_residual-in_err-moves.result c.from_residual-in_err-moves.ensures.1 in
-    absurd (cc)
+returns-in_err-moves-clause-wide c = for_want c.from_residual-in_err-moves.result c.from_residual-in_err-moves.ensures.1

@@ -7,17 +7,16 @@ use Rattle.position_pack.specs.declared.kind.PackingKind.{PackingKind}
 use Rattle.position_pack.specs.declared.kind.PackingKind.TheVariants.{Bytes}
 use Rattle.position_pack.specs.Shape.{Shape}
 use Rattle.position_pack.specs.Packings.{Form, form_of, IsPacked}
-use Rattle.legal_moves.specs.declared.fault.MoveFault.TheVariants as MoveFault
 use Rattle.legal_moves.specs.Made.{CompiledGame}
 use Rattle.legal_moves.specs.Compiled.{compiled_game, packing_kind, IsCompiled}
 use Rattle.legal_moves.specs.declared.compiled.Compiled.TheInside.{Inside}
 use Rattle.legal_moves.specs.Listed.{ListsExactly, ShownMove}
 use Rattle.legal_moves.specs.Sources.{IsAt, IsMoveBetween}
 use Rattle.legal_moves.specs.aid.Repacked.{AreAllPacked, AreRepacked}
-use Rattle.std.proofs.lemmas.Result.{err_from_is_err_and}
 use Rattle.legal_moves.proofs.Exits.{refused, not_ok, no_error}
 use Rattle.legal_moves.proofs.SourceLemmas.{at_by_packed, packed_by_at, lists_between, narrow_at}
 use Rattle.legal_moves.proofs.RepackLemmas.{rows_by_successors, repacked_many, lists_repacked}
+use Rattle.legal_moves.proofs.Faults.{passed, for_want}
 use Rattle.legal_moves.proofs.compiled.CompiledMoveSource.successors.Goals as goal
 
 abbrev form_with : PackingKind → Shape → Form
@@ -131,7 +130,7 @@ pub returns-in_err-successors-clause-narrow : goal.returns-in_err-successors-cla
 returns-in_err-successors-clause-narrow c = not_ok _ c.from_residual-in_err-successors.result c.from_residual-in_err-successors.ensures.1
 
 pub returns-in_err-successors-clause-wide : goal.returns-in_err-successors-clause-wide
-returns-in_err-successors-clause-wide c = λ wide. let err = err_from_is_err_and c.from_residual-in_err-successors.result c.from_residual-in_err-successors.ensures.1 in absurd (cc)
+returns-in_err-successors-clause-wide c = for_want c.from_residual-in_err-successors.result c.from_residual-in_err-successors.ensures.1
 
 pub returns-in_err-repacked-in-Bits-clause-exact : goal.returns-in_err-repacked-in-Bits-clause-exact
 returns-in_err-repacked-in-Bits-clause-exact c = refused _ c.from_residual-in_err-repacked-in-Bits.result _ c.from_residual-in_err-repacked-in-Bits.ensures.1
@@ -143,7 +142,7 @@ pub returns-in_err-repacked-in-Bits-clause-narrow : goal.returns-in_err-repacked
 returns-in_err-repacked-in-Bits-clause-narrow c = not_ok _ c.from_residual-in_err-repacked-in-Bits.result c.from_residual-in_err-repacked-in-Bits.ensures.1
 
 pub returns-in_err-repacked-in-Bits-clause-wide : goal.returns-in_err-repacked-in-Bits-clause-wide
-returns-in_err-repacked-in-Bits-clause-wide c = λ wide. let err = err_from_is_err_and c.from_residual-in_err-repacked-in-Bits.result c.from_residual-in_err-repacked-in-Bits.ensures.1 in absurd (cc)
+returns-in_err-repacked-in-Bits-clause-wide c = for_want c.from_residual-in_err-repacked-in-Bits.result c.from_residual-in_err-repacked-in-Bits.ensures.1
 
 pub returns-in_ok-repacked-in-Bits-clause-wide : goal.returns-in_ok-repacked-in-Bits-clause-wide
 returns-in_ok-repacked-in-Bits-clause-wide c = no_error
@@ -172,11 +171,18 @@ pub returns-in_err-moves-clause-wide : goal.returns-in_err-moves-clause-wide
 returns-in_err-moves-clause-wide c =
     let here = unpacked_at c.self.inside c.args.self.now c.self.view_is c.self.invariant c.args.at.now.items c.deref.result.now c.in-Some.position c.deref.ensures.0 c.in-Some.ensures in
     λ wide.
-    let err = err_from_is_err_and c.from_residual.result c.from_residual.ensures.1 in
-    let fault : c.in_err-moves.field-0.0 ≡ MoveFault.TooWide = cc in
+    let fault = passed c.from_residual.result c.in_err-moves.field-0.0 c.from_residual.ensures.1 wide in
     (c.in-Some.position, here, c.in_err-moves.ensures.wide (ap Err fault))
 
 pub returns-in-Bytes-clause-few : goal.returns-in-Bytes-clause-few
 returns-in-Bytes-clause-few c =
     let same = ap length c.in_ok-successors.ensures in
     omega (arith, c.in_ok-moves.ensures.few, same, length-map c.in_ok-successors.successors.items (λ (p : ArrayVec ℕ). p.items), length-map c.in_ok-moves.moves (λ (m : ShownMove). m.next))
+
+pub repacked-requires-clause-same : goal.repacked-requires-clause-same
+repacked-requires-clause-same c = ap (λ (f : Form). f.shape) c.self.invariant.rows_are ∙ sym c.self.invariant.packing_is
+
+pub moves-requires : goal.moves-requires
+moves-requires c =
+    let here = unpacked_at c.self.inside c.args.self.now c.self.view_is c.self.invariant c.args.at.now.items c.deref.result.now c.in-Some.position c.deref.ensures.0 c.in-Some.ensures in
+    record { at = here.position_is }

@@ -1,10 +1,10 @@
 use Rattle.std.proofs.Common.{◌∷◌, [], ◌++◌, inl, inr, map, refl, subst, arith}
-use Rattle.std.proofs.lemmas.Result.{err_from_is_err_and}
 use Rattle.legal_moves.specs.aid.Chains.{AreChained}
 use Rattle.legal_moves.specs.aid.Standing.{bucket_at}
 use Rattle.legal_moves.proofs.Exits.{refused, no_error}
 use Rattle.legal_moves.proofs.ReadyLemmas.{OnTrue-at, OnFalse-at}
 use Rattle.legal_moves.proofs.StandingLemmas.{kept_stand}
+use Rattle.legal_moves.proofs.Faults.{for_want}
 use Rattle.legal_moves.proofs.found.Found.add.Goals as goal
 
 pub returns-clause-kept : goal.returns-clause-kept
@@ -46,10 +46,7 @@ pub returns-in_err-push-clause-kept : goal.returns-in_err-push-clause-kept
 returns-in_err-push-clause-kept c = refused _ c.from_residual.result _ c.from_residual.ensures.1
 
 pub returns-in_err-push-clause-wide : goal.returns-in_err-push-clause-wide
-returns-in_err-push-clause-wide c =
-    λ wide.
-    let err = err_from_is_err_and c.from_residual.result c.from_residual.ensures.1 in
-    absurd (cc)
+returns-in_err-push-clause-wide c = for_want c.from_residual.result c.from_residual.ensures.1
 
 pub returns-in_err-push-2-clause-boards : goal.returns-in_err-push-2-clause-boards
 returns-in_err-push-2-clause-boards c = refl
@@ -61,7 +58,4 @@ pub returns-in_err-push-2-clause-kept : goal.returns-in_err-push-2-clause-kept
 returns-in_err-push-2-clause-kept c = refused _ c.from_residual-in_err-push-2.result _ c.from_residual-in_err-push-2.ensures.1
 
 pub returns-in_err-push-2-clause-wide : goal.returns-in_err-push-2-clause-wide
-returns-in_err-push-2-clause-wide c =
-    λ wide.
-    let err = err_from_is_err_and c.from_residual-in_err-push-2.result c.from_residual-in_err-push-2.ensures.1 in
-    absurd (cc)
+returns-in_err-push-2-clause-wide c = for_want c.from_residual-in_err-push-2.result c.from_residual-in_err-push-2.ensures.1

@@ -1,9 +1,9 @@
 use Rattle.std.proofs.Common.{◌≡◌, ◌+◌, ◌*◌, ◌⊎◌, ℕ, refl, sym, ◌∙◌, subst}
-use Rattle.std.proofs.lemmas.Result.{err_from_is_err_and}
 use Rattle.legal_moves.specs.aid.Marks.{IsMarkSet}
 use Rattle.legal_moves.specs.aid.Looking.{mark_of}
 use Rattle.legal_moves.proofs.Exits.{refused, no_error}
 use Rattle.legal_moves.proofs.LookLemmas.{there, marked_more}
+use Rattle.legal_moves.proofs.Faults.{for_want}
 use Rattle.legal_moves.proofs.looks.Looks.add.Goals as goal
 
 pub returns-then-is_marked-clause-added : goal.returns-then-is_marked-clause-added
@@ -35,10 +35,7 @@ pub returns-in_err-mark-clause-marked : goal.returns-in_err-mark-clause-marked
 returns-in_err-mark-clause-marked c = refused _ c.from_residual.result _ c.from_residual.ensures.1
 
 pub returns-in_err-mark-clause-wide : goal.returns-in_err-mark-clause-wide
-returns-in_err-mark-clause-wide c =
-    λ wide.
-    let err = err_from_is_err_and c.from_residual.result c.from_residual.ensures.1 in
-    absurd (cc)
+returns-in_err-mark-clause-wide c = for_want c.from_residual.result c.from_residual.ensures.1
 
 pub returns-in_err-push-clause-added : goal.returns-in_err-push-clause-added
 returns-in_err-push-clause-added c = refused _ c.from_residual-in_err-push.result _ c.from_residual-in_err-push.ensures.1
@@ -47,7 +44,4 @@ pub returns-in_err-push-clause-marked : goal.returns-in_err-push-clause-marked
 returns-in_err-push-clause-marked c = refused _ c.from_residual-in_err-push.result _ c.from_residual-in_err-push.ensures.1
 
 pub returns-in_err-push-clause-wide : goal.returns-in_err-push-clause-wide
-returns-in_err-push-clause-wide c =
-    λ wide.
-    let err = err_from_is_err_and c.from_residual-in_err-push.result c.from_residual-in_err-push.ensures.1 in
-    absurd (cc)
+returns-in_err-push-clause-wide c = for_want c.from_residual-in_err-push.result c.from_residual-in_err-push.ensures.1

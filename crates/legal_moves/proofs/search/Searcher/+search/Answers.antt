@@ -3,7 +3,6 @@ use Rattle.rbg_game.specs.Positions.{IsStateOf}
 use Rattle.rbg_game.specs.Rules.{count}
 use Rattle.rbg_game.specs.Meaning.{game_of}
 use Rattle.legal_moves.specs.Effects.{EffectAt}
-use Rattle.legal_moves.specs.declared.fault.MoveFault.TheVariants as MoveFault
 use Rattle.legal_moves.specs.aid.Configurations.{expression_at, AsksTooMuch, IsFollowed, IsSearch}
 use Rattle.legal_moves.specs.aid.Going.{began, state_at, IsGoing}
 use Rattle.legal_moves.specs.aid.Standing.{stood, configurations_of}
@@ -12,7 +11,7 @@ use Rattle.std.specs.Option.{IfSome}
 use Rattle.legal_moves.specs.declared.looks.Look.{Look}
 use Rattle.std.proofs.lemmas.List.{length-map}
 use Rattle.std.proofs.lemmas.Option.{slice_get-get_or}
-use Rattle.std.proofs.lemmas.Result.{err_from_is_err_and, on_ok_weaker}
+use Rattle.std.proofs.lemmas.Result.{on_ok_weaker}
 use Rattle.legal_moves.specs.Listing.{list_at}
 use Rattle.legal_moves.proofs.ListingLemmas.{past, past_more}
 use Rattle.std.specs.Bool.{MatchBool}
@@ -34,6 +33,7 @@ use Rattle.legal_moves.specs.aid.Answers.{IsAnswerAt}
 use Rattle.legal_moves.specs.Searches.{IsWideFrom}
 use Rattle.legal_moves.proofs.AnswerLemmas.{same_expression, answer_along}
 use Rattle.legal_moves.proofs.ReadyLemmas.{OnTrue-at, read_at, count_steps, act_plain, act_tells, act_narrow, ask_before, ask_lacks, ask_ready, ask_narrow, ask_wide, ask_some, ask_none, ask_look, beq_true, beq_same}
+use Rattle.legal_moves.proofs.Faults.{passed, for_want}
 use Rattle.legal_moves.proofs.search.Searcher.+search.Goals as goal
 use Rattle.legal_moves.proofs.search.Searcher.+search.Goals.{look_on-in-Fails, look_on-in-At+in_ok-add-in-At, expand-then-last-eq0, expand-else-last-eq0, is_legal-then-ends, is_legal-else-ends, is_legal-then-ends-2, is_legal-else-ends-2}
 
@@ -82,8 +82,7 @@ glance_at-returns-in_err-holds-in-Ask-clause-wide t c =
     let T = c.index-self-index.result in
     let at_T = read_at tables index T c.requires.ready.within c.index-self-index.is in
     let at_step = subst (λ x. slice_get x.steps.items (c.args.number - 1) ≡ Some c.step.result.now) (sym c.index-self-index.is) c.step.ensures in
-    λ wide. let err = err_from_is_err_and c.from_residual.result c.from_residual.ensures.1 in
-    let fault : c.in_err-holds-in-Ask.field-0.0 ≡ MoveFault.TooWide = cc in
+    λ wide. let fault = passed c.from_residual.result c.in_err-holds-in-Ask.field-0.0 c.from_residual.ensures.1 wide in
     ask_wide game tables index c.requires.ready T at_T c.args.number c.requires.from c.step.result.now at_step c.in-Ask.positive c.in-Ask.inner c.in-Ask.is (at_vertex c.args.state.now c.args.vertex) (c.in_err-holds-in-Ask.ensures.wide (ap Err fault))
 
 pub glance_at-returns-in-Act-clause-tells : goal.glance_at-returns-in-Act-clause-tells
@@ -320,8 +319,7 @@ look_on-returns-in_err-glance_at-clause-wide t c =
     let at_k = slice_get-get_or ks i 0 c.loop-number-test.true in
     let next = listed_next game tables index c.requires.ready T at_T ks l.place p ks_is from_is i k at_k in
     let here = IsFollowed-upto game e 0 S now at (past ks i) k b now_b c.loop-number.invariant.here (λ m from_past less. skipped game tables index c.requires.ready T at_T ks l.place p ks_is from_is i k m at_k from_past less) in
-    λ wide. let err = err_from_is_err_and c.from_residual.result c.from_residual.ensures.1 in
-    let fault : c.in_err-glance_at.field-0.0 ≡ MoveFault.TooWide = cc in
+    λ wide. let fault = passed c.from_residual.result c.in_err-glance_at.field-0.0 c.from_residual.ensures.1 wide in
     asked game tables index c.requires.ready 0 S now at k b c.loop-number.invariant.going here now_b plain next (c.in_err-glance_at.ensures.wide (ap Err fault))
 
 pub look_on-add-requires-clause-few : goal.look_on-add-requires-clause-few
@@ -394,8 +392,7 @@ look_on-returns-in_err-add-in-At-clause-wide t c =
     let more : Look = record { vertex = c.in-At.vertex; place = k; parent = at } in
     let tells = subst (λ g. TellsAt game e k (at_vertex state l.vertex) g) c.in-At.is c.in_ok-glance_at.ensures.tells in
     let leads = look_leads game e k state l.vertex c.in-At.vertex at tells in
-    λ wide. let err = err_from_is_err_and c.from_residual-in_err-add-in-At.result c.from_residual-in_err-add-in-At.ensures.1 in
-    let fault : c.in_err-add-in-At.field-0.0 ≡ MoveFault.TooWide = cc in
+    λ wide. let fault = passed c.from_residual-in_err-add-in-At.result c.in_err-add-in-At.field-0.0 c.from_residual-in_err-add-in-At.ensures.1 wide in
     let too_many = c.in_err-add-in-At.ensures.wide (ap Err fault) in
     full game tables index c.requires.ready 0 S now at k b c.loop-number.invariant.going here now_b plain (looked state more) next leads refl (omega (arith, too_many.0, length-map looks (looked state))) (new_position state looks more too_many.1)
 
@@ -614,8 +611,7 @@ expand-returns-in_err-attempt-clause-wide t c =
     let at_k = slice_get-get_or ks i 0 c.loop-number-test.true in
     let next = listed_next game tables index c.requires.ready T at_T ks c.if-last-eq0.from p ks_is from_is i k at_k in
     let here = IsFollowed-upto game e place S now at (past ks i) k b now_b c.loop-number.invariant.here (λ m from_past less. skipped game tables index c.requires.ready T at_T ks c.if-last-eq0.from p ks_is from_is i k m at_k from_past less) in
-    λ wide. let err = err_from_is_err_and c.from_residual.result c.from_residual.ensures.1 in
-    let fault : c.in_err-attempt.field-0.0 ≡ MoveFault.TooWide = cc in
+    λ wide. let fault = passed c.from_residual.result c.in_err-attempt.field-0.0 c.from_residual.ensures.1 wide in
     tried_wide game tables index c.requires.ready place S now at k b c.loop-number.invariant.going here now_b plain next (c.in_err-attempt.ensures.wide (ap Err fault))
 
 pub expand-loop-number-preserved : goal.expand-loop-number-preserved
@@ -857,8 +853,7 @@ attempt-returns-in_err-glance_at-clause-wide t c =
     let at_B = read_at boards s.board B (c.requires.kept.within c.args.at s at_s) c.index-2.ensures in
     let state_is = state_there boards stands c.args.at s B at_s at_B in
     λ wide.
-    let err = err_from_is_err_and c.from_residual.result c.from_residual.ensures.1 in
-    let fault : c.in_err-glance_at.field-0.0 ≡ MoveFault.TooWide = cc in
+    let fault = passed c.from_residual.result c.in_err-glance_at.field-0.0 c.from_residual.ensures.1 wide in
     inl (subst (AsksTooMuch game e c.args.number) (sym state_is) (c.in_err-glance_at.ensures.wide (ap Err fault)))
 
 pub attempt-returns-in_err-glance_at-clause-kept : goal.attempt-returns-in_err-glance_at-clause-kept
@@ -948,8 +943,7 @@ holds-returns-2-clause-wide t c = no_error
 pub holds-returns-in_err-holds-clause-wide : goal.holds-returns-in_err-holds-clause-wide
 holds-returns-in_err-holds-clause-wide t c =
     λ wide.
-    let err = err_from_is_err_and c.from_residual.result c.from_residual.ensures.1 in
-    let fault : c.in_err-holds.field-0.0 ≡ MoveFault.TooWide = cc in
+    let fault = passed c.from_residual.result c.in_err-holds.field-0.0 c.from_residual.ensures.1 wide in
     c.in_err-holds.ensures.wide (ap Err fault)
 
 pub is_legal-look-requires : goal.is_legal-look-requires
@@ -981,8 +975,7 @@ is_legal-returns-in_err-found-clause-narrow t c = not_ok _ c.from_residual-in_er
 pub is_legal-returns-in_err-looks-clause-wide : goal.is_legal-returns-in_err-looks-clause-wide
 is_legal-returns-in_err-looks-clause-wide t c =
     λ wide.
-    let err = err_from_is_err_and c.from_residual.result c.from_residual.ensures.1 in
-    let fault : c.in_err-looks.field-0.0 ≡ MoveFault.TooWide = cc in
+    let fault = passed c.from_residual.result c.in_err-looks.field-0.0 c.from_residual.ensures.1 wide in
     c.in_err-looks.ensures.wide (ap Err fault)
 
 pub look-returns-in_err-looks-clause-found : goal.look-returns-in_err-looks-clause-found
@@ -1137,8 +1130,7 @@ search-returns-in_err-expand-clause-wide t c =
     let cs = configurations_of c.loop-at.found in
     let began_here = began_is game e c.args.place c.args.state cs c.loop-at.at c.loop-at.invariant.going in
     λ wide.
-    let err = err_from_is_err_and c.from_residual-in_err-expand.result c.from_residual-in_err-expand.ensures.1 in
-    let fault : c.in_err-expand.field-0.0 ≡ MoveFault.TooWide = cc in
+    let fault = passed c.from_residual-in_err-expand.result c.in_err-expand.field-0.0 c.from_residual-in_err-expand.ensures.1 wide in
     subst (IsWideFrom game e c.args.place) began_here (c.in_err-expand.ensures.wide (ap Err fault))
 
 pub look-returns-in_err-look_on-clause-wide : goal.look-returns-in_err-look_on-clause-wide
@@ -1149,8 +1141,7 @@ look-returns-in_err-look_on-clause-wide t c =
     let cs = seen_from c.args.state.now c.loop-at.looks.looks.items in
     let began_here = began_is game e 0 S cs c.loop-at.at c.loop-at.invariant.going in
     λ wide.
-    let err = err_from_is_err_and c.from_residual-in_err-look_on.result c.from_residual-in_err-look_on.ensures.1 in
-    let fault : c.in_err-look_on.field-0.0 ≡ MoveFault.TooWide = cc in
+    let fault = passed c.from_residual-in_err-look_on.result c.in_err-look_on.field-0.0 c.from_residual-in_err-look_on.ensures.1 wide in
     subst (IsWideFrom game e 0) began_here (c.in_err-look_on.ensures.wide (ap Err fault))
 
 pub is_legal-returns-in_err-found-clause-wide : goal.is_legal-returns-in_err-found-clause-wide
@@ -1158,21 +1149,14 @@ is_legal-returns-in_err-found-clause-wide t c =
     let game = game_of c.args.self.now.game.now in
     let e = expression_at game c.args.index in
     λ wide.
-    let err = err_from_is_err_and c.from_residual-in_err-found.result c.from_residual-in_err-found.ensures.1 in
-    let fault : c.in_err-found.field-0.0 ≡ MoveFault.TooWide = cc in
+    let fault = passed c.from_residual-in_err-found.result c.in_err-found.field-0.0 c.from_residual-in_err-found.ensures.1 wide in
     subst (λ A. IsWideFrom game e 0 (at_vertex A c.args.vertex)) c.copied_state-state.ensures (c.in_err-found.ensures.wide (ap Err fault))
 
 pub search-returns-in_err-found-clause-wide : goal.search-returns-in_err-found-clause-wide
-search-returns-in_err-found-clause-wide t c =
-    λ wide.
-    let err = err_from_is_err_and c.from_residual.result c.from_residual.ensures.1 in
-    absurd (cc)
+search-returns-in_err-found-clause-wide t c = for_want c.from_residual.result c.from_residual.ensures.1
 
 pub look-returns-in_err-looks-clause-wide : goal.look-returns-in_err-looks-clause-wide
-look-returns-in_err-looks-clause-wide t c =
-    λ wide.
-    let err = err_from_is_err_and c.from_residual.result c.from_residual.ensures.1 in
-    absurd (cc)
+look-returns-in_err-looks-clause-wide t c = for_want c.from_residual.result c.from_residual.ensures.1
 
 pub attempt-index-requires : goal.attempt-index-requires
 attempt-index-requires t c = omega (arith, c.args.found.now.stands.ok.0, c.requires.at)

@@ -1,5 +1,5 @@
 use Rattle.std.proofs.Common.{◌≡◌, ◌-◌, ◌≤◌, inl, length, Some, slice_get, refl, sym, ap, ◌∙◌, subst, arith}
-use Rattle.std.proofs.lemmas.Result.{err_from_is_err_and, on_ok_weaker}
+use Rattle.std.proofs.lemmas.Result.{on_ok_weaker}
 use Rattle.rbg_game.specs.Meaning.{game_of}
 use Rattle.rbg_game.specs.Positions.{IsStateOf}
 use Rattle.rbg_game.specs.declared.position.SemiState.{SemiState}
@@ -10,6 +10,7 @@ use Rattle.legal_moves.specs.declared.found.Stand.{Stand}
 use Rattle.legal_moves.proofs.ReadyLemmas.{read_at, count_steps, act_plain, act_valid, act_refused, ask_pattern, switches_is, modifies_is, OnTrue-at, OnFalse-at}
 use Rattle.legal_moves.proofs.Exits.{refused, no_error}
 use Rattle.legal_moves.proofs.AttemptLemmas.{state_there, attempted, filled}
+use Rattle.legal_moves.proofs.Faults.{for_want}
 use Rattle.legal_moves.proofs.search.Searcher.write.Goals as goal
 
 pub step-step-requires-clause-upto : goal.step-step-requires-clause-upto
@@ -154,10 +155,7 @@ pub returns-in_err-board-clause-tried : goal.returns-in_err-board-clause-tried
 returns-in_err-board-clause-tried c = refused _ c.from_residual.result _ c.from_residual.ensures.1
 
 pub returns-in_err-board-clause-wide : goal.returns-in_err-board-clause-wide
-returns-in_err-board-clause-wide c =
-    λ wide.
-    let err = err_from_is_err_and c.from_residual.result c.from_residual.ensures.1 in
-    absurd (cc)
+returns-in_err-board-clause-wide c = for_want c.from_residual.result c.from_residual.ensures.1
 
 pub returns-then-not-valid-clause-kept : goal.returns-then-not-valid-clause-kept
 returns-then-not-valid-clause-kept c = c.requires.kept
