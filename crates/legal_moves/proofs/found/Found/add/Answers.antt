@@ -14,7 +14,7 @@ returns-clause-kept c =
     (subst (λ b. AreChained (map bucket_at old.stands.items ++ b ∷ []) c.push.new.self) c.stand_bucket-bucket.ensures.is (c.in_ok-push.ensures (map bucket_at old.stands.items) c.requires.kept.stands_are)) refl
 
 pub returns-clause-added : goal.returns-clause-added
-returns-clause-added c = inr (c.in_ok-push-2.ensures.items, omega (arith, c.len.ensures, c.if-len-ge-WIDEST.false), OnFalse-at c.has.result _ c.if-has.false c.has.ensures.new)
+returns-clause-added c = inr (c.in_ok-push-2.ensures.items, omega arith, OnFalse-at c.has.result _ c.if-has.false c.has.ensures.new)
 
 pub returns-clause-boards : goal.returns-clause-boards
 returns-clause-boards c = refl
