@@ -14,6 +14,7 @@ pub mod StepSwitches
 pub mod StepTests
 pub mod TakeReading
 pub mod TreeParts
+pub mod Passing
 pub mod OneReading
 pub mod Outcome
 pub mod ShallowRules

@@ -1,9 +1,15 @@
-use Rattle.std.proofs.Common.{◌≡◌, ◌==◌, ℕ, false, true, not, length, sym, ◌∙◌, arith}
+use Rattle.std.proofs.Common.{◌≡◌, ◌==◌, ℕ, false, true, not, length, map, refl, ap, sym, ◌∙◌, arith}
 use Rattle.std.proofs.lemmas.List.{length-map}
+use Rattle.std.specs.List.{list_any}
+use Rattle.rbg_text.specs.View.{step_view}
 use Rattle.rbg_text.specs.Said.{declaration_view}
-use Rattle.rbg_read.specs.aid.Flat.{uses_unknown, repeats_name, has_large, is_past_a_limit}
+use Rattle.rbg_read.specs.aid.Flat.{uses_unknown, repeats_name, has_large, is_past_a_limit, bounds, is_large_number}
+use Rattle.rbg_read.specs.aid.Sizes.{has_large_size}
+use Rattle.rbg_read.specs.aid.Switches.{has_inner_switch}
 use Rattle.rbg_read.specs.aid.Parts.{known_view, parts_view}
 use Rattle.rbg_read.proofs.FirstCause.{here, past, two_at}
+use Rattle.rbg_read.proofs.NoCause.{few, no_large}
+use Rattle.rbg_read.proofs.Passing.{memory_ended}
 use Rattle.rbg_read.proofs.checks.check.Goals as goal
 
 pub returns-then-uses_unknown : goal.returns-then-uses_unknown
@@ -43,3 +49,80 @@ returns-then-is_past_a_limit c =
     let large : has_large parts ≡ false = sym c.has_large.ensures ∙ c.if-has_large.false in
     let over : is_past_a_limit names parts ≡ true = sym c.is_past_a_limit.ensures ∙ c.if-is_past_a_limit.true in
     λ _. past _ _ _ (two_at players) (past _ _ _ known (past _ _ _ twice (past _ _ _ large (here _ _ _ over))))
+
+pub has_large_size-requires-clause-few : goal.has_large_size-requires-clause-few
+has_large_size-requires-clause-few c =
+    let names = known_view c.args.names.now in
+    let parts = parts_view c.args.parts.now in
+    let players : length parts.players ≡ 2 = omega (arith, length-map c.args.parts.now.players.items declaration_view) in
+    let over : is_past_a_limit names parts ≡ false = sym c.is_past_a_limit.ensures ∙ c.if-is_past_a_limit.false in
+    few names parts c.requires players over
+
+pub has_large_size-requires-clause-within : goal.has_large_size-requires-clause-within
+has_large_size-requires-clause-within c =
+    let large : has_large (parts_view c.args.parts.now) ≡ false = sym c.has_large.ensures ∙ c.if-has_large.false in
+    ap (λ ss. list_any is_large_number (map step_view ss)) c.as_slice-2.ensures.value ∙ (no_large c.args.parts.now large).steps
+
+pub returns-then-branch : goal.returns-then-branch
+returns-then-branch c =
+    let names = known_view c.args.names.now in
+    let parts = parts_view c.args.parts.now in
+    let players : length parts.players ≡ 2 = omega (arith, length-map c.args.parts.now.players.items declaration_view) in
+    let known : uses_unknown names parts ≡ false = sym c.uses_unknown.ensures ∙ c.if-uses_unknown.false in
+    let twice : repeats_name names parts ≡ false = sym c.repeats_name.ensures ∙ c.if-repeats_name.false in
+    let large : has_large parts ≡ false = sym c.has_large.ensures ∙ c.if-has_large.false in
+    let over : is_past_a_limit names parts ≡ false = sym c.is_past_a_limit.ensures ∙ c.if-is_past_a_limit.false in
+    let read = c.as_slice.ensures.value ∙ c.in_ok-bounds.ensures in
+    let big : has_large_size names.values (bounds parts) parts.steps ≡ true =
+    ap (λ bs. has_large_size names.values bs parts.steps) (sym read)
+    ∙ ap (λ ss. has_large_size names.values c.as_slice.result.now (map step_view ss)) (sym c.as_slice-2.ensures.value)
+    ∙ sym c.in_ok-has_large_size.ensures ∙ c.if-branch.true in
+    λ _. past _ _ _ (two_at players) (past _ _ _ known (past _ _ _ twice (past _ _ _ large (past _ _ _ over (here _ _ _ big)))))
+
+pub returns-then-branch-2 : goal.returns-then-branch-2
+returns-then-branch-2 c =
+    let names = known_view c.args.names.now in
+    let parts = parts_view c.args.parts.now in
+    let players : length parts.players ≡ 2 = omega (arith, length-map c.args.parts.now.players.items declaration_view) in
+    let known : uses_unknown names parts ≡ false = sym c.uses_unknown.ensures ∙ c.if-uses_unknown.false in
+    let twice : repeats_name names parts ≡ false = sym c.repeats_name.ensures ∙ c.if-repeats_name.false in
+    let large : has_large parts ≡ false = sym c.has_large.ensures ∙ c.if-has_large.false in
+    let over : is_past_a_limit names parts ≡ false = sym c.is_past_a_limit.ensures ∙ c.if-is_past_a_limit.false in
+    let read = c.as_slice.ensures.value ∙ c.in_ok-bounds.ensures in
+    let big : has_large_size names.values (bounds parts) parts.steps ≡ false =
+    ap (λ bs. has_large_size names.values bs parts.steps) (sym read)
+    ∙ ap (λ ss. has_large_size names.values c.as_slice.result.now (map step_view ss)) (sym c.as_slice-2.ensures.value)
+    ∙ sym c.in_ok-has_large_size.ensures ∙ c.if-branch.false in
+    let inner : has_inner_switch parts.steps ≡ true =
+    ap (λ ss. has_inner_switch (map step_view ss)) (sym c.as_slice-3.ensures.value) ∙ sym c.in_ok-has_inner_switch.ensures ∙ c.if-branch-2.true in
+    λ _. past _ _ _ (two_at players) (past _ _ _ known (past _ _ _ twice (past _ _ _ large (past _ _ _ over (past _ _ _ big (here _ _ _ inner))))))
+
+pub returns : goal.returns
+returns c =
+    let names = known_view c.args.names.now in
+    let parts = parts_view c.args.parts.now in
+    let players : length parts.players ≡ 2 = omega (arith, length-map c.args.parts.now.players.items declaration_view) in
+    let known : uses_unknown names parts ≡ false = sym c.uses_unknown.ensures ∙ c.if-uses_unknown.false in
+    let twice : repeats_name names parts ≡ false = sym c.repeats_name.ensures ∙ c.if-repeats_name.false in
+    let large : has_large parts ≡ false = sym c.has_large.ensures ∙ c.if-has_large.false in
+    let over : is_past_a_limit names parts ≡ false = sym c.is_past_a_limit.ensures ∙ c.if-is_past_a_limit.false in
+    let read = c.as_slice.ensures.value ∙ c.in_ok-bounds.ensures in
+    let big : has_large_size names.values (bounds parts) parts.steps ≡ false =
+    ap (λ bs. has_large_size names.values bs parts.steps) (sym read)
+    ∙ ap (λ ss. has_large_size names.values c.as_slice.result.now (map step_view ss)) (sym c.as_slice-2.ensures.value)
+    ∙ sym c.in_ok-has_large_size.ensures ∙ c.if-branch.false in
+    let inner : has_inner_switch parts.steps ≡ false =
+    ap (λ ss. has_inner_switch (map step_view ss)) (sym c.as_slice-3.ensures.value) ∙ sym c.in_ok-has_inner_switch.ensures ∙ c.if-branch-2.false in
+    past _ _ _ (two_at players) (past _ _ _ known (past _ _ _ twice (past _ _ _ large (past _ _ _ over (past _ _ _ big (past _ _ _ inner refl))))))
+
+pub returns-in_err-bounds : goal.returns-in_err-bounds
+returns-in_err-bounds c =
+    memory_ended _ _ _ c.from_residual.result c.from_residual.ensures
+
+pub returns-in_err-has_large_size : goal.returns-in_err-has_large_size
+returns-in_err-has_large_size c =
+    memory_ended _ _ _ c.from_residual-in_err-has_large_size.result c.from_residual-in_err-has_large_size.ensures
+
+pub returns-in_err-has_inner_switch : goal.returns-in_err-has_inner_switch
+returns-in_err-has_inner_switch c =
+    memory_ended _ _ _ c.from_residual-in_err-has_inner_switch.result c.from_residual-in_err-has_inner_switch.ensures
