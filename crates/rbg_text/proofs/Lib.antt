@@ -3,6 +3,8 @@ pub mod Tokens
 pub mod Splitting
 pub mod LexerLemmas
 pub mod Turns
+pub mod Passing
+pub mod Titles
 pub mod ExpressionsComplete
 pub mod ExpressionsSound
 pub mod NestingLemmas
