@@ -1,13 +1,11 @@
-use Rattle.std.proofs.Common.{◌≡◌, ◌==◌, ℕ, false, true, not, length, map, refl, ap, sym, ◌∙◌, arith}
-use Rattle.std.proofs.lemmas.List.{length-map}
+use Rattle.std.proofs.Common.{◌≡◌, ◌==◌, ℕ, false, true, not, length, map, refl, ap, sym, ◌∙◌}
 use Rattle.std.specs.List.{list_any}
 use Rattle.rbg_text.specs.View.{step_view}
-use Rattle.rbg_text.specs.Said.{declaration_view}
 use Rattle.rbg_read.specs.aid.Flat.{uses_unknown, repeats_name, has_large, is_past_a_limit, bounds, is_large_number}
 use Rattle.rbg_read.specs.aid.Sizes.{has_large_size}
 use Rattle.rbg_read.specs.aid.Switches.{has_inner_switch}
 use Rattle.rbg_read.specs.aid.Parts.{known_view, parts_view}
-use Rattle.rbg_read.proofs.FirstCause.{here, past, two_at}
+use Rattle.rbg_read.proofs.FirstCause.{here, past, two_at, two_players}
 use Rattle.rbg_read.proofs.NoCause.{few, no_large}
 use Rattle.rbg_read.proofs.Passing.{memory_ended}
 use Rattle.rbg_read.proofs.checks.check.Goals as goal
@@ -16,7 +14,7 @@ pub returns-then-uses_unknown : goal.returns-then-uses_unknown
 returns-then-uses_unknown c =
     let names = known_view c.args.names.now in
     let parts = parts_view c.args.parts.now in
-    let players : length parts.players ≡ 2 = omega (arith, length-map c.args.parts.now.players.items declaration_view) in
+    let players : length parts.players ≡ 2 = two_players c.args.parts.now c.len.result c.len.ensures c.if-len-ne2.false in
     let known : uses_unknown names parts ≡ true = sym c.uses_unknown.ensures ∙ c.if-uses_unknown.true in
     λ _. past _ _ _ (two_at players) (here _ _ _ known)
 
@@ -24,7 +22,7 @@ pub returns-then-repeats_name : goal.returns-then-repeats_name
 returns-then-repeats_name c =
     let names = known_view c.args.names.now in
     let parts = parts_view c.args.parts.now in
-    let players : length parts.players ≡ 2 = omega (arith, length-map c.args.parts.now.players.items declaration_view) in
+    let players : length parts.players ≡ 2 = two_players c.args.parts.now c.len.result c.len.ensures c.if-len-ne2.false in
     let known : uses_unknown names parts ≡ false = sym c.uses_unknown.ensures ∙ c.if-uses_unknown.false in
     let twice : repeats_name names parts ≡ true = sym c.repeats_name.ensures ∙ c.if-repeats_name.true in
     λ _. past _ _ _ (two_at players) (past _ _ _ known (here _ _ _ twice))
@@ -33,7 +31,7 @@ pub returns-then-has_large : goal.returns-then-has_large
 returns-then-has_large c =
     let names = known_view c.args.names.now in
     let parts = parts_view c.args.parts.now in
-    let players : length parts.players ≡ 2 = omega (arith, length-map c.args.parts.now.players.items declaration_view) in
+    let players : length parts.players ≡ 2 = two_players c.args.parts.now c.len.result c.len.ensures c.if-len-ne2.false in
     let known : uses_unknown names parts ≡ false = sym c.uses_unknown.ensures ∙ c.if-uses_unknown.false in
     let twice : repeats_name names parts ≡ false = cc in
     let large : has_large parts ≡ true = sym c.has_large.ensures ∙ c.if-has_large.true in
@@ -43,7 +41,7 @@ pub returns-then-is_past_a_limit : goal.returns-then-is_past_a_limit
 returns-then-is_past_a_limit c =
     let names = known_view c.args.names.now in
     let parts = parts_view c.args.parts.now in
-    let players : length parts.players ≡ 2 = omega (arith, length-map c.args.parts.now.players.items declaration_view) in
+    let players : length parts.players ≡ 2 = two_players c.args.parts.now c.len.result c.len.ensures c.if-len-ne2.false in
     let known : uses_unknown names parts ≡ false = sym c.uses_unknown.ensures ∙ c.if-uses_unknown.false in
     let twice : repeats_name names parts ≡ false = sym c.repeats_name.ensures ∙ c.if-repeats_name.false in
     let large : has_large parts ≡ false = sym c.has_large.ensures ∙ c.if-has_large.false in
@@ -54,7 +52,7 @@ pub has_large_size-requires-clause-few : goal.has_large_size-requires-clause-few
 has_large_size-requires-clause-few c =
     let names = known_view c.args.names.now in
     let parts = parts_view c.args.parts.now in
-    let players : length parts.players ≡ 2 = omega (arith, length-map c.args.parts.now.players.items declaration_view) in
+    let players : length parts.players ≡ 2 = two_players c.args.parts.now c.len.result c.len.ensures c.if-len-ne2.false in
     let over : is_past_a_limit names parts ≡ false = sym c.is_past_a_limit.ensures ∙ c.if-is_past_a_limit.false in
     few names parts c.requires players over
 
@@ -67,7 +65,7 @@ pub returns-then-branch : goal.returns-then-branch
 returns-then-branch c =
     let names = known_view c.args.names.now in
     let parts = parts_view c.args.parts.now in
-    let players : length parts.players ≡ 2 = omega (arith, length-map c.args.parts.now.players.items declaration_view) in
+    let players : length parts.players ≡ 2 = two_players c.args.parts.now c.len.result c.len.ensures c.if-len-ne2.false in
     let known : uses_unknown names parts ≡ false = sym c.uses_unknown.ensures ∙ c.if-uses_unknown.false in
     let twice : repeats_name names parts ≡ false = sym c.repeats_name.ensures ∙ c.if-repeats_name.false in
     let large : has_large parts ≡ false = sym c.has_large.ensures ∙ c.if-has_large.false in
@@ -83,7 +81,7 @@ pub returns-then-branch-2 : goal.returns-then-branch-2
 returns-then-branch-2 c =
     let names = known_view c.args.names.now in
     let parts = parts_view c.args.parts.now in
-    let players : length parts.players ≡ 2 = omega (arith, length-map c.args.parts.now.players.items declaration_view) in
+    let players : length parts.players ≡ 2 = two_players c.args.parts.now c.len.result c.len.ensures c.if-len-ne2.false in
     let known : uses_unknown names parts ≡ false = sym c.uses_unknown.ensures ∙ c.if-uses_unknown.false in
     let twice : repeats_name names parts ≡ false = sym c.repeats_name.ensures ∙ c.if-repeats_name.false in
     let large : has_large parts ≡ false = sym c.has_large.ensures ∙ c.if-has_large.false in
@@ -101,7 +99,7 @@ pub returns : goal.returns
 returns c =
     let names = known_view c.args.names.now in
     let parts = parts_view c.args.parts.now in
-    let players : length parts.players ≡ 2 = omega (arith, length-map c.args.parts.now.players.items declaration_view) in
+    let players : length parts.players ≡ 2 = two_players c.args.parts.now c.len.result c.len.ensures c.if-len-ne2.false in
     let known : uses_unknown names parts ≡ false = sym c.uses_unknown.ensures ∙ c.if-uses_unknown.false in
     let twice : repeats_name names parts ≡ false = sym c.repeats_name.ensures ∙ c.if-repeats_name.false in
     let large : has_large parts ≡ false = sym c.has_large.ensures ∙ c.if-has_large.false in
