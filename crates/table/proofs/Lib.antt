@@ -4,3 +4,4 @@ pub mod CountLemmas
 pub mod Listing
 pub mod Whole
 pub mod Copies
+pub mod Passing

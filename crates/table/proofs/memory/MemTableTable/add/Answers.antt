@@ -4,6 +4,7 @@ use Rattle.retrograde.specs.Stored.{is_expanded, is_processed}
 use Rattle.table.proofs.CountLemmas.{count_fresh}
 use Rattle.table.proofs.EdgeLemmas.{known_in_more}
 use Rattle.table.proofs.NumberLemmas.{numbered_more}
+use Rattle.table.proofs.Passing.{passed_on, none_done, none_answered}
 use Rattle.table.proofs.memory.MemTableTable.add.Goals as goal
 
 pub invariant_of-self-2-clause-numbered : goal.invariant_of-self-2-clause-numbered
@@ -28,3 +29,138 @@ invariant_of-self-2-clause-processed_is c =
     c.args.self.now.processed_is
     ∙ count_fresh (λ r. is_processed r.state) refl c.args.self.now.records.items c.reserve-2.new.self.items c.push-2.new.self.items c.fresh.result (is_ok c.push-2.result)
     c.in_ok-reserve-2.ensures.items c.fresh.ensures c.push-2.ensures.items
+
+pub returns-in_err-position-clause-number : goal.returns-in_err-position-clause-number
+returns-in_err-position-clause-number c = none_answered _ c.from_residual.result c.from_residual.ensures.0
+
+pub returns-in_err-position-clause-added : goal.returns-in_err-position-clause-added
+returns-in_err-position-clause-added c = λ honest. none_done _ c.from_residual.result c.from_residual.ensures.0
+
+pub returns-in_err-position-clause-honest : goal.returns-in_err-position-clause-honest
+returns-in_err-position-clause-honest c = none_done _ c.from_residual.result c.from_residual.ensures.0
+
+pub returns-in_err-position-clause-known : goal.returns-in_err-position-clause-known
+returns-in_err-position-clause-known c = none_done _ c.from_residual.result c.from_residual.ensures.0
+
+pub returns-in_err-position-clause-ahead : goal.returns-in_err-position-clause-ahead
+returns-in_err-position-clause-ahead c = none_done _ c.from_residual.result c.from_residual.ensures.0
+
+pub returns-in_err-position-clause-fault : goal.returns-in_err-position-clause-fault
+returns-in_err-position-clause-fault c = passed_on _ c.from_residual.result _ c.from_residual.ensures refl
+
+pub returns-in_err-key-clause-number : goal.returns-in_err-key-clause-number
+returns-in_err-key-clause-number c = none_answered _ c.from_residual-in_err-key.result c.from_residual-in_err-key.ensures.0
+
+pub returns-in_err-key-clause-added : goal.returns-in_err-key-clause-added
+returns-in_err-key-clause-added c = λ honest. none_done _ c.from_residual-in_err-key.result c.from_residual-in_err-key.ensures.0
+
+pub returns-in_err-key-clause-honest : goal.returns-in_err-key-clause-honest
+returns-in_err-key-clause-honest c = none_done _ c.from_residual-in_err-key.result c.from_residual-in_err-key.ensures.0
+
+pub returns-in_err-key-clause-known : goal.returns-in_err-key-clause-known
+returns-in_err-key-clause-known c = none_done _ c.from_residual-in_err-key.result c.from_residual-in_err-key.ensures.0
+
+pub returns-in_err-key-clause-ahead : goal.returns-in_err-key-clause-ahead
+returns-in_err-key-clause-ahead c = none_done _ c.from_residual-in_err-key.result c.from_residual-in_err-key.ensures.0
+
+pub returns-in_err-key-clause-fault : goal.returns-in_err-key-clause-fault
+returns-in_err-key-clause-fault c = passed_on _ c.from_residual-in_err-key.result _ c.from_residual-in_err-key.ensures refl
+
+pub returns-in_err-reserve-clause-number : goal.returns-in_err-reserve-clause-number
+returns-in_err-reserve-clause-number c = none_answered _ c.from_residual-in_err-reserve.result c.from_residual-in_err-reserve.ensures.0
+
+pub returns-in_err-reserve-clause-added : goal.returns-in_err-reserve-clause-added
+returns-in_err-reserve-clause-added c = λ honest. none_done _ c.from_residual-in_err-reserve.result c.from_residual-in_err-reserve.ensures.0
+
+pub returns-in_err-reserve-clause-honest : goal.returns-in_err-reserve-clause-honest
+returns-in_err-reserve-clause-honest c = none_done _ c.from_residual-in_err-reserve.result c.from_residual-in_err-reserve.ensures.0
+
+pub returns-in_err-reserve-clause-known : goal.returns-in_err-reserve-clause-known
+returns-in_err-reserve-clause-known c = none_done _ c.from_residual-in_err-reserve.result c.from_residual-in_err-reserve.ensures.0
+
+pub returns-in_err-reserve-clause-ahead : goal.returns-in_err-reserve-clause-ahead
+returns-in_err-reserve-clause-ahead c = none_done _ c.from_residual-in_err-reserve.result c.from_residual-in_err-reserve.ensures.0
+
+pub returns-in_err-reserve-clause-fault : goal.returns-in_err-reserve-clause-fault
+returns-in_err-reserve-clause-fault c = passed_on _ c.from_residual-in_err-reserve.result _ c.from_residual-in_err-reserve.ensures refl
+
+pub returns-in_err-reserve-2-clause-number : goal.returns-in_err-reserve-2-clause-number
+returns-in_err-reserve-2-clause-number c = none_answered _ c.from_residual-in_err-reserve-2.result c.from_residual-in_err-reserve-2.ensures.0
+
+pub returns-in_err-reserve-2-clause-added : goal.returns-in_err-reserve-2-clause-added
+returns-in_err-reserve-2-clause-added c = λ honest. none_done _ c.from_residual-in_err-reserve-2.result c.from_residual-in_err-reserve-2.ensures.0
+
+pub returns-in_err-reserve-2-clause-honest : goal.returns-in_err-reserve-2-clause-honest
+returns-in_err-reserve-2-clause-honest c = none_done _ c.from_residual-in_err-reserve-2.result c.from_residual-in_err-reserve-2.ensures.0
+
+pub returns-in_err-reserve-2-clause-known : goal.returns-in_err-reserve-2-clause-known
+returns-in_err-reserve-2-clause-known c = none_done _ c.from_residual-in_err-reserve-2.result c.from_residual-in_err-reserve-2.ensures.0
+
+pub returns-in_err-reserve-2-clause-ahead : goal.returns-in_err-reserve-2-clause-ahead
+returns-in_err-reserve-2-clause-ahead c = none_done _ c.from_residual-in_err-reserve-2.result c.from_residual-in_err-reserve-2.ensures.0
+
+pub returns-in_err-reserve-2-clause-fault : goal.returns-in_err-reserve-2-clause-fault
+returns-in_err-reserve-2-clause-fault c = passed_on _ c.from_residual-in_err-reserve-2.result _ c.from_residual-in_err-reserve-2.ensures refl
+
+pub returns-in_err-insert-clause-number : goal.returns-in_err-insert-clause-number
+returns-in_err-insert-clause-number c = none_answered _ c.from_residual-in_err-insert.result c.from_residual-in_err-insert.ensures.0
+
+pub returns-in_err-insert-clause-added : goal.returns-in_err-insert-clause-added
+returns-in_err-insert-clause-added c = λ honest. none_done _ c.from_residual-in_err-insert.result c.from_residual-in_err-insert.ensures.0
+
+pub returns-in_err-insert-clause-honest : goal.returns-in_err-insert-clause-honest
+returns-in_err-insert-clause-honest c = none_done _ c.from_residual-in_err-insert.result c.from_residual-in_err-insert.ensures.0
+
+pub returns-in_err-insert-clause-known : goal.returns-in_err-insert-clause-known
+returns-in_err-insert-clause-known c = none_done _ c.from_residual-in_err-insert.result c.from_residual-in_err-insert.ensures.0
+
+pub returns-in_err-insert-clause-ahead : goal.returns-in_err-insert-clause-ahead
+returns-in_err-insert-clause-ahead c = none_done _ c.from_residual-in_err-insert.result c.from_residual-in_err-insert.ensures.0
+
+pub returns-in_err-insert-clause-fault : goal.returns-in_err-insert-clause-fault
+returns-in_err-insert-clause-fault c = passed_on _ c.from_residual-in_err-insert.result _ c.from_residual-in_err-insert.ensures refl
+
+pub returns-in_err-push-clause-number : goal.returns-in_err-push-clause-number
+returns-in_err-push-clause-number c = none_answered _ c.from_residual-in_err-push.result c.from_residual-in_err-push.ensures.0
+
+pub returns-in_err-push-clause-added : goal.returns-in_err-push-clause-added
+returns-in_err-push-clause-added c = λ honest. none_done _ c.from_residual-in_err-push.result c.from_residual-in_err-push.ensures.0
+
+pub returns-in_err-push-clause-honest : goal.returns-in_err-push-clause-honest
+returns-in_err-push-clause-honest c = none_done _ c.from_residual-in_err-push.result c.from_residual-in_err-push.ensures.0
+
+pub returns-in_err-push-clause-known : goal.returns-in_err-push-clause-known
+returns-in_err-push-clause-known c = none_done _ c.from_residual-in_err-push.result c.from_residual-in_err-push.ensures.0
+
+pub returns-in_err-push-clause-ahead : goal.returns-in_err-push-clause-ahead
+returns-in_err-push-clause-ahead c = none_done _ c.from_residual-in_err-push.result c.from_residual-in_err-push.ensures.0
+
+pub returns-in_err-push-clause-fault : goal.returns-in_err-push-clause-fault
+returns-in_err-push-clause-fault c = passed_on _ c.from_residual-in_err-push.result _ c.from_residual-in_err-push.ensures refl
+
+pub returns-in_err-push-2-clause-number : goal.returns-in_err-push-2-clause-number
+returns-in_err-push-2-clause-number c = none_answered _ c.from_residual-in_err-push-2.result c.from_residual-in_err-push-2.ensures.0
+
+pub returns-in_err-push-2-clause-added : goal.returns-in_err-push-2-clause-added
+returns-in_err-push-2-clause-added c = λ honest. none_done _ c.from_residual-in_err-push-2.result c.from_residual-in_err-push-2.ensures.0
+
+pub returns-in_err-push-2-clause-honest : goal.returns-in_err-push-2-clause-honest
+returns-in_err-push-2-clause-honest c = none_done _ c.from_residual-in_err-push-2.result c.from_residual-in_err-push-2.ensures.0
+
+pub returns-in_err-push-2-clause-known : goal.returns-in_err-push-2-clause-known
+returns-in_err-push-2-clause-known c = none_done _ c.from_residual-in_err-push-2.result c.from_residual-in_err-push-2.ensures.0
+
+pub returns-in_err-push-2-clause-ahead : goal.returns-in_err-push-2-clause-ahead
+returns-in_err-push-2-clause-ahead c = none_done _ c.from_residual-in_err-push-2.result c.from_residual-in_err-push-2.ensures.0
+
+pub returns-in_err-push-2-clause-fault : goal.returns-in_err-push-2-clause-fault
+returns-in_err-push-2-clause-fault c = passed_on _ c.from_residual-in_err-push-2.result _ c.from_residual-in_err-push-2.ensures refl
+
+pub returns-clause-honest : goal.returns-clause-honest
+returns-clause-honest c = (λ h. h, λ h. h)
+
+pub returns-clause-ahead : goal.returns-clause-ahead
+returns-clause-ahead c = tt
+
+pub returns-clause-fault : goal.returns-clause-fault
+returns-clause-fault c = tt
