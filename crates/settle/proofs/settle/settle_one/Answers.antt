@@ -1,8 +1,11 @@
-use Rattle.std.proofs.Common.{◌≡◌, ◌∙◌, ◌≤◌, ◌^◌, rules, ap, length, arith}
+use Rattle.std.proofs.Common.{◌≡◌, ◌∙◌, ◌≤◌, ◌^◌, rules, ap, Err, length, arith}
 use Rattle.retrograde.specs.declared.records.Counts.{Counts}
 use Rattle.retrograde.specs.Stored.{expanded_count}
 use Rattle.retrograde.specs.Sound.{IsLocallySound}
 use Rattle.settle.proofs.SettleLemmas.{IsDone, done_from, fits_from, never_stuck_from}
+use Rattle.frontier.specs.declared.fault.StepFault.{StepFault}
+use Rattle.frontier.proofs.Passing.{passed_on, leaves_after, fault_is}
+use Rattle.settle.proofs.Passing.{none_done, none_answered, no_refusal, no_conflict, done_consistent}
 use Rattle.settle.proofs.settle.settle_one.Goals as goal
 
 pub returns-in_err-lower_all-clause-consistent : goal.returns-in_err-lower_all-clause-consistent
@@ -70,3 +73,113 @@ returns-clause-fits g c = λ honest table.
     c.in_ok-next.next.number c.in_ok-next.next.kept c.in_ok-next.next.winner (c.in_ok-next.ensures.next honest)
     (g.T.Table.stored c.process_next.new.table) (g.T.Table.stored c.lower_all.new.table) (c.in_ok-next.ensures.marked honest)
     (c.in_ok-lower_all.ensures.lowered (c.in_ok-next.ensures.honest.0 honest))
+
+pub returns-in_err-next-clause-settles : goal.returns-in_err-next-clause-settles
+returns-in_err-next-clause-settles g c = λ honest sound. none_done _ c.from_residual.result c.from_residual.ensures.0
+
+pub returns-in_err-next-clause-fits : goal.returns-in_err-next-clause-fits
+returns-in_err-next-clause-fits g c = λ honest sound. none_done _ c.from_residual.result c.from_residual.ensures.0
+
+pub returns-in_err-next-clause-done : goal.returns-in_err-next-clause-done
+returns-in_err-next-clause-done g c = λ honest sound. none_done _ c.from_residual.result c.from_residual.ensures.0
+
+pub returns-in_err-next-clause-newly : goal.returns-in_err-next-clause-newly
+returns-in_err-next-clause-newly g c = λ honest. none_answered _ c.from_residual.result c.from_residual.ensures.0
+
+pub returns-in_err-next-clause-honest : goal.returns-in_err-next-clause-honest
+returns-in_err-next-clause-honest g c = none_done _ c.from_residual.result c.from_residual.ensures.0
+
+pub returns-in_err-next-clause-known : goal.returns-in_err-next-clause-known
+returns-in_err-next-clause-known g c = none_done _ c.from_residual.result c.from_residual.ensures.0
+
+pub returns-in_err-next-clause-ahead : goal.returns-in_err-next-clause-ahead
+returns-in_err-next-clause-ahead g c = none_done _ c.from_residual.result c.from_residual.ensures.0
+
+pub returns-in_err-next-clause-goes_on : goal.returns-in_err-next-clause-goes_on
+returns-in_err-next-clause-goes_on g c = passed_on _ c.from_residual.result _ c.from_residual.ensures c.in_err-next.ensures.goes_on
+
+pub returns-in_err-next-clause-left : goal.returns-in_err-next-clause-left
+returns-in_err-next-clause-left g c = passed_on _ c.from_residual.result _ c.from_residual.ensures c.in_err-next.ensures.left
+
+pub returns-in_err-next-clause-consistent : goal.returns-in_err-next-clause-consistent
+returns-in_err-next-clause-consistent g c =
+    λ honest sound is. c.in_err-next.ensures.consistent honest sound.table (ap (λ (f : StepFault). Err f) (fault_is c.from_residual.result _ c.from_residual.ensures is))
+
+pub returns-in_err-lower_all-clause-settles : goal.returns-in_err-lower_all-clause-settles
+returns-in_err-lower_all-clause-settles g c =
+    λ honest sound. none_done _ c.from_residual-in_err-lower_all.result c.from_residual-in_err-lower_all.ensures.0
+
+pub returns-in_err-lower_all-clause-fits : goal.returns-in_err-lower_all-clause-fits
+returns-in_err-lower_all-clause-fits g c =
+    λ honest sound. none_done _ c.from_residual-in_err-lower_all.result c.from_residual-in_err-lower_all.ensures.0
+
+pub returns-in_err-lower_all-clause-done : goal.returns-in_err-lower_all-clause-done
+returns-in_err-lower_all-clause-done g c =
+    λ honest sound. none_done _ c.from_residual-in_err-lower_all.result c.from_residual-in_err-lower_all.ensures.0
+
+pub returns-in_err-lower_all-clause-newly : goal.returns-in_err-lower_all-clause-newly
+returns-in_err-lower_all-clause-newly g c =
+    λ honest. none_answered _ c.from_residual-in_err-lower_all.result c.from_residual-in_err-lower_all.ensures.0
+
+pub returns-in_err-lower_all-clause-honest : goal.returns-in_err-lower_all-clause-honest
+returns-in_err-lower_all-clause-honest g c = none_done _ c.from_residual-in_err-lower_all.result c.from_residual-in_err-lower_all.ensures.0
+
+pub returns-in_err-lower_all-clause-known : goal.returns-in_err-lower_all-clause-known
+returns-in_err-lower_all-clause-known g c = none_done _ c.from_residual-in_err-lower_all.result c.from_residual-in_err-lower_all.ensures.0
+
+pub returns-in_err-lower_all-clause-ahead : goal.returns-in_err-lower_all-clause-ahead
+returns-in_err-lower_all-clause-ahead g c = none_done _ c.from_residual-in_err-lower_all.result c.from_residual-in_err-lower_all.ensures.0
+
+pub returns-in_err-lower_all-clause-goes_on : goal.returns-in_err-lower_all-clause-goes_on
+returns-in_err-lower_all-clause-goes_on g c =
+    passed_on _ c.from_residual-in_err-lower_all.result _ c.from_residual-in_err-lower_all.ensures c.in_err-lower_all.ensures.goes_on
+
+pub returns-in_err-lower_all-clause-left : goal.returns-in_err-lower_all-clause-left
+returns-in_err-lower_all-clause-left g c =
+    passed_on _ c.from_residual-in_err-lower_all.result _ c.from_residual-in_err-lower_all.ensures (leaves_after _ _ _ _ _ (g.met.T.Table.goes_on_then _ _ _ c.in_ok-next.ensures.ahead) (λ fault. g.met.T.Table.fails_since _ _ _ fault c.in_ok-next.ensures.ahead) c.in_err-lower_all.ensures.left)
+
+pub returns-then-settled-before-clause-settles : goal.returns-then-settled-before-clause-settles
+returns-then-settled-before-clause-settles g c = λ honest sound. tt
+
+pub returns-then-settled-before-clause-fits : goal.returns-then-settled-before-clause-fits
+returns-then-settled-before-clause-fits g c = λ honest sound. tt
+
+pub returns-then-settled-before-clause-done : goal.returns-then-settled-before-clause-done
+returns-then-settled-before-clause-done g c = λ honest sound. tt
+
+pub returns-then-settled-before-clause-newly : goal.returns-then-settled-before-clause-newly
+returns-then-settled-before-clause-newly g c = λ honest. tt
+
+pub returns-then-settled-before-clause-honest : goal.returns-then-settled-before-clause-honest
+returns-then-settled-before-clause-honest g c = tt
+
+pub returns-then-settled-before-clause-known : goal.returns-then-settled-before-clause-known
+returns-then-settled-before-clause-known g c = tt
+
+pub returns-then-settled-before-clause-ahead : goal.returns-then-settled-before-clause-ahead
+returns-then-settled-before-clause-ahead g c = tt
+
+pub returns-then-settled-before-clause-goes_on : goal.returns-then-settled-before-clause-goes_on
+returns-then-settled-before-clause-goes_on g c = λ never. never
+
+pub returns-then-settled-before-clause-left : goal.returns-then-settled-before-clause-left
+returns-then-settled-before-clause-left g c = g.met.T.Table.goes_on_then _ _ _ c.in_ok-next.ensures.ahead c.in_ok-lower_all.ensures.ahead
+
+pub returns-clause-honest : goal.returns-clause-honest
+returns-clause-honest g c =
+    (λ h. c.in_ok-lower_all.ensures.honest.0 (c.in_ok-next.ensures.honest.0 h), λ h. c.in_ok-next.ensures.honest.1 (c.in_ok-lower_all.ensures.honest.1 h))
+
+pub returns-clause-known : goal.returns-clause-known
+returns-clause-known g c = c.in_ok-lower_all.ensures.known ∙ c.in_ok-next.ensures.known
+
+pub returns-clause-goes_on : goal.returns-clause-goes_on
+returns-clause-goes_on g c = tt
+
+pub returns-clause-left : goal.returns-clause-left
+returns-clause-left g c = tt
+
+pub returns-clause-ahead : goal.returns-clause-ahead
+returns-clause-ahead g c = g.met.T.Table.goes_on_then _ _ _ c.in_ok-next.ensures.ahead c.in_ok-lower_all.ensures.ahead
+
+pub returns-clause-consistent : goal.returns-clause-consistent
+returns-clause-consistent g c = λ honest sound is. done_consistent _ is
