@@ -46,7 +46,8 @@ returns-in_err-kept-clause-goes_on g c = no_refusal c.from_residual-in_err-kept.
 
 pub returns-in_err-kept-clause-left : goal.returns-in_err-kept-clause-left
 returns-in_err-kept-clause-left g c =
-    passed_on _ c.from_residual-in_err-kept.result _ c.from_residual-in_err-kept.ensures (g.met.T.Table.fails_since _ _ _ _ (g.met.T.Table.stays_goes_on _ _ c.in_ok-packed.ensures.stays) c.in_err-kept.ensures.fault)
+    passed_on _ c.from_residual-in_err-kept.result _ c.from_residual-in_err-kept.ensures
+    (g.met.T.Table.fails_since _ _ _ _ (g.met.T.Table.stays_goes_on _ _ c.in_ok-packed.ensures.stays) c.in_err-kept.ensures.fault)
 
 pub returns-then-kept-eq0-clause-lowered : goal.returns-then-kept-eq0-clause-lowered
 returns-then-kept-eq0-clause-lowered g c = λ honest. tt
@@ -116,11 +117,14 @@ returns-in_err-set_record-clause-goes_on g c = no_refusal c.from_residual-in_err
 
 pub returns-in_err-set_record-clause-left : goal.returns-in_err-set_record-clause-left
 returns-in_err-set_record-clause-left g c =
-    passed_on _ c.from_residual-in_err-set_record.result _ c.from_residual-in_err-set_record.ensures (g.met.T.Table.fails_since _ _ _ _ (g.met.T.Table.stays_goes_on _ _ (g.met.T.Table.stays_then _ _ _ c.in_ok-packed.ensures.stays c.in_ok-kept.ensures.stays)) c.in_err-set_record.ensures.fault)
+    let ahead = g.met.T.Table.stays_goes_on _ _ (g.met.T.Table.stays_then _ _ _ c.in_ok-packed.ensures.stays c.in_ok-kept.ensures.stays) in
+    passed_on _ c.from_residual-in_err-set_record.result _ c.from_residual-in_err-set_record.ensures (g.met.T.Table.fails_since _ _ _ _ ahead c.in_err-set_record.ensures.fault)
 
 pub returns-in_ok-set_record-clause-honest : goal.returns-in_ok-set_record-clause-honest
-returns-in_ok-set_record-clause-honest g c =
-    (λ h. c.in_ok-set_record.ensures.honest.0 (c.in_ok-kept.ensures.honest.0 (c.in_ok-packed.ensures.honest.0 h)), λ h. c.in_ok-packed.ensures.honest.1 (c.in_ok-kept.ensures.honest.1 (c.in_ok-set_record.ensures.honest.1 h)))
+returns-in_ok-set_record-clause-honest g c = (
+  λ h. c.in_ok-set_record.ensures.honest.0 (c.in_ok-kept.ensures.honest.0 (c.in_ok-packed.ensures.honest.0 h)),
+  λ h. c.in_ok-packed.ensures.honest.1 (c.in_ok-kept.ensures.honest.1 (c.in_ok-set_record.ensures.honest.1 h)),
+)
 
 pub returns-in_ok-set_record-clause-known : goal.returns-in_ok-set_record-clause-known
 returns-in_ok-set_record-clause-known g c =
@@ -141,7 +145,9 @@ returns-in_ok-set_record-clause-ahead g c =
 
 pub returns-else-distance-eq4294967295-clause-honest : goal.returns-else-distance-eq4294967295-clause-honest
 returns-else-distance-eq4294967295-clause-honest g c =
-    done_then c.settle.result (λ both. (λ h. both.0 (c.in_ok-kept.ensures.honest.0 (c.in_ok-packed.ensures.honest.0 h)), λ h. c.in_ok-packed.ensures.honest.1 (c.in_ok-kept.ensures.honest.1 (both.1 h)))) c.settle.ensures.honest
+    done_then c.settle.result
+    (λ both. (λ h. both.0 (c.in_ok-kept.ensures.honest.0 (c.in_ok-packed.ensures.honest.0 h)), λ h. c.in_ok-packed.ensures.honest.1 (c.in_ok-kept.ensures.honest.1 (both.1 h))))
+    c.settle.ensures.honest
 
 pub returns-else-distance-eq4294967295-clause-known : goal.returns-else-distance-eq4294967295-clause-known
 returns-else-distance-eq4294967295-clause-known g c =
@@ -156,4 +162,5 @@ returns-else-distance-eq4294967295-clause-ahead g c =
 
 pub returns-else-distance-eq4294967295-clause-left : goal.returns-else-distance-eq4294967295-clause-left
 returns-else-distance-eq4294967295-clause-left g c =
-    fault_then c.settle.result (λ fault. leaves_after _ _ _ _ fault (g.met.T.Table.goes_on_then _ _ _ (g.met.T.Table.stays_goes_on _ _ (g.met.T.Table.stays_then _ _ _ c.in_ok-packed.ensures.stays c.in_ok-kept.ensures.stays))) (λ f. g.met.T.Table.fails_since _ _ _ f (g.met.T.Table.stays_goes_on _ _ (g.met.T.Table.stays_then _ _ _ c.in_ok-packed.ensures.stays c.in_ok-kept.ensures.stays)))) c.settle.ensures.left
+    let ahead = g.met.T.Table.stays_goes_on _ _ (g.met.T.Table.stays_then _ _ _ c.in_ok-packed.ensures.stays c.in_ok-kept.ensures.stays) in
+    fault_then c.settle.result (λ fault. leaves_after _ _ _ _ fault (g.met.T.Table.goes_on_then _ _ _ ahead) (λ f. g.met.T.Table.fails_since _ _ _ f ahead)) c.settle.ensures.left

@@ -66,7 +66,8 @@ returns-in_err-set_record-clause-goes_on g c = no_refusal c.from_residual-in_err
 
 pub returns-in_err-set_record-clause-left : goal.returns-in_err-set_record-clause-left
 returns-in_err-set_record-clause-left g c =
-    passed_on _ c.from_residual-in_err-set_record.result _ c.from_residual-in_err-set_record.ensures (g.met.T.Table.fails_since _ _ _ _ c.in_ok-push_settled.ensures.ahead c.in_err-set_record.ensures.fault)
+    passed_on _ c.from_residual-in_err-set_record.result _ c.from_residual-in_err-set_record.ensures
+    (g.met.T.Table.fails_since _ _ _ _ c.in_ok-push_settled.ensures.ahead c.in_err-set_record.ensures.fault)
 
 pub returns-clause-settled : goal.returns-clause-settled
 returns-clause-settled g c = λ honest.

@@ -80,7 +80,8 @@ returns-in_err-kept-clause-goes_on g c = no_refusal c.from_residual-in_err-kept.
 
 pub returns-in_err-kept-clause-left : goal.returns-in_err-kept-clause-left
 returns-in_err-kept-clause-left g c =
-    passed_on _ c.from_residual-in_err-kept.result _ c.from_residual-in_err-kept.ensures (g.met.T.Table.fails_since _ _ _ _ (g.met.T.Table.stays_goes_on _ _ c.in_ok-number.ensures.stays) c.in_err-kept.ensures.fault)
+    passed_on _ c.from_residual-in_err-kept.result _ c.from_residual-in_err-kept.ensures
+    (g.met.T.Table.fails_since _ _ _ _ (g.met.T.Table.stays_goes_on _ _ c.in_ok-number.ensures.stays) c.in_err-kept.ensures.fault)
 
 pub returns-in_default-clause-next : goal.returns-in_default-clause-next
 returns-in_default-clause-next g c = λ honest. tt
@@ -130,15 +131,18 @@ returns-in_err-set_record-clause-goes_on g c = no_refusal c.from_residual-in_err
 
 pub returns-in_err-set_record-clause-left : goal.returns-in_err-set_record-clause-left
 returns-in_err-set_record-clause-left g c =
-    passed_on _ c.from_residual-in_err-set_record.result _ c.from_residual-in_err-set_record.ensures (g.met.T.Table.fails_since _ _ _ _ (g.met.T.Table.stays_goes_on _ _ (g.met.T.Table.stays_then _ _ _ c.in_ok-number.ensures.stays c.in_ok-kept.ensures.stays)) c.in_err-set_record.ensures.fault)
+    let ahead = g.met.T.Table.stays_goes_on _ _ (g.met.T.Table.stays_then _ _ _ c.in_ok-number.ensures.stays c.in_ok-kept.ensures.stays) in
+    passed_on _ c.from_residual-in_err-set_record.result _ c.from_residual-in_err-set_record.ensures (g.met.T.Table.fails_since _ _ _ _ ahead c.in_err-set_record.ensures.fault)
 
 pub returns-clause-known : goal.returns-clause-known
 returns-clause-known g c =
     c.in_ok-set_record.ensures.known ∙ ap (λ (k : Counts). k.known) (c.in_ok-kept.ensures.counts ∙ c.in_ok-number.ensures.counts)
 
 pub returns-clause-honest : goal.returns-clause-honest
-returns-clause-honest g c =
-    (λ h. c.in_ok-set_record.ensures.honest.0 (c.in_ok-kept.ensures.honest.0 (c.in_ok-number.ensures.honest.0 h)), λ h. c.in_ok-number.ensures.honest.1 (c.in_ok-kept.ensures.honest.1 (c.in_ok-set_record.ensures.honest.1 h)))
+returns-clause-honest g c = (
+  λ h. c.in_ok-set_record.ensures.honest.0 (c.in_ok-kept.ensures.honest.0 (c.in_ok-number.ensures.honest.0 h)),
+  λ h. c.in_ok-number.ensures.honest.1 (c.in_ok-kept.ensures.honest.1 (c.in_ok-set_record.ensures.honest.1 h)),
+)
 
 pub returns-clause-consistent : goal.returns-clause-consistent
 returns-clause-consistent g c = λ honest table is. done_consistent _ is

@@ -136,7 +136,8 @@ returns-in_err-lower_all-clause-goes_on g c =
 
 pub returns-in_err-lower_all-clause-left : goal.returns-in_err-lower_all-clause-left
 returns-in_err-lower_all-clause-left g c =
-    passed_on _ c.from_residual-in_err-lower_all.result _ c.from_residual-in_err-lower_all.ensures (leaves_after _ _ _ _ _ (g.met.T.Table.goes_on_then _ _ _ c.in_ok-next.ensures.ahead) (λ fault. g.met.T.Table.fails_since _ _ _ fault c.in_ok-next.ensures.ahead) c.in_err-lower_all.ensures.left)
+    passed_on _ c.from_residual-in_err-lower_all.result _ c.from_residual-in_err-lower_all.ensures
+    (leaves_after _ _ _ _ _ (g.met.T.Table.goes_on_then _ _ _ c.in_ok-next.ensures.ahead) (λ fault. g.met.T.Table.fails_since _ _ _ fault c.in_ok-next.ensures.ahead) c.in_err-lower_all.ensures.left)
 
 pub returns-then-settled-before-clause-settles : goal.returns-then-settled-before-clause-settles
 returns-then-settled-before-clause-settles g c = λ honest sound. tt
