@@ -117,8 +117,9 @@ returns-in_err-set_record-clause-goes_on g c = no_refusal c.from_residual-in_err
 
 pub returns-in_err-set_record-clause-left : goal.returns-in_err-set_record-clause-left
 returns-in_err-set_record-clause-left g c =
-    let ahead = g.met.T.Table.stays_goes_on _ _ (g.met.T.Table.stays_then _ _ _ c.in_ok-packed.ensures.stays c.in_ok-kept.ensures.stays) in
-    passed_on _ c.from_residual-in_err-set_record.result _ c.from_residual-in_err-set_record.ensures (g.met.T.Table.fails_since _ _ _ _ ahead c.in_err-set_record.ensures.fault)
+    passed_on _ c.from_residual-in_err-set_record.result _ c.from_residual-in_err-set_record.ensures
+    (g.met.T.Table.fails_since _ _ _ _ (g.met.T.Table.stays_goes_on _ _ (g.met.T.Table.stays_then _ _ _ c.in_ok-packed.ensures.stays c.in_ok-kept.ensures.stays))
+    c.in_err-set_record.ensures.fault)
 
 pub returns-in_ok-set_record-clause-honest : goal.returns-in_ok-set_record-clause-honest
 returns-in_ok-set_record-clause-honest g c = (
@@ -162,5 +163,8 @@ returns-else-distance-eq4294967295-clause-ahead g c =
 
 pub returns-else-distance-eq4294967295-clause-left : goal.returns-else-distance-eq4294967295-clause-left
 returns-else-distance-eq4294967295-clause-left g c =
-    let ahead = g.met.T.Table.stays_goes_on _ _ (g.met.T.Table.stays_then _ _ _ c.in_ok-packed.ensures.stays c.in_ok-kept.ensures.stays) in
-    fault_then c.settle.result (λ fault. leaves_after _ _ _ _ fault (g.met.T.Table.goes_on_then _ _ _ ahead) (λ f. g.met.T.Table.fails_since _ _ _ f ahead)) c.settle.ensures.left
+    fault_then c.settle.result
+    (λ fault. leaves_after _ _ _ _ fault
+    (g.met.T.Table.goes_on_then _ _ _ (g.met.T.Table.stays_goes_on _ _ (g.met.T.Table.stays_then _ _ _ c.in_ok-packed.ensures.stays c.in_ok-kept.ensures.stays)))
+    (λ f. g.met.T.Table.fails_since _ _ _ f (g.met.T.Table.stays_goes_on _ _ (g.met.T.Table.stays_then _ _ _ c.in_ok-packed.ensures.stays c.in_ok-kept.ensures.stays))))
+    c.settle.ensures.left

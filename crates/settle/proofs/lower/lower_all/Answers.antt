@@ -79,9 +79,11 @@ returns-in_err-lower-clause-goes_on g c =
 
 pub returns-in_err-lower-clause-left : goal.returns-in_err-lower-clause-left
 returns-in_err-lower-clause-left g c =
-    let ahead = g.met.T.Table.goes_on_then _ _ _ c.loop-predecessor.invariant.ahead (g.met.T.Table.stays_goes_on _ _ c.in_ok-predecessor.ensures.stays) in
     passed_on _ c.from_residual-in_err-lower.result _ c.from_residual-in_err-lower.ensures
-    (leaves_after _ _ _ _ _ (g.met.T.Table.goes_on_then _ _ _ ahead) (λ fault. g.met.T.Table.fails_since _ _ _ fault ahead) c.in_err-lower.ensures.left)
+    (leaves_after _ _ _ _ _
+    (g.met.T.Table.goes_on_then _ _ _ (g.met.T.Table.goes_on_then _ _ _ c.loop-predecessor.invariant.ahead (g.met.T.Table.stays_goes_on _ _ c.in_ok-predecessor.ensures.stays)))
+    (λ fault. g.met.T.Table.fails_since _ _ _ fault (g.met.T.Table.goes_on_then _ _ _ c.loop-predecessor.invariant.ahead (g.met.T.Table.stays_goes_on _ _ c.in_ok-predecessor.ensures.stays)))
+    c.in_err-lower.ensures.left)
 
 pub returns-clause-stuck : goal.returns-clause-stuck
 returns-clause-stuck g c = λ honest is. absurd (done_consistent _ is)

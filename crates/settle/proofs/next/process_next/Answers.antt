@@ -131,8 +131,9 @@ returns-in_err-set_record-clause-goes_on g c = no_refusal c.from_residual-in_err
 
 pub returns-in_err-set_record-clause-left : goal.returns-in_err-set_record-clause-left
 returns-in_err-set_record-clause-left g c =
-    let ahead = g.met.T.Table.stays_goes_on _ _ (g.met.T.Table.stays_then _ _ _ c.in_ok-number.ensures.stays c.in_ok-kept.ensures.stays) in
-    passed_on _ c.from_residual-in_err-set_record.result _ c.from_residual-in_err-set_record.ensures (g.met.T.Table.fails_since _ _ _ _ ahead c.in_err-set_record.ensures.fault)
+    passed_on _ c.from_residual-in_err-set_record.result _ c.from_residual-in_err-set_record.ensures
+    (g.met.T.Table.fails_since _ _ _ _ (g.met.T.Table.stays_goes_on _ _ (g.met.T.Table.stays_then _ _ _ c.in_ok-number.ensures.stays c.in_ok-kept.ensures.stays))
+    c.in_err-set_record.ensures.fault)
 
 pub returns-clause-known : goal.returns-clause-known
 returns-clause-known g c =

@@ -7,6 +7,7 @@ use Rattle.page_store.specs.Page.{page}
 use Rattle.page_store.specs.aid.Works.{works_refl}
 use Rattle.page_store.proofs.Caching.{carried, part_of, added}
 use Rattle.page_store.proofs.Keeping.{sound_works, works_read, was_honest}
+use Rattle.page_store.proofs.Passing.{passed_on, none_done, not_closed, unchanged_refl}
 use Rattle.page_store.proofs.store.PageStorePages.read_page.Goals as goal
 
 pub returns-then-self-clause-works : goal.returns-then-self-clause-works
@@ -59,3 +60,141 @@ invariant_of-self-then-is_kept-clause-cached g c =
     (omega (arith, c.if-page-eq0.false), here, keeps_it ∙ c.if-is_kept.true)
     (λ h. c.in_ok-get_page.ensures.bytes h ∙ sym (ap (λ (s : Shown). page s.contents c.args.page) (c.get_page.ensures.unchanged h)))
     (λ h p other. ap (λ (s : Shown). page s.contents p) (c.get_page.ensures.unchanged h))
+
+pub returns-then-self-clause-bytes : goal.returns-then-self-clause-bytes
+returns-then-self-clause-bytes g c = λ honest. tt
+
+pub returns-then-self-clause-is_page : goal.returns-then-self-clause-is_page
+returns-then-self-clause-is_page g c = tt
+
+pub returns-then-self-clause-within : goal.returns-then-self-clause-within
+returns-then-self-clause-within g c = tt
+
+pub returns-then-self-clause-open : goal.returns-then-self-clause-open
+returns-then-self-clause-open g c = tt
+
+pub returns-then-self-clause-unchanged : goal.returns-then-self-clause-unchanged
+returns-then-self-clause-unchanged g c = unchanged_refl _
+
+pub returns-then-self-clause-untouched : goal.returns-then-self-clause-untouched
+returns-then-self-clause-untouched g c = λ other. refl
+
+pub returns-then-self-clause-cause : goal.returns-then-self-clause-cause
+returns-then-self-clause-cause g c = c.if-self.true
+
+pub returns-then-self-clause-closed : goal.returns-then-self-clause-closed
+returns-then-self-clause-closed g c = λ is. refl
+
+pub returns-then-page-eq0-clause-bytes : goal.returns-then-page-eq0-clause-bytes
+returns-then-page-eq0-clause-bytes g c = λ honest. tt
+
+pub returns-then-page-eq0-clause-is_page : goal.returns-then-page-eq0-clause-is_page
+returns-then-page-eq0-clause-is_page g c = tt
+
+pub returns-then-page-eq0-clause-within : goal.returns-then-page-eq0-clause-within
+returns-then-page-eq0-clause-within g c = tt
+
+pub returns-then-page-eq0-clause-open : goal.returns-then-page-eq0-clause-open
+returns-then-page-eq0-clause-open g c = tt
+
+pub returns-then-page-eq0-clause-unchanged : goal.returns-then-page-eq0-clause-unchanged
+returns-then-page-eq0-clause-unchanged g c = unchanged_refl _
+
+pub returns-then-page-eq0-clause-untouched : goal.returns-then-page-eq0-clause-untouched
+returns-then-page-eq0-clause-untouched g c = λ other. refl
+
+pub returns-then-page-eq0-clause-closed : goal.returns-then-page-eq0-clause-closed
+returns-then-page-eq0-clause-closed g c = λ is. absurd (not_closed _ c.if-self.false is)
+
+pub returns-then-give-clause-is_page : goal.returns-then-give-clause-is_page
+returns-then-give-clause-is_page g c = omega (arith, c.if-page-eq0.false)
+
+pub returns-then-give-clause-within : goal.returns-then-give-clause-within
+returns-then-give-clause-within g c = omega (arith, c.if-page-len.false, c.len.ensures)
+
+pub returns-then-give-clause-open : goal.returns-then-give-clause-open
+returns-then-give-clause-open g c = c.if-self.false
+
+pub returns-then-give-clause-unchanged : goal.returns-then-give-clause-unchanged
+returns-then-give-clause-unchanged g c = unchanged_refl _
+
+pub returns-then-give-clause-untouched : goal.returns-then-give-clause-untouched
+returns-then-give-clause-untouched g c = tt
+
+pub returns-then-give-clause-cause : goal.returns-then-give-clause-cause
+returns-then-give-clause-cause g c = tt
+
+pub returns-then-give-clause-closed : goal.returns-then-give-clause-closed
+returns-then-give-clause-closed g c = λ is. absurd (not_closed _ c.if-self.false is)
+
+pub returns-in_err-get_page-clause-bytes : goal.returns-in_err-get_page-clause-bytes
+returns-in_err-get_page-clause-bytes g c = λ honest. none_done _ c.from_residual.result c.from_residual.ensures.0
+
+pub returns-in_err-get_page-clause-is_page : goal.returns-in_err-get_page-clause-is_page
+returns-in_err-get_page-clause-is_page g c = none_done _ c.from_residual.result c.from_residual.ensures.0
+
+pub returns-in_err-get_page-clause-within : goal.returns-in_err-get_page-clause-within
+returns-in_err-get_page-clause-within g c = none_done _ c.from_residual.result c.from_residual.ensures.0
+
+pub returns-in_err-get_page-clause-open : goal.returns-in_err-get_page-clause-open
+returns-in_err-get_page-clause-open g c = none_done _ c.from_residual.result c.from_residual.ensures.0
+
+pub returns-in_err-get_page-clause-unchanged : goal.returns-in_err-get_page-clause-unchanged
+returns-in_err-get_page-clause-unchanged g c =
+    record { root = refl; marks = refl; closed = refl; shown = c.get_page.ensures.unchanged; leaves = c.get_page.ensures.moments }
+
+pub returns-in_err-get_page-clause-untouched : goal.returns-in_err-get_page-clause-untouched
+returns-in_err-get_page-clause-untouched g c = passed_on _ c.from_residual.result _ c.from_residual.ensures (λ other. absurd (other refl))
+
+pub returns-in_err-get_page-clause-closed : goal.returns-in_err-get_page-clause-closed
+returns-in_err-get_page-clause-closed g c = λ is. absurd (not_closed _ c.if-self.false is)
+
+pub returns-then-is_kept-clause-bytes : goal.returns-then-is_kept-clause-bytes
+returns-then-is_kept-clause-bytes g c = c.in_ok-get_page.ensures.bytes
+
+pub returns-then-is_kept-clause-is_page : goal.returns-then-is_kept-clause-is_page
+returns-then-is_kept-clause-is_page g c = omega (arith, c.if-page-eq0.false)
+
+pub returns-then-is_kept-clause-within : goal.returns-then-is_kept-clause-within
+returns-then-is_kept-clause-within g c = omega (arith, c.if-page-len.false, c.len.ensures)
+
+pub returns-then-is_kept-clause-open : goal.returns-then-is_kept-clause-open
+returns-then-is_kept-clause-open g c = c.if-self.false
+
+pub returns-then-is_kept-clause-unchanged : goal.returns-then-is_kept-clause-unchanged
+returns-then-is_kept-clause-unchanged g c =
+    record { root = refl; marks = refl; closed = refl; shown = c.get_page.ensures.unchanged; leaves = c.get_page.ensures.moments }
+
+pub returns-then-is_kept-clause-untouched : goal.returns-then-is_kept-clause-untouched
+returns-then-is_kept-clause-untouched g c = tt
+
+pub returns-then-is_kept-clause-cause : goal.returns-then-is_kept-clause-cause
+returns-then-is_kept-clause-cause g c = tt
+
+pub returns-then-is_kept-clause-closed : goal.returns-then-is_kept-clause-closed
+returns-then-is_kept-clause-closed g c = λ is. absurd (not_closed _ c.if-self.false is)
+
+pub returns-else-is_kept-clause-bytes : goal.returns-else-is_kept-clause-bytes
+returns-else-is_kept-clause-bytes g c = c.in_ok-get_page.ensures.bytes
+
+pub returns-else-is_kept-clause-is_page : goal.returns-else-is_kept-clause-is_page
+returns-else-is_kept-clause-is_page g c = omega (arith, c.if-page-eq0.false)
+
+pub returns-else-is_kept-clause-within : goal.returns-else-is_kept-clause-within
+returns-else-is_kept-clause-within g c = omega (arith, c.if-page-len.false, c.len.ensures)
+
+pub returns-else-is_kept-clause-open : goal.returns-else-is_kept-clause-open
+returns-else-is_kept-clause-open g c = c.if-self.false
+
+pub returns-else-is_kept-clause-unchanged : goal.returns-else-is_kept-clause-unchanged
+returns-else-is_kept-clause-unchanged g c =
+    record { root = refl; marks = refl; closed = refl; shown = c.get_page.ensures.unchanged; leaves = c.get_page.ensures.moments }
+
+pub returns-else-is_kept-clause-untouched : goal.returns-else-is_kept-clause-untouched
+returns-else-is_kept-clause-untouched g c = tt
+
+pub returns-else-is_kept-clause-cause : goal.returns-else-is_kept-clause-cause
+returns-else-is_kept-clause-cause g c = tt
+
+pub returns-else-is_kept-clause-closed : goal.returns-else-is_kept-clause-closed
+returns-else-is_kept-clause-closed g c = λ is. absurd (not_closed _ c.if-self.false is)

@@ -2,6 +2,7 @@ use Rattle.std.proofs.Common.{refl, sym}
 use Rattle.page_store.specs.aid.Works.{works_refl}
 use Rattle.page_store.proofs.Caching.{carried, added, fresh_kept, is_ok}
 use Rattle.page_store.proofs.Keeping.{reads_else, works_write, was_honest, not_system}
+use Rattle.page_store.proofs.Passing.{not_closed}
 use Rattle.page_store.proofs.store.PageStorePages.write_page.Goals as goal
 
 pub returns-then-self-clause-works : goal.returns-then-self-clause-works
@@ -31,3 +32,54 @@ invariant_of-self-clause-cached g c =
     added _ _ _ _ _ _ c.args.self.now.cached c.put-no_memory.ensures (was_honest c.put_page-written.ensures.time) refl
     (fresh_kept _ _ (not_system _ _ c.args.self.now.sound.system c.requires) c.requires) (λ h. sym (is_ok _ _ c.in-Ok.is (c.put_page-written.ensures.written h)))
     (reads_else _ _ _ c.put_page-written.ensures.kept)
+
+pub returns-then-self-clause-written : goal.returns-then-self-clause-written
+returns-then-self-clause-written g c = λ honest. tt
+
+pub returns-then-self-clause-others : goal.returns-then-self-clause-others
+returns-then-self-clause-others g c = λ honest p other. refl
+
+pub returns-then-self-clause-marks : goal.returns-then-self-clause-marks
+returns-then-self-clause-marks g c = refl
+
+pub returns-then-self-clause-open : goal.returns-then-self-clause-open
+returns-then-self-clause-open g c = tt
+
+pub returns-then-self-clause-untouched : goal.returns-then-self-clause-untouched
+returns-then-self-clause-untouched g c = λ other. refl
+
+pub returns-then-self-clause-cause : goal.returns-then-self-clause-cause
+returns-then-self-clause-cause g c = c.if-self.true
+
+pub returns-then-self-clause-closed : goal.returns-then-self-clause-closed
+returns-then-self-clause-closed g c = λ is. refl
+
+pub returns-in-Ok-clause-written : goal.returns-in-Ok-clause-written
+returns-in-Ok-clause-written g c = λ honest. is_ok _ _ c.in-Ok.is (c.put_page-written.ensures.written honest)
+
+pub returns-in-Ok-clause-marks : goal.returns-in-Ok-clause-marks
+returns-in-Ok-clause-marks g c = refl
+
+pub returns-in-Ok-clause-untouched : goal.returns-in-Ok-clause-untouched
+returns-in-Ok-clause-untouched g c = tt
+
+pub returns-in-Ok-clause-cause : goal.returns-in-Ok-clause-cause
+returns-in-Ok-clause-cause g c = tt
+
+pub returns-in-Ok-clause-closed : goal.returns-in-Ok-clause-closed
+returns-in-Ok-clause-closed g c = λ is. absurd (not_closed _ c.if-self.false is)
+
+pub returns-in-Err-clause-written : goal.returns-in-Err-clause-written
+returns-in-Err-clause-written g c = λ honest. tt
+
+pub returns-in-Err-clause-marks : goal.returns-in-Err-clause-marks
+returns-in-Err-clause-marks g c = refl
+
+pub returns-in-Err-clause-open : goal.returns-in-Err-clause-open
+returns-in-Err-clause-open g c = tt
+
+pub returns-in-Err-clause-untouched : goal.returns-in-Err-clause-untouched
+returns-in-Err-clause-untouched g c = λ other. absurd (other c.into.ensures)
+
+pub returns-in-Err-clause-closed : goal.returns-in-Err-clause-closed
+returns-in-Err-clause-closed g c = λ is. absurd (not_closed _ c.if-self.false is)
