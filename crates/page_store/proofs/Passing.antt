@@ -1,6 +1,6 @@
 -- What is said of a fault that is passed on, and of a call that is refused.
 use Rattle.std.proofs.Common.{◌≡◌, Bool, true, false, Result, Ok, Err, OnOk, refl, sym, subst}
-use Rattle.std.specs.Result.{IsErr, IfErr, IfOk, IsErrAnd}
+use Rattle.std.specs.Result.{IsErr, IfErr, IsErrAnd}
 use Rattle.sector_disk.specs.aid.Moments.{leaves_now}
 use Rattle.page_store.specs.Store.{Store, IsUnchanged}
 

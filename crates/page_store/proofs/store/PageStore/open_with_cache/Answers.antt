@@ -3,3 +3,33 @@ use Rattle.page_store.proofs.store.PageStore.open_with_cache.Goals as goal
 
 pub invariant_of-result-clause-cached : goal.invariant_of-result-clause-cached
 invariant_of-result-clause-cached g c = empty_cache _ _ c.in-Ok-Ok.ensures'
+
+pub returns-in-Err-NotATable-clause-ok : goal.returns-in-Err-NotATable-clause-ok
+returns-in-Err-NotATable-clause-ok g c = tt
+
+pub returns-in-Err-NotATable-clause-refused : goal.returns-in-Err-NotATable-clause-refused
+returns-in-Err-NotATable-clause-refused g c =
+    record { goes_on = c.open.ensures.time; failures = c.open.ensures.failures; same_size = c.open.ensures.same_size; same = c.open.ensures.same; leaves = c.open.ensures.moments }
+
+pub returns-in-Err-clause-ok : goal.returns-in-Err-clause-ok
+returns-in-Err-clause-ok g c = tt
+
+pub returns-in-Err-clause-refused : goal.returns-in-Err-clause-refused
+returns-in-Err-clause-refused g c =
+    record { goes_on = c.open.ensures.time; failures = c.open.ensures.failures; same_size = c.open.ensures.same_size; same = c.open.ensures.same; leaves = c.open.ensures.moments }
+
+pub returns-in_default-clause-ok : goal.returns-in_default-clause-ok
+returns-in_default-clause-ok g c = tt
+
+pub returns-in_default-clause-refused : goal.returns-in_default-clause-refused
+returns-in_default-clause-refused g c =
+    record { goes_on = c.open.ensures.time; failures = c.open.ensures.failures; same_size = c.open.ensures.same_size; same = c.open.ensures.same; leaves = c.open.ensures.moments }
+
+pub returns-in-Ok-Ok-clause-refused : goal.returns-in-Ok-Ok-clause-refused
+returns-in-Ok-Ok-clause-refused g c = tt
+
+pub returns-in-Ok-Ok-clause-cause : goal.returns-in-Ok-Ok-clause-cause
+returns-in-Ok-Ok-clause-cause g c = tt
+
+pub returns-in_default-clause-cause : goal.returns-in_default-clause-cause
+returns-in_default-clause-cause g c = tt

@@ -5,6 +5,7 @@ use Rattle.page_store.specs.Marks.{mark, needs}
 use Rattle.page_store.specs.aid.Works.{works_refl}
 use Rattle.page_store.proofs.Keeping.{marked_works, marked_sound, not_zero, waiting_apart}
 use Rattle.page_store.proofs.Caching.{carried, still_kept}
+use Rattle.page_store.proofs.Passing.{not_closed}
 use Rattle.page_store.proofs.store.PageStorePages.mark.Goals as goal
 
 pub returns-then-self-clause-works : goal.returns-then-self-clause-works
@@ -30,3 +31,72 @@ returns-clause-works g c =
     let found : c.index.result.now ≡ Waiting = search rules in
     let was : mark c.args.self.now.marks.items c.args.page ≡ Waiting = sym (c.index.ensures ∙ get_or_default _ _ _ Committed here) ∙ found in
     marked_works _ _ _ _ (record { disk = refl; failures = refl; root = refl; closed = refl }) c.put_mark.ensures (sym (ap needs was)) (λ is. was)
+
+pub returns-then-self-clause-ok : goal.returns-then-self-clause-ok
+returns-then-self-clause-ok g c = tt
+
+pub returns-then-self-clause-waited : goal.returns-then-self-clause-waited
+returns-then-self-clause-waited g c = tt
+
+pub returns-then-self-clause-is_page : goal.returns-then-self-clause-is_page
+returns-then-self-clause-is_page g c = tt
+
+pub returns-then-self-clause-within : goal.returns-then-self-clause-within
+returns-then-self-clause-within g c = tt
+
+pub returns-then-self-clause-open : goal.returns-then-self-clause-open
+returns-then-self-clause-open g c = tt
+
+pub returns-then-self-clause-refused : goal.returns-then-self-clause-refused
+returns-then-self-clause-refused g c = refl
+
+pub returns-then-self-clause-cause : goal.returns-then-self-clause-cause
+returns-then-self-clause-cause g c = c.if-self.true
+
+pub returns-then-self-clause-closed : goal.returns-then-self-clause-closed
+returns-then-self-clause-closed g c = λ is. refl
+
+pub returns-then-self-clause-others : goal.returns-then-self-clause-others
+returns-then-self-clause-others g c = record { disk = refl; failures = refl; root = refl; closed = refl }
+
+pub returns-then-page-len-clause-ok : goal.returns-then-page-len-clause-ok
+returns-then-page-len-clause-ok g c = tt
+
+pub returns-then-page-len-clause-waited : goal.returns-then-page-len-clause-waited
+returns-then-page-len-clause-waited g c = tt
+
+pub returns-then-page-len-clause-is_page : goal.returns-then-page-len-clause-is_page
+returns-then-page-len-clause-is_page g c = tt
+
+pub returns-then-page-len-clause-within : goal.returns-then-page-len-clause-within
+returns-then-page-len-clause-within g c = tt
+
+pub returns-then-page-len-clause-open : goal.returns-then-page-len-clause-open
+returns-then-page-len-clause-open g c = tt
+
+pub returns-then-page-len-clause-refused : goal.returns-then-page-len-clause-refused
+returns-then-page-len-clause-refused g c = refl
+
+pub returns-then-page-len-clause-closed : goal.returns-then-page-len-clause-closed
+returns-then-page-len-clause-closed g c = λ is. absurd (not_closed _ c.if-self.false is)
+
+pub returns-then-page-len-clause-others : goal.returns-then-page-len-clause-others
+returns-then-page-len-clause-others g c = record { disk = refl; failures = refl; root = refl; closed = refl }
+
+pub returns-clause-ok : goal.returns-clause-ok
+returns-clause-ok g c = c.put_mark.ensures
+
+pub returns-clause-open : goal.returns-clause-open
+returns-clause-open g c = c.if-self.false
+
+pub returns-clause-refused : goal.returns-clause-refused
+returns-clause-refused g c = tt
+
+pub returns-clause-cause : goal.returns-clause-cause
+returns-clause-cause g c = tt
+
+pub returns-clause-closed : goal.returns-clause-closed
+returns-clause-closed g c = λ is. absurd (not_closed _ c.if-self.false is)
+
+pub returns-clause-others : goal.returns-clause-others
+returns-clause-others g c = record { disk = refl; failures = refl; root = refl; closed = refl }
