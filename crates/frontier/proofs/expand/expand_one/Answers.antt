@@ -18,6 +18,7 @@ use Rattle.frontier.proofs.Counted.{below, full_or_not, waits, waits_still, grew
 use Rattle.frontier.proofs.Passing.{passed_on, table_consistent, choice_consistent, limit_consistent, consistent, fault_is, leaves_after, search_leaves, search_consistent, search_cause}
 use Rattle.frontier.proofs.ExpandLemmas.{IsDone, successor_list, done, fits, room}
 use Rattle.frontier.proofs.expand.expand_one.Given
+use Rattle.frontier.proofs.Faults.{none_done, none_answered, done_consistent}
 use Rattle.frontier.proofs.expand.expand_one.Goals as goal
 
 pub returns-then-keeper_chooses-clause-cause : goal.returns-then-keeper_chooses-clause-cause
@@ -297,3 +298,184 @@ returns-clause-more g c =
     let first = ap (λ (k : Counts). k.known) (g.met.T.Table.counts_are c.args.table.now honest) in
     let last = ap (λ (k : Counts). k.known) (g.met.T.Table.counts_are c.finish.new.table h4) in
     more_known c.counts-before.result _ _ c.counts-before.ensures (c.in_ok-numbers.ensures.counts ∙ c.in_ok-packed.ensures.counts) _ c.in_ok-note_all.ensures.more _ _ c.in_ok-finish.ensures.known c.counts.ensures _ _ first last
+
+pub returns-in_err-packed-clause-honest : goal.returns-in_err-packed-clause-honest
+returns-in_err-packed-clause-honest g c = none_done _ c.from_residual.result c.from_residual.ensures.0
+
+pub returns-in_err-packed-clause-room : goal.returns-in_err-packed-clause-room
+returns-in_err-packed-clause-room g c = none_done _ c.from_residual.result c.from_residual.ensures.0
+
+pub returns-in_err-packed-clause-ahead : goal.returns-in_err-packed-clause-ahead
+returns-in_err-packed-clause-ahead g c = none_done _ c.from_residual.result c.from_residual.ensures.0
+
+pub returns-in_err-packed-clause-expands : goal.returns-in_err-packed-clause-expands
+returns-in_err-packed-clause-expands g c = λ honest sound. none_done _ c.from_residual.result c.from_residual.ensures.0
+
+pub returns-in_err-packed-clause-fits : goal.returns-in_err-packed-clause-fits
+returns-in_err-packed-clause-fits g c = λ honest table. none_done _ c.from_residual.result c.from_residual.ensures.0
+
+pub returns-in_err-packed-clause-done : goal.returns-in_err-packed-clause-done
+returns-in_err-packed-clause-done g c = λ honest sound. none_done _ c.from_residual.result c.from_residual.ensures.0
+
+pub returns-in_err-packed-clause-last : goal.returns-in_err-packed-clause-last
+returns-in_err-packed-clause-last g c = λ honest sound. none_done _ c.from_residual.result c.from_residual.ensures.0
+
+pub returns-in_err-packed-clause-more : goal.returns-in_err-packed-clause-more
+returns-in_err-packed-clause-more g c = λ honest. none_answered _ c.from_residual.result c.from_residual.ensures.0
+
+pub returns-in_err-found-clause-honest : goal.returns-in_err-found-clause-honest
+returns-in_err-found-clause-honest g c = none_done _ c.from_residual-in_err-found.result c.from_residual-in_err-found.ensures.0
+
+pub returns-in_err-found-clause-room : goal.returns-in_err-found-clause-room
+returns-in_err-found-clause-room g c = none_done _ c.from_residual-in_err-found.result c.from_residual-in_err-found.ensures.0
+
+pub returns-in_err-found-clause-ahead : goal.returns-in_err-found-clause-ahead
+returns-in_err-found-clause-ahead g c = none_done _ c.from_residual-in_err-found.result c.from_residual-in_err-found.ensures.0
+
+pub returns-in_err-found-clause-expands : goal.returns-in_err-found-clause-expands
+returns-in_err-found-clause-expands g c = λ honest sound. none_done _ c.from_residual-in_err-found.result c.from_residual-in_err-found.ensures.0
+
+pub returns-in_err-found-clause-fits : goal.returns-in_err-found-clause-fits
+returns-in_err-found-clause-fits g c = λ honest table. none_done _ c.from_residual-in_err-found.result c.from_residual-in_err-found.ensures.0
+
+pub returns-in_err-found-clause-done : goal.returns-in_err-found-clause-done
+returns-in_err-found-clause-done g c = λ honest sound. none_done _ c.from_residual-in_err-found.result c.from_residual-in_err-found.ensures.0
+
+pub returns-in_err-found-clause-last : goal.returns-in_err-found-clause-last
+returns-in_err-found-clause-last g c = λ honest sound. none_done _ c.from_residual-in_err-found.result c.from_residual-in_err-found.ensures.0
+
+pub returns-in_err-found-clause-more : goal.returns-in_err-found-clause-more
+returns-in_err-found-clause-more g c = λ honest. none_answered _ c.from_residual-in_err-found.result c.from_residual-in_err-found.ensures.0
+
+pub returns-in_err-numbers-clause-honest : goal.returns-in_err-numbers-clause-honest
+returns-in_err-numbers-clause-honest g c = none_done _ c.from_residual-in_err-numbers.result c.from_residual-in_err-numbers.ensures.0
+
+pub returns-in_err-numbers-clause-room : goal.returns-in_err-numbers-clause-room
+returns-in_err-numbers-clause-room g c = none_done _ c.from_residual-in_err-numbers.result c.from_residual-in_err-numbers.ensures.0
+
+pub returns-in_err-numbers-clause-ahead : goal.returns-in_err-numbers-clause-ahead
+returns-in_err-numbers-clause-ahead g c = none_done _ c.from_residual-in_err-numbers.result c.from_residual-in_err-numbers.ensures.0
+
+pub returns-in_err-numbers-clause-expands : goal.returns-in_err-numbers-clause-expands
+returns-in_err-numbers-clause-expands g c = λ honest sound. none_done _ c.from_residual-in_err-numbers.result c.from_residual-in_err-numbers.ensures.0
+
+pub returns-in_err-numbers-clause-fits : goal.returns-in_err-numbers-clause-fits
+returns-in_err-numbers-clause-fits g c = λ honest table. none_done _ c.from_residual-in_err-numbers.result c.from_residual-in_err-numbers.ensures.0
+
+pub returns-in_err-numbers-clause-done : goal.returns-in_err-numbers-clause-done
+returns-in_err-numbers-clause-done g c = λ honest sound. none_done _ c.from_residual-in_err-numbers.result c.from_residual-in_err-numbers.ensures.0
+
+pub returns-in_err-numbers-clause-last : goal.returns-in_err-numbers-clause-last
+returns-in_err-numbers-clause-last g c = λ honest sound. none_done _ c.from_residual-in_err-numbers.result c.from_residual-in_err-numbers.ensures.0
+
+pub returns-in_err-numbers-clause-more : goal.returns-in_err-numbers-clause-more
+returns-in_err-numbers-clause-more g c = λ honest. none_answered _ c.from_residual-in_err-numbers.result c.from_residual-in_err-numbers.ensures.0
+
+pub returns-in_err-note_all-clause-honest : goal.returns-in_err-note_all-clause-honest
+returns-in_err-note_all-clause-honest g c = none_done _ c.from_residual-in_err-note_all.result c.from_residual-in_err-note_all.ensures.0
+
+pub returns-in_err-note_all-clause-room : goal.returns-in_err-note_all-clause-room
+returns-in_err-note_all-clause-room g c = none_done _ c.from_residual-in_err-note_all.result c.from_residual-in_err-note_all.ensures.0
+
+pub returns-in_err-note_all-clause-ahead : goal.returns-in_err-note_all-clause-ahead
+returns-in_err-note_all-clause-ahead g c = none_done _ c.from_residual-in_err-note_all.result c.from_residual-in_err-note_all.ensures.0
+
+pub returns-in_err-note_all-clause-expands : goal.returns-in_err-note_all-clause-expands
+returns-in_err-note_all-clause-expands g c =
+    λ honest sound. none_done _ c.from_residual-in_err-note_all.result c.from_residual-in_err-note_all.ensures.0
+
+pub returns-in_err-note_all-clause-fits : goal.returns-in_err-note_all-clause-fits
+returns-in_err-note_all-clause-fits g c = λ honest table. none_done _ c.from_residual-in_err-note_all.result c.from_residual-in_err-note_all.ensures.0
+
+pub returns-in_err-note_all-clause-done : goal.returns-in_err-note_all-clause-done
+returns-in_err-note_all-clause-done g c = λ honest sound. none_done _ c.from_residual-in_err-note_all.result c.from_residual-in_err-note_all.ensures.0
+
+pub returns-in_err-note_all-clause-last : goal.returns-in_err-note_all-clause-last
+returns-in_err-note_all-clause-last g c = λ honest sound. none_done _ c.from_residual-in_err-note_all.result c.from_residual-in_err-note_all.ensures.0
+
+pub returns-in_err-note_all-clause-more : goal.returns-in_err-note_all-clause-more
+returns-in_err-note_all-clause-more g c = λ honest. none_answered _ c.from_residual-in_err-note_all.result c.from_residual-in_err-note_all.ensures.0
+
+pub returns-in_err-finish-clause-honest : goal.returns-in_err-finish-clause-honest
+returns-in_err-finish-clause-honest g c = none_done _ c.from_residual-in_err-finish.result c.from_residual-in_err-finish.ensures.0
+
+pub returns-in_err-finish-clause-room : goal.returns-in_err-finish-clause-room
+returns-in_err-finish-clause-room g c = none_done _ c.from_residual-in_err-finish.result c.from_residual-in_err-finish.ensures.0
+
+pub returns-in_err-finish-clause-ahead : goal.returns-in_err-finish-clause-ahead
+returns-in_err-finish-clause-ahead g c = none_done _ c.from_residual-in_err-finish.result c.from_residual-in_err-finish.ensures.0
+
+pub returns-in_err-finish-clause-expands : goal.returns-in_err-finish-clause-expands
+returns-in_err-finish-clause-expands g c = λ honest sound. none_done _ c.from_residual-in_err-finish.result c.from_residual-in_err-finish.ensures.0
+
+pub returns-in_err-finish-clause-fits : goal.returns-in_err-finish-clause-fits
+returns-in_err-finish-clause-fits g c = λ honest table. none_done _ c.from_residual-in_err-finish.result c.from_residual-in_err-finish.ensures.0
+
+pub returns-in_err-finish-clause-done : goal.returns-in_err-finish-clause-done
+returns-in_err-finish-clause-done g c = λ honest sound. none_done _ c.from_residual-in_err-finish.result c.from_residual-in_err-finish.ensures.0
+
+pub returns-in_err-finish-clause-last : goal.returns-in_err-finish-clause-last
+returns-in_err-finish-clause-last g c = λ honest sound. none_done _ c.from_residual-in_err-finish.result c.from_residual-in_err-finish.ensures.0
+
+pub returns-in_err-finish-clause-more : goal.returns-in_err-finish-clause-more
+returns-in_err-finish-clause-more g c = λ honest. none_answered _ c.from_residual-in_err-finish.result c.from_residual-in_err-finish.ensures.0
+
+pub returns-then-keeper_chooses-clause-honest : goal.returns-then-keeper_chooses-clause-honest
+returns-then-keeper_chooses-clause-honest g c = tt
+
+pub returns-then-keeper_chooses-clause-room : goal.returns-then-keeper_chooses-clause-room
+returns-then-keeper_chooses-clause-room g c = tt
+
+pub returns-then-keeper_chooses-clause-ahead : goal.returns-then-keeper_chooses-clause-ahead
+returns-then-keeper_chooses-clause-ahead g c = tt
+
+pub returns-then-keeper_chooses-clause-expands : goal.returns-then-keeper_chooses-clause-expands
+returns-then-keeper_chooses-clause-expands g c = λ honest sound. tt
+
+pub returns-then-keeper_chooses-clause-fits : goal.returns-then-keeper_chooses-clause-fits
+returns-then-keeper_chooses-clause-fits g c = λ honest table. tt
+
+pub returns-then-keeper_chooses-clause-done : goal.returns-then-keeper_chooses-clause-done
+returns-then-keeper_chooses-clause-done g c = λ honest sound. tt
+
+pub returns-then-keeper_chooses-clause-last : goal.returns-then-keeper_chooses-clause-last
+returns-then-keeper_chooses-clause-last g c = λ honest sound. tt
+
+pub returns-then-keeper_chooses-clause-more : goal.returns-then-keeper_chooses-clause-more
+returns-then-keeper_chooses-clause-more g c = λ honest. tt
+
+pub returns-then-numbers-gt-MAX_POSITIONS-clause-honest : goal.returns-then-numbers-gt-MAX_POSITIONS-clause-honest
+returns-then-numbers-gt-MAX_POSITIONS-clause-honest g c = tt
+
+pub returns-then-numbers-gt-MAX_POSITIONS-clause-room : goal.returns-then-numbers-gt-MAX_POSITIONS-clause-room
+returns-then-numbers-gt-MAX_POSITIONS-clause-room g c = tt
+
+pub returns-then-numbers-gt-MAX_POSITIONS-clause-ahead : goal.returns-then-numbers-gt-MAX_POSITIONS-clause-ahead
+returns-then-numbers-gt-MAX_POSITIONS-clause-ahead g c = tt
+
+pub returns-then-numbers-gt-MAX_POSITIONS-clause-expands : goal.returns-then-numbers-gt-MAX_POSITIONS-clause-expands
+returns-then-numbers-gt-MAX_POSITIONS-clause-expands g c = λ honest sound. tt
+
+pub returns-then-numbers-gt-MAX_POSITIONS-clause-fits : goal.returns-then-numbers-gt-MAX_POSITIONS-clause-fits
+returns-then-numbers-gt-MAX_POSITIONS-clause-fits g c = λ honest table. tt
+
+pub returns-then-numbers-gt-MAX_POSITIONS-clause-done : goal.returns-then-numbers-gt-MAX_POSITIONS-clause-done
+returns-then-numbers-gt-MAX_POSITIONS-clause-done g c = λ honest sound. tt
+
+pub returns-then-numbers-gt-MAX_POSITIONS-clause-last : goal.returns-then-numbers-gt-MAX_POSITIONS-clause-last
+returns-then-numbers-gt-MAX_POSITIONS-clause-last g c = λ honest sound. tt
+
+pub returns-then-numbers-gt-MAX_POSITIONS-clause-more : goal.returns-then-numbers-gt-MAX_POSITIONS-clause-more
+returns-then-numbers-gt-MAX_POSITIONS-clause-more g c = λ honest. tt
+
+pub returns-clause-cause : goal.returns-clause-cause
+returns-clause-cause g c = λ honest. tt
+
+pub returns-clause-unchanged : goal.returns-clause-unchanged
+returns-clause-unchanged g c = λ honest. tt
+
+pub returns-clause-consistent : goal.returns-clause-consistent
+returns-clause-consistent g c = λ honest sound is. done_consistent _ is
+
+pub returns-clause-left : goal.returns-clause-left
+returns-clause-left g c = tt

@@ -2,7 +2,7 @@ use Rattle.std.proofs.Common.{◌∙◌, ap, subst, inl, ℕ, List}
 use Rattle.retrograde.specs.declared.records.Counts.{Counts}
 use Rattle.retrograde.specs.Stored.{Stored, HasRecord}
 use Rattle.frontier.proofs.Passing.{passed_on, leaves_after}
-use Rattle.settle.proofs.Passing.{none_done, no_refusal, no_conflict, done_consistent, done_then, fault_then}
+use Rattle.frontier.proofs.Faults.{none_done, no_refusal, no_conflict, done_consistent, done_then, fault_then}
 use Rattle.settle.proofs.lower.lower.Goals as goal
 
 pub returns-in_err-packed-clause-lowered : goal.returns-in_err-packed-clause-lowered

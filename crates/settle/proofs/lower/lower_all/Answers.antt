@@ -2,7 +2,7 @@ use Rattle.std.proofs.Common.{◌<◌, ◌∙◌, rules, ap, length, refl, arith
 use Rattle.retrograde.specs.declared.records.Counts.{Counts}
 use Rattle.settle.proofs.Bounds.{step, stuck_at, ends}
 use Rattle.frontier.proofs.Passing.{passed_on, leaves_after}
-use Rattle.settle.proofs.Passing.{none_done, no_refusal, no_conflict, done_consistent}
+use Rattle.frontier.proofs.Faults.{none_done, no_refusal, no_conflict, done_consistent}
 use Rattle.settle.proofs.lower.lower_all.Goals as goal
 
 pub returns-in_err-lower-clause-stuck : goal.returns-in_err-lower-clause-stuck

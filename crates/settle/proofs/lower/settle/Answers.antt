@@ -2,7 +2,7 @@ use Rattle.std.proofs.Common.{◌∙◌, ap, ℕ, List}
 use Rattle.retrograde.specs.Stored.{Stored}
 use Rattle.retrograde.specs.Changes.{with_record}
 use Rattle.frontier.proofs.Passing.{passed_on}
-use Rattle.settle.proofs.Passing.{none_done, no_refusal, no_conflict, done_consistent}
+use Rattle.frontier.proofs.Faults.{none_done, no_refusal, no_conflict, done_consistent}
 use Rattle.settle.proofs.lower.settle.Goals as goal
 
 pub returns-then-counts-clause-settled : goal.returns-then-counts-clause-settled

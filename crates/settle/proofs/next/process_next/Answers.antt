@@ -2,7 +2,7 @@ use Rattle.std.proofs.Common.{◌∙◌, ap, arith}
 use Rattle.retrograde.specs.declared.records.Counts.{Counts}
 use Rattle.settle.proofs.SettleLemmas.{settled_known}
 use Rattle.frontier.proofs.Passing.{passed_on}
-use Rattle.settle.proofs.Passing.{none_done, none_answered, no_refusal, no_conflict, done_consistent}
+use Rattle.frontier.proofs.Faults.{none_done, none_answered, no_refusal, no_conflict, done_consistent}
 use Rattle.settle.proofs.next.process_next.Goals as goal
 
 pub returns-then-number-counts-clause-consistent :

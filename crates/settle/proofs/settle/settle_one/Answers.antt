@@ -5,7 +5,7 @@ use Rattle.retrograde.specs.Sound.{IsLocallySound}
 use Rattle.settle.proofs.SettleLemmas.{IsDone, done_from, fits_from, never_stuck_from}
 use Rattle.frontier.specs.declared.fault.StepFault.{StepFault}
 use Rattle.frontier.proofs.Passing.{passed_on, leaves_after, fault_is}
-use Rattle.settle.proofs.Passing.{none_done, none_answered, done_consistent}
+use Rattle.frontier.proofs.Faults.{none_done, none_answered, done_consistent}
 use Rattle.settle.proofs.settle.settle_one.Goals as goal
 
 pub returns-in_err-lower_all-clause-consistent : goal.returns-in_err-lower_all-clause-consistent
