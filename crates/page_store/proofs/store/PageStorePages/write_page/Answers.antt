@@ -54,9 +54,6 @@ returns-then-self-clause-cause g c = c.if-self.true
 pub returns-then-self-clause-closed : goal.returns-then-self-clause-closed
 returns-then-self-clause-closed g c = λ is. refl
 
-pub returns-in-Ok-clause-written : goal.returns-in-Ok-clause-written
-returns-in-Ok-clause-written g c = λ honest. is_ok _ _ c.in-Ok.is (c.put_page-written.ensures.written honest)
-
 pub returns-in-Ok-clause-marks : goal.returns-in-Ok-clause-marks
 returns-in-Ok-clause-marks g c = refl
 
