@@ -59,7 +59,7 @@ stopped_of text game moves Written (Err (stop.Refused why)) listing h =
 written_nothing : (text : Text) (contents : Option (List ℕ)) (why : Stop) → IsStopped text (λ lines. lines ≡ []) why → IsStopped text (Appends contents contents) why
 written_nothing text contents stop.Output stopped = tt
 written_nothing text contents (stop.Refused why) stopped =
-    (stopped.0, stopped.1.0, subst (Appends contents contents) (sym stopped.1.1) (appends_nothing contents))
+    (stopped.0, stopped.1, subst (Appends contents contents) (sym stopped.2) (appends_nothing contents))
 
 pub stopped_before : {X : Type 0} (text : Text) (contents : Option (List ℕ)) (r : Result X Stop) (why : Stop) → IsErr r × IsErrAnd r (λ stop. stop ≡ why)
     → IsStopped text (λ lines. lines ≡ []) why → IfErr r (IsStopped text (Appends contents contents))
