@@ -1,6 +1,7 @@
 //! Why a text is no game, for people: where the fault is, and what was met there.
 
-use crate::mentions::{Kind, Mention, Placed, Walk, Within, is_sign, mentions, scan};
+use crate::mentions::{Placed, Walk, is_sign, scan};
+use crate::wrong_names::{repeated_name, too_many, unknown_name, wrong_players};
 use rbg_game::limits::{MAX_NESTING, MAX_TEXT_BYTES};
 use rbg_read::fault::GameFault;
 use rbg_text::read::tokens_read;
@@ -76,7 +77,8 @@ fn explain_tokens(
     }
 }
 
-fn said(alloc: Global, at: usize, message: &str) -> Result<Explanation, AllocError> {
+/// A line for people about this byte.
+pub fn said(alloc: Global, at: usize, message: &str) -> Result<Explanation, AllocError> {
     Ok(Explanation {
         at,
         message: String::from_str(alloc, message)?,
@@ -84,7 +86,7 @@ fn said(alloc: Global, at: usize, message: &str) -> Result<Explanation, AllocErr
 }
 
 /// The bytes of a name or a number, which are ASCII.
-fn word_text(alloc: Global, word: &[u8]) -> Result<String, AllocError> {
+pub fn word_text(alloc: Global, word: &[u8]) -> Result<String, AllocError> {
     let mut text = String::new(alloc);
     for byte in word {
         text.push(char::from(*byte))?;
@@ -232,112 +234,6 @@ fn is_title(tokens: &[Placed<'_>], place: usize, title: &str) -> bool {
     }
 }
 
-fn wrong_players(alloc: Global, tokens: &[Placed<'_>]) -> Result<Explanation, AllocError> {
-    let (count, at) = count_players(alloc, tokens)?;
-    let message = format!(in alloc; "the number of players is {count}, and has to be 2")?;
-    Ok(Explanation { at, message })
-}
-
-/// How many names are players, and where the third of them is, or else the last.
-fn count_players(alloc: Global, tokens: &[Placed<'_>]) -> Result<(usize, usize), AllocError> {
-    let mut walk = Walk::new(alloc);
-    let mut count = 0usize;
-    let mut at = 0;
-    for place in 0..tokens.len() {
-        if let Some(mention) = walk.step(tokens, place)?
-            && walk.section() == Within::Players
-        {
-            count = count.saturating_add(1);
-            if count <= 3 {
-                at = mention.at;
-            }
-        }
-    }
-    Ok((count, at))
-}
-
-fn kind_text(kind: Kind) -> &'static str {
-    match kind {
-        Kind::Player => "player",
-        Kind::Variable => "variable",
-        Kind::Piece => "piece",
-        Kind::Vertex => "vertex",
-        Kind::Label => "label",
-    }
-}
-
-/// Whether the declared name serves where a name of the kind is used.
-fn serves(declared: &Mention<'_>, used: &Mention<'_>) -> bool {
-    let score = used.kind == Kind::Variable && declared.kind == Kind::Player;
-    declared.declared && (score || declared.kind == used.kind) && declared.word == used.word
-}
-
-fn unknown_name(alloc: Global, tokens: &[Placed<'_>]) -> Result<Explanation, AllocError> {
-    let all = mentions(alloc, tokens)?;
-    match first_unknown(&all) {
-        Some(used) => no_such_name(alloc, used),
-        None => said(alloc, 0, "a name is used that is not declared as such"),
-    }
-}
-
-/// The first name that is used, and declared nowhere.
-fn first_unknown<'a>(all: &[Mention<'a>]) -> Option<Mention<'a>> {
-    for used in all {
-        if !used.declared && !all.iter().any(|declared| serves(declared, used)) {
-            return Some(*used);
-        }
-    }
-    None
-}
-
-fn no_such_name(alloc: Global, used: Mention<'_>) -> Result<Explanation, AllocError> {
-    let kind = kind_text(used.kind);
-    let word = word_text(alloc, used.word)?;
-    let message = format!(in alloc; "no {kind} is called `{word}`")?;
-    Ok(Explanation {
-        at: used.at,
-        message,
-    })
-}
-
-/// Whether both declare the same name, where it may be declared once.
-fn repeats(first: &Mention<'_>, second: &Mention<'_>) -> bool {
-    let same_kind = match (first.kind, second.kind) {
-        (Kind::Player | Kind::Variable, Kind::Player | Kind::Variable) => true,
-        (Kind::Label, Kind::Label) => first.vertex == second.vertex,
-        (one, other) => one == other,
-    };
-    first.declared && same_kind && first.word == second.word
-}
-
-fn repeated_name(alloc: Global, tokens: &[Placed<'_>]) -> Result<Explanation, AllocError> {
-    let all = mentions(alloc, tokens)?;
-    match first_repeated(&all) {
-        Some(second) => declared_twice(alloc, second),
-        None => said(alloc, 0, "a name is declared twice"),
-    }
-}
-
-/// The first name that is declared once more.
-fn first_repeated<'a>(all: &[Mention<'a>]) -> Option<Mention<'a>> {
-    for (index, second) in all.iter().enumerate() {
-        if second.declared && all.iter().take(index).any(|first| repeats(first, second)) {
-            return Some(*second);
-        }
-    }
-    None
-}
-
-fn declared_twice(alloc: Global, second: Mention<'_>) -> Result<Explanation, AllocError> {
-    let kind = kind_text(second.kind);
-    let word = word_text(alloc, second.word)?;
-    let message = format!(in alloc; "the {kind} `{word}` is declared twice")?;
-    Ok(Explanation {
-        at: second.at,
-        message,
-    })
-}
-
 /// Whether the number that the digits write is over 1,000,000.
 fn is_over(digits: &[u8]) -> bool {
     let mut number = 0u32;
@@ -378,32 +274,6 @@ fn too_large(alloc: Global, tokens: &[Placed<'_>]) -> Result<Explanation, AllocE
         }
     }
     too_many(alloc, tokens)
-}
-
-fn too_many(alloc: Global, tokens: &[Placed<'_>]) -> Result<Explanation, AllocError> {
-    let all = mentions(alloc, tokens)?;
-    let limits = [
-        (Kind::Vertex, 128, "vertices"),
-        (Kind::Piece, 64, "pieces"),
-        (Kind::Variable, 32, "variables"),
-    ];
-    for (kind, limit, plural) in limits {
-        if let Some(at) = first_over(&all, kind, limit) {
-            let message = format!(in alloc; "there are more than {limit} {plural}")?;
-            return Ok(Explanation { at, message });
-        }
-    }
-    said(
-        alloc,
-        0,
-        "there are more than 64 labels or more than 4,096 actions",
-    )
-}
-
-/// Where the first name is declared that is one too many of its kind.
-fn first_over(all: &[Mention<'_>], kind: Kind, limit: usize) -> Option<usize> {
-    let mut declared = all.iter().filter(|m| m.declared && m.kind == kind);
-    declared.nth(limit).map(|m| m.at)
 }
 
 fn large_expression(alloc: Global, tokens: &[Placed<'_>]) -> Result<Explanation, AllocError> {

@@ -9,6 +9,7 @@ mod mentions;
 mod program;
 mod streams;
 pub mod words;
+mod wrong_names;
 
 pub use line_answers::{input, questions, turns};
 pub use printed_lines::{moves, refused, replies, verdicts};
