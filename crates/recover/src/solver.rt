@@ -1,5 +1,6 @@
 //! A solver over a disk.
-ghost use Rattle.std.specs.Prelude.{◌≡◌, ◌≤◌, ◌↔◌, ℕ, List, true, false, Option, None, option_map, IsSome, IsOk, OnOk, IfOk, IfErr, IsErrOf, IsTrue};
+ghost use Rattle.std.specs.Prelude.{◌≡◌, ◌≤◌, ◌↔◌, ℕ, List, true, false, Option, None, option_map};
+ghost use Rattle.std.specs.Prelude.{IsSome, IsOk, OnOk, IfOk, IfErr, IsErrOf, IsTrue};
 ghost use Rattle.sector_disk.specs.Disk.{Picture};
 ghost use Rattle.retrograde.specs.Changes.{counts_of};
 ghost use Rattle.game_file.specs.Kept.{Kept};
