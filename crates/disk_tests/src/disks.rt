@@ -9,9 +9,6 @@ use std::fmt::Debug;
 use std::fs::{File, OpenOptions};
 use std::test::Fail;
 
-/// To open takes four disk calls: a sync, the header, the gate and the slot.
-pub const OPENING: u64 = 4;
-
 /// A disk of so many sectors with a table on it that has this root.
 pub fn table_disk(alloc: Global, sectors: u64, root: &[u8; 512]) -> Result<MemDisk, Fail> {
     let mut disk = MemDisk::new(alloc, sectors)?;

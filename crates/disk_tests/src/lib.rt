@@ -14,8 +14,6 @@ mod root_tests;
 #[cfg(test)]
 mod sector_tests;
 #[cfg(test)]
-mod soak_tests;
-#[cfg(test)]
 mod store_tests;
 #[cfg(test)]
 mod two_positions;

@@ -1,17 +1,7 @@
-//! Tests of how game texts are read, of positions as bytes and as text, and of moves.
+//! Tests of positions as bytes and as text, and of a game as a source of moves.
 #![tactic(auto)]
 
-#[cfg(test)]
-mod code_tests;
-#[cfg(test)]
-mod game_texts;
-#[cfg(test)]
-mod limit_tests;
 #[cfg(test)]
 mod move_tests;
 #[cfg(test)]
 mod pack_tests;
-#[cfg(test)]
-mod read_tests;
-#[cfg(test)]
-mod text_tests;

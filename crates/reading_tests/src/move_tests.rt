@@ -1,8 +1,8 @@
-//! The moves of small games, worked out by hand.
+//! A game as a source of moves, worked out by hand.
 ghost use Rattle.std.specs.Prelude.{IfOk};
 ghost use Rattle.legal_moves.specs.Compiled.{IsSoundCompiled};
 
-use legal_moves::{Compiled, Modifier, MoveSource, Moves};
+use legal_moves::{Compiled, MoveSource};
 use position_pack::{Packed, PackingKind};
 use rbg_game::roles::{Player, Role};
 use rbg_read::read::read_game;
@@ -31,66 +31,6 @@ fn game_of(alloc: Global, text: &str, kind: PackingKind) -> Result<Compiled, Fai
 {
     let game = read_game(alloc, text.as_bytes())?;
     Ok(Compiled::new(alloc, game, kind)?)
-}
-
-/// The moves of the start.
-fn first_moves(alloc: Global, text: &str) -> Result<Moves, Fail> {
-    let source = game_of(alloc, text, PackingKind::Bytes)?;
-    Ok(source.moves(alloc, &source.start())?)
-}
-
-/// How many modifiers a move has, and the first.
-fn modifiers(
-    alloc: Global,
-    moves: &Moves,
-    index: usize,
-) -> Result<(usize, Option<Modifier>), Fail> {
-    if index >= moves.len() {
-        return Err("no such move".into());
-    }
-    let word = moves.word(alloc, index)?;
-    Ok((word.len(), word.first().copied()))
-}
-
-/// The bytes of where a move leads.
-fn successor_of(moves: &Moves, index: usize) -> Result<&[u8], Fail> {
-    if index >= moves.len() {
-        return Err("no such move".into());
-    }
-    Ok(moves.successor(index).as_slice())
-}
-
-#[test]
-fn a_pattern_leaves_the_board(rt: HostRuntime) -> Result<(), Fail> {
-    let moves = first_moves(rt.alloc(), LOOK)?;
-    expect(moves.len(), 1, "the moves")?;
-    expect(successor_of(&moves, 0)?, SEEN.as_slice(), "the successor")?;
-    let switch = Modifier {
-        number: 2,
-        vertex: 0,
-    };
-    expect(
-        modifiers(rt.alloc(), &moves, 0)?,
-        (1, Some(switch)),
-        "the word",
-    )
-}
-
-/// With the start, 32,767 sums and 32,768 ends there are as many configurations as there may be.
-const WIDE: &str =
-    "#players = white(1), black(1) #pieces = e #variables = n(32767) #board = v[e]{} #rules = ([$n=n+1])* ->white";
-
-const FIRST_OF_WIDE: Modifier = Modifier {
-    number: 1,
-    vertex: 0,
-};
-
-#[test]
-fn as_wide_as_may_be(rt: HostRuntime) -> Result<(), Fail> {
-    let moves = first_moves(rt.alloc(), WIDE)?;
-    expect(moves.len(), 32_768, "the moves")?;
-    let last = modifiers(rt.alloc(), &moves, 32_767)?;
-    expect(last, (32_768, Some(FIRST_OF_WIDE)), "the last word")
 }
 
 /// Expects the bytes of the only successor of the start, by the bound alone.
