@@ -159,25 +159,3 @@ fn a_read_that_fails_within_work_changes_nothing(rt: HostRuntime) -> Result<(), 
     }
     Ok(())
 }
-
-#[test]
-fn a_disk_of_which_the_first_sync_fails_comes_back_and_is_opened(
-    rt: HostRuntime,
-) -> Result<(), Fail> {
-    let disk = FlakyDisk::new(disk_after(rt.alloc(), &TAKE_LOADED)?, 0, false);
-    let refused = match Solver::open(rt.alloc(), disk) {
-        Ok(_) => return Err("the table was opened")?,
-        Err(refused) => refused,
-    };
-    expect(refused.fault, SolverFault::Disk, 0)?;
-    let loaded = Counts {
-        known: 1,
-        expanded: 0,
-        settled: 0,
-        processed: 0,
-    };
-    match Solver::open(rt.alloc(), refused.disk) {
-        Ok(solver) => expect(status(&solver), Some(loaded), 1),
-        Err(_) => Err("the table was refused")?,
-    }
-}

@@ -1,4 +1,4 @@
-//! Tests of the solver and of sessions, on disks in memory that fail or are stopped.
+//! Tests of the solver on disks in memory that fail, and of replies that no command shows.
 #![tactic(auto)]
 
 #[cfg(test)]
@@ -6,6 +6,6 @@ mod deeds;
 #[cfg(test)]
 mod fault_tests;
 #[cfg(test)]
-mod run_tests;
+mod reply_tests;
 #[cfg(test)]
-mod session_tests;
+mod run_tests;
