@@ -36,11 +36,6 @@ fn fresh(alloc: Global, source: &Source) -> Result<MemTable, Fail> {
     Ok(MemTable::new(alloc, &source.start())?)
 }
 
-/// A game that was just loaded, with its positions by bytes.
-pub fn begun(alloc: Global, text: &str) -> Result<Solving, Fail> {
-    begun_by(alloc, text, PackingKind::Bytes)
-}
-
 /// A game that was just loaded, with its positions by bytes or by bits.
 pub fn begun_by(alloc: Global, text: &str, kind: PackingKind) -> Result<Solving, Fail> {
     let source = source_of(alloc, text, kind)?;

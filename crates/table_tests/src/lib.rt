@@ -1,4 +1,4 @@
-//! Tests of tables in memory, of units of work on them, and of what they answer.
+//! Tests of tables in memory, worked to their ends beside a plain solver, and of positions as bytes.
 #![tactic(auto)]
 
 #[cfg(test)]
@@ -11,5 +11,3 @@ mod plain;
 mod plain_tests;
 #[cfg(test)]
 mod source_tests;
-#[cfg(test)]
-mod work_tests;
