@@ -1,8 +1,6 @@
-//! Tests of disks, of their roots, pages and chains, and of tables as bytes.
+//! Tests of disks, and of their roots, pages and chains.
 #![tactic(auto)]
 
-#[cfg(test)]
-mod bytes_tests;
 #[cfg(test)]
 mod cache_tests;
 #[cfg(test)]
@@ -15,5 +13,3 @@ mod root_tests;
 mod sector_tests;
 #[cfg(test)]
 mod store_tests;
-#[cfg(test)]
-mod two_positions;

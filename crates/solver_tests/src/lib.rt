@@ -1,4 +1,4 @@
-//! Tests of the solver on disks in memory that fail, and of replies that no command shows.
+//! Tests of the solver on disks in memory that fail, and of a small game whose table is stopped at each call to the disk.
 #![tactic(auto)]
 
 #[cfg(test)]
@@ -6,6 +6,6 @@ mod deeds;
 #[cfg(test)]
 mod fault_tests;
 #[cfg(test)]
-mod reply_tests;
-#[cfg(test)]
 mod run_tests;
+#[cfg(test)]
+mod stop_tests;
