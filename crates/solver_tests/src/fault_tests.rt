@@ -1,6 +1,6 @@
 //! One disk call that fails, and what the solver answers then and later.
 
-use crate::deeds::{Deed, LOADED, WORKED, all_say, disk_after};
+use crate::deeds::{LOADED, WORKED, all_say, take_table};
 use recover::{Solver, SolverFault, Units, Worked};
 use retrograde::Counts;
 use sector_disk::{FlakyDisk, MemDisk, SectorDisk};
@@ -34,17 +34,6 @@ const TO_WORK_UNCACHED: u64 = 8 * 81;
 /// The disk calls of a commit: the gate is read, the slot is written and synced, and the gate is written and synced.
 const TO_COMMIT: u64 = 5;
 
-/// The game of takes, loaded.
-const TAKE_LOADED: [Deed; 2] = [Deed::Create, Deed::LoadTake];
-
-/// How far the table is once seven units are worked.
-const SEVEN_WORKED: Counts = Counts {
-    known: 7,
-    expanded: 7,
-    settled: 2,
-    processed: 0,
-};
-
 /// What is asked of a solver.
 #[derive(Clone, Copy, PartialEq, Eq, Debug)]
 enum Question {
@@ -75,7 +64,7 @@ fn refusal<D: SectorDisk>(solver: &mut Solver<D>, question: Question) -> Option<
 fn solver_on(alloc: Global, pages: usize, call: u64) -> Result<Solver<FlakyDisk<MemDisk>>, Fail> {
     match Solver::open_with_cache(
         alloc,
-        FlakyDisk::new(disk_after(alloc, &TAKE_LOADED)?, call, false),
+        FlakyDisk::new(take_table(alloc)?, call, false),
         pages.min(64),
     ) {
         Ok(solver) => Ok(solver),
@@ -148,7 +137,7 @@ fn a_read_that_fails_within_work_changes_nothing(rt: HostRuntime) -> Result<(), 
         expect(status(&solver), before, call)?;
         let first = Worked {
             units: 7,
-            counts: SEVEN_WORKED,
+            counts: WORKED,
         };
         expect(worked(&mut solver), Ok(first), (pages, call))?;
         expect(

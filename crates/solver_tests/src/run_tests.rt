@@ -1,6 +1,6 @@
 //! A list of commands in one call.
 
-use crate::deeds::{Deed, disk_after, is_right};
+use crate::deeds::{empty_table, is_right};
 use recover::{Command, Reply, Solver, SolverFault, Units};
 use retrograde::Counts;
 use sector_disk::SectorDisk;
@@ -61,12 +61,7 @@ fn worked(units: u32, settled: u32, processed: u32) -> Reply {
 fn a_run_answers_each_command(rt: HostRuntime) -> Result<(), Fail> {
     let alloc = rt.alloc();
     let mut replies = Vec::new(alloc);
-    let disk = run_on(
-        alloc,
-        disk_after(alloc, &[Deed::Create])?,
-        &[],
-        &mut replies,
-    )?;
+    let disk = run_on(alloc, empty_table(alloc)?, &[], &mut replies)?;
     expect(replies.len(), 0, "no commands")?;
     replies.push(Reply::Loaded)?;
     let commands = commands(
