@@ -11,7 +11,7 @@ use std::alloc::Global;
 use std::io::Write;
 
 /// What is done to a file.
-#[derive(Debug, PartialEq, Eq, Drop)]
+#[derive(Drop)]
 pub enum FileCommand {
     /// Makes the empty table.
     Create,
@@ -22,7 +22,7 @@ pub enum FileCommand {
 }
 
 /// What came of a command on a file.
-#[derive(Clone, Copy, Debug, PartialEq, Eq, Drop)]
+#[derive(Clone, Copy, Drop)]
 pub struct Outcome {
     /// The exit status, which is 4 where the output failed.
     pub status: u8,

@@ -9,14 +9,14 @@ use rbg_text::token::{Sign, Token};
 use std::alloc::{AllocError, Global};
 
 /// A fault of a text: the byte that it is at, and a line for people.
-#[derive(Debug, Drop)]
+#[derive(Drop)]
 pub struct Explanation {
     pub at: usize,
     pub message: String,
 }
 
 /// A line and a column, each from 1; a column is a byte of its line.
-#[derive(Clone, Copy, Debug, PartialEq, Eq)]
+#[derive(Clone, Copy)]
 pub struct LineColumn {
     pub line: usize,
     pub column: usize,

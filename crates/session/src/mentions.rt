@@ -19,7 +19,7 @@ pub struct Scanned<'a> {
 }
 
 /// What a name stands for.
-#[derive(Clone, Copy, Debug, PartialEq, Eq)]
+#[derive(Clone, Copy, PartialEq, Eq)]
 pub enum Kind {
     Player,
     /// A variable, or where it is used a player's score too.
@@ -42,7 +42,7 @@ pub struct Mention<'a> {
 }
 
 /// The section, and within the board and the rules the brackets, in which a name stands.
-#[derive(Clone, Copy, Debug, PartialEq, Eq)]
+#[derive(Clone, Copy, PartialEq, Eq)]
 pub enum Within {
     Nothing,
     Players,

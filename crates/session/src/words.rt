@@ -9,7 +9,7 @@ use page_store::MAX_PAGES;
 use std::alloc::{AllocError, Global};
 
 /// What the words of a command line ask for.
-#[derive(Debug, PartialEq, Eq, Drop)]
+#[derive(Drop)]
 pub enum Words {
     /// The moves of the start of the game in this file.
     Moves { game: String },
@@ -24,7 +24,7 @@ pub enum Words {
 }
 
 /// Why there is nothing to do: help was asked for, or the words are no command.
-#[derive(Debug, PartialEq, Eq, Drop)]
+#[derive(Drop)]
 pub struct Refusal {
     /// 0 for help and the version, 2 for words that are no command, 5 for want of memory.
     pub status: u8,

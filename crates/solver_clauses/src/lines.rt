@@ -1,0 +1,74 @@
+//! What a line of a session asks for, and what is printed.
+ghost use Rattle.std.specs.Prelude.{◌≡◌, ◌⊎◌, ◌∷◌, [], ◌++◌, ℕ, List, false, IfOk, OnOk};
+ghost use Rattle.std.specs.Io.KnownBytes.{Appends};
+ghost use Rattle.std.specs.List.{flat_map};
+ghost use Rattle.rbg_game.specs.Meaning.{game_of};
+ghost use Rattle.printed_lines.specs.Answers.{IsMovesAnswer};
+ghost use Rattle.printed_lines.specs.Counted.{IsStatusLine};
+ghost use Rattle.printed_lines.specs.Replies.{row_line, value_text};
+ghost use Rattle.recover.specs.Solvers.{state, IsReady};
+ghost use Rattle.line_answers.specs.Answered.{IsReplied};
+ghost use Rattle.line_answers.specs.Asked.{Asks};
+
+use best_line::{Row, Value};
+use game_file::GameFile;
+use line_answers::input::{Asked, Line, Question};
+use line_answers::questions;
+use printed_lines::{moves, replies};
+use rbg_game::game::Game;
+use rbg_game::roles::Player;
+use recover::FileSolver;
+use retrograde::Counts;
+use std::alloc::{AllocError, Global};
+use std::io::{self, Write};
+
+/// `line` of `Line::asked_last`.
+pub fn asked_last(line: &Line) -> Asked<'_>
+    ensures { line.now.is_too_long ≡ false → Asks line.now.bytes.items result }
+{
+    line.asked_last()
+}
+
+/// `replied` of `put_answer`.
+pub fn put_answer<F: GameFile, W: Write, E: Write>(
+    alloc: Global,
+    solver: &mut FileSolver<F>,
+    asked: Asked<'_>,
+    out: &mut W,
+    told: &mut E,
+) -> io::Result<u8>
+    ensures { IsReady solver.old → IfOk result (λ status. (line : List ℕ)
+        × IsReplied F.stores asked.entry (state solver.old) (state solver.new) status line
+        × Appends (W.contents out.old) (W.contents out.new) line) }
+{
+    questions::put_answer(alloc, solver, asked, out, told)
+}
+
+/// The clause of `put_status`.
+pub fn put_status<W: Write>(out: &mut W, counts: Option<Counts>) -> io::Result<()>
+    ensures { OnOk result ((line : List ℕ) × IsStatusLine counts line × Appends (W.contents out.old) (W.contents out.new) line) }
+{
+    replies::put_status(out, counts)
+}
+
+/// The clause of `row_lines`.
+pub fn row_lines(alloc: Global, game: &Game, rows: &[Row]) -> Result<Vec<u8>, AllocError>
+    ensures { IfOk result (λ text. text.items ≡ flat_map (row_line (game_of game.now)) rows.now) }
+{
+    replies::row_lines(alloc, game, rows)
+}
+
+/// The clause of `value_line`.
+pub fn value_line(alloc: Global, game: &Game, value: Value) -> Result<Vec<u8>, AllocError>
+    ensures { IfOk result (λ line. line.items ≡ value_text (game_of game.now) value ++ 10 ∷ []) }
+{
+    replies::value_line(alloc, game, value)
+}
+
+/// The clause of `moves_to`.
+pub fn moves_to<W: Write>(alloc: Global, text: &[u8], out: &mut W) -> u8
+    ensures { (result ≡ 4)
+        ⊎ ((written : List ℕ) × IsMovesAnswer text.now result written × Appends (W.contents out.old) (W.contents out.new) written) }
+{
+    moves::moves_to(alloc, text, out)
+}

@@ -1,0 +1,52 @@
+//! What is asked of a table.
+ghost use Rattle.std.specs.Prelude.{◌≡◌, ◌<◌, true, IfOk, IsErrOf};
+ghost use Rattle.recover.specs.Audits.{HasVerdict};
+ghost use Rattle.recover.specs.Queries.{Tells, HasText};
+ghost use Rattle.recover.specs.Solvers.{state, IsReady};
+
+use audit::Verdict;
+use best_line::Row;
+use game_file::GameFile;
+use recover::{FileSolver, SolverFault, Units};
+use retrograde::Record;
+use table::TableFault;
+
+/// `text` of `FileSolver::show`.
+pub fn show<F: GameFile>(solver: &mut FileSolver<F>, number: u32) -> Result<Vec<u8>, SolverFault>
+    ensures { IsReady solver.old → IfOk result (λ text. Tells (HasText number text.items) (state solver.old)) }
+{
+    solver.show(number)
+}
+
+/// `number` of `FileSolver::find`.
+pub fn find<F: GameFile>(solver: &mut FileSolver<F>, text: &[u8]) -> Result<u32, SolverFault>
+    ensures { IsReady solver.old → IfOk result (λ number. Tells (HasText number text.now) (state solver.old)) }
+{
+    solver.find(text)
+}
+
+/// `verdict` of `FileSolver::audit`.
+pub fn audit<F: GameFile>(solver: &mut FileSolver<F>) -> Result<Verdict, SolverFault>
+    ensures { IsReady solver.old → IfOk result (λ verdict. Tells (HasVerdict verdict) (state solver.old)) }
+{
+    solver.audit()
+}
+
+/// `closed` of `FileSolver::list`.
+pub fn list<F: GameFile>(
+    solver: &mut FileSolver<F>,
+    from: u32,
+    count: Units,
+) -> Result<Vec<Row>, SolverFault>
+    ensures { (state solver.old).closed ≡ true → IsErrOf result SolverFault.Closed × (solver.new ≡ solver.old) }
+{
+    solver.list(from, count)
+}
+
+/// `stays` of `Table::record`, of a file.
+pub fn record<F: GameFile>(file: &mut F, number: u32) -> Result<Record, TableFault>
+    requires { number < (F.counted file.old).known }
+    ensures { F.stays file.old file.new }
+{
+    file.record(number)
+}
