@@ -56,8 +56,10 @@ pub fn empty_table(alloc: Global) -> Result<MemDisk, Fail> {
 /// A new disk with the game of takes, loaded.
 pub fn take_table(alloc: Global) -> Result<MemDisk, Fail> {
     let mut solver = created(alloc, MemDisk::new(alloc, SECTORS)?)?;
-    load(&mut solver)?;
-    Ok(solver.close())
+    let loaded = load(&mut solver);
+    let disk = solver.close();
+    loaded?;
+    Ok(disk)
 }
 
 /// How far the table on this disk is.
@@ -65,9 +67,14 @@ fn status_on(alloc: Global, disk: MemDisk) -> Result<Option<Counts>, Fail> {
     Ok(opened(alloc, disk)?.status())
 }
 
+/// Whether the audit says that the table is right.
+fn says_right<D: SectorDisk>(solver: &mut Solver<D>) -> Result<bool, Fail> {
+    Ok(solver.audit()? == Verdict::Right)
+}
+
 /// Whether the audit says that the table on this disk is right.
 pub fn is_right(alloc: Global, disk: MemDisk) -> Result<bool, Fail> {
-    Ok(opened(alloc, disk)?.audit()? == Verdict::Right)
+    says_right(&mut opened(alloc, disk)?)
 }
 
 /// Whether the table is as far as one of these in each of the 256 pictures that a stop now leaves, and right in the first of them.

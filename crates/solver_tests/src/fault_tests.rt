@@ -88,6 +88,31 @@ fn worked<D: SectorDisk>(solver: &mut Solver<D>) -> Result<Worked, SolverFault> 
     }
 }
 
+/// All that is asked of a solver.
+const QUESTIONS: [Question; 7] = [
+    Question::Work,
+    Question::Load,
+    Question::Value,
+    Question::List,
+    Question::Line,
+    Question::Show,
+    Question::Find,
+];
+
+/// Works on a solver whose disk fails then, and asks all of it: it is closed, and its table is as it was.
+fn is_closed_by_work<D: SectorDisk>(solver: &mut Solver<D>, call: u64) -> Result<(), Fail> {
+    let before = status(solver);
+    expect(worked(solver), Err(SolverFault::Disk), call)?;
+    for question in QUESTIONS {
+        expect(
+            refusal(solver, question),
+            Some(SolverFault::Closed),
+            (call, question),
+        )?;
+    }
+    expect(status(solver), before, call)
+}
+
 #[test]
 fn after_a_failed_write_or_sync_all_is_closed_until_it_is_opened_again(
     rt: HostRuntime,
@@ -95,31 +120,24 @@ fn after_a_failed_write_or_sync_all_is_closed_until_it_is_opened_again(
     // the first write of a page, behind a read of one, and the last sync of the commit
     for call in [TO_OPEN + 8, TO_OPEN + TO_WORK + TO_COMMIT - 1] {
         let mut solver = solver_on(rt.alloc(), 64, call)?;
-        let before = status(&solver);
-        expect(worked(&mut solver), Err(SolverFault::Disk), call)?;
-        for question in [
-            Question::Work,
-            Question::Load,
-            Question::Value,
-            Question::List,
-            Question::Line,
-            Question::Show,
-            Question::Find,
-        ] {
-            expect(
-                refusal(&mut solver, question),
-                Some(SolverFault::Closed),
-                (call, question),
-            )?;
-        }
-        expect(status(&solver), before, call)?;
-        expect(
-            all_say(rt.alloc(), &disk_of(solver), &[LOADED, WORKED])?,
-            true,
-            call,
-        )?;
+        let closed = is_closed_by_work(&mut solver, call);
+        let disk = disk_of(solver);
+        closed?;
+        expect(all_say(rt.alloc(), &disk, &[LOADED, WORKED])?, true, call)?;
     }
     Ok(())
+}
+
+/// Works on a solver whose disk fails in a read then, and works again: the table is as it was, and then worked.
+fn works_at_the_second_try<D: SectorDisk>(solver: &mut Solver<D>, call: u64) -> Result<(), Fail> {
+    let before = status(solver);
+    expect(worked(solver), Err(SolverFault::Disk), call)?;
+    expect(status(solver), before, call)?;
+    let first = Worked {
+        units: 7,
+        counts: WORKED,
+    };
+    expect(worked(solver), Ok(first), call)
 }
 
 #[test]
@@ -132,19 +150,10 @@ fn a_read_that_fails_within_work_changes_nothing(rt: HostRuntime) -> Result<(), 
         (0, TO_OPEN_UNCACHED + TO_WORK_UNCACHED),
     ] {
         let mut solver = solver_on(rt.alloc(), pages, call)?;
-        let before = status(&solver);
-        expect(worked(&mut solver), Err(SolverFault::Disk), call)?;
-        expect(status(&solver), before, call)?;
-        let first = Worked {
-            units: 7,
-            counts: WORKED,
-        };
-        expect(worked(&mut solver), Ok(first), (pages, call))?;
-        expect(
-            all_say(rt.alloc(), &disk_of(solver), &[WORKED])?,
-            true,
-            (pages, call),
-        )?;
+        let works = works_at_the_second_try(&mut solver, call);
+        let disk = disk_of(solver);
+        works?;
+        expect(all_say(rt.alloc(), &disk, &[WORKED])?, true, (pages, call))?;
     }
     Ok(())
 }

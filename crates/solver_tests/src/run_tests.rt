@@ -39,8 +39,10 @@ fn run_on<D: SectorDisk + Drop>(
 ) -> Result<D, Fail> {
     match Solver::open(alloc, disk) {
         Ok(mut solver) => {
-            solver.run(commands, replies)?;
-            Ok(solver.close())
+            let run = solver.run(commands, replies);
+            let disk = solver.close();
+            run?;
+            Ok(disk)
         }
         Err(refused) => Ok(refused.disk),
     }
