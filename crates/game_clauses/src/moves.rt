@@ -1,9 +1,12 @@
 //! Where moves lead, and who is ahead.
-ghost use Rattle.std.specs.Prelude.{◌≡◌, ◌<◌, Some, IfOk, length, map, option_map, slice_get};
-ghost use Rattle.legal_moves.specs.Listed.{ListsExactly};
+ghost use Rattle.std.specs.Prelude.{◌≡◌, ◌<◌, Some, Err, IfOk, IfSome, length, map, option_map, slice_get};
+ghost use Rattle.rbg_game.specs.Positions.{IsPositionOf};
+ghost use Rattle.legal_moves.specs.Compiled.{compiled_game};
+ghost use Rattle.legal_moves.specs.Listed.{IsShortestMove, ListsExactly, ShownMove};
 
-use legal_moves::{Modifier, MoveFault, MoveSource, Moves};
+use legal_moves::{Compiled, Modifier, MoveFault, MoveSource, Moves};
 use position_pack::Packed;
+use rbg_game::position::Position;
 use rbg_game::roles::Player;
 use smallvec::SmallVec;
 use std::alloc::{AllocError, Global};
@@ -26,6 +29,36 @@ pub fn successors<S: MoveSource>(
     ensures { IfOk result (λ found. ListsExactly ((S.graph source.now).Successor at.now.items) (map (λ p. p.items) found.items)) }
 {
     source.successors(alloc, at)
+}
+
+/// `wide` of `MoveSource::successors`.
+pub fn successors_or_wide<S: MoveSource>(
+    source: &S,
+    alloc: Global,
+    from: &Packed,
+) -> Result<Vec<Packed>, MoveFault>
+    requires { S.is_sound source.now }
+    ensures { result ≡ Err MoveFault.TooWide → S.is_wide source.now from.now.items }
+{
+    source.successors(alloc, from)
+}
+
+/// `shortest` of `Compiled::moves`, as the clause of `Moves::word` shows it of the first move.
+pub fn first_word(
+    compiled: &Compiled,
+    alloc: Global,
+    at: &Position,
+) -> Result<Option<SmallVec<Modifier, 16>>, MoveFault>
+    requires { IsPositionOf (compiled_game compiled.now) at.now }
+    ensures { IfOk result (λ first. IfSome first (λ w. (move : ShownMove) × IsShortestMove (compiled_game compiled.now) at.now move
+        × (move.shown ≡ map (λ m. (m.number, m.vertex)) w.items))) }
+{
+    let moves = compiled.moves(alloc, at)?;
+    if moves.len() == 0 {
+        return Ok(None);
+    }
+    let word = moves.word(alloc, 0)?;
+    Ok(Some(word))
 }
 
 /// The clause of `Moves::word`.
