@@ -23,7 +23,8 @@ pub fn work<M: MoveSource, T: Table>(
     requires limit { (T.counted table.old).known ≤ 2 ^ 24 }
     requires honest { T.is_honest table.old }
     requires sound { IsLocallySound (M.graph source.now) (M.is_wide source.now) (T.stored table.old) }
-    ensures { IfOk result (λ done. AreDone (M.graph source.now) (M.is_wide source.now) units (T.stored table.old) done (T.stored table.new)) }
+    ensures { IfOk result (λ done. AreDone (M.graph source.now) (M.is_wide source.now) units (T.stored table.old) done
+        (T.stored table.new)) }
 {
     table_work::work(alloc, source, table, units)
 }
