@@ -1,7 +1,7 @@
 //! Pages are read once where there is a cache (`page_store`).
 
 use crate::disks::table_disk;
-use page_store::{PageStore, Pages};
+use page_store::{PageFault, PageStore, Pages};
 use sector_disk::{DiskFault, SectorDisk};
 use std::alloc::Global;
 use std::test::Fail;
@@ -37,24 +37,30 @@ impl<D: SectorDisk> SectorDisk for CountedDisk<D> {
     }
 }
 
-/// How many reads a disk has seen as a store with a cache of so many pages was opened on it, page 1 marked and the store
-/// sealed, and this page then read so many times.
-fn reads_of(alloc: Global, cached: usize, times: u64) -> Result<u64, Fail> {
-    let disk = CountedDisk {
-        inner: table_disk(alloc, 128, &[7; 512])?,
-        reads: 0,
-    };
-    let mut pages = match PageStore::open_with_cache(alloc, disk, cached.min(64)) {
-        Ok(pages) => pages,
-        Err(refused) => return Err(refused.fault.into()),
-    };
+/// Marks page 1, seals the store, and reads this page so many times.
+fn read_often<P: Pages>(pages: &mut P, times: u64) -> Result<(), PageFault> {
     pages.mark(1)?;
     pages.seal();
     let mut bytes = [0; 4096];
     for _ in 0..times {
         pages.read_page(1, &mut bytes)?;
     }
-    Ok(pages.into_disk().reads)
+    Ok(())
+}
+
+/// How many reads a disk has seen as a store with a cache of so many pages was opened on it, page 1 marked and the store
+/// sealed, and this page then read so many times.
+fn reads_of(alloc: Global, cached: usize, times: u64) -> Result<u64, Fail> {
+    let inner = table_disk(alloc, 128, &[7; 512])?;
+    let disk = CountedDisk { inner, reads: 0 };
+    match PageStore::open_with_cache(alloc, disk, cached.min(64)) {
+        Ok(pages) => {
+            let mut pages = pages;
+            read_often(&mut pages, times)?;
+            Ok(pages.into_disk().reads)
+        }
+        Err(refused) => Err(refused.fault.into()),
+    }
 }
 
 #[test]

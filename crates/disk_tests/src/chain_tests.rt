@@ -28,12 +28,18 @@ fn content_of(alloc: Global, size: usize) -> Result<Vec<u8>, AllocError> {
     Ok(content)
 }
 
+/// Commits this content in a chain, and answers its first page.
+fn put<P: Pages>(alloc: Global, store: &mut P, content: &[u8]) -> Result<u32, PageFault> {
+    let first = write_chain(alloc, store, content)?.first().copied();
+    commit(store, 8)?;
+    Ok(first.unwrap_or(0))
+}
+
 /// A disk of 20 pages with this content in a chain, and its first page.
 fn written(alloc: Global, content: &[u8]) -> Result<(MemDisk, u32), Fail> {
     let mut store = sealed(alloc, disk_of(alloc, TWENTY)?)?;
-    let pages = write_chain(alloc, &mut store, content)?;
-    commit(&mut store, 8)?;
-    Ok((store.into_disk(), pages.first().copied().unwrap_or(0)))
+    let first = put(alloc, &mut store, content)?;
+    Ok((store.into_disk(), first))
 }
 
 /// What is read from the disk, which is opened first.
@@ -73,19 +79,24 @@ fn two_free(alloc: Global) -> Result<PageStore<MemDisk>, Fail> {
     Ok(store)
 }
 
-/// The first bytes of both pages of a chain, whether the last is zero behind them, and which page is the last.
-fn two_pages<P: Pages>(alloc: Global, store: &mut P) -> Result<([[u8; 8]; 2], bool, u32), Fail> {
+/// The pages of a chain that takes two.
+fn pages_of_two<P: Pages>(alloc: Global, store: &mut P) -> Result<(u32, u32), Fail> {
     let mut content = [1; PAYLOAD + 2];
     content[PAYLOAD] = 9;
     content[PAYLOAD + 1] = 8;
-    let pages = write_chain(alloc, store, &content)?;
-    let [first, second] = pages.as_slice() else {
-        return Err("so much content takes two pages".into());
-    };
-    let naming = bytes_of(store, *first)?;
-    let named = bytes_of(store, *second)?;
+    match write_chain(alloc, store, &content)?.as_slice() {
+        [first, second] => Ok((*first, *second)),
+        _ => Err("so much content takes two pages".into()),
+    }
+}
+
+/// The first bytes of both pages of a chain, whether the last is zero behind them, and which page is the last.
+fn two_pages<P: Pages>(alloc: Global, store: &mut P) -> Result<([[u8; 8]; 2], bool, u32), Fail> {
+    let (first, second) = pages_of_two(alloc, store)?;
+    let naming = bytes_of(store, first)?;
+    let named = bytes_of(store, second)?;
     let zero = named[8..].iter().all(|byte| *byte == 0);
-    Ok(([head_of(&naming), head_of(&named)], zero, *second))
+    Ok(([head_of(&naming), head_of(&named)], zero, second))
 }
 
 /// The first bytes of a page.
@@ -97,7 +108,9 @@ fn head_of(page: &[u8; 4096]) -> [u8; 8] {
 
 #[test]
 fn a_page_names_the_next_in_its_first_four_bytes(rt: HostRuntime) -> Result<(), Fail> {
-    let (heads, zero, second) = two_pages(rt.alloc(), &mut two_free(rt.alloc())?)?;
+    let mut store = two_free(rt.alloc())?;
+    let (heads, zero, second) = two_pages(rt.alloc(), &mut store)?;
+    drop(store);
     // 257 is 256 + 1, and 258 is 256 + 2.
     let number = if second == 257 { 1 } else { 2 };
     let wanted = [[0, 0, 1, number, 1, 1, 1, 1], [0, 0, 0, 0, 9, 8, 0, 0]];

@@ -328,24 +328,35 @@ fn written(rt: &HostRuntime, script: Script) -> Result<Vec<u8>, Fail> {
     Ok(fs::read(rt, PATH)?)
 }
 
+/// What is in that file after the scripts of a row: its bytes behind the second, where the first and the third are of a disk that may
+/// only be read.
+fn scripted(rt: &HostRuntime, row: &FileRow) -> Result<Vec<u8>, Fail> {
+    let [first, second, third] = row.scripts;
+    let mut disk = made(rt, row.length, row.byte)?;
+    run(&mut disk, first)?;
+    let before = written(rt, second)?;
+    match run(&mut disk, third) {
+        Ok(()) => Ok(before),
+        Err(fail) => Err(fail),
+    }
+}
+
+/// Expects of the scripts of a row that the file has its bytes behind the second, and keeps them.
+fn expect_kept(rt: &HostRuntime, row: &FileRow) -> Result<(), Fail> {
+    let before = scripted(rt, row)?;
+    let same = row
+        .bytes
+        .iter()
+        .all(|(at, byte)| before.get(*at) == Some(byte));
+    let length = before.len();
+    let kept = fs::read(rt, PATH)? == before;
+    expect((length, kept, same), (row.length, true, true), row.length)
+}
+
 #[test]
 fn a_file_becomes_a_table_and_keeps_it(rt: HostRuntime) -> Result<(), Fail> {
     for row in FILES {
-        let [first, second, third] = row.scripts;
-        let mut disk = made(&rt, row.length, row.byte)?;
-        run(&mut disk, first)?;
-        let before = written(&rt, second)?;
-        run(&mut disk, third)?;
-        let kept = fs::read(&rt, PATH)? == before;
-        let same = row
-            .bytes
-            .iter()
-            .all(|(at, byte)| before.get(*at) == Some(byte));
-        expect(
-            (before.len(), kept, same),
-            (row.length, true, true),
-            row.length,
-        )?;
+        expect_kept(&rt, &row)?;
     }
     Ok(fs::remove_file(&rt, PATH)?)
 }

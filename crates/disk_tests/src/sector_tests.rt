@@ -377,18 +377,28 @@ fn taken(rt: &HostRuntime) -> std::io::Result<Vec<u8>> {
     Ok(bytes)
 }
 
+/// Runs the script of a row on the disk of its file, which is cut first, and answers the bytes of the file.
+fn scripted(rt: &HostRuntime, row: &FileRow) -> Result<Vec<u8>, Fail> {
+    let mut disk = made(rt, row)?;
+    writable(rt, PATH)?.set_len(row.cut)?;
+    run(&mut disk, row.script)?;
+    Ok(taken(rt)?)
+}
+
+/// Expects of the file of a row, once its script was run, its length and its bytes.
+fn expect_file(rt: &HostRuntime, row: &FileRow) -> Result<(), Fail> {
+    let bytes = scripted(rt, row)?;
+    let same = row
+        .bytes
+        .iter()
+        .all(|(at, byte)| bytes.get(*at) == Some(byte));
+    expect((bytes.len() as u64, same), (row.cut, true), row.length)
+}
+
 #[test]
 fn a_file_has_whole_sectors_and_tells_what_fails(rt: HostRuntime) -> Result<(), Fail> {
     for row in FILES {
-        let mut disk = made(&rt, &row)?;
-        writable(&rt, PATH)?.set_len(row.cut)?;
-        run(&mut disk, row.script)?;
-        let bytes = taken(&rt)?;
-        let same = row
-            .bytes
-            .iter()
-            .all(|(at, byte)| bytes.get(*at) == Some(byte));
-        expect((bytes.len() as u64, same), (row.cut, true), row.length)?;
+        expect_file(&rt, &row)?;
     }
     Ok(())
 }

@@ -3,6 +3,7 @@
 use crate::disks::{all_over, byte_of, commit, let_go, opened, table_disk, write_new};
 use page_store::{PageFault, PageStore, Pages};
 use sector_disk::{MemDisk, SectorDisk};
+use std::alloc::Global;
 use std::test::Fail;
 use test_aids::expect;
 
@@ -214,12 +215,17 @@ const SCRIPTS: [&[(Deed, Answer)]; 6] = [
     ],
 ];
 
+/// Does each deed of a script on a store that was just opened, on a disk of so many sectors.
+fn run_on(alloc: Global, sectors: u64, script: &[(Deed, Answer)]) -> Result<(), Fail> {
+    let mut pages = opened(alloc, table_disk(alloc, sectors, &[7; 512])?)?;
+    run(&mut pages, script)
+}
+
 #[test]
 fn pages_are_handed_out_kept_and_freed(rt: HostRuntime) -> Result<(), Fail> {
     for sectors in [128, 135] {
         for script in SCRIPTS {
-            let disk = table_disk(rt.alloc(), sectors, &[7; 512])?;
-            run(&mut opened(rt.alloc(), disk)?, script)?;
+            run_on(rt.alloc(), sectors, script)?;
         }
     }
     Ok(())

@@ -87,6 +87,19 @@ fn expect_bytes(
     expect_fields(&again, fields, "the bytes")
 }
 
+/// Expects of the text of a position of takes these fields and these bytes.
+fn expect_position(
+    alloc: Global,
+    packing: &Packing,
+    text: &str,
+    fields: (Role, u16, &[u32]),
+    bytes: &[u8],
+) -> Result<(), Fail> {
+    let at = position(alloc, TAKE, text.as_bytes())?.ok_or("no position")?;
+    expect_fields(&at, fields, text)?;
+    expect_bytes(packing, &at, fields, bytes)
+}
+
 /// Expects of these texts of positions the fields and the bytes beside them.
 fn expect_positions(
     alloc: Global,
@@ -94,9 +107,7 @@ fn expect_positions(
 ) -> Result<(), Fail> {
     let packing = packing(alloc, PackingKind::Bytes)?;
     for (text, fields, bytes) in rows {
-        let at = position(alloc, TAKE, text.as_bytes())?.ok_or("no position")?;
-        expect_fields(&at, *fields, text)?;
-        expect_bytes(&packing, &at, *fields, bytes)?;
+        expect_position(alloc, &packing, text, *fields, bytes)?;
     }
     Ok(())
 }
@@ -148,9 +159,7 @@ const POSITIONS_BY_BITS: [(&str, (Role, u16, &[u32]), [u8; 2]); 5] = [
 fn a_position_has_its_bytes_by_bits(rt: HostRuntime) -> Result<(), Fail> {
     let packing = packing(rt.alloc(), PackingKind::Bits)?;
     for (text, fields, bytes) in &POSITIONS_BY_BITS {
-        let at = position(rt.alloc(), TAKE, text.as_bytes())?.ok_or("no position")?;
-        expect_fields(&at, *fields, text)?;
-        expect_bytes(&packing, &at, *fields, bytes)?;
+        expect_position(rt.alloc(), &packing, text, *fields, bytes)?;
     }
     Ok(())
 }

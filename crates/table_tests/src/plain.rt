@@ -47,6 +47,28 @@ fn places(alloc: Global, found: &mut Vec<Packed>, moves: &[Packed]) -> Result<Ve
     Ok(places)
 }
 
+/// A position with what the game says of it. Where its moves lead is found then.
+fn node_of(
+    alloc: Global,
+    source: &Compiled,
+    found: &mut Vec<Packed>,
+    packed: Packed,
+) -> Result<Node, Fail>
+    requires { IsSoundCompiled source.now }
+{
+    let moves = source.successors(alloc, &packed)?;
+    let moves = places(alloc, found, &moves)?;
+    let mover = source.mover(&packed);
+    let ahead = source.ahead(&packed);
+    Ok(Node {
+        packed,
+        mover,
+        ahead,
+        moves,
+        outcome: (None, 0),
+    })
+}
+
 /// All positions that play can come to, no more than 1,000.
 fn explore(alloc: Global, source: &Compiled) -> Result<Vec<Node>, Fail>
     requires { IsSoundCompiled source.now }
@@ -59,17 +81,7 @@ fn explore(alloc: Global, source: &Compiled) -> Result<Vec<Node>, Fail>
             return Ok(nodes);
         };
         let packed = packed.clone()?;
-        let moves = source.successors(alloc, &packed)?;
-        let moves = places(alloc, &mut found, &moves)?;
-        let mover = source.mover(&packed);
-        let ahead = source.ahead(&packed);
-        nodes.push(Node {
-            packed,
-            mover,
-            ahead,
-            moves,
-            outcome: (None, 0),
-        })?;
+        nodes.push(node_of(alloc, source, &mut found, packed)?)?;
     }
     Err("more than 1,000 positions".into())
 }

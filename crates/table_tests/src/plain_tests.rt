@@ -36,12 +36,18 @@ fn plain(alloc: Global, source: &Source) -> Result<Vec<Node>, Fail> {
     solve(alloc, source.moves())
 }
 
-/// Whether the finished table of a game has the positions and the values that the plain solver finds, by this packing.
+/// Whether the table of a game, once it is worked to its end, has the positions and the values that the plain solver finds.
+fn is_solved<T: Table>(alloc: Global, source: &Source, table: &mut T) -> Result<bool, Fail> {
+    works(alloc, source.moves(), table, u32::MAX)?;
+    expect_audited(alloc, source.moves(), table)?;
+    let nodes = plain(alloc, source)?;
+    has_all(table, &nodes)
+}
+
+/// Whether it has them by this packing.
 fn agrees_by(alloc: Global, text: &str, kind: PackingKind) -> Result<bool, Fail> {
     let Solving { source, mut table } = begun_by(alloc, text, kind)?;
-    works(alloc, source.moves(), &mut table, u32::MAX)?;
-    expect_audited(alloc, source.moves(), &mut table)?;
-    has_all(&mut table, &plain(alloc, &source)?)
+    is_solved(alloc, &source, &mut table)
 }
 
 /// Whether it has them by either packing.

@@ -2,6 +2,7 @@
 use crate::games::source_of;
 use game_table::Source;
 use position_pack::PackingKind;
+use std::alloc::Global;
 use std::test::Fail;
 use test_aids::{TAKE, expect};
 
@@ -16,10 +17,15 @@ fn expect_bytes(source: &Source, want: &[u8]) -> Result<(), Fail> {
     )
 }
 
+/// Expects these bytes of the position of takes, by this packing.
+fn expect_packed(alloc: Global, kind: PackingKind, want: &[u8]) -> Result<(), Fail> {
+    let source = source_of(alloc, TAKE, kind)?;
+    expect_bytes(&source, want)
+}
+
 #[test]
 fn a_position_has_its_bytes(rt: HostRuntime) -> Result<(), Fail> {
-    let by_bytes = source_of(rt.alloc(), TAKE, PackingKind::Bytes)?;
-    expect_bytes(&by_bytes, &[0, 0, 0, 0, 0, 0, 0, 0, 0, 3, 0, 0, 0, 2])?;
-    let by_bits = source_of(rt.alloc(), TAKE, PackingKind::Bits)?;
-    expect_bytes(&by_bits, &[0x30, 0x80])
+    let bytes = [0, 0, 0, 0, 0, 0, 0, 0, 0, 3, 0, 0, 0, 2];
+    expect_packed(rt.alloc(), PackingKind::Bytes, &bytes)?;
+    expect_packed(rt.alloc(), PackingKind::Bits, &[0x30, 0x80])
 }

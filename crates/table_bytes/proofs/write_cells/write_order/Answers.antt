@@ -1,7 +1,9 @@
-use Rattle.std.proofs.Common.{◌≡◌, ◌∙◌, subst, List, ℕ, slice_get, Some}
+use Rattle.std.proofs.Common.{◌≡◌, ◌≤◌, ◌∙◌, refl, sym, ap, subst, List, ℕ, length, slice_get, Some, arith}
+use Rattle.retrograde.specs.declared.records.Counts.{Counts}
 use Rattle.retrograde.specs.Stored.{Stored}
 use Rattle.record_bytes.specs.Bytes.{IsNumber}
-use Rattle.table_bytes.proofs.WritingLemmas.{writes_next}
+use Rattle.table_bytes.specs.aid.Writing.{Writes}
+use Rattle.table_bytes.proofs.WritingLemmas.{writes_none, writes_next, take_all}
 use Rattle.table_bytes.proofs.write_cells.write_order.Goals as goal
 
 pub loop-place-preserved : goal.loop-place-preserved
@@ -19,3 +21,24 @@ loop-place-preserved g c =
           (subst (λ (s : Stored (List ℕ)). slice_get s.order c.loop-place.place ≡ Some c.in_ok-number.number) (before.same h) (read.number (before.honest.0 h)))
           c.in_ok-write_number.ensures.bytes;
     }
+
+pub loop-place-init : goal.loop-place-init
+loop-place-init g c = record {
+  counts = refl;
+  stays = g.met.T.Table.stays_here _;
+  honest = (λ h. h, λ h. h);
+  same = λ h. refl;
+  written = λ h. writes_none IsNumber c.args.bytes.now.items;
+}
+
+pub returns-in_err-number-clause-stays : goal.returns-in_err-number-clause-stays
+returns-in_err-number-clause-stays g c =
+    g.met.T.Table.stays_then _ _ _ c.loop-place.invariant.stays c.in_err-number.ensures.stays
+
+pub returns-clause-order : goal.returns-clause-order
+returns-clause-order g c = λ honest.
+    let stored = g.T.Table.stored c.args.table.now in
+    let count = ap (λ (k : Counts). k.settled) (c.counts-place-end.ensures ∙ g.met.T.Table.counts_are c.args.table.now honest) in
+    let all : length stored.order ≤ c.loop-place.place = omega (arith, count, c.loop-place-test.false) in
+    subst (λ (zs : List ℕ). Writes IsNumber zs c.args.bytes.now.items c.loop-place.bytes.items)
+    (take_all stored.order c.loop-place.place all) (c.loop-place.invariant.written honest)
