@@ -341,22 +341,20 @@ fn scripted(rt: &HostRuntime, row: &FileRow) -> Result<Vec<u8>, Fail> {
     }
 }
 
-/// Expects of the scripts of a row that the file has its bytes behind the second, and keeps them.
-fn expect_kept(rt: &HostRuntime, row: &FileRow) -> Result<(), Fail> {
-    let before = scripted(rt, row)?;
-    let same = row
-        .bytes
-        .iter()
-        .all(|(at, byte)| before.get(*at) == Some(byte));
-    let length = before.len();
-    let kept = fs::read(rt, PATH)? == before;
-    expect((length, kept, same), (row.length, true, true), row.length)
-}
-
 #[test]
 fn a_file_becomes_a_table_and_keeps_it(rt: HostRuntime) -> Result<(), Fail> {
     for row in FILES {
-        expect_kept(&rt, &row)?;
+        let before = scripted(&rt, &row)?;
+        let kept = fs::read(&rt, PATH)? == before;
+        let same = row
+            .bytes
+            .iter()
+            .all(|(at, byte)| before.get(*at) == Some(byte));
+        expect(
+            (before.len(), kept, same),
+            (row.length, true, true),
+            row.length,
+        )?;
     }
     Ok(fs::remove_file(&rt, PATH)?)
 }
