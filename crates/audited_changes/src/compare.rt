@@ -70,11 +70,23 @@ fn are_alike(
     Ok(tally.right > 0 && tally.right < tally.opened)
 }
 
+/// Whether each change of the table of this game after so many units, the first of each so many, is judged alike; and how many
+/// positions that table knows.
+fn are_alike_after(
+    rt: &HostRuntime,
+    text: &[u8],
+    source: &Source,
+    units: u32,
+    step: usize,
+) -> anyhow::Result<(bool, u32)> {
+    let parts = worked(rt.alloc(), source, units)?;
+    let known = u32::try_from(parts.records.len())?;
+    Ok((are_alike(rt, text, source, &parts, step)?, known))
+}
+
 /// Whether each change of the finished table of this game, and of the table worked half as far, is judged alike.
 pub fn compare(rt: &HostRuntime, alloc: Global, text: &[u8], step: usize) -> anyhow::Result<bool> {
     let source = Source::read(alloc, text, PackingKind::Bits)?;
-    let whole = worked(alloc, &source, ALL_UNITS)?;
-    let known = u32::try_from(whole.records.len())?;
-    let half = worked(alloc, &source, known / 2)?;
-    Ok(are_alike(rt, text, &source, &whole, step)? && are_alike(rt, text, &source, &half, step)?)
+    let (whole, known) = are_alike_after(rt, text, &source, ALL_UNITS, step)?;
+    Ok(whole && are_alike_after(rt, text, &source, known / 2, step)?.0)
 }

@@ -8,7 +8,11 @@ mod chain_tests;
 #[cfg(test)]
 mod disks;
 #[cfg(test)]
+mod file_tests;
+#[cfg(test)]
 mod root_tests;
+#[cfg(test)]
+mod scripts;
 #[cfg(test)]
 mod sector_tests;
 #[cfg(test)]

@@ -1,5 +1,5 @@
 //! Where moves lead, and who is ahead.
-ghost use Rattle.std.specs.Prelude.{◌≡◌, ◌<◌, Some, Err, IfOk, IfSome, length, map, option_map, slice_get};
+ghost use Rattle.std.specs.Prelude.{◌≡◌, ◌<◌, Some, Err, IfOk, IfSome, IsOk, length, map, option_map, slice_get};
 ghost use Rattle.rbg_game.specs.Positions.{IsPositionOf};
 ghost use Rattle.legal_moves.specs.Compiled.{compiled_game};
 ghost use Rattle.legal_moves.specs.Listed.{IsShortestMove, ListsExactly, ShownMove};
@@ -41,6 +41,18 @@ pub fn successors_or_wide<S: MoveSource>(
     ensures { result ≡ Err MoveFault.TooWide → S.is_wide source.now from.now.items }
 {
     source.successors(alloc, from)
+}
+
+/// `narrow` of `MoveSource::successors`.
+pub fn narrow_successors<S: MoveSource>(
+    source: &S,
+    alloc: Global,
+    place: &Packed,
+) -> Result<Vec<Packed>, MoveFault>
+    requires { S.is_sound source.now }
+    ensures { IsOk result → ¬ S.is_wide source.now place.now.items }
+{
+    source.successors(alloc, place)
 }
 
 /// `shortest` of `Compiled::moves`, as the clause of `Moves::word` shows it of the first move.

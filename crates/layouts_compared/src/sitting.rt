@@ -41,15 +41,55 @@ where
     F::Device: Drop,
 {
     let mut said = Vec::new(alloc);
+    let loaded = loaded::<F>(alloc, text, pages)?;
+    let worked = worked(alloc, loaded, &mut said, most, pages)?;
+    told_at_end(alloc, worked, said)
+}
+
+/// A new table with the game of this text and so many pages in memory.
+fn loaded<F: Layout + Drop>(
+    alloc: Global,
+    text: &[u8],
+    pages: usize,
+) -> anyhow::Result<FileSolver<F>>
+where
+    F::Device: Drop,
+{
     let mut solver = begun::<F>(alloc, pages)?;
     solver.load(text)?;
+    Ok(solver)
+}
+
+/// Does up to so many units of work, and asks on the way. The table is stopped and opened now and then.
+fn worked<F: Layout + Drop>(
+    alloc: Global,
+    mut solver: FileSolver<F>,
+    said: &mut Vec<u8>,
+    most: u32,
+    pages: usize,
+) -> anyhow::Result<FileSolver<F>>
+where
+    F::Device: Drop,
+{
     for first in (0..most).step_by(COMMANDS) {
-        some_steps(alloc, &mut solver, &mut said, first, most)?;
+        some_steps(alloc, &mut solver, said, first, most)?;
         solver = opened(alloc, F::stopped(alloc, solver.close())?, pages)?;
         if is_done(solver.status(), most) {
             break;
         }
     }
+    Ok(solver)
+}
+
+/// Asks all that can be asked, and closes the table.
+fn told_at_end<F: Layout + Drop>(
+    alloc: Global,
+    mut solver: FileSolver<F>,
+    mut said: Vec<u8>,
+) -> anyhow::Result<Told<F::Device>>
+where
+    F::Device: Drop,
+{
     let known = known_of(solver.status());
     ask_all(alloc, &mut solver, &mut said, known)?;
     let is_right = solver.audit()? == Verdict::Right;

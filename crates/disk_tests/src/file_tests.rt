@@ -1,0 +1,186 @@
+//! What files answer as disks (`FileDisk`), and the bytes that are in them then.
+
+use crate::disks::{file_disk, writable};
+use crate::scripts::{Answer, Deed, Script, run};
+use Answer::{Count, Done, Fault, Halves};
+use Deed::{Read, Sectors, Sync, Write};
+use sector_disk::FileDisk;
+use std::fs;
+use std::fs::File;
+use std::test::Fail;
+use test_aids::expect;
+
+/// A file that is used as a disk.
+#[derive(Clone, Copy, Drop)]
+struct FileRow {
+    /// It is made of so many of this byte.
+    length: usize,
+    byte: u8,
+    read_only: bool,
+    /// It has this length once the disk is made of it.
+    cut: u64,
+    script: Script,
+    /// Some of its bytes at the end.
+    bytes: &'static [(usize, u8)],
+}
+
+const FILES: [FileRow; 6] = [
+    // A file of odd length has its whole sectors.
+    FileRow {
+        length: 1100,
+        byte: 1,
+        read_only: false,
+        cut: 1100,
+        script: &[
+            (Sectors, Count(2)),
+            (Read(1), Halves(1, 1)),
+            (Write(1, 7), Done),
+            (Sync, Done),
+            (Read(1), Halves(7, 7)),
+            (Write(1, 9), Done),
+            (Read(1), Halves(9, 9)),
+        ],
+        bytes: &[(511, 1), (512, 9), (1023, 9), (1024, 1)],
+    },
+    // What is written is read again, also where its page was read before; the last page is one sector.
+    FileRow {
+        length: 5000,
+        byte: 2,
+        read_only: false,
+        cut: 5000,
+        script: &[
+            (Sectors, Count(9)),
+            (Read(0), Halves(2, 2)),
+            (Write(3, 7), Done),
+            (Read(3), Halves(7, 7)),
+            (Read(4), Halves(2, 2)),
+            (Write(4, 8), Done),
+            (Write(7, 6), Done),
+            (Read(8), Halves(2, 2)),
+            (Write(8, 9), Done),
+            (Read(7), Halves(6, 6)),
+            (Read(4), Halves(8, 8)),
+            (Read(8), Halves(9, 9)),
+        ],
+        bytes: &[
+            (1535, 2),
+            (1536, 7),
+            (2048, 8),
+            (2560, 2),
+            (3584, 6),
+            (4096, 9),
+            (4607, 9),
+            (4608, 2),
+        ],
+    },
+    // An empty one has none.
+    FileRow {
+        length: 0,
+        byte: 0,
+        read_only: false,
+        cut: 0,
+        script: &[(Sectors, Count(0)), (Sync, Done)],
+        bytes: &[],
+    },
+    // Sectors that follow one another are in the file once a page ends with one of them, and others at the next read or sync.
+    FileRow {
+        length: 8192,
+        byte: 2,
+        read_only: false,
+        cut: 8192,
+        script: &[
+            (Write(3, 5), Done),
+            (Write(13, 7), Done),
+            (Write(14, 8), Done),
+            (Write(15, 9), Done),
+            (Write(0, 6), Done),
+            (Write(1, 6), Done),
+        ],
+        bytes: &[
+            (511, 2),
+            (1024, 2),
+            (1536, 5),
+            (2048, 2),
+            (6655, 2),
+            (6656, 7),
+            (7168, 8),
+            (7680, 9),
+            (8191, 9),
+        ],
+    },
+    // One that is read only fails as soon as what was written goes to the file, and again.
+    FileRow {
+        length: 1024,
+        byte: 4,
+        read_only: true,
+        cut: 1024,
+        script: &[
+            (Sectors, Count(2)),
+            (Read(1), Halves(4, 4)),
+            (Write(1, 5), Done),
+            (Sync, Fault),
+            (Read(1), Fault),
+            (Write(0, 5), Fault),
+        ],
+        bytes: &[(512, 4)],
+    },
+    // One that was cut fails at reads.
+    FileRow {
+        length: 1024,
+        byte: 4,
+        read_only: false,
+        cut: 700,
+        script: &[
+            (Sectors, Count(2)),
+            (Read(0), Halves(4, 4)),
+            (Read(1), Fault),
+        ],
+        bytes: &[(699, 4)],
+    },
+];
+
+/// The file that these tests use.
+const PATH: &str = "sectors.disk";
+
+/// The disk of a row's file, which is made first.
+fn made(rt: &HostRuntime, row: FileRow) -> Result<FileDisk, Fail> {
+    let bytes = vec![in rt.alloc(); row.byte; row.length]?;
+    fs::write(rt, PATH, bytes.as_slice())?;
+    if row.read_only {
+        return Ok(FileDisk::new(File::open(rt, PATH)?)?);
+    }
+    file_disk(rt, PATH)
+}
+
+/// The bytes of that file, which is removed then.
+fn taken(rt: &HostRuntime) -> std::io::Result<Vec<u8>> {
+    let bytes = fs::read(rt, PATH)?;
+    fs::remove_file(rt, PATH)?;
+    Ok(bytes)
+}
+
+/// Runs the script of a row on the disk of its file, which is cut first, and answers the bytes of the file.
+fn scripted(rt: &HostRuntime, row: FileRow) -> Result<Vec<u8>, Fail> {
+    let mut disk = made(rt, row)?;
+    writable(rt, PATH)?.set_len(row.cut)?;
+    run(&mut disk, row.script)?;
+    Ok(taken(rt)?)
+}
+
+/// Expects of the file of a row, once its script was run, its length and its bytes.
+fn expect_file(rt: &HostRuntime, row: FileRow) -> Result<(), Fail> {
+    let bytes = scripted(rt, row)?;
+    let same = row
+        .bytes
+        .iter()
+        .all(|(at, byte)| bytes.get(*at) == Some(byte));
+    expect((bytes.len() as u64, same), (row.cut, true), row.length)
+}
+
+#[test]
+fn a_file_has_whole_sectors_and_tells_what_fails(rt: HostRuntime) -> Result<(), Fail> {
+    for row in FILES {
+        expect_file(&rt, row)?;
+    }
+    Ok(())
+}
