@@ -5,4 +5,5 @@
 #![tactic(auto)]
 
 pub mod files;
+pub mod records;
 pub mod tables;

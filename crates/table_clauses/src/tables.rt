@@ -1,10 +1,10 @@
 //! A table, whichever it is.
 ghost use Rattle.std.specs.Prelude.{◌≡◌, ◌<◌, Some, IfOk, IfSome, OnOk, slice_get};
 ghost use Rattle.retrograde.specs.Changes.{counts_of, with_edge, with_settled};
-ghost use Rattle.retrograde.specs.Stored.{HasRecord};
+ghost use Rattle.retrograde.specs.Stored.{is_processed, HasRecord};
 
 use position_pack::Packed;
-use retrograde::{Counts, Record};
+use retrograde::{Counts, Record, State};
 use table::{Table, TableFault};
 
 /// The clause of `Table::counts`, by the law `counts_are` of an honest table.
@@ -49,4 +49,11 @@ pub fn push_settled<T: Table>(table: &mut T, number: u32) -> Result<(), TableFau
     ensures { OnOk result (T.stored table.new ≡ with_settled (T.stored table.old) number) }
 {
     table.push_settled(number)
+}
+
+/// The clause of `State::is_processed`.
+pub fn is_processed(state: State) -> bool
+    ensures { result ≡ is_processed state }
+{
+    state.is_processed()
 }

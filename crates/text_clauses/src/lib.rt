@@ -1,8 +1,10 @@
-//! Public calls of the crates that read texts, each under one clause of its contract, which it meets by calling it.
+//! Public calls that read texts, and positions as bytes or texts, each under one clause of its contract, which it meets by calling it.
 //!
 //! The edits put a wrong body in the place of the call. Whatever meets the whole contract of a call meets this one clause, so that a body
 //! which is refused here is refused by that contract.
 #![tactic(auto)]
 
 pub mod games;
+pub mod positions;
 pub mod texts;
+pub mod values;

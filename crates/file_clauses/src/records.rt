@@ -1,0 +1,13 @@
+//! The record that a table in a file keeps of a position, as bytes.
+ghost use Rattle.std.specs.Prelude.{◌≡◌, length, IfSome};
+ghost use Rattle.record_bytes.specs.Bytes.{IsRecord};
+
+use retrograde::Record;
+
+/// `some` of `read_record`.
+pub fn read_record(bytes: &[u8]) -> Option<Record>
+    requires { length bytes.now ≡ 16 }
+    ensures { IfSome result (IsRecord bytes.now) }
+{
+    record_bytes::read_record(bytes)
+}
