@@ -4,7 +4,7 @@ use audit::Verdict;
 use game_file::GameFile;
 use page_store::PageStore;
 use position_pack::{Packed, PackingKind};
-use recover::{Solver, SolverFault};
+use recover::{FileSolver, SolverFault};
 use retrograde::Record;
 use sector_disk::MemDisk;
 use std::alloc::Global;
@@ -100,14 +100,26 @@ fn disk_of(alloc: Global, text: &[u8], parts: &Parts) -> anyhow::Result<Option<M
     }
 }
 
-/// What the audit answers of these parts in a file, if the file is opened.
-pub fn audited(alloc: Global, text: &[u8], parts: &Parts) -> anyhow::Result<Option<Verdict>> {
-    let Some(disk) = disk_of(alloc, text, parts)? else {
-        return Ok(None);
-    };
-    match Solver::open(alloc, disk) {
-        Ok(mut solver) => Ok(Some(solver.audit()?)),
+/// What the audit answers of the table on this disk, if the file is opened.
+fn verdict_on<F: GameFile>(alloc: Global, disk: F::Device) -> anyhow::Result<Option<Verdict>>
+where
+    F::Device: Drop,
+{
+    match FileSolver::<F>::open(alloc, disk) {
+        Ok(mut solver) => {
+            let verdict = solver.audit();
+            let _disk = solver.close();
+            Ok(Some(verdict?))
+        }
         Err(refused) if refused.fault == SolverFault::Damaged => Ok(None),
         Err(refused) => Err(refused.fault.into()),
+    }
+}
+
+/// What the audit answers of these parts in a file, if the file is opened.
+pub fn audited(alloc: Global, text: &[u8], parts: &Parts) -> anyhow::Result<Option<Verdict>> {
+    match disk_of(alloc, text, parts)? {
+        Some(disk) => verdict_on::<File>(alloc, disk),
+        None => Ok(None),
     }
 }

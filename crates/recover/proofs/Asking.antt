@@ -33,9 +33,11 @@ use Rattle.audit.specs.declared.fault.AuditFault.TheVariants as audits
 use Rattle.audit.specs.declared.verdict.Verdict.{Verdict}
 use Rattle.recover.specs.Audits.{HasVerdict, IsSoInGame, HasWidePosition, AuditCause}
 use Rattle.recover.specs.Faults.{line_fault, table_fault, audit_fault}
+use Rattle.recover.specs.declared.fault.SolverFault.{SolverFault}
+use Rattle.recover.specs.declared.fault.SolverFault.TheVariants as solver
 use Rattle.recover.specs.Held.{IsSound}
 use Rattle.recover.specs.State.{IsMadeOf}
-use Rattle.recover.specs.Queries.{OfKept, IsThere, HasValueAt, HasRows, HasLine, HasText, IsOfUnknown, IsOfNone, AskCause, NumberCause, LineCause, ShowCause}
+use Rattle.recover.specs.Queries.{OfKept, IsThere, HasValueAt, HasRows, HasLine, HasText, IsOfUnknown, IsOfNone, AskCause, NumberCause, LineCause, ShowCause, FindCause}
 use Rattle.recover.proofs.Working.{of_any, sound_here}
 
 -- what an answer has in it
@@ -163,6 +165,33 @@ module _ (old new : State) where
   ask_cause table.TableFull no_page cause = no_page refl
   ask_cause table.OutOfMemory no_page cause = tt
   ask_cause table.Closed no_page cause = cause
+
+  pub find_cause : (text : List ℕ) (fault : TableFault) → NeedsNoPage fault → FileTableCause old new fault → FindCause text old new (table_fault fault)
+  find_cause text table.Disk no_page cause = cause
+  find_cause text table.Damaged no_page cause = cause
+  find_cause text table.TableFull no_page cause = absurd (no_page refl)
+  find_cause text table.OutOfMemory no_page cause = tt
+  find_cause text table.Closed no_page cause = cause
+
+  -- why no question can be asked is why this one is not answered
+  pub find_asked : (text : List ℕ) (fault : SolverFault) → AskCause old new fault → FindCause text old new fault
+  find_asked text solver.NoSuchPosition cause = absurd cause
+  find_asked text solver.BadPosition cause = absurd cause
+  find_asked text fault cause = cause
+
+  pub audit_asked : (fault : SolverFault) → AskCause old new fault → AuditCause old new fault
+  audit_asked solver.TooWide cause = absurd cause
+  audit_asked fault cause = cause
+
+  pub line_numbered : (number : ℕ) (fault : SolverFault) → NumberCause number old new fault → LineCause number old new fault
+  line_numbered number solver.NotSettled cause = absurd cause
+  line_numbered number solver.Inconsistent cause = absurd cause
+  line_numbered number solver.TooWide cause = absurd cause
+  line_numbered number fault cause = cause
+
+  pub show_numbered : (number : ℕ) (fault : SolverFault) → NumberCause number old new fault → ShowCause number old new fault
+  show_numbered number solver.Inconsistent cause = absurd cause
+  show_numbered number fault cause = cause
 
   pub number_cause : (number : ℕ) (fault : TableFault) → NeedsNoPage fault → FileTableCause old new fault → NumberCause number old new (table_fault fault)
   number_cause number table.Disk no_page cause = cause

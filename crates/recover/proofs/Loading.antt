@@ -63,6 +63,13 @@ same_source (Some s) None new is packed it = absurd it
 same_source (Some s) (Some k) None is packed it = absurd (cc)
 same_source (Some s) (Some k) (Some l) is packed it = source_of_text s (Some l) k.text k.packing is packed it.reads it.packing
 
+-- what is so of a start by one packing is so by another that is the same
+pub start_by : (kind other : PackingKind) (game : Game) (start : List ℕ) → kind ≡ other → start ≡ (graph_of kind game).start → start ≡ (graph_of other game).start
+start_by kind other game start is it = subst (λ (k : PackingKind). start ≡ (graph_of k game).start) is it
+
+pub long_by : (kind other : PackingKind) (game : Game) (long : ℕ) → kind ≡ other → long ≡ packed_length kind game → long ≡ packed_length other game
+long_by kind other game long is it = subst (λ (k : PackingKind). long ≡ packed_length k game) is it
+
 module _ (Stores : Layout) (text start : List ℕ) (game : Game) (reads : Reads text game) (start_is : start ≡ (graph_of Bits game).start) (old new : State) (none : old.kept ≡ None) where
   loads : Loads text old.kept (Some (kept_as text Bits (loaded start)))
   loads = record { none = none; game = game; reads = reads; is = ap (λ (s : List ℕ). Some (kept_as text Bits (loaded s))) start_is }

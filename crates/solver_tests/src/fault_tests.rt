@@ -1,9 +1,9 @@
 //! One disk call that fails, and what the solver answers then and later.
 
-use crate::deeds::{LOADED, WORKED, all_say, take_table};
-use recover::{Solver, SolverFault, Units, Worked};
-use retrograde::Counts;
-use sector_disk::{FlakyDisk, MemDisk, SectorDisk};
+use crate::deeds::{InMemory, LOADED, WORKED, all_say, status, take_table};
+use game_file::GameFile;
+use recover::{FileSolver, SolverFault, Units, Worked};
+use sector_disk::{FlakyDisk, MemDisk};
 use std::alloc::Global;
 use std::test::Fail;
 use test_aids::expect;
@@ -34,28 +34,28 @@ const TO_WORK_UNCACHED: u64 = 8 * 81;
 /// The disk calls of a commit: the gate is read, the slot is written and synced, and the gate is written and synced.
 const TO_COMMIT: u64 = 5;
 
-/// A solver over the game of takes with so many pages in memory, at most 64, on a disk of which this call fails and is not carried out.
-fn solver_on(alloc: Global, pages: usize, call: u64) -> Result<Solver<FlakyDisk<MemDisk>>, Fail> {
-    match Solver::open_with_cache(
-        alloc,
-        FlakyDisk::new(take_table(alloc)?, call, false),
-        pages.min(64),
-    ) {
+/// A disk with the table of the game of takes, just loaded, of which this call fails and is not carried out.
+fn failing(alloc: Global, call: u64) -> Result<FlakyDisk<MemDisk>, Fail> {
+    Ok(FlakyDisk::new(take_table(alloc)?, call, false))
+}
+
+/// The table of this disk with so many pages in memory, at most 64.
+fn opened_with<F: GameFile>(
+    alloc: Global,
+    disk: F::Device,
+    pages: usize,
+) -> Result<FileSolver<F>, Fail>
+where
+    F::Device: Drop,
+{
+    match FileSolver::open_with_cache(alloc, disk, pages.min(64)) {
         Ok(solver) => Ok(solver),
-        Err(_) => Err("the table was refused")?,
+        Err(_) => Err("the table was refused".into()),
     }
 }
 
-fn status<D: SectorDisk>(solver: &Solver<D>) -> Option<Counts> {
-    solver.status()
-}
-
-fn disk_of(solver: Solver<FlakyDisk<MemDisk>>) -> MemDisk {
-    solver.close().into_inner()
-}
-
 /// What is answered to seven units.
-fn worked<D: SectorDisk>(solver: &mut Solver<D>) -> Result<Worked, SolverFault> {
+fn worked<F: GameFile>(solver: &mut FileSolver<F>) -> Result<Worked, SolverFault> {
     match Units::new(7) {
         Some(seven) => solver.work(seven),
         None => Err(SolverFault::NoGame),
@@ -63,12 +63,12 @@ fn worked<D: SectorDisk>(solver: &mut Solver<D>) -> Result<Worked, SolverFault> 
 }
 
 /// Why number 0 is not shown; nothing where it is.
-fn unshown<D: SectorDisk>(solver: &mut Solver<D>) -> Option<SolverFault> {
+fn unshown<F: GameFile>(solver: &mut FileSolver<F>) -> Option<SolverFault> {
     solver.show(0).err()
 }
 
 /// Works on a solver whose disk fails then: it is closed, works no more and shows nothing, and its table is as it was.
-fn is_closed_by_work<D: SectorDisk>(solver: &mut Solver<D>, call: u64) -> Result<(), Fail> {
+fn is_closed_by_work<F: GameFile>(solver: &mut FileSolver<F>, call: u64) -> Result<(), Fail> {
     let before = status(solver);
     expect(worked(solver), Err(SolverFault::Disk), call)?;
     expect(worked(solver), Err(SolverFault::Closed), call)?;
@@ -76,23 +76,37 @@ fn is_closed_by_work<D: SectorDisk>(solver: &mut Solver<D>, call: u64) -> Result
     expect(status(solver), before, call)
 }
 
+/// The same over this disk, in which the call fails; it gives the disk back.
+fn closed_by_work_on<F: GameFile>(
+    alloc: Global,
+    disk: F::Device,
+    call: u64,
+) -> Result<F::Device, Fail>
+where
+    F::Device: Drop,
+{
+    let mut solver = opened_with::<F>(alloc, disk, 64)?;
+    let told = is_closed_by_work(&mut solver, call);
+    let disk = solver.close();
+    told?;
+    Ok(disk)
+}
+
 #[test]
 fn after_a_failed_write_or_sync_all_is_closed_until_it_is_opened_again(
     rt: HostRuntime,
 ) -> Result<(), Fail> {
+    let alloc = rt.alloc();
     // the first write of a page, behind a read of one, and the last sync of the commit
     for call in [TO_OPEN + 8, TO_OPEN + TO_WORK + TO_COMMIT - 1] {
-        let mut solver = solver_on(rt.alloc(), 64, call)?;
-        let closed = is_closed_by_work(&mut solver, call);
-        let disk = disk_of(solver);
-        closed?;
-        expect(all_say(rt.alloc(), &disk, &[LOADED, WORKED])?, true, call)?;
+        let disk = closed_by_work_on::<InMemory>(alloc, failing(alloc, call)?, call)?.into_inner();
+        expect(all_say(alloc, &disk, &[LOADED, WORKED])?, true, call)?;
     }
     Ok(())
 }
 
 /// Works on a solver whose disk fails in a read then, and works again: the table is as it was, and then worked.
-fn works_at_the_second_try<D: SectorDisk>(solver: &mut Solver<D>, call: u64) -> Result<(), Fail> {
+fn works_at_the_second_try<F: GameFile>(solver: &mut FileSolver<F>, call: u64) -> Result<(), Fail> {
     let before = status(solver);
     expect(worked(solver), Err(SolverFault::Disk), call)?;
     expect(status(solver), before, call)?;
@@ -103,8 +117,26 @@ fn works_at_the_second_try<D: SectorDisk>(solver: &mut Solver<D>, call: u64) -> 
     expect(worked(solver), Ok(first), call)
 }
 
+/// The same over this disk with so many pages in memory; it gives the disk back.
+fn worked_at_the_second_try_on<F: GameFile>(
+    alloc: Global,
+    disk: F::Device,
+    pages: usize,
+    call: u64,
+) -> Result<F::Device, Fail>
+where
+    F::Device: Drop,
+{
+    let mut solver = opened_with::<F>(alloc, disk, pages)?;
+    let told = works_at_the_second_try(&mut solver, call);
+    let disk = solver.close();
+    told?;
+    Ok(disk)
+}
+
 #[test]
 fn a_read_that_fails_within_work_changes_nothing(rt: HostRuntime) -> Result<(), Fail> {
+    let alloc = rt.alloc();
     // the first page that is read, and once all is worked, the gate
     for (pages, call) in [
         (64, TO_OPEN),
@@ -112,11 +144,9 @@ fn a_read_that_fails_within_work_changes_nothing(rt: HostRuntime) -> Result<(), 
         (0, TO_OPEN_UNCACHED),
         (0, TO_OPEN_UNCACHED + TO_WORK_UNCACHED),
     ] {
-        let mut solver = solver_on(rt.alloc(), pages, call)?;
-        let works = works_at_the_second_try(&mut solver, call);
-        let disk = disk_of(solver);
-        works?;
-        expect(all_say(rt.alloc(), &disk, &[WORKED])?, true, (pages, call))?;
+        let disk = failing(alloc, call)?;
+        let disk = worked_at_the_second_try_on::<InMemory>(alloc, disk, pages, call)?.into_inner();
+        expect(all_say(alloc, &disk, &[WORKED])?, true, (pages, call))?;
     }
     Ok(())
 }

@@ -1,9 +1,9 @@
 //! A list of commands in one call.
 
-use crate::deeds::{empty_table, is_right};
-use recover::{Command, Reply, Solver, SolverFault, Units};
+use crate::deeds::{InMemory, empty_table, is_right, opened, unfailing};
+use game_file::GameFile;
+use recover::{Command, Reply, SolverFault, Units};
 use retrograde::Counts;
-use sector_disk::SectorDisk;
 use std::alloc::Global;
 use std::test::Fail;
 use test_aids::{TAKE, expect};
@@ -29,23 +29,21 @@ fn commands(alloc: Global, steps: &[Step]) -> Result<Vec<Command>, Fail> {
     Ok(commands)
 }
 
-/// Opens the table, runs the commands and puts their replies behind those that are there; the disk. Where the table is
-/// not opened, nothing is replied.
-fn run_on<D: SectorDisk + Drop>(
+/// Opens the table, runs the commands and puts their replies behind those that are there; the disk.
+fn run_on<F: GameFile>(
     alloc: Global,
-    disk: D,
+    disk: F::Device,
     commands: &[Command],
     replies: &mut Vec<Reply>,
-) -> Result<D, Fail> {
-    match Solver::open(alloc, disk) {
-        Ok(mut solver) => {
-            let run = solver.run(commands, replies);
-            let disk = solver.close();
-            run?;
-            Ok(disk)
-        }
-        Err(refused) => Ok(refused.disk),
-    }
+) -> Result<F::Device, Fail>
+where
+    F::Device: Drop,
+{
+    let mut solver = opened::<F>(alloc, disk)?;
+    let run = solver.run(commands, replies);
+    let disk = solver.close();
+    run?;
+    Ok(disk)
 }
 
 /// The reply to so many units, after which seven positions are known and expanded.
@@ -63,14 +61,15 @@ fn worked(units: u32, settled: u32, processed: u32) -> Reply {
 fn a_run_answers_each_command(rt: HostRuntime) -> Result<(), Fail> {
     let alloc = rt.alloc();
     let mut replies = Vec::new(alloc);
-    let disk = run_on(alloc, empty_table(alloc)?, &[], &mut replies)?;
+    let disk = unfailing(empty_table(alloc)?);
+    let disk = run_on::<InMemory>(alloc, disk, &[], &mut replies)?;
     expect(replies.len(), 0, "no commands")?;
     replies.push(Reply::Loaded)?;
     let commands = commands(
         alloc,
         &[Step::Load, Step::Work(7), Step::Load, Step::Work(256)],
     )?;
-    let disk = run_on(alloc, disk, &commands, &mut replies)?;
+    let disk = run_on::<InMemory>(alloc, disk, &commands, &mut replies)?;
     let wanted = [
         Reply::Loaded,
         Reply::Loaded,
@@ -79,5 +78,5 @@ fn a_run_answers_each_command(rt: HostRuntime) -> Result<(), Fail> {
         worked(7, 7, 7),
     ];
     expect(replies.as_slice(), wanted.as_slice(), "the replies")?;
-    expect(is_right(alloc, disk)?, true, "the table")
+    expect(is_right(alloc, disk.into_inner())?, true, "the table")
 }

@@ -15,7 +15,7 @@ use std::fs;
 use std::io::{self, Read};
 use std::process::ExitCode;
 use table::{MemTable, Table};
-use table_work::{MAX_POSITIONS, work};
+use table_work::{MAX_POSITIONS, StepFault, work};
 
 /// As many bytes as are read of a game text.
 const READ_LIMIT: u64 = 65_537;
@@ -45,29 +45,37 @@ fn run(rt: &HostRuntime) -> io::Result<()> {
     solve(rt, alloc, game, limit)
 }
 
+/// Works so many units of the game, and prints how far its table came.
 fn solve(rt: &HostRuntime, alloc: Global, game: Game, limit: u32) -> io::Result<()>
     requires { IsSoundGame (game_of game) }
 {
     let compiled = Compiled::new(alloc, game, PackingKind::Bytes)?;
-    let Ok(mut table) = MemTable::new(alloc, &MoveSource::start(&compiled)) else {
-        return rt.eprintln("memory ran out");
-    };
-    if table.counts().known > MAX_POSITIONS {
-        return rt.eprintln("too many positions");
+    match worked(alloc, &compiled, limit) {
+        Ok((units, counts)) => tell(rt, units, counts),
+        Err(fault) => eprintln!(rt; "{fault}"),
     }
-    let units = match work(alloc, &compiled, &mut table, limit) {
-        Ok(units) => units,
-        Err(fault) => {
-            eprintln!(rt; "{fault}")?;
-            return Ok(());
-        }
-    };
+}
+
+/// Works so many units on a new table in memory: how many were done, and how far it is.
+fn worked<M: MoveSource>(alloc: Global, source: &M, limit: u32) -> Result<(u32, Counts), StepFault>
+    requires { M.is_sound source.now }
+{
+    let mut table = MemTable::new(alloc, &source.start())?;
+    if table.counts().known > MAX_POSITIONS {
+        return Err(StepFault::TooManyPositions);
+    }
+    let units = work(alloc, source, &mut table, limit)?;
+    Ok((units, table.counts()))
+}
+
+/// Prints how many units were done, and how far the table is.
+fn tell(rt: &HostRuntime, units: u32, counts: Counts) -> io::Result<()> {
     let Counts {
         known,
         expanded,
         settled,
         processed,
-    } = table.counts();
+    } = counts;
     println!(rt;
         "units {units} known {known} expanded {expanded} settled {settled} processed {processed}"
     )

@@ -7,3 +7,5 @@ mod Splits
 mod TableLemmas
 mod WritingLemmas
 mod WrittenLemmas
+mod Passing
+mod ReadLemmas

@@ -1,4 +1,6 @@
 use Rattle.std.proofs.Common.{◌++◌, sym, arith}
+use Rattle.table.proofs.Passing.{none_done}
+use Rattle.table_bytes.proofs.Passing.{not_damaged, done_whole}
 use Rattle.table_bytes.proofs.OrderLemmas.{one_more_number}
 use Rattle.table_bytes.proofs.Splits.{split_on}
 use Rattle.table_bytes.proofs.read_edges.read_order.Goals as goal
@@ -16,3 +18,12 @@ loop-place-preserved g c =
           one_more_number before.done front c.loop-place._place c.read_u32.result (g.T.Table.stored c.args.table.now) (g.T.Table.stored c.loop-place.table) (g.T.Table.stored c.push_settled.new.self)
           before.so_far (record { long = c.split_at.ensures.front_len; is = sym c.read_u32.ensures }) (c.in_ok-push_settled.ensures.pushed before.honest);
     }
+
+pub returns-in_err-push_settled-clause-order : goal.returns-in_err-push_settled-clause-order
+returns-in_err-push_settled-clause-order g c = none_done _ c.from_residual.result c.from_residual.ensures.0
+
+pub returns-in_err-push_settled-clause-whole : goal.returns-in_err-push_settled-clause-whole
+returns-in_err-push_settled-clause-whole g c = λ is. not_damaged c.from_residual.result c.from_residual.ensures is
+
+pub returns-clause-whole : goal.returns-clause-whole
+returns-clause-whole g c = λ is. done_whole _ is

@@ -1,6 +1,7 @@
 use Rattle.std.proofs.Common.{◌+◌, ◌∙◌, sym, subst, List, ℕ, refl, arith}
 use Rattle.retrograde.specs.Stored.{Stored}
 use Rattle.table_bytes.specs.aid.Writing.{WritesEdges}
+use Rattle.table.proofs.Passing.{passed_on, none_done}
 use Rattle.table_bytes.proofs.WritingLemmas.{no_edges_yet}
 use Rattle.table_bytes.proofs.write_edges.write_edges.Goals as goal
 
@@ -35,3 +36,40 @@ loop-successor-preserved g c =
 pub returns-in_err-write_edges_to-clause-stays : goal.returns-in_err-write_edges_to-clause-stays
 returns-in_err-write_edges_to-clause-stays g c =
     g.met.T.Table.stays_then _ _ _ c.loop-successor.invariant.stays c.in_err-write_edges_to.ensures.stays
+
+pub returns-in_err-write_edges_to-clause-edges : goal.returns-in_err-write_edges_to-clause-edges
+returns-in_err-write_edges_to-clause-edges g c = λ honest. none_done _ c.from_residual.result c.from_residual.ensures.0
+
+pub returns-in_err-write_edges_to-clause-longer : goal.returns-in_err-write_edges_to-clause-longer
+returns-in_err-write_edges_to-clause-longer g c = none_done _ c.from_residual.result c.from_residual.ensures.0
+
+pub returns-in_err-write_edges_to-clause-same : goal.returns-in_err-write_edges_to-clause-same
+returns-in_err-write_edges_to-clause-same g c = λ honest. none_done _ c.from_residual.result c.from_residual.ensures.0
+
+pub returns-in_err-write_edges_to-clause-honest : goal.returns-in_err-write_edges_to-clause-honest
+returns-in_err-write_edges_to-clause-honest g c = none_done _ c.from_residual.result c.from_residual.ensures.0
+
+pub returns-in_err-write_edges_to-clause-counts : goal.returns-in_err-write_edges_to-clause-counts
+returns-in_err-write_edges_to-clause-counts g c = none_done _ c.from_residual.result c.from_residual.ensures.0
+
+pub returns-in_err-write_edges_to-clause-fault : goal.returns-in_err-write_edges_to-clause-fault
+returns-in_err-write_edges_to-clause-fault g c =
+    passed_on _ c.from_residual.result _ c.from_residual.ensures (g.met.T.Table.fails_since _ _ _ _ (g.met.T.Table.stays_goes_on _ _ c.loop-successor.invariant.stays) c.in_err-write_edges_to.ensures.fault)
+
+pub returns-clause-longer : goal.returns-clause-longer
+returns-clause-longer g c = c.loop-successor.invariant.longer
+
+pub returns-clause-same : goal.returns-clause-same
+returns-clause-same g c = c.loop-successor.invariant.same
+
+pub returns-clause-honest : goal.returns-clause-honest
+returns-clause-honest g c = c.loop-successor.invariant.honest
+
+pub returns-clause-counts : goal.returns-clause-counts
+returns-clause-counts g c = c.loop-successor.invariant.counts
+
+pub returns-clause-stays : goal.returns-clause-stays
+returns-clause-stays g c = c.loop-successor.invariant.stays
+
+pub returns-clause-fault : goal.returns-clause-fault
+returns-clause-fault g c = tt

@@ -1,10 +1,10 @@
-use Rattle.std.proofs.Common.{ap, subst, Option, Err, rules}
+use Rattle.std.proofs.Common.{ap, subst, Option, Err, rules, refl, sym}
 use Rattle.legal_moves.specs.declared.compiled.Compiled.{Compiled}
 use Rattle.audit.specs.declared.fault.AuditFault.{AuditFault}
 use Rattle.recover.specs.State.{IsSourceOf}
-use Rattle.recover.proofs.Asking.{verdict_found, so_found, wide_found, audit_cause, ok_is}
+use Rattle.recover.proofs.Asking.{verdict_found, so_found, wide_found, audit_cause, ok_is, audit_asked}
 use Rattle.recover.proofs.Loading.{same_source}
-use Rattle.recover.proofs.Passing.{passed_on}
+use Rattle.recover.proofs.Passing.{passed_on, passed_as, gives_none, gives_not, not_refused}
 use Rattle.recover.proofs.Working.{kept_there}
 use Rattle.recover.proofs.solver.FileSolver.audit.Goals as goal
 
@@ -43,40 +43,40 @@ returns-in_err-audit-clause-cause g c = λ ready.
     c.in_err-audit.ensures.room c.in_err-audit.ensures.fault (λ f fails. g.met.F.GameFile.fails_for file c.audit.new.table f ready.0 fails))
 
 pub returns-in_err-known-clause-ready : goal.returns-in_err-known-clause-ready
-returns-in_err-known-clause-ready g c = search rules
+returns-in_err-known-clause-ready g c = λ ready. ready
 
 pub returns-in_err-known-clause-asked : goal.returns-in_err-known-clause-asked
-returns-in_err-known-clause-asked g c = search rules
+returns-in_err-known-clause-asked g c = λ ready. (g.met.F.GameFile.whole_stays c.args.self.now.file c.args.self.now.file ready.0 (g.met.F.Table.stays_here c.args.self.now.file)).1
 
 pub returns-in_err-known-clause-verdict : goal.returns-in_err-known-clause-verdict
-returns-in_err-known-clause-verdict g c = search rules
+returns-in_err-known-clause-verdict g c = λ ready. gives_none c.from_residual.result _ _ c.from_residual.ensures
 
 pub returns-in_err-known-clause-so : goal.returns-in_err-known-clause-so
-returns-in_err-known-clause-so g c = search rules
+returns-in_err-known-clause-so g c = λ ready right. absurd (gives_not c.from_residual.result _ _ c.from_residual.ensures right)
 
 pub returns-in_err-known-clause-cause : goal.returns-in_err-known-clause-cause
-returns-in_err-known-clause-cause g c = search rules
+returns-in_err-known-clause-cause g c = λ ready. passed_on _ c.from_residual.result _ c.from_residual.ensures (audit_asked (g.F.GameFile.state c.args.self.now.file) (g.F.GameFile.state c.args.self.now.file) _ c.in_err-known.ensures.cause)
 
 pub returns-in_err-known-clause-closed : goal.returns-in_err-known-clause-closed
-returns-in_err-known-clause-closed g c = search rules
+returns-in_err-known-clause-closed g c = λ is. (passed_as c.from_residual.result _ _ c.from_residual.ensures (c.in_err-known.ensures.closed is), refl)
 
 pub returns-in_default-clause-ready : goal.returns-in_default-clause-ready
-returns-in_default-clause-ready g c = search rules
+returns-in_default-clause-ready g c = λ ready. ready
 
 pub returns-in_default-clause-asked : goal.returns-in_default-clause-asked
-returns-in_default-clause-asked g c = search rules
+returns-in_default-clause-asked g c = λ ready. (g.met.F.GameFile.whole_stays c.args.self.now.file c.args.self.now.file ready.0 (g.met.F.Table.stays_here c.args.self.now.file)).1
 
 pub returns-in_default-clause-verdict : goal.returns-in_default-clause-verdict
-returns-in_default-clause-verdict g c = search rules
+returns-in_default-clause-verdict g c = λ ready. tt
 
 pub returns-in_default-clause-so : goal.returns-in_default-clause-so
-returns-in_default-clause-so g c = search rules
+returns-in_default-clause-so g c = λ ready right. absurd (not_refused _ _ (sym right))
 
 pub returns-in_default-clause-cause : goal.returns-in_default-clause-cause
 returns-in_default-clause-cause g c = search rules
 
 pub returns-in_default-clause-closed : goal.returns-in_default-clause-closed
-returns-in_default-clause-closed g c = search rules
+returns-in_default-clause-closed g c = λ is. absurd (not_refused _ _ (c.in_ok-known.ensures.closed is))
 
 pub audit-requires : goal.audit-requires
 audit-requires g c = search rules
@@ -90,13 +90,13 @@ pub returns-in_err-audit-clause-asked : goal.returns-in_err-audit-clause-asked
 returns-in_err-audit-clause-asked g c = λ ready. (g.met.F.GameFile.whole_stays c.args.self.now.file c.audit.new.table ready.0 c.audit.ensures.stays).1
 
 pub returns-in_err-audit-clause-verdict : goal.returns-in_err-audit-clause-verdict
-returns-in_err-audit-clause-verdict g c = search rules
+returns-in_err-audit-clause-verdict g c = λ ready. gives_none c.from_residual-in_err-audit.result _ _ c.from_residual-in_err-audit.ensures
 
 pub returns-in_err-audit-clause-so : goal.returns-in_err-audit-clause-so
-returns-in_err-audit-clause-so g c = search rules
+returns-in_err-audit-clause-so g c = λ ready right. absurd (gives_not c.from_residual-in_err-audit.result _ _ c.from_residual-in_err-audit.ensures right)
 
 pub returns-in_err-audit-clause-closed : goal.returns-in_err-audit-clause-closed
-returns-in_err-audit-clause-closed g c = search rules
+returns-in_err-audit-clause-closed g c = λ is. absurd (not_refused _ _ (c.in_ok-known.ensures.closed is))
 
 pub returns-clause-ready : goal.returns-clause-ready
 returns-clause-ready g c = λ ready.
@@ -107,4 +107,7 @@ pub returns-clause-asked : goal.returns-clause-asked
 returns-clause-asked g c = λ ready. (g.met.F.GameFile.whole_stays c.args.self.now.file c.audit.new.table ready.0 c.audit.ensures.stays).1
 
 pub returns-clause-closed : goal.returns-clause-closed
-returns-clause-closed g c = search rules
+returns-clause-closed g c = λ is. absurd (not_refused _ _ (c.in_ok-known.ensures.closed is))
+
+pub returns-clause-cause : goal.returns-clause-cause
+returns-clause-cause g c = λ ready. tt

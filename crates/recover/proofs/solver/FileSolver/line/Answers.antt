@@ -1,12 +1,12 @@
-use Rattle.std.proofs.Common.{ap, subst, Option, Err, rules}
+use Rattle.std.proofs.Common.{ap, subst, Option, Err, rules, refl}
 use Rattle.legal_moves.specs.declared.compiled.Compiled.{Compiled}
 use Rattle.recover.specs.State.{IsSourceOf}
 use Rattle.retrograde.specs.Stored.{view_of}
 use Rattle.best_line.specs.Causes.{IsLineCause}
 use Rattle.best_line.specs.declared.fault.LineFault.{LineFault}
-use Rattle.recover.proofs.Asking.{unsettled, never, line_found, line_cause}
+use Rattle.recover.proofs.Asking.{unsettled, never, line_found, line_cause, line_numbered}
 use Rattle.recover.proofs.Loading.{same_source}
-use Rattle.recover.proofs.Passing.{passed_on}
+use Rattle.recover.proofs.Passing.{passed_on, passed_as, gives_none, not_refused}
 use Rattle.recover.proofs.Working.{kept_there}
 use Rattle.recover.proofs.solver.FileSolver.line.Goals as goal
 
@@ -43,37 +43,37 @@ returns-clause-line g c = λ ready sound honest.
     (λ here. rw c.moves.ensures.is at c.in_ok-line.ensures.line stored.0 here))
 
 pub returns-in_err-check-clause-ready : goal.returns-in_err-check-clause-ready
-returns-in_err-check-clause-ready g c = search rules
+returns-in_err-check-clause-ready g c = λ ready. ready
 
 pub returns-in_err-check-clause-asked : goal.returns-in_err-check-clause-asked
-returns-in_err-check-clause-asked g c = search rules
+returns-in_err-check-clause-asked g c = λ ready. (g.met.F.GameFile.whole_stays c.args.self.now.file c.args.self.now.file ready.0 (g.met.F.Table.stays_here c.args.self.now.file)).1
 
 pub returns-in_err-check-clause-line : goal.returns-in_err-check-clause-line
-returns-in_err-check-clause-line g c = search rules
+returns-in_err-check-clause-line g c = λ ready sound. gives_none c.from_residual.result _ _ c.from_residual.ensures
 
 pub returns-in_err-check-clause-cause : goal.returns-in_err-check-clause-cause
-returns-in_err-check-clause-cause g c = search rules
+returns-in_err-check-clause-cause g c = λ ready. passed_on _ c.from_residual.result _ c.from_residual.ensures (line_numbered (g.F.GameFile.state c.args.self.now.file) (g.F.GameFile.state c.args.self.now.file) c.args.number _ (c.in_err-check.ensures.cause ready.0))
 
 pub returns-in_err-check-clause-closed : goal.returns-in_err-check-clause-closed
-returns-in_err-check-clause-closed g c = search rules
+returns-in_err-check-clause-closed g c = λ is. (passed_as c.from_residual.result _ _ c.from_residual.ensures (c.in_err-check.ensures.closed is), refl)
 
 pub returns-in_default-clause-ready : goal.returns-in_default-clause-ready
-returns-in_default-clause-ready g c = search rules
+returns-in_default-clause-ready g c = λ ready. ready
 
 pub returns-in_default-clause-asked : goal.returns-in_default-clause-asked
-returns-in_default-clause-asked g c = search rules
+returns-in_default-clause-asked g c = λ ready. (g.met.F.GameFile.whole_stays c.args.self.now.file c.args.self.now.file ready.0 (g.met.F.Table.stays_here c.args.self.now.file)).1
 
 pub returns-in_default-clause-line : goal.returns-in_default-clause-line
-returns-in_default-clause-line g c = search rules
+returns-in_default-clause-line g c = λ ready sound. tt
 
 pub returns-in_default-clause-cause : goal.returns-in_default-clause-cause
 returns-in_default-clause-cause g c = search rules
 
 pub returns-in_default-clause-closed : goal.returns-in_default-clause-closed
-returns-in_default-clause-closed g c = search rules
+returns-in_default-clause-closed g c = λ is. absurd (not_refused _ _ (c.in_ok-check.ensures.closed is))
 
 pub line-requires-clause-known : goal.line-requires-clause-known
-line-requires-clause-known g c = search rules
+line-requires-clause-known g c = c.in_ok-check.ensures.there
 
 pub returns-in_err-line-clause-ready : goal.returns-in_err-line-clause-ready
 returns-in_err-line-clause-ready g c = λ ready.
@@ -84,10 +84,10 @@ pub returns-in_err-line-clause-asked : goal.returns-in_err-line-clause-asked
 returns-in_err-line-clause-asked g c = λ ready. (g.met.F.GameFile.whole_stays c.args.self.now.file c.line.new.table ready.0 c.line.ensures.stays).1
 
 pub returns-in_err-line-clause-line : goal.returns-in_err-line-clause-line
-returns-in_err-line-clause-line g c = search rules
+returns-in_err-line-clause-line g c = λ ready sound. gives_none c.from_residual-in_err-line.result _ _ c.from_residual-in_err-line.ensures
 
 pub returns-in_err-line-clause-closed : goal.returns-in_err-line-clause-closed
-returns-in_err-line-clause-closed g c = search rules
+returns-in_err-line-clause-closed g c = λ is. absurd (not_refused _ _ (c.in_ok-check.ensures.closed is))
 
 pub returns-clause-ready : goal.returns-clause-ready
 returns-clause-ready g c = λ ready.
@@ -98,4 +98,7 @@ pub returns-clause-asked : goal.returns-clause-asked
 returns-clause-asked g c = λ ready. (g.met.F.GameFile.whole_stays c.args.self.now.file c.line.new.table ready.0 c.line.ensures.stays).1
 
 pub returns-clause-closed : goal.returns-clause-closed
-returns-clause-closed g c = search rules
+returns-clause-closed g c = λ is. absurd (not_refused _ _ (c.in_ok-check.ensures.closed is))
+
+pub returns-clause-cause : goal.returns-clause-cause
+returns-clause-cause g c = λ ready. tt

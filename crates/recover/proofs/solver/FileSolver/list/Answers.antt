@@ -1,34 +1,34 @@
-use Rattle.std.proofs.Common.{rules}
+use Rattle.std.proofs.Common.{refl}
 use Rattle.recover.specs.Queries.{HasRows}
 use Rattle.recover.specs.Units.{units_in}
 use Rattle.recover.proofs.Asking.{number_cause, rows_found, tells}
 use Rattle.recover.proofs.Loading.{same_source}
-use Rattle.recover.proofs.Passing.{passed_on}
+use Rattle.recover.proofs.Passing.{passed_on, passed_as, gives_none, not_refused}
 use Rattle.recover.proofs.solver.FileSolver.list.Goals as goal
 
 pub returns-in_err-check-clause-ready : goal.returns-in_err-check-clause-ready
-returns-in_err-check-clause-ready g c = search rules
+returns-in_err-check-clause-ready g c = λ ready. ready
 
 pub returns-in_err-check-clause-asked : goal.returns-in_err-check-clause-asked
-returns-in_err-check-clause-asked g c = search rules
+returns-in_err-check-clause-asked g c = λ ready. (g.met.F.GameFile.whole_stays c.args.self.now.file c.args.self.now.file ready.0 (g.met.F.Table.stays_here c.args.self.now.file)).1
 
 pub returns-in_err-check-clause-rows : goal.returns-in_err-check-clause-rows
-returns-in_err-check-clause-rows g c = search rules
+returns-in_err-check-clause-rows g c = λ ready. gives_none c.from_residual.result _ _ c.from_residual.ensures
 
 pub returns-in_err-check-clause-cause : goal.returns-in_err-check-clause-cause
-returns-in_err-check-clause-cause g c = search rules
+returns-in_err-check-clause-cause g c = λ ready. passed_on _ c.from_residual.result _ c.from_residual.ensures (c.in_err-check.ensures.cause ready.0)
 
 pub returns-in_err-check-clause-closed : goal.returns-in_err-check-clause-closed
-returns-in_err-check-clause-closed g c = search rules
+returns-in_err-check-clause-closed g c = λ is. (passed_as c.from_residual.result _ _ c.from_residual.ensures (c.in_err-check.ensures.closed is), refl)
 
 pub list-requires-clause-from : goal.list-requires-clause-from
-list-requires-clause-from g c = search rules
+list-requires-clause-from g c = c.in_ok-check.ensures.there
 
 pub list-requires-clause-some : goal.list-requires-clause-some
-list-requires-clause-some g c = search rules
+list-requires-clause-some g c = c.count.ensures.some
 
 pub list-requires-clause-few : goal.list-requires-clause-few
-list-requires-clause-few g c = search rules
+list-requires-clause-few g c = c.count.ensures.few
 
 pub returns-in_err-list-clause-ready : goal.returns-in_err-list-clause-ready
 returns-in_err-list-clause-ready g c = λ ready.
@@ -39,7 +39,7 @@ pub returns-in_err-list-clause-asked : goal.returns-in_err-list-clause-asked
 returns-in_err-list-clause-asked g c = λ ready. (g.met.F.GameFile.whole_stays c.args.self.now.file c.list.new.table ready.0 c.list.ensures.stays).1
 
 pub returns-in_err-list-clause-rows : goal.returns-in_err-list-clause-rows
-returns-in_err-list-clause-rows g c = search rules
+returns-in_err-list-clause-rows g c = λ ready. gives_none c.from_residual-in_err-list.result _ _ c.from_residual-in_err-list.ensures
 
 pub returns-in_err-list-clause-cause : goal.returns-in_err-list-clause-cause
 returns-in_err-list-clause-cause g c = λ ready.
@@ -49,7 +49,7 @@ returns-in_err-list-clause-cause g c = λ ready.
     (g.met.F.GameFile.fails_for file c.list.new.table c.in_err-list.field-0.0 ready.0 c.in_err-list.ensures.fault))
 
 pub returns-in_err-list-clause-closed : goal.returns-in_err-list-clause-closed
-returns-in_err-list-clause-closed g c = search rules
+returns-in_err-list-clause-closed g c = λ is. absurd (not_refused _ _ (c.in_ok-check.ensures.closed is))
 
 pub returns-clause-ready : goal.returns-clause-ready
 returns-clause-ready g c = λ ready.
@@ -69,4 +69,7 @@ returns-clause-rows g c = λ ready honest.
     c.in_ok-check.ensures.there (λ fits. rw c.count.ensures.is at c.in_ok-list.ensures.rows stored.0 fits))
 
 pub returns-clause-closed : goal.returns-clause-closed
-returns-clause-closed g c = search rules
+returns-clause-closed g c = λ is. absurd (not_refused _ _ (c.in_ok-check.ensures.closed is))
+
+pub returns-clause-cause : goal.returns-clause-cause
+returns-clause-cause g c = λ ready. tt

@@ -1,8 +1,8 @@
-use Rattle.std.proofs.Common.{rules}
+use Rattle.std.proofs.Common.{refl}
 use Rattle.recover.specs.Queries.{HasValueAt}
 use Rattle.recover.proofs.Asking.{number_cause, value_found, tells}
 use Rattle.recover.proofs.Loading.{same_source}
-use Rattle.recover.proofs.Passing.{passed_on}
+use Rattle.recover.proofs.Passing.{passed_on, passed_as, gives_none, not_refused}
 use Rattle.recover.proofs.solver.FileSolver.value.Goals as goal
 
 pub returns-clause-value : goal.returns-clause-value
@@ -15,22 +15,22 @@ returns-clause-value g c = λ ready honest.
     c.in_ok-check.ensures.there (λ fits. c.in_ok-value.ensures.value stored.0 fits))
 
 pub returns-in_err-check-clause-ready : goal.returns-in_err-check-clause-ready
-returns-in_err-check-clause-ready g c = search rules
+returns-in_err-check-clause-ready g c = λ ready. ready
 
 pub returns-in_err-check-clause-asked : goal.returns-in_err-check-clause-asked
-returns-in_err-check-clause-asked g c = search rules
+returns-in_err-check-clause-asked g c = λ ready. (g.met.F.GameFile.whole_stays c.args.self.now.file c.args.self.now.file ready.0 (g.met.F.Table.stays_here c.args.self.now.file)).1
 
 pub returns-in_err-check-clause-value : goal.returns-in_err-check-clause-value
-returns-in_err-check-clause-value g c = search rules
+returns-in_err-check-clause-value g c = λ ready. gives_none c.from_residual.result _ _ c.from_residual.ensures
 
 pub returns-in_err-check-clause-cause : goal.returns-in_err-check-clause-cause
-returns-in_err-check-clause-cause g c = search rules
+returns-in_err-check-clause-cause g c = λ ready. passed_on _ c.from_residual.result _ c.from_residual.ensures (c.in_err-check.ensures.cause ready.0)
 
 pub returns-in_err-check-clause-closed : goal.returns-in_err-check-clause-closed
-returns-in_err-check-clause-closed g c = search rules
+returns-in_err-check-clause-closed g c = λ is. (passed_as c.from_residual.result _ _ c.from_residual.ensures (c.in_err-check.ensures.closed is), refl)
 
 pub value-requires : goal.value-requires
-value-requires g c = search rules
+value-requires g c = c.in_ok-check.ensures.there
 
 pub returns-in_err-value-clause-ready : goal.returns-in_err-value-clause-ready
 returns-in_err-value-clause-ready g c = λ ready.
@@ -41,7 +41,7 @@ pub returns-in_err-value-clause-asked : goal.returns-in_err-value-clause-asked
 returns-in_err-value-clause-asked g c = λ ready. (g.met.F.GameFile.whole_stays c.args.self.now.file c.value.new.table ready.0 c.value.ensures.stays).1
 
 pub returns-in_err-value-clause-value : goal.returns-in_err-value-clause-value
-returns-in_err-value-clause-value g c = search rules
+returns-in_err-value-clause-value g c = λ ready. gives_none c.from_residual-in_err-value.result _ _ c.from_residual-in_err-value.ensures
 
 pub returns-in_err-value-clause-cause : goal.returns-in_err-value-clause-cause
 returns-in_err-value-clause-cause g c = λ ready.
@@ -51,7 +51,7 @@ returns-in_err-value-clause-cause g c = λ ready.
     (g.met.F.GameFile.fails_for file c.value.new.table c.in_err-value.field-0.0 ready.0 c.in_err-value.ensures.fault))
 
 pub returns-in_err-value-clause-closed : goal.returns-in_err-value-clause-closed
-returns-in_err-value-clause-closed g c = search rules
+returns-in_err-value-clause-closed g c = λ is. absurd (not_refused _ _ (c.in_ok-check.ensures.closed is))
 
 pub returns-clause-ready : goal.returns-clause-ready
 returns-clause-ready g c = λ ready.
@@ -62,4 +62,7 @@ pub returns-clause-asked : goal.returns-clause-asked
 returns-clause-asked g c = λ ready. (g.met.F.GameFile.whole_stays c.args.self.now.file c.value.new.table ready.0 c.value.ensures.stays).1
 
 pub returns-clause-closed : goal.returns-clause-closed
-returns-clause-closed g c = search rules
+returns-clause-closed g c = λ is. absurd (not_refused _ _ (c.in_ok-check.ensures.closed is))
+
+pub returns-clause-cause : goal.returns-clause-cause
+returns-clause-cause g c = λ ready. tt
