@@ -1,5 +1,5 @@
 -- The reply of a run of one command.
-use Rattle.std.proofs.Common.{◌≡◌, List, [], ◌∷◌, ◌++◌, map, sym, subst, ap, ◌∙◌}
+use Rattle.std.proofs.Common.{◌≡◌, List, [], ◌∷◌, ◌++◌, sym, subst, ap, ◌∙◌}
 use Rattle.std.specs.Prelude.{slice_get, unwrap_or}
 use Rattle.recover.specs.declared.replies.Command.{Command}
 use Rattle.recover.specs.declared.replies.Reply.{Reply}

@@ -3,7 +3,7 @@
 ghost use Rattle.std.specs.Prelude.{◌≡◌, ℕ, List, OnOk};
 ghost use Rattle.std.specs.Io.KnownBytes.{Appends};
 ghost use Rattle.line_answers.specs.Answered.{status_of_fault};
-ghost use Rattle.line_answers.specs.Told.{fault_line, IsReplyLine};
+ghost use Rattle.line_answers.specs.Told.{behind_code, fault_line, IsReplyLine};
 
 use printed_lines::replies::put_work;
 use rbg_read::fault::GameFault;
@@ -44,14 +44,22 @@ pub fn put_reply<W: Write>(out: &mut W, reply: Reply) -> io::Result<()>
     }
 }
 
+/// Writes what stands behind the code of a refusal: the position at which the keeper can choose.
+fn put_position<W: Write>(out: &mut W, fault: SolverFault) -> io::Result<()>
+    ensures { OnOk result (Appends (W.contents out.old) (W.contents out.new) (behind_code fault)) }
+{
+    match fault {
+        SolverFault::KeeperChooses(number) => write!(out, " {number}"),
+        _ => Ok(()),
+    }
+}
+
 /// Writes `refused` and the code at once; behind S3 the number of the position. It takes no memory.
 pub fn put_refused<W: Write>(out: &mut W, fault: SolverFault) -> io::Result<()>
     ensures { OnOk result (Appends (W.contents out.old) (W.contents out.new) (fault_line fault)) }
 {
     out.write_all(b"refused ")?;
     out.write_all(fault.code().as_bytes())?;
-    if let SolverFault::KeeperChooses(number) = fault {
-        write!(out, " {number}")?;
-    }
+    put_position(out, fault)?;
     put_line(out, b"\n")
 }

@@ -170,12 +170,17 @@ fn command<'a>(alloc: Global) -> Result<Command<'a>, AllocError> {
     with(command, moves_command(alloc))
 }
 
+/// A command, and what help says of it, at the short and at length.
+fn named<'a>(alloc: Global, name: &'a str, about: &'a str, long_about: &'a str) -> Command<'a> {
+    Command::new(alloc, name)
+        .about(about)
+        .long_about(long_about)
+}
+
 /// The program's command but for what can be done.
 fn whole_command<'a>(alloc: Global) -> Command<'a> {
-    Command::new(alloc, "rbgsolve")
+    named(alloc, "rbgsolve", ABOUT, LONG_ABOUT)
         .version(VERSION)
-        .about(ABOUT)
-        .long_about(LONG_ABOUT)
         .after_help(AFTER_HELP)
         .subcommand_required(true)
         .arg_required_else_help(true)
@@ -189,30 +194,33 @@ fn with<'a>(
     command.subcommand(more?)
 }
 
-fn file_word<'a>(alloc: Global) -> Arg<'a> {
-    Arg::new(alloc, "FILE")
-        .help("The file with the table")
+/// A word that has to be given, and what help says of it.
+fn required_word<'a>(alloc: Global, id: &'a str, help: &'a str) -> Arg<'a> {
+    Arg::new(alloc, id)
+        .help(help)
         .required(true)
         .action(ArgAction::Set)
 }
 
+fn file_word<'a>(alloc: Global) -> Arg<'a> {
+    required_word(alloc, "FILE", "The file with the table")
+}
+
 fn game_word<'a>(alloc: Global) -> Arg<'a> {
-    Arg::new(alloc, "GAME")
-        .help("The file with the game text")
-        .required(true)
-        .action(ArgAction::Set)
+    required_word(alloc, "GAME", "The file with the game text")
 }
 
 /// How many pages a table has, a number of the type `u32` within bounds: what `value_parser!(u32).range(1..=1_048_576)` gives, said at
 /// once, since a range takes long to prove.
 fn pages_word<'a>(alloc: Global) -> Arg<'a> {
-    Arg::new(alloc, "pages")
-        .long("pages")
-        .value_name("N")
-        .help("How many pages of 4,096 bytes the table has: 16 to 1,048,576")
-        .required(true)
-        .value_parser(page_counts())
-        .action(ArgAction::Set)
+    required_word(
+        alloc,
+        "pages",
+        "How many pages of 4,096 bytes the table has: 16 to 1,048,576",
+    )
+    .long("pages")
+    .value_name("N")
+    .value_parser(page_counts())
 }
 
 fn page_counts<'a>() -> ValueParser<'a> {
@@ -220,41 +228,29 @@ fn page_counts<'a>() -> ValueParser<'a> {
 }
 
 fn create_command<'a>(alloc: Global) -> Result<Command<'a>, AllocError> {
-    Command::new(alloc, "create")
-        .about(CREATE_ABOUT)
-        .long_about(CREATE_LONG_ABOUT)
+    named(alloc, "create", CREATE_ABOUT, CREATE_LONG_ABOUT)
         .arg(file_word(alloc))?
         .arg(pages_word(alloc))
 }
 
 fn load_command<'a>(alloc: Global) -> Result<Command<'a>, AllocError> {
-    Command::new(alloc, "load")
-        .about(LOAD_ABOUT)
-        .long_about(LOAD_LONG_ABOUT)
+    named(alloc, "load", LOAD_ABOUT, LOAD_LONG_ABOUT)
         .arg(file_word(alloc))?
         .arg(game_word(alloc))
 }
 
 fn session_command<'a>(alloc: Global) -> Result<Command<'a>, AllocError> {
-    Command::new(alloc, "session")
-        .about(SESSION_ABOUT)
-        .long_about(SESSION_LONG_ABOUT)
+    named(alloc, "session", SESSION_ABOUT, SESSION_LONG_ABOUT)
         .after_help(SESSION_LINES)
         .arg(file_word(alloc))
 }
 
 fn audit_command<'a>(alloc: Global) -> Result<Command<'a>, AllocError> {
-    Command::new(alloc, "audit")
-        .about(AUDIT_ABOUT)
-        .long_about(AUDIT_LONG_ABOUT)
-        .arg(file_word(alloc))
+    named(alloc, "audit", AUDIT_ABOUT, AUDIT_LONG_ABOUT).arg(file_word(alloc))
 }
 
 fn moves_command<'a>(alloc: Global) -> Result<Command<'a>, AllocError> {
-    Command::new(alloc, "moves")
-        .about(MOVES_ABOUT)
-        .long_about(MOVES_LONG_ABOUT)
-        .arg(game_word(alloc))
+    named(alloc, "moves", MOVES_ABOUT, MOVES_LONG_ABOUT).arg(game_word(alloc))
 }
 
 fn refusal_of(alloc: Global, error: Error) -> Refusal

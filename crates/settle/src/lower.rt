@@ -8,11 +8,11 @@ ghost use Rattle.frontier.specs.Causes.{IsRefusal, Leaves};
 ghost use Rattle.frontier.specs.declared.fault.StepFault.TheVariants.{Inconsistent};
 ghost use Rattle.settle.specs.aid.Stuck.{IsStuck, IsStuckAt};
 
-use crate::turn::{has_the_turn, waits};
+use crate::turn::{is_due, lowered};
 use frontier::StepFault;
 use legal_moves::MoveSource;
 use rbg_game::roles::Player;
-use retrograde::{Record, State};
+use retrograde::Record;
 use table::Table;
 
 /// Puts a number last into the settled order, and writes its record.
@@ -63,23 +63,16 @@ fn lower<M: MoveSource, T: Table>(
     if kept.left == 0 {
         return Err(StepFault::Inconsistent);
     }
-    let left = kept.left - 1;
-    if waits(kept.state) && (has_the_turn(winner, mover) || kept.left == 1) {
-        if distance == u32::MAX {
-            return Err(StepFault::Inconsistent);
-        }
-        let settled = Record {
-            state: State::Settled,
-            winner: Some(winner),
-            distance: distance + 1,
-            left,
-            successors: kept.successors,
-        };
-        settle(table, predecessor, settled)
-    } else {
-        table.set_record(predecessor, Record { left, ..kept })?;
-        Ok(())
+    let due = is_due(mover, winner, kept);
+    if due && distance == u32::MAX {
+        return Err(StepFault::Inconsistent);
     }
+    let record = lowered(mover, winner, distance, kept);
+    if due {
+        return settle(table, predecessor, record);
+    }
+    table.set_record(predecessor, record)?;
+    Ok(())
 }
 
 /// Sees to each predecessor of a position, by ascending number: the winner wins the position in this

@@ -121,48 +121,48 @@ returns-in_err-set_record-clause-left g c =
     (g.met.T.Table.fails_since _ _ _ _ (g.met.T.Table.stays_goes_on _ _ (g.met.T.Table.stays_then _ _ _ c.in_ok-packed.ensures.stays c.in_ok-kept.ensures.stays))
     c.in_err-set_record.ensures.fault)
 
-pub returns-in_ok-set_record-clause-honest : goal.returns-in_ok-set_record-clause-honest
-returns-in_ok-set_record-clause-honest g c = (
+pub returns-clause-honest : goal.returns-clause-honest
+returns-clause-honest g c = (
   λ h. c.in_ok-set_record.ensures.honest.0 (c.in_ok-kept.ensures.honest.0 (c.in_ok-packed.ensures.honest.0 h)),
   λ h. c.in_ok-packed.ensures.honest.1 (c.in_ok-kept.ensures.honest.1 (c.in_ok-set_record.ensures.honest.1 h)),
 )
 
-pub returns-in_ok-set_record-clause-known : goal.returns-in_ok-set_record-clause-known
-returns-in_ok-set_record-clause-known g c =
+pub returns-clause-known : goal.returns-clause-known
+returns-clause-known g c =
     c.in_ok-set_record.ensures.known ∙ ap (λ (k : Counts). k.known) (c.in_ok-kept.ensures.counts ∙ c.in_ok-packed.ensures.counts)
 
-pub returns-in_ok-set_record-clause-stuck : goal.returns-in_ok-set_record-clause-stuck
-returns-in_ok-set_record-clause-stuck g c = λ honest is. absurd (done_consistent _ is)
+pub returns-clause-stuck : goal.returns-clause-stuck
+returns-clause-stuck g c = λ honest is. absurd (done_consistent _ is)
 
-pub returns-in_ok-set_record-clause-goes_on : goal.returns-in_ok-set_record-clause-goes_on
-returns-in_ok-set_record-clause-goes_on g c = tt
+pub returns-clause-goes_on : goal.returns-clause-goes_on
+returns-clause-goes_on g c = tt
 
-pub returns-in_ok-set_record-clause-left : goal.returns-in_ok-set_record-clause-left
-returns-in_ok-set_record-clause-left g c = tt
+pub returns-clause-left : goal.returns-clause-left
+returns-clause-left g c = tt
 
-pub returns-in_ok-set_record-clause-ahead : goal.returns-in_ok-set_record-clause-ahead
-returns-in_ok-set_record-clause-ahead g c =
+pub returns-clause-ahead : goal.returns-clause-ahead
+returns-clause-ahead g c =
     g.met.T.Table.goes_on_then _ _ _ (g.met.T.Table.stays_goes_on _ _ (g.met.T.Table.stays_then _ _ _ c.in_ok-packed.ensures.stays c.in_ok-kept.ensures.stays)) c.in_ok-set_record.ensures.ahead
 
-pub returns-else-distance-eq4294967295-clause-honest : goal.returns-else-distance-eq4294967295-clause-honest
-returns-else-distance-eq4294967295-clause-honest g c =
+pub returns-then-due-2-clause-honest : goal.returns-then-due-2-clause-honest
+returns-then-due-2-clause-honest g c =
     done_then c.settle.result
     (λ both. (λ h. both.0 (c.in_ok-kept.ensures.honest.0 (c.in_ok-packed.ensures.honest.0 h)), λ h. c.in_ok-packed.ensures.honest.1 (c.in_ok-kept.ensures.honest.1 (both.1 h))))
     c.settle.ensures.honest
 
-pub returns-else-distance-eq4294967295-clause-known : goal.returns-else-distance-eq4294967295-clause-known
-returns-else-distance-eq4294967295-clause-known g c =
+pub returns-then-due-2-clause-known : goal.returns-then-due-2-clause-known
+returns-then-due-2-clause-known g c =
     done_then c.settle.result (λ same. same ∙ ap (λ (k : Counts). k.known) (c.in_ok-kept.ensures.counts ∙ c.in_ok-packed.ensures.counts)) c.settle.ensures.known
 
-pub returns-else-distance-eq4294967295-clause-goes_on : goal.returns-else-distance-eq4294967295-clause-goes_on
-returns-else-distance-eq4294967295-clause-goes_on g c = c.settle.ensures.goes_on
+pub returns-then-due-2-clause-goes_on : goal.returns-then-due-2-clause-goes_on
+returns-then-due-2-clause-goes_on g c = c.settle.ensures.goes_on
 
-pub returns-else-distance-eq4294967295-clause-ahead : goal.returns-else-distance-eq4294967295-clause-ahead
-returns-else-distance-eq4294967295-clause-ahead g c =
+pub returns-then-due-2-clause-ahead : goal.returns-then-due-2-clause-ahead
+returns-then-due-2-clause-ahead g c =
     done_then c.settle.result (g.met.T.Table.goes_on_then _ _ _ (g.met.T.Table.stays_goes_on _ _ (g.met.T.Table.stays_then _ _ _ c.in_ok-packed.ensures.stays c.in_ok-kept.ensures.stays))) c.settle.ensures.ahead
 
-pub returns-else-distance-eq4294967295-clause-left : goal.returns-else-distance-eq4294967295-clause-left
-returns-else-distance-eq4294967295-clause-left g c =
+pub returns-then-due-2-clause-left : goal.returns-then-due-2-clause-left
+returns-then-due-2-clause-left g c =
     fault_then c.settle.result
     (λ fault. leaves_after _ _ _ _ fault
     (g.met.T.Table.goes_on_then _ _ _ (g.met.T.Table.stays_goes_on _ _ (g.met.T.Table.stays_then _ _ _ c.in_ok-packed.ensures.stays c.in_ok-kept.ensures.stays)))
