@@ -316,7 +316,7 @@ class Project:
         walker = self.clause_walker(source, item, [source.code[item.start]])
         text = "\n".join(source.lines[member.start : member.end])
         brace = text.index("{")
-        end = text.rindex("}")
+        end = rust.balanced(text, brace) - 1
         tokens = tokens_of(text[brace + 1 : end], member.start, CLAUSE_TOKEN)
         fields = re.findall(r"^\s*(?:pub(?:\([a-z]+\))?\s+)?(?:ghost\s+)?(\w+):", "\n".join(source.code[item.start : item.end]), re.M)
         walker.walk(tokens, dict.fromkeys(fields) if item.kind == "struct" else {})

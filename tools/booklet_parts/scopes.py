@@ -9,7 +9,7 @@ from booklet_parts.tokens import OPENING, Token, chain_at, chunks, closing, firs
 Locals = dict[str, object]
 
 # of the language itself: these need no import
-BUILT_IN = set("Type Unit tt ⊥ ¬ × → λ record let in where do ← = : _ | ↦ [ ] elim absurd omega cc".split())
+BUILT_IN = set("Type Unit tt ⊥ ¬ × → λ record let in where do ← = : _ | ↦ [ ] elim absurd omega cc ∥ ∥₁".split())
 # constructors of the toolchain's library, which are no variables where they stand in a pattern
 LIBRARY_CONSTRUCTORS = set("zero suc true false [] ◌∷◌ None Some Ok Err refl inl inr pos negsuc tt ◌,◌".split())
 

@@ -35,6 +35,10 @@ impl<D: SectorDisk> SectorDisk for CountedDisk<D> {
     fn sync(&mut self) -> Result<(), DiskFault> {
         self.inner.sync()
     }
+
+    fn extend(&mut self, sectors: u64) -> Result<(), DiskFault> {
+        self.inner.extend(sectors)
+    }
 }
 
 /// Marks page 1, seals the store, and reads this page so many times.

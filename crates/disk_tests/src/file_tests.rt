@@ -3,7 +3,7 @@
 use crate::disks::{file_disk, writable};
 use crate::scripts::{Answer, Deed, Script, run};
 use Answer::{Count, Done, Fault, Halves};
-use Deed::{Read, Sectors, Sync, Write};
+use Deed::{Extend, Read, Sectors, Sync, Write};
 use sector_disk::FileDisk;
 use std::fs;
 use std::fs::File;
@@ -19,18 +19,21 @@ struct FileRow {
     read_only: bool,
     /// It has this length once the disk is made of it.
     cut: u64,
+    /// And this one at the end.
+    end: u64,
     script: Script,
     /// Some of its bytes at the end.
     bytes: &'static [(usize, u8)],
 }
 
-const FILES: [FileRow; 6] = [
+const FILES: [FileRow; 7] = [
     // A file of odd length has its whole sectors.
     FileRow {
         length: 1100,
         byte: 1,
         read_only: false,
         cut: 1100,
+        end: 1100,
         script: &[
             (Sectors, Count(2)),
             (Read(1), Halves(1, 1)),
@@ -42,12 +45,38 @@ const FILES: [FileRow; 6] = [
         ],
         bytes: &[(511, 1), (512, 9), (1023, 9), (1024, 1)],
     },
+    // A longer one has zeros behind its whole sectors, also where other bytes stood or its last page was read.
+    FileRow {
+        length: 1100,
+        byte: 1,
+        read_only: false,
+        cut: 1100,
+        end: 2048,
+        script: &[
+            (Read(1), Halves(1, 1)),
+            (Extend(4), Done),
+            (Sectors, Count(4)),
+            (Read(1), Halves(1, 1)),
+            (Read(2), Halves(0, 0)),
+            (Write(3, 9), Done),
+            (Read(3), Halves(9, 9)),
+        ],
+        bytes: &[
+            (1023, 1),
+            (1024, 0),
+            (1099, 0),
+            (1535, 0),
+            (1536, 9),
+            (2047, 9),
+        ],
+    },
     // What is written is read again, also where its page was read before; the last page is one sector.
     FileRow {
         length: 5000,
         byte: 2,
         read_only: false,
         cut: 5000,
+        end: 5000,
         script: &[
             (Sectors, Count(9)),
             (Read(0), Halves(2, 2)),
@@ -79,6 +108,7 @@ const FILES: [FileRow; 6] = [
         byte: 0,
         read_only: false,
         cut: 0,
+        end: 0,
         script: &[(Sectors, Count(0)), (Sync, Done)],
         bytes: &[],
     },
@@ -88,6 +118,7 @@ const FILES: [FileRow; 6] = [
         byte: 2,
         read_only: false,
         cut: 8192,
+        end: 8192,
         script: &[
             (Write(3, 5), Done),
             (Write(13, 7), Done),
@@ -114,6 +145,7 @@ const FILES: [FileRow; 6] = [
         byte: 4,
         read_only: true,
         cut: 1024,
+        end: 1024,
         script: &[
             (Sectors, Count(2)),
             (Read(1), Halves(4, 4)),
@@ -130,6 +162,7 @@ const FILES: [FileRow; 6] = [
         byte: 4,
         read_only: false,
         cut: 700,
+        end: 700,
         script: &[
             (Sectors, Count(2)),
             (Read(0), Halves(4, 4)),
@@ -174,7 +207,7 @@ fn expect_file(rt: &HostRuntime, row: FileRow) -> Result<(), Fail> {
         .bytes
         .iter()
         .all(|(at, byte)| bytes.get(*at) == Some(byte));
-    expect((bytes.len() as u64, same), (row.cut, true), row.length)
+    expect((bytes.len() as u64, same), (row.end, true), row.length)
 }
 
 #[test]

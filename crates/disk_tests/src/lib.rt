@@ -10,6 +10,8 @@ mod disks;
 #[cfg(test)]
 mod file_tests;
 #[cfg(test)]
+mod hold_tests;
+#[cfg(test)]
 mod root_tests;
 #[cfg(test)]
 mod scripts;

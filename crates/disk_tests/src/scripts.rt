@@ -13,6 +13,8 @@ pub enum Deed {
     Write(u64, u8),
     Sync,
     Sectors,
+    /// Makes the disk this long.
+    Extend(u64),
 }
 
 /// What it answers.
@@ -22,18 +24,18 @@ pub enum Answer {
     Halves(u8, u8),
     /// Read: the bytes of a half differ.
     Mixed,
-    /// Written or synced.
+    /// Written, synced or made longer.
     Done,
     /// So many sectors.
     Count(u64),
     /// The device failed.
     Fault,
-    /// The disk was not asked: it has no such sector.
+    /// The disk was not asked: it has no such sector, or is as long.
     NotThere,
 }
 
 use Answer::{Count, Done, Fault, Halves, Mixed, NotThere};
-use Deed::{Read, Sectors, Sync, Write};
+use Deed::{Extend, Read, Sectors, Sync, Write};
 
 /// Calls of a disk in turn, each with what it is to answer.
 pub type Script = &'static [(Deed, Answer)];
@@ -71,6 +73,8 @@ fn answer_to<D: SectorDisk>(disk: &mut D, deed: Deed) -> Answer {
         Write(at, byte) => told(disk.write(at, &[byte; 512])),
         Sync => told(disk.sync()),
         Sectors => Count(disk.sectors()),
+        Extend(sectors) if sectors <= disk.sectors() => NotThere,
+        Extend(sectors) => told(disk.extend(sectors)),
     }
 }
 

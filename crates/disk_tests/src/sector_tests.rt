@@ -1,8 +1,8 @@
 //! What the disks answer (`sector_disk`): each is run at its own type, through the trait's bound.
 
 use crate::scripts::{Answer, Deed, Script, run};
-use Answer::{Done, Fault, Halves};
-use Deed::{Read, Sync, Write};
+use Answer::{Count, Done, Fault, Halves, NotThere};
+use Deed::{Extend, Read, Sectors, Sync, Write};
 use sector_disk::{FlakyDisk, FuseDisk, MemDisk, SectorDisk};
 use std::alloc::Global;
 use std::test::Fail;
@@ -80,6 +80,52 @@ fn digits_begin_again_after_thirty_two(rt: HostRuntime) -> Result<(), Fail> {
     run_after_stop(rt.alloc(), &disk, 5, AFTER_THIRTY_TWO)
 }
 
+/// Two sectors, of which the first is written, and two more.
+const LONGER: Script = &[
+    (Write(0, 7), Done),
+    (Extend(2), NotThere),
+    (Extend(4), Done),
+    (Sectors, Count(4)),
+    (Read(0), Halves(7, 7)),
+    (Read(3), Halves(0, 0)),
+    (Write(2, 9), Done),
+];
+
+/// What stops leave of it. The sectors 0, 2 and 3 are not synced, and 2 and 3 are new. 9 is 1 + 2 * 4, 21 is 1 + 4 + 16, and 53 is
+/// 1 + 4 + 3 * 16, of which a quarter is 13.
+const SHORTENED: [(u64, Script); 5] = [
+    (0, &[(Sectors, Count(2)), (Read(0), Halves(0, 0))]),
+    (
+        5,
+        &[
+            (Sectors, Count(3)),
+            (Read(0), Halves(7, 7)),
+            (Read(2), Halves(9, 9)),
+        ],
+    ),
+    (9, &[(Sectors, Count(3)), (Read(2), Halves(9, 0))]),
+    (
+        21,
+        &[
+            (Sectors, Count(4)),
+            (Read(2), Halves(9, 9)),
+            (Read(3), Halves(0, 0)),
+        ],
+    ),
+    (53, &[(Sectors, Count(4)), (Read(3), Halves(16, 16))]),
+];
+
+#[test]
+fn a_stop_loses_a_new_end_keeps_it_or_leaves_a_part(rt: HostRuntime) -> Result<(), Fail> {
+    let mut disk = MemDisk::new(rt.alloc(), 2)?;
+    run(&mut disk, LONGER)?;
+    for (pick, script) in SHORTENED {
+        run_after_stop(rt.alloc(), &disk, pick, script)?;
+    }
+    run(&mut disk, &[(Sync, Done)])?;
+    run_after_stop(rt.alloc(), &disk, 0, &[(Sectors, Count(4))])
+}
+
 #[test]
 fn a_fuse_passes_as_many_calls_as_it_was_given(rt: HostRuntime) -> Result<(), Fail> {
     let passes = [
@@ -103,7 +149,19 @@ fn a_fuse_passes_as_many_calls_as_it_was_given(rt: HostRuntime) -> Result<(), Fa
 
 /// A call that fails, whether it is carried out first, what is answered then, and what a stop leaves that puts each sector
 /// back as it was synced.
-const FLAKY: [(u64, bool, Script, Script); 4] = [
+const FLAKY: [(u64, bool, Script, Script); 6] = [
+    (
+        0,
+        false,
+        &[(Extend(4), Fault), (Sectors, Count(2)), (Extend(3), Done)],
+        &[(Sectors, Count(2))],
+    ),
+    (
+        0,
+        true,
+        &[(Extend(4), Fault), (Sectors, Count(4)), (Sync, Done)],
+        &[(Sectors, Count(4))],
+    ),
     (
         0,
         false,

@@ -1,7 +1,7 @@
 //! Pages are marked, handed out, written and released (`page_store`), through the trait's bound, on a disk in memory.
 
 use crate::disks::{all_over, byte_of, commit, let_go, opened, table_disk, write_new};
-use page_store::{PageFault, PageStore, Pages};
+use page_store::{MAX_PAGES, PageFault, PageStore, Pages};
 use sector_disk::{MemDisk, SectorDisk};
 use std::alloc::Global;
 use std::test::Fail;
@@ -241,4 +241,44 @@ fn a_disk_with_no_table_comes_back(rt: HostRuntime) -> Result<(), Fail> {
         expect(found, Some((PageFault::NotATable, sectors)), sectors)?;
     }
     Ok(())
+}
+
+/// Makes a store larger, with a root of this byte all over.
+fn grow<P: Pages>(pages: &mut P, alloc: Global, count: u32, byte: u8) -> Result<(), PageFault> {
+    let capacity = pages.capacity();
+    if capacity == 0 || capacity >= count || count > MAX_PAGES {
+        return Err(PageFault::Damaged);
+    }
+    pages.grow(alloc, count, &[byte; 512])
+}
+
+/// How many pages are free in a store on this disk that has so many.
+fn free_in(alloc: Global, disk: MemDisk, count: u32) -> Result<u32, Fail> {
+    match PageStore::open(alloc, disk) {
+        Ok(pages) => {
+            let mut pages = pages;
+            if count > 0 && count <= pages.capacity() {
+                pages.set_capacity(count);
+            }
+            pages.seal();
+            Ok(pages.free_pages())
+        }
+        Err(refused) => Err(refused.fault.into()),
+    }
+}
+
+#[test]
+fn a_store_that_grew_has_its_new_pages_free(rt: HostRuntime) -> Result<(), Fail> {
+    let mut pages = opened(rt.alloc(), table_disk(rt.alloc(), 128, &[7; 512])?)?;
+    pages.seal();
+    expect(pages.free_pages(), 15, 16)?;
+    grow(&mut pages, rt.alloc(), 64, 9)?;
+    expect(pages.free_pages(), 63, 64)?;
+    expect(all_over(&pages.root().bytes), Some(9), 64)?;
+    let disk = pages.into_disk();
+    expect(disk.sectors(), 512, 64)?;
+    let left = disk.after_stop(rt.alloc(), 0)?;
+    expect(free_in(rt.alloc(), left, 16)?, 15, 16)?;
+    let left = disk.after_stop(rt.alloc(), 0)?;
+    expect(free_in(rt.alloc(), left, 64)?, 63, 64)
 }

@@ -1,5 +1,6 @@
 -- A draft is committed, or a first table is loaded.
-use Rattle.std.proofs.Common.{◌≡◌, ◌<◌, ℕ, false, List, [], ◌∷◌, length, Option, None, Some, slice_get, Result, Ok, Err, refl, sym, ◌∙◌, ap, subst, arith}
+use Rattle.std.specs.Option.{is_some}
+use Rattle.std.proofs.Common.{◌≡◌, ◌<◌, ℕ, Bool, true, false, not, List, [], ◌∷◌, length, Option, None, Some, slice_get, Result, Ok, Err, refl, sym, ◌∙◌, ap, subst, arith}
 use Rattle.std.specs.Result.{OnOk, OnErr, IfErr}
 use Rattle.std.proofs.lemmas.Option.{same_Some}
 use Rattle.std.proofs.lemmas.Result.{IfErr-weaker}
@@ -20,7 +21,9 @@ use Rattle.flat_table.specs.Held.{Stores}
 use Rattle.flat_table.specs.Calls.{state_of}
 use Rattle.flat_table.specs.aid.Calls.{IsPutInFile, IsNotPutInFile}
 use Rattle.flat_table.specs.aid.Causes.{PutCause}
-use Rattle.flat_table.specs.Drafts.{IsUnwrittenFile}
+use Rattle.flat_table.specs.Drafts.{stored_now, IsUnwrittenFile}
+use Rattle.table.specs.InMemory.{stored_in}
+use Rattle.table.specs.declared.memory.MemTable.{MemTable}
 use Rattle.flat_table.proofs.Passing.{so_refused}
 use Rattle.flat_table.proofs.Putting.{nothing_put, put_whole, not_put_whole}
 use Rattle.flat_table.proofs.Room.{loading_room}
@@ -140,3 +143,13 @@ load_cause text kind start old new it none is_open TableFull cause = loading_roo
 load_cause text kind start old new it none is_open OutOfMemory cause = tt
 load_cause text kind start old new it none is_open Closed cause = cause
 load_cause text kind start old new it none is_open Inconsistent cause = cause
+
+-- where there is no draft, what is stored is the table of the last commit
+pub copied : (draft : Option MemTable) (game : Option Game) (it : Game) → draft ≡ None → game ≡ Some it → stored_now draft game ≡ stored_in it.table
+copied draft game it none some =
+    subst (λ (d : Option MemTable). stored_now d game ≡ stored_in it.table) (sym none)
+    (subst (λ (o : Option Game). stored_now None o ≡ stored_in it.table) (sym some) refl)
+
+pub not_some : {T : Type 0} (o : Option T) (none : Bool) → is_some o ≡ not none → none ≡ true → o ≡ None
+not_some None none is it = refl
+not_some (Some x) none is it = absurd (let no : true ≡ false = is ∙ ap not it in cc)

@@ -7,9 +7,8 @@ use Rattle.root_pair.specs.Root.{root_of, IsAtRest}
 use Rattle.page_store.specs.declared.fault.PageFault.{PageFault}
 use Rattle.page_store.specs.declared.fault.PageFault.TheVariants.{Disk as DiskFailed, NotATable, Damaged, TableFull, OutOfMemory, Closed}
 use Rattle.page_store.specs.declared.marks.Mark.{Mark}
-use Rattle.page_store.specs.declared.marks.Mark.TheVariants.{Committed, Free}
 use Rattle.page_store.specs.Causes.{StoreCommitCause}
-use Rattle.page_store.specs.Marks.{mark, needs, IsNeeded, AreDiscarded}
+use Rattle.page_store.specs.Marks.{mark, needs, is_past, rests, IsNeeded, AreDiscarded}
 use Rattle.page_store.specs.Page.{page}
 use Rattle.page_store.specs.Spelling.{Stands, IsBack}
 use Rattle.page_store.specs.Store.{Store, Saved, IsSoundStore, IsSafe, StoreWorks, Commits, IsRemarked, IsUnchanged}
@@ -48,6 +47,9 @@ unchanged_works root old new commits same =
       reads = λ honest p needed. ap (λ (s : Shown). page s.contents p) (same.shown honest);
       safe = λ honest safe. still_safe honest safe;
       leaves = λ honest safe. leaves_more (safe_saves old safe) (same.leaves honest);
+      holds = same.holds;
+      past = λ p. ap (λ (ms : List Mark). is_past (mark ms p)) same.marks;
+      held = commits.held;
     }
   where
     still_safe : IsTrue old.disk.honest → IsSafe old → IsSafe new
@@ -138,7 +140,7 @@ backed_again pages old new was backed works back = record {
   there = still_there pages works backed.there;
   calm = λ open_. record {
     each = λ p.
-        subst (λ (ms : List Mark). (mark ms p ≡ Committed) ⊎ (mark ms p ≡ Free)) (sym (back (works.closed open_)).marks) ((backed.calm (works.closed open_)).each p);
+        subst (λ (ms : List Mark). IsTrue (rests (mark ms p))) (sym (back (works.closed open_)).marks) ((backed.calm (works.closed open_)).each p);
   };
   free = λ open_ none p low within.
       ap (λ (ms : List Mark). mark ms p) (back (works.closed open_)).marks ∙ backed.free (works.closed open_) none p low (omega (arith, within, works.same_pages));

@@ -6,7 +6,7 @@ use Rattle.std.proofs.lemmas.List.{get_or_default}
 use Rattle.std.proofs.lemmas.List.Elements.{Contains-get_or}
 use Rattle.sector_disk.specs.Disk.{Disk}
 use Rattle.page_store.specs.declared.marks.Mark.{Mark}
-use Rattle.page_store.specs.declared.marks.Mark.TheVariants.{Committed, Waiting, Fresh, Released, Free}
+use Rattle.page_store.specs.declared.marks.Mark.TheVariants.{Committed, Waiting, Fresh, Released, Free, Past}
 use Rattle.page_store.specs.Marks.{mark, let_go, IsMarked}
 use Rattle.page_store.specs.Page.{page}
 use Rattle.page_store.specs.Store.{Store, reads, StoreWorks, IsRemarked}
@@ -25,7 +25,7 @@ pub record AreLetGo (pages : List ℕ) (place : ℕ) (old new : Store) : Type 0 
 pub none_let_go : (pages : List ℕ) (store : Store) → AreLetGo pages 0 store store
 none_let_go pages store = record {
   works = works_refl store;
-  others = record { disk = refl; failures = refl; root = refl; closed = refl };
+  others = record { disk = refl; failures = refl; root = refl; closed = refl; holds = refl };
   kept = λ p other. refl;
   gone = λ k p before at. absurd (omega (arith, before));
 }
@@ -37,6 +37,7 @@ let_go_gone Waiting = record { not_committed = λ is. cc; not_fresh = λ is. cc 
 let_go_gone Fresh = record { not_committed = λ is. cc; not_fresh = λ is. cc }
 let_go_gone Released = record { not_committed = λ is. cc; not_fresh = λ is. cc }
 let_go_gone Free = record { not_committed = λ is. cc; not_fresh = λ is. cc }
+let_go_gone Past = record { not_committed = λ is. cc; not_fresh = λ is. cc }
 
 -- one more of them
 module _ (pages : List ℕ) (place : ℕ) (old mid new : Store) (so_far : AreLetGo pages place old mid) (within : place < length pages)
@@ -69,6 +70,7 @@ module _ (pages : List ℕ) (place : ℕ) (old mid new : Store) (so_far : AreLet
       failures = others.failures ∙ so_far.others.failures;
       root = others.root ∙ so_far.others.root;
       closed = others.closed ∙ so_far.others.closed;
+      holds = others.holds ∙ so_far.others.holds;
     };
     kept = λ p other. marks.others p (λ same. other (subst (λ (q : ℕ). Contains pages q) (sym same) here)) ∙ so_far.kept p other;
     gone = gone_each;

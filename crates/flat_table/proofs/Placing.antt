@@ -1,16 +1,19 @@
 -- The new table comes into the place of the old one.
-use Rattle.std.proofs.Common.{◌≡◌, ◌≢◌, inl, inr, ◌⊎◌, ℕ, zero, suc, ◌<◌, ◌≤◌, Bool, false, List, length, Option, None, Some, Contains, refl, sym, ◌∙◌, ap, subst, arith}
+use Rattle.std.proofs.Common.{◌≡◌, ◌≢◌, inl, inr, ◌⊎◌, ℕ, zero, suc, ◌<◌, ◌≤◌, Bool, true, false, cond, List, length, Option, None, Some, Contains, refl, sym, ◌∙◌, ap, subst, arith}
 use Rattle.std.specs.Prelude.{IsTrue}
 use Rattle.std.proofs.lemmas.Bool.{cases_lt}
 use Rattle.std.proofs.lemmas.List.{get_or_past}
 use Rattle.sector_disk.specs.Disk.{Picture}
 use Rattle.sector_disk.specs.aid.Moments.{goes_on_trans, leaves_more, still_honest}
 use Rattle.page_store.specs.declared.marks.Mark.{Mark}
-use Rattle.page_store.specs.declared.marks.Mark.TheVariants.{Committed, Waiting, Fresh, Released, Free}
-use Rattle.page_store.specs.Marks.{mark, needs, keeps, turned}
+use Rattle.page_store.specs.declared.marks.Mark.TheVariants.{Committed, Waiting, Fresh, Released, Free, Past}
+use Rattle.page_store.specs.declared.holds.Holders.{Holders}
+use Rattle.page_store.specs.Holds.{Holds, any, holders_at}
+use Rattle.page_store.specs.aid.Holding.{some_need}
+use Rattle.page_store.specs.Marks.{mark, needs, keeps, is_past, rests, committed}
 use Rattle.page_store.specs.Spelling.{Stands, IsPrepared, Spells}
 use Rattle.page_store.specs.Store.{Store, reads, IsSoundStore, StoreWorks, Commits, IsCommitted}
-use Rattle.page_store.specs.aid.Carrying.{commit_carries, committed_stands, committed_calm}
+use Rattle.page_store.specs.aid.Carrying.{commit_carries, committed_stands, committed_calm, nothing_stays_without_a_hold}
 use Rattle.page_chain.specs.Chain.{IsChain, first_of}
 use Rattle.position_pack.specs.declared.kind.PackingKind.{PackingKind}
 use Rattle.root_slot.specs.Fields.{number_of_packing}
@@ -23,15 +26,14 @@ use Rattle.flat_table.specs.File.{IsBacked}
 use Rattle.flat_table.specs.aid.StoredLaws.{game_rests_on_its_pages, spells_stores}
 use Rattle.flat_table.specs.Saving.{AreBytesOf, StoreGoesAhead}
 use Rattle.game_file.specs.Stops.{LeavesEither}
-use Rattle.flat_table.specs.aid.Steps.{IsGone, IsExchanged, IsSlotOf, IsReplaced}
+use Rattle.flat_table.specs.aid.Steps.{HasNoHold, IsGone, IsExchanged, IsSlotOf, IsReplaced}
 
 -- a mark is one of them
 marks_apart : (m : Mark) → m ≡ Committed → m ≡ Free → ⊥
 marks_apart m one other = cc
 
-waits_apart : (m : Mark) → (m ≡ Committed) ⊎ (m ≡ Free) → m ≡ Waiting → ⊥
-waits_apart m (inl one) other = cc
-waits_apart m (inr one) other = cc
+waits_apart : (m : Mark) → IsTrue (rests m) → m ≡ Waiting → ⊥
+waits_apart m calm waits = let no : IsTrue (rests Waiting) = subst (λ (n : Mark). IsTrue (rests n)) waits calm in cc
 
 not_needed : (m : Mark) → IsTrue (needs m) → m ≡ Free → ⊥
 not_needed Committed needed is = cc
@@ -39,6 +41,7 @@ not_needed Waiting needed is = cc
 not_needed Fresh needed is = cc
 not_needed Released needed is = cc
 not_needed Free needed is = cc
+not_needed Past needed is = cc
 
 some_apart : {X : Type 0} (x : X) → Some x ≡ None → ⊥
 some_apart x is = cc
@@ -134,13 +137,24 @@ commit_ahead root old mid new was_open works commits same = record {
   closed = λ open_. was_open;
 }
 
--- what was let go is free after a commit, unless it waits
-turned_free : (m : Mark) → IsGone m → m ≢ Waiting → turned Committed Free Waiting m ≡ Free
-turned_free Committed gone not = absurd (gone.not_committed refl)
-turned_free Waiting gone not = absurd (not refl)
-turned_free Fresh gone not = absurd (gone.not_fresh refl)
-turned_free Released gone not = refl
-turned_free Free gone not = refl
+-- what was let go is free after a commit, unless it waits or a hold needs it
+committed_free : (h : Holders) (m : Mark) → IsGone m → m ≢ Waiting → any h ≡ false → is_past m ≡ false → committed h m ≡ Free
+committed_free h Committed gone not none past = absurd (gone.not_committed refl)
+committed_free h Waiting gone not none past = absurd (not refl)
+committed_free h Fresh gone not none past = absurd (gone.not_fresh refl)
+committed_free h Released gone not none past = ap (λ (b : Bool). cond b Past Free) none
+committed_free h Free gone not none past = refl
+committed_free h Past gone not none past = cc
+
+-- where no hold is taken none needs the page
+none_needs : (store : Store) → IsSoundStore store → HasNoHold store → (p : ℕ) → any (holders_at store.holds.of p) ≡ false
+none_needs store sound none p = by (any (holders_at store.holds.of p)) refl
+  where
+    by : (b : Bool) → any (holders_at store.holds.of p) ≡ b → any (holders_at store.holds.of p) ≡ false
+    by false is = is
+    by true is =
+        let (place, needs_it) = some_need (holders_at store.holds.of p) is in
+        absurd (let no : true ≡ false = sym (sound.holds.taken place p needs_it) ∙ none place in cc)
 
 -- the new table is in the place of the old one
 pub replaces : (was_pages pages bytes root : List ℕ) (kind : PackingKind) (sizes : Sizes) (old mid new : Store) → IsSoundStore old → old.closed ≡ false → IsExchanged was_pages pages bytes old mid
@@ -151,7 +165,11 @@ replaces was_pages pages bytes root kind sizes old mid new sound was_open exchan
   there = λ p here.
       let page = free_page old p sound (exchanged.freed p here) in
       (page.0, omega (arith, page.1, done.marks.same_length, exchanged.works.same_pages));
-  freed = λ p here not. done.marks.each p ∙ turned_free _ (exchanged.gone p here) (λ waits. not (exchanged.works.waiting p waits));
+  freed = λ p here not none.
+      done.marks.each p
+      ∙ ap (λ (h : Holds). committed (holders_at h.of p) (mark mid.marks p)) exchanged.works.holds
+      ∙ committed_free (holders_at old.holds.of p) (mark mid.marks p) (exchanged.gone p here) (λ waits. not (exchanged.works.waiting p waits)) (none_needs old sound none p)
+      (exchanged.works.past p ∙ nothing_stays_without_a_hold old sound none p);
   ahead = commit_ahead root old mid new was_open exchanged.works commits done.marks.same_length;
   stop = λ was is backed it honest open_. commit_leaves was_pages pages bytes root kind sizes old mid new was is sound was_open exchanged slot backed it commits honest;
   done = λ was is backed it. committed_backs was_pages pages bytes root kind sizes old mid new was is sound was_open exchanged slot backed it commits done;

@@ -7,7 +7,7 @@ use Rattle.sector_disk.specs.aid.Moments.{leaves_now}
 use Rattle.page_store.specs.declared.marks.Mark.{Mark}
 use Rattle.page_store.specs.declared.marks.Mark.TheVariants.{Committed, Waiting, Fresh, Released, Free}
 use Rattle.page_store.specs.aid.Carrying.{sealed_stands}
-use Rattle.page_store.specs.Marks.{mark, needs, turned, AreSealed}
+use Rattle.page_store.specs.Marks.{mark, needs, rests, turned, AreSealed}
 use Rattle.page_store.specs.Page.{page}
 use Rattle.page_store.specs.Spelling.{SpelledBy, Stands}
 use Rattle.page_store.specs.Store.{Store, IsSoundStore, IsRemarked}
@@ -32,6 +32,10 @@ nothing_marked store = record {
   closed = refl;
   others = λ p. inl refl;
 }
+
+at_rest : (m : Mark) → (m ≡ Committed) ⊎ (m ≡ Free) → IsTrue (rests m)
+at_rest m (inl is) = subst (λ (n : Mark). IsTrue (rests n)) (sym is) refl
+at_rest m (inr is) = subst (λ (n : Mark). IsTrue (rests n)) (sym is) refl
 
 waits_apart : (m : Mark) → m ≡ Committed → m ≡ Waiting → ⊥
 waits_apart m one other = cc
@@ -99,7 +103,7 @@ module _ (old mid new : Store) (pages : List ℕ) (kept : Option Kept) (sound : 
   sealed_backed room wait = record {
     room = omega (arith, room, long);
     there = there;
-    calm = λ open_. record { each = λ p. sealed_each p (mid_each wait p) };
+    calm = λ open_. record { each = λ p. at_rest (mark new.marks p) (sealed_each p (mid_each wait p)) };
     free = λ open_ none p low within.
         sealed.each p ∙ ap (λ (ms : List Mark). turned Fresh Released Free (mark ms p)) (read.none none) ∙ ap (turned Fresh Released Free) (wait p low (omega (arith, within, long)));
     stands = λ honest open_. new_stands (was_honest honest);

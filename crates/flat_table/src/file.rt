@@ -197,6 +197,14 @@ impl<D: SectorDisk> GameFile for FlatTable<D> {
     ghost fails_for = { λ old new fault whole cause. memory_cause (state_of (file_in old))
         (state_of (file_in new)) fault cause.1 };
 
+    ghost lasts = { λ old new. Unit {0} };
+
+    ghost lasts_then = { λ a b c first second. tt };
+
+    ghost goes_on_lasts = { λ old new it. tt };
+
+    ghost fails_lasts = { λ old new fault it. tt };
+
     ghost few = { λ t. few_stored t.draft t.game };
 
     fn create(alloc: Global, disk: D) -> Result<Self, Refused<D>> {

@@ -13,7 +13,7 @@ ghost use Rattle.game_file.specs.Kept.{Kept};
 ghost use Rattle.flat_table.specs.SaveCauses.{SaveCause};
 ghost use Rattle.flat_table.specs.Saving.{AreBytesOf, StoreGoesAhead};
 ghost use Rattle.game_file.specs.Stops.{LeavesEither, LeavesTable};
-ghost use Rattle.flat_table.specs.aid.Steps.{LetsGo, IsExchanged, IsSlotOf, IsReplaced, IsLeft};
+ghost use Rattle.flat_table.specs.aid.Steps.{HasNoHold, LetsGo, IsExchanged, IsSlotOf, IsReplaced, IsLeft};
 
 use crate::slot::{GameSlot, game_slot};
 use page_chain::write_chain;
@@ -24,7 +24,7 @@ use std::alloc::Global;
 use table_bytes::Written;
 
 /// Writes a chain with these bytes on free pages, and commits a root that names it and this packing in the place of the one that names the
-/// old chain, whose pages are free then. The new root tells this count of commits. Answers the pages of the new chain.
+/// old chain, whose pages are free then where no hold is taken. The new root tells this count of commits. Answers the pages of the new chain.
 /// After a refusal the store is as after the last commit, or closed; it is closed by `Disk` alone.
 ///
 /// A stop of the power within it leaves the old table or the new one, and after `Ok` the new.
@@ -49,7 +49,7 @@ pub fn save<P: Pages>(
         → IfOk result (λ pages. IsBacked (P.store store.new) pages.items (Some is)) }
     ensures pages { IfOk result (λ pages. (p : ℕ) → Contains pages.items p → (1 ≤ p) × (p < length (P.store store.new).marks)) }
     ensures freed { OnOk result ((p : ℕ) → Contains old.now p → mark_of (P.store store.old).marks p ≢ Waiting
-        → mark_of (P.store store.new).marks p ≡ Free) }
+        → HasNoHold (P.store store.old) → mark_of (P.store store.new).marks p ≡ Free) }
     ensures open { OnOk result ((P.store store.new).closed ≡ false) }
     ensures back { (was : Option Kept) → IsBacked (P.store store.old) old.now was
         → OnErr result (IsBacked (P.store store.new) old.now was) }

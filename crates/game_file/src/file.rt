@@ -39,6 +39,9 @@ pub trait GameFile: Table {
     /// What the last commit keeps is what the disk stores, and no command is going on.
     ghost is_whole: { Self → Type 0 };
 
+    /// What is kept of an earlier commit, for whoever reads it still, is kept in the later state of the file.
+    ghost lasts: { Self → Self → Type 0 };
+
     /// Makes the empty table on this disk, and opens it: E1, E3 and then E6, E8.
     fn create(alloc: Global, disk: Self::Device) -> Result<Self, Refused<Self::Device>>
         ensures whole { IfOk result is_whole }
@@ -82,6 +85,7 @@ pub trait GameFile: Table {
     fn load(&mut self, text: &[u8], packing: PackingKind, start: &Packed) -> Result<(), FileFault>
         requires { length text.now ≤ MAX_TEXT_BYTES }
         ensures ahead { GoesAhead (state self.old) (state self.new) }
+        ensures lasts { lasts self.old self.new }
         ensures whole { is_whole self.old → is_whole self.new }
         ensures ok { is_whole self.old → (state self.old).kept ≡ None
             → OnOk result (IsPut stores (kept_as text.now packing (loaded start.now.items)) (state self.old) (state self.new)) }
@@ -96,6 +100,7 @@ pub trait GameFile: Table {
     /// last commit or this one.
     fn commit(&mut self) -> Result<(), FileFault>
         ensures ahead { GoesAhead (state self.old) (state self.new) }
+        ensures lasts { lasts self.old self.new }
         ensures ok { (was : Self) (kept : Kept) → is_whole was → (state was).kept ≡ Some kept → Self.goes_on was self.old
             → (IsTrue (state was).disk.honest → IsTable (Self.stored self.old))
             → OnOk result (is_whole self.new × IsPut stores (kept_as kept.text kept.packing (Self.stored self.old)) (state was)
@@ -112,6 +117,7 @@ pub trait GameFile: Table {
     /// Gives a command up: the table is that of the last commit again. It takes no memory and always answers.
     fn discard(&mut self)
         ensures ahead { GoesAhead (state self.old) (state self.new) }
+        ensures lasts { lasts self.old self.new }
         ensures back { (was : Self) → is_whole was → Self.goes_on was self.old
             → is_whole self.new × IsNothingPut stores (state was) (state self.new) × ((state self.new).closed ≡ (state was).closed) }
         ensures failed { (was : Self) (fault : TableFault) → is_whole was → Self.fails was self.old fault
@@ -153,6 +159,15 @@ pub trait GameFile: Table {
     /// A fault of the table has its cause.
     ghost fails_for: { (old new : Self) (fault : TableFault) → is_whole old → Self.fails old new fault
         → FileTableCause (state old) (state new) fault };
+
+    /// What is kept over one call and then over others is kept over all.
+    ghost lasts_then: { (a b c : Self) → lasts a b → lasts b c → lasts a c };
+
+    /// The table's calls keep what is kept of an earlier commit.
+    ghost goes_on_lasts: { (old new : Self) → Self.goes_on old new → lasts old new };
+
+    /// So they do where one is not answered.
+    ghost fails_lasts: { (old new : Self) (fault : TableFault) → Self.fails old new fault → lasts old new };
 
     /// No file has more than 16,777,216 positions.
     ghost few: { (file : Self) → (Self.counted file).known ≤ 2 ^ 24 };

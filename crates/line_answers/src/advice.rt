@@ -26,6 +26,7 @@ pub fn advice(fault: SolverFault) -> &'static str {
         SolverFault::Inconsistent => "it is not of this program's making, so begin with a new one",
         SolverFault::NoSuchPosition => "`status` says how many are known, and `work` may find more",
         SolverFault::NotSettled => "`value` says whether it is drawn, or still open",
+        SolverFault::ListingsUsedUp => "end one of them first",
         SolverFault::BadPosition => "write it as `show` does",
     }
 }

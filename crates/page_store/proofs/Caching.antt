@@ -15,11 +15,13 @@ use Rattle.lru.proofs.CallerLemmas.{Contains-take, Contains-lookup_entry, Contai
 use Rattle.lru.proofs.Pairs.{lookup-lookup_entry}
 use Rattle.lru.proofs.Splits.{Contains-cons, all_at}
 use Rattle.page_store.specs.declared.marks.Mark.{Mark}
-use Rattle.page_store.specs.declared.marks.Mark.TheVariants.{Committed, Waiting, Fresh, Released, Free}
+use Rattle.page_store.specs.declared.marks.Mark.TheVariants.{Committed, Waiting, Fresh, Released, Free, Past}
+use Rattle.page_store.specs.declared.holds.Holders.{Holders}
+use Rattle.page_store.specs.Holds.{holders_at}
 use Rattle.page_store.specs.declared.cache.PageCache.{PageCache}
 use Rattle.page_store.specs.declared.cache.KeptPage.{KeptPage}
 use Rattle.page_store.specs.Cache.{HoldsPage, OnlyForgets, IsCacheOf, HoldsAt, IsPlaced, kept_at, no_page}
-use Rattle.page_store.specs.Marks.{mark, keeps, turned, AreCommitted, IsMarked, IsKept}
+use Rattle.page_store.specs.Marks.{mark, keeps, committed, left, AreCommitted, AreLeft, IsMarked, IsKept}
 use Rattle.page_store.specs.Store.{Store, reads}
 
 abbrev pub Entries : Type 0
@@ -226,15 +228,28 @@ added old new was cache page bytes of after honest marks kept same others = reco
 }
 
 -- `commit` keeps what the next root needs
-pub committed_kept : (old new : List Mark) → AreCommitted old new → (p : ℕ) → IsKept old p → IsKept new p
-committed_kept old new marks p kept = (kept.0, omega (arith, kept.1, marks.same_length), subst (λ (m : Mark). IsTrue (keeps m)) (sym (marks.each p)) (by (mark old p) kept.2))
+pub committed_kept : (holders : List Holders) (old new : List Mark) → AreCommitted holders old new → (p : ℕ) → IsKept old p → IsKept new p
+committed_kept holders old new marks p kept = (kept.0, omega (arith, kept.1, marks.same_length), subst (λ (m : Mark). IsTrue (keeps m)) (sym (marks.each p)) (by (mark old p) kept.2))
   where
-    by : (m : Mark) → IsTrue (keeps m) → IsTrue (keeps (turned Committed Free Waiting m))
+    by : (m : Mark) → IsTrue (keeps m) → IsTrue (keeps (committed (holders_at holders p) m))
     by Committed is = is
     by Waiting is = is
     by Fresh is = refl
+    by Released is = cc
+    by Free is = is
+    by Past is = is
+
+-- so does a hold that is let go
+pub left_kept : (holders : List Holders) (old new : List Mark) → AreLeft holders old new → (p : ℕ) → IsKept old p → IsKept new p
+left_kept holders old new marks p kept = (kept.0, omega (arith, kept.1, marks.same_length), subst (λ (m : Mark). IsTrue (keeps m)) (sym (marks.each p)) (by (mark old p) kept.2))
+  where
+    by : (m : Mark) → IsTrue (keeps m) → IsTrue (keeps (left (holders_at holders p) m))
+    by Committed is = is
+    by Waiting is = is
+    by Fresh is = is
     by Released is = is
     by Free is = is
+    by Past is = cc
 
 -- one page has another mark: the others are kept as before
 pub marked_kept : (old new : List Mark) (page : ℕ) (now : Mark) → IsMarked page now old new → (p : ℕ) → p ≢ page → IsKept old p → IsKept new p

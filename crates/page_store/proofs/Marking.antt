@@ -2,11 +2,15 @@
 use Rattle.std.proofs.Common.{◌≡◌, ◌≢◌, inl, inr, ℕ, suc, ◌+◌, ◌<◌, ◌≤◌, List, [], ◌∷◌, ◌++◌, length, refl, sym, ◌∙◌, ap, subst, arith}
 use Rattle.std.proofs.lemmas.List.{get_or-set_same, get_or-set_other, length-set, get_or_past}
 use Rattle.std.proofs.lemmas.Bool.{cases_lt, cases_eq}
-use Rattle.std.specs.Prelude.{slice_set, IfNone}
+use Rattle.std.specs.Prelude.{slice_index_or, slice_set, IfNone, false}
 use Rattle.std.proofs.Common.{Option, None, Some}
 use Rattle.page_store.specs.declared.marks.Mark.{Mark}
-use Rattle.page_store.specs.declared.marks.Mark.TheVariants.{Committed, Waiting, Fresh, Released, Free}
-use Rattle.page_store.specs.Marks.{mark, turned, Turned, IsMarked, free_one, free_count}
+use Rattle.page_store.specs.declared.marks.Mark.TheVariants.{Committed, Waiting, Fresh, Released, Free, Past}
+use Rattle.page_store.specs.declared.holds.HoldPlace.{HoldPlace}
+use Rattle.page_store.specs.declared.holds.HoldPlace.TheVariants.{First, Second, Third, Fourth}
+use Rattle.page_store.specs.declared.holds.Holders.{Holders}
+use Rattle.page_store.specs.Holds.{none, with_need}
+use Rattle.page_store.specs.Marks.{mark, turned, Turned, committed, left, IsMarked, free_one, free_count}
 
 -- one page more has its new mark
 module _ (f r w now : Mark) (start old : List Mark) (at : ℕ) (here : at < length old) (is : now ≡ turned f r w (mark start at))
@@ -40,6 +44,7 @@ none_free (Committed ∷ marks) none = omega (arith, none_free marks (λ p low. 
 none_free (Waiting ∷ marks) none = omega (arith, none_free marks (λ p low. none (suc p) (omega (arith, low))))
 none_free (Fresh ∷ marks) none = omega (arith, none_free marks (λ p low. none (suc p) (omega (arith, low))))
 none_free (Released ∷ marks) none = omega (arith, none_free marks (λ p low. none (suc p) (omega (arith, low))))
+none_free (Past ∷ marks) none = omega (arith, none_free marks (λ p low. none (suc p) (omega (arith, low))))
 none_free (Free ∷ marks) none = absurd (none 0 (omega arith) refl)
 
 -- a page that counts for none is not free
@@ -59,6 +64,7 @@ one_at_most Waiting = omega arith
 one_at_most Fresh = omega arith
 one_at_most Released = omega arith
 one_at_most Free = omega arith
+one_at_most Past = omega arith
 
 pub none_gives : {P Q : Type 0} (r : Option ℕ) → (P → Q) → IfNone r P → IfNone r Q
 none_gives None f given = f given
@@ -73,3 +79,37 @@ all_turned f r w start new at long end done = record { same_length = long; each 
       | inl low ↦ done p low
       | inr high ↦ get_or_past new p Committed (omega (arith, long, end, high)) ∙ sym (ap (turned f r w) (get_or_past start p Committed (omega (arith, end, high))))
     ]
+
+-- one place more has its new value
+module _ {A : Type 0} (d : A) (g : ℕ → A → A) (start old : List A) (at : ℕ) (now : A) (here : at < length old) (is : now ≡ g at (slice_index_or start at d))
+    (done : (p : ℕ) → p < at → slice_index_or old p d ≡ g p (slice_index_or start p d))
+    (ahead : (p : ℕ) → at ≤ p → slice_index_or old p d ≡ slice_index_or start p d) where
+  pub each_done : (p : ℕ) → p < at + 1 → slice_index_or (slice_set old at now) p d ≡ g p (slice_index_or start p d)
+  each_done p low = elim (cases_eq p at) [
+    | inl same ↦ subst (λ (q : ℕ). slice_index_or (slice_set old at now) q d ≡ g q (slice_index_or start q d)) (sym same) (get_or-set_same old at now d here ∙ is)
+    | inr other ↦ get_or-set_other old at p now d other ∙ done p (omega (arith, low, other))
+  ]
+
+  pub each_ahead : (p : ℕ) → at + 1 ≤ p → slice_index_or (slice_set old at now) p d ≡ slice_index_or start p d
+  each_ahead p high = get_or-set_other old at p now d (omega (arith, high)) ∙ ahead p (omega (arith, high))
+
+-- all places have their new values, where a place behind the last one has the same
+pub all_each : {A : Type 0} (d : A) (g : ℕ → A → A) (start new : List A) (at : ℕ) → length new ≡ length start → length start ≤ at
+    → ((p : ℕ) → length start ≤ p → g p d ≡ d) → ((p : ℕ) → p < at → slice_index_or new p d ≡ g p (slice_index_or start p d)) → (p : ℕ)
+    → slice_index_or new p d ≡ g p (slice_index_or start p d)
+all_each d g start new at long end same done p = elim (cases_lt p (length start)) [
+  | inl low ↦ done p (omega (arith, low, end))
+  | inr high ↦ get_or_past new p d (omega (arith, long, high)) ∙ sym (ap (g p) (get_or_past start p d high) ∙ same p high)
+]
+
+pub committed_same : (h : Holders) → committed h Committed ≡ Committed
+committed_same h = refl
+
+pub left_same : (h : Holders) → left h Committed ≡ Committed
+left_same h = refl
+
+pub without_none : (place : HoldPlace) → with_need none place false ≡ none
+without_none First = refl
+without_none Second = refl
+without_none Third = refl
+without_none Fourth = refl

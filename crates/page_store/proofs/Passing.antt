@@ -22,4 +22,5 @@ unchanged_refl store = record {
   closed = refl;
   shown = λ honest. refl;
   leaves = λ honest. leaves_now store.disk (λ picture left. left);
+  holds = refl;
 }

@@ -6,7 +6,7 @@ use Rattle.page_store.specs.declared.fault.PageFault.{PageFault}
 use Rattle.page_store.specs.declared.fault.PageFault.TheVariants.{Disk as DiskFailed, NotATable, Damaged, TableFull, OutOfMemory, Closed}
 use Rattle.page_store.specs.declared.marks.Mark.TheVariants.{Waiting}
 use Rattle.page_store.specs.Marks.{mark, free_count}
-use Rattle.page_store.specs.Store.{Store, IsUnchanged}
+use Rattle.page_store.specs.Store.{Store, IsLengthened, IsUnchanged}
 
 -- `open`: the disk failed, it holds no table, or memory is short
 abbrev pub StoreOpenCause : Disk → ℕ → ℕ → PageFault → Type 0
@@ -45,3 +45,10 @@ abbrev pub StoreCommitCause : Store → Store → PageFault → Type 0
 StoreCommitCause old new DiskFailed = Grew old.failures new.failures × (IsUnchanged old new ⊎ (new.closed ≡ true))
 StoreCommitCause old new Closed = old.closed ≡ true
 StoreCommitCause old new _ = ⊥
+
+-- `grow`: the disk failed, and the store is as it was, on a disk that may be longer, or closed; memory is short; or it was closed
+abbrev pub GrowCause : Store → Store → PageFault → Type 0
+GrowCause old new DiskFailed = Grew old.failures new.failures × (IsLengthened old new ⊎ (new.closed ≡ true))
+GrowCause old new OutOfMemory = Unit {0}
+GrowCause old new Closed = old.closed ≡ true
+GrowCause old new _ = ⊥

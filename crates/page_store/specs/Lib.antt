@@ -1,6 +1,7 @@
 pub use Rattle.sector_disk.specs.Disk
 pub mod Cache
 pub mod Causes
+pub mod Holds
 pub mod Marks
 pub mod Page
 pub mod Spelling

@@ -3,10 +3,10 @@
 use Rattle.std.specs.Prelude.{◌≡◌, ◌⊎◌, ℕ, ◌*◌, ◌≤◌, List, length, IsTrue}
 use Rattle.sector_disk.specs.Disk.{Picture, LeavesOnly}
 use Rattle.root_pair.specs.Root.{HoldsRoot}
-use Rattle.page_store.specs.declared.marks.Mark.TheVariants.{Committed, Free}
-use Rattle.page_store.specs.Marks.{mark, IsNeeded, IsKept}
+use Rattle.page_store.specs.declared.holds.HoldPlace.{HoldPlace}
+use Rattle.page_store.specs.Marks.{mark, rests, IsNeeded, IsKept}
 use Rattle.page_store.specs.Page.{page}
-use Rattle.page_store.specs.Store.{Store, reads, IsCommitted, IsUnchanged}
+use Rattle.page_store.specs.Store.{Store, reads, IsHeldBy, IsCommitted, IsGrown, IsLengthened, IsUnchanged}
 
 -- these pages alone, with the bytes that they have here, spell it
 pub record SpelledBy (named : ℕ → Type 0) (bytes : ℕ → List ℕ) (Spelt : (ℕ → List ℕ) → Type 0) : Type 0 where
@@ -38,9 +38,23 @@ pub record IsCarried (root : List ℕ) (was_named : ℕ → Type 0) (Was : (ℕ 
   pub left : IsUnchanged mid new → Stands was_named Was new
   pub left_stop : IsUnchanged mid new → LeavesOnly old.disk new.disk (Spells old.root (length old.marks) Was)
 
+-- a store grows from `old` to `new`, to so many pages and by this root: a stop since `old` leaves what stood there, under the old root or
+-- under the new one with room for so many pages; it stands in `new`, after Ok and after a refusal that left the store open, and
+-- such a refusal leaves it under the old root
+pub record IsCarriedGrown (root : List ℕ) (pages : ℕ) (named : ℕ → Type 0) (Spelt : (ℕ → List ℕ) → Type 0) (old new : Store) : Type 0 where
+  pub stop : LeavesOnly old.disk new.disk (λ picture. Spells old.root (length old.marks) Spelt picture ⊎ Spells root pages Spelt picture)
+  pub done : IsGrown root pages old new → Stands named Spelt new
+  pub left : IsLengthened old new → Stands named Spelt new
+  pub left_stop : IsLengthened old new → LeavesOnly old.disk new.disk (Spells old.root (length old.marks) Spelt)
+
 -- nothing is handed out or released, and no page waits: as after a commit
 pub record IsCalm (store : Store) : Type 0 where
-  pub each : (p : ℕ) → (mark store.marks p ≡ Committed) ⊎ (mark store.marks p ≡ Free)
+  pub each : (p : ℕ) → IsTrue (rests (mark store.marks p))
+
+-- the pages that a hold needs spell it: none of them is written before the hold is let go
+pub record StandsHeld (place : HoldPlace) (named : ℕ → Type 0) (Spelt : (ℕ → List ℕ) → Type 0) (store : Store) : Type 0 where
+  pub spelled : SpelledBy named (reads store) Spelt
+  pub held : (p : ℕ) → named p → IsHeldBy place store p
 
 -- the root, the marks and the bytes of the needed pages are as they were
 pub record IsBack (old new : Store) : Type 0 where

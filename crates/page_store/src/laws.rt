@@ -1,10 +1,13 @@
 //! What holds of every store: each is a law, which proofs cite by a call, or by the lemma of the same name in specs/.
-ghost use Rattle.std.specs.Prelude.{◌≡◌, ◌≤◌, ◌<◌, ℕ, List, length, IsTrue};
+ghost use Rattle.std.specs.Prelude.{◌≡◌, ◌≢◌, ◌≤◌, ◌<◌, ℕ, List, false, length, IsTrue};
 ghost use Rattle.sector_disk.specs.Disk.{Disk};
-ghost use Rattle.page_store.specs.declared.marks.Mark.TheVariants.{Committed, Waiting};
-ghost use Rattle.page_store.specs.Marks.{mark, AreSealed, AreDiscarded};
+ghost use Rattle.page_store.specs.declared.holds.HoldPlace.{HoldPlace};
+ghost use Rattle.page_store.specs.declared.marks.Mark.TheVariants.{Committed, Waiting, Fresh, Free};
+ghost use Rattle.page_store.specs.Holds.{needed_by};
+ghost use Rattle.page_store.specs.Marks.{mark, is_past, AreSealed, AreDiscarded};
 ghost use Rattle.page_store.specs.Store.{Store, reads, StopLeaves, IsSafe, StoreWorks, Commits, IsRemarked, IsCommitted, IsOpened};
-ghost use Rattle.page_store.specs.Spelling.{SpelledBy, Stands, IsPrepared, Spells, IsCarried, IsCalm, IsBack};
+ghost use Rattle.page_store.specs.Store.{IsHeldBy, IsSoundStore, IsTaken, IsLetGo, Grows, IsGrown};
+ghost use Rattle.page_store.specs.Spelling.{SpelledBy, Stands, StandsHeld, IsPrepared, Spells, IsCarried, IsCarriedGrown, IsCalm, IsBack};
 
 /// What the pages of a root spell for a layer above: a chain, a tree, a whole table. Only proofs speak of it.
 pub trait Spelling {
@@ -21,6 +24,14 @@ pub fn commit_carries<Was: Spelling, Is: Spelling>()
     ensures { (root : List ℕ) (old mid new : Store) → IsTrue old.disk.honest → IsSafe old
         → Stands Was.named Was.spelt old → StoreWorks old mid → IsPrepared Is.named Is.spelt mid → Commits root mid new
         → IsCarried root Was.named Was.spelt Is.named Is.spelt old mid new }
+{}
+
+/// A store in which nothing is handed out or released grows: what its pages spell stands, and a stop leaves it under the old root, or
+/// under the new one with room for so many pages; after a refusal that left the store open, under the old.
+pub fn grow_carries<S: Spelling>()
+    ensures { (root : List ℕ) (pages : ℕ) (old new : Store) → IsTrue old.disk.honest → IsSafe old → IsSoundStore old
+        → length old.marks < pages → IsCalm old → Stands S.named S.spelt old → Grows root pages old new
+        → IsCarriedGrown root pages S.named S.spelt old new }
 {}
 
 /// A stop leaves the committed root and what its pages spell.
@@ -58,4 +69,68 @@ pub fn discard_goes_back()
 pub fn committed_calm()
     ensures { (root : List ℕ) (old new : Store) → ((p : ℕ) → mark old.marks p ≡ Waiting → ⊥) → IsCommitted root old new
         → IsCalm new }
+{}
+
+/// After growing nothing is handed out or released.
+pub fn grown_calm()
+    ensures { (root : List ℕ) (pages : ℕ) (old new : Store) → ((p : ℕ) → mark old.marks p ≡ Waiting → ⊥) → IsGrown root pages old new
+        → IsCalm new }
+{}
+
+/// A hold that is taken needs the pages of the committed root, so that what they spell stands until it is let go.
+pub fn hold_stands<S: Spelling>()
+    ensures { (place : HoldPlace) (old new : Store) → ((p : ℕ) → mark old.marks p ≡ Waiting → ⊥) → IsTaken place old new
+        → Stands S.named S.spelt old → StandsHeld place S.named S.spelt new }
+{}
+
+/// Another hold is taken: what a hold needs stands.
+pub fn hold_stands_held<S: Spelling>()
+    ensures { (place other : HoldPlace) (old new : Store) → IsSoundStore old → place ≢ other → IsTaken place old new
+        → StandsHeld other S.named S.spelt old → StandsHeld other S.named S.spelt new }
+{}
+
+/// A call that commits nothing keeps what a hold needs, `discard` too.
+pub fn works_stands_held<S: Spelling>()
+    ensures { (place : HoldPlace) (old new : Store) → IsTrue old.disk.honest → StoreWorks old new
+        → StandsHeld place S.named S.spelt old → StandsHeld place S.named S.spelt new }
+{}
+
+/// A commit keeps what a hold needs, whatever it answers.
+pub fn commit_stands_held<S: Spelling>()
+    ensures { (place : HoldPlace) (root : List ℕ) (old new : Store) → IsTrue old.disk.honest → Commits root old new
+        → StandsHeld place S.named S.spelt old → StandsHeld place S.named S.spelt new }
+{}
+
+/// Growing keeps what a hold needs, whatever it answers.
+pub fn grow_stands_held<S: Spelling>()
+    ensures { (place : HoldPlace) (root : List ℕ) (pages : ℕ) (old new : Store) → IsTrue old.disk.honest → Grows root pages old new
+        → StandsHeld place S.named S.spelt old → StandsHeld place S.named S.spelt new }
+{}
+
+/// Another hold is let go: what a hold needs stands.
+pub fn let_go_stands_held<S: Spelling>()
+    ensures { (place other : HoldPlace) (old new : Store) → place ≢ other → IsLetGo place old new
+        → StandsHeld other S.named S.spelt old → StandsHeld other S.named S.spelt new }
+{}
+
+/// A hold is let go: what the pages of the committed root spell stands.
+pub fn let_go_stands<S: Spelling>()
+    ensures { (place : HoldPlace) (old new : Store) → IsLetGo place old new → Stands S.named S.spelt old → Stands S.named S.spelt new }
+{}
+
+/// A hold is let go between commands: nothing is handed out or released.
+pub fn let_go_calm()
+    ensures { (place : HoldPlace) (old new : Store) → IsLetGo place old new → IsCalm old → IsCalm new }
+{}
+
+/// A page that a hold needs is neither free nor handed out: it is not given to anybody else, and not written.
+pub fn what_is_held_is_not_free()
+    ensures { (store : Store) (place : HoldPlace) (p : ℕ) → IsSoundStore store → IsHeldBy place store p
+        → (mark store.marks p ≢ Free) × (mark store.marks p ≢ Fresh) }
+{}
+
+/// Where no hold is taken no page stays for one.
+pub fn nothing_stays_without_a_hold()
+    ensures { (store : Store) → IsSoundStore store → ((place : HoldPlace) → needed_by store.holds.taken place ≡ false) → (p : ℕ)
+        → is_past (mark store.marks p) ≡ false }
 {}

@@ -3,14 +3,17 @@
 
 mod cache;
 mod fault;
+mod holds;
 pub mod laws;
 mod limits;
 mod marks;
 mod page;
 mod pages;
+mod room;
 mod store;
 
 pub use fault::PageFault;
+pub use holds::{Hold, HoldPlace, Holders};
 pub use limits::{MAX_PAGES, MIN_PAGES};
 pub use marks::Mark;
 pub use pages::Pages;

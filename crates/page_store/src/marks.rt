@@ -1,8 +1,13 @@
 //! What each page is used for.
-ghost use Rattle.std.specs.Prelude.{◌≡◌, ◌≢◌, ◌≤◌, ◌<◌, ℕ, length, IfSome, IfNone};
+ghost use Rattle.std.specs.Prelude.{◌≡◌, ◌≢◌, ◌≤◌, ◌<◌, ℕ, false, length, IfOk, IfSome, IfNone};
 ghost use Rattle.page_store.specs.Marks.{mark as mark_of, turned as turned_of, keeps, let_go as let_go_of, free_one as free_one_of, Turned};
-ghost use Rattle.page_store.specs.Marks.{IsMarked, free_count};
+ghost use Rattle.page_store.specs.Marks.{IsMarked, free_count, committed as committed_of, left as left_of, AreCommitted, AreGrown, AreLeft, is_rooted as is_rooted_of};
+ghost use Rattle.page_store.specs.Holds.{needed_by, with_need, any, holders_at};
+ghost use Rattle.page_store.specs.declared.marks.Mark.TheVariants.{Free};
 ghost use Rattle.page_store.specs.declared.limits.TheConstants.{MAX_PAGES};
+
+use crate::holds::{HoldPlace, Holders};
+use std::alloc::{AllocError, Global};
 
 /// What a page is used for.
 #[derive(Clone, Copy, Debug, PartialEq, Eq)]
@@ -17,6 +22,8 @@ pub enum Mark {
     Released,
     /// Nothing needs it.
     Free,
+    /// The committed root does not need it, and a hold does.
+    Past,
 }
 
 /// The mark after a turn.
@@ -29,6 +36,7 @@ fn turned(mark: Mark, fresh: Mark, released: Mark, waiting: Mark) -> Mark
         Mark::Fresh => fresh,
         Mark::Released => released,
         Mark::Free => Mark::Free,
+        Mark::Past => Mark::Past,
     }
 }
 
@@ -38,6 +46,148 @@ pub fn turn(marks: &mut Vec<Mark>, fresh: Mark, released: Mark, waiting: Mark)
 {
     for page in 0..marks.len() {
         marks[page] = turned(marks[page], fresh, released, waiting);
+    }
+}
+
+/// The mark of a page once a store has grown: the one after a commit, and of a new page that it is free.
+fn grown_mark(marks: &[Mark], holders: &[Holders], page: u32) -> Mark
+    requires { length holders.now ≡ length marks.now }
+    ensures each { page < length marks.now → result ≡ committed_of (holders_at holders.now page) (mark_of marks.now page) }
+    ensures added { length marks.now ≤ page → result ≡ Free }
+{
+    if page as usize >= marks.len() {
+        return Mark::Free;
+    }
+    committed(marks[page as usize], holders[page as usize])
+}
+
+/// The marks of so many pages, more than there are, once a store has grown.
+pub fn grown_marks(
+    alloc: Global,
+    marks: &[Mark],
+    holders: &[Holders],
+    pages: u32,
+) -> Result<Vec<Mark>, AllocError>
+    requires many { length marks.now ≤ pages }
+    requires same_length { length holders.now ≡ length marks.now }
+    ensures { IfOk result (λ grown. AreGrown holders.now pages marks.now grown.items) }
+{
+    let mut grown = Vec::new(alloc);
+    for page in 0..pages {
+        grown.push(grown_mark(marks, holders, page))?;
+    }
+    Ok(grown)
+}
+
+/// Which holds need a page; none needs one that is not there.
+fn holders_of(holders: &[Holders], page: u32) -> Holders
+    ensures { result ≡ holders_at holders.now page }
+{
+    if page as usize >= holders.len() {
+        return Holders::none();
+    }
+    holders[page as usize]
+}
+
+/// Which holds need each of so many pages, no fewer than there are, once a store has grown.
+pub fn grown_holders(
+    alloc: Global,
+    holders: &[Holders],
+    pages: u32,
+) -> Result<Vec<Holders>, AllocError>
+    requires { length holders.now ≤ pages }
+    ensures long { IfOk result (λ grown. length grown.items ≡ pages) }
+    ensures each { IfOk result (λ grown. (p : ℕ) → holders_at grown.items p ≡ holders_at holders.now p) }
+{
+    let mut grown = Vec::new(alloc);
+    for page in 0..pages {
+        grown.push(holders_of(holders, page))?;
+    }
+    Ok(grown)
+}
+
+/// The mark after a commit of a page that these holds need.
+fn committed(mark: Mark, holders: Holders) -> Mark
+    ensures { result ≡ committed_of holders mark }
+{
+    match mark {
+        Mark::Fresh => Mark::Committed,
+        Mark::Released => {
+            if holders.any() {
+                Mark::Past
+            } else {
+                Mark::Free
+            }
+        }
+        other => other,
+    }
+}
+
+/// What was handed out is needed, and what was released is free, or stays for the holds that need it.
+pub fn turn_committed(marks: &mut Vec<Mark>, holders: &[Holders])
+    requires { length holders.now ≡ length marks.old.items }
+    ensures { AreCommitted holders.now marks.old.items marks.new.items }
+{
+    for page in 0..marks.len() {
+        marks[page] = committed(marks[page], holders[page]);
+    }
+}
+
+/// The mark of a page that these holds still need.
+fn left(mark: Mark, holders: Holders) -> Mark
+    ensures { result ≡ left_of holders mark }
+{
+    match mark {
+        Mark::Past => {
+            if holders.any() {
+                Mark::Past
+            } else {
+                Mark::Free
+            }
+        }
+        other => other,
+    }
+}
+
+/// What no hold needs any more, nor the committed root, is free.
+pub fn free_left(marks: &mut Vec<Mark>, holders: &[Holders])
+    requires { length holders.now ≡ length marks.old.items }
+    ensures { AreLeft holders.now marks.old.items marks.new.items }
+{
+    for page in 0..marks.len() {
+        marks[page] = left(marks[page], holders[page]);
+    }
+}
+
+/// Whether a hold that is taken now needs a page of this mark.
+fn is_rooted(mark: Mark) -> bool
+    ensures { result ≡ is_rooted_of mark }
+{
+    match mark {
+        Mark::Committed | Mark::Released => true,
+        Mark::Waiting | Mark::Fresh | Mark::Free | Mark::Past => false,
+    }
+}
+
+/// This hold needs the pages that the committed root needs.
+pub fn take_hold(holders: &mut Vec<Holders>, place: HoldPlace, marks: &[Mark])
+    requires { length holders.old.items ≡ length marks.now }
+    ensures same_length { length holders.new.items ≡ length holders.old.items }
+    ensures each { (p : ℕ) → p < length marks.now
+        → holders_at holders.new.items p ≡ with_need (holders_at holders.old.items p) place (is_rooted_of (mark_of marks.now p)) }
+{
+    for page in 0..holders.len() {
+        holders[page] = holders[page].with(place, is_rooted(marks[page]));
+    }
+}
+
+/// This hold needs no page any more.
+pub fn end_hold(holders: &mut Vec<Holders>, place: HoldPlace)
+    ensures same_length { length holders.new.items ≡ length holders.old.items }
+    ensures each { (p : ℕ) → holders_at holders.new.items p ≡ with_need (holders_at holders.old.items p) place false }
+{
+    for page in 0..holders.len() {
+        holders[page] = holders[page].with(place, false);
     }
 }
 
@@ -58,7 +208,7 @@ pub fn is_kept(mark: Mark) -> bool
 {
     match mark {
         Mark::Committed | Mark::Waiting | Mark::Fresh => true,
-        Mark::Released | Mark::Free => false,
+        Mark::Released | Mark::Free | Mark::Past => false,
     }
 }
 

@@ -1,14 +1,19 @@
 //! What a store of pages promises.
 ghost use Rattle.std.specs.Prelude.{◌≡◌, ◌≢◌, ◌↔◌, ◌≤◌, ◌<◌, ℕ, length, true, false, IsErrOf, IsTrue};
-ghost use Rattle.std.specs.Prelude.{OnOk, OnErr, IfOk, IfErr, IfSome, OnSome};
+ghost use Rattle.std.specs.Prelude.{OnOk, OnErr, IfOk, IfErr, IfSome, IfNone, OnSome};
 ghost use Rattle.page_store.specs.declared.marks.Mark.TheVariants.{Committed, Waiting, Fresh, Free};
-ghost use Rattle.page_store.specs.Causes.{MarkCause, PageReadCause, NewCause, PageWriteCause, StoreCommitCause};
-ghost use Rattle.page_store.specs.Marks.{mark as mark_of, AreSealed, AreDiscarded, IsMarked, let_go, free_count};
+ghost use Rattle.page_store.specs.Causes.{MarkCause, PageReadCause, NewCause, PageWriteCause, StoreCommitCause, GrowCause};
+ghost use Rattle.page_store.specs.Marks.{mark as mark_of, AreCut, AreSealed, AreDiscarded, IsMarked, let_go, free_count};
+ghost use Rattle.page_store.specs.Pages.{AllWait};
+ghost use Rattle.page_store.specs.declared.limits.TheConstants.{MAX_PAGES};
 ghost use Rattle.page_store.specs.Store.{Store, reads, SavedAs, StopLeaves, IsSoundStore, StoreWorks, IsUnchanged, IsRemarked, Commits};
-ghost use Rattle.page_store.specs.Store.{IsCommitted};
+ghost use Rattle.page_store.specs.Store.{IsCommitted, IsShortened, Grows, IsGrown, SavedIn, IsTaken, IsLetGo};
+ghost use Rattle.page_store.specs.Holds.{needed_by};
+ghost use Rattle.page_store.specs.declared.holds.HoldPlace.{HoldPlace};
 
-use crate::PageFault;
+use crate::{Hold, PageFault};
 use root_pair::Root;
+use std::alloc::Global;
 
 /// Pages of 4,096 bytes, numbered from 0. Page 0 is the system page and never handed out. While opening, each page that
 /// the committed root needs is marked, and then the store is sealed. What is written counts from the next commit on.
@@ -35,6 +40,14 @@ pub trait Pages {
     fn seal(&mut self)
         ensures marks { AreSealed (store self.old).marks (store self.new).marks }
         ensures others { IsRemarked (store self.old) (store self.new) };
+
+    /// While opening, before any page is marked: there are so many pages and no more, those that a root says.
+    fn set_capacity(&mut self, pages: u32)
+        requires some { 1 ≤ pages }
+        requires room { pages ≤ length (store self.old).marks }
+        requires waits { AllWait (store self.old) }
+        ensures marks { AreCut pages (store self.old).marks (store self.new).marks }
+        ensures others { IsShortened pages (store self.old) (store self.new) };
 
     /// What was last written to the page. `Damaged` for page 0 and for a page that is not there. After a refusal the
     /// bytes in `into` say nothing.
@@ -113,11 +126,42 @@ pub trait Pages {
         ensures cause { IfErr result (StoreCommitCause (store self.old) (store self.new)) }
         ensures closed { (store self.old).closed ≡ true → IsErrOf result PageFault.Closed };
 
+    /// Makes room for so many pages, more than there are: the disk is made longer where it is too short, all is synced, and then this root
+    /// takes the place of the present one, as by `commit`. A stop within it leaves the present root and its pages, or the new root with
+    /// room for so many pages and all pages as they read; after `Ok` the new, and from then on alone the new pages are there, and free.
+    /// After a refusal the disk may be longer, which does no harm.
+    fn grow(&mut self, alloc: Global, pages: u32, root: &[u8; 512]) -> Result<(), PageFault>
+        requires some { 1 ≤ length (store self.old).marks }
+        requires more { length (store self.old).marks < pages }
+        requires few { pages ≤ MAX_PAGES }
+        ensures grows { Grows root.now pages (store self.old) (store self.new) }
+        ensures after { IsTrue (store self.old).disk.honest
+            → OnOk result (StopLeaves (store self.new) (SavedIn root.now pages (store self.old))) }
+        ensures ok { OnOk result (IsGrown root.now pages (store self.old) (store self.new)) }
+        ensures kept_pages { IsTrue (store self.old).disk.honest → (p : ℕ) → 1 ≤ p → p < length (store self.old).marks
+            → reads (store self.new) p ≡ reads (store self.old) p }
+        ensures kept_root { OnErr result ((store self.new).root ≡ (store self.old).root) }
+        ensures kept_marks { OnErr result ((store self.new).marks ≡ (store self.old).marks) }
+        ensures untouched { IfErr result (λ fault. fault ≢ PageFault.Disk → store self.new ≡ store self.old) }
+        ensures cause { IfErr result (GrowCause (store self.old) (store self.new)) }
+        ensures closed { (store self.old).closed ≡ true → IsErrOf result PageFault.Closed };
+
     /// Goes back to the last commit. It takes no memory and always answers, of a closed store too.
     fn discard(&mut self)
         ensures marks { AreDiscarded (store self.old).marks (store self.new).marks }
         ensures others { IsRemarked (store self.old) (store self.new) }
         ensures works { StoreWorks (store self.old) (store self.new) };
+
+    /// Takes a hold on the committed root: until it is let go, the pages that this root needs are neither free nor written. None where
+    /// four are taken. It takes no memory and always answers, of a closed store too.
+    fn hold(&mut self) -> Option<Hold>
+        ensures some { IfSome result (λ hold. IsTaken hold.place (store self.old) (store self.new)) }
+        ensures none { IfNone result ((store self.new ≡ store self.old)
+            × ((place : HoldPlace) → needed_by (store self.old).holds.taken place ≡ true)) };
+
+    /// Lets a hold go: a page that stayed for it alone is free. It takes no memory and always answers, of a closed store too.
+    fn let_go(&mut self, hold: Hold)
+        ensures { IsLetGo hold.place (store self.old) (store self.new) };
 
     /// How many pages are free. It takes no memory and always answers, of a closed store too.
     fn free_pages(&self) -> u32

@@ -3,13 +3,19 @@ ghost use Rattle.std.specs.Prelude.{◌≡◌, ◌≤◌, ◌<◌, ◌*◌, ℕ,
 ghost use Rattle.page_store.specs.declared.marks.Mark.TheVariants.{Committed, Waiting};
 ghost use Rattle.page_store.specs.Cache.{IsCacheOf};
 ghost use Rattle.page_store.specs.Causes.{StoreOpenCause};
+ghost use Rattle.page_store.specs.Holds.{holds_of, holders_at, none as none_of};
 ghost use Rattle.page_store.specs.Marks.{mark as mark_of};
 ghost use Rattle.page_store.specs.Store.{store_of, IsSoundStore, IsOpened, IsRefusedStore};
 
 use crate::cache::PageCache;
+use crate::holds::{Hold, Holders};
 use crate::limits::MAX_PAGES;
-use crate::marks::{count_free, find_any, is_kept, let_go, put_mark, turn};
+use crate::marks::{
+    count_free, end_hold, find_any, free_left, grown_holders, grown_marks, is_kept, let_go,
+    put_mark, take_hold, turn, turn_committed,
+};
 use crate::page::{get_page, put_page};
+use crate::room::make_room;
 use crate::{Mark, PageFault, Pages};
 use root_pair::{Root, RootFault, publish};
 use sector_disk::SectorDisk;
@@ -24,14 +30,18 @@ pub struct PageStore<D: SectorDisk> {
     disk: D,
     root: Root,
     marks: Vec<Mark>,
+    /// Which holds are taken.
+    taken: Holders,
+    /// Which holds need each page.
+    holders: Vec<Holders>,
     /// Where the search for a free page begins.
     next: u32,
     /// A write or a sync has failed.
     closed: bool,
     /// Pages that need not be read again.
     cache: PageCache,
-    ghost sound: { IsSoundStore (store_of (D.disk disk) (D.failures disk) root.bytes marks.items closed) },
-    ghost cached: { IsCacheOf (store_of (D.disk disk) (D.failures disk) root.bytes marks.items closed) cache },
+    ghost sound: { IsSoundStore (store_of (D.disk disk) (D.failures disk) root.bytes marks.items closed (holds_of taken holders.items)) },
+    ghost cached: { IsCacheOf (store_of (D.disk disk) (D.failures disk) root.bytes marks.items closed (holds_of taken holders.items)) cache },
 }
 
 /// A disk that comes back with a refusal.
@@ -78,11 +88,17 @@ impl<D: SectorDisk> PageStore<D> {
             }
         };
         let capacity = (disk.sectors() / 8).min(u64::from(MAX_PAGES));
-        match (unmarked(alloc, capacity), PageCache::new(alloc, pages)) {
-            (Ok(marks), Ok(cache)) => Ok(PageStore {
+        match (
+            unmarked(alloc, capacity),
+            unheld(alloc, capacity),
+            PageCache::new(alloc, pages),
+        ) {
+            (Ok(marks), Ok(holders), Ok(cache)) => Ok(PageStore {
                 disk,
                 root,
                 marks,
+                taken: Holders::none(),
+                holders,
                 next: 0,
                 closed: false,
                 cache,
@@ -118,6 +134,15 @@ fn unmarked(alloc: Global, capacity: u64) -> Result<Vec<Mark>, AllocError>
     Ok(marks)
 }
 
+/// No hold needs any of so many pages.
+fn unheld(alloc: Global, capacity: u64) -> Result<Vec<Holders>, AllocError>
+    requires { capacity ≤ MAX_PAGES }
+    ensures length { IfOk result (λ holders. length holders.items ≡ capacity) }
+    ensures none { IfOk result (λ holders. (p : ℕ) → holders_at holders.items p ≡ none_of) }
+{
+    vec![in alloc; Holders::none(); capacity as usize]
+}
+
 impl<D: SectorDisk> Pages for PageStore<D> {
     ghost use Rattle.page_store.specs.InStore.{store_in};
 
@@ -138,6 +163,12 @@ impl<D: SectorDisk> Pages for PageStore<D> {
 
     fn seal(&mut self) {
         turn(&mut self.marks, Mark::Fresh, Mark::Released, Mark::Free);
+        self.cache.clear();
+    }
+
+    fn set_capacity(&mut self, pages: u32) {
+        self.marks.truncate(pages as usize);
+        self.holders.truncate(pages as usize);
         self.cache.clear();
     }
 
@@ -217,7 +248,38 @@ impl<D: SectorDisk> Pages for PageStore<D> {
         match publish(&mut self.disk, root) {
             Ok(()) => {
                 self.root = Root { bytes: *root };
-                turn(&mut self.marks, Mark::Committed, Mark::Free, Mark::Waiting);
+                turn_committed(&mut self.marks, &self.holders);
+                Ok(())
+            }
+            Err(RootFault::Read) => Err(PageFault::Disk),
+            Err(_) => {
+                self.closed = true;
+                Err(PageFault::Disk)
+            }
+        }
+    }
+
+    fn grow(&mut self, alloc: Global, pages: u32, root: &[u8; 512]) -> Result<(), PageFault> {
+        if self.closed {
+            return Err(PageFault::Closed);
+        }
+        let marks = match grown_marks(alloc, &self.marks, &self.holders, pages) {
+            Ok(marks) => marks,
+            Err(_) => return Err(PageFault::OutOfMemory),
+        };
+        let holders = match grown_holders(alloc, &self.holders, pages) {
+            Ok(holders) => holders,
+            Err(_) => return Err(PageFault::OutOfMemory),
+        };
+        if make_room(&mut self.disk, 8 * u64::from(pages)).is_err() {
+            self.closed = true;
+            return Err(PageFault::Disk);
+        }
+        match publish(&mut self.disk, root) {
+            Ok(()) => {
+                self.root = Root { bytes: *root };
+                self.marks = marks;
+                self.holders = holders;
                 Ok(())
             }
             Err(RootFault::Read) => Err(PageFault::Disk),
@@ -231,6 +293,22 @@ impl<D: SectorDisk> Pages for PageStore<D> {
     fn discard(&mut self) {
         turn(&mut self.marks, Mark::Free, Mark::Committed, Mark::Waiting);
         self.cache.clear();
+    }
+
+    fn hold(&mut self) -> Option<Hold> {
+        let Some(place) = self.taken.absent() else {
+            return None;
+        };
+        self.taken = self.taken.with(place, true);
+        take_hold(&mut self.holders, place, &self.marks);
+        Some(Hold { place })
+    }
+
+    fn let_go(&mut self, hold: Hold) {
+        let Hold { place } = hold;
+        self.taken = self.taken.with(place, false);
+        end_hold(&mut self.holders, place);
+        free_left(&mut self.marks, &self.holders);
     }
 
     fn free_pages(&self) -> u32 {

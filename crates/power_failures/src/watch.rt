@@ -87,6 +87,6 @@ fn is_commit(calls: &[Call], named: &[u32], spare: u64) -> bool {
 fn is_of_free_page(call: Call, named: &[u32]) -> bool {
     match call {
         Call::Write(at) => at >= 8 && !named.iter().any(|page| u64::from(*page) == at / 8),
-        Call::Sync => false,
+        Call::Sync | Call::Extend(_) => false,
     }
 }

@@ -10,6 +10,8 @@ pub enum Call {
     /// This sector is written.
     Write(u64),
     Sync,
+    /// It is made this long.
+    Extend(u64),
 }
 
 /// A disk that notes its writes and syncs, and passes all calls to the disk within.
@@ -83,5 +85,10 @@ impl<D: SectorDisk> SectorDisk for WatchedDisk<D> {
     fn sync(&mut self) -> Result<(), DiskFault> {
         self.note(Call::Sync);
         self.inner.sync()
+    }
+
+    fn extend(&mut self, sectors: u64) -> Result<(), DiskFault> {
+        self.note(Call::Extend(sectors));
+        self.inner.extend(sectors)
     }
 }

@@ -8,7 +8,7 @@ use Rattle.game_file.specs.Kept.{Kept, Layout}
 use Rattle.game_file.specs.State.{State}
 use Rattle.game_file.specs.Stops.{LeavesNow}
 use Rattle.recover.specs.declared.fault.SolverFault.{SolverFault}
-use Rattle.recover.specs.declared.fault.SolverFault.TheVariants.{Disk as DiskFailed, NotATable, AlreadyATable, Damaged, OldLayout, TooSmall, TableFull, OutOfMemory, Closed, Game as BadGame, NoGame, GameAlready, KeeperChooses, TooWide, TooManyPositions, Inconsistent, NoSuchPosition, NotSettled, BadPosition}
+use Rattle.recover.specs.declared.fault.SolverFault.TheVariants.{Disk as DiskFailed, NotATable, AlreadyATable, Damaged, OldLayout, TooSmall, TableFull, OutOfMemory, Closed, Game as BadGame, NoGame, GameAlready, KeeperChooses, TooWide, TooManyPositions, Inconsistent, NoSuchPosition, NotSettled, ListingsUsedUp, BadPosition}
 use Rattle.recover.specs.Headline.{IsUnlucky, Reopens, Headline}
 use Rattle.recover.specs.Held.{Holds, IsSound}
 use Rattle.recover.specs.Histories.{Sitting, LeadTo, History, was_made, was_reopened, was_not_opened}
@@ -75,6 +75,7 @@ module _ (Stores : Layout) where
     opens_or_fails disk before now kept Inconsistent honest holds cause = absurd cause
     opens_or_fails disk before now kept NoSuchPosition honest holds cause = absurd cause
     opens_or_fails disk before now kept NotSettled honest holds cause = absurd cause
+    opens_or_fails disk before now kept ListingsUsedUp honest holds cause = absurd cause
     opens_or_fails disk before now kept BadPosition honest holds cause = absurd cause
 
     -- reopening gives the table that a picture holds

@@ -12,7 +12,7 @@ use Rattle.game_file.specs.Stops.{OldOrEmpty}
 use Rattle.game_file.specs.declared.fault.FileFault.{FileFault}
 use Rattle.game_file.specs.declared.fault.FileFault.TheVariants as file
 use Rattle.recover.specs.declared.fault.SolverFault.{SolverFault}
-use Rattle.recover.specs.declared.fault.SolverFault.TheVariants.{Disk as DiskFailed, NotATable, AlreadyATable, Damaged, OldLayout, TooSmall, TableFull, OutOfMemory, Closed, Game, NoGame, GameAlready, KeeperChooses, TooWide, TooManyPositions, Inconsistent, NoSuchPosition, NotSettled, BadPosition}
+use Rattle.recover.specs.declared.fault.SolverFault.TheVariants.{Disk as DiskFailed, NotATable, AlreadyATable, Damaged, OldLayout, TooSmall, TableFull, OutOfMemory, Closed, Game, NoGame, GameAlready, KeeperChooses, TooWide, TooManyPositions, Inconsistent, NoSuchPosition, NotSettled, ListingsUsedUp, BadPosition}
 use Rattle.recover.specs.Faults.{file_fault}
 use Rattle.recover.specs.Held.{IsOfAGame}
 use Rattle.recover.specs.Opening.{IsOpened, IsCreated, OpenCause, LayoutCause, CreateCause}
@@ -102,6 +102,7 @@ module _ (Stores : Layout) (disk : Disk) (count : ℕ) (file : State) where
   no_game_opened now Inconsistent one found cause = cause
   no_game_opened now NoSuchPosition one found cause = cause
   no_game_opened now NotSettled one found cause = cause
+  no_game_opened now ListingsUsedUp one found cause = absurd cause
   no_game_opened now BadPosition one found cause = cause
 
   -- its table has no earlier layout
@@ -162,6 +163,7 @@ module _ (Stores : Layout) (disk : Disk) (count : ℕ) (file : State) where
   no_game_created now Inconsistent made cause = cause
   no_game_created now NoSuchPosition made cause = cause
   no_game_created now NotSettled made cause = cause
+  no_game_created now ListingsUsedUp made cause = absurd cause
   no_game_created now BadPosition made cause = cause
 
 module _ (Stores : Layout) (IsOlder : Older) where

@@ -5,7 +5,7 @@ use Rattle.sector_disk.specs.aid.Moments.{goes_on_trans, leaves_more}
 use Rattle.game_file.specs.Kept.{Kept, Layout}
 use Rattle.game_file.specs.State.{State, GoesAhead}
 use Rattle.recover.specs.declared.fault.SolverFault.{SolverFault}
-use Rattle.recover.specs.declared.fault.SolverFault.TheVariants.{Disk as DiskFailed, NotATable, AlreadyATable, Damaged, OldLayout, TooSmall, TableFull, OutOfMemory, Closed, Game as BadGame, NoGame, GameAlready, KeeperChooses, TooWide, TooManyPositions, Inconsistent, NoSuchPosition, NotSettled, BadPosition}
+use Rattle.recover.specs.declared.fault.SolverFault.TheVariants.{Disk as DiskFailed, NotATable, AlreadyATable, Damaged, OldLayout, TooSmall, TableFull, OutOfMemory, Closed, Game as BadGame, NoGame, GameAlready, KeeperChooses, TooWide, TooManyPositions, Inconsistent, NoSuchPosition, NotSettled, ListingsUsedUp, BadPosition}
 use Rattle.recover.specs.declared.replies.Command.{Command as Asked}
 use Rattle.recover.specs.declared.replies.Reply.{Reply}
 use Rattle.recover.specs.declared.replies.Reply.TheVariants.{Refused}
@@ -35,6 +35,7 @@ is_disk TooManyPositions was is still open_ shut = absurd (apart was open_ (sym 
 is_disk Inconsistent was is still open_ shut = absurd (apart was open_ (sym (still (λ e. cc)) ∙ shut))
 is_disk NoSuchPosition was is still open_ shut = absurd (apart was open_ (sym (still (λ e. cc)) ∙ shut))
 is_disk NotSettled was is still open_ shut = absurd (apart was open_ (sym (still (λ e. cc)) ∙ shut))
+is_disk ListingsUsedUp was is still open_ shut = absurd (apart was open_ (sym (still (λ e. cc)) ∙ shut))
 is_disk BadPosition was is still open_ shut = absurd (apart was open_ (sym (still (λ e. cc)) ∙ shut))
 
 -- the first elements, and one more

@@ -280,4 +280,5 @@ asked_work units state solver.TooManyPositions cause = absurd cause
 asked_work units state solver.Inconsistent cause = absurd cause
 asked_work units state solver.NoSuchPosition cause = absurd cause
 asked_work units state solver.NotSettled cause = absurd cause
+asked_work units state solver.ListingsUsedUp cause = absurd cause
 asked_work units state solver.BadPosition cause = absurd cause

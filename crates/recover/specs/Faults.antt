@@ -14,7 +14,7 @@ use Rattle.audit.specs.declared.fault.AuditFault.TheVariants as audit
 use Rattle.recover.specs.declared.fault.SolverFault.{SolverFault}
 use Rattle.recover.specs.declared.fault.SolverFault.TheVariants.{Disk, NotATable, AlreadyATable, Damaged, OldLayout, TooSmall, TableFull}
 use Rattle.recover.specs.declared.fault.SolverFault.TheVariants.{OutOfMemory, Closed, Game, NoGame, GameAlready, KeeperChooses, TooWide}
-use Rattle.recover.specs.declared.fault.SolverFault.TheVariants.{TooManyPositions, Inconsistent, NoSuchPosition, NotSettled, BadPosition}
+use Rattle.recover.specs.declared.fault.SolverFault.TheVariants.{TooManyPositions, Inconsistent, NoSuchPosition, NotSettled, ListingsUsedUp, BadPosition}
 
 abbrev pub file_fault : FileFault → SolverFault
 file_fault file.Disk = Disk
@@ -75,4 +75,5 @@ code_of TooManyPositions = codes "S5"
 code_of Inconsistent = codes "S6"
 code_of NoSuchPosition = codes "S7"
 code_of NotSettled = codes "S8"
+code_of ListingsUsedUp = codes "S9"
 code_of BadPosition = codes "S10"

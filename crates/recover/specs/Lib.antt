@@ -20,6 +20,7 @@ pub mod Held
 pub mod State
 pub mod Stops
 pub mod Opening
+pub mod Listings
 pub mod Machine
 pub mod Steps
 pub mod Queries

@@ -67,6 +67,9 @@ pub enum SolverFault {
     /// S8
     #[error("the position is not settled")]
     NotSettled,
+    /// S9: four listings are open.
+    #[error("four listings are open")]
+    ListingsUsedUp,
     /// S10
     #[error("the text is that of no position")]
     BadPosition,
@@ -106,6 +109,7 @@ impl SolverFault {
             SolverFault::Inconsistent => "S6",
             SolverFault::NoSuchPosition => "S7",
             SolverFault::NotSettled => "S8",
+            SolverFault::ListingsUsedUp => "S9",
             SolverFault::BadPosition => "S10",
         }
     }

@@ -3,6 +3,8 @@
 
 mod fault;
 pub mod laws;
+mod listing;
+mod listings;
 mod queries;
 mod replies;
 mod run;
@@ -10,6 +12,7 @@ mod solver;
 mod with_game;
 
 pub use fault::{Refused, SolverFault};
+pub use listing::Listing;
 pub use replies::{Command, Reply, Units, Worked};
 pub use solver::FileSolver;
 

@@ -59,6 +59,7 @@ impl<F: GameFile> FileSolver<F> {
     /// Who wins the position with this number, and in how many moves; a draw only where the table is finished: E9, S1, S7.
     pub fn value(&mut self, number: u32) -> Result<Value, SolverFault>
         ensures ready { IsReady self.old → IsReady self.new }
+        ensures lasts { F.lasts self.old.file self.new.file }
         ensures asked { IsReady self.old → IsAsked F.stores (state self.old) (state self.new) }
         ensures value { IsReady self.old → IfOk result (λ value. Tells (HasValueAt number value) (state self.old)) }
         ensures cause { IsReady self.old
@@ -73,6 +74,7 @@ impl<F: GameFile> FileSolver<F> {
     /// The positions from this number on with their values, so many or up to the last: E9, S1, S7.
     pub fn list(&mut self, from: u32, count: Units) -> Result<Vec<Row>, SolverFault>
         ensures ready { IsReady self.old → IsReady self.new }
+        ensures lasts { F.lasts self.old.file self.new.file }
         ensures asked { IsReady self.old → IsAsked F.stores (state self.old) (state self.new) }
         ensures rows { IsReady self.old → IfOk result (λ rows. Tells (HasRows from (units_in count) rows.items) (state self.old)) }
         ensures cause { IsReady self.old → IfErr result (NumberCause from (state self.old) (state self.new)) }
@@ -86,6 +88,7 @@ impl<F: GameFile> FileSolver<F> {
     /// fewer: E9, S1, S7, S8. S6 and S4 come only of a table that is not of this program's making.
     pub fn line(&mut self, number: u32) -> Result<Vec<u32>, SolverFault>
         ensures ready { IsReady self.old → IsReady self.new }
+        ensures lasts { F.lasts self.old.file self.new.file }
         ensures asked { IsReady self.old → IsAsked F.stores (state self.old) (state self.new) }
         ensures line { IsReady self.old → IsSound (state self.old).kept
             → IfOk result (λ numbers. Tells (HasLine number numbers.items) (state self.old)) }
@@ -104,6 +107,7 @@ impl<F: GameFile> FileSolver<F> {
     /// unsettled ones are the drawn. E9, S1; S4 only where some expanded position is too wide.
     pub fn audit(&mut self) -> Result<Verdict, SolverFault>
         ensures ready { IsReady self.old → IsReady self.new }
+        ensures lasts { F.lasts self.old.file self.new.file }
         ensures asked { IsReady self.old → IsAsked F.stores (state self.old) (state self.new) }
         ensures verdict { IsReady self.old → IfOk result (λ verdict. Tells (HasVerdict verdict) (state self.old)) }
         ensures so { IsReady self.old → result ≡ Ok Right → Tells IsSoInGame (state self.old) }
@@ -120,6 +124,7 @@ impl<F: GameFile> FileSolver<F> {
     /// The text of the position with this number: E9, S1, S7. S6 comes only of a table that is not of this program's making.
     pub fn show(&mut self, number: u32) -> Result<Vec<u8>, SolverFault>
         ensures ready { IsReady self.old → IsReady self.new }
+        ensures lasts { F.lasts self.old.file self.new.file }
         ensures asked { IsReady self.old → IsAsked F.stores (state self.old) (state self.new) }
         ensures text { IsReady self.old → IfOk result (λ text. Tells (HasText number text.items) (state self.old)) }
         ensures cause { IsReady self.old → IfErr result (ShowCause number (state self.old) (state self.new)) }
@@ -140,6 +145,7 @@ impl<F: GameFile> FileSolver<F> {
     /// S7 where that position is not known.
     pub fn find(&mut self, text: &[u8]) -> Result<u32, SolverFault>
         ensures ready { IsReady self.old → IsReady self.new }
+        ensures lasts { F.lasts self.old.file self.new.file }
         ensures asked { IsReady self.old → IsAsked F.stores (state self.old) (state self.new) }
         ensures number { IsReady self.old → IfOk result (λ number. Tells (HasText number text.now) (state self.old)) }
         ensures cause { IsReady self.old

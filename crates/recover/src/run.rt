@@ -13,6 +13,7 @@ impl<F: GameFile> FileSolver<F> {
     /// One command of a list, with its reply.
     fn answer(&mut self, command: &Command) -> Reply
         ensures ready { IsReady self.old → IsReady self.new }
+        ensures lasts { F.lasts self.old.file self.new.file }
         ensures ahead { GoesAhead (state self.old) (state self.new) }
         ensures turn { IsReady self.old
             → IsTurnWithCause F.stores (command_of command.now) result (state self.old) (state self.new) }
@@ -36,6 +37,7 @@ impl<F: GameFile> FileSolver<F> {
     /// there. Room for all replies is asked for first: where it is refused, nothing is done (E8).
     pub fn run(&mut self, commands: &[Command], replies: &mut Vec<Reply>) -> Result<(), SolverFault>
         ensures ready { IsReady self.old → IsReady self.new }
+        ensures lasts { F.lasts self.old.file self.new.file }
         ensures ahead { GoesAhead (state self.old) (state self.new) }
         ensures run { IsReady self.old
             → OnOk result (IsRun F.stores commands.now replies.old.items replies.new.items (state self.old)

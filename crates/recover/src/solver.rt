@@ -148,6 +148,7 @@ impl<F: GameFile> FileSolver<F> {
     /// Loads the game of this text: E9, S2, then G1 to G10, then E1, E7, E8.
     pub fn load(&mut self, text: &[u8]) -> Result<(), SolverFault>
         ensures ready { IsReady self.old → IsReady self.new }
+        ensures lasts { F.lasts self.old.file self.new.file }
         ensures ahead { GoesAhead (state self.old) (state self.new) }
         ensures done { IsReady self.old
             → OnOk result (IsDone F.stores (load_it text.now) Reply.Loaded (state self.old)
@@ -174,6 +175,7 @@ impl<F: GameFile> FileSolver<F> {
     /// then S3 to S6, E1, E7, E8. Where no unit is done nothing is committed.
     pub fn work(&mut self, units: Units) -> Result<Worked, SolverFault>
         ensures ready { IsReady self.old → IsReady self.new }
+        ensures lasts { F.lasts self.old.file self.new.file }
         ensures ahead { GoesAhead (state self.old) (state self.new) }
         ensures done { IsReady self.old → IfOk result (λ done.
             IsDone F.stores (work_on (units_in units)) (Reply.Worked done.units done.counts) (state self.old)

@@ -2,3 +2,4 @@ pub mod Buffer
 pub mod Disk
 pub mod Log
 pub mod Moments
+pub mod Unknown

@@ -1,6 +1,7 @@
-//! What a disk in memory keeps of its past: each write with the bytes that it wrote over, and each sync.
-ghost use Rattle.std.specs.Prelude.{◌≡◌, ◌<◌, ℕ, true, length, slice_index_or, IfOk};
-ghost use Rattle.sector_disk.specs.Past.{before, synced_after, synced_by};
+//! What a disk in memory keeps of its past: each write with the bytes that it wrote over, each sync, and each extension.
+ghost use Rattle.std.specs.Prelude.{◌≡◌, ◌<◌, nat_lt, ℕ, true, false, None, length, slice_index_or, if◌then◌else◌, IfOk};
+ghost use Rattle.sector_disk.specs.Disk.{Picture};
+ghost use Rattle.sector_disk.specs.Past.{before, synced_after, synced_by, end_by, end_after, lasting_of};
 ghost use Rattle.sector_disk.specs.aid.Log.{IsAsAtSync, IsLastSyncOf, last_by};
 
 use std::alloc::{AllocError, Global};
@@ -12,6 +13,8 @@ pub enum Event {
     Wrote(u64, [u8; 512]),
     /// A sync that succeeded.
     Synced,
+    /// It was made longer; so many sectors were there before.
+    Extended(u64),
 }
 
 /// Which sectors are not written since the last sync.
@@ -44,6 +47,43 @@ fn mark(synced: &mut Vec<bool>, event: &Event)
             }
         }
         Event::Synced => synced.fill(true),
+        Event::Extended(end) => clear_from(synced, *end as usize),
+    }
+}
+
+/// None from there on.
+fn clear_from(synced: &mut Vec<bool>, end: usize)
+    ensures size { length synced.new.items ≡ length synced.old.items }
+    ensures is { (k : ℕ) → k < length synced.old.items → slice_index_or synced.new.items k true
+        ≡ (if nat_lt k end then slice_index_or synced.old.items k true else false) }
+{
+    for place in end..synced.len() {
+        synced[place] = false;
+    }
+}
+
+/// How many of so many sectors are there after a stop.
+pub fn lasting_sectors(events: &[Event], sectors: usize) -> usize
+    ensures { (picture : Picture) → length picture ≡ sectors → result ≡ lasting_of (end_after None events.now) picture }
+{
+    let mut end = None;
+    for event in events {
+        end = end_behind(end, event);
+    }
+    match end {
+        None => sectors,
+        Some(end) => sectors.min(end as usize),
+    }
+}
+
+/// Where the disk ended at the last sync, if it was made longer since, once this event has happened.
+fn end_behind(end: Option<u64>, event: &Event) -> Option<u64>
+    ensures { result ≡ end_by end event.now }
+{
+    match (end, event) {
+        (_, Event::Synced) => None,
+        (None, Event::Extended(before)) => Some(*before),
+        _ => end,
     }
 }
 
@@ -65,7 +105,7 @@ fn last_after(event: &Event, count: usize, last: usize) -> usize
     ensures { result ≡ last_by event.now count last }
 {
     match event {
-        Event::Wrote(_, _) => last,
+        Event::Wrote(_, _) | Event::Extended(_) => last,
         Event::Synced => count,
     }
 }
@@ -90,11 +130,15 @@ pub fn as_at_sync(
 fn undo(sectors: &mut Vec<[u8; 512]>, event: &Event)
     ensures { sectors.new.items ≡ before event.now sectors.old.items }
 {
-    if let Event::Wrote(at, bytes) = event {
-        let place = *at as usize;
-        if place < sectors.len() {
-            sectors[place] = *bytes;
+    match event {
+        Event::Wrote(at, bytes) => {
+            let place = *at as usize;
+            if place < sectors.len() {
+                sectors[place] = *bytes;
+            }
         }
+        Event::Synced => {}
+        Event::Extended(end) => sectors.truncate(*end as usize),
     }
 }
 

@@ -2,7 +2,7 @@
 //! statement it is no honest disk.
 ghost use Rattle.std.specs.Prelude.{◌*◌, ◌^◌, ◌<◌, false, [], replicate};
 ghost use Rattle.sector_disk.specs.Disk.{HasCause};
-ghost use Rattle.sector_disk.specs.Past.{memory_disk};
+ghost use Rattle.sector_disk.specs.File.{unknown_disk};
 
 use sector_disk::{DiskFault, SectorDisk};
 use std::fs::File;
@@ -44,7 +44,7 @@ where
 }
 
 impl SectorDisk for SectorFile {
-    ghost disk = { λ d. record (memory_disk [] (replicate d.sectors [])) { honest = false } };
+    ghost disk = { λ d. unknown_disk d.sectors };
 
     ghost failures = { λ d. d.failures };
 
@@ -65,5 +65,16 @@ impl SectorDisk for SectorFile {
     fn sync(&mut self) -> Result<(), DiskFault> {
         let answer = self.file.sync_all();
         told(&mut self.failures, answer)
+    }
+
+    fn extend(&mut self, sectors: u64) -> Result<(), DiskFault> {
+        if sectors > u64::MAX / 512 {
+            self.failures = self.failures.saturating_add(1);
+            return Err(DiskFault);
+        }
+        let answer = self.file.set_len(512 * sectors);
+        told(&mut self.failures, answer)?;
+        self.sectors = sectors;
+        Ok(())
     }
 }

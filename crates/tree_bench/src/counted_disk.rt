@@ -42,4 +42,8 @@ impl<D: SectorDisk> SectorDisk for CountedDisk<D> {
     fn sync(&mut self) -> Result<(), DiskFault> {
         self.inner.sync()
     }
+
+    fn extend(&mut self, sectors: u64) -> Result<(), DiskFault> {
+        self.inner.extend(sectors)
+    }
 }

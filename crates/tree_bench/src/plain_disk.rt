@@ -1,7 +1,7 @@
 //! A disk in memory for measuring: it keeps no history. Nothing is promised of what it shows; by its statement it is no
 //! honest disk.
-ghost use Rattle.tree_bench.specs.Plain.{plain_disk};
-ghost use Rattle.std.specs.Prelude.{length};
+ghost use Rattle.sector_disk.specs.File.{unknown_disk};
+ghost use Rattle.std.specs.Prelude.{◌≡◌, ◌≤◌, length, OnOk};
 
 use sector_disk::{DiskFault, SectorDisk};
 use std::alloc::{AllocError, Global};
@@ -10,6 +10,7 @@ use std::alloc::{AllocError, Global};
 #[derive(Drop)]
 pub struct PlainDisk {
     contents: Vec<[u8; 512]>,
+    failures: u64,
 }
 
 impl PlainDisk {
@@ -19,14 +20,31 @@ impl PlainDisk {
         for _ in 0..sectors {
             contents.push([0; 512])?;
         }
-        Ok(PlainDisk { contents })
+        Ok(PlainDisk {
+            contents,
+            failures: 0,
+        })
     }
 }
 
-impl SectorDisk for PlainDisk {
-    ghost disk = { λ d. plain_disk (length d.contents.items) };
+/// Puts sectors of zeros behind those that are there, up to so many, or as many as there is memory for.
+fn add_zeros(contents: &mut Vec<[u8; 512]>, sectors: u64) -> Result<(), AllocError>
+    requires { length contents.old.items ≤ sectors }
+    ensures longer { OnOk result (length contents.new.items ≡ sectors) }
+    ensures no_shorter { length contents.old.items ≤ length contents.new.items }
+    ensures no_longer { length contents.new.items ≤ sectors }
+{
+    let more = sectors - contents.len() as u64;
+    for _ in 0..more {
+        contents.push([0; 512])?;
+    }
+    Ok(())
+}
 
-    ghost failures = { λ _. 0 };
+impl SectorDisk for PlainDisk {
+    ghost disk = { λ d. unknown_disk (length d.contents.items) };
+
+    ghost failures = { λ d. d.failures };
 
     fn sectors(&self) -> u64 {
         self.contents.len() as u64
@@ -43,6 +61,14 @@ impl SectorDisk for PlainDisk {
     }
 
     fn sync(&mut self) -> Result<(), DiskFault> {
+        Ok(())
+    }
+
+    fn extend(&mut self, sectors: u64) -> Result<(), DiskFault> {
+        if add_zeros(&mut self.contents, sectors).is_err() {
+            self.failures = self.failures.saturating_add(1);
+            return Err(DiskFault);
+        }
         Ok(())
     }
 }

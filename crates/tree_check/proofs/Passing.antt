@@ -10,7 +10,8 @@ use Rattle.tree_map.specs.aid.Unchanged.{grew_before, unchanged_refl, unchanged_
 use Rattle.tree_page.specs.Page.{Item}
 use Rattle.tree_table.specs.declared.slot.TreeSlot.{TreeSlot}
 use Rattle.tree_table.specs.declared.tree.Tree.{Tree}
-use Rattle.tree_table.specs.Causes.{HasNoForest, ReadCause}
+use Rattle.tree_table.specs.Causes.{IsNoForest, ReadCause}
+use Rattle.tree_table.specs.Working.{forest_there}
 use Rattle.tree_table.specs.aid.Frames.{forest_still}
 use Rattle.tree_check.specs.aid.Reading.{TellsOfEntries, CheckCause, PlainCause, IsAfterReads}
 
@@ -35,10 +36,10 @@ told_before Says slot old mid read tells = λ honest text entries h.
     (forest_still slot text entries old mid read.unchanged.marks (unchanged_reads old mid honest read.unchanged) h)
 
 -- why nothing was read
-pub read_plain : (Says : (Tree → List Item) → Type 0) (slot : TreeSlot) (old new : Store) (fault : TableFault) → ReadCause HasNoForest slot old new fault
+pub read_plain : (Says : (Tree → List Item) → Type 0) (slot : TreeSlot) (old new : Store) (fault : TableFault) → ReadCause IsNoForest slot old new fault
     → PlainCause Says slot old new fault
 read_plain Says slot old new Disk grew = grew
-read_plain Says slot old new Damaged none = λ honest text entries h says. none honest text entries h
+read_plain Says slot old new Damaged none = λ honest text entries h says. none honest text entries (forest_there slot text entries old h)
 read_plain Says slot old new TableFull never = never
 read_plain Says slot old new OutOfMemory never = never
 read_plain Says slot old new Closed shut = shut

@@ -14,7 +14,7 @@ use Rattle.page_store.specs.declared.fault.PageFault.{PageFault}
 use Rattle.page_store.specs.declared.fault.PageFault.TheVariants as page
 use Rattle.page_store.specs.declared.marks.Mark.{Mark}
 use Rattle.page_store.specs.declared.marks.Mark.TheVariants.{Committed, Waiting, Fresh, Released, Free}
-use Rattle.page_store.specs.Marks.{mark, turned, AreSealed}
+use Rattle.page_store.specs.Marks.{mark, rests, turned, AreSealed}
 use Rattle.page_store.specs.Spelling.{IsCalm}
 use Rattle.page_store.specs.Store.{Store, IsOpened as IsFound, IsRefusedStore, IsRemarked, IsSoundStore}
 use Rattle.root_slot.specs.Fields.{commits_in}
@@ -149,9 +149,9 @@ module _ {root : List ℕ} (empty : IsEmptyTreeSlot root) (disk mid : Disk) (cou
   create_cause now Inconsistent cause = absurd cause
 
 -- marks of a store that was found and sealed at once
-sealed_mark : (m : Mark) → (m ≡ Committed) ⊎ (m ≡ Waiting) → (turned Fresh Released Free m ≡ Committed) ⊎ (turned Fresh Released Free m ≡ Free)
-sealed_mark m (inl is) = inl (ap (turned Fresh Released Free) is)
-sealed_mark m (inr is) = inr (ap (turned Fresh Released Free) is)
+sealed_mark : (m : Mark) → (m ≡ Committed) ⊎ (m ≡ Waiting) → IsTrue (rests (turned Fresh Released Free m))
+sealed_mark m (inl is) = ap (λ (n : Mark). rests (turned Fresh Released Free n)) is
+sealed_mark m (inr is) = ap (λ (n : Mark). rests (turned Fresh Released Free n)) is
 
 found_mark : (disk : Disk) (count : ℕ) (found : Store) → IsFound disk count found → mark found.marks 0 ≡ Committed → (p : ℕ)
     → (mark found.marks p ≡ Committed) ⊎ (mark found.marks p ≡ Waiting)
@@ -167,10 +167,7 @@ module _ (disk : Disk) (count : ℕ) (found new : Store) (at_first : IsFound dis
     (system : mark found.marks 0 ≡ Committed) (empty : IsEmptyTreeSlot found.root) (enough : 16 ≤ length found.marks) where
   pub begun_calm : IsCalm new
   begun_calm = record {
-    each = λ p. elim (sealed_mark (mark found.marks p) (found_mark disk count found at_first system p)) [
-      | inl is ↦ inl (marks.each p ∙ is)
-      | inr is ↦ inr (marks.each p ∙ is)
-    ];
+    each = λ p. ap rests (marks.each p) ∙ sealed_mark (mark found.marks p) (found_mark disk count found at_first system p);
   }
 
   pub begun_whole : IsSoundStore new → IsWholeFile (file_of (work_of (slot_or_bare None) [] false new) None)

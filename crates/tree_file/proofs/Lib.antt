@@ -6,3 +6,4 @@ mod Marking
 mod Finding
 mod Sealing
 mod Opening
+mod Versions

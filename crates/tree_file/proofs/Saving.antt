@@ -1,5 +1,5 @@
 -- What a command has come to is committed, or given up.
-use Rattle.std.proofs.Common.{◌≢◌, ◌≡◌, inl, inr, ℕ, ◌≤◌, false, List, length, Option, None, Some, IsTrue, sym, ◌∙◌, ap, subst, arith}
+use Rattle.std.proofs.Common.{◌≢◌, ◌≡◌, inl, inr, ℕ, ◌≤◌, false, true, List, length, Option, None, Some, IsTrue, sym, ◌∙◌, ap, subst, arith}
 use Rattle.std.proofs.lemmas.Option.{same_Some}
 use Rattle.sector_disk.specs.Disk.{Disk, GoesOn, Grew, LeavesOnly, size}
 use Rattle.page_store.specs.Causes.{StoreCommitCause}
@@ -12,7 +12,7 @@ use Rattle.game_file.specs.declared.fault.FileFault.TheVariants.{OutOfMemory, Ta
 use Rattle.tree_map.specs.aid.Unchanged.{grew_before}
 use Rattle.sector_disk.specs.aid.Moments.{goes_on_trans}
 use Rattle.page_store.specs.declared.marks.Mark.TheVariants.{Committed, Waiting, Free}
-use Rattle.page_store.specs.Marks.{mark}
+use Rattle.page_store.specs.Marks.{mark, rests}
 use Rattle.page_store.specs.Spelling.{IsCalm}
 use Rattle.page_store.specs.Store.{Store, IsSoundStore, StoreWorks, IsRemarked, reads}
 use Rattle.retrograde.specs.Stored.{Stored, IsTable}
@@ -207,10 +207,7 @@ why_not was mid new table now left page.Closed works still others cause = sym st
 
 -- no page waits where nothing is going on
 pub calm_sealed : (store : Store) → IsCalm store → (p : ℕ) → mark store.marks p ≡ Waiting → ⊥
-calm_sealed store calm p waits = elim (calm.each p) [
-  | inl is ↦ let never : Committed ≡ Waiting = sym is ∙ waits in cc
-  | inr is ↦ let never : Free ≡ Waiting = sym is ∙ waits in cc
-]
+calm_sealed store calm p waits = let never : false ≡ true = sym (ap rests waits) ∙ calm.each p in cc
 
 -- neither memory nor a page is wanted
 pub no_want : (mid left : Store) (fault : PageFault) (told : FileFault) → told ≡ of_pages fault → StoreCommitCause mid left fault

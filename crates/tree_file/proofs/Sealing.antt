@@ -5,7 +5,7 @@ use Rattle.std.proofs.lemmas.List.{get_or_past}
 use Rattle.sector_disk.specs.Disk.{Disk, Shown}
 use Rattle.page_store.specs.declared.marks.Mark.{Mark}
 use Rattle.page_store.specs.declared.marks.Mark.TheVariants.{Committed, Waiting, Fresh, Released, Free}
-use Rattle.page_store.specs.Marks.{mark, needs, turned, AreSealed}
+use Rattle.page_store.specs.Marks.{mark, needs, rests, turned, AreSealed}
 use Rattle.page_store.specs.Page.{page}
 use Rattle.page_store.specs.Spelling.{IsCalm}
 use Rattle.page_store.specs.Store.{Store, IsSoundStore, IsRemarked, reads}
@@ -68,9 +68,9 @@ module _ (old mid new : Store) (only : OnlyMarks old mid) (sealed : AreSealed mi
   was_honest honest = subst (λ (b : Bool). IsTrue b) (ap (λ (d : Disk). d.honest) others.disk ∙ only.works.goes_on.honest) honest
 
   -- a page that waits or is marked is sealed
-  sealed_each : (p : ℕ) → (mark mid.marks p ≡ Waiting) ⊎ (mark mid.marks p ≡ Committed) → (mark new.marks p ≡ Committed) ⊎ (mark new.marks p ≡ Free)
-  sealed_each p (inl waits) = inr (sealed.each p ∙ ap (turned Fresh Released Free) waits)
-  sealed_each p (inr marked) = inl (sealed.each p ∙ ap (turned Fresh Released Free) marked)
+  sealed_each : (p : ℕ) → (mark mid.marks p ≡ Waiting) ⊎ (mark mid.marks p ≡ Committed) → IsTrue (rests (mark new.marks p))
+  sealed_each p (inl waits) = ap rests (sealed.each p ∙ ap (turned Fresh Released Free) waits)
+  sealed_each p (inr marked) = ap rests (sealed.each p ∙ ap (turned Fresh Released Free) marked)
 
   module _ (sound : IsSoundStore old) (wait : AllWait old) where
     was_each : (p : ℕ) → (mark old.marks p ≡ Waiting) ⊎ (mark old.marks p ≡ Committed)

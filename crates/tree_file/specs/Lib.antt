@@ -20,4 +20,5 @@ pub mod Calls
 pub mod InFile
 pub mod Older
 pub mod Opening
+pub mod Versions
 pub mod aid

@@ -13,6 +13,8 @@ ghost use Rattle.tree_file.specs.aid.Backed.{are_sized_prop};
 ghost use Rattle.page_store.specs.declared.marks.Mark.TheVariants.{Waiting};
 ghost use Rattle.page_store.specs.Marks.{mark};
 ghost use Rattle.tree_file.specs.Older.{IsOlderTable};
+ghost use Rattle.tree_table.specs.Versions.{KeepsHolds};
+ghost use Rattle.tree_table.specs.aid.Versions.{keeps_holds_then, works_keep_holds};
 ghost use Rattle.tree_file.specs.aid.Faults.{load_fault};
 ghost use Rattle.tree_file.specs.aid.Whole.{whole_leaves, whole_stored, whole_stays, works_ahead, fails_for, older_none};
 
@@ -127,6 +129,14 @@ impl<P: PagesOnDisk> GameFile for TreeFile<P> {
     ghost fails_ahead = { λ old new fault cause. works_ahead (file_in old) (file_in new) cause.work.works };
 
     ghost fails_for = { λ old new fault whole cause. fails_for (file_in old) (file_in new) fault old.table.holds whole cause };
+
+    ghost lasts = { λ old new. KeepsHolds (file_in old).work.store (file_in new).work.store };
+
+    ghost lasts_then = { λ a b c first second. keeps_holds_then (file_in a).work.store (file_in b).work.store (file_in c).work.store first second };
+
+    ghost goes_on_lasts = { λ old new it. works_keep_holds (file_in old).work.store (file_in new).work.store it.work.works };
+
+    ghost fails_lasts = { λ old new fault it. works_keep_holds (file_in old).work.store (file_in new).work.store it.work.works };
 
     ghost few = { λ t. t.table.few };
 

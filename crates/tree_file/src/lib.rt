@@ -3,10 +3,13 @@
 
 mod begin;
 mod file;
+mod kept;
 pub mod laws;
 mod on_disk;
 mod open;
+mod version;
 mod working;
 
 pub use file::TreeFile;
+pub use kept::Kept;
 pub use on_disk::PagesOnDisk;

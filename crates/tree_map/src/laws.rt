@@ -1,10 +1,11 @@
 //! What holds of every map: each is a law, which proofs cite by a call, or by the lemma of the same name in specs/.
 ghost use Rattle.std.specs.Prelude.{◌≡◌, ◌≤◌, ◌^◌, ℕ, List, length, Contains, IsTrue};
 ghost use Rattle.std.specs.declared.cmp.Ordering.TheVariants.{Less};
-ghost use Rattle.page_store.specs.declared.marks.Mark.TheVariants.{Committed};
-ghost use Rattle.page_store.specs.Marks.{mark};
-ghost use Rattle.page_store.specs.Spelling.{SpelledBy, Stands, IsPrepared};
-ghost use Rattle.page_store.specs.Store.{Store, reads, StoreWorks};
+ghost use Rattle.page_store.specs.declared.holds.HoldPlace.{HoldPlace};
+ghost use Rattle.page_store.specs.declared.marks.Mark.TheVariants.{Committed, Waiting};
+ghost use Rattle.page_store.specs.Marks.{mark, IsNeeded};
+ghost use Rattle.page_store.specs.Spelling.{SpelledBy, Stands, StandsHeld, IsPrepared};
+ghost use Rattle.page_store.specs.Store.{Store, reads, StoreWorks, IsTaken};
 ghost use Rattle.tree_page.specs.Page.{Item, key_cmp};
 ghost use Rattle.tree_page.specs.declared.widths.Widths.{Widths};
 ghost use Rattle.tree_map.specs.Changes.{AreHeld, HoldsMap, TakePlace};
@@ -44,6 +45,20 @@ pub fn a_map_stands()
         → capacity ≤ length store.marks → IsMap w capacity root pages es (reads store)
         → ((p : ℕ) → Contains pages p → mark store.marks p ≡ Committed)
         → Stands (λ p. Contains pages p) (IsMap w capacity root pages es) store }
+{}
+
+/// A map of the committed root, as a hold is taken on it: its pages stay for the hold, and are the same map until the hold is let go.
+pub fn a_map_is_held()
+    ensures { (w : Widths) (root : ℕ) (pages : List ℕ) (es : List Item) (place : HoldPlace) (old new : Store)
+        → ((p : ℕ) → mark old.marks p ≡ Waiting → ⊥) → IsTaken place old new → HoldsMap w old root pages es
+        → ((p : ℕ) → Contains pages p → IsNeeded old.marks p)
+        → StandsHeld place (λ p. Contains pages p) (IsMap w (length old.marks) root pages es) new }
+{}
+
+/// A map that a hold needs is there: it is read as any other.
+pub fn a_held_map_is_there()
+    ensures { (w : Widths) (root : ℕ) (pages : List ℕ) (es : List Item) (place : HoldPlace) (store : Store)
+        → StandsHeld place (λ p. Contains pages p) (IsMap w (length store.marks) root pages es) store → HoldsMap w store root pages es }
 {}
 
 /// A map has at most 21 levels, since there are at most 1,048,576 pages and it has each page once.

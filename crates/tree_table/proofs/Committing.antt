@@ -5,8 +5,11 @@ use Rattle.sector_disk.specs.Disk.{GoesOn}
 use Rattle.page_store.specs.declared.fault.PageFault.{PageFault}
 use Rattle.page_store.specs.declared.fault.PageFault.TheVariants.{Disk, Closed}
 use Rattle.page_store.specs.declared.marks.Mark.{Mark}
-use Rattle.page_store.specs.declared.marks.Mark.TheVariants.{Committed, Waiting, Fresh, Released, Free}
-use Rattle.page_store.specs.Marks.{mark, needs, turned, IsNeeded, AreCommitted}
+use Rattle.page_store.specs.declared.marks.Mark.TheVariants.{Committed, Waiting, Fresh}
+use Rattle.page_store.specs.declared.holds.Holders.{Holders}
+use Rattle.page_store.specs.Holds.{holders_at}
+use Rattle.page_store.specs.Marks.{mark, needs, is_past, committed, IsNeeded, AreCommitted}
+use Rattle.page_store.specs.aid.Carrying.{committed_calm as carried_calm}
 use Rattle.page_store.specs.Spelling.{IsCalm}
 use Rattle.page_store.specs.Store.{Store, reads, IsCommitted}
 use Rattle.retrograde.specs.Stored.{Stored}
@@ -49,6 +52,7 @@ commit_left old new (Err e) time root marks pages = record {
   same_pages = ap length marks;
   needed = λ p. ap (λ (ms : List Mark). needs (mark ms p)) marks;
   waiting = λ p is. ap (λ (ms : List Mark). mark ms p) (sym marks) ∙ is;
+  past = λ p is. ap (λ (ms : List Mark). is_past (mark ms p)) (sym marks) ∙ is;
   reads = λ honest p needed. pages honest p needed.0;
 }
 
@@ -96,34 +100,23 @@ held_on slot text table old new long marks pages h = record {
         ((a_map_is_prepared tree.widths (length store.marks) (root_of slot.roots t) (h.pages t) (entries t) store (omega arith) tree.map (h.held t)).kept p here).0
 
 -- marks after a commit
-committed_mark : (m : Mark) → (m ≡ Committed) ⊎ (m ≡ Fresh) → turned Committed Free Waiting m ≡ Committed
-committed_mark m (inl is) = ap (turned Committed Free Waiting) is
-committed_mark m (inr is) = ap (turned Committed Free Waiting) is
+committed_mark : (h : Holders) (m : Mark) → (m ≡ Committed) ⊎ (m ≡ Fresh) → committed h m ≡ Committed
+committed_mark h m (inl is) = ap (committed h) is
+committed_mark h m (inr is) = ap (committed h) is
 
-pub committed_held : (old new : List Mark) → AreCommitted old new → (p : ℕ) → (mark old p ≡ Committed) ⊎ (mark old p ≡ Fresh) → mark new p ≡ Committed
-committed_held old new marks p held = marks.each p ∙ committed_mark (mark old p) held
-
-committed_rests : (m : Mark) → (m ≡ Waiting → ⊥) → (turned Committed Free Waiting m ≡ Committed) ⊎ (turned Committed Free Waiting m ≡ Free)
-committed_rests Committed not = inl refl
-committed_rests Waiting not = absurd (not refl)
-committed_rests Fresh not = inl refl
-committed_rests Released not = inr refl
-committed_rests Free not = inr refl
+pub committed_held : (holders : List Holders) (old new : List Mark) → AreCommitted holders old new → (p : ℕ)
+    → (mark old p ≡ Committed) ⊎ (mark old p ≡ Fresh) → mark new p ≡ Committed
+committed_held holders old new marks p held = marks.each p ∙ committed_mark (holders_at holders p) (mark old p) held
 
 pub committed_calm : (root : List ℕ) (old new : Store) → IsCommitted root old new → ((p : ℕ) → mark old.marks p ≡ Waiting → ⊥) → IsCalm new
-committed_calm root old new done none = record {
-  each = λ p. elim (committed_rests (mark old.marks p) (none p)) [
-    | inl is ↦ inl (done.marks.each p ∙ is)
-    | inr is ↦ inr (done.marks.each p ∙ is)
-  ];
-}
+committed_calm root old new done none = carried_calm root old new none done
 
 -- whatever a commit answers, pages in use hold what they held
 pub commit_holds : (root : List ℕ) (slot : TreeSlot) (text : List ℕ) (table : Stored (List ℕ)) (old new : Store) (r : Result (Unit {0}) PageFault)
     → OnOk r (IsCommitted root old new) → OnErr r (new.marks ≡ old.marks) → ((p : ℕ) → 1 ≤ p → reads new p ≡ reads old p)
     → HoldsTable slot text table old → HoldsTable slot text table new
 commit_holds root slot text table old new (Ok x) done left pages h =
-    held_on slot text table old new done.marks.same_length (λ p held. inl (committed_held old.marks new.marks done.marks p held)) pages h
+    held_on slot text table old new done.marks.same_length (λ p held. inl (committed_held old.holds.of old.marks new.marks done.marks p held)) pages h
 commit_holds root slot text table old new (Err e) done left pages h =
     held_on slot text table old new (ap length left)
     (λ p held. subst (λ (ms : List Mark). (mark ms p ≡ Committed) ⊎ (mark ms p ≡ Fresh)) (sym left) held) pages h
@@ -145,7 +138,7 @@ pub committed_stands : (root : List ℕ) (slot : TreeSlot) (text : List ℕ) (ta
     → ((p : ℕ) → 1 ≤ p → reads new p ≡ reads old p) → HoldsTable slot text table old → StandsInTrees slot text new
 unfolding held_on
 committed_stands root slot text table old new done pages h =
-    let on = held_on slot text table old new done.marks.same_length (λ p held. inl (committed_held old.marks new.marks done.marks p held)) pages h in
+    let on = held_on slot text table old new done.marks.same_length (λ p held. inl (committed_held old.holds.of old.marks new.marks done.marks p held)) pages h in
     record {
       table = table;
       text_pages = h.forest.text_pages;
@@ -161,7 +154,7 @@ committed_stands root slot text table old new done pages h =
     at p some low held = (
       some,
       omega (arith, low, done.marks.same_length),
-      subst (λ (m : Mark). IsTrue (needs m)) (sym (committed_held old.marks new.marks done.marks p held)) refl,
+      subst (λ (m : Mark). IsTrue (needs m)) (sym (committed_held old.holds.of old.marks new.marks done.marks p held)) refl,
     )
 
     named : (p : ℕ) → IsOneOf h.forest.text_pages h.forest.pages p → IsNeeded new.marks p

@@ -12,8 +12,8 @@ use Rattle.tree_map.specs.Changes.{HoldsMap, AreHeld, TakePlace, MapReadCause, M
 use Rattle.tree_table.specs.declared.slot.TreeSlot.{TreeSlot}
 use Rattle.tree_table.specs.declared.tree.Tree.{Tree}
 use Rattle.tree_table.specs.Trees.{key_width, value_width, root_of}
-use Rattle.tree_table.specs.Causes.{HasNoForest, ReadCause, ChangeCause}
-use Rattle.tree_table.specs.Working.{HoldsForest}
+use Rattle.tree_table.specs.Causes.{IsNoForest, HasNoForest, ReadCause, ChangeCause}
+use Rattle.tree_table.specs.Working.{HasForest, HoldsForest, forest_there}
 use Rattle.tree_table.specs.aid.Faults.{fault_of}
 use Rattle.page_chain.specs.aid.Resting.{a_chain_rests_on_its_pages}
 use Rattle.page_chain.specs.Chain.{IsChain}
@@ -27,7 +27,7 @@ use Rattle.tree_table.proofs.Rooted.{map_of}
 -- the map of one of the trees
 pub map_in : (slot : TreeSlot) (text : List ℕ) (entries : Tree → List Item) (store : Store) (w : Widths) (tree : Tree) (root : ℕ)
     → w.key ≡ key_width slot.sizes.packed tree → w.value ≡ value_width slot.sizes.packed tree → root ≡ root_of slot.roots tree
-    → (h : HoldsForest slot text entries store) → HoldsMap w store root (h.pages tree) (entries tree)
+    → (h : HasForest slot text entries store) → HoldsMap w store root (h.pages tree) (entries tree)
 map_in slot text entries store w tree root keys values is h =
     subst (λ (r : ℕ). HoldsMap w store r (h.pages tree) (entries tree)) (sym is)
     (map_of slot.sizes.packed tree (length store.marks) (root_of slot.roots tree) (h.pages tree) (entries tree) (reads store) w keys values (h.forest.trees tree))
@@ -35,7 +35,7 @@ map_in slot text entries store w tree root keys values is h =
 -- why nothing is read
 pub read_fails : (slot : TreeSlot) (old new : Store) (w : Widths) (tree : Tree) (root : ℕ) (fault : PageFault)
     → w.key ≡ key_width slot.sizes.packed tree → w.value ≡ value_width slot.sizes.packed tree → root ≡ root_of slot.roots tree
-    → MapReadCause w root old new fault → ReadCause HasNoForest slot old new (fault_of fault)
+    → MapReadCause w root old new fault → ReadCause IsNoForest slot old new (fault_of fault)
 read_fails slot old new w tree root page.Disk keys values is cause = cause
 read_fails slot old new w tree root page.NotATable keys values is cause = absurd cause
 read_fails slot old new w tree root page.Damaged keys values is cause =
@@ -214,7 +214,7 @@ pub put_fails : (slot : TreeSlot) (old new : Store) (w : Widths) (tree : Tree) (
 put_fails slot old new w tree root page.Disk keys values is cause = cause
 put_fails slot old new w tree root page.NotATable keys values is cause = absurd cause
 put_fails slot old new w tree root page.Damaged keys values is cause =
-    λ honest text entries h. cause honest (h.pages tree) (entries tree) (map_in slot text entries old w tree root keys values is h)
+    λ honest text entries h. cause honest (h.pages tree) (entries tree) (map_in slot text entries old w tree root keys values is (forest_there slot text entries old h))
 put_fails slot old new w tree root page.TableFull keys values is cause = cause
 put_fails slot old new w tree root page.OutOfMemory keys values is cause = absurd cause
 put_fails slot old new w tree root page.Closed keys values is cause = cause

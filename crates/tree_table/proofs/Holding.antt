@@ -13,9 +13,9 @@ use Rattle.table.specs.Faults.{NeedsNoPage}
 use Rattle.table.specs.declared.fault.TableFault.{TableFault}
 use Rattle.table.specs.declared.fault.TableFault.TheVariants.{Disk, Damaged, TableFull, OutOfMemory, Closed}
 use Rattle.tree_table.specs.declared.slot.TreeSlot.{TreeSlot}
-use Rattle.tree_table.specs.Causes.{HasNoTable, ReadCause, ChangeCause}
+use Rattle.tree_table.specs.Causes.{HasNoTable, IsNoTable, ReadCause, ChangeCause}
 use Rattle.tree_table.specs.Spelled.{table_in}
-use Rattle.tree_table.specs.Working.{Work, work_of, table_now, IsHonestWork, HoldsTable, HoldsWork, WorkStays, WorkGoesOn, NoAnswerCause, WorkFails}
+use Rattle.tree_table.specs.Working.{Work, work_of, table_now, IsHonestWork, HoldsTable, HoldsWork, table_there, WorkStays, WorkGoesOn, NoAnswerCause, WorkFails}
 use Rattle.tree_table.specs.aid.Frames.{honest_before, holds_still}
 use Rattle.tree_table.specs.aid.Spelling.{table_is}
 
@@ -52,18 +52,18 @@ still_held a b stays holds honest =
     ∥∥₁_elim (holds before) ∥∥₁_prop (λ (h : HoldsWork a). ∣ holds_still a b stays before.disk h ∣₁)
 
 -- why one fails
-pub read_fails_so : (a b : Work) (fault : TableFault) → WorkStays a b → ReadCause HasNoTable a.slot a.store b.store fault → WorkFails a b fault
+pub read_fails_so : (a b : Work) (fault : TableFault) → WorkStays a b → ReadCause IsNoTable a.slot a.store b.store fault → WorkFails a b fault
 read_fails_so a b fault stays cause = record { works = stays.works; still = λ other. stays.unchanged.closed; text = stays.text; cause = so fault cause }
   where
-    so : (f : TableFault) → ReadCause HasNoTable a.slot a.store b.store f → NoAnswerCause a b f
+    so : (f : TableFault) → ReadCause IsNoTable a.slot a.store b.store f → NoAnswerCause a b f
     so Disk grew = grew
-    so Damaged none = λ is. none is.0.disk a.text (table_now a) is.1
+    so Damaged none = λ is. none is.0.disk a.text (table_now a) (table_there a.slot a.text (table_now a) a.store is.1)
     so TableFull never = absurd never
     so OutOfMemory never = absurd never
     so Closed shut = shut
 
-pub needs_no_page : (slot : TreeSlot) (old new : Store) (fault : TableFault) → ReadCause HasNoTable slot old new fault → NeedsNoPage fault
-needs_no_page slot old new fault cause = λ is. subst (λ (f : TableFault). ReadCause HasNoTable slot old new f) is cause
+pub needs_no_page : (slot : TreeSlot) (old new : Store) (fault : TableFault) → ReadCause IsNoTable slot old new fault → NeedsNoPage fault
+needs_no_page slot old new fault cause = λ is. subst (λ (f : TableFault). ReadCause IsNoTable slot old new f) is cause
 
 pub change_fails_so : (a b : Work) (fault : TableFault) → StoreWorks a.store b.store → (fault ≢ Disk → b.store.closed ≡ a.store.closed) → b.text ≡ a.text → ChangeCause HasNoTable a.slot a.store b.store fault → WorkFails a b fault
 change_fails_so a b fault works still text cause = record { works = works; still = still; text = text; cause = so fault cause }
@@ -107,11 +107,11 @@ pub only_read : (slot : TreeSlot) (text : List ℕ) (torn : Bool) (old new : Sto
 only_read slot text torn old new works same = record { works = works; unchanged = same; slot = refl; text = refl; torn = refl }
 
 -- and was refused
-pub read_refused : {X : Type 0} (a b : Work) (r : Result X TableFault) → WorkStays a b → IfErr r (ReadCause HasNoTable a.slot a.store b.store) → IfErr r (WorkFails a b)
+pub read_refused : {X : Type 0} (a b : Work) (r : Result X TableFault) → WorkStays a b → IfErr r (ReadCause IsNoTable a.slot a.store b.store) → IfErr r (WorkFails a b)
 read_refused a b (Ok x) stays cause = tt
 read_refused a b (Err fault) stays cause = read_fails_so a b fault stays cause
 
-pub read_without_page : {X : Type 0} (slot : TreeSlot) (old new : Store) (r : Result X TableFault) → IfErr r (ReadCause HasNoTable slot old new) → IfErr r NeedsNoPage
+pub read_without_page : {X : Type 0} (slot : TreeSlot) (old new : Store) (r : Result X TableFault) → IfErr r (ReadCause IsNoTable slot old new) → IfErr r NeedsNoPage
 read_without_page slot old new (Ok x) cause = tt
 read_without_page slot old new (Err fault) cause = needs_no_page slot old new fault cause
 

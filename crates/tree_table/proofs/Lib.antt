@@ -14,3 +14,4 @@ mod Limits
 mod Committing
 mod Loading
 mod Bare
+mod Versions

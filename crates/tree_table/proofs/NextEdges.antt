@@ -24,7 +24,7 @@ use Rattle.tree_table.specs.declared.slot.TreeSlot.{TreeSlot}
 use Rattle.tree_table.specs.declared.tree.Tree.TheVariants.{Edges}
 use Rattle.tree_table.specs.Entries.{number_key, edge_key}
 use Rattle.tree_table.specs.Trees.{root_of}
-use Rattle.tree_table.specs.Working.{HoldsTable}
+use Rattle.tree_table.specs.Working.{HasTable}
 use Rattle.tree_table.specs.aid.Keys.{key_behind}
 use Rattle.tree_table.proofs.KeyOrder.{keys_cmp, number_cmp}
 use Rattle.tree_table.specs.aid.Numbers.{key_long, key_back, edge_long}
@@ -93,7 +93,7 @@ first_upto a b o is = elim (cases_order a b) [
   | inr (inr high) ↦ let e : Greater ≡ Less = sym (ap (λ (p : Ordering). ordering_then p o) (more a b high)) ∙ is in absurd (cc)
 ]
 
-module _ (slot : TreeSlot) (text : List ℕ) (table : Stored (List ℕ)) (old : Store) (few : slot.sizes.counts.known ≤ 2 ^ 24) (h : HoldsTable slot text table old)
+module _ (slot : TreeSlot) (text : List ℕ) (table : Stored (List ℕ)) (old : Store) (few : slot.sizes.counts.known ≤ 2 ^ 24) (h : HasTable slot text table old)
     (s : ℕ) (small : s < 2 ^ 32) (after : Option ℕ) (short : IfSome after (λ n. n < 2 ^ 32)) where
   ascending : Ascend (h.entries Edges)
   ascending = let tree = h.forest.forest.trees Edges in ascends tree.widths (length old.marks) (root_of slot.roots Edges) (h.forest.pages Edges) (h.entries Edges) (reads old) tree.map

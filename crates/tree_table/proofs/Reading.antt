@@ -13,7 +13,7 @@ use Rattle.tree_map.specs.Entries.{find_entry}
 use Rattle.tree_table.specs.declared.slot.TreeSlot.{TreeSlot}
 use Rattle.tree_table.specs.declared.tree.Tree.TheVariants.{Positions, Records, Order}
 use Rattle.tree_table.specs.Entries.{number_key, AreByNumber}
-use Rattle.tree_table.specs.Working.{HoldsTable}
+use Rattle.tree_table.specs.Working.{HasTable}
 use Rattle.tree_table.specs.aid.Lists.{zip_got}
 
 -- numbers that four bytes are
@@ -31,7 +31,7 @@ there IsOf es xs d i low are =
     let (v, found, of) = are.each i (get_or xs i d) at in
     (v, get_or xs i d, found, of, at)
 
-module _ (slot : TreeSlot) (text : List ℕ) (table : Stored (List ℕ)) (old : Store) (h : HoldsTable slot text table old) where
+module _ (slot : TreeSlot) (text : List ℕ) (table : Stored (List ℕ)) (old : Store) (h : HasTable slot text table old) where
   -- the cell of a number
   pub cell_there : (i : ℕ) → i < slot.sizes.counts.known → (v x : List ℕ) × (r : Record) × (find_entry (h.entries Records) (number_key i) ≡ Some v) × IsCell slot.sizes.packed v (x, r)
       × (slice_get table.positions i ≡ Some x) × HasRecord table i r

@@ -9,14 +9,22 @@ use Rattle.table.specs.declared.fault.TableFault.TheVariants.{Disk, Damaged, Tab
 use Rattle.tree_page.specs.Page.{Item}
 use Rattle.tree_table.specs.declared.slot.TreeSlot.{TreeSlot}
 use Rattle.tree_table.specs.declared.tree.Tree.{Tree}
-use Rattle.tree_table.specs.Working.{HoldsForest, HoldsTable}
+use Rattle.tree_table.specs.Working.{HasForest, HasTable, HoldsForest, HoldsTable}
 use Rattle.page_chain.specs.declared.page.TheConstants.{PAYLOAD}
 
 -- no four trees are there, as far as the disk is honest
+abbrev pub IsNoForest : TreeSlot → Store → Type 0
+IsNoForest slot store = IsTrue store.disk.honest → (text : List ℕ) (entries : Tree → List Item) → ¬ HasForest slot text entries store
+
+-- no table is there, as far as the disk is honest
+abbrev pub IsNoTable : TreeSlot → Store → Type 0
+IsNoTable slot store = IsTrue store.disk.honest → (text : List ℕ) (table : Stored (List ℕ)) → ¬ HasTable slot text table store
+
+-- no four trees are there on pages that are in use, as far as the disk is honest
 abbrev pub HasNoForest : TreeSlot → Store → Type 0
 HasNoForest slot store = IsTrue store.disk.honest → (text : List ℕ) (entries : Tree → List Item) → ¬ HoldsForest slot text entries store
 
--- no table is there, as far as the disk is honest
+-- no table is there on pages that are in use, as far as the disk is honest
 abbrev pub HasNoTable : TreeSlot → Store → Type 0
 HasNoTable slot store = IsTrue store.disk.honest → (text : List ℕ) (table : Stored (List ℕ)) → ¬ HoldsTable slot text table store
 

@@ -2,7 +2,7 @@
 use Rattle.std.specs.Prelude.{◌≡◌, ◌⊎◌, ℕ, ◌≤◌, ◌^◌, List, [], length, Option, None, Some, Contains, IsTrue}
 use Rattle.sector_disk.specs.Disk.{GoesOn}
 use Rattle.page_store.specs.declared.marks.Mark.TheVariants.{Waiting}
-use Rattle.page_store.specs.Marks.{mark, needs, IsNeeded}
+use Rattle.page_store.specs.Marks.{mark, needs, is_past, IsNeeded}
 use Rattle.page_store.specs.Store.{Store, StoreWorks, IsSafe, reads}
 use Rattle.retrograde.specs.Changes.{counts_of}
 use Rattle.retrograde.specs.Stored.{Stored, IsTable}
@@ -59,6 +59,7 @@ pub record IsStill (old new : Store) : Type 0 where
   pub same_pages : length new.marks ≡ length old.marks
   pub needed : (p : ℕ) → needs (mark new.marks p) ≡ needs (mark old.marks p)
   pub waiting : (p : ℕ) → mark new.marks p ≡ Waiting → mark old.marks p ≡ Waiting
+  pub past : (p : ℕ) → IsTrue (is_past (mark new.marks p)) → IsTrue (is_past (mark old.marks p))
   pub reads : IsTrue old.disk.honest → (p : ℕ) → IsNeeded old.marks p → reads new p ≡ reads old p
 
 -- the pages that this slot names hold this text and a table, which it counts right, and the committed root needs each of them

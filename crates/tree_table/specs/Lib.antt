@@ -25,4 +25,5 @@ pub mod Keeping
 pub mod Working
 pub mod Causes
 pub mod InTrees
+pub mod Versions
 pub mod aid

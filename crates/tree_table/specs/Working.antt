@@ -19,6 +19,19 @@ use Rattle.tree_table.specs.Entries.{AreEntriesOf}
 use Rattle.tree_table.specs.Forest.{IsForest}
 use Rattle.tree_table.specs.Spelled.{table_in}
 
+-- in this store the slot names the pages of this text and of four trees with these entries
+pub record HasForest (slot : TreeSlot) (text : List ℕ) (entries : Tree → List Item) (store : Store) : Type 0 where
+  pub text_pages : List ℕ
+  pub pages : Tree → List ℕ
+  pub forest : IsForest slot.sizes.packed (length store.marks) slot.first slot.roots text text_pages pages entries (reads store)
+
+-- and the trees are those of this table, which the slot counts right: so much is needed to read it
+pub record HasTable (slot : TreeSlot) (text : List ℕ) (table : Stored (List ℕ)) (store : Store) : Type 0 where
+  pub entries : Tree → List Item
+  pub forest : HasForest slot text entries store
+  pub spelled : AreEntriesOf slot.sizes entries table
+  pub counts : counts_of table ≡ slot.sizes.counts
+
 -- in this store the slot names the pages of this text and of four trees with these entries, and they are in use
 pub record HoldsForest (slot : TreeSlot) (text : List ℕ) (entries : Tree → List Item) (store : Store) : Type 0 where
   pub text_pages : List ℕ
@@ -33,6 +46,16 @@ pub record HoldsTable (slot : TreeSlot) (text : List ℕ) (table : Stored (List 
   pub forest : HoldsForest slot text entries store
   pub spelled : AreEntriesOf slot.sizes entries table
   pub counts : counts_of table ≡ slot.sizes.counts
+
+-- what is in use is there
+abbrev pub forest_there : (slot : TreeSlot) (text : List ℕ) (entries : Tree → List Item) (store : Store) → HoldsForest slot text entries store
+    → HasForest slot text entries store
+forest_there slot text entries store h = record { text_pages = h.text_pages; pages = h.pages; forest = h.forest }
+
+abbrev pub table_there : (slot : TreeSlot) (text : List ℕ) (table : Stored (List ℕ)) (store : Store) → HoldsTable slot text table store
+    → HasTable slot text table store
+table_there slot text table store h =
+    record { entries = h.entries; forest = forest_there slot text h.entries store h.forest; spelled = h.spelled; counts = h.counts }
 
 -- these entries, with this value at this key of this tree
 abbrev pub with_entry : (Tree → List Item) → Tree → List ℕ → List ℕ → Tree → List Item
@@ -52,6 +75,10 @@ work_of s x b p = record { slot = s; text = x; torn = b; store = p }
 -- the table that it has come to
 abbrev pub table_now : Work → Stored (List ℕ)
 table_now work = table_in work.slot (reads work.store)
+
+abbrev pub work_there : (work : Work) → HoldsTable work.slot work.text (table_now work) work.store
+    → HasTable work.slot work.text (table_now work) work.store
+work_there work h = table_there work.slot work.text (table_now work) work.store h
 
 -- its disk keeps to its word, and no call that writes has stopped half way
 pub record IsHonestWork (work : Work) : Type 0 where

@@ -8,3 +8,4 @@ pub mod OneTable
 pub mod Slots
 pub mod Spelling
 pub mod Standing
+pub mod Versions

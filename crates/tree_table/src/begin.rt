@@ -15,6 +15,7 @@ ghost use Rattle.tree_table.specs.Held.{StoresTrees};
 ghost use Rattle.tree_table.specs.Keeping.{IsKeptInTrees, IsSizedSlot, IsStill, IsVacant, StandsInTrees};
 ghost use Rattle.tree_table.specs.Slot.{slot_in};
 ghost use Rattle.tree_table.specs.Working.{HoldsTable, text_slot};
+ghost use Rattle.tree_table.specs.Versions.{KeepsHolds};
 ghost use Rattle.page_chain.specs.Chain.{first_of};
 ghost use Rattle.rbg_game.specs.declared.limits.TheConstants.{MAX_TEXT_BYTES};
 
@@ -109,6 +110,7 @@ pub fn load<P: Pages>(
         → IfOk result (λ slot. HoldsTable slot text.now (loaded start.now.items) (P.store store.new)) }
     ensures calm { ((p : ℕ) → mark_of (P.store store.old).marks p ≡ Waiting → ⊥) → OnOk result (IsCalm (P.store store.new)) }
     ensures left { OnErr result (IsStill (P.store store.old) (P.store store.new)) }
+    ensures held { KeepsHolds (P.store store.old) (P.store store.new) }
     ensures time { GoesOn (P.store store.old).disk (P.store store.new).disk }
     ensures same_size { size (P.store store.new).disk ≡ size (P.store store.old).disk }
     ensures failures { (P.store store.old).failures ≤ (P.store store.new).failures }

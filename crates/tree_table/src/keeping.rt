@@ -17,6 +17,7 @@ ghost use Rattle.tree_table.specs.Causes.{StartCause};
 ghost use Rattle.tree_table.specs.Slot.{slot_in};
 ghost use Rattle.tree_table.specs.Keeping.{slot_or_bare as slot_of};
 ghost use Rattle.tree_table.specs.Working.{bare_slot as bare, work_of};
+ghost use Rattle.tree_table.specs.Versions.{KeepsHolds};
 ghost use Rattle.rbg_game.specs.declared.limits.TheConstants.{MAX_TEXT_BYTES};
 
 use crate::begin::load;
@@ -101,6 +102,7 @@ impl<P: Pages> TreeTable<P> {
         ensures text { (work_in self.new).text ≡ (work_in self.old).text }
         ensures torn { (work_in self.new).torn ≡ false }
         ensures still { IsStill (work_in self.old).store (work_in self.new).store }
+        ensures held { KeepsHolds (work_in self.old).store (work_in self.new).store }
         ensures calm { IsCalm (work_in self.new).store }
         ensures others { IsRemarked (work_in self.old).store (work_in self.new).store }
     {
@@ -131,6 +133,7 @@ impl<P: Pages> TreeTable<P> {
             → OnOk result (∥ StandsInTrees (work_in self.old).slot (work_in self.old).text (work_in self.new).store ∥₁) }
         ensures calm { ((p : ℕ) → mark_of (work_in self.old).store.marks p ≡ Waiting → ⊥) → OnOk result (IsCalm (work_in self.new).store) }
         ensures left { OnErr result (IsStill (work_in self.old).store (work_in self.new).store) }
+        ensures held { KeepsHolds (work_in self.old).store (work_in self.new).store }
         ensures time { GoesOn (work_in self.old).store.disk (work_in self.new).store.disk }
         ensures same_size { size (work_in self.new).store.disk ≡ size (work_in self.old).store.disk }
         ensures failures { (work_in self.old).store.failures ≤ (work_in self.new).store.failures }
@@ -177,6 +180,7 @@ impl<P: Pages> TreeTable<P> {
             → OnOk result (StandsInTrees (work_in self.new).slot text.items (work_in self.new).store) }
         ensures calm { ((p : ℕ) → mark_of (work_in self.old).store.marks p ≡ Waiting → ⊥) → OnOk result (IsCalm (work_in self.new).store) }
         ensures left { OnErr result (IsStill (work_in self.old).store (work_in self.new).store) }
+        ensures held { KeepsHolds (work_in self.old).store (work_in self.new).store }
         ensures time { GoesOn (work_in self.old).store.disk (work_in self.new).store.disk }
         ensures same_size { size (work_in self.new).store.disk ≡ size (work_in self.old).store.disk }
         ensures failures { (work_in self.old).store.failures ≤ (work_in self.new).store.failures }

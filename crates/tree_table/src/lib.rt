@@ -12,6 +12,7 @@ mod read;
 mod saving;
 mod slot;
 mod tree;
+mod version;
 mod working;
 
 pub use begin::load;

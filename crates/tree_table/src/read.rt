@@ -7,8 +7,8 @@ ghost use Rattle.tree_page.specs.Page.{Item};
 ghost use Rattle.tree_map.specs.Entries.{find_entry, next_after as next_in};
 ghost use Rattle.tree_read.specs.Answers.{found_bytes, found_entry};
 ghost use Rattle.tree_table.specs.declared.tree.Tree.{Tree};
-ghost use Rattle.tree_table.specs.Causes.{HasNoForest, HasNoTable, ReadCause};
-ghost use Rattle.tree_table.specs.Working.{HoldsForest, HoldsTable};
+ghost use Rattle.tree_table.specs.Causes.{IsNoForest, IsNoTable, ReadCause};
+ghost use Rattle.tree_table.specs.Working.{HasForest, HasTable};
 ghost use Rattle.position_pack.specs.declared.limits.TheConstants.{MAX_PACKED};
 
 use crate::bytes::{Cell, cell_in, edge_in, key_behind, number_in, number_key};
@@ -30,11 +30,11 @@ pub fn value_at<P: Pages>(
     requires some { 1 ≤ slot.now.sizes.packed }
     requires short { slot.now.sizes.packed ≤ MAX_PACKED }
     ensures found { IsTrue (P.store store.old).disk.honest → (text : List ℕ) (entries : Tree → List Item)
-        → HoldsForest slot.now text entries (P.store store.old)
+        → HasForest slot.now text entries (P.store store.old)
         → IfOk result (λ found. found_bytes found ≡ find_entry (entries tree) key.now) }
     ensures unchanged { IsUnchanged (P.store store.old) (P.store store.new) }
     ensures works { StoreWorks (P.store store.old) (P.store store.new) }
-    ensures cause { IfErr result (ReadCause HasNoForest slot.now (P.store store.old) (P.store store.new)) }
+    ensures cause { IfErr result (ReadCause IsNoForest slot.now (P.store store.old) (P.store store.new)) }
 {
     let widths = widths_of(slot.sizes.packed, tree);
     match get(store, widths, slot.roots.root(tree), key) {
@@ -53,11 +53,11 @@ fn entry_after<P: Pages>(
     requires some { 1 ≤ slot.now.sizes.packed }
     requires short { slot.now.sizes.packed ≤ MAX_PACKED }
     ensures found { IsTrue (P.store store.old).disk.honest → (text : List ℕ) (entries : Tree → List Item)
-        → HoldsForest slot.now text entries (P.store store.old)
+        → HasForest slot.now text entries (P.store store.old)
         → IfOk result (λ found. found_entry found ≡ next_in (entries tree) key.now) }
     ensures unchanged { IsUnchanged (P.store store.old) (P.store store.new) }
     ensures works { StoreWorks (P.store store.old) (P.store store.new) }
-    ensures cause { IfErr result (ReadCause HasNoForest slot.now (P.store store.old) (P.store store.new)) }
+    ensures cause { IfErr result (ReadCause IsNoForest slot.now (P.store store.old) (P.store store.new)) }
 {
     let widths = widths_of(slot.sizes.packed, tree);
     match next_after(store, widths, slot.roots.root(tree), key) {
@@ -72,15 +72,15 @@ pub fn cell_at<P: Pages>(store: &mut P, slot: &TreeSlot, number: u32) -> Result<
     requires short { slot.now.sizes.packed ≤ MAX_PACKED }
     requires known { number < slot.now.sizes.counts.known }
     ensures position { IsTrue (P.store store.old).disk.honest → (text : List ℕ) (table : Stored (List ℕ))
-        → HoldsTable slot.now text table (P.store store.old)
+        → HasTable slot.now text table (P.store store.old)
         → IfOk result (λ cell. slice_get table.positions number ≡ Some cell.position.items) }
     ensures kept { IsTrue (P.store store.old).disk.honest → (text : List ℕ) (table : Stored (List ℕ))
-        → HoldsTable slot.now text table (P.store store.old)
+        → HasTable slot.now text table (P.store store.old)
         → IfOk result (λ cell. HasRecord table number cell.kept) }
     ensures long { IfOk result (λ cell. length cell.position.items ≡ slot.now.sizes.packed) }
     ensures unchanged { IsUnchanged (P.store store.old) (P.store store.new) }
     ensures works { StoreWorks (P.store store.old) (P.store store.new) }
-    ensures cause { IfErr result (ReadCause HasNoTable slot.now (P.store store.old) (P.store store.new)) }
+    ensures cause { IfErr result (ReadCause IsNoTable slot.now (P.store store.old) (P.store store.new)) }
 {
     let key = number_key(number);
     let Some(value) = value_at(store, slot, Tree::Records, &key)? else {
@@ -101,15 +101,15 @@ pub fn number_of<P: Pages>(
     requires some { 1 ≤ slot.now.sizes.packed }
     requires short { slot.now.sizes.packed ≤ MAX_PACKED }
     ensures found { IsTrue (P.store store.old).disk.honest → (text : List ℕ) (table : Stored (List ℕ))
-        → HoldsTable slot.now text table (P.store store.old)
+        → HasTable slot.now text table (P.store store.old)
         → IfOk result (λ r. IfSome r (λ i. slice_get table.positions i ≡ Some packed.now.items)) }
     ensures unknown { IsTrue (P.store store.old).disk.honest → (text : List ℕ) (table : Stored (List ℕ))
-        → HoldsTable slot.now text table (P.store store.old)
+        → HasTable slot.now text table (P.store store.old)
         → IfOk result (λ r. IfNone r ((i : ℕ) → slice_get table.positions i ≡ Some packed.now.items → ⊥)) }
     ensures within { IfOk result (λ r. IfSome r (λ i. i < slot.now.sizes.counts.known)) }
     ensures unchanged { IsUnchanged (P.store store.old) (P.store store.new) }
     ensures works { StoreWorks (P.store store.old) (P.store store.new) }
-    ensures cause { IfErr result (ReadCause HasNoTable slot.now (P.store store.old) (P.store store.new)) }
+    ensures cause { IfErr result (ReadCause IsNoTable slot.now (P.store store.old) (P.store store.new)) }
 {
     let Some(value) = value_at(store, slot, Tree::Positions, packed)? else {
         return Ok(None);
@@ -145,16 +145,16 @@ pub fn edge_after<P: Pages>(
     requires short { slot.now.sizes.packed ≤ MAX_PACKED }
     requires few { slot.now.sizes.counts.known ≤ 16777216 }
     ensures next { IsTrue (P.store store.old).disk.honest → (text : List ℕ) (table : Stored (List ℕ))
-        → HoldsTable slot.now text table (P.store store.old)
+        → HasTable slot.now text table (P.store store.old)
         → IfOk result (λ r. IfSome r (IsNextEdge table successor after)) }
     ensures none { IsTrue (P.store store.old).disk.honest → (text : List ℕ) (table : Stored (List ℕ))
-        → HoldsTable slot.now text table (P.store store.old)
+        → HasTable slot.now text table (P.store store.old)
         → IfOk result (λ r. IfNone r (HasNoMoreEdges table successor after)) }
     ensures within { IfOk result (λ r. IfSome r (λ p. p < slot.now.sizes.counts.known)) }
     ensures later { IfOk result (λ r. IfSome r (IsAfter after)) }
     ensures unchanged { IsUnchanged (P.store store.old) (P.store store.new) }
     ensures works { StoreWorks (P.store store.old) (P.store store.new) }
-    ensures cause { IfErr result (ReadCause HasNoTable slot.now (P.store store.old) (P.store store.new)) }
+    ensures cause { IfErr result (ReadCause IsNoTable slot.now (P.store store.old) (P.store store.new)) }
 {
     let key = key_behind(successor, after);
     let Some(entry) = entry_after(store, slot, Tree::Edges, &key)? else {
@@ -182,11 +182,11 @@ pub fn settled_at<P: Pages>(store: &mut P, slot: &TreeSlot, place: u32) -> Resul
     requires short { slot.now.sizes.packed ≤ MAX_PACKED }
     requires settled { place < slot.now.sizes.counts.settled }
     ensures number { IsTrue (P.store store.old).disk.honest → (text : List ℕ) (table : Stored (List ℕ))
-        → HoldsTable slot.now text table (P.store store.old)
+        → HasTable slot.now text table (P.store store.old)
         → IfOk result (λ i. slice_get table.order place ≡ Some i) }
     ensures unchanged { IsUnchanged (P.store store.old) (P.store store.new) }
     ensures works { StoreWorks (P.store store.old) (P.store store.new) }
-    ensures cause { IfErr result (ReadCause HasNoTable slot.now (P.store store.old) (P.store store.new)) }
+    ensures cause { IfErr result (ReadCause IsNoTable slot.now (P.store store.old) (P.store store.new)) }
 {
     let key = number_key(place);
     let Some(value) = value_at(store, slot, Tree::Order, &key)? else {

@@ -10,6 +10,7 @@ ghost use Rattle.root_slot.specs.Fields.{commits_in};
 ghost use Rattle.tree_table.specs.Held.{StoresTrees};
 ghost use Rattle.tree_table.specs.Keeping.{IsKeptInTrees, IsStill, IsWorkedOn};
 ghost use Rattle.tree_table.specs.Slot.{slot_in, IsNoTreeSlot, SaysTrees};
+ghost use Rattle.tree_table.specs.Versions.{KeepsHolds};
 ghost use Rattle.tree_table.specs.Working.{HoldsTable};
 
 use crate::slot::{Slot, TreeSlot, game_slot, read_slot};
@@ -36,6 +37,7 @@ pub fn commit<P: Pages>(store: &mut P, commits: u64, slot: &TreeSlot) -> Result<
     ensures kept_pages { IsTrue (P.store store.old).disk.honest → (p : ℕ) → 1 ≤ p
         → reads (P.store store.new) p ≡ reads (P.store store.old) p }
     ensures left { OnErr result (IsStill (P.store store.old) (P.store store.new)) }
+    ensures held { KeepsHolds (P.store store.old) (P.store store.new) }
     ensures time { GoesOn (P.store store.old).disk (P.store store.new).disk }
     ensures same_size { size (P.store store.new).disk ≡ size (P.store store.old).disk }
     ensures failures { (P.store store.old).failures ≤ (P.store store.new).failures }

@@ -5,6 +5,8 @@ use Rattle.page_store.specs.declared.fault.PageFault.{PageFault}
 use Rattle.page_store.specs.declared.fault.PageFault.TheVariants.{Disk as DiskFailed}
 use Rattle.page_store.specs.declared.marks.Mark.{Mark}
 use Rattle.page_store.specs.declared.marks.Mark.TheVariants.{Committed, Waiting, Fresh, Free}
+use Rattle.page_store.specs.declared.holds.HoldPlace.{HoldPlace}
+use Rattle.page_store.specs.Holds.{needed_by}
 use Rattle.page_store.specs.Marks.{mark}
 use Rattle.page_store.specs.Store.{Store, reads, StoreWorks, IsRemarked}
 use Rattle.page_chain.specs.Chain.{IsChain, first_of}
@@ -16,6 +18,10 @@ use Rattle.flat_table.specs.File.{IsBacked}
 use Rattle.flat_table.specs.SaveCauses.{SaveCause}
 use Rattle.flat_table.specs.Saving.{AreBytesOf, StoreGoesAhead}
 use Rattle.game_file.specs.Stops.{LeavesEither}
+
+-- no hold is taken
+abbrev pub HasNoHold : Store → Type 0
+HasNoHold store = (place : HoldPlace) → needed_by store.holds.taken place ≡ false
 
 -- a page of this mark was let go: the next commit does not keep it, unless it waits
 pub record IsGone (m : Mark) : Type 0 where
@@ -56,7 +62,7 @@ pub record IsReplaced (was_pages pages : List ℕ) (kind : PackingKind) (sizes :
   pub was_open : old.closed ≡ false
   pub is_open : new.closed ≡ false
   pub there : (p : ℕ) → Contains pages p → (1 ≤ p) × (p < length new.marks)
-  pub freed : (p : ℕ) → Contains was_pages p → mark old.marks p ≢ Waiting → mark new.marks p ≡ Free
+  pub freed : (p : ℕ) → Contains was_pages p → mark old.marks p ≢ Waiting → HasNoHold old → mark new.marks p ≡ Free
   pub ahead : StoreGoesAhead old new
   pub stop : LeavesOne was_pages kind sizes bytes old new
   pub done : (was : Option Kept) (is : Kept) → IsBacked old was_pages was → AreBytesOf is kind sizes bytes → IsBacked new pages (Some is)

@@ -11,7 +11,9 @@ use Rattle.page_store.specs.declared.marks.Mark.{Mark}
 use Rattle.page_store.specs.declared.marks.Mark.TheVariants.{Committed, Fresh}
 use Rattle.page_store.specs.Marks.{mark, IsNeeded}
 use Rattle.page_store.specs.aid.Page.{page_same}
-use Rattle.page_store.specs.Store.{Store, Saved, SavedAs, StopLeaves, IsSafe, StoreWorks, IsRemarked}
+use Rattle.page_store.specs.declared.holds.HoldPlace.{HoldPlace}
+use Rattle.page_store.specs.Holds.{Holds, holders_at, needed_by}
+use Rattle.page_store.specs.Store.{Store, IsHeldBy, Saved, SavedAs, StopLeaves, IsSafe, StoreWorks, IsRemarked}
 
 -- a page that was handed out lies before the end
 pub fresh_within : (marks : List Mark) (p : ℕ) → mark marks p ≡ Fresh → p < length marks
@@ -42,6 +44,9 @@ works_refl store = record {
   reads = λ honest p needed. refl;
   safe = λ honest safe. safe;
   leaves = λ honest safe. leaves_now store.disk (safe_saves store safe);
+  holds = refl;
+  past = λ p. refl;
+  held = λ honest place p held. refl;
 }
 
 -- nor with a store that is as it was
@@ -57,6 +62,10 @@ still_needed works p needed = (
       (works.needed p)) needed.2,
 )
 
+-- what a hold needed in the earlier store, it needs in the later
+pub still_held : (old new : Store) → new.holds ≡ old.holds → (place : HoldPlace) (p : ℕ) → IsHeldBy place old p → IsHeldBy place new p
+still_held old new same place p held = (held.0, subst (λ (h : Holds). IsTrue (needed_by (holders_at h.of p) place)) (sym same) held.1)
+
 -- what is saved of the later store is saved of the earlier
 pub saved_before : {old new : Store} → StoreWorks old new → IsTrue old.disk.honest → (picture : Picture) → Saved new picture
     → Saved old picture
@@ -68,7 +77,7 @@ saved_before works honest picture saved = record {
 
 -- one part after another
 pub works_then : {old mid new : Store} → StoreWorks old mid → StoreWorks mid new → StoreWorks old new
-works_then first second = record {
+works_then {old} {mid} {new} first second = record {
   goes_on = goes_on_trans first.goes_on second.goes_on;
   same_size = second.same_size ∙ first.same_size;
   failures = omega (arith, first.failures, second.failures);
@@ -82,6 +91,10 @@ works_then first second = record {
   leaves = λ honest safe.
       leaves_then second.goes_on (first.leaves honest safe)
       (leaves_more (saved_before first honest) (second.leaves (still_honest first.goes_on honest) (first.safe honest safe)));
+  holds = second.holds ∙ first.holds;
+  past = λ p. second.past p ∙ first.past p;
+  held = λ honest place p held. second.held (still_honest first.goes_on honest) place p (still_held old mid first.holds place p held)
+      ∙ first.held honest place p held;
 }
 
 -- only marks change, and no page becomes needed that was not

@@ -3,7 +3,7 @@ use Rattle.std.specs.Prelude.{◌≡◌, ℕ, ◌<◌, ◌≤◌, true, List, le
 use Rattle.sector_disk.specs.declared.log.Event.{Event}
 use Rattle.sector_disk.specs.Disk.{Picture}
 use Rattle.sector_disk.specs.Past.{undone, synced_after}
-use Rattle.sector_disk.specs.declared.log.Event.TheVariants.{Wrote, Synced}
+use Rattle.sector_disk.specs.declared.log.Event.TheVariants.{Wrote, Synced, Extended}
 
 -- all was synced after so many events, and not after any greater number of them
 pub record IsLastSyncOf (events : List Event) (last : ℕ) : Type 0 where
@@ -21,3 +21,4 @@ pub record IsAsAtSync (events : List Event) (contents sectors : Picture) : Type 
 abbrev pub last_by : Event → ℕ → ℕ → ℕ
 last_by (Wrote at bytes) count last = last
 last_by Synced count last = count
+last_by (Extended end) count last = last

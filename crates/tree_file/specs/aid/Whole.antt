@@ -7,8 +7,8 @@ use denote.Struct.Props.{props}
 use Rattle.sector_disk.specs.Disk.{Picture}
 use Rattle.sector_disk.specs.aid.Moments.{leaves_more, still_honest}
 use Rattle.page_store.specs.declared.marks.Mark.{Mark}
-use Rattle.page_store.specs.declared.marks.Mark.TheVariants.{Committed, Free}
-use Rattle.page_store.specs.Marks.{mark, needs}
+use Rattle.page_store.specs.declared.marks.Mark.TheVariants.{Committed, Waiting, Fresh, Released, Free, Past}
+use Rattle.page_store.specs.Marks.{mark, needs, is_past, rests}
 use Rattle.page_store.specs.Spelling.{IsCalm}
 use Rattle.page_store.specs.Store.{Store, IsSoundStore, StoreWorks, reads}
 use Rattle.page_store.specs.aid.Carrying.{saved_spells}
@@ -61,9 +61,13 @@ kept_same (Some slot) text old new honest still calm names it =
     ap (λ (t : Stored (List ℕ)). Some (kept_as text slot.packing t)) table
 
 -- a page that the root does not need is free between commands
-free_still : (m n : Mark) → (n ≡ Committed) ⊎ (n ≡ Free) → needs n ≡ needs m → m ≡ Free → n ≡ Free
-free_still m n (inl is) same free = let never : true ≡ false = ap needs (sym is) ∙ same ∙ ap needs free in absurd (cc)
-free_still m n (inr is) same free = is
+free_still : (m n : Mark) → IsTrue (rests n) → needs n ≡ needs m → (IsTrue (is_past n) → IsTrue (is_past m)) → m ≡ Free → n ≡ Free
+free_still m Committed calm same past free = let never : true ≡ false = same ∙ ap needs free in absurd (cc)
+free_still m Waiting calm same past free = cc
+free_still m Fresh calm same past free = cc
+free_still m Released calm same past free = cc
+free_still m Free calm same past free = refl
+free_still m Past calm same past free = let never : true ≡ false = sym (past refl) ∙ ap is_past free in absurd (cc)
 
 -- what is kept by the same slot and text
 as_kept : (one other : File) → other.game ≡ one.game → other.work.text ≡ one.work.text
@@ -107,7 +111,7 @@ module _ (was new : File) (whole : IsWholeFile was) (still : IsStill was.work.st
         (sym still.root) whole.names);
     calm = calm;
     free = λ none p some low.
-        free_still (mark was.work.store.marks p) (mark new.work.store.marks p) (calm.each p) (still.needed p)
+        free_still (mark was.work.store.marks p) (mark new.work.store.marks p) (calm.each p) (still.needed p) (still.past p)
         (whole.free (sym game ∙ none) p some (omega (arith, low, still.same_pages)));
     kept = λ honest.
         let before = subst (λ (b : Bool). IsTrue b) still.goes_on.honest honest in
@@ -156,7 +160,7 @@ pub whole_stays : (old new : File) → IsSoundStore new.work.store → IsWholeFi
 whole_stays old new sound whole stays =
     let unchanged = stays.work.unchanged in
     let calm : IsCalm new.work.store = record {
-      each = λ p. subst (λ (ms : List Mark). (mark ms p ≡ Committed) ⊎ (mark ms p ≡ Free)) (sym unchanged.marks) (whole.calm.each p);
+      each = λ p. subst (λ (ms : List Mark). IsTrue (rests (mark ms p))) (sym unchanged.marks) (whole.calm.each p);
     } in
     let still = works_still stays.work.works in
     let is_whole = again_whole old new whole still stays.game stays.work.text calm sound (stays.work.torn ∙ whole.whole)

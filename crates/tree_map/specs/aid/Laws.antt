@@ -6,14 +6,17 @@ use Rattle.std.proofs.Common.{refl, sym, ◌∙◌, ap, subst, inl, inr, arith, 
 use Rattle.std.proofs.lemmas.List.Elements.{Contains-append_left, Contains-append_right, All-head, All-tail, All-cons, All-nil, All-weaker}
 use Rattle.page_store.specs.declared.marks.Mark.{Mark}
 use Rattle.page_store.specs.declared.marks.Mark.TheVariants.{Committed, Fresh}
-use Rattle.page_store.specs.Marks.{mark, needs, keeps}
-use Rattle.page_store.specs.Spelling.{SpelledBy, Stands, IsPrepared}
-use Rattle.page_store.specs.Store.{Store, reads}
+use Rattle.page_store.specs.declared.marks.Mark.TheVariants.{Waiting}
+use Rattle.page_store.specs.declared.holds.HoldPlace.{HoldPlace}
+use Rattle.page_store.specs.Marks.{mark, needs, keeps, IsNeeded}
+use Rattle.page_store.specs.Spelling.{SpelledBy, Stands, StandsHeld, IsPrepared}
+use Rattle.page_store.specs.Store.{Store, reads, IsTaken}
+use Rattle.page_store.specs.aid.Carrying.{hold_stands}
 use Rattle.tree_page.specs.declared.kind.Kind.TheVariants.{Leaf, Inner}
 use Rattle.tree_page.specs.declared.widths.Widths.{Widths}
 use Rattle.tree_page.specs.aid.Items.{length-items}
 use Rattle.tree_page.specs.Page.{Item, IsPage, items_in, count_in, child_of}
-use Rattle.tree_map.specs.Changes.{AreHeld}
+use Rattle.tree_map.specs.Changes.{AreHeld, HoldsMap}
 use Rattle.tree_map.specs.Entries.{first_key}
 use Rattle.tree_map.specs.Tree.{entries_below, pages_below, IsTree, IsRooted, IsMap}
 
@@ -211,3 +214,16 @@ a_map_stands w capacity root pages es store room map marked = record {
       let known = map_within w capacity root pages es (reads store) map p here in
       (known.0, omega (arith, known.1, room), subst (λ (m : Mark). IsTrue (needs m)) (sym (marked p here)) refl);
 }
+
+-- a map of the committed root, as a hold is taken on it
+pub a_map_is_held : (w : Widths) (root : ℕ) (pages : List ℕ) (es : List Item) (place : HoldPlace) (old new : Store)
+    → ((p : ℕ) → mark old.marks p ≡ Waiting → ⊥) → IsTaken place old new → HoldsMap w old root pages es
+    → ((p : ℕ) → Contains pages p → IsNeeded old.marks p)
+    → StandsHeld place (λ p. Contains pages p) (IsMap w (length old.marks) root pages es) new
+a_map_is_held w root pages es place old new sealed taken holds needed =
+    hold_stands place old new sealed taken (record { spelled = a_map_rests_on_its_pages w (length old.marks) root pages es (reads old) holds; needed = needed })
+
+-- a map that a hold needs is there
+pub a_held_map_is_there : (w : Widths) (root : ℕ) (pages : List ℕ) (es : List Item) (place : HoldPlace) (store : Store)
+    → StandsHeld place (λ p. Contains pages p) (IsMap w (length store.marks) root pages es) store → HoldsMap w store root pages es
+a_held_map_is_there w root pages es place store stands = stands.spelled.anywhere (reads store) (λ p here. refl)

@@ -20,6 +20,7 @@ unchanged_refl store = record {
   closed = refl;
   shown = λ honest. refl;
   leaves = λ honest. leaves_now store.disk (λ picture left. left);
+  holds = refl;
 }
 
 -- a store that is as it was
@@ -37,6 +38,7 @@ unchanged_then one two first second = record {
       leaves_then two.goes_on (first.leaves honest)
       (leaves_more (λ picture left. subst (λ (s : Shown). MayLeave s picture) (first.shown honest) left)
       (second.leaves (still_honest one.goes_on honest)));
+  holds = second.holds ∙ first.holds;
 }
 
 -- each page reads as it did

@@ -1,13 +1,13 @@
 -- What pages hold they hold wherever their bytes are the same, below each greater capacity, and after a commit.
 use Rattle.std.specs.Prelude.{◌≡◌, ◌⊎◌, ℕ, ◌*◌, ◌≤◌, true, false, List, length, Option, None, Some, IsTrue}
-use Rattle.std.proofs.Common.{inl, inr, sym, ◌∙◌, ap, subst, arith}
+use Rattle.std.proofs.Common.{inl, inr, refl, sym, ◌∙◌, ap, subst, arith}
 use Rattle.std.proofs.Math.Nat.{le-min, le-div_iff_mul-le}
 use Rattle.sector_disk.specs.Disk.{Picture}
 use Rattle.sector_disk.specs.aid.Moments.{leaves_more}
 use Rattle.page_store.specs.Page.{page}
 use Rattle.page_store.specs.declared.marks.Mark.{Mark}
-use Rattle.page_store.specs.declared.marks.Mark.TheVariants.{Committed, Fresh, Free}
-use Rattle.page_store.specs.Marks.{mark, keeps, needs, IsKept, IsNeeded}
+use Rattle.page_store.specs.declared.marks.Mark.TheVariants.{Committed, Waiting, Fresh, Released, Free, Past}
+use Rattle.page_store.specs.Marks.{mark, keeps, needs, rests, IsKept, IsNeeded}
 use Rattle.page_store.specs.Spelling.{Stands, Spells, IsPrepared, IsCarried, IsCalm}
 use Rattle.page_store.specs.Store.{Store, reads, StoreWorks, Commits, IsSafe, IsCommitted, IsUnchanged}
 use Rattle.page_store.specs.aid.Carrying.{commit_carries, stop_leaves}
@@ -72,7 +72,7 @@ map_fits_more w fewer more root pages es bytes le (inr map) = inr (record {
   once = map.once;
 })
 
-forest_fits_more : (packed fewer more first : ℕ) (roots : Roots) (text text_pages : List ℕ) (pages : Tree → List ℕ)
+pub forest_fits_more : (packed fewer more first : ℕ) (roots : Roots) (text text_pages : List ℕ) (pages : Tree → List ℕ)
     (entries : Tree → List Item) (bytes : ℕ → List ℕ) → fewer ≤ more
     → IsForest packed fewer first roots text text_pages pages entries bytes
     → IsForest packed more first roots text text_pages pages entries bytes
@@ -192,9 +192,13 @@ kept_stays store kept enough few it safe picture left =
     spells_stores_trees store.root (length store.marks) kept picture enough few
     (stop_leaves store (kept_stands store kept it) safe picture left)
 
-calm_held : (m : Mark) → (m ≡ Committed) ⊎ (m ≡ Free) → needs m ≡ true → m ≡ Committed
-calm_held m (inl is) needed = is
-calm_held m (inr is) needed = let never : false ≡ true = ap needs (sym is) ∙ needed in absurd (cc)
+calm_held : (m : Mark) → IsTrue (rests m) → needs m ≡ true → m ≡ Committed
+calm_held Committed calm needed = refl
+calm_held Waiting calm needed = cc
+calm_held Fresh calm needed = cc
+calm_held Released calm needed = cc
+calm_held Free calm needed = cc
+calm_held Past calm needed = cc
 
 -- between commands what is kept is held by pages in use
 pub kept_is_held : (store : Store) (kept : Kept) → IsCalm store → IsKeptInTrees store (Some kept)

@@ -1,14 +1,17 @@
 -- What stands stays where the root and the pages that it needs are as they were.
-use Rattle.std.specs.Prelude.{◌≡◌, ◌⊎◌, ℕ, Bool, true, false, List, length, Option, None, Some, IsTrue}
+use Rattle.std.specs.Prelude.{◌≡◌, ◌⊎◌, ℕ, Bool, true, false, cond, List, length, Option, None, Some, IsTrue}
 use Rattle.std.proofs.Common.{inl, inr, refl, sym, ◌∙◌, ap, subst, arith}
 use Rattle.sector_disk.specs.aid.Moments.{goes_on_refl, goes_on_trans, still_honest}
 use Rattle.sector_disk.specs.Disk.{Disk, GoesOn}
 use Rattle.page_store.specs.Page.{page}
 use Rattle.page_store.specs.declared.marks.Mark.{Mark}
-use Rattle.page_store.specs.declared.marks.Mark.TheVariants.{Committed, Waiting, Fresh, Released, Free}
-use Rattle.page_store.specs.Marks.{mark, needs, turned, IsNeeded, AreDiscarded}
+use Rattle.page_store.specs.declared.marks.Mark.TheVariants.{Committed, Waiting, Fresh, Released, Free, Past}
+use Rattle.page_store.specs.declared.holds.HoldPlace.{HoldPlace}
+use Rattle.page_store.specs.declared.holds.Holders.{Holders}
+use Rattle.page_store.specs.Holds.{any, holders_at}
+use Rattle.page_store.specs.Marks.{mark, needs, is_past, rests, turned, left, IsNeeded, AreDiscarded}
 use Rattle.page_store.specs.Spelling.{IsCalm}
-use Rattle.page_store.specs.Store.{Store, reads, StoreWorks, IsRemarked}
+use Rattle.page_store.specs.Store.{Store, reads, StoreWorks, IsRemarked, IsTaken, IsLetGo}
 use Rattle.game_file.specs.Kept.{Kept}
 use Rattle.tree_table.specs.declared.slot.TreeSlot.{TreeSlot}
 use Rattle.tree_table.specs.Forest.{IsForest}
@@ -28,6 +31,7 @@ works_still works = record {
   same_pages = works.same_pages;
   needed = works.needed;
   waiting = works.waiting;
+  past = λ p is. sym (works.past p) ∙ is;
   reads = works.reads;
 }
 
@@ -45,6 +49,7 @@ still_then first second = record {
   same_pages = second.same_pages ∙ first.same_pages;
   needed = λ p. second.needed p ∙ first.needed p;
   waiting = λ p is. first.waiting p (second.waiting p is);
+  past = λ p is. first.past p (second.past p is);
   reads = λ honest p needed. second.reads (still_honest first.goes_on honest) p (needed_still first p needed) ∙ first.reads honest p needed;
 }
 
@@ -55,6 +60,15 @@ discarded_needs Waiting = refl
 discarded_needs Fresh = refl
 discarded_needs Released = refl
 discarded_needs Free = refl
+discarded_needs Past = refl
+
+discarded_past : (m : Mark) → is_past (turned Free Committed Waiting m) ≡ is_past m
+discarded_past Committed = refl
+discarded_past Waiting = refl
+discarded_past Fresh = refl
+discarded_past Released = refl
+discarded_past Free = refl
+discarded_past Past = refl
 
 discarded_waits : (m : Mark) → turned Free Committed Waiting m ≡ Waiting → m ≡ Waiting
 discarded_waits Committed is = absurd (cc)
@@ -62,6 +76,7 @@ discarded_waits Waiting is = refl
 discarded_waits Fresh is = absurd (cc)
 discarded_waits Released is = absurd (cc)
 discarded_waits Free is = absurd (cc)
+discarded_waits Past is = absurd (cc)
 
 pub discarded_still : (old new : Store) → AreDiscarded old.marks new.marks → IsRemarked old new → IsStill old new
 discarded_still old new marks others = record {
@@ -70,23 +85,78 @@ discarded_still old new marks others = record {
   same_pages = marks.same_length;
   needed = λ p. ap needs (marks.each p) ∙ discarded_needs (mark old.marks p);
   waiting = λ p is. discarded_waits (mark old.marks p) (sym (marks.each p) ∙ is);
+  past = λ p is. sym (ap is_past (marks.each p) ∙ discarded_past (mark old.marks p)) ∙ is;
   reads = λ honest p needed. ap (λ (d : Disk). page d.now.contents p) others.disk;
 }
 
+-- so is a store as a hold is taken
+pub taken_still : (place : HoldPlace) (old new : Store) → IsTaken place old new → IsStill old new
+taken_still place old new taken = record {
+  goes_on = subst (λ (d : Disk). GoesOn old.disk d) (sym taken.disk) (goes_on_refl old.disk);
+  root = taken.root;
+  same_pages = ap (λ (ms : List Mark). length ms) taken.marks;
+  needed = λ p. ap (λ (ms : List Mark). needs (mark ms p)) taken.marks;
+  waiting = λ p is. ap (λ (ms : List Mark). mark ms p) (sym taken.marks) ∙ is;
+  past = λ p is. ap (λ (ms : List Mark). is_past (mark ms p)) (sym taken.marks) ∙ is;
+  reads = λ honest p needed. ap (λ (d : Disk). page d.now.contents p) taken.disk;
+}
+
+-- and as one is let go
+left_needs : (h : Holders) (m : Mark) → needs (left h m) ≡ needs m
+left_needs h Committed = refl
+left_needs h Waiting = refl
+left_needs h Fresh = refl
+left_needs h Released = refl
+left_needs h Free = refl
+left_needs h Past = by (any h)
+  where
+    by : (b : Bool) → needs (cond b Past Free) ≡ false
+    by true = refl
+    by false = refl
+
+left_waits : (h : Holders) (m : Mark) → left h m ≡ Waiting → m ≡ Waiting
+left_waits h Committed is = absurd (cc)
+left_waits h Waiting is = refl
+left_waits h Fresh is = absurd (cc)
+left_waits h Released is = absurd (cc)
+left_waits h Free is = absurd (cc)
+left_waits h Past is = by (any h) is
+  where
+    by : (b : Bool) → cond b Past Free ≡ Waiting → Past ≡ Waiting
+    by true is = is
+    by false is = absurd (cc)
+
+left_past : (h : Holders) (m : Mark) → IsTrue (is_past (left h m)) → IsTrue (is_past m)
+left_past h Committed is = is
+left_past h Waiting is = is
+left_past h Fresh is = is
+left_past h Released is = is
+left_past h Free is = is
+left_past h Past is = refl
+
+pub let_go_still : (place : HoldPlace) (old new : Store) → IsLetGo place old new → IsStill old new
+let_go_still place old new gone = record {
+  goes_on = subst (λ (d : Disk). GoesOn old.disk d) (sym gone.disk) (goes_on_refl old.disk);
+  root = gone.root;
+  same_pages = gone.marks.same_length;
+  needed = λ p. ap needs (gone.marks.each p) ∙ left_needs (holders_at new.holds.of p) (mark old.marks p);
+  waiting = λ p is. left_waits (holders_at new.holds.of p) (mark old.marks p) (sym (gone.marks.each p) ∙ is);
+  past = λ p is. left_past (holders_at new.holds.of p) (mark old.marks p) (sym (ap is_past (gone.marks.each p)) ∙ is);
+  reads = λ honest p needed. ap (λ (d : Disk). page d.now.contents p) gone.disk;
+}
+
 -- nothing is handed out, released or waiting after `discard` where nothing waited
-discarded_rests : (m : Mark) → (m ≡ Waiting → ⊥) → (turned Free Committed Waiting m ≡ Committed) ⊎ (turned Free Committed Waiting m ≡ Free)
-discarded_rests Committed not = inl refl
+discarded_rests : (m : Mark) → (m ≡ Waiting → ⊥) → IsTrue (rests (turned Free Committed Waiting m))
+discarded_rests Committed not = refl
 discarded_rests Waiting not = absurd (not refl)
-discarded_rests Fresh not = inr refl
-discarded_rests Released not = inl refl
-discarded_rests Free not = inr refl
+discarded_rests Fresh not = refl
+discarded_rests Released not = refl
+discarded_rests Free not = refl
+discarded_rests Past not = refl
 
 pub discarded_calm : (old new : Store) → AreDiscarded old.marks new.marks → ((p : ℕ) → mark old.marks p ≡ Waiting → ⊥) → IsCalm new
 discarded_calm old new marks none = record {
-  each = λ p. elim (discarded_rests (mark old.marks p) (none p)) [
-    | inl is ↦ inl (marks.each p ∙ is)
-    | inr is ↦ inr (marks.each p ∙ is)
-  ];
+  each = λ p. subst (λ (m : Mark). IsTrue (rests m)) (sym (marks.each p)) (discarded_rests (mark old.marks p) (none p));
 }
 
 -- what is kept is kept still
@@ -127,9 +197,13 @@ still_stands_for None text old new honest still it = it
 still_stands_for (Some slot) text old new honest still it = still_stands slot text old new honest still it
 
 -- between commands what stands is held by pages in use
-calm_held : (m : Mark) → (m ≡ Committed) ⊎ (m ≡ Free) → needs m ≡ true → m ≡ Committed
-calm_held m (inl is) needed = is
-calm_held m (inr is) needed = let never : false ≡ true = ap needs (sym is) ∙ needed in absurd (cc)
+calm_held : (m : Mark) → IsTrue (rests m) → needs m ≡ true → m ≡ Committed
+calm_held Committed calm needed = refl
+calm_held Waiting calm needed = cc
+calm_held Fresh calm needed = cc
+calm_held Released calm needed = cc
+calm_held Free calm needed = cc
+calm_held Past calm needed = cc
 
 pub stands_held : (slot : TreeSlot) (text : List ℕ) (store : Store) → IsCalm store → (it : StandsInTrees slot text store)
     → HoldsTable slot text it.table store

@@ -5,6 +5,7 @@ use Rattle.record_bytes.specs.Bytes.{IsCell}
 use Rattle.tree_map.specs.Entries.{find_entry}
 use Rattle.tree_read.specs.Answers.{found_bytes}
 use Rattle.tree_table.specs.declared.tree.Tree.TheVariants.{Records}
+use Rattle.tree_table.specs.Working.{forest_there}
 use Rattle.tree_check.specs.aid.Right.{IsCellAt}
 use Rattle.tree_check.proofs.Passing.{passed_on, read_plain}
 use Rattle.tree_check.proofs.number.cell_of.Goals as goal
@@ -19,14 +20,14 @@ returns-in_err-value-clause-cause g c =
 pub returns-in_default-clause-cause : goal.returns-in_default-clause-cause
 returns-in_default-clause-cause g c = λ honest text entries h (cell, at).
     let none : None ≡ Some at.value =
-    sym (ap found_bytes c.in_default.is) ∙ c.in_ok-value.ensures.found honest text entries h
+    sym (ap found_bytes c.in_default.is) ∙ c.in_ok-value.ensures.found honest text entries (forest_there c.args.slot.now text entries (g.P.Pages.store c.args.store.now) h)
     ∙ ap (find_entry (entries Records)) c.number_key-key.ensures ∙ at.found in cc
 
 pub returns-in-Some-cell_in-clause-cell : goal.returns-in-Some-cell_in-clause-cell
 returns-in-Some-cell_in-clause-cell g c = λ honest text entries h. record {
   value = c.in-Some.value.items;
   found =
-      sym (sym (ap found_bytes c.in-Some.is) ∙ c.in_ok-value.ensures.found honest text entries h
+      sym (sym (ap found_bytes c.in-Some.is) ∙ c.in_ok-value.ensures.found honest text entries (forest_there c.args.slot.now text entries (g.P.Pages.store c.args.store.now) h)
       ∙ ap (find_entry (entries Records)) c.number_key-key.ensures);
   is =
       subst (λ (b : List ℕ). IsCell c.args.slot.now.sizes.packed b (c.in-Some-cell_in.cell.position.items, c.in-Some-cell_in.cell.kept)) c.deref.ensures.0
@@ -36,6 +37,6 @@ returns-in-Some-cell_in-clause-cell g c = λ honest text entries h. record {
 pub returns-in-None-clause-cause : goal.returns-in-None-clause-cause
 returns-in-None-clause-cause g c = λ honest text entries h (cell, at).
     let same : c.in-Some.value.items ≡ at.value =
-    same_Some c.in-Some.value.items at.value (sym (ap found_bytes c.in-Some.is) ∙ c.in_ok-value.ensures.found honest text entries h
+    same_Some c.in-Some.value.items at.value (sym (ap found_bytes c.in-Some.is) ∙ c.in_ok-value.ensures.found honest text entries (forest_there c.args.slot.now text entries (g.P.Pages.store c.args.store.now) h)
     ∙ ap (find_entry (entries Records)) c.number_key-key.ensures ∙ at.found) in
     c.in-None.ensures.none cell (subst (λ (b : List ℕ). IsCell c.args.slot.now.sizes.packed b cell) (sym same ∙ sym c.deref.ensures.0) at.is)

@@ -15,6 +15,9 @@ returns-in_err-walk_tree-2-clause-cause g c =
     (second_fails c.args.slot.now (g.P.Pages.store c.args.store.now) (g.P.Pages.store c.walk_tree.new.store) (g.P.Pages.store c.walk_tree-2.new.store)
     c.walk_tree.ensures.only c.in_ok-walk_tree.ensures.tree c.in_err-walk_tree-2.field-0.0 c.in_err-walk_tree-2.ensures.cause)
 
+pub returns-in_err-walk_tree-2-clause-only : goal.returns-in_err-walk_tree-2-clause-only
+returns-in_err-walk_tree-2-clause-only g c = only_then c.walk_tree.ensures.only c.walk_tree-2.ensures.only
+
 pub returns-in_err-walk_tree-3-clause-only : goal.returns-in_err-walk_tree-3-clause-only
 returns-in_err-walk_tree-3-clause-only g c = only_then (only_then c.walk_tree.ensures.only c.walk_tree-2.ensures.only) c.walk_tree-3.ensures.only
 

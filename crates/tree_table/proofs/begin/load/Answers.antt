@@ -6,6 +6,7 @@ use Rattle.game_file.specs.Stops.{LeavesTable}
 use Rattle.tree_table.specs.Held.{StoresTrees}
 use Rattle.tree_table.proofs.Committing.{held_on, committed_held, committed_calm, committed_stands}
 use Rattle.tree_table.proofs.Loading.{any_error, worked_on, vacant_leaves}
+use Rattle.tree_table.specs.aid.Versions.{works_keep_holds, keeps_holds_then}
 use Rattle.tree_table.proofs.begin.load.Goals as goal
 
 pub returns-in_err-slot-clause-kept_stop : goal.returns-in_err-slot-clause-kept_stop
@@ -52,7 +53,7 @@ returns-in-Ok-clause-holds g c = λ honest.
     let told = c.in_ok-slot.ensures in
     let done = c.in-Ok.ensures.committed in
     held_on c.in_ok-slot.slot c.args.text.now (loaded c.args.start.now.items) mid new done.1.marks.same_length
-    (λ p held. inl (committed_held mid.marks new.marks done.1.marks p held)) (c.commit.ensures.kept_pages (still_honest told.works.goes_on honest)) (told.table honest)
+    (λ p held. inl (committed_held mid.holds.of mid.marks new.marks done.1.marks p held)) (c.commit.ensures.kept_pages (still_honest told.works.goes_on honest)) (told.table honest)
 
 pub returns-in-Ok-clause-calm : goal.returns-in-Ok-clause-calm
 returns-in-Ok-clause-calm g c = λ none.
@@ -78,3 +79,12 @@ returns-in-Err-clause-kept_stop g c = λ vacant.
     let told = c.in_ok-slot.ensures in
     c.in-Err.ensures.kept_stop old None (kept_as c.args.text.now c.args.packing (loaded c.args.start.now.items))
     (worked_on c.in_ok-slot.slot c.args.text.now c.args.packing c.args.start.now.items old mid vacant told.works (told.table vacant.honest) told.packing told.long told.sized c.requires.text)
+
+pub returns-in-Ok-clause-held : goal.returns-in-Ok-clause-held
+returns-in-Ok-clause-held g c =
+    let old = g.P.Pages.store c.args.store.now in
+    let mid = g.P.Pages.store c.first_table.new.store in
+    keeps_holds_then old mid (g.P.Pages.store c.commit.new.store) (works_keep_holds old mid c.first_table.ensures.works) c.commit.ensures.held
+
+pub returns-in-Ok-clause-shut : goal.returns-in-Ok-clause-shut
+returns-in-Ok-clause-shut g c = λ is. c.first_table.ensures.works.closed (c.commit.ensures.shut is)

@@ -6,10 +6,10 @@ use Rattle.retrograde.specs.Changes.{with_edge}
 use Rattle.record_bytes.specs.declared.sizes.Sizes.{Sizes}
 use Rattle.tree_map.specs.aid.Unchanged.{unchanged_reads}
 use Rattle.tree_table.specs.declared.tree.Tree.TheVariants.{Edges}
-use Rattle.tree_table.specs.Causes.{HasNoForest, HasNoTable}
+use Rattle.tree_table.specs.Causes.{IsNoForest, HasNoForest, HasNoTable}
 use Rattle.tree_table.specs.Entries.{edge_key}
 use Rattle.tree_table.specs.Trees.{root_of}
-use Rattle.tree_table.specs.Working.{HoldsForest, HoldsTable, with_entry}
+use Rattle.tree_table.specs.Working.{HoldsForest, HoldsTable, forest_there, with_entry}
 use Rattle.tree_map.specs.Entries.{find_entry}
 use Rattle.tree_table.specs.aid.Frames.{forest_still}
 use Rattle.tree_table.proofs.Faults.{passed_on, change_for, change_since, read_then}
@@ -23,8 +23,8 @@ returns-in_err-value_at-clause-cause g c =
     let old = g.P.Pages.store c.args.store.now in
     let new = g.P.Pages.store c.value_at.new.store in
     passed_on _ c.from_residual.result _ c.from_residual.ensures
-    (change_for HasNoForest HasNoTable c.args.slot c.args.slot old new _ (λ none honest text table h. none honest text h.entries h.forest)
-    (read_then HasNoForest c.args.slot old new _ c.in_err-value_at.ensures.cause))
+    (change_for IsNoForest HasNoTable c.args.slot c.args.slot old new _ (λ none honest text table h. none honest text h.entries (forest_there c.args.slot text h.entries old h.forest))
+    (read_then IsNoForest c.args.slot old new _ c.in_err-value_at.ensures.cause))
 
 pub returns-then-is_some-clause-table : goal.returns-then-is_some-clause-table
 returns-then-is_some-clause-table g c = λ honest text table h.
@@ -32,7 +32,7 @@ returns-then-is_some-clause-table g c = λ honest text table h.
     let new = g.P.Pages.store c.value_at.new.store in
     let read = c.in_ok-value_at.ensures in
     let key : c.deref.result.now ≡ edge_key c.args.successor c.args.predecessor = c.deref.ensures.0 ∙ c.key_behind-key.ensures.bytes in
-    let (value, is) = some_found c.in_ok-value_at.field-0 _ c.if-is_some.ensures (read.found honest text h.entries h.forest) in
+    let (value, is) = some_found c.in_ok-value_at.field-0 _ c.if-is_some.ensures (read.found honest text h.entries (forest_there c.args.slot text h.entries old h.forest)) in
     edge_stays c.args.slot text table old (omega (arith, c.requires.few)) h c.args.successor c.args.predecessor value new c.requires.successor c.requires.predecessor
     (ap (find_entry (h.entries Edges)) (sym key) ∙ is)
     (forest_still c.args.slot text h.entries old new read.unchanged.marks (unchanged_reads old new honest read.unchanged) h.forest)
@@ -64,7 +64,7 @@ returns-clause-table g c = λ honest text table h.
     let read = c.in_ok-value_at.ensures in
     let key : c.deref.result.now ≡ edge_key c.args.successor c.args.predecessor = c.deref.ensures.0 ∙ c.key_behind-key.ensures.bytes in
     let key_two : c.deref-2.result.now ≡ edge_key c.args.successor c.args.predecessor = c.deref-2.ensures.0 ∙ c.key_behind-key.ensures.bytes in
-    let none = none_found c.in_ok-value_at.field-0 _ c.if-is_some.ensures (read.found honest text h.entries h.forest) in
+    let none = none_found c.in_ok-value_at.field-0 _ c.if-is_some.ensures (read.found honest text h.entries (forest_there c.args.slot text h.entries old h.forest)) in
     let sizes : last.sizes ≡ slot.sizes = c.in_ok-slot.ensures.slot.sizes in
     let back : slot.sizes ≡ last.sizes = sym sizes in
     let tree = h.forest.forest.trees Edges in

@@ -3,7 +3,7 @@ use Rattle.table.specs.declared.fault.TableFault.{TableFault}
 use Rattle.tree_map.specs.Entries.{put_entry}
 use Rattle.tree_table.specs.declared.tree.Roots.{Roots}
 use Rattle.tree_table.specs.Causes.{HasNoForest, ChangeCause}
-use Rattle.tree_table.specs.Working.{HoldsForest, with_entry}
+use Rattle.tree_table.specs.Working.{HoldsForest, forest_there, with_entry}
 use Rattle.tree_table.proofs.Forests.{map_in, put_fails, put_holds}
 use Rattle.tree_table.proofs.change.put_in.Goals as goal
 
@@ -12,7 +12,7 @@ returns-in-Ok-clause-map g c = λ honest text entries h.
     let old = g.P.Pages.store c.args.store.now in
     let new = g.P.Pages.store c.put.new.store in
     let put = c.in-Ok.ensures.map honest (h.pages c.args.tree) (entries c.args.tree)
-    (map_in c.args.slot text entries old c.widths_of-widths.result c.args.tree c.root.result c.widths_of-widths.ensures.keys c.widths_of-widths.ensures.values c.root.ensures h)
+    (map_in c.args.slot text entries old c.widths_of-widths.result c.args.tree c.root.result c.widths_of-widths.ensures.keys c.widths_of-widths.ensures.values c.root.ensures (forest_there c.args.slot text entries old h))
     (h.held c.args.tree) in
     subst (λ (r : Roots). HoldsForest (record { packing = c.args.slot.packing; first = c.args.slot.first; sizes = c.args.slot.sizes; roots = r }) text (with_entry entries c.args.tree c.args.key.now c.args.value.now) new) (sym c.with.ensures)
     (put_holds c.args.slot text entries old new honest c.in-Ok.ensures.works h c.args.tree c.in-Ok.root c.widths_of-widths.result c.widths_of-widths.ensures.keys c.widths_of-widths.ensures.values

@@ -5,12 +5,12 @@ use Rattle.retrograde.specs.Changes.{with_record}
 use Rattle.record_bytes.specs.Bytes.{IsCell}
 use Rattle.tree_map.specs.aid.Unchanged.{unchanged_reads}
 use Rattle.tree_table.specs.declared.tree.Tree.TheVariants.{Records}
-use Rattle.tree_table.specs.Causes.{HasNoForest, HasNoTable}
+use Rattle.tree_table.specs.Causes.{IsNoTable, HasNoForest, HasNoTable}
 use Rattle.tree_table.specs.Entries.{number_key}
-use Rattle.tree_table.specs.Working.{HoldsForest, HoldsTable, with_entry}
+use Rattle.tree_table.specs.Working.{HoldsForest, HoldsTable, table_there, with_entry}
 use Rattle.tree_table.specs.aid.Frames.{forest_still}
 use Rattle.tree_table.specs.aid.Slots.{counts_with}
-use Rattle.tree_table.proofs.Faults.{passed_on, change_since}
+use Rattle.tree_table.proofs.Faults.{passed_on, change_for, change_since, read_then}
 use Rattle.tree_table.proofs.Tables.{plain_cell, plain_long, slot_of, counted_as, record_set}
 use Rattle.tree_table.proofs.change.set_record.Goals as goal
 
@@ -18,6 +18,15 @@ pub put_in-requires-clause-value : goal.put_in-requires-clause-value
 put_in-requires-clause-value g c =
     let long : length c.in_ok-was.was'.position.items ≡ c.args.slot.sizes.packed = c.in_ok-was.ensures.long in
     omega (arith, ap length c.deref.ensures.0, plain_long _ _ _ c.cell_bytes-cell.ensures, long)
+
+pub returns-in_err-was-clause-cause : goal.returns-in_err-was-clause-cause
+returns-in_err-was-clause-cause g c =
+    let slot = c.args.slot in
+    let old = g.P.Pages.store c.args.store.now in
+    let new = g.P.Pages.store c.cell_at.new.store in
+    passed_on _ c.from_residual.result _ c.from_residual.ensures
+    (change_for IsNoTable HasNoTable slot slot old new _ (λ none honest text table h. none honest text table (table_there slot text table old h))
+    (read_then IsNoTable slot old new _ c.in_err-was.ensures.cause))
 
 pub returns-in_err-slot-clause-works : goal.returns-in_err-slot-clause-works
 returns-in_err-slot-clause-works g c = works_then c.in_ok-was.ensures.works c.in_err-slot.ensures.works
@@ -62,4 +71,4 @@ returns-clause-table g c = λ honest text table h.
     sym (c.counts_with-slot.ensures ∙ (λ i. counts_with (sizes i).counts was.kept.state c.args.kept.state)) in
     subst (λ (X : Type 0). X) (λ i. HoldsTable (slot_of last.packing last.first (counted_as (back i) (counts i)) last.roots) text (with_record table c.args.number c.args.kept) new)
     (record_set slot text table old (omega (arith, c.requires.few)) h last.packing last.first last.roots c.args.number x c.cell_bytes-cell.result.items was.kept c.args.kept new c.requires.known
-    (read.position honest text table h) (read.kept honest text table h) is forest)
+    (read.position honest text table (table_there slot text table old h)) (read.kept honest text table (table_there slot text table old h)) is forest)

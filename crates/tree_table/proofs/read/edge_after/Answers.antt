@@ -1,6 +1,6 @@
 use Rattle.std.proofs.Common.{◌≡◌, ◌∙◌, ◌++◌, ◌<◌, ◌≤◌, ◌^◌, ℕ, Some, false, true, length, sym, ap, subst, arith}
 use Rattle.record_bytes.specs.Bytes.{IsNumber}
-use Rattle.tree_table.specs.Causes.{HasNoForest, HasNoTable}
+use Rattle.tree_table.specs.Causes.{IsNoForest, IsNoTable}
 use Rattle.tree_table.proofs.Faults.{passed_on, read_for}
 use Rattle.tree_page.specs.Page.{Item}
 use Rattle.tree_map.specs.Entries.{next_after as next_in}
@@ -13,7 +13,7 @@ use Rattle.tree_table.proofs.read.edge_after.Goals as goal
 pub returns-in_err-entry-clause-cause : goal.returns-in_err-entry-clause-cause
 returns-in_err-entry-clause-cause g c =
     passed_on _ c.from_residual.result _ c.from_residual.ensures
-    (read_for HasNoForest HasNoTable c.args.slot.now (g.P.Pages.store c.args.store.now) (g.P.Pages.store c.entry_after.new.store) _ (λ none honest text table h. none honest text h.entries h.forest) c.in_err-entry.ensures.cause)
+    (read_for IsNoForest IsNoTable c.args.slot.now (g.P.Pages.store c.args.store.now) (g.P.Pages.store c.entry_after.new.store) _ (λ none honest text table h. none honest text h.entries h.forest) c.in_err-entry.ensures.cause)
 
 pub returns-in_default-clause-none : goal.returns-in_default-clause-none
 returns-in_default-clause-none g c = λ honest text table h.

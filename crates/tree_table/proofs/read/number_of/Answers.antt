@@ -3,7 +3,7 @@ use Rattle.record_bytes.specs.Bytes.{IsNumber}
 use Rattle.tree_map.specs.Entries.{find_entry}
 use Rattle.tree_read.specs.Answers.{found_bytes}
 use Rattle.tree_table.specs.declared.tree.Tree.TheVariants.{Positions}
-use Rattle.tree_table.specs.Causes.{HasNoForest, HasNoTable}
+use Rattle.tree_table.specs.Causes.{IsNoForest, IsNoTable}
 use Rattle.tree_table.proofs.Faults.{passed_on, read_for}
 use Rattle.tree_table.proofs.Reading.{position_there, position_read, position_absent}
 use Rattle.tree_table.proofs.read.number_of.Goals as goal
@@ -11,7 +11,7 @@ use Rattle.tree_table.proofs.read.number_of.Goals as goal
 pub returns-in_err-value-clause-cause : goal.returns-in_err-value-clause-cause
 returns-in_err-value-clause-cause g c =
     passed_on _ c.from_residual.result _ c.from_residual.ensures
-    (read_for HasNoForest HasNoTable c.args.slot.now (g.P.Pages.store c.args.store.now) (g.P.Pages.store c.value_at.new.store) _ (λ none honest text table h. none honest text h.entries h.forest)
+    (read_for IsNoForest IsNoTable c.args.slot.now (g.P.Pages.store c.args.store.now) (g.P.Pages.store c.value_at.new.store) _ (λ none honest text table h. none honest text h.entries h.forest)
     c.in_err-value.ensures.cause)
 
 pub returns-in_default-clause-unknown : goal.returns-in_default-clause-unknown

@@ -16,6 +16,7 @@ use Rattle.tree_table.specs.Slot.{slot_in, IsGameTreeSlot}
 use Rattle.tree_table.specs.aid.Keeping.{stop_stores, committed_keeps, unchanged_keeps, unchanged_stop}
 use Rattle.tree_table.proofs.Committing.{on_ok, on_err, commit_left, commit_pages, commit_shut}
 use Rattle.tree_table.proofs.Limits.{within_limits}
+use Rattle.tree_table.specs.aid.Versions.{commits_keep_holds}
 use Rattle.tree_table.proofs.saving.commit.Goals as goal
 
 -- a commit that fails leaves the store as it was, or closed
@@ -105,3 +106,9 @@ returns-clause-same_pages g c = commit_pages c.game_slot-root.result (g.P.Pages.
 
 pub returns-clause-shut : goal.returns-clause-shut
 returns-clause-shut g c = commit_shut (g.P.Pages.store c.args.store.now) (g.P.Pages.store c.commit.new.self) c.commit.result c.commit.ensures.closed c.commit.ensures.untouched
+
+pub returns-clause-held : goal.returns-clause-held
+returns-clause-held g c =
+    let old = g.P.Pages.store c.args.store.now in
+    let new = g.P.Pages.store c.commit.new.self in
+    commits_keep_holds _ old new (commit_pages _ old new c.commit.result c.commit.ensures.ok c.commit.ensures.kept_marks) c.commit.ensures.commits

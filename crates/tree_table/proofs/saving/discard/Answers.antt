@@ -1,7 +1,6 @@
-use Rattle.std.proofs.Common.{◌≡◌, ◌⊎◌, List, Some, sym, subst}
+use Rattle.std.proofs.Common.{List, Some, IsTrue, sym, subst}
 use Rattle.page_store.specs.declared.marks.Mark.{Mark}
-use Rattle.page_store.specs.declared.marks.Mark.TheVariants.{Committed, Free}
-use Rattle.page_store.specs.Marks.{mark, AreDiscarded}
+use Rattle.page_store.specs.Marks.{mark, rests, AreDiscarded}
 use Rattle.page_store.specs.Spelling.{IsCalm}
 use Rattle.page_store.specs.Store.{Store, StoreWorks, IsRemarked}
 use Rattle.page_store.specs.aid.Carrying.{discard_goes_back}
@@ -12,7 +11,7 @@ use Rattle.tree_table.proofs.saving.discard.Goals as goal
 calm_again : (begun old new : Store) → IsCalm begun → StoreWorks begun old → AreDiscarded old.marks new.marks → IsRemarked old new → IsCalm new
 calm_again begun old new calm works marks others =
     let back = discard_goes_back begun old new calm works marks others in
-    record { each = λ p. subst (λ (ms : List Mark). (mark ms p ≡ Committed) ⊎ (mark ms p ≡ Free)) (sym back.marks) (calm.each p) }
+    record { each = λ p. subst (λ (ms : List Mark). IsTrue (rests (mark ms p))) (sym back.marks) (calm.each p) }
 
 pub returns-clause-kept : goal.returns-clause-kept
 returns-clause-kept g c = λ begun was honest kept works.

@@ -1,4 +1,5 @@
 use Rattle.std.proofs.Common.{◌∙◌, sym, ap}
+use Rattle.page_store.specs.InStore.{store_in}
 use Rattle.flat_table.specs.Slot.{commits_in}
 use Rattle.flat_table.proofs.Opening.{opened, open_cause}
 use Rattle.flat_table.proofs.file.FlatTable.read.Goals as goal
@@ -30,7 +31,7 @@ returns-in-Ok-read_all-clause-ok g c =
 pub returns-in-Err-read_all-clause-cause : goal.returns-in-Err-read_all-clause-cause
 returns-in-Err-read_all-clause-cause g c =
     let read = c.in-Err-read_all.ensures in
-    let cause = open_cause _ _ _ _ c.in-Ok.ensures.ok
+    let cause = open_cause _ _ _ (store_in c.read_all.new.store) c.in-Ok.ensures.ok
     (record {
       goes_on = read.goes_on;
       same_size = read.same_size;

@@ -2,7 +2,7 @@ use Rattle.page_store.proofs.Caching.{empty_cache}
 use Rattle.page_store.proofs.store.PageStore.open_with_cache.Goals as goal
 
 pub invariant_of-result-clause-cached : goal.invariant_of-result-clause-cached
-invariant_of-result-clause-cached g c = empty_cache _ _ c.in-Ok-Ok.ensures'
+invariant_of-result-clause-cached g c = empty_cache _ _ c.in-Ok-Ok-Ok.ensures''
 
 pub returns-in-Err-NotATable-clause-ok : goal.returns-in-Err-NotATable-clause-ok
 returns-in-Err-NotATable-clause-ok g c = tt
@@ -25,11 +25,11 @@ pub returns-in_default-clause-refused : goal.returns-in_default-clause-refused
 returns-in_default-clause-refused g c =
     record { goes_on = c.open.ensures.time; failures = c.open.ensures.failures; same_size = c.open.ensures.same_size; same = c.open.ensures.same; leaves = c.open.ensures.moments }
 
-pub returns-in-Ok-Ok-clause-refused : goal.returns-in-Ok-Ok-clause-refused
-returns-in-Ok-Ok-clause-refused g c = tt
+pub returns-in-Ok-Ok-Ok-clause-refused : goal.returns-in-Ok-Ok-Ok-clause-refused
+returns-in-Ok-Ok-Ok-clause-refused g c = tt
 
-pub returns-in-Ok-Ok-clause-cause : goal.returns-in-Ok-Ok-clause-cause
-returns-in-Ok-Ok-clause-cause g c = tt
+pub returns-in-Ok-Ok-Ok-clause-cause : goal.returns-in-Ok-Ok-Ok-clause-cause
+returns-in-Ok-Ok-Ok-clause-cause g c = tt
 
 pub returns-in_default-clause-cause : goal.returns-in_default-clause-cause
 returns-in_default-clause-cause g c = tt

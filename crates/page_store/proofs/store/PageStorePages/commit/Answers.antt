@@ -1,8 +1,9 @@
 use Rattle.std.proofs.Common.{rules, refl, inl, inr, arith}
 use Rattle.sector_disk.specs.aid.Moments.{goes_on_refl, leaves_now, leaves_more}
+use Rattle.page_store.specs.Holds.{holds_of}
 use Rattle.page_store.specs.Store.{store_of}
 use Rattle.page_store.specs.aid.Works.{safe_saves}
-use Rattle.page_store.proofs.Keeping.{old_or_new, pages_kept, was_honest, published_reads, published_leaves, published_grew}
+use Rattle.page_store.proofs.Keeping.{old_or_new, pages_kept, was_honest, published_reads, published_leaves, published_grew, published_held}
 use Rattle.page_store.proofs.Caching.{carried, committed_kept}
 use Rattle.page_store.proofs.Passing.{not_closed}
 use Rattle.page_store.proofs.store.PageStorePages.commit.Goals as goal
@@ -13,6 +14,8 @@ returns-then-self-clause-commits g c = record {
   same_size = refl;
   failures = omega arith;
   leaves = λ honest safe. leaves_now _ (λ picture left. inl (safe_saves _ safe picture left));
+  holds = refl;
+  held = λ honest place p held. refl;
 }
 
 pub returns-in-Ok-clause-commits : goal.returns-in-Ok-clause-commits
@@ -21,11 +24,15 @@ returns-in-Ok-clause-commits g c = record {
   same_size = c.publish.ensures.same_size;
   failures = c.publish.ensures.failures;
   leaves = λ honest safe. leaves_more (old_or_new _ _ safe) (c.publish.ensures.moments honest safe.rest);
+  holds = refl;
+  held = λ honest. published_held
+      (store_of (g.D.SectorDisk.disk c.args.self.now.disk) (g.D.SectorDisk.failures c.args.self.now.disk) c.args.self.now.root.bytes c.args.self.now.marks.items c.args.self.now.closed (holds_of c.args.self.now.taken c.args.self.now.holders.items))
+      (g.D.SectorDisk.disk c.publish.new.disk) honest c.publish.ensures.pages;
 }
 
 pub returns-in-Ok-clause-after : goal.returns-in-Ok-clause-after
 returns-in-Ok-clause-after g c = λ honest.
-    published_leaves (store_of (g.D.SectorDisk.disk c.args.self.now.disk) (g.D.SectorDisk.failures c.args.self.now.disk) c.args.self.now.root.bytes c.args.self.now.marks.items c.args.self.now.closed)
+    published_leaves (store_of (g.D.SectorDisk.disk c.args.self.now.disk) (g.D.SectorDisk.failures c.args.self.now.disk) c.args.self.now.root.bytes c.args.self.now.marks.items c.args.self.now.closed (holds_of c.args.self.now.taken c.args.self.now.holders.items))
     _ _ (omega (arith, c.args.self.now.sound.fits, c.publish.ensures.same_size)) (c.in-Ok.ensures.ok honest (c.args.self.now.sound.safe honest c.if-self.false).rest)
 
 pub returns-in-Ok-clause-ok : goal.returns-in-Ok-clause-ok
@@ -42,6 +49,10 @@ returns-in-Err-Read-clause-commits g c = record {
   same_size = c.publish.ensures.same_size;
   failures = c.publish.ensures.failures;
   leaves = λ honest safe. leaves_more (old_or_new _ _ safe) (c.publish.ensures.moments honest safe.rest);
+  holds = refl;
+  held = λ honest. published_held
+      (store_of (g.D.SectorDisk.disk c.args.self.now.disk) (g.D.SectorDisk.failures c.args.self.now.disk) c.args.self.now.root.bytes c.args.self.now.marks.items c.args.self.now.closed (holds_of c.args.self.now.taken c.args.self.now.holders.items))
+      (g.D.SectorDisk.disk c.publish.new.disk) honest c.publish.ensures.pages;
 }
 
 pub returns-in-Err-clause-commits : goal.returns-in-Err-clause-commits
@@ -50,6 +61,10 @@ returns-in-Err-clause-commits g c = record {
   same_size = c.publish.ensures.same_size;
   failures = c.publish.ensures.failures;
   leaves = λ honest safe. leaves_more (old_or_new _ _ safe) (c.publish.ensures.moments honest safe.rest);
+  holds = refl;
+  held = λ honest. published_held
+      (store_of (g.D.SectorDisk.disk c.args.self.now.disk) (g.D.SectorDisk.failures c.args.self.now.disk) c.args.self.now.root.bytes c.args.self.now.marks.items c.args.self.now.closed (holds_of c.args.self.now.taken c.args.self.now.holders.items))
+      (g.D.SectorDisk.disk c.publish.new.disk) honest c.publish.ensures.pages;
 }
 
 pub returns-in-Err-clause-cause : goal.returns-in-Err-clause-cause
@@ -66,7 +81,7 @@ returns-in-Err-clause-kept_pages g c = λ honest. pages_kept _ _ (c.publish.ensu
 
 pub invariant_of-self-clause-cached : goal.invariant_of-self-clause-cached
 invariant_of-self-clause-cached g c =
-    carried _ _ _ _ c.args.self.now.cached (λ p held there. there) (was_honest c.publish.ensures.time) (λ p held there. committed_kept _ _ c.turn.ensures p)
+    carried _ _ _ _ c.args.self.now.cached (λ p held there. there) (was_honest c.publish.ensures.time) (λ p held there. committed_kept _ _ _ c.turn_committed.ensures p)
     (λ h p held there behind. pages_kept _ _ (c.publish.ensures.pages h) p behind)
 
 pub invariant_of-self-in-Err-Read-clause-cached : goal.invariant_of-self-in-Err-Read-clause-cached

@@ -1,7 +1,7 @@
 use Rattle.std.proofs.Common.{◌≡◌, ◌<◌, ◌∙◌, length, ap, refl, sym, arith, rules}
 use Rattle.std.proofs.lemmas.List.{get_or_default}
 use Rattle.page_store.specs.declared.marks.Mark.TheVariants.{Committed, Waiting}
-use Rattle.page_store.specs.Marks.{mark, needs}
+use Rattle.page_store.specs.Marks.{mark, needs, is_past}
 use Rattle.page_store.specs.aid.Works.{works_refl}
 use Rattle.page_store.proofs.Keeping.{marked_works, marked_sound, not_zero, waiting_apart}
 use Rattle.page_store.proofs.Caching.{carried, still_kept}
@@ -20,7 +20,7 @@ invariant_of-self g c =
     let found : c.index.result.now ≡ Waiting = search rules in
     let was : mark c.args.self.now.marks.items c.args.page ≡ Waiting = sym (c.index.ensures ∙ get_or_default _ _ _ Committed here) ∙ found in
     record {
-      sound = marked_sound _ _ _ _ (record { disk = refl; failures = refl; root = refl; closed = refl }) c.put_mark.ensures (sym (ap needs was)) (λ is. was) c.args.self.now.sound
+      sound = marked_sound _ _ _ _ (record { disk = refl; failures = refl; root = refl; closed = refl; holds = refl }) c.put_mark.ensures (sym (ap needs was)) (λ is. was) (sym (ap is_past was)) c.args.self.now.sound
           (not_zero _ _ c.args.self.now.sound.system (waiting_apart _ was));
       cached = carried _ _ _ _ c.args.self.now.cached (λ p held there. there) (λ h. h) (λ p held there. still_kept _ _ _ _ c.put_mark.ensures refl p) (λ h p held there behind. refl);
     }
@@ -30,7 +30,7 @@ returns-clause-works g c =
     let here : c.args.page < length c.args.self.now.marks.items = omega (arith, c.if-page-len.false, c.len.ensures) in
     let found : c.index.result.now ≡ Waiting = search rules in
     let was : mark c.args.self.now.marks.items c.args.page ≡ Waiting = sym (c.index.ensures ∙ get_or_default _ _ _ Committed here) ∙ found in
-    marked_works _ _ _ _ (record { disk = refl; failures = refl; root = refl; closed = refl }) c.put_mark.ensures (sym (ap needs was)) (λ is. was)
+    marked_works _ _ _ _ (record { disk = refl; failures = refl; root = refl; closed = refl; holds = refl }) c.put_mark.ensures (sym (ap needs was)) (λ is. was) (sym (ap is_past was))
 
 pub returns-then-self-clause-ok : goal.returns-then-self-clause-ok
 returns-then-self-clause-ok g c = tt
@@ -57,7 +57,7 @@ pub returns-then-self-clause-closed : goal.returns-then-self-clause-closed
 returns-then-self-clause-closed g c = λ is. refl
 
 pub returns-then-self-clause-others : goal.returns-then-self-clause-others
-returns-then-self-clause-others g c = record { disk = refl; failures = refl; root = refl; closed = refl }
+returns-then-self-clause-others g c = record { disk = refl; failures = refl; root = refl; closed = refl; holds = refl }
 
 pub returns-then-page-len-clause-ok : goal.returns-then-page-len-clause-ok
 returns-then-page-len-clause-ok g c = tt
@@ -81,7 +81,7 @@ pub returns-then-page-len-clause-closed : goal.returns-then-page-len-clause-clos
 returns-then-page-len-clause-closed g c = λ is. absurd (not_closed _ c.if-self.false is)
 
 pub returns-then-page-len-clause-others : goal.returns-then-page-len-clause-others
-returns-then-page-len-clause-others g c = record { disk = refl; failures = refl; root = refl; closed = refl }
+returns-then-page-len-clause-others g c = record { disk = refl; failures = refl; root = refl; closed = refl; holds = refl }
 
 pub returns-clause-ok : goal.returns-clause-ok
 returns-clause-ok g c = c.put_mark.ensures
@@ -99,4 +99,4 @@ pub returns-clause-closed : goal.returns-clause-closed
 returns-clause-closed g c = λ is. absurd (not_closed _ c.if-self.false is)
 
 pub returns-clause-others : goal.returns-clause-others
-returns-clause-others g c = record { disk = refl; failures = refl; root = refl; closed = refl }
+returns-clause-others g c = record { disk = refl; failures = refl; root = refl; closed = refl; holds = refl }

@@ -1,7 +1,7 @@
 use Rattle.std.proofs.Common.{◌≡◌, ◌∙◌, List, ap, refl, sym}
 use Rattle.page_store.specs.declared.marks.Mark.{Mark}
 use Rattle.page_store.specs.declared.marks.Mark.TheVariants.{Free}
-use Rattle.page_store.specs.Marks.{mark, needs}
+use Rattle.page_store.specs.Marks.{mark, needs, is_past}
 use Rattle.page_store.specs.aid.Works.{works_refl}
 use Rattle.page_store.proofs.Keeping.{marked_works, fresh_waits}
 use Rattle.page_store.proofs.Caching.{carried, still_kept}
@@ -17,7 +17,7 @@ returns-in-None-clause-works g c = works_refl _
 pub returns-clause-works : goal.returns-clause-works
 returns-clause-works g c =
     let was : mark c.args.self.now.marks.items c.in-Some.page ≡ Free = ap (λ (ms : List Mark). mark ms c.in-Some.page) (sym c.deref.ensures.value) ∙ c.in-Some.ensures.free in
-    marked_works _ _ _ _ (record { disk = refl; failures = refl; root = refl; closed = refl }) c.put_mark.ensures (sym (ap needs was)) (fresh_waits _)
+    marked_works _ _ _ _ (record { disk = refl; failures = refl; root = refl; closed = refl; holds = refl }) c.put_mark.ensures (sym (ap needs was)) (fresh_waits _) (sym (ap is_past was))
 
 pub invariant_of-self-clause-cached : goal.invariant_of-self-clause-cached
 invariant_of-self-clause-cached g c = carried _ _ _ _ c.args.self.now.cached (λ p held there. there) (λ h. h) (λ p held there. still_kept _ _ _ _ c.put_mark.ensures refl p) (λ h p held there behind. refl)
@@ -47,7 +47,7 @@ pub returns-then-self-clause-closed : goal.returns-then-self-clause-closed
 returns-then-self-clause-closed g c = λ is. refl
 
 pub returns-then-self-clause-others : goal.returns-then-self-clause-others
-returns-then-self-clause-others g c = record { disk = refl; failures = refl; root = refl; closed = refl }
+returns-then-self-clause-others g c = record { disk = refl; failures = refl; root = refl; closed = refl; holds = refl }
 
 pub returns-in-None-clause-ok : goal.returns-in-None-clause-ok
 returns-in-None-clause-ok g c = tt
@@ -71,7 +71,7 @@ pub returns-in-None-clause-closed : goal.returns-in-None-clause-closed
 returns-in-None-clause-closed g c = λ is. absurd (not_closed _ c.if-self.false is)
 
 pub returns-in-None-clause-others : goal.returns-in-None-clause-others
-returns-in-None-clause-others g c = record { disk = refl; failures = refl; root = refl; closed = refl }
+returns-in-None-clause-others g c = record { disk = refl; failures = refl; root = refl; closed = refl; holds = refl }
 
 pub returns-clause-ok : goal.returns-clause-ok
 returns-clause-ok g c = c.put_mark.ensures
@@ -89,4 +89,4 @@ pub returns-clause-closed : goal.returns-clause-closed
 returns-clause-closed g c = λ is. absurd (not_closed _ c.if-self.false is)
 
 pub returns-clause-others : goal.returns-clause-others
-returns-clause-others g c = record { disk = refl; failures = refl; root = refl; closed = refl }
+returns-clause-others g c = record { disk = refl; failures = refl; root = refl; closed = refl; holds = refl }

@@ -16,11 +16,11 @@ returns-in-Ok-clause-others g c = λ h. reads_else _ _ _ c.put_page-written.ensu
 
 pub returns-in-Err-clause-works : goal.returns-in-Err-clause-works
 returns-in-Err-clause-works g c =
-    works_write _ _ _ c.args.self.now.sound c.requires refl refl c.put_page-written.ensures.kept c.put_page-written.ensures.time c.put_page-written.ensures.same_size c.put_page-written.ensures.cause.later (λ closed. c.if-self.false)
+    works_write _ _ _ c.args.self.now.sound c.requires refl refl refl c.put_page-written.ensures.kept c.put_page-written.ensures.time c.put_page-written.ensures.same_size c.put_page-written.ensures.cause.later (λ closed. c.if-self.false)
 
 pub returns-in-Ok-clause-works : goal.returns-in-Ok-clause-works
 returns-in-Ok-clause-works g c =
-    works_write _ _ _ c.args.self.now.sound c.requires refl refl c.put_page-written.ensures.kept c.put_page-written.ensures.time c.put_page-written.ensures.same_size c.put_page-written.ensures.cause.later (λ closed. c.if-self.false)
+    works_write _ _ _ c.args.self.now.sound c.requires refl refl refl c.put_page-written.ensures.kept c.put_page-written.ensures.time c.put_page-written.ensures.same_size c.put_page-written.ensures.cause.later (λ closed. c.if-self.false)
 
 pub invariant_of-self-in-Err-clause-cached : goal.invariant_of-self-in-Err-clause-cached
 invariant_of-self-in-Err-clause-cached g c =

@@ -111,3 +111,15 @@ returns-clause-closed g c = λ is. absurd (not_refused _ _ (c.in_ok-known.ensure
 
 pub returns-clause-cause : goal.returns-clause-cause
 returns-clause-cause g c = λ ready. tt
+
+pub returns-in_err-known-clause-lasts : goal.returns-in_err-known-clause-lasts
+returns-in_err-known-clause-lasts g c = g.met.F.GameFile.goes_on_lasts c.args.self.now.file c.args.self.now.file (g.met.F.Table.stays_goes_on c.args.self.now.file c.args.self.now.file (g.met.F.Table.stays_here c.args.self.now.file))
+
+pub returns-in_default-clause-lasts : goal.returns-in_default-clause-lasts
+returns-in_default-clause-lasts g c = g.met.F.GameFile.goes_on_lasts c.args.self.now.file c.args.self.now.file (g.met.F.Table.stays_goes_on c.args.self.now.file c.args.self.now.file (g.met.F.Table.stays_here c.args.self.now.file))
+
+pub returns-in_err-audit-clause-lasts : goal.returns-in_err-audit-clause-lasts
+returns-in_err-audit-clause-lasts g c = g.met.F.GameFile.goes_on_lasts c.args.self.now.file c.audit.new.table (g.met.F.Table.stays_goes_on c.args.self.now.file c.audit.new.table c.audit.ensures.stays)
+
+pub returns-clause-lasts : goal.returns-clause-lasts
+returns-clause-lasts g c = g.met.F.GameFile.goes_on_lasts c.args.self.now.file c.audit.new.table (g.met.F.Table.stays_goes_on c.args.self.now.file c.audit.new.table c.audit.ensures.stays)

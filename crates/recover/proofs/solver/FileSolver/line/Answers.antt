@@ -102,3 +102,15 @@ returns-clause-closed g c = λ is. absurd (not_refused _ _ (c.in_ok-check.ensure
 
 pub returns-clause-cause : goal.returns-clause-cause
 returns-clause-cause g c = λ ready. tt
+
+pub returns-in_err-check-clause-lasts : goal.returns-in_err-check-clause-lasts
+returns-in_err-check-clause-lasts g c = g.met.F.GameFile.goes_on_lasts c.args.self.now.file c.args.self.now.file (g.met.F.Table.stays_goes_on c.args.self.now.file c.args.self.now.file (g.met.F.Table.stays_here c.args.self.now.file))
+
+pub returns-in_default-clause-lasts : goal.returns-in_default-clause-lasts
+returns-in_default-clause-lasts g c = g.met.F.GameFile.goes_on_lasts c.args.self.now.file c.args.self.now.file (g.met.F.Table.stays_goes_on c.args.self.now.file c.args.self.now.file (g.met.F.Table.stays_here c.args.self.now.file))
+
+pub returns-in_err-line-clause-lasts : goal.returns-in_err-line-clause-lasts
+returns-in_err-line-clause-lasts g c = g.met.F.GameFile.goes_on_lasts c.args.self.now.file c.line.new.table (g.met.F.Table.stays_goes_on c.args.self.now.file c.line.new.table c.line.ensures.stays)
+
+pub returns-clause-lasts : goal.returns-clause-lasts
+returns-clause-lasts g c = g.met.F.GameFile.goes_on_lasts c.args.self.now.file c.line.new.table (g.met.F.Table.stays_goes_on c.args.self.now.file c.line.new.table c.line.ensures.stays)

@@ -119,3 +119,15 @@ returns-in_err-needs_no_game-clause-sound g c = λ ready honest sound. sound
 
 pub returns-clause-refused : goal.returns-clause-refused
 returns-clause-refused g c = λ ready. tt
+
+pub returns-in_err-needs_no_game-clause-lasts : goal.returns-in_err-needs_no_game-clause-lasts
+returns-in_err-needs_no_game-clause-lasts g c = g.met.F.GameFile.goes_on_lasts c.args.self.now.file c.args.self.now.file (g.met.F.Table.stays_goes_on c.args.self.now.file c.args.self.now.file (g.met.F.Table.stays_here c.args.self.now.file))
+
+pub returns-in_err-source-clause-lasts : goal.returns-in_err-source-clause-lasts
+returns-in_err-source-clause-lasts g c = g.met.F.GameFile.goes_on_lasts c.args.self.now.file c.args.self.now.file (g.met.F.Table.stays_goes_on c.args.self.now.file c.args.self.now.file (g.met.F.Table.stays_here c.args.self.now.file))
+
+pub returns-in_err-load-clause-lasts : goal.returns-in_err-load-clause-lasts
+returns-in_err-load-clause-lasts g c = c.load.ensures.lasts
+
+pub returns-clause-lasts : goal.returns-clause-lasts
+returns-clause-lasts g c = c.load.ensures.lasts

@@ -20,6 +20,7 @@ loop-command-preserved g c =
       room = omega (arith, so_far.room, pushed.len, pushed.capacity, c.loop-command-test.true);
       ready = λ ready. reply.ready (so_far.ready ready);
       ahead = ahead_then so_far.ahead reply.ahead;
+      lasts = g.met.F.GameFile.lasts_then c.args.self.now.file c.loop-command.self.file c.answer-reply.new.self.file so_far.lasts reply.lasts;
       sound = λ ready honest sound. reply.sound (so_far.ready ready) (still_honest so_far.ahead.goes_on honest) (so_far.sound ready honest sound);
       run = λ ready.
           run_goes_on _ c.args.commands.now c.loop-command.command-index c.command-item.result c.answer-reply.result c.args.replies.now.items c.loop-command.replies.items
@@ -31,6 +32,7 @@ loop-command-init g c = record {
   room = search rules;
   ready = λ ready. ready;
   ahead = g.met.F.GameFile.goes_ahead c.args.self.now.file c.args.self.now.file (g.met.F.Table.stays_goes_on c.args.self.now.file c.args.self.now.file (g.met.F.Table.stays_here c.args.self.now.file));
+  lasts = g.met.F.GameFile.goes_on_lasts c.args.self.now.file c.args.self.now.file (g.met.F.Table.stays_goes_on c.args.self.now.file c.args.self.now.file (g.met.F.Table.stays_here c.args.self.now.file));
   sound = λ ready honest sound. sound;
   run = λ ready. rw c.in_ok-reserve.ensures.items (run_begins _ c.args.replies.now.items _ (λ honest is_open. g.met.F.GameFile.whole_leaves c.args.self.now.file ready.0 honest is_open));
 }
@@ -102,3 +104,12 @@ returns-clause-run g c = λ ready. rw (take_all c.loop-command.command-index c.a
 
 pub returns-clause-sound : goal.returns-clause-sound
 returns-clause-sound g c = c.loop-command.invariant.sound
+
+pub returns-in_err-reserve-clause-lasts : goal.returns-in_err-reserve-clause-lasts
+returns-in_err-reserve-clause-lasts g c = g.met.F.GameFile.goes_on_lasts c.args.self.now.file c.args.self.now.file (g.met.F.Table.stays_goes_on c.args.self.now.file c.args.self.now.file (g.met.F.Table.stays_here c.args.self.now.file))
+
+pub returns-in_err-push-clause-lasts : goal.returns-in_err-push-clause-lasts
+returns-in_err-push-clause-lasts g c = absurd (no_room_left (vec_len c.loop-command.replies) (length c.args.commands.now) c.loop-command.command-index (vec_capacity c.loop-command.replies) c.loop-command.invariant.room c.loop-command-test.true c.in_err-push.ensures.full)
+
+pub returns-clause-lasts : goal.returns-clause-lasts
+returns-clause-lasts g c = c.loop-command.invariant.lasts

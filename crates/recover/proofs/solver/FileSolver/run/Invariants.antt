@@ -13,6 +13,7 @@ invariant-loop-command g l =
       room : vec_len l.replies + (length l.fn.commands - l.command-index) ≤ vec_capacity l.replies;
       ready : IsReady l.fn.self → IsReady l.self;
       ahead : GoesAhead (state l.fn.self) (state l.self);
+      lasts : g.F.GameFile.lasts l.fn.self.file l.self.file;
       sound : IsReady l.fn.self → IsTrue (state l.fn.self).disk.honest → IsSound (state l.fn.self).kept → IsSound (state l.self).kept;
       run : IsReady l.fn.self
           → IsRun g.F.GameFile.stores (take l.command-index l.fn.commands) l.fn.replies.items l.replies.items (state l.fn.self) (state l.self);

@@ -126,3 +126,21 @@ returns-in-None-clause-text g c = λ ready. tt
 
 pub returns-in-Some-2-clause-cause : goal.returns-in-Some-2-clause-cause
 returns-in-Some-2-clause-cause g c = λ ready. tt
+
+pub returns-in_err-check-clause-lasts : goal.returns-in_err-check-clause-lasts
+returns-in_err-check-clause-lasts g c = g.met.F.GameFile.goes_on_lasts c.args.self.now.file c.args.self.now.file (g.met.F.Table.stays_goes_on c.args.self.now.file c.args.self.now.file (g.met.F.Table.stays_here c.args.self.now.file))
+
+pub returns-in_err-packed-clause-lasts : goal.returns-in_err-packed-clause-lasts
+returns-in_err-packed-clause-lasts g c = g.met.F.GameFile.goes_on_lasts c.args.self.now.file c.packed.new.self (g.met.F.Table.stays_goes_on c.args.self.now.file c.packed.new.self c.packed.ensures.stays)
+
+pub returns-in_default-clause-lasts : goal.returns-in_default-clause-lasts
+returns-in_default-clause-lasts g c = g.met.F.GameFile.goes_on_lasts c.args.self.now.file c.packed.new.self (g.met.F.Table.stays_goes_on c.args.self.now.file c.packed.new.self c.packed.ensures.stays)
+
+pub returns-in_err-text-clause-lasts : goal.returns-in_err-text-clause-lasts
+returns-in_err-text-clause-lasts g c = g.met.F.GameFile.goes_on_lasts c.args.self.now.file c.packed.new.self (g.met.F.Table.stays_goes_on c.args.self.now.file c.packed.new.self c.packed.ensures.stays)
+
+pub returns-in-Some-2-clause-lasts : goal.returns-in-Some-2-clause-lasts
+returns-in-Some-2-clause-lasts g c = g.met.F.GameFile.goes_on_lasts c.args.self.now.file c.packed.new.self (g.met.F.Table.stays_goes_on c.args.self.now.file c.packed.new.self c.packed.ensures.stays)
+
+pub returns-in-None-clause-lasts : goal.returns-in-None-clause-lasts
+returns-in-None-clause-lasts g c = g.met.F.GameFile.goes_on_lasts c.args.self.now.file c.packed.new.self (g.met.F.Table.stays_goes_on c.args.self.now.file c.packed.new.self c.packed.ensures.stays)

@@ -66,3 +66,12 @@ returns-clause-closed g c = λ is. absurd (not_refused _ _ (c.in_ok-check.ensure
 
 pub returns-clause-cause : goal.returns-clause-cause
 returns-clause-cause g c = λ ready. tt
+
+pub returns-in_err-check-clause-lasts : goal.returns-in_err-check-clause-lasts
+returns-in_err-check-clause-lasts g c = g.met.F.GameFile.goes_on_lasts c.args.self.now.file c.args.self.now.file (g.met.F.Table.stays_goes_on c.args.self.now.file c.args.self.now.file (g.met.F.Table.stays_here c.args.self.now.file))
+
+pub returns-in_err-value-clause-lasts : goal.returns-in_err-value-clause-lasts
+returns-in_err-value-clause-lasts g c = g.met.F.GameFile.goes_on_lasts c.args.self.now.file c.value.new.table (g.met.F.Table.stays_goes_on c.args.self.now.file c.value.new.table c.value.ensures.stays)
+
+pub returns-clause-lasts : goal.returns-clause-lasts
+returns-clause-lasts g c = g.met.F.GameFile.goes_on_lasts c.args.self.now.file c.value.new.table (g.met.F.Table.stays_goes_on c.args.self.now.file c.value.new.table c.value.ensures.stays)

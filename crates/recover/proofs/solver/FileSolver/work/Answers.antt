@@ -245,3 +245,25 @@ returns-in_ok-commit-clause-refused g c = λ ready. tt
 
 pub returns-else-done-gt0-clause-refused : goal.returns-else-done-gt0-clause-refused
 returns-else-done-gt0-clause-refused g c = λ ready. tt
+
+pub returns-in_err-needs_game-clause-lasts : goal.returns-in_err-needs_game-clause-lasts
+returns-in_err-needs_game-clause-lasts g c = g.met.F.GameFile.goes_on_lasts c.args.self.now.file c.args.self.now.file (g.met.F.Table.stays_goes_on c.args.self.now.file c.args.self.now.file (g.met.F.Table.stays_here c.args.self.now.file))
+
+pub returns-in_default-clause-lasts : goal.returns-in_default-clause-lasts
+returns-in_default-clause-lasts g c = g.met.F.GameFile.goes_on_lasts c.args.self.now.file c.args.self.now.file (g.met.F.Table.stays_goes_on c.args.self.now.file c.args.self.now.file (g.met.F.Table.stays_here c.args.self.now.file))
+
+pub returns-in-Err-clause-lasts : goal.returns-in-Err-clause-lasts
+returns-in-Err-clause-lasts g c =
+    let file = c.args.self.now.file in
+    g.met.F.GameFile.lasts_then file c.work.new.table c.discard.new.self
+    (left_so (g.F.Table.fails file c.work.new.table) c.in-Err.fault c.in-Err.ensures.left (λ ahead. g.met.F.GameFile.goes_on_lasts file c.work.new.table ahead)
+    (λ f fails. g.met.F.GameFile.fails_lasts file c.work.new.table f fails)) c.discard.ensures.lasts
+
+pub returns-in_err-commit-clause-lasts : goal.returns-in_err-commit-clause-lasts
+returns-in_err-commit-clause-lasts g c = g.met.F.GameFile.lasts_then c.args.self.now.file c.work.new.table c.commit.new.self (g.met.F.GameFile.goes_on_lasts c.args.self.now.file c.work.new.table c.in-Ok.ensures.ahead) c.commit.ensures.lasts
+
+pub returns-in_ok-commit-clause-lasts : goal.returns-in_ok-commit-clause-lasts
+returns-in_ok-commit-clause-lasts g c = g.met.F.GameFile.lasts_then c.args.self.now.file c.work.new.table c.commit.new.self (g.met.F.GameFile.goes_on_lasts c.args.self.now.file c.work.new.table c.in-Ok.ensures.ahead) c.commit.ensures.lasts
+
+pub returns-else-done-gt0-clause-lasts : goal.returns-else-done-gt0-clause-lasts
+returns-else-done-gt0-clause-lasts g c = g.met.F.GameFile.goes_on_lasts c.args.self.now.file c.work.new.table c.in-Ok.ensures.ahead

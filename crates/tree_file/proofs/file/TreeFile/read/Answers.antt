@@ -51,7 +51,7 @@ returns-in-Ok-read_all-clause-ok g c =
 pub returns-in-Err-read_all-clause-cause : goal.returns-in-Err-read_all-clause-cause
 returns-in-Err-read_all-clause-cause g c =
     let read = c.in-Err-read_all.ensures in
-    let cause = read_cause _ _ _ _ c.in-Ok.ensures.ok
+    let cause = read_cause _ _ _ (g.P.Pages.store c.read_all.new.store) c.in-Ok.ensures.ok
     (record {
       goes_on = read.goes_on;
       same_size = read.same_size;

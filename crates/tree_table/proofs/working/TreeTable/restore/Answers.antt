@@ -4,6 +4,7 @@ use Rattle.tree_table.specs.declared.slot.TreeSlot.{TreeSlot}
 use Rattle.tree_table.specs.Keeping.{StandsFor, IsSizedSlot, slot_or_bare}
 use Rattle.tree_table.specs.Working.{work_of, HoldsWork}
 use Rattle.tree_table.specs.aid.Standing.{was_honest, discarded_still, discarded_calm, still_stands_for}
+use Rattle.tree_table.specs.aid.Versions.{remarked_keeps_holds}
 use Rattle.tree_table.proofs.Committing.{sized_slot, stands_holds}
 use Rattle.tree_table.proofs.working.TreeTable.restore.Goals as goal
 
@@ -27,3 +28,6 @@ invariant_of-self g c =
           ∣ subst (λ (s : TreeSlot). HoldsWork (work_of s text false new)) is
           (stands_holds game text new c.requires.sized calm (still_stands_for game text old new was still stands)) ∣₁);
     }
+
+pub returns-clause-held : goal.returns-clause-held
+returns-clause-held g c = remarked_keeps_holds (g.P.Pages.store c.args.self.now.store) (g.P.Pages.store c.discard.new.self) c.discard.ensures.marks.same_length c.discard.ensures.others

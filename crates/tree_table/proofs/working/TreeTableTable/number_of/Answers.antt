@@ -1,7 +1,7 @@
 use Rattle.std.proofs.Common.{◌≡◌, ℕ, Some}
 use mathlib.Core.Logic.{∥∥₁_elim}
 use Rattle.std.specs.Prelude.{slice_get}
-use Rattle.tree_table.specs.Working.{work_of, table_now, HoldsWork}
+use Rattle.tree_table.specs.Working.{work_of, table_now, work_there, HoldsWork}
 use Rattle.tree_table.proofs.Holding.{only_read, still_held, read_refused, read_without_page, position_prop, ok_prop, some_prop, none_prop}
 use denote.Struct.Props.{props}
 use Rattle.tree_table.proofs.working.TreeTableTable.number_of.Goals as goal
@@ -23,13 +23,13 @@ pub returns-clause-found : goal.returns-clause-found
 returns-clause-found g c = λ honest.
     let self = c.args.self.now in
     let old = work_of self.slot self.text.items self.torn (g.P.Pages.store self.store) in
-    ∥∥₁_elim (self.holds honest) (ok_prop _ c.number_of.result (λ r. some_prop _ r (λ i. position_prop (slice_get (table_now old).positions i) (Some c.args.packed.now.items)))) (λ (h : HoldsWork old). c.number_of.ensures.found honest.disk self.text.items (table_now old) h)
+    ∥∥₁_elim (self.holds honest) (ok_prop _ c.number_of.result (λ r. some_prop _ r (λ i. position_prop (slice_get (table_now old).positions i) (Some c.args.packed.now.items)))) (λ (h : HoldsWork old). c.number_of.ensures.found honest.disk self.text.items (table_now old) (work_there old h))
 
 pub returns-clause-unknown : goal.returns-clause-unknown
 returns-clause-unknown g c = λ honest.
     let self = c.args.self.now in
     let old = work_of self.slot self.text.items self.torn (g.P.Pages.store self.store) in
-    ∥∥₁_elim (self.holds honest) (ok_prop _ c.number_of.result (λ r. none_prop ((i : ℕ) → slice_get (table_now old).positions i ≡ Some c.args.packed.now.items → ⊥) r (hlevel props))) (λ (h : HoldsWork old). c.number_of.ensures.unknown honest.disk self.text.items (table_now old) h)
+    ∥∥₁_elim (self.holds honest) (ok_prop _ c.number_of.result (λ r. none_prop ((i : ℕ) → slice_get (table_now old).positions i ≡ Some c.args.packed.now.items → ⊥) r (hlevel props))) (λ (h : HoldsWork old). c.number_of.ensures.unknown honest.disk self.text.items (table_now old) (work_there old h))
 
 pub returns-clause-fault : goal.returns-clause-fault
 returns-clause-fault g c =

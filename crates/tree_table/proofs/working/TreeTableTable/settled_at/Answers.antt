@@ -1,7 +1,7 @@
 use Rattle.std.proofs.Common.{Some}
 use mathlib.Core.Logic.{∥∥₁_elim}
 use Rattle.std.specs.Prelude.{slice_get}
-use Rattle.tree_table.specs.Working.{work_of, table_now, HoldsWork}
+use Rattle.tree_table.specs.Working.{work_of, table_now, work_there, HoldsWork}
 use Rattle.tree_table.proofs.Holding.{only_read, still_held, read_refused, read_without_page, number_prop, ok_prop}
 use Rattle.tree_table.proofs.working.TreeTableTable.settled_at.Goals as goal
 
@@ -22,7 +22,7 @@ pub returns-clause-number : goal.returns-clause-number
 returns-clause-number g c = λ honest.
     let self = c.args.self.now in
     let old = work_of self.slot self.text.items self.torn (g.P.Pages.store self.store) in
-    ∥∥₁_elim (self.holds honest) (ok_prop _ c.settled_at.result (λ i. number_prop (slice_get (table_now old).order c.args.place) (Some i))) (λ (h : HoldsWork old). c.settled_at.ensures.number honest.disk self.text.items (table_now old) h)
+    ∥∥₁_elim (self.holds honest) (ok_prop _ c.settled_at.result (λ i. number_prop (slice_get (table_now old).order c.args.place) (Some i))) (λ (h : HoldsWork old). c.settled_at.ensures.number honest.disk self.text.items (table_now old) (work_there old h))
 
 pub returns-clause-fault : goal.returns-clause-fault
 returns-clause-fault g c =

@@ -1,0 +1,5 @@
+use Rattle.page_store.specs.aid.Carrying.{grow_stands_held}
+use Rattle.page_store.proofs.laws.grow_stands_held.Goals as goal
+
+pub returns : goal.returns
+returns g c = grow_stands_held

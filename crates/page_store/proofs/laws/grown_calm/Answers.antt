@@ -1,0 +1,5 @@
+use Rattle.page_store.specs.aid.Carrying.{grown_calm}
+use Rattle.page_store.proofs.laws.grown_calm.Goals as goal
+
+pub returns : goal.returns
+returns c = grown_calm

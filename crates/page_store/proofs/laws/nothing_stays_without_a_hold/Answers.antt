@@ -1,0 +1,5 @@
+use Rattle.page_store.specs.aid.Carrying.{nothing_stays_without_a_hold}
+use Rattle.page_store.proofs.laws.nothing_stays_without_a_hold.Goals as goal
+
+pub returns : goal.returns
+returns c = nothing_stays_without_a_hold

@@ -1,0 +1,5 @@
+use Rattle.page_store.specs.aid.Carrying.{works_stands_held}
+use Rattle.page_store.proofs.laws.works_stands_held.Goals as goal
+
+pub returns : goal.returns
+returns g c = works_stands_held

@@ -1,0 +1,198 @@
+use Rattle.std.proofs.Common.{rules, refl, sym, ◌∙◌, ap, inl, inr, arith, List}
+use Rattle.sector_disk.specs.aid.Moments.{goes_on_refl, goes_on_trans, leaves_now, leaves_more, still_honest}
+use Rattle.root_pair.specs.aid.Rest.{rest_longer}
+use Rattle.page_store.specs.declared.holds.Holders.{Holders}
+use Rattle.page_store.specs.Holds.{holders_at}
+use Rattle.page_store.specs.aid.Holding.{same_holds}
+use Rattle.page_store.specs.aid.Works.{safe_saves}
+use Rattle.page_store.proofs.Growing.{not_err, below_saves, longer_reads, lengthened, lengthened_sound, grown_leaves, mid_rests, grown_after, grown_sound, grown_kept, closed_sound, longer_pages, grew_since, is_read, held_pages}
+use Rattle.page_store.proofs.Keeping.{published_grew, was_honest}
+use Rattle.page_store.proofs.Caching.{carried}
+use Rattle.page_store.proofs.store.PageStorePages.grow.Goals as goal
+
+pub returns-then-self-clause-grows : goal.returns-then-self-clause-grows
+returns-then-self-clause-grows g c = record {
+  goes_on = goes_on_refl _;
+  no_shorter = omega arith;
+  failures = omega arith;
+  leaves = λ honest safe. leaves_now _ (λ picture left. inl (safe_saves _ safe picture left));
+  no_fewer = omega arith;
+  holds = same_holds refl;
+  held = λ honest place p held. refl;
+}
+
+pub returns-in-Err-grown_holders-clause-grows : goal.returns-in-Err-grown_holders-clause-grows
+returns-in-Err-grown_holders-clause-grows g c = record {
+  goes_on = goes_on_refl _;
+  no_shorter = omega arith;
+  failures = omega arith;
+  leaves = λ honest safe. leaves_now _ (λ picture left. inl (safe_saves _ safe picture left));
+  no_fewer = omega arith;
+  holds = same_holds refl;
+  held = λ honest place p held. refl;
+}
+
+pub returns-in-Err-clause-grows : goal.returns-in-Err-clause-grows
+returns-in-Err-clause-grows g c = record {
+  goes_on = goes_on_refl _;
+  no_shorter = omega arith;
+  failures = omega arith;
+  leaves = λ honest safe. leaves_now _ (λ picture left. inl (safe_saves _ safe picture left));
+  no_fewer = omega arith;
+  holds = same_holds refl;
+  held = λ honest place p held. refl;
+}
+
+pub invariant_of-self-then-is_err : goal.invariant_of-self-then-is_err
+invariant_of-self-then-is_err g c = record {
+  sound = closed_sound _ _ c.args.self.now.sound c.make_room.ensures.no_shorter refl refl refl;
+  cached = carried _ _ _ _ c.args.self.now.cached (λ p held there. there) (was_honest c.make_room.ensures.time) (λ p held there kept. kept)
+      (λ h p held there behind. longer_reads _ _ c.args.self.now.sound (c.make_room.ensures.longer h) p (c.args.self.now.cached.kept p held there).1);
+}
+
+pub returns-then-is_err-clause-grows : goal.returns-then-is_err-clause-grows
+returns-then-is_err-clause-grows g c = record {
+  goes_on = c.make_room.ensures.time;
+  no_shorter = c.make_room.ensures.no_shorter;
+  failures = c.make_room.ensures.cause.later;
+  leaves = λ honest safe. leaves_more (λ picture left. inl (below_saves _ safe c.args.self.now.sound picture left)) (c.make_room.ensures.moments honest);
+  no_fewer = omega arith;
+  holds = same_holds refl;
+  held = held_pages _ _ c.args.self.now.sound (λ honest p behind within. longer_reads _ _ c.args.self.now.sound (c.make_room.ensures.longer honest) p within);
+}
+
+pub returns-then-is_err-clause-kept_pages : goal.returns-then-is_err-clause-kept_pages
+returns-then-is_err-clause-kept_pages g c = λ honest p behind within. longer_reads _ _ c.args.self.now.sound (c.make_room.ensures.longer honest) p within
+
+pub returns-in-Ok-publish-clause-grows : goal.returns-in-Ok-publish-clause-grows
+returns-in-Ok-publish-clause-grows g c =
+    let made = sym c.is_err.ensures.value ∙ c.if-is_err.false in
+    let room = not_err _ made c.make_room.ensures.room in
+    record {
+      goes_on = goes_on_trans c.make_room.ensures.time c.publish.ensures.time;
+      no_shorter = omega (arith, c.make_room.ensures.no_shorter, c.publish.ensures.same_size);
+      failures = omega (arith, c.make_room.ensures.cause.later, c.publish.ensures.failures);
+      leaves = λ honest safe.
+          let there = c.publish.ensures.moments (still_honest c.make_room.ensures.time honest) (rest_longer (c.make_room.ensures.longer honest) safe.rest) in
+          grown_leaves _ _ _ _ c.args.pages c.args.self.now.sound (omega (arith, room, c.from.ensures)) c.make_room.ensures.longer
+          (λ h. not_err _ made (c.make_room.ensures.synced h)) c.make_room.ensures.time c.publish.ensures.time c.make_room.ensures.moments honest safe there;
+      no_fewer = omega (arith, c.in-Ok.ensures.long, c.requires.more);
+      holds = record { taken = refl; each = λ p. c.in-Ok-grown_holders.ensures.each p ∙ ap (λ (hs : List Holders). holders_at hs p) c.deref-3.ensures.value };
+      held = held_pages _ _ c.args.self.now.sound (λ honest p behind within.
+          longer_pages _ (g.D.SectorDisk.disk c.make_room.new.disk) (g.D.SectorDisk.disk c.publish.new.disk) c.args.self.now.sound (c.make_room.ensures.longer honest)
+          (c.publish.ensures.pages (still_honest c.make_room.ensures.time honest)) p behind within);
+    }
+
+pub returns-in-Ok-publish-clause-after : goal.returns-in-Ok-publish-clause-after
+returns-in-Ok-publish-clause-after g c = λ honest.
+    let made = sym c.is_err.ensures.value ∙ c.if-is_err.false in
+    let room = not_err _ made c.make_room.ensures.room in
+    let rest = mid_rests _ _ (g.D.SectorDisk.disk c.publish.new.disk) c.args.root.now c.args.pages c.args.self.now.sound (omega (arith, room, c.from.ensures)) c.make_room.ensures.longer
+    (λ h. not_err _ made (c.make_room.ensures.synced h)) c.make_room.ensures.time c.publish.ensures.time c.make_room.ensures.moments honest (c.args.self.now.sound.safe honest c.if-self.false) in
+    grown_after _ _ _ _ c.args.pages c.args.self.now.sound (omega (arith, room, c.from.ensures)) c.make_room.ensures.longer
+    (λ h. not_err _ made (c.make_room.ensures.synced h)) c.make_room.ensures.time c.publish.ensures.time c.make_room.ensures.moments honest c.publish.ensures.same_size
+    (c.in-Ok-publish.ensures.ok (still_honest c.make_room.ensures.time honest) rest)
+
+pub returns-in-Ok-publish-clause-ok : goal.returns-in-Ok-publish-clause-ok
+returns-in-Ok-publish-clause-ok g c = record {
+  is = refl;
+  marks = search rules;
+  closed = c.if-self.false;
+  reads = λ honest p behind within. longer_pages _ (g.D.SectorDisk.disk c.make_room.new.disk) (g.D.SectorDisk.disk c.publish.new.disk) c.args.self.now.sound (c.make_room.ensures.longer honest)
+      (c.publish.ensures.pages (still_honest c.make_room.ensures.time honest)) p behind within;
+}
+
+pub returns-in-Ok-publish-clause-kept_pages : goal.returns-in-Ok-publish-clause-kept_pages
+returns-in-Ok-publish-clause-kept_pages g c = λ honest p behind within.
+    longer_pages _ (g.D.SectorDisk.disk c.make_room.new.disk) (g.D.SectorDisk.disk c.publish.new.disk) c.args.self.now.sound (c.make_room.ensures.longer honest) (c.publish.ensures.pages (still_honest c.make_room.ensures.time honest)) p behind within
+
+pub invariant_of-self-in-Ok-publish : goal.invariant_of-self-in-Ok-publish
+invariant_of-self-in-Ok-publish g c =
+    let made = sym c.is_err.ensures.value ∙ c.if-is_err.false in
+    let room = not_err _ made c.make_room.ensures.room in
+    record {
+      sound = grown_sound _ _ (g.D.SectorDisk.disk c.publish.new.disk) c.args.root.now c.args.pages c.args.self.now.sound (omega (arith, room, c.from.ensures)) c.make_room.ensures.longer
+          (λ h. not_err _ made (c.make_room.ensures.synced h)) c.make_room.ensures.time c.publish.ensures.time c.make_room.ensures.moments
+          _ refl refl (search rules) c.in-Ok-grown_holders.ensures.long (record { taken = refl; each = λ p. c.in-Ok-grown_holders.ensures.each p ∙ ap (λ (hs : List Holders). holders_at hs p) c.deref-3.ensures.value }) c.requires.few c.requires.more c.publish.ensures.same_size c.requires.some
+          (λ honest. c.in-Ok-publish.ensures.ok (still_honest c.make_room.ensures.time honest)
+          (mid_rests _ _ (g.D.SectorDisk.disk c.publish.new.disk) c.args.root.now c.args.pages c.args.self.now.sound (omega (arith, room, c.from.ensures)) c.make_room.ensures.longer
+          (λ h. not_err _ made (c.make_room.ensures.synced h)) c.make_room.ensures.time c.publish.ensures.time c.make_room.ensures.moments honest (c.args.self.now.sound.safe honest c.if-self.false)));
+      cached = carried _ _ _ _ c.args.self.now.cached (λ p held there. there) (was_honest (goes_on_trans c.make_room.ensures.time c.publish.ensures.time))
+          (λ p held there kept. grown_kept c.args.self.now.holders.items c.args.pages _ _ c.requires.more (search rules) p kept)
+          (λ h p held there behind. longer_pages _ (g.D.SectorDisk.disk c.make_room.new.disk) (g.D.SectorDisk.disk c.publish.new.disk) c.args.self.now.sound (c.make_room.ensures.longer h) (c.publish.ensures.pages (still_honest c.make_room.ensures.time h)) p behind
+          (c.args.self.now.cached.kept p held there).1);
+    }
+
+pub invariant_of-self-in-Err-Read : goal.invariant_of-self-in-Err-Read
+invariant_of-self-in-Err-Read g c = record {
+  sound = lengthened_sound _ _ _ c.args.self.now.sound refl refl refl refl c.make_room.ensures.longer (λ honest. c.publish.ensures.read honest (is_read _ _ c.in-Err-Read.is c.in-Err-Read.field-0-is))
+      c.make_room.ensures.time c.publish.ensures.time c.make_room.ensures.moments (λ honest. c.publish.ensures.unwritten honest (is_read _ _ c.in-Err-Read.is c.in-Err-Read.field-0-is))
+      (omega (arith, c.make_room.ensures.no_shorter, c.publish.ensures.same_size));
+  cached = carried _ _ _ _ c.args.self.now.cached (λ p held there. there) (was_honest (goes_on_trans c.make_room.ensures.time c.publish.ensures.time)) (λ p held there kept. kept)
+      (λ h p held there behind. longer_pages _ (g.D.SectorDisk.disk c.make_room.new.disk) (g.D.SectorDisk.disk c.publish.new.disk) c.args.self.now.sound (c.make_room.ensures.longer h) (c.publish.ensures.pages (still_honest c.make_room.ensures.time h)) p behind
+      (c.args.self.now.cached.kept p held there).1);
+}
+
+pub returns-in-Err-Read-clause-grows : goal.returns-in-Err-Read-clause-grows
+returns-in-Err-Read-clause-grows g c =
+    let made = sym c.is_err.ensures.value ∙ c.if-is_err.false in
+    let room = not_err _ made c.make_room.ensures.room in
+    record {
+      goes_on = goes_on_trans c.make_room.ensures.time c.publish.ensures.time;
+      no_shorter = omega (arith, c.make_room.ensures.no_shorter, c.publish.ensures.same_size);
+      failures = omega (arith, c.make_room.ensures.cause.later, c.publish.ensures.failures);
+      leaves = λ honest safe.
+          let there = c.publish.ensures.moments (still_honest c.make_room.ensures.time honest) (rest_longer (c.make_room.ensures.longer honest) safe.rest) in
+          grown_leaves _ _ _ _ c.args.pages c.args.self.now.sound (omega (arith, room, c.from.ensures)) c.make_room.ensures.longer
+          (λ h. not_err _ made (c.make_room.ensures.synced h)) c.make_room.ensures.time c.publish.ensures.time c.make_room.ensures.moments honest safe there;
+      no_fewer = omega arith;
+      holds = same_holds refl;
+      held = held_pages _ _ c.args.self.now.sound (λ honest p behind within.
+          longer_pages _ (g.D.SectorDisk.disk c.make_room.new.disk) (g.D.SectorDisk.disk c.publish.new.disk) c.args.self.now.sound (c.make_room.ensures.longer honest)
+          (c.publish.ensures.pages (still_honest c.make_room.ensures.time honest)) p behind within);
+    }
+
+pub returns-in-Err-Read-clause-kept_pages : goal.returns-in-Err-Read-clause-kept_pages
+returns-in-Err-Read-clause-kept_pages g c = λ honest p behind within.
+    longer_pages _ (g.D.SectorDisk.disk c.make_room.new.disk) (g.D.SectorDisk.disk c.publish.new.disk) c.args.self.now.sound (c.make_room.ensures.longer honest) (c.publish.ensures.pages (still_honest c.make_room.ensures.time honest)) p behind within
+
+pub returns-in-Err-Read-clause-cause : goal.returns-in-Err-Read-clause-cause
+returns-in-Err-Read-clause-cause g c = (
+  grew_since c.make_room.ensures.cause.later (published_grew _ _ _ c.in-Err-Read.ensures.fault),
+  inl (lengthened _ _ _ c.args.self.now.sound refl refl refl refl c.make_room.ensures.longer (λ honest. c.publish.ensures.read honest (is_read _ _ c.in-Err-Read.is c.in-Err-Read.field-0-is))
+      c.make_room.ensures.time c.publish.ensures.time c.make_room.ensures.moments (λ honest. c.publish.ensures.unwritten honest (is_read _ _ c.in-Err-Read.is c.in-Err-Read.field-0-is))),
+)
+
+pub invariant_of-self-in-Err-publish : goal.invariant_of-self-in-Err-publish
+invariant_of-self-in-Err-publish g c = record {
+  sound = closed_sound _ _ c.args.self.now.sound (omega (arith, c.make_room.ensures.no_shorter, c.publish.ensures.same_size)) refl refl refl;
+  cached = carried _ _ _ _ c.args.self.now.cached (λ p held there. there) (was_honest (goes_on_trans c.make_room.ensures.time c.publish.ensures.time)) (λ p held there kept. kept)
+      (λ h p held there behind. longer_pages _ (g.D.SectorDisk.disk c.make_room.new.disk) (g.D.SectorDisk.disk c.publish.new.disk) c.args.self.now.sound (c.make_room.ensures.longer h) (c.publish.ensures.pages (still_honest c.make_room.ensures.time h)) p behind
+      (c.args.self.now.cached.kept p held there).1);
+}
+
+pub returns-clause-grows : goal.returns-clause-grows
+returns-clause-grows g c =
+    let made = sym c.is_err.ensures.value ∙ c.if-is_err.false in
+    let room = not_err _ made c.make_room.ensures.room in
+    record {
+      goes_on = goes_on_trans c.make_room.ensures.time c.publish.ensures.time;
+      no_shorter = omega (arith, c.make_room.ensures.no_shorter, c.publish.ensures.same_size);
+      failures = omega (arith, c.make_room.ensures.cause.later, c.publish.ensures.failures);
+      leaves = λ honest safe.
+          let there = c.publish.ensures.moments (still_honest c.make_room.ensures.time honest) (rest_longer (c.make_room.ensures.longer honest) safe.rest) in
+          grown_leaves _ _ _ _ c.args.pages c.args.self.now.sound (omega (arith, room, c.from.ensures)) c.make_room.ensures.longer
+          (λ h. not_err _ made (c.make_room.ensures.synced h)) c.make_room.ensures.time c.publish.ensures.time c.make_room.ensures.moments honest safe there;
+      no_fewer = omega arith;
+      holds = same_holds refl;
+      held = held_pages _ _ c.args.self.now.sound (λ honest p behind within.
+          longer_pages _ (g.D.SectorDisk.disk c.make_room.new.disk) (g.D.SectorDisk.disk c.publish.new.disk) c.args.self.now.sound (c.make_room.ensures.longer honest)
+          (c.publish.ensures.pages (still_honest c.make_room.ensures.time honest)) p behind within);
+    }
+
+pub returns-clause-kept_pages : goal.returns-clause-kept_pages
+returns-clause-kept_pages g c = λ honest p behind within.
+    longer_pages _ (g.D.SectorDisk.disk c.make_room.new.disk) (g.D.SectorDisk.disk c.publish.new.disk) c.args.self.now.sound (c.make_room.ensures.longer honest) (c.publish.ensures.pages (still_honest c.make_room.ensures.time honest)) p behind within
+
+pub returns-clause-cause : goal.returns-clause-cause
+returns-clause-cause g c = (grew_since c.make_room.ensures.cause.later (published_grew _ _ _ c.in-Err-publish.ensures.fault), inr refl)

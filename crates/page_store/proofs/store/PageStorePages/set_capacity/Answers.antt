@@ -1,0 +1,16 @@
+use Rattle.std.proofs.Common.{refl, arith, sym, ◌∙◌}
+use Rattle.page_store.proofs.Growing.{are_cut, shortened, cut_sound}
+use Rattle.page_store.proofs.Caching.{empty_cache}
+use Rattle.page_store.proofs.store.PageStorePages.set_capacity.Goals as goal
+
+pub returns-clause-marks : goal.returns-clause-marks
+returns-clause-marks g c = are_cut _ _ _ c.requires.room c.truncate.ensures.items
+
+pub returns-clause-others : goal.returns-clause-others
+returns-clause-others g c = shortened _ _ _ refl refl refl refl refl c.truncate-2.ensures.items
+
+pub invariant_of-self : goal.invariant_of-self
+invariant_of-self g c = record {
+  sound = cut_sound _ _ _ (shortened _ _ _ refl refl refl refl refl c.truncate-2.ensures.items) c.truncate-2.ensures.items (are_cut _ _ _ c.requires.room c.truncate.ensures.items) c.requires.some c.requires.room c.args.self.now.sound;
+  cached = empty_cache _ _ c.clear.ensures;
+}

@@ -1,0 +1,8 @@
+use Rattle.sector_disk.specs.aid.Unknown.{unknown_extends}
+use Rattle.tree_bench.proofs.plain_disk.PlainDiskSectorDisk.extend.Goals as goal
+
+pub returns-clause-time : goal.returns-clause-time
+returns-clause-time c = unknown_extends _ _ _ c.add_zeros.ensures.no_shorter c.add_zeros.ensures.no_longer
+
+pub returns-then-is_err-clause-time : goal.returns-then-is_err-clause-time
+returns-then-is_err-clause-time c = unknown_extends _ _ _ c.add_zeros.ensures.no_shorter c.add_zeros.ensures.no_longer

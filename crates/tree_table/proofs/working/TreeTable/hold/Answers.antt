@@ -1,0 +1,12 @@
+use Rattle.tree_table.proofs.Versions.{taken_keeps}
+use Rattle.tree_table.proofs.working.TreeTable.hold.Goals as goal
+
+pub invariant_of-self : goal.invariant_of-self
+invariant_of-self g c =
+    let self = c.args.self.now in
+    record {
+      some = self.some;
+      short = self.short;
+      few = self.few;
+      holds = taken_keeps self.slot self.text.items self.torn (g.P.Pages.store self.store) (g.P.Pages.store c.hold.new.self) c.hold.result c.hold.ensures.some c.hold.ensures.none self.holds;
+    }

@@ -1,0 +1,25 @@
+use Rattle.tree_table.specs.Working.{work_of}
+use Rattle.tree_table.proofs.Faults.{passed_on}
+use Rattle.tree_table.proofs.Holding.{only_read, still_held}
+use Rattle.tree_table.proofs.Versions.{version_there}
+use Rattle.tree_table.proofs.working.TreeTable.kept_record.Goals as goal
+
+pub invariant_of-self : goal.invariant_of-self
+invariant_of-self g c =
+    let self = c.args.self.now in
+    let old = g.P.Pages.store self.store in
+    let new = g.P.Pages.store c.cell_at.new.store in
+    let stays = only_read self.slot self.text.items self.torn old new c.cell_at.ensures.works c.cell_at.ensures.unchanged in
+    record {
+      some = self.some;
+      short = self.short;
+      few = self.few;
+      holds = still_held (work_of self.slot self.text.items self.torn old) (work_of self.slot self.text.items self.torn new) stays self.holds;
+    }
+
+pub returns-in_err-cell-clause-cause : goal.returns-in_err-cell-clause-cause
+returns-in_err-cell-clause-cause g c = passed_on _ c.from_residual.result _ c.from_residual.ensures c.in_err-cell.ensures.cause
+
+pub returns-clause-record : goal.returns-clause-record
+returns-clause-record g c = λ honest place table it.
+    c.in_ok-cell.ensures.kept honest it.text table (version_there place c.args.slot.now table (g.P.Pages.store c.args.self.now.store) it)
