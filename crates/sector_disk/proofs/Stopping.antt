@@ -8,7 +8,7 @@ use Rattle.std.proofs.lemmas.Bool.{cases_lt, eq-eqb, le-ltb}
 use Rattle.std.proofs.lemmas.Nat.{pow-add, mul-pow}
 use Rattle.sector_disk.specs.declared.log.Event.{Event}
 use Rattle.sector_disk.specs.declared.log.Event.TheVariants.{Wrote, Synced, Extended}
-use Rattle.sector_disk.specs.Disk.{Picture, sector, MayLeave}
+use Rattle.sector_disk.specs.Disk.{Picture, sector, Disk, MayLeave, with_failed}
 use Rattle.sector_disk.specs.Past.{before, undone, synced_after, end_after, lasting_of, memory_disk}
 use Rattle.sector_disk.specs.aid.Log.{IsLastSyncOf, IsAsAtSync, last_by}
 use Rattle.sector_disk.specs.Stops.{IsEndOf, IsLastSync, IsPickedBy, unsynced_below, digit, torn, left_at, was_at}
@@ -179,20 +179,30 @@ picked_is pick events picture lasting synced before left is_lasting synced_is be
     count : (k : ℕ) → k ≤ length picture → unsynced_below (λ j. slice_index_or synced j true) k ≡ unsynced_below (synced_after (λ j. true) events) k
     count k le = unsynced_same _ _ k (λ j below. synced_is j (omega (arith, le, below)))
 
+-- how often its writes failed says nothing of the picture
+picked_failed : (pick failed : ℕ) (disk : Disk) (left : Picture) → IsPickedBy pick disk left → IsPickedBy pick (with_failed disk failed) left
+picked_failed pick failed disk left is = record {
+  sync = is.sync;
+  last_sync = record { past = is.last_sync.past; all = is.last_sync.all; later = is.last_sync.later };
+  ends = is.ends;
+  each = is.each;
+}
+
 -- and it is one that a stop may leave
-pub picked_left : (pick : ℕ) (events : List Event) (picture left : Picture) → IsPickedBy pick (memory_disk events picture) left
-    → MayLeave (memory_disk events picture).now left
-picked_left pick events picture left is = stop_leaves events picture left is.ends.no_shorter is.ends.no_longer
+pub picked_left : (pick failed : ℕ) (events : List Event) (picture left : Picture)
+    → IsPickedBy pick (with_failed (memory_disk events picture) failed) left → MayLeave (memory_disk events picture).now left
+picked_left pick failed events picture left is = stop_leaves events picture left is.ends.no_shorter is.ends.no_longer
     (λ k lt synced. is.each k lt ∙ ap (λ (b : Bool). if b then sector picture k else torn (digit pick (unsynced_below (synced_after (λ j. true) events) k)) ((k + pick / 4) % 256) (was_at (undone (drop is.sync events) picture) k) (sector picture k)) synced)
 
 -- the same from what the parts of `after_stop` were given
-pub picked_from : (pick : ℕ) (events events_1 events_2 events_3 : List Event) (picture picture_1 picture_2 : Picture) (lasting long : ℕ) (synced synced_1 : List Bool) (before before_1 left : Picture)
+pub picked_from : (pick failed : ℕ) (events events_1 events_2 events_3 : List Event) (picture picture_1 picture_2 : Picture) (lasting long : ℕ) (synced synced_1 : List Bool) (before before_1 left : Picture)
     → events_1 ≡ events → events_2 ≡ events → events_3 ≡ events → picture_1 ≡ picture → picture_2 ≡ picture → synced_1 ≡ synced → before_1 ≡ before → long ≡ length picture
     → ((p : Picture) → length p ≡ long → lasting ≡ lasting_of (end_after None events_3) p)
     → ((k : ℕ) → k < long → slice_index_or synced k true ≡ synced_after (λ j. true) events_1 k)
     → IsAsAtSync events_2 picture_1 before
     → IsEndOf pick (λ j. slice_index_or synced_1 j true) lasting (length picture_2) (length left)
     → ((k : ℕ) → k < length left → sector left k ≡ left_at pick (λ j. slice_index_or synced_1 j true) before_1 picture_2 k)
-    → IsPickedBy pick (memory_disk events picture) left
-picked_from pick events events_1 events_2 events_3 picture picture_1 picture_2 lasting long synced synced_1 before before_1 left e1 e2 e3 p1 p2 s1 b1 l lasts synced_is before_is ends each =
-    picked_is pick events picture lasting synced before left (rw e3 at (lasts picture (sym l))) (rw (e1, l) at synced_is) (rw (e2, p1) at before_is) (rw (p2, s1) at ends) (rw (p2, s1, b1) at each)
+    → IsPickedBy pick (with_failed (memory_disk events picture) failed) left
+picked_from pick failed events events_1 events_2 events_3 picture picture_1 picture_2 lasting long synced synced_1 before before_1 left e1 e2 e3 p1 p2 s1 b1 l lasts synced_is before_is ends each =
+    picked_failed pick failed (memory_disk events picture) left
+    (picked_is pick events picture lasting synced before left (rw e3 at (lasts picture (sym l))) (rw (e1, l) at synced_is) (rw (e2, p1) at before_is) (rw (p2, s1) at ends) (rw (p2, s1, b1) at each))

@@ -51,6 +51,7 @@ unknown_goes_on old new le = record {
   later = omega (arith, le, length-grown old, length-grown new);
   past = λ k low. same_past old new k (omega (arith, low, length-grown old)) le;
   honest = refl;
+  failed_writes = omega arith;
 }
 
 -- a call that makes it longer; at a disk that is not honest nothing is said of moments

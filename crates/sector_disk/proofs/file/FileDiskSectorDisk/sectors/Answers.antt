@@ -3,4 +3,4 @@ use Rattle.sector_disk.proofs.Unsealed.{sectors_are}
 use Rattle.sector_disk.proofs.file.FileDiskSectorDisk.sectors.Goals as goal
 
 pub returns : goal.returns
-returns c = sym (sectors_are _ _ c.self.view_is)
+returns c = sym (sectors_are _ _ _ c.self.view_is)

@@ -1,4 +1,5 @@
 use Rattle.std.proofs.Common.{rules, arith, ◌≡◌, length}
+use Rattle.sector_disk.specs.aid.Moments.{extends_failed}
 use Rattle.sector_disk.proofs.Kept.{kept_extend, longer}
 use Rattle.sector_disk.proofs.memory.MemDiskSectorDisk.extend.Goals as goal
 
@@ -8,4 +9,6 @@ returns-clause-kept c = λ honest. longer _ _ _ _ _ c.in_ok-lengthen.ensures.kep
 pub returns-clause-time : goal.returns-clause-time
 returns-clause-time c =
     let long : c.len.result ≡ length c.args.self.now.contents.items = search rules in
-    kept_extend _ _ _ _ c.args.sectors _ c.in_ok-lengthen.ensures.kept c.in_ok-lengthen.ensures.longer (omega (arith, long, c.requires))
+    extends_failed c.args.sectors _ _
+    (kept_extend _ _ _ _ c.args.sectors _ c.in_ok-lengthen.ensures.kept c.in_ok-lengthen.ensures.longer (omega (arith, long, c.requires)))
+    c.in_ok-lengthen.ensures.cause.later
