@@ -1,6 +1,6 @@
 //! The gate: the low bit of its first byte picks one of the two root slots.
 ghost use Rattle.std.specs.Prelude.{◌≡◌, ◌≢◌, ◌<◌, OnOk, IfOk, IfErr, IsTrue};
-ghost use Rattle.sector_disk.specs.Disk.{size, sector, GoesOn, LeavesOnly, MayLeave, AllSynced, HasCause};
+ghost use Rattle.sector_disk.specs.Disk.{size, sector, GoesOn, LeavesOnly, MayLeave, AllSynced, HasCause, IsCounted};
 ghost use Rattle.sector_disk.specs.aid.Disk.{KeepsThroughout};
 ghost use Rattle.root_pair.specs.Root.{slot_by, spare_by, turned};
 
@@ -36,6 +36,7 @@ pub fn fetch_picked<D: SectorDisk>(disk: &mut D, gate: &[u8; 512]) -> Result<[u8
         → LeavesOnly (D.disk disk.old) (D.disk disk.new) (MayLeave (D.disk disk.old).now) }
     ensures time { GoesOn (D.disk disk.old) (D.disk disk.new) }
     ensures same_size { size (D.disk disk.new) ≡ size (D.disk disk.old) }
+    ensures spared { (D.disk disk.new).failed_writes ≡ (D.disk disk.old).failed_writes }
     ensures cause { HasCause (D.failures disk.old) (D.failures disk.new) result }
 {
     fetch(disk, picked_slot(gate))
@@ -55,6 +56,7 @@ pub fn put_spare<D: SectorDisk>(
         → KeepsThroughout (λ k. k ≢ spare_by gate.now) (D.disk disk.old) (D.disk disk.new) }
     ensures time { GoesOn (D.disk disk.old) (D.disk disk.new) }
     ensures same_size { size (D.disk disk.new) ≡ size (D.disk disk.old) }
+    ensures counted { IsCounted (D.disk disk.old).failed_writes (D.disk disk.new).failed_writes result }
     ensures cause { HasCause (D.failures disk.old) (D.failures disk.new) result }
 {
     put(disk, spare_slot(gate), root)
@@ -70,6 +72,7 @@ pub fn turn_gate<D: SectorDisk>(disk: &mut D, gate: &[u8; 512]) -> Result<(), Di
     ensures kept { IsTrue (D.disk disk.old).honest → KeepsThroughout (λ k. k ≢ 1) (D.disk disk.old) (D.disk disk.new) }
     ensures time { GoesOn (D.disk disk.old) (D.disk disk.new) }
     ensures same_size { size (D.disk disk.new) ≡ size (D.disk disk.old) }
+    ensures counted { IsCounted (D.disk disk.old).failed_writes (D.disk disk.new).failed_writes result }
     ensures cause { HasCause (D.failures disk.old) (D.failures disk.new) result }
 {
     put(disk, GATE, &other_gate(gate))
