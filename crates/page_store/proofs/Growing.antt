@@ -1,10 +1,7 @@
 -- A store is cut to the pages that a root says, and grows.
 use Rattle.std.proofs.Common.{◌≡◌, ◌⊎◌, inl, inr, ℕ, ◌+◌, ◌-◌, ◌*◌, ◌<◌, ◌≤◌, Bool, false, true, List, [], ◌∷◌, ◌++◌, length, take, IsTrue, refl, sym, ◌∙◌, ap, subst, arith}
 use Rattle.std.proofs.Common.{Result, Ok, Err, OnOk}
-use Rattle.std.specs.Prelude.{IsErrOf}
 use Rattle.std.specs.Result.{is_err}
-use Rattle.root_pair.specs.declared.fault.RootFault.{RootFault}
-use Rattle.root_pair.specs.declared.fault.RootFault.TheVariants.{Read}
 use Rattle.std.proofs.lemmas.Bool.{cases_lt}
 use Rattle.std.proofs.lemmas.List.{get_or_append_left, get_or-append_right, get_or-take, get_or_past, length-take-le}
 use Rattle.sector_disk.specs.Disk.{Picture, sector, Shown, MayLeave, Disk, size, GoesOn, LeavesOnly, AllSynced, IsLonger, AgreesBelow, Grew}
@@ -151,7 +148,7 @@ module _ (old new : Store) (mid : Disk) (sound : IsSoundStore old) (root : new.r
     (holds : new.holds ≡ old.holds)
     (longer : IsTrue old.disk.honest → IsLonger old.disk.now mid.now) (shown : IsTrue mid.honest → new.disk.now ≡ mid.now) (goes_on : GoesOn old.disk mid)
     (later : GoesOn mid new.disk) (moments : IsTrue old.disk.honest → LeavesOnly old.disk mid (AgreesBelow old.disk.now))
-    (behind : IsTrue mid.honest → LeavesOnly mid new.disk (MayLeave mid.now)) where
+    (behind : IsTrue mid.honest → LeavesOnly mid new.disk (MayLeave mid.now)) (failed : new.disk.failed_writes ≡ old.disk.failed_writes) where
   now_longer : IsTrue old.disk.honest → IsLonger old.disk.now new.disk.now
   now_longer honest = subst (λ (s : Shown). IsLonger old.disk.now s) (sym (shown (still_honest goes_on honest))) (longer honest)
 
@@ -175,6 +172,7 @@ module _ (old new : Store) (mid : Disk) (sound : IsSoundStore old) (root : new.r
     closed = closed;
     holds = holds;
     longer = now_longer;
+    failed_writes = failed;
     safe = long_safe;
     leaves = λ honest safe. leaves_more (below_saves old safe sound)
         (leaves_then later (moments honest)
@@ -317,15 +315,6 @@ pub longer_pages : (old : Store) (mid new : Disk) → IsSoundStore old → IsLon
     → (p : ℕ) → 1 ≤ p → p < length old.marks → page new.now.contents p ≡ reads old p
 longer_pages old mid new sound longer same p behind within = page_same new.now.contents old.disk.now.contents p (λ k inside.
     same k (omega (arith, behind, inside.0)) ∙ longer.contents k (omega (arith, sound.fits, within, inside.1)))
-
--- what failed since then failed since before
-pub grew_since : {before mid now : ℕ} → before ≤ mid → Grew mid now → Grew before now
-grew_since later (inl grew) = inl (omega (arith, later, grew))
-grew_since later (inr full) = inr full
-
--- a read failed
-pub is_read : (r : Result (Unit {0}) RootFault) (fault : RootFault) → r ≡ Err fault → fault ≡ Read → IsErrOf r Read
-is_read r fault is same = subst (λ (x : Result (Unit {0}) RootFault). IsErrOf x Read) (sym (is ∙ ap (λ (e : RootFault). Err e) same)) refl
 
 -- a page that a hold needs was there
 pub held_pages : (old : Store) (new : ℕ → List ℕ) → IsSoundStore old

@@ -16,9 +16,9 @@ use Rattle.page_store.specs.Holds.{Holds, any, holders_at}
 use Rattle.page_store.specs.Marks.{mark, needs, is_past, stays, IsNeeded, turned, committed, let_go, AreDiscarded, AreCommitted, IsMarked}
 use Rattle.page_store.specs.Page.{page, IsWithin}
 use Rattle.page_store.specs.aid.Page.{IsOutside, page_same}
-use Rattle.page_store.specs.Store.{Store, Saved, SavedAs, IsHeldBy, IsSafe, AreSoundHolds, IsSoundStore, StoreWorks, IsUnchanged, IsRemarked}
+use Rattle.page_store.specs.Store.{Store, Saved, SavedAs, IsHeldBy, IsSafe, AreSoundHolds, IsSoundStore, StoreWorks, StoreCloses, IsUnchanged, IsRemarked}
 use Rattle.page_store.specs.aid.Holding.{need_any}
-use Rattle.page_store.specs.aid.Works.{safe_saves, safe_remarked}
+use Rattle.page_store.specs.aid.Works.{safe_saves, safe_remarked, closes_same}
 
 -- the disk as it reads is the same: safe as before
 safe_unchanged : (old new : Store) → IsUnchanged old new → old.disk.now ≡ new.disk.now → IsSafe old → IsSafe new
@@ -42,6 +42,7 @@ works_read old new goes_on size_ failures same = record {
   root = same.root;
   same_pages = ap (λ (ms : List Mark). length ms) same.marks;
   closed = λ open_. sym same.closed ∙ open_;
+  closes = closes_same same.closed same.failed_writes;
   waiting = λ p is. ap (λ (ms : List Mark). mark ms p) (sym same.marks) ∙ is;
   needed = λ p. ap (λ (ms : List Mark). needs (mark ms p)) same.marks;
   reads = λ honest p needed. ap (λ (s : Shown). page s.contents p) (same.shown honest);
@@ -165,14 +166,15 @@ module _ (old new : Store) (at : ℕ) (sound : IsSoundStore old) (fresh : mark o
       first : (k : ℕ) → k < 4 → sector picture k ≡ sector old.disk.now.contents k
       first k below = left.same k (low k below, safe.rest.synced k below)
 
-  pub works_write : GoesOn old.disk new.disk → size new.disk ≡ size old.disk → old.failures ≤ new.failures → (new.closed ≡ false → old.closed ≡ false) → StoreWorks old new
-  works_write goes_on size_ failures closed = record {
+  pub works_write : GoesOn old.disk new.disk → size new.disk ≡ size old.disk → old.failures ≤ new.failures → (new.closed ≡ false → old.closed ≡ false) → StoreCloses old new → StoreWorks old new
+  works_write goes_on size_ failures closed closes = record {
     goes_on = goes_on;
     same_size = size_;
     failures = failures;
     root = root;
     same_pages = ap (λ (ms : List Mark). length ms) marks;
     closed = closed;
+    closes = closes;
     waiting = λ p is. ap (λ (ms : List Mark). mark ms p) (sym marks) ∙ is;
     needed = λ p. ap (λ (ms : List Mark). needs (mark ms p)) marks;
     reads = λ honest p needed. reads_else at old.disk new.disk kept honest p (not_needed old.marks p at fresh needed);
@@ -197,6 +199,7 @@ works_remarked old new others long waiting same past = record {
   root = others.root;
   same_pages = long;
   closed = λ open_. sym others.closed ∙ open_;
+  closes = closes_same others.closed (ap (λ (d : Disk). d.failed_writes) others.disk);
   waiting = waiting;
   needed = same;
   reads = λ honest p needed. ap (λ (d : Disk). page d.now.contents p) others.disk;

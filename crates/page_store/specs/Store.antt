@@ -1,6 +1,6 @@
 -- What is stated of a store of pages, and what a stop within a call leaves.
 use Rattle.std.specs.Prelude.{◌≡◌, ◌⊎◌, ℕ, ◌*◌, ◌/◌, ◌<◌, ◌≤◌, min, Bool, true, false, List, length, IsTrue}
-use Rattle.sector_disk.specs.Disk.{Picture, Disk, size, GoesOn, IsLonger, LeavesOnly, MayLeave, SyncedMore}
+use Rattle.sector_disk.specs.Disk.{Picture, Disk, size, GoesOn, Grew, IsLonger, LeavesOnly, MayLeave, SyncedMore}
 use Rattle.root_pair.specs.Root.{HoldsRoot, root_of, IsAtRest}
 use Rattle.page_store.specs.declared.marks.Mark.{Mark}
 use Rattle.page_store.specs.declared.marks.Mark.TheVariants.{Committed, Waiting}
@@ -84,6 +84,17 @@ pub record IsSoundStore (store : Store) : Type 0 where
   pub safe : IsTrue store.disk.honest → store.closed ≡ false → IsSafe store
   pub holds : AreSoundHolds store.marks store.holds
 
+-- what closes a store, or a file of a table, over a call: it was open or closed, and is; so many writes, syncs and extensions of its disk
+-- had failed, and have. One that failed closes it, nothing else does, and it stays closed
+pub record ClosesByWrites (was : Bool) (before : ℕ) (is : Bool) (now : ℕ) : Type 0 where
+  pub stays : is ≡ false → was ≡ false
+  pub none : is ≡ false → now ≡ before
+  pub cause : was ≡ false → is ≡ true → Grew before now
+
+-- so over a call of a store
+abbrev pub StoreCloses : Store → Store → Type 0
+StoreCloses old new = ClosesByWrites old.closed old.disk.failed_writes new.closed new.disk.failed_writes
+
 -- a call that commits nothing: the committed root and the pages that it may need stay, for reads and for stops; so do the holds and
 -- their pages, for reads
 pub record StoreWorks (old new : Store) : Type 0 where
@@ -93,6 +104,7 @@ pub record StoreWorks (old new : Store) : Type 0 where
   pub root : new.root ≡ old.root
   pub same_pages : length new.marks ≡ length old.marks
   pub closed : new.closed ≡ false → old.closed ≡ false
+  pub closes : StoreCloses old new
   pub waiting : (p : ℕ) → mark new.marks p ≡ Waiting → mark old.marks p ≡ Waiting
   pub needed : (p : ℕ) → needs (mark new.marks p) ≡ needs (mark old.marks p)
   pub holds : new.holds ≡ old.holds
@@ -127,6 +139,7 @@ pub record IsUnchanged (old new : Store) : Type 0 where
   pub shown : IsTrue old.disk.honest → new.disk.now ≡ old.disk.now
   pub leaves : IsTrue old.disk.honest → LeavesOnly old.disk new.disk (MayLeave old.disk.now)
   pub holds : new.holds ≡ old.holds
+  pub failed_writes : new.disk.failed_writes ≡ old.disk.failed_writes
 
 -- a commit of this root, whatever it answers: a stop leaves what was saved before, or this root and all pages as they read; the holds
 -- stay, and their pages
@@ -135,6 +148,7 @@ pub record Commits (root : List ℕ) (old new : Store) : Type 0 where
   pub same_size : size new.disk ≡ size old.disk
   pub failures : old.failures ≤ new.failures
   pub leaves : IsTrue old.disk.honest → IsSafe old → LeavesOnly old.disk new.disk (λ picture. Saved old picture ⊎ SavedAs root old picture)
+  pub closes : StoreCloses old new
   pub holds : new.holds ≡ old.holds
   pub held : IsTrue old.disk.honest → (place : HoldPlace) (p : ℕ) → IsHeldBy place old p → reads new p ≡ reads old p
 
@@ -155,6 +169,7 @@ pub record IsLengthened (old new : Store) : Type 0 where
   pub longer : IsTrue old.disk.honest → IsLonger old.disk.now new.disk.now
   pub safe : IsTrue old.disk.honest → IsSafe old → IsSafe new
   pub leaves : IsTrue old.disk.honest → IsSafe old → LeavesOnly old.disk new.disk (Saved old)
+  pub failed_writes : new.disk.failed_writes ≡ old.disk.failed_writes
 
 -- the store grows to so many pages, by this root, whatever is answered: the disk may be longer afterwards; a stop leaves what was saved
 -- before, or this root, room for so many pages, and each page that was there as it reads; the holds stay, and their pages
@@ -163,6 +178,7 @@ pub record Grows (root : List ℕ) (pages : ℕ) (old new : Store) : Type 0 wher
   pub no_shorter : size old.disk ≤ size new.disk
   pub failures : old.failures ≤ new.failures
   pub leaves : IsTrue old.disk.honest → IsSafe old → LeavesOnly old.disk new.disk (λ picture. Saved old picture ⊎ SavedIn root pages old picture)
+  pub closes : StoreCloses old new
   pub no_fewer : length old.marks ≤ length new.marks
   pub holds : SameHolds old.holds new.holds
   pub held : IsTrue old.disk.honest → (place : HoldPlace) (p : ℕ) → IsHeldBy place old p → reads new p ≡ reads old p

@@ -1,6 +1,6 @@
 //! One page, sector by sector.
 ghost use Rattle.std.specs.Prelude.{◌≡◌, ◌+◌, ◌*◌, ◌<◌, ◌≤◌, take, drop, OnOk, IsTrue};
-ghost use Rattle.sector_disk.specs.Disk.{size, GoesOn, LeavesOnly, MayLeave, HasCause};
+ghost use Rattle.sector_disk.specs.Disk.{size, GoesOn, LeavesOnly, MayLeave, HasCause, IsCounted};
 ghost use Rattle.sector_disk.specs.aid.Disk.{KeepsThroughout};
 ghost use Rattle.page_store.specs.Page.{page};
 ghost use Rattle.page_store.specs.aid.Page.{IsOutside};
@@ -20,6 +20,7 @@ pub fn get_page<D: SectorDisk>(
         → LeavesOnly (D.disk disk.old) (D.disk disk.new) (MayLeave (D.disk disk.old).now) }
     ensures time { GoesOn (D.disk disk.old) (D.disk disk.new) }
     ensures same_size { size (D.disk disk.new) ≡ size (D.disk disk.old) }
+    ensures spared { (D.disk disk.new).failed_writes ≡ (D.disk disk.old).failed_writes }
     ensures cause { HasCause (D.failures disk.old) (D.failures disk.new) result }
 {
     for part in 0..8usize {
@@ -50,6 +51,7 @@ pub fn put_page<D: SectorDisk>(
     ensures kept { IsTrue (D.disk disk.old).honest → KeepsThroughout (IsOutside number) (D.disk disk.old) (D.disk disk.new) }
     ensures time { GoesOn (D.disk disk.old) (D.disk disk.new) }
     ensures same_size { size (D.disk disk.new) ≡ size (D.disk disk.old) }
+    ensures counted { IsCounted (D.disk disk.old).failed_writes (D.disk disk.new).failed_writes result }
     ensures cause { HasCause (D.failures disk.old) (D.failures disk.new) result }
 {
     for part in 0..8usize {

@@ -1,6 +1,6 @@
 //! A disk is made longer.
 ghost use Rattle.std.specs.Prelude.{◌≤◌, OnOk, IsTrue};
-ghost use Rattle.sector_disk.specs.Disk.{size, AgreesBelow, AllSynced, GoesOn, HasCause, IsLonger, LeavesOnly};
+ghost use Rattle.sector_disk.specs.Disk.{size, AgreesBelow, AllSynced, GoesOn, HasCause, IsCounted, IsLonger, LeavesOnly};
 
 use sector_disk::{DiskFault, SectorDisk};
 
@@ -13,6 +13,7 @@ pub fn make_room<D: SectorDisk>(disk: &mut D, sectors: u64) -> Result<(), DiskFa
         → LeavesOnly (D.disk disk.old) (D.disk disk.new) (AgreesBelow (D.disk disk.old).now) }
     ensures time { GoesOn (D.disk disk.old) (D.disk disk.new) }
     ensures no_shorter { size (D.disk disk.old) ≤ size (D.disk disk.new) }
+    ensures counted { IsCounted (D.disk disk.old).failed_writes (D.disk disk.new).failed_writes result }
     ensures cause { HasCause (D.failures disk.old) (D.failures disk.new) result }
 {
     if disk.sectors() < sectors {

@@ -251,8 +251,10 @@ impl<D: SectorDisk> Pages for PageStore<D> {
                 turn_committed(&mut self.marks, &self.holders);
                 Ok(())
             }
-            Err(RootFault::Read) => Err(PageFault::Disk),
-            Err(_) => {
+            Err(fault) => {
+                if fault.is_read() {
+                    return Err(PageFault::Disk);
+                }
                 self.closed = true;
                 Err(PageFault::Disk)
             }
@@ -282,8 +284,10 @@ impl<D: SectorDisk> Pages for PageStore<D> {
                 self.holders = holders;
                 Ok(())
             }
-            Err(RootFault::Read) => Err(PageFault::Disk),
-            Err(_) => {
+            Err(fault) => {
+                if fault.is_read() {
+                    return Err(PageFault::Disk);
+                }
                 self.closed = true;
                 Err(PageFault::Disk)
             }

@@ -1,9 +1,9 @@
 -- How the layers above tell a store from call to call.
-use Rattle.std.specs.Prelude.{◌≡◌, ◌⊎◌, ℕ, ◌<◌, Bool, List, length, IsTrue}
+use Rattle.std.specs.Prelude.{◌≡◌, ◌⊎◌, ℕ, ◌<◌, ◌≤◌, Bool, true, false, List, length, IsTrue}
 use Rattle.std.proofs.Common.{refl, sym, ◌∙◌, ap, subst, arith, inl, inr}
 use Rattle.std.proofs.lemmas.Bool.{cases_lt}
 use Rattle.std.proofs.lemmas.List.{get_or_past}
-use Rattle.sector_disk.specs.Disk.{Picture, Disk, GoesOn, LeavesOnly}
+use Rattle.sector_disk.specs.Disk.{Picture, Disk, GoesOn, Grew, LeavesOnly}
 use Rattle.sector_disk.specs.aid.Moments.{goes_on_refl, goes_on_trans, leaves_now, leaves_then, leaves_more, still_honest}
 use Rattle.root_pair.specs.Root.{HoldsRoot, root_of, IsAtRest}
 use Rattle.root_pair.specs.aid.Rest.{rest_leaves}
@@ -13,7 +13,46 @@ use Rattle.page_store.specs.Marks.{mark, IsNeeded}
 use Rattle.page_store.specs.aid.Page.{page_same}
 use Rattle.page_store.specs.declared.holds.HoldPlace.{HoldPlace}
 use Rattle.page_store.specs.Holds.{Holds, holders_at, needed_by}
-use Rattle.page_store.specs.Store.{Store, IsHeldBy, Saved, SavedAs, StopLeaves, IsSafe, StoreWorks, IsRemarked}
+use Rattle.page_store.specs.Store.{Store, ClosesByWrites, IsHeldBy, Saved, SavedAs, StopLeaves, IsSafe, StoreWorks, IsRemarked}
+
+-- nothing has failed
+pub closes_same : {was is : Bool} {before now : ℕ} → is ≡ was → now ≡ before → ClosesByWrites was before is now
+closes_same same count = record {
+  stays = λ is. sym same ∙ is;
+  none = λ is. count;
+  cause = λ was is. absurd (let no : false ≡ true = sym was ∙ sym same ∙ is in cc);
+}
+
+-- a write, a sync or an extension failed
+pub closes_failed : {was is : Bool} {before now : ℕ} → is ≡ true → Grew before now → ClosesByWrites was before is now
+closes_failed closed grew = record {
+  stays = λ is. absurd (let no : true ≡ false = sym closed ∙ is in cc);
+  none = λ is. absurd (let no : true ≡ false = sym closed ∙ is in cc);
+  cause = λ was is. grew;
+}
+
+-- what grew up to a moment grew up to a later one
+pub grew_until : {before mid now : ℕ} → mid ≤ now → Grew before mid → Grew before now
+grew_until later (inl grew) = inl (omega (arith, later, grew))
+grew_until later (inr full) = inr (omega (arith, later, full))
+
+-- what grew since a moment grew since an earlier one
+pub grew_since : {before mid now : ℕ} → before ≤ mid → Grew mid now → Grew before now
+grew_since later (inl grew) = inl (omega (arith, later, grew))
+grew_since later (inr full) = inr full
+
+-- one call after another
+pub closes_then : {was mid is : Bool} {before between now : ℕ} → before ≤ between → between ≤ now → ClosesByWrites was before mid between
+    → ClosesByWrites mid between is now → ClosesByWrites was before is now
+closes_then {was} {mid} {is} {before} {between} {now} early late first second = record {
+  stays = λ open_. first.stays (second.stays open_);
+  none = λ open_. second.none open_ ∙ first.none (second.stays open_);
+  cause = λ open_ shut. at mid refl open_ shut;
+}
+  where
+    at : (b : Bool) → mid ≡ b → was ≡ false → is ≡ true → Grew before now
+    at false same open_ shut = grew_since early (second.cause same shut)
+    at true same open_ shut = grew_until late (first.cause open_ same)
 
 -- a page that was handed out lies before the end
 pub fresh_within : (marks : List Mark) (p : ℕ) → mark marks p ≡ Fresh → p < length marks
@@ -39,6 +78,7 @@ works_refl store = record {
   root = refl;
   same_pages = refl;
   closed = λ open_. open_;
+  closes = closes_same refl refl;
   waiting = λ p is. is;
   needed = λ p. refl;
   reads = λ honest p needed. refl;
@@ -84,6 +124,7 @@ works_then {old} {mid} {new} first second = record {
   root = second.root ∙ first.root;
   same_pages = second.same_pages ∙ first.same_pages;
   closed = λ open_. first.closed (second.closed open_);
+  closes = closes_then first.goes_on.failed_writes second.goes_on.failed_writes first.closes second.closes;
   waiting = λ p is. first.waiting p (second.waiting p is);
   needed = λ p. second.needed p ∙ first.needed p;
   reads = λ honest p needed. second.reads (still_honest first.goes_on honest) p (still_needed first p needed) ∙ first.reads honest p needed;

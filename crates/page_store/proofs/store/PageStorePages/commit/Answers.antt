@@ -1,11 +1,12 @@
 use Rattle.std.proofs.Common.{rules, refl, inl, inr, arith}
 use Rattle.sector_disk.specs.aid.Moments.{goes_on_refl, leaves_now, leaves_more}
+use Rattle.root_pair.specs.aid.Rest.{pages_behind}
 use Rattle.page_store.specs.Holds.{holds_of}
 use Rattle.page_store.specs.Store.{store_of}
-use Rattle.page_store.specs.aid.Works.{safe_saves}
+use Rattle.page_store.specs.aid.Works.{safe_saves, closes_same, closes_failed}
 use Rattle.page_store.proofs.Keeping.{old_or_new, pages_kept, was_honest, published_reads, published_leaves, published_grew, published_held}
 use Rattle.page_store.proofs.Caching.{carried, committed_kept}
-use Rattle.page_store.proofs.Passing.{not_closed}
+use Rattle.page_store.proofs.Passing.{not_closed, is_read, no_read}
 use Rattle.page_store.proofs.store.PageStorePages.commit.Goals as goal
 
 pub returns-then-self-clause-commits : goal.returns-then-self-clause-commits
@@ -13,6 +14,7 @@ returns-then-self-clause-commits g c = record {
   goes_on = goes_on_refl _;
   same_size = refl;
   failures = omega arith;
+  closes = closes_same refl refl;
   leaves = λ honest safe. leaves_now _ (λ picture left. inl (safe_saves _ safe picture left));
   holds = refl;
   held = λ honest place p held. refl;
@@ -23,11 +25,12 @@ returns-in-Ok-clause-commits g c = record {
   goes_on = c.publish.ensures.time;
   same_size = c.publish.ensures.same_size;
   failures = c.publish.ensures.failures;
+  closes = closes_same refl (c.in-Ok.ensures.counted.answered refl);
   leaves = λ honest safe. leaves_more (old_or_new _ _ safe) (c.publish.ensures.moments honest safe.rest);
   holds = refl;
   held = λ honest. published_held
       (store_of (g.D.SectorDisk.disk c.args.self.now.disk) (g.D.SectorDisk.failures c.args.self.now.disk) c.args.self.now.root.bytes c.args.self.now.marks.items c.args.self.now.closed (holds_of c.args.self.now.taken c.args.self.now.holders.items))
-      (g.D.SectorDisk.disk c.publish.new.disk) honest c.publish.ensures.pages;
+      (g.D.SectorDisk.disk c.publish.new.disk) honest (pages_behind (g.D.SectorDisk.disk c.args.self.now.disk) (g.D.SectorDisk.disk c.publish.new.disk) c.publish.ensures.others);
 }
 
 pub returns-in-Ok-clause-after : goal.returns-in-Ok-clause-after
@@ -43,56 +46,58 @@ returns-in-Ok-clause-ok g c = record {
   reads = λ honest. published_reads _ _ _ (c.in-Ok.ensures.ok honest (c.args.self.now.sound.safe honest c.if-self.false).rest);
 }
 
-pub returns-in-Err-Read-clause-commits : goal.returns-in-Err-Read-clause-commits
-returns-in-Err-Read-clause-commits g c = record {
+pub returns-then-is_read-clause-commits : goal.returns-then-is_read-clause-commits
+returns-then-is_read-clause-commits g c = record {
   goes_on = c.publish.ensures.time;
   same_size = c.publish.ensures.same_size;
   failures = c.publish.ensures.failures;
+  closes = closes_same refl (c.publish.ensures.counted.read (is_read _ _ c.in-Err.is (c.is_read.ensures.0 c.if-is_read.true)));
   leaves = λ honest safe. leaves_more (old_or_new _ _ safe) (c.publish.ensures.moments honest safe.rest);
   holds = refl;
   held = λ honest. published_held
       (store_of (g.D.SectorDisk.disk c.args.self.now.disk) (g.D.SectorDisk.failures c.args.self.now.disk) c.args.self.now.root.bytes c.args.self.now.marks.items c.args.self.now.closed (holds_of c.args.self.now.taken c.args.self.now.holders.items))
-      (g.D.SectorDisk.disk c.publish.new.disk) honest c.publish.ensures.pages;
+      (g.D.SectorDisk.disk c.publish.new.disk) honest (pages_behind (g.D.SectorDisk.disk c.args.self.now.disk) (g.D.SectorDisk.disk c.publish.new.disk) c.publish.ensures.others);
 }
 
-pub returns-in-Err-clause-commits : goal.returns-in-Err-clause-commits
-returns-in-Err-clause-commits g c = record {
+pub returns-else-is_read-clause-commits : goal.returns-else-is_read-clause-commits
+returns-else-is_read-clause-commits g c = record {
   goes_on = c.publish.ensures.time;
   same_size = c.publish.ensures.same_size;
   failures = c.publish.ensures.failures;
+  closes = closes_failed refl (c.in-Err.ensures.counted.write (no_read c.is_read.ensures c.if-is_read.false));
   leaves = λ honest safe. leaves_more (old_or_new _ _ safe) (c.publish.ensures.moments honest safe.rest);
   holds = refl;
   held = λ honest. published_held
       (store_of (g.D.SectorDisk.disk c.args.self.now.disk) (g.D.SectorDisk.failures c.args.self.now.disk) c.args.self.now.root.bytes c.args.self.now.marks.items c.args.self.now.closed (holds_of c.args.self.now.taken c.args.self.now.holders.items))
-      (g.D.SectorDisk.disk c.publish.new.disk) honest c.publish.ensures.pages;
+      (g.D.SectorDisk.disk c.publish.new.disk) honest (pages_behind (g.D.SectorDisk.disk c.args.self.now.disk) (g.D.SectorDisk.disk c.publish.new.disk) c.publish.ensures.others);
 }
 
-pub returns-in-Err-clause-cause : goal.returns-in-Err-clause-cause
-returns-in-Err-clause-cause g c = (published_grew _ _ _ c.in-Err.ensures.fault, inr refl)
+pub returns-else-is_read-clause-cause : goal.returns-else-is_read-clause-cause
+returns-else-is_read-clause-cause g c = (published_grew _ _ _ c.in-Err.ensures.fault, inr refl)
 
 pub returns-in-Ok-clause-kept_pages : goal.returns-in-Ok-clause-kept_pages
-returns-in-Ok-clause-kept_pages g c = λ honest. pages_kept _ _ (c.publish.ensures.pages honest)
+returns-in-Ok-clause-kept_pages g c = λ honest. pages_kept _ _ (pages_behind (g.D.SectorDisk.disk c.args.self.now.disk) (g.D.SectorDisk.disk c.publish.new.disk) c.publish.ensures.others honest)
 
-pub returns-in-Err-Read-clause-kept_pages : goal.returns-in-Err-Read-clause-kept_pages
-returns-in-Err-Read-clause-kept_pages g c = λ honest. pages_kept _ _ (c.publish.ensures.pages honest)
+pub returns-then-is_read-clause-kept_pages : goal.returns-then-is_read-clause-kept_pages
+returns-then-is_read-clause-kept_pages g c = λ honest. pages_kept _ _ (pages_behind (g.D.SectorDisk.disk c.args.self.now.disk) (g.D.SectorDisk.disk c.publish.new.disk) c.publish.ensures.others honest)
 
-pub returns-in-Err-clause-kept_pages : goal.returns-in-Err-clause-kept_pages
-returns-in-Err-clause-kept_pages g c = λ honest. pages_kept _ _ (c.publish.ensures.pages honest)
+pub returns-else-is_read-clause-kept_pages : goal.returns-else-is_read-clause-kept_pages
+returns-else-is_read-clause-kept_pages g c = λ honest. pages_kept _ _ (pages_behind (g.D.SectorDisk.disk c.args.self.now.disk) (g.D.SectorDisk.disk c.publish.new.disk) c.publish.ensures.others honest)
 
 pub invariant_of-self-clause-cached : goal.invariant_of-self-clause-cached
 invariant_of-self-clause-cached g c =
     carried _ _ _ _ c.args.self.now.cached (λ p held there. there) (was_honest c.publish.ensures.time) (λ p held there. committed_kept _ _ _ c.turn_committed.ensures p)
-    (λ h p held there behind. pages_kept _ _ (c.publish.ensures.pages h) p behind)
+    (λ h p held there behind. pages_kept _ _ ((pages_behind (g.D.SectorDisk.disk c.args.self.now.disk) (g.D.SectorDisk.disk c.publish.new.disk) c.publish.ensures.others) h) p behind)
 
-pub invariant_of-self-in-Err-Read-clause-cached : goal.invariant_of-self-in-Err-Read-clause-cached
-invariant_of-self-in-Err-Read-clause-cached g c =
+pub invariant_of-self-then-is_read-clause-cached : goal.invariant_of-self-then-is_read-clause-cached
+invariant_of-self-then-is_read-clause-cached g c =
     carried _ _ _ _ c.args.self.now.cached (λ p held there. there) (was_honest c.publish.ensures.time) (λ p held there kept. kept)
-    (λ h p held there behind. pages_kept _ _ (c.publish.ensures.pages h) p behind)
+    (λ h p held there behind. pages_kept _ _ ((pages_behind (g.D.SectorDisk.disk c.args.self.now.disk) (g.D.SectorDisk.disk c.publish.new.disk) c.publish.ensures.others) h) p behind)
 
 pub invariant_of-self-in-Err-clause-cached : goal.invariant_of-self-in-Err-clause-cached
 invariant_of-self-in-Err-clause-cached g c =
     carried _ _ _ _ c.args.self.now.cached (λ p held there. there) (was_honest c.publish.ensures.time) (λ p held there kept. kept)
-    (λ h p held there behind. pages_kept _ _ (c.publish.ensures.pages h) p behind)
+    (λ h p held there behind. pages_kept _ _ ((pages_behind (g.D.SectorDisk.disk c.args.self.now.disk) (g.D.SectorDisk.disk c.publish.new.disk) c.publish.ensures.others) h) p behind)
 
 pub returns-then-self-clause-after : goal.returns-then-self-clause-after
 returns-then-self-clause-after g c = λ honest. tt
@@ -118,41 +123,41 @@ returns-then-self-clause-cause g c = c.if-self.true
 pub returns-then-self-clause-closed : goal.returns-then-self-clause-closed
 returns-then-self-clause-closed g c = λ is. refl
 
-pub returns-in-Err-Read-clause-after : goal.returns-in-Err-Read-clause-after
-returns-in-Err-Read-clause-after g c = λ honest. tt
+pub returns-then-is_read-clause-after : goal.returns-then-is_read-clause-after
+returns-then-is_read-clause-after g c = λ honest. tt
 
-pub returns-in-Err-Read-clause-ok : goal.returns-in-Err-Read-clause-ok
-returns-in-Err-Read-clause-ok g c = tt
+pub returns-then-is_read-clause-ok : goal.returns-then-is_read-clause-ok
+returns-then-is_read-clause-ok g c = tt
 
-pub returns-in-Err-Read-clause-kept_root : goal.returns-in-Err-Read-clause-kept_root
-returns-in-Err-Read-clause-kept_root g c = refl
+pub returns-then-is_read-clause-kept_root : goal.returns-then-is_read-clause-kept_root
+returns-then-is_read-clause-kept_root g c = refl
 
-pub returns-in-Err-Read-clause-kept_marks : goal.returns-in-Err-Read-clause-kept_marks
-returns-in-Err-Read-clause-kept_marks g c = refl
+pub returns-then-is_read-clause-kept_marks : goal.returns-then-is_read-clause-kept_marks
+returns-then-is_read-clause-kept_marks g c = refl
 
-pub returns-in-Err-Read-clause-untouched : goal.returns-in-Err-Read-clause-untouched
-returns-in-Err-Read-clause-untouched g c = λ other. absurd (other refl)
+pub returns-then-is_read-clause-untouched : goal.returns-then-is_read-clause-untouched
+returns-then-is_read-clause-untouched g c = λ other. absurd (other refl)
 
-pub returns-in-Err-Read-clause-closed : goal.returns-in-Err-Read-clause-closed
-returns-in-Err-Read-clause-closed g c = λ is. absurd (not_closed _ c.if-self.false is)
+pub returns-then-is_read-clause-closed : goal.returns-then-is_read-clause-closed
+returns-then-is_read-clause-closed g c = λ is. absurd (not_closed _ c.if-self.false is)
 
-pub returns-in-Err-clause-after : goal.returns-in-Err-clause-after
-returns-in-Err-clause-after g c = λ honest. tt
+pub returns-else-is_read-clause-after : goal.returns-else-is_read-clause-after
+returns-else-is_read-clause-after g c = λ honest. tt
 
-pub returns-in-Err-clause-ok : goal.returns-in-Err-clause-ok
-returns-in-Err-clause-ok g c = tt
+pub returns-else-is_read-clause-ok : goal.returns-else-is_read-clause-ok
+returns-else-is_read-clause-ok g c = tt
 
-pub returns-in-Err-clause-kept_root : goal.returns-in-Err-clause-kept_root
-returns-in-Err-clause-kept_root g c = refl
+pub returns-else-is_read-clause-kept_root : goal.returns-else-is_read-clause-kept_root
+returns-else-is_read-clause-kept_root g c = refl
 
-pub returns-in-Err-clause-kept_marks : goal.returns-in-Err-clause-kept_marks
-returns-in-Err-clause-kept_marks g c = refl
+pub returns-else-is_read-clause-kept_marks : goal.returns-else-is_read-clause-kept_marks
+returns-else-is_read-clause-kept_marks g c = refl
 
-pub returns-in-Err-clause-untouched : goal.returns-in-Err-clause-untouched
-returns-in-Err-clause-untouched g c = λ other. absurd (other refl)
+pub returns-else-is_read-clause-untouched : goal.returns-else-is_read-clause-untouched
+returns-else-is_read-clause-untouched g c = λ other. absurd (other refl)
 
-pub returns-in-Err-clause-closed : goal.returns-in-Err-clause-closed
-returns-in-Err-clause-closed g c = λ is. absurd (not_closed _ c.if-self.false is)
+pub returns-else-is_read-clause-closed : goal.returns-else-is_read-clause-closed
+returns-else-is_read-clause-closed g c = λ is. absurd (not_closed _ c.if-self.false is)
 
 pub returns-in-Ok-clause-kept_root : goal.returns-in-Ok-clause-kept_root
 returns-in-Ok-clause-kept_root g c = tt

@@ -1,13 +1,14 @@
 use Rattle.std.proofs.Common.{rules, refl, sym, ◌∙◌, ap, inl, inr, arith, List}
 use Rattle.sector_disk.specs.aid.Moments.{goes_on_refl, goes_on_trans, leaves_now, leaves_more, still_honest}
-use Rattle.root_pair.specs.aid.Rest.{rest_longer}
+use Rattle.root_pair.specs.aid.Rest.{rest_longer, pages_behind}
 use Rattle.page_store.specs.declared.holds.Holders.{Holders}
 use Rattle.page_store.specs.Holds.{holders_at}
 use Rattle.page_store.specs.aid.Holding.{same_holds}
-use Rattle.page_store.specs.aid.Works.{safe_saves}
-use Rattle.page_store.proofs.Growing.{not_err, below_saves, longer_reads, lengthened, lengthened_sound, grown_leaves, mid_rests, grown_after, grown_sound, grown_kept, closed_sound, longer_pages, grew_since, is_read, held_pages}
+use Rattle.page_store.specs.aid.Works.{safe_saves, closes_same, closes_failed, grew_since}
+use Rattle.page_store.proofs.Growing.{not_err, below_saves, longer_reads, lengthened, lengthened_sound, grown_leaves, mid_rests, grown_after, grown_sound, grown_kept, closed_sound, longer_pages, held_pages}
 use Rattle.page_store.proofs.Keeping.{published_grew, was_honest}
 use Rattle.page_store.proofs.Caching.{carried}
+use Rattle.page_store.proofs.Passing.{is_read, no_read, counted_ok, counted_err}
 use Rattle.page_store.proofs.store.PageStorePages.grow.Goals as goal
 
 pub returns-then-self-clause-grows : goal.returns-then-self-clause-grows
@@ -15,6 +16,7 @@ returns-then-self-clause-grows g c = record {
   goes_on = goes_on_refl _;
   no_shorter = omega arith;
   failures = omega arith;
+  closes = closes_same refl refl;
   leaves = λ honest safe. leaves_now _ (λ picture left. inl (safe_saves _ safe picture left));
   no_fewer = omega arith;
   holds = same_holds refl;
@@ -26,6 +28,7 @@ returns-in-Err-grown_holders-clause-grows g c = record {
   goes_on = goes_on_refl _;
   no_shorter = omega arith;
   failures = omega arith;
+  closes = closes_same refl refl;
   leaves = λ honest safe. leaves_now _ (λ picture left. inl (safe_saves _ safe picture left));
   no_fewer = omega arith;
   holds = same_holds refl;
@@ -37,6 +40,7 @@ returns-in-Err-clause-grows g c = record {
   goes_on = goes_on_refl _;
   no_shorter = omega arith;
   failures = omega arith;
+  closes = closes_same refl refl;
   leaves = λ honest safe. leaves_now _ (λ picture left. inl (safe_saves _ safe picture left));
   no_fewer = omega arith;
   holds = same_holds refl;
@@ -55,6 +59,7 @@ returns-then-is_err-clause-grows g c = record {
   goes_on = c.make_room.ensures.time;
   no_shorter = c.make_room.ensures.no_shorter;
   failures = c.make_room.ensures.cause.later;
+  closes = closes_failed refl (counted_err _ (sym c.is_err.ensures.value ∙ c.if-is_err.true) c.make_room.ensures.counted);
   leaves = λ honest safe. leaves_more (λ picture left. inl (below_saves _ safe c.args.self.now.sound picture left)) (c.make_room.ensures.moments honest);
   no_fewer = omega arith;
   holds = same_holds refl;
@@ -72,6 +77,7 @@ returns-in-Ok-publish-clause-grows g c =
       goes_on = goes_on_trans c.make_room.ensures.time c.publish.ensures.time;
       no_shorter = omega (arith, c.make_room.ensures.no_shorter, c.publish.ensures.same_size);
       failures = omega (arith, c.make_room.ensures.cause.later, c.publish.ensures.failures);
+      closes = closes_same refl (c.in-Ok-publish.ensures.counted.answered refl ∙ counted_ok _ made c.make_room.ensures.counted);
       leaves = λ honest safe.
           let there = c.publish.ensures.moments (still_honest c.make_room.ensures.time honest) (rest_longer (c.make_room.ensures.longer honest) safe.rest) in
           grown_leaves _ _ _ _ c.args.pages c.args.self.now.sound (omega (arith, room, c.from.ensures)) c.make_room.ensures.longer
@@ -80,7 +86,7 @@ returns-in-Ok-publish-clause-grows g c =
       holds = record { taken = refl; each = λ p. c.in-Ok-grown_holders.ensures.each p ∙ ap (λ (hs : List Holders). holders_at hs p) c.deref-3.ensures.value };
       held = held_pages _ _ c.args.self.now.sound (λ honest p behind within.
           longer_pages _ (g.D.SectorDisk.disk c.make_room.new.disk) (g.D.SectorDisk.disk c.publish.new.disk) c.args.self.now.sound (c.make_room.ensures.longer honest)
-          (c.publish.ensures.pages (still_honest c.make_room.ensures.time honest)) p behind within);
+          (pages_behind (g.D.SectorDisk.disk c.make_room.new.disk) (g.D.SectorDisk.disk c.publish.new.disk) c.publish.ensures.others (still_honest c.make_room.ensures.time honest)) p behind within);
     }
 
 pub returns-in-Ok-publish-clause-after : goal.returns-in-Ok-publish-clause-after
@@ -99,12 +105,12 @@ returns-in-Ok-publish-clause-ok g c = record {
   marks = search rules;
   closed = c.if-self.false;
   reads = λ honest p behind within. longer_pages _ (g.D.SectorDisk.disk c.make_room.new.disk) (g.D.SectorDisk.disk c.publish.new.disk) c.args.self.now.sound (c.make_room.ensures.longer honest)
-      (c.publish.ensures.pages (still_honest c.make_room.ensures.time honest)) p behind within;
+      (pages_behind (g.D.SectorDisk.disk c.make_room.new.disk) (g.D.SectorDisk.disk c.publish.new.disk) c.publish.ensures.others (still_honest c.make_room.ensures.time honest)) p behind within;
 }
 
 pub returns-in-Ok-publish-clause-kept_pages : goal.returns-in-Ok-publish-clause-kept_pages
 returns-in-Ok-publish-clause-kept_pages g c = λ honest p behind within.
-    longer_pages _ (g.D.SectorDisk.disk c.make_room.new.disk) (g.D.SectorDisk.disk c.publish.new.disk) c.args.self.now.sound (c.make_room.ensures.longer honest) (c.publish.ensures.pages (still_honest c.make_room.ensures.time honest)) p behind within
+    longer_pages _ (g.D.SectorDisk.disk c.make_room.new.disk) (g.D.SectorDisk.disk c.publish.new.disk) c.args.self.now.sound (c.make_room.ensures.longer honest) (pages_behind (g.D.SectorDisk.disk c.make_room.new.disk) (g.D.SectorDisk.disk c.publish.new.disk) c.publish.ensures.others (still_honest c.make_room.ensures.time honest)) p behind within
 
 pub invariant_of-self-in-Ok-publish : goal.invariant_of-self-in-Ok-publish
 invariant_of-self-in-Ok-publish g c =
@@ -119,28 +125,30 @@ invariant_of-self-in-Ok-publish g c =
           (λ h. not_err _ made (c.make_room.ensures.synced h)) c.make_room.ensures.time c.publish.ensures.time c.make_room.ensures.moments honest (c.args.self.now.sound.safe honest c.if-self.false)));
       cached = carried _ _ _ _ c.args.self.now.cached (λ p held there. there) (was_honest (goes_on_trans c.make_room.ensures.time c.publish.ensures.time))
           (λ p held there kept. grown_kept c.args.self.now.holders.items c.args.pages _ _ c.requires.more (search rules) p kept)
-          (λ h p held there behind. longer_pages _ (g.D.SectorDisk.disk c.make_room.new.disk) (g.D.SectorDisk.disk c.publish.new.disk) c.args.self.now.sound (c.make_room.ensures.longer h) (c.publish.ensures.pages (still_honest c.make_room.ensures.time h)) p behind
+          (λ h p held there behind. longer_pages _ (g.D.SectorDisk.disk c.make_room.new.disk) (g.D.SectorDisk.disk c.publish.new.disk) c.args.self.now.sound (c.make_room.ensures.longer h) (pages_behind (g.D.SectorDisk.disk c.make_room.new.disk) (g.D.SectorDisk.disk c.publish.new.disk) c.publish.ensures.others (still_honest c.make_room.ensures.time h)) p behind
           (c.args.self.now.cached.kept p held there).1);
     }
 
-pub invariant_of-self-in-Err-Read : goal.invariant_of-self-in-Err-Read
-invariant_of-self-in-Err-Read g c = record {
-  sound = lengthened_sound _ _ _ c.args.self.now.sound refl refl refl refl c.make_room.ensures.longer (λ honest. c.publish.ensures.read honest (is_read _ _ c.in-Err-Read.is c.in-Err-Read.field-0-is))
-      c.make_room.ensures.time c.publish.ensures.time c.make_room.ensures.moments (λ honest. c.publish.ensures.unwritten honest (is_read _ _ c.in-Err-Read.is c.in-Err-Read.field-0-is))
+pub invariant_of-self-then-is_read : goal.invariant_of-self-then-is_read
+invariant_of-self-then-is_read g c = record {
+  sound = lengthened_sound _ _ _ c.args.self.now.sound refl refl refl refl c.make_room.ensures.longer (λ honest. c.publish.ensures.read honest (is_read _ _ c.in-Err-publish.is (c.is_read.ensures.0 c.if-is_read.true)))
+      c.make_room.ensures.time c.publish.ensures.time c.make_room.ensures.moments (λ honest. c.publish.ensures.unwritten honest (is_read _ _ c.in-Err-publish.is (c.is_read.ensures.0 c.if-is_read.true)))
+      (c.publish.ensures.counted.read (is_read _ _ c.in-Err-publish.is (c.is_read.ensures.0 c.if-is_read.true)) ∙ counted_ok _ (sym c.is_err.ensures.value ∙ c.if-is_err.false) c.make_room.ensures.counted)
       (omega (arith, c.make_room.ensures.no_shorter, c.publish.ensures.same_size));
   cached = carried _ _ _ _ c.args.self.now.cached (λ p held there. there) (was_honest (goes_on_trans c.make_room.ensures.time c.publish.ensures.time)) (λ p held there kept. kept)
-      (λ h p held there behind. longer_pages _ (g.D.SectorDisk.disk c.make_room.new.disk) (g.D.SectorDisk.disk c.publish.new.disk) c.args.self.now.sound (c.make_room.ensures.longer h) (c.publish.ensures.pages (still_honest c.make_room.ensures.time h)) p behind
+      (λ h p held there behind. longer_pages _ (g.D.SectorDisk.disk c.make_room.new.disk) (g.D.SectorDisk.disk c.publish.new.disk) c.args.self.now.sound (c.make_room.ensures.longer h) (pages_behind (g.D.SectorDisk.disk c.make_room.new.disk) (g.D.SectorDisk.disk c.publish.new.disk) c.publish.ensures.others (still_honest c.make_room.ensures.time h)) p behind
       (c.args.self.now.cached.kept p held there).1);
 }
 
-pub returns-in-Err-Read-clause-grows : goal.returns-in-Err-Read-clause-grows
-returns-in-Err-Read-clause-grows g c =
+pub returns-then-is_read-clause-grows : goal.returns-then-is_read-clause-grows
+returns-then-is_read-clause-grows g c =
     let made = sym c.is_err.ensures.value ∙ c.if-is_err.false in
     let room = not_err _ made c.make_room.ensures.room in
     record {
       goes_on = goes_on_trans c.make_room.ensures.time c.publish.ensures.time;
       no_shorter = omega (arith, c.make_room.ensures.no_shorter, c.publish.ensures.same_size);
       failures = omega (arith, c.make_room.ensures.cause.later, c.publish.ensures.failures);
+      closes = closes_same refl (c.publish.ensures.counted.read (is_read _ _ c.in-Err-publish.is (c.is_read.ensures.0 c.if-is_read.true)) ∙ counted_ok _ made c.make_room.ensures.counted);
       leaves = λ honest safe.
           let there = c.publish.ensures.moments (still_honest c.make_room.ensures.time honest) (rest_longer (c.make_room.ensures.longer honest) safe.rest) in
           grown_leaves _ _ _ _ c.args.pages c.args.self.now.sound (omega (arith, room, c.from.ensures)) c.make_room.ensures.longer
@@ -149,36 +157,38 @@ returns-in-Err-Read-clause-grows g c =
       holds = same_holds refl;
       held = held_pages _ _ c.args.self.now.sound (λ honest p behind within.
           longer_pages _ (g.D.SectorDisk.disk c.make_room.new.disk) (g.D.SectorDisk.disk c.publish.new.disk) c.args.self.now.sound (c.make_room.ensures.longer honest)
-          (c.publish.ensures.pages (still_honest c.make_room.ensures.time honest)) p behind within);
+          (pages_behind (g.D.SectorDisk.disk c.make_room.new.disk) (g.D.SectorDisk.disk c.publish.new.disk) c.publish.ensures.others (still_honest c.make_room.ensures.time honest)) p behind within);
     }
 
-pub returns-in-Err-Read-clause-kept_pages : goal.returns-in-Err-Read-clause-kept_pages
-returns-in-Err-Read-clause-kept_pages g c = λ honest p behind within.
-    longer_pages _ (g.D.SectorDisk.disk c.make_room.new.disk) (g.D.SectorDisk.disk c.publish.new.disk) c.args.self.now.sound (c.make_room.ensures.longer honest) (c.publish.ensures.pages (still_honest c.make_room.ensures.time honest)) p behind within
+pub returns-then-is_read-clause-kept_pages : goal.returns-then-is_read-clause-kept_pages
+returns-then-is_read-clause-kept_pages g c = λ honest p behind within.
+    longer_pages _ (g.D.SectorDisk.disk c.make_room.new.disk) (g.D.SectorDisk.disk c.publish.new.disk) c.args.self.now.sound (c.make_room.ensures.longer honest) (pages_behind (g.D.SectorDisk.disk c.make_room.new.disk) (g.D.SectorDisk.disk c.publish.new.disk) c.publish.ensures.others (still_honest c.make_room.ensures.time honest)) p behind within
 
-pub returns-in-Err-Read-clause-cause : goal.returns-in-Err-Read-clause-cause
-returns-in-Err-Read-clause-cause g c = (
-  grew_since c.make_room.ensures.cause.later (published_grew _ _ _ c.in-Err-Read.ensures.fault),
-  inl (lengthened _ _ _ c.args.self.now.sound refl refl refl refl c.make_room.ensures.longer (λ honest. c.publish.ensures.read honest (is_read _ _ c.in-Err-Read.is c.in-Err-Read.field-0-is))
-      c.make_room.ensures.time c.publish.ensures.time c.make_room.ensures.moments (λ honest. c.publish.ensures.unwritten honest (is_read _ _ c.in-Err-Read.is c.in-Err-Read.field-0-is))),
+pub returns-then-is_read-clause-cause : goal.returns-then-is_read-clause-cause
+returns-then-is_read-clause-cause g c = (
+  grew_since c.make_room.ensures.cause.later (published_grew _ _ _ c.in-Err-publish.ensures.fault),
+  inl (lengthened _ _ _ c.args.self.now.sound refl refl refl refl c.make_room.ensures.longer (λ honest. c.publish.ensures.read honest (is_read _ _ c.in-Err-publish.is (c.is_read.ensures.0 c.if-is_read.true)))
+      c.make_room.ensures.time c.publish.ensures.time c.make_room.ensures.moments (λ honest. c.publish.ensures.unwritten honest (is_read _ _ c.in-Err-publish.is (c.is_read.ensures.0 c.if-is_read.true)))
+      (c.publish.ensures.counted.read (is_read _ _ c.in-Err-publish.is (c.is_read.ensures.0 c.if-is_read.true)) ∙ counted_ok _ (sym c.is_err.ensures.value ∙ c.if-is_err.false) c.make_room.ensures.counted)),
 )
 
 pub invariant_of-self-in-Err-publish : goal.invariant_of-self-in-Err-publish
 invariant_of-self-in-Err-publish g c = record {
   sound = closed_sound _ _ c.args.self.now.sound (omega (arith, c.make_room.ensures.no_shorter, c.publish.ensures.same_size)) refl refl refl;
   cached = carried _ _ _ _ c.args.self.now.cached (λ p held there. there) (was_honest (goes_on_trans c.make_room.ensures.time c.publish.ensures.time)) (λ p held there kept. kept)
-      (λ h p held there behind. longer_pages _ (g.D.SectorDisk.disk c.make_room.new.disk) (g.D.SectorDisk.disk c.publish.new.disk) c.args.self.now.sound (c.make_room.ensures.longer h) (c.publish.ensures.pages (still_honest c.make_room.ensures.time h)) p behind
+      (λ h p held there behind. longer_pages _ (g.D.SectorDisk.disk c.make_room.new.disk) (g.D.SectorDisk.disk c.publish.new.disk) c.args.self.now.sound (c.make_room.ensures.longer h) (pages_behind (g.D.SectorDisk.disk c.make_room.new.disk) (g.D.SectorDisk.disk c.publish.new.disk) c.publish.ensures.others (still_honest c.make_room.ensures.time h)) p behind
       (c.args.self.now.cached.kept p held there).1);
 }
 
-pub returns-clause-grows : goal.returns-clause-grows
-returns-clause-grows g c =
+pub returns-else-is_read-clause-grows : goal.returns-else-is_read-clause-grows
+returns-else-is_read-clause-grows g c =
     let made = sym c.is_err.ensures.value ∙ c.if-is_err.false in
     let room = not_err _ made c.make_room.ensures.room in
     record {
       goes_on = goes_on_trans c.make_room.ensures.time c.publish.ensures.time;
       no_shorter = omega (arith, c.make_room.ensures.no_shorter, c.publish.ensures.same_size);
       failures = omega (arith, c.make_room.ensures.cause.later, c.publish.ensures.failures);
+      closes = closes_failed refl (grew_since c.make_room.ensures.time.failed_writes (c.in-Err-publish.ensures.counted.write (no_read c.is_read.ensures c.if-is_read.false)));
       leaves = λ honest safe.
           let there = c.publish.ensures.moments (still_honest c.make_room.ensures.time honest) (rest_longer (c.make_room.ensures.longer honest) safe.rest) in
           grown_leaves _ _ _ _ c.args.pages c.args.self.now.sound (omega (arith, room, c.from.ensures)) c.make_room.ensures.longer
@@ -187,12 +197,12 @@ returns-clause-grows g c =
       holds = same_holds refl;
       held = held_pages _ _ c.args.self.now.sound (λ honest p behind within.
           longer_pages _ (g.D.SectorDisk.disk c.make_room.new.disk) (g.D.SectorDisk.disk c.publish.new.disk) c.args.self.now.sound (c.make_room.ensures.longer honest)
-          (c.publish.ensures.pages (still_honest c.make_room.ensures.time honest)) p behind within);
+          (pages_behind (g.D.SectorDisk.disk c.make_room.new.disk) (g.D.SectorDisk.disk c.publish.new.disk) c.publish.ensures.others (still_honest c.make_room.ensures.time honest)) p behind within);
     }
 
-pub returns-clause-kept_pages : goal.returns-clause-kept_pages
-returns-clause-kept_pages g c = λ honest p behind within.
-    longer_pages _ (g.D.SectorDisk.disk c.make_room.new.disk) (g.D.SectorDisk.disk c.publish.new.disk) c.args.self.now.sound (c.make_room.ensures.longer honest) (c.publish.ensures.pages (still_honest c.make_room.ensures.time honest)) p behind within
+pub returns-else-is_read-clause-kept_pages : goal.returns-else-is_read-clause-kept_pages
+returns-else-is_read-clause-kept_pages g c = λ honest p behind within.
+    longer_pages _ (g.D.SectorDisk.disk c.make_room.new.disk) (g.D.SectorDisk.disk c.publish.new.disk) c.args.self.now.sound (c.make_room.ensures.longer honest) (pages_behind (g.D.SectorDisk.disk c.make_room.new.disk) (g.D.SectorDisk.disk c.publish.new.disk) c.publish.ensures.others (still_honest c.make_room.ensures.time honest)) p behind within
 
-pub returns-clause-cause : goal.returns-clause-cause
-returns-clause-cause g c = (grew_since c.make_room.ensures.cause.later (published_grew _ _ _ c.in-Err-publish.ensures.fault), inr refl)
+pub returns-else-is_read-clause-cause : goal.returns-else-is_read-clause-cause
+returns-else-is_read-clause-cause g c = (grew_since c.make_room.ensures.cause.later (published_grew _ _ _ c.in-Err-publish.ensures.fault), inr refl)

@@ -27,20 +27,20 @@ invariant_of-self-clause-cached g c = part_of _ c.args.self.now.cache c.give.new
 
 pub returns-in_err-get_page-clause-works : goal.returns-in_err-get_page-clause-works
 returns-in_err-get_page-clause-works g c =
-    works_read _ _ c.get_page.ensures.time c.get_page.ensures.same_size c.get_page.ensures.cause.later (record { root = refl; marks = refl; closed = refl; shown = c.get_page.ensures.unchanged; leaves = c.get_page.ensures.moments; holds = refl })
+    works_read _ _ c.get_page.ensures.time c.get_page.ensures.same_size c.get_page.ensures.cause.later (record { root = refl; marks = refl; closed = refl; shown = c.get_page.ensures.unchanged; failed_writes = c.get_page.ensures.spared; leaves = c.get_page.ensures.moments; holds = refl })
 
 pub returns-then-is_kept-clause-works : goal.returns-then-is_kept-clause-works
 returns-then-is_kept-clause-works g c =
-    works_read _ _ c.get_page.ensures.time c.get_page.ensures.same_size c.get_page.ensures.cause.later (record { root = refl; marks = refl; closed = refl; shown = c.get_page.ensures.unchanged; leaves = c.get_page.ensures.moments; holds = refl })
+    works_read _ _ c.get_page.ensures.time c.get_page.ensures.same_size c.get_page.ensures.cause.later (record { root = refl; marks = refl; closed = refl; shown = c.get_page.ensures.unchanged; failed_writes = c.get_page.ensures.spared; leaves = c.get_page.ensures.moments; holds = refl })
 
 pub returns-else-is_kept-clause-works : goal.returns-else-is_kept-clause-works
 returns-else-is_kept-clause-works g c =
-    works_read _ _ c.get_page.ensures.time c.get_page.ensures.same_size c.get_page.ensures.cause.later (record { root = refl; marks = refl; closed = refl; shown = c.get_page.ensures.unchanged; leaves = c.get_page.ensures.moments; holds = refl })
+    works_read _ _ c.get_page.ensures.time c.get_page.ensures.same_size c.get_page.ensures.cause.later (record { root = refl; marks = refl; closed = refl; shown = c.get_page.ensures.unchanged; failed_writes = c.get_page.ensures.spared; leaves = c.get_page.ensures.moments; holds = refl })
 
 pub invariant_of-self-in-Break-1 : goal.invariant_of-self-in-Break-1
 invariant_of-self-in-Break-1 g c = record {
   sound = sound_works _ _ c.args.self.now.sound
-      (works_read _ _ c.get_page.ensures.time c.get_page.ensures.same_size c.get_page.ensures.cause.later (record { root = refl; marks = refl; closed = refl; shown = c.get_page.ensures.unchanged; leaves = c.get_page.ensures.moments; holds = refl }))
+      (works_read _ _ c.get_page.ensures.time c.get_page.ensures.same_size c.get_page.ensures.cause.later (record { root = refl; marks = refl; closed = refl; shown = c.get_page.ensures.unchanged; failed_writes = c.get_page.ensures.spared; leaves = c.get_page.ensures.moments; holds = refl }))
       c.args.self.now.sound.system;
   cached = carried _ _ _ _ c.args.self.now.cached c.give.ensures.others (was_honest c.get_page.ensures.time) (λ p held there kept. kept)
       (λ h p held there behind. ap (λ (s : Shown). page s.contents p) (c.get_page.ensures.unchanged h));
@@ -141,7 +141,7 @@ returns-in_err-get_page-clause-open g c = none_done _ c.from_residual.result c.f
 
 pub returns-in_err-get_page-clause-unchanged : goal.returns-in_err-get_page-clause-unchanged
 returns-in_err-get_page-clause-unchanged g c =
-    record { root = refl; marks = refl; closed = refl; shown = c.get_page.ensures.unchanged; leaves = c.get_page.ensures.moments; holds = refl }
+    record { root = refl; marks = refl; closed = refl; shown = c.get_page.ensures.unchanged; failed_writes = c.get_page.ensures.spared; leaves = c.get_page.ensures.moments; holds = refl }
 
 pub returns-in_err-get_page-clause-untouched : goal.returns-in_err-get_page-clause-untouched
 returns-in_err-get_page-clause-untouched g c = passed_on _ c.from_residual.result _ c.from_residual.ensures (λ other. absurd (other refl))
@@ -163,7 +163,7 @@ returns-then-is_kept-clause-open g c = c.if-self.false
 
 pub returns-then-is_kept-clause-unchanged : goal.returns-then-is_kept-clause-unchanged
 returns-then-is_kept-clause-unchanged g c =
-    record { root = refl; marks = refl; closed = refl; shown = c.get_page.ensures.unchanged; leaves = c.get_page.ensures.moments; holds = refl }
+    record { root = refl; marks = refl; closed = refl; shown = c.get_page.ensures.unchanged; failed_writes = c.get_page.ensures.spared; leaves = c.get_page.ensures.moments; holds = refl }
 
 pub returns-then-is_kept-clause-untouched : goal.returns-then-is_kept-clause-untouched
 returns-then-is_kept-clause-untouched g c = tt
@@ -188,7 +188,7 @@ returns-else-is_kept-clause-open g c = c.if-self.false
 
 pub returns-else-is_kept-clause-unchanged : goal.returns-else-is_kept-clause-unchanged
 returns-else-is_kept-clause-unchanged g c =
-    record { root = refl; marks = refl; closed = refl; shown = c.get_page.ensures.unchanged; leaves = c.get_page.ensures.moments; holds = refl }
+    record { root = refl; marks = refl; closed = refl; shown = c.get_page.ensures.unchanged; failed_writes = c.get_page.ensures.spared; leaves = c.get_page.ensures.moments; holds = refl }
 
 pub returns-else-is_kept-clause-untouched : goal.returns-else-is_kept-clause-untouched
 returns-else-is_kept-clause-untouched g c = tt

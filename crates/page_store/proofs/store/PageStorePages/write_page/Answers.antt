@@ -1,8 +1,9 @@
-use Rattle.std.proofs.Common.{refl, sym}
-use Rattle.page_store.specs.aid.Works.{works_refl}
+use Rattle.std.proofs.Common.{refl, sym, ap, ◌∙◌}
+use Rattle.std.specs.Result.{is_err}
+use Rattle.page_store.specs.aid.Works.{works_refl, closes_same, closes_failed}
 use Rattle.page_store.proofs.Caching.{carried, added, fresh_kept, is_ok}
 use Rattle.page_store.proofs.Keeping.{reads_else, works_write, was_honest, not_system}
-use Rattle.page_store.proofs.Passing.{not_closed}
+use Rattle.page_store.proofs.Passing.{not_closed, counted_ok, counted_err}
 use Rattle.page_store.proofs.store.PageStorePages.write_page.Goals as goal
 
 pub returns-then-self-clause-works : goal.returns-then-self-clause-works
@@ -17,10 +18,12 @@ returns-in-Ok-clause-others g c = λ h. reads_else _ _ _ c.put_page-written.ensu
 pub returns-in-Err-clause-works : goal.returns-in-Err-clause-works
 returns-in-Err-clause-works g c =
     works_write _ _ _ c.args.self.now.sound c.requires refl refl refl c.put_page-written.ensures.kept c.put_page-written.ensures.time c.put_page-written.ensures.same_size c.put_page-written.ensures.cause.later (λ closed. c.if-self.false)
+    (closes_failed (c.is_err-self.ensures.value ∙ ap is_err c.in-Err.is) (counted_err _ (ap is_err c.in-Err.is) c.put_page-written.ensures.counted))
 
 pub returns-in-Ok-clause-works : goal.returns-in-Ok-clause-works
 returns-in-Ok-clause-works g c =
     works_write _ _ _ c.args.self.now.sound c.requires refl refl refl c.put_page-written.ensures.kept c.put_page-written.ensures.time c.put_page-written.ensures.same_size c.put_page-written.ensures.cause.later (λ closed. c.if-self.false)
+    (closes_same (c.is_err-self.ensures.value ∙ ap is_err c.in-Ok.is ∙ sym c.if-self.false) (counted_ok _ (ap is_err c.in-Ok.is) c.put_page-written.ensures.counted))
 
 pub invariant_of-self-in-Err-clause-cached : goal.invariant_of-self-in-Err-clause-cached
 invariant_of-self-in-Err-clause-cached g c =
