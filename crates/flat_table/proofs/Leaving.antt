@@ -42,6 +42,7 @@ unchanged_works root old new commits same =
       root = same.root;
       same_pages = ap (λ (ms : List Mark). length ms) same.marks;
       closed = λ open_. sym same.closed ∙ open_;
+      closes = commits.closes;
       waiting = λ p is. sym (ap (λ (ms : List Mark). mark ms p) same.marks) ∙ is;
       needed = λ p. ap (λ (ms : List Mark). needs (mark ms p)) same.marks;
       reads = λ honest p needed. ap (λ (s : Shown). page s.contents p) (same.shown honest);
@@ -64,7 +65,7 @@ unchanged_works root old new commits same =
 
 -- what is so of all work
 pub works_ahead : (old new : Store) → StoreWorks old new → StoreGoesAhead old new
-works_ahead old new works = record { goes_on = works.goes_on; same_size = works.same_size; failures = works.failures; same_pages = works.same_pages; closed = works.closed }
+works_ahead old new works = record { goes_on = works.goes_on; same_size = works.same_size; failures = works.failures; same_pages = works.same_pages; closed = works.closed; closes = works.closes }
 
 -- a stop within work leaves the table that was there
 pub works_leaves : (pages : List ℕ) (old new : Store) (was : Option Kept) → IsSoundStore old → IsBacked old pages was → IsTrue old.disk.honest → old.closed ≡ false → StoreWorks old new

@@ -24,6 +24,7 @@ use Rattle.flat_table.specs.Held.{KeepsGame, KeepsTable, Stores}
 use Rattle.game_file.specs.Kept.{Kept}
 use Rattle.flat_table.specs.File.{IsBacked}
 use Rattle.flat_table.specs.aid.StoredLaws.{game_rests_on_its_pages, spells_stores}
+use Rattle.page_store.specs.aid.Works.{closes_then}
 use Rattle.flat_table.specs.Saving.{AreBytesOf, StoreGoesAhead}
 use Rattle.game_file.specs.Stops.{LeavesEither}
 use Rattle.flat_table.specs.aid.Steps.{HasNoHold, IsGone, IsExchanged, IsSlotOf, IsReplaced}
@@ -135,6 +136,7 @@ commit_ahead root old mid new was_open works commits same = record {
   failures = omega (arith, works.failures, commits.failures);
   same_pages = same ∙ works.same_pages;
   closed = λ open_. was_open;
+  closes = closes_then works.goes_on.failed_writes commits.goes_on.failed_writes works.closes commits.closes;
 }
 
 -- what was let go is free after a commit, unless it waits or a hold needs it

@@ -1,7 +1,7 @@
 -- What it is to put a table in the place of another.
 use Rattle.std.specs.Prelude.{◌≡◌, ℕ, ◌≤◌, false, List, length}
 use Rattle.sector_disk.specs.Disk.{GoesOn, size}
-use Rattle.page_store.specs.Store.{Store}
+use Rattle.page_store.specs.Store.{Store, StoreCloses}
 use Rattle.position_pack.specs.declared.kind.PackingKind.{PackingKind}
 use Rattle.retrograde.specs.Stored.{IsTable}
 use Rattle.retrograde.specs.Changes.{counts_of}
@@ -25,3 +25,4 @@ pub record StoreGoesAhead (old new : Store) : Type 0 where
   pub failures : old.failures ≤ new.failures
   pub same_pages : length new.marks ≡ length old.marks
   pub closed : new.closed ≡ false → old.closed ≡ false
+  pub closes : StoreCloses old new

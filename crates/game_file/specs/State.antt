@@ -1,6 +1,7 @@
 -- What is stated of a table's file between commands.
 use Rattle.std.specs.Prelude.{◌≡◌, ℕ, ◌+◌, ◌%◌, ◌^◌, ◌≤◌, Bool, Option}
 use Rattle.sector_disk.specs.Disk.{Disk, size, GoesOn}
+use Rattle.page_store.specs.Store.{ClosesByWrites}
 use Rattle.game_file.specs.Kept.{Kept}
 
 -- its disk, how often that has failed, how many pages there are, whether a write or a sync has failed since it was opened, how many
@@ -17,12 +18,13 @@ pub record State : Type 0 where
 abbrev pub count_behind : ℕ → ℕ
 count_behind count = (count + 1) % 2 ^ 64
 
--- a later state of the same file
+-- a later state of the same file: a write, a sync or an extension that failed closes it, and nothing else does
 pub record GoesAhead (old new : State) : Type 0 where
   pub goes_on : GoesOn old.disk new.disk
   pub same_size : size new.disk ≡ size old.disk
   pub failures : old.failures ≤ new.failures
   pub capacity : new.capacity ≡ old.capacity
+  pub closes : ClosesByWrites old.closed old.disk.failed_writes new.closed new.disk.failed_writes
 
 -- a later state of the same disk, with as many sectors
 pub record GoesFrom (disk : Disk) (count : ℕ) (later : Disk) (now : ℕ) : Type 0 where

@@ -102,6 +102,9 @@ module _ (Stores : Layout) (text start : List ℕ) (game : Game) (reads : Reads 
   loaded_refused fault long left cause still = record {
     step = record { does = left.kept; reason = load_cause fault long cause };
     stops = record {
+      commits = left.commits;
+      text = left.text;
+      packing = left.packing;
       same = left.kept;
       since = left.leaves;
       failed = λ honest was is. (Some (kept_as text Bits (loaded start)), (Loaded, loads), left.either honest was);

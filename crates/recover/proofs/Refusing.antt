@@ -20,6 +20,9 @@ pub nothing_done : (Stores : Layout) (command : Command) (state : State) (fault 
 nothing_done Stores command state fault leaves step = record {
   step = step;
   stops = record {
+    commits = refl;
+    text = refl;
+    packing = refl;
     same = λ honest. refl;
     since = λ honest is_open. leaves_now state.disk (leaves honest is_open);
     failed = λ honest was is. absurd (apart state.closed was is);

@@ -4,6 +4,7 @@ use Rattle.sector_disk.specs.Disk.{MayLeave}
 use Rattle.sector_disk.specs.aid.Moments.{goes_on_trans, leaves_more}
 use Rattle.game_file.specs.Kept.{Kept, Layout}
 use Rattle.game_file.specs.State.{State, GoesAhead}
+use Rattle.page_store.specs.aid.Works.{closes_then}
 use Rattle.recover.specs.declared.fault.SolverFault.{SolverFault}
 use Rattle.recover.specs.declared.fault.SolverFault.TheVariants.{Disk as DiskFailed, NotATable, AlreadyATable, Damaged, OldLayout, TooSmall, TableFull, OutOfMemory, Closed, Game as BadGame, NoGame, GameAlready, KeeperChooses, TooWide, TooManyPositions, Inconsistent, NoSuchPosition, NotSettled, ListingsUsedUp, BadPosition}
 use Rattle.recover.specs.declared.replies.Command.{Command as Asked}
@@ -60,6 +61,7 @@ ahead_then first second = record {
   same_size = second.same_size ∙ first.same_size;
   failures = omega (arith, first.failures, second.failures);
   capacity = second.capacity ∙ first.capacity;
+  closes = closes_then first.goes_on.failed_writes second.goes_on.failed_writes first.closes second.closes;
 }
 
 module _ (Stores : Layout) where

@@ -151,6 +151,9 @@ module _ (Stores : Layout) (old new : State) (source : Compiled) (k : Kept) (mad
   not_kept fault left cause still = record {
     step = record { does = left.kept; reason = keep_cause fault cause };
     stops = record {
+      commits = left.commits;
+      text = left.text;
+      packing = left.packing;
       same = left.kept;
       since = left.leaves;
       failed = λ honest was is. (Some (kept_as k.text k.packing now), (Worked done (counts_of now), works_of (counts_of now) refl honest), left.either honest was);
@@ -245,6 +248,9 @@ module _ (Stores : Layout) (old new : State) (source : Compiled) (k : Kept) (mad
     work_refused fault cause consistent left is_open given back failed = record {
       step = record { does = given.kept; reason = work_cause fault cause consistent left };
       stops = record {
+        commits = given.commits;
+        text = given.text;
+        packing = given.packing;
         same = given.kept;
         since = λ honest open_. given.leaves honest is_open;
         failed = λ honest was is. (old.kept, (Refused (step_fault fault), refl), leaves_more (λ picture left. inl left) (given.leaves honest is_open));

@@ -1,6 +1,6 @@
 -- What a power failure leaves, by what a command answers.
 use Rattle.std.specs.Prelude.{◌≡◌, false, true, Option, IsTrue}
-use Rattle.game_file.specs.Kept.{Kept, Layout}
+use Rattle.game_file.specs.Kept.{Kept, Layout, packing_kept, text_kept}
 use Rattle.game_file.specs.State.{State}
 use Rattle.game_file.specs.Stops.{LeavesNow, LeavesTable, LeavesEither}
 
@@ -11,9 +11,13 @@ module _ (Stores : Layout) where
     pub since : IsTrue old.disk.honest → LeavesEither Stores old.disk new.disk old.kept new.kept
     pub now : IsTrue old.disk.honest → LeavesNow Stores new.disk new.kept
 
-  -- a command is refused: what was kept is; a stop since it began leaves that; but if a write or a sync has failed, it leaves that
-  -- or one that the command may have come to
+  -- a command is refused: the count of commits, the text and the packing are as they were, whatever the disk does; on an honest one
+  -- what was kept is, and a stop since the command began leaves that; but if a write or a sync has failed, it leaves that or one that
+  -- the command may have come to
   pub record StopsRefused (Next : Option Kept → Type 0) (old new : State) : Type 0 where
+    pub commits : new.commits ≡ old.commits
+    pub text : text_kept new.kept ≡ text_kept old.kept
+    pub packing : packing_kept new.kept ≡ packing_kept old.kept
     pub same : IsTrue old.disk.honest → new.kept ≡ old.kept
     pub since : IsTrue old.disk.honest → new.closed ≡ false → LeavesTable Stores old.disk new.disk old.kept
     pub failed : IsTrue old.disk.honest → old.closed ≡ false → new.closed ≡ true

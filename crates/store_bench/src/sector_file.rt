@@ -1,7 +1,7 @@
 //! A disk over a file that reads and writes it sector by sector, to be measured beside the one that moves whole pages. By its
 //! statement it is no honest disk.
-ghost use Rattle.std.specs.Prelude.{◌*◌, ◌^◌, ◌<◌, false, [], replicate};
-ghost use Rattle.sector_disk.specs.Disk.{HasCause};
+ghost use Rattle.std.specs.Prelude.{◌*◌, ◌^◌, ◌<◌, ◌≤◌, false, [], replicate};
+ghost use Rattle.sector_disk.specs.Disk.{HasCause, IsCounted, with_failed};
 ghost use Rattle.sector_disk.specs.File.{unknown_disk};
 
 use sector_disk::{DiskFault, SectorDisk};
@@ -15,6 +15,7 @@ pub struct SectorFile {
     file: File,
     sectors: u64,
     failures: u64,
+    failed_writes: u64,
     ghost placed: { 512 * sectors < 2 ^ 64 },
 }
 
@@ -26,6 +27,7 @@ impl SectorFile {
             file,
             sectors,
             failures: 0,
+            failed_writes: 0,
         })
     }
 }
@@ -43,8 +45,23 @@ where
     Err(DiskFault)
 }
 
+/// The same of a write, a sync or an extension, which counts once more.
+fn told_write<T>(failures: &mut u64, failed_writes: &mut u64, answer: io::Result<T>) -> Result<(), DiskFault>
+where
+    T: Drop,
+    ensures cause { HasCause failures.old failures.new result }
+    ensures later { failed_writes.old ≤ failed_writes.new }
+    ensures counted { IsCounted failed_writes.old failed_writes.new result }
+{
+    let outcome = told(failures, answer);
+    if outcome.is_err() {
+        *failed_writes = failed_writes.saturating_add(1);
+    }
+    outcome
+}
+
 impl SectorDisk for SectorFile {
-    ghost disk = { λ d. unknown_disk d.sectors };
+    ghost disk = { λ d. with_failed (unknown_disk d.sectors) d.failed_writes };
 
     ghost failures = { λ d. d.failures };
 
@@ -59,21 +76,22 @@ impl SectorDisk for SectorFile {
 
     fn write(&mut self, at: u64, from: &[u8; 512]) -> Result<(), DiskFault> {
         let answer = self.file.write_all_at(from, 512 * at);
-        told(&mut self.failures, answer)
+        told_write(&mut self.failures, &mut self.failed_writes, answer)
     }
 
     fn sync(&mut self) -> Result<(), DiskFault> {
         let answer = self.file.sync_all();
-        told(&mut self.failures, answer)
+        told_write(&mut self.failures, &mut self.failed_writes, answer)
     }
 
     fn extend(&mut self, sectors: u64) -> Result<(), DiskFault> {
         if sectors > u64::MAX / 512 {
             self.failures = self.failures.saturating_add(1);
+            self.failed_writes = self.failed_writes.saturating_add(1);
             return Err(DiskFault);
         }
         let answer = self.file.set_len(512 * sectors);
-        told(&mut self.failures, answer)?;
+        told_write(&mut self.failures, &mut self.failed_writes, answer)?;
         self.sectors = sectors;
         Ok(())
     }

@@ -1,5 +1,6 @@
 //! A disk in memory for measuring: it keeps no history. Nothing is promised of what it shows; by its statement it is no
 //! honest disk.
+ghost use Rattle.sector_disk.specs.Disk.{with_failed};
 ghost use Rattle.sector_disk.specs.File.{unknown_disk};
 ghost use Rattle.std.specs.Prelude.{◌≡◌, ◌≤◌, length, OnOk};
 
@@ -42,7 +43,7 @@ fn add_zeros(contents: &mut Vec<[u8; 512]>, sectors: u64) -> Result<(), AllocErr
 }
 
 impl SectorDisk for PlainDisk {
-    ghost disk = { λ d. unknown_disk (length d.contents.items) };
+    ghost disk = { λ d. with_failed (unknown_disk (length d.contents.items)) d.failures };
 
     ghost failures = { λ d. d.failures };
 

@@ -14,6 +14,7 @@ use Rattle.sector_disk.specs.aid.Moments.{goes_on_trans}
 use Rattle.page_store.specs.declared.marks.Mark.TheVariants.{Committed, Waiting, Free}
 use Rattle.page_store.specs.Marks.{mark, rests}
 use Rattle.page_store.specs.Spelling.{IsCalm}
+use Rattle.page_store.specs.aid.Works.{closes_same, closes_then}
 use Rattle.page_store.specs.Store.{Store, IsSoundStore, StoreWorks, IsRemarked, reads}
 use Rattle.retrograde.specs.Stored.{Stored, IsTable}
 use Rattle.root_slot.specs.Fields.{commits_in}
@@ -49,12 +50,16 @@ module _ (was mid new : File) (whole : IsWholeFile was) (works : StoreWorks was.
   pub given_up_whole : IsWholeFile new
   given_up_whole = again_whole was new whole all_still (new_game ∙ game) (new_text ∙ text) calm sound torn slot
 
+  same : new.work.store.disk.failed_writes ≡ mid.work.store.disk.failed_writes
+  same = ap (λ (d : Disk). d.failed_writes) others.disk
+
   pub given_up_ahead : GoesAhead (state_of was) (state_of new)
   given_up_ahead = record {
     goes_on = goes_on_trans works.goes_on still.goes_on;
     same_size = ap size others.disk ∙ works.same_size;
     failures = omega (arith, works.failures, others.failures);
     capacity = all_still.same_pages;
+    closes = closes_then works.goes_on.failed_writes (omega (arith, same)) works.closes (closes_same others.closed same);
   }
 
   pub given_up_kept : IsNothingPut StoresTrees (state_of was) (state_of new)

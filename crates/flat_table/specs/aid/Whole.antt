@@ -12,6 +12,7 @@ use Rattle.game_file.specs.Calls.{IsAsked, IsNothingPut}
 use Rattle.game_file.specs.Causes.{FileTableCause}
 use Rattle.game_file.specs.Kept.{Kept, packing_kept, text_kept}
 use Rattle.game_file.specs.State.{State, GoesAhead}
+use Rattle.page_store.specs.aid.Works.{closes_same}
 use Rattle.flat_table.specs.declared.game.Game.{Game}
 use Rattle.flat_table.specs.File.{FlatFile, IsFile, kept_in, kept_of}
 use Rattle.flat_table.specs.Held.{Stores}
@@ -32,7 +33,7 @@ the_table_is_kept s None (Some game) kept it none is =
 same_pages : (s : Store) (was is : Option Game) → IsFile (file_of s was) → kept_of is ≡ kept_of was
     → IsAsked Stores (state_of (file_of s was)) (state_of (file_of s is))
 same_pages s was is stands same = record {
-  ahead = record { goes_on = goes_on_refl s.disk; same_size = refl; failures = omega arith; capacity = refl };
+  ahead = record { goes_on = goes_on_refl s.disk; same_size = refl; failures = omega arith; capacity = refl; closes = closes_same refl refl };
   commits = refl;
   text = ap text_kept same;
   packing = ap packing_kept same;
@@ -47,7 +48,7 @@ same_pages s was is stands same = record {
 pub unwritten_ahead : (old new : FlatFile) → IsUnwrittenFile old new → GoesAhead (state_of old) (state_of new)
 unwritten_ahead old new same =
     subst (λ (s : Store). GoesAhead (state_of old) (state_of (file_of s new.game))) (sym same.store)
-    (record { goes_on = goes_on_refl old.store.disk; same_size = refl; failures = omega arith; capacity = refl })
+    (record { goes_on = goes_on_refl old.store.disk; same_size = refl; failures = omega arith; capacity = refl; closes = closes_same refl refl })
 
 pub unwritten_asked : (old new : FlatFile) → IsFile old → IsUnwrittenFile old new → IsAsked Stores (state_of old) (state_of new)
 unwritten_asked old new it same =

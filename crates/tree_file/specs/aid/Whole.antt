@@ -135,6 +135,7 @@ works_ahead old new works = record {
   same_size = works.same_size;
   failures = works.failures;
   capacity = works.same_pages;
+  closes = works.closes;
 }
 
 -- the table of a whole file is what it keeps

@@ -19,6 +19,7 @@ unchanged_refl store = record {
   marks = refl;
   closed = refl;
   shown = λ honest. refl;
+  failed_writes = refl;
   leaves = λ honest. leaves_now store.disk (λ picture left. left);
   holds = refl;
 }
@@ -33,6 +34,7 @@ unchanged_then one two first second = record {
   root = second.root ∙ first.root;
   marks = second.marks ∙ first.marks;
   closed = second.closed ∙ first.closed;
+  failed_writes = second.failed_writes ∙ first.failed_writes;
   shown = λ honest. second.shown (still_honest one.goes_on honest) ∙ first.shown honest;
   leaves = λ honest.
       leaves_then two.goes_on (first.leaves honest)
