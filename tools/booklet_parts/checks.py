@@ -10,7 +10,7 @@ from booklet_parts.printing import HEADING, Booklet
 from booklet_parts.project import Project
 from booklet_parts.statements import public_uses
 
-OPEN = ("solver", "run", "queries", "replies")  # the sources of `recover` that state what a solver does
+OPEN = ("commands", "run", "queries", "replies")  # the sources of `solver` that state what a solver does
 IMPORTED = re.compile(r"ghost use Rattle\.(\w+)\.specs\.([\w.]+?)\.\{([^}]*)\};")
 DEFINES = r"^\s*(?:(?:abbrev|unfoldable)\s+)?(?:pub\s+)?(?:(?:record|data|struct|enum|trait|type)\s+)?{}(?:\s+:|[\s(<{{,;]|$)"
 DECLARES = re.compile(r"^\s*(?:abbrev|unfoldable|infix|pub record|pub data|record|data|pub struct|pub enum|struct|enum|ghost)\b")
@@ -27,11 +27,11 @@ def faults_of(project: Project, booklet: Booklet, text: str) -> list[str]:
             found.append(f"the definition at {key[0]}:{key[1]} is printed {count} times.")
     sections = by_file(text)
     for module in OPEN:
-        path = project.root / "crates" / "recover" / "src" / f"{module}.rt"
+        path = project.root / "crates" / "solver" / "src" / f"{module}.rt"
         for crate, place, name in cited(path.read_text(encoding="utf-8")):
             file = file_of(crate, place)
             if crate in project.crates and not is_defined(sections.get(file, ""), name):
-                found.append(f"a contract in crates/recover/src/{module}.rt cites `{name}`, whose definition in {file} is not printed.")
+                found.append(f"a contract in crates/solver/src/{module}.rt cites `{name}`, whose definition in {file} is not printed.")
     return found
 
 

@@ -2,7 +2,7 @@
 //! into the file.
 
 use game_file::GameFile;
-use recover::{FileSolver, SolverFault, Units};
+use solver::{FileSolver, SolverFault, Units};
 use std::alloc::Global;
 
 /// What came of a table.

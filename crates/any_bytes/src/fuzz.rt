@@ -6,7 +6,8 @@ use game_file::GameFile;
 use rand::{Rng, RngExt};
 use rand_pcg::Pcg32;
 use rbg_read::read::read_game;
-use recover::{FileSolver, SolverFault, TableFile};
+use recover::TableFile;
+use solver::{FileSolver, SolverFault};
 use sector_disk::{MemDisk, SectorDisk};
 use std::alloc::Global;
 

@@ -2,7 +2,8 @@
 
 use game_file::GameFile;
 use rbg_read::fault::GameFault;
-use recover::{FileSolver, SolverFault, TableFile, Units};
+use recover::TableFile;
+use solver::{FileSolver, SolverFault, Units};
 use retrograde::Counts;
 use sector_disk::{FileDisk, SectorDisk};
 use std::alloc::Global;

@@ -1,7 +1,8 @@
 //! Tables on disks in memory.
 
 use game_file::GameFile;
-use recover::{FileSolver, SolverFault, TableFile, Units};
+use recover::TableFile;
+use solver::{FileSolver, SolverFault, Units};
 use sector_disk::{MemDisk, SectorDisk};
 use std::alloc::Global;
 

@@ -4,7 +4,7 @@ use audit::Verdict;
 use game_file::GameFile;
 use page_store::PageStore;
 use position_pack::{Packed, PackingKind};
-use recover::{FileSolver, SolverFault};
+use solver::{FileSolver, SolverFault};
 use retrograde::Record;
 use sector_disk::MemDisk;
 use std::alloc::Global;

@@ -5,7 +5,7 @@ use audit::Verdict;
 use line_answers::input::{Asked, Question};
 use line_answers::questions::put_answer;
 use page_store::MOST_CACHED;
-use recover::{FileSolver, Units};
+use solver::{FileSolver, Units};
 use retrograde::Counts;
 use std::alloc::Global;
 use std::io::Write;

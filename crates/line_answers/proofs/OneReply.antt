@@ -1,9 +1,9 @@
 -- The reply of a run of one command.
 use Rattle.std.proofs.Common.{◌≡◌, List, [], ◌∷◌, ◌++◌, sym, subst, ap, ◌∙◌}
 use Rattle.std.specs.Prelude.{slice_get, unwrap_or}
-use Rattle.recover.specs.declared.replies.Command.{Command}
-use Rattle.recover.specs.declared.replies.Reply.{Reply}
-use Rattle.recover.specs.Runs.{command_of, IsTurnWithCause, IsRun, Turns}
+use Rattle.solver.specs.declared.replies.Command.{Command}
+use Rattle.solver.specs.declared.replies.Reply.{Reply}
+use Rattle.solver.specs.Runs.{command_of, IsTurnWithCause, IsRun, Turns}
 use Rattle.game_file.specs.Kept.{Layout}
 use Rattle.game_file.specs.State.{State}
 

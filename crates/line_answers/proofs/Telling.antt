@@ -3,8 +3,8 @@ use Rattle.std.proofs.Common.{◌≡◌, ℕ, List, Option, Some, None, Result, 
 use Rattle.std.specs.Prelude.{IfOk}
 use Rattle.game_file.specs.Kept.{Kept}
 use Rattle.game_file.specs.State.{State}
-use Rattle.recover.specs.Held.{IsSound}
-use Rattle.recover.specs.Queries.{OfKept, Tells, HasLine}
+use Rattle.solver.specs.Held.{IsSound}
+use Rattle.solver.specs.Queries.{OfKept, Tells, HasLine}
 use Rattle.printed_lines.specs.Replies.{line_line}
 use Rattle.line_answers.specs.Answered.{IsPlayLine}
 

@@ -11,15 +11,15 @@ use Rattle.best_line.specs.declared.answers.Row.{Row}
 use Rattle.game_file.specs.Calls.{IsAsked}
 use Rattle.game_file.specs.Kept.{Kept, Layout}
 use Rattle.game_file.specs.State.{State}
-use Rattle.recover.specs.declared.fault.SolverFault.{SolverFault}
-use Rattle.recover.specs.declared.fault.SolverFault.TheVariants as fault
-use Rattle.recover.specs.declared.replies.Reply.{Reply}
-use Rattle.recover.specs.declared.replies.Reply.TheVariants as answer
-use Rattle.recover.specs.Held.{IsSound}
-use Rattle.recover.specs.Machine.{work}
-use Rattle.recover.specs.Queries.{Tells, IsGameOf, HasValueAt, HasRows, HasLine, HasText, NumberCause, LineCause, ShowCause, FindCause}
-use Rattle.recover.specs.Runs.{IsTurnWithCause}
-use Rattle.recover.specs.Units.{units_in}
+use Rattle.solver.specs.declared.fault.SolverFault.{SolverFault}
+use Rattle.solver.specs.declared.fault.SolverFault.TheVariants as fault
+use Rattle.solver.specs.declared.replies.Reply.{Reply}
+use Rattle.solver.specs.declared.replies.Reply.TheVariants as answer
+use Rattle.solver.specs.Held.{IsSound}
+use Rattle.solver.specs.Machine.{work}
+use Rattle.solver.specs.Queries.{Tells, IsGameOf, HasValueAt, HasRows, HasLine, HasText, NumberCause, LineCause, ShowCause, FindCause}
+use Rattle.solver.specs.Runs.{IsTurnWithCause}
+use Rattle.solver.specs.Units.{units_in}
 use Rattle.line_answers.specs.declared.input.Asked.{Asked}
 use Rattle.line_answers.specs.declared.input.Asked.TheVariants as asked
 use Rattle.line_answers.specs.declared.input.Question.{Question}

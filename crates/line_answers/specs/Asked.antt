@@ -1,8 +1,8 @@
 -- What a line of a session asks for.
 use Rattle.std.specs.Prelude.{◌≡◌, ◌≢◌, ◌<◌, ◌≤◌, ◌^◌, ◌⊎◌, ℕ, List, [], ◌∷◌, ◌++◌, length, All, codes}
 use Rattle.std.specs.Str.Parse.{IsNumeral, digits_value}
-use Rattle.recover.specs.declared.replies.Units.{Units}
-use Rattle.recover.specs.Units.{units_in}
+use Rattle.solver.specs.declared.replies.Units.{Units}
+use Rattle.solver.specs.Units.{units_in}
 use Rattle.line_answers.specs.declared.input.Asked.{Asked}
 use Rattle.line_answers.specs.declared.input.Asked.TheVariants.{Nothing, Work, Status, Question, Help, Quit, Usage}
 use Rattle.line_answers.specs.declared.input.Question.TheVariants.{Value, Line, List as ListFrom, Show, Find}

@@ -1,10 +1,10 @@
 pub use Rattle.game_file.specs.Calls
-pub use Rattle.recover.specs.Held
-pub use Rattle.recover.specs.Machine
-pub use Rattle.recover.specs.Queries
-pub use Rattle.recover.specs.Runs
-pub use Rattle.recover.specs.Solvers
-pub use Rattle.recover.specs.Units
+pub use Rattle.solver.specs.Held
+pub use Rattle.solver.specs.Machine
+pub use Rattle.solver.specs.Queries
+pub use Rattle.solver.specs.Runs
+pub use Rattle.solver.specs.Solvers
+pub use Rattle.solver.specs.Units
 pub mod Told
 pub mod Asked
 pub mod Answered

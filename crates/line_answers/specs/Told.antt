@@ -1,11 +1,11 @@
 -- The lines that tell what a command did, or why not.
 use Rattle.std.specs.Prelude.{◌≡◌, ℕ, List, [], ◌∷◌, ◌++◌, codes}
 use Rattle.std.specs.Fmt.{decimal}
-use Rattle.recover.specs.declared.replies.Reply.{Reply}
-use Rattle.recover.specs.declared.replies.Reply.TheVariants.{Loaded, Worked, Refused}
-use Rattle.recover.specs.declared.fault.SolverFault.{SolverFault}
-use Rattle.recover.specs.declared.fault.SolverFault.TheVariants.{KeeperChooses}
-use Rattle.recover.specs.Faults.{code_of}
+use Rattle.solver.specs.declared.replies.Reply.{Reply}
+use Rattle.solver.specs.declared.replies.Reply.TheVariants.{Loaded, Worked, Refused}
+use Rattle.solver.specs.declared.fault.SolverFault.{SolverFault}
+use Rattle.solver.specs.declared.fault.SolverFault.TheVariants.{KeeperChooses}
+use Rattle.solver.specs.Faults.{code_of}
 use Rattle.printed_lines.specs.Counted.{IsWorkLine}
 
 -- what stands behind the code: after S3 the number of the position from which the keeper has a choice

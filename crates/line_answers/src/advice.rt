@@ -1,6 +1,6 @@
 //! What is said to people of a refusal: what is wrong, and what to do.
 
-use recover::SolverFault;
+use solver::SolverFault;
 use std::io::Write;
 
 /// What to do after a refusal.

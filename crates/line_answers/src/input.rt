@@ -6,7 +6,7 @@ ghost use Rattle.line_answers.specs.aid.Words.{IsFirstWord, IsTrimmed, IsSplit, 
 ghost use Rattle.line_answers.specs.declared.input.Asked.TheVariants.{Usage};
 
 use crate::numbers::number;
-use recover::Units;
+use solver::Units;
 use std::alloc::{AllocError, Global};
 
 /// The most bytes that a line has, without what ends it.

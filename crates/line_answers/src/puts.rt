@@ -7,7 +7,7 @@ ghost use Rattle.line_answers.specs.Told.{behind_code, fault_line, IsReplyLine};
 
 use printed_lines::replies::put_work;
 use rbg_read::fault::GameFault;
-use recover::{Reply, SolverFault};
+use solver::{Reply, SolverFault};
 use std::io::{self, Write};
 
 /// The exit status of a refusal: 3 for a damaged table, 4 where the device failed, 5 for want of memory, else 1.

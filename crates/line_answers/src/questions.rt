@@ -3,12 +3,12 @@
 ghost use Rattle.std.specs.Prelude.{◌≡◌, ◌⊎◌, ℕ, List, true, IfOk, IfErr, OnOk, IsErrOf};
 ghost use Rattle.std.specs.Io.KnownBytes.{Appends};
 ghost use Rattle.game_file.specs.Calls.{IsAsked};
-ghost use Rattle.recover.specs.Machine.{work as work_on};
-ghost use Rattle.recover.specs.Runs.{IsTurnWithCause};
-ghost use Rattle.recover.specs.Queries.{Tells, NumberCause, LineCause, ShowCause, FindCause};
-ghost use Rattle.recover.specs.Held.{IsSound};
-ghost use Rattle.recover.specs.Solvers.{state, IsReady};
-ghost use Rattle.recover.specs.Units.{units_in};
+ghost use Rattle.solver.specs.Machine.{work as work_on};
+ghost use Rattle.solver.specs.Runs.{IsTurnWithCause};
+ghost use Rattle.solver.specs.Queries.{Tells, NumberCause, LineCause, ShowCause, FindCause};
+ghost use Rattle.solver.specs.Held.{IsSound};
+ghost use Rattle.solver.specs.Solvers.{state, IsReady};
+ghost use Rattle.solver.specs.Units.{units_in};
 ghost use Rattle.line_answers.specs.Answered.{IsValueLine, AreRowLines, IsPlayLine, IsShownLine, IsFoundLine, IsAnswerTo, QuestionCause};
 ghost use Rattle.line_answers.specs.Answered.{status_of_fault, IsDoneFor, IsReplied, IsWorkReplied};
 ghost use Rattle.line_answers.specs.Told.{fault_line};
@@ -19,7 +19,7 @@ use crate::puts::{put_line, put_refused, put_reply, status_of};
 use crate::turns::reply_to;
 use game_file::GameFile;
 use printed_lines::replies::{found_line, numbers_line, put_status, row_lines, value_line};
-use recover::{Command, FileSolver, Reply, SolverFault, Units};
+use solver::{Command, FileSolver, Reply, SolverFault, Units};
 use std::alloc::Global;
 use std::io::{self, Write};
 

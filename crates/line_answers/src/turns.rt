@@ -1,13 +1,13 @@
 //! The commands of a session and of a command line, each a run of its own.
 
 ghost use Rattle.std.specs.Prelude.{◌≡◌, ◌⊎◌, slice_get, unwrap_or};
-ghost use Rattle.recover.specs.Runs.{command_of, IsTurnWithCause};
-ghost use Rattle.recover.specs.Solvers.{state, IsReady};
-ghost use Rattle.recover.specs.declared.replies.Reply.TheVariants as answer;
-ghost use Rattle.recover.specs.declared.fault.SolverFault.TheVariants as fault;
+ghost use Rattle.solver.specs.Runs.{command_of, IsTurnWithCause};
+ghost use Rattle.solver.specs.Solvers.{state, IsReady};
+ghost use Rattle.solver.specs.declared.replies.Reply.TheVariants as answer;
+ghost use Rattle.solver.specs.declared.fault.SolverFault.TheVariants as fault;
 
 use game_file::GameFile;
-use recover::{Command, FileSolver, Reply, SolverFault};
+use solver::{Command, FileSolver, Reply, SolverFault};
 use std::alloc::Global;
 
 /// The reply to one command, done as a run of its own: what it says and does is the command's turn. Where there is no room for the

@@ -6,7 +6,7 @@ ghost use Rattle.rbg_game.specs.Meaning.{game_of};
 ghost use Rattle.printed_lines.specs.Answers.{IsMovesAnswer};
 ghost use Rattle.printed_lines.specs.Counted.{IsStatusLine};
 ghost use Rattle.printed_lines.specs.Replies.{row_line, value_text};
-ghost use Rattle.recover.specs.Solvers.{state, IsReady};
+ghost use Rattle.solver.specs.Solvers.{state, IsReady};
 ghost use Rattle.line_answers.specs.Answered.{IsReplied};
 ghost use Rattle.line_answers.specs.Asked.{Asks};
 
@@ -17,7 +17,7 @@ use line_answers::questions;
 use printed_lines::{moves, replies};
 use rbg_game::game::Game;
 use rbg_game::roles::Player;
-use recover::FileSolver;
+use solver::FileSolver;
 use retrograde::Counts;
 use std::alloc::{AllocError, Global};
 use std::io::{self, Write};

@@ -2,7 +2,8 @@
 
 use crate::standing::Standing;
 use game_file::GameFile;
-use recover::{Command, FileSolver, Reply, SolverFault, TableFile, Units};
+use recover::TableFile;
+use solver::{Command, FileSolver, Reply, SolverFault, Units};
 use sector_disk::{MemDisk, SectorDisk};
 use std::alloc::Global;
 

@@ -7,7 +7,8 @@ use flat_table::FlatTable;
 use game_file::GameFile;
 use rand::{Rng, RngExt};
 use rand_pcg::Pcg32;
-use recover::{FileSolver, SolverFault, TableFile, Units};
+use recover::TableFile;
+use solver::{FileSolver, SolverFault, Units};
 use sector_disk::{FuseDisk, MemDisk};
 use std::alloc::Global;
 

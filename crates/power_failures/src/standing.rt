@@ -2,7 +2,8 @@
 
 use audit::Verdict;
 use game_file::GameFile;
-use recover::{FileSolver, SolverFault, TableFile};
+use recover::TableFile;
+use solver::{FileSolver, SolverFault};
 use retrograde::Counts;
 use sector_disk::MemDisk;
 use std::alloc::Global;

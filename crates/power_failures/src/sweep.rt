@@ -2,7 +2,7 @@
 
 use crate::deeds::{DEEDS, Deed, Given, Progress, before, done_on};
 use crate::standing::{all_stand, is_right_on};
-use recover::SolverFault;
+use solver::SolverFault;
 use sector_disk::{FlakyDisk, FuseDisk, MemDisk, SectorDisk};
 use std::alloc::Global;
 use std::fmt::{self, Display, Formatter, Write};

@@ -1,90 +1,19 @@
-//! What holds of every table that a solver keeps: each is a law, which proofs cite by a call, or by the lemma of the same name in specs/.
-ghost use Rattle.std.specs.Prelude.{◌≡◌, ◌⊎◌, ◌↔◌, ℕ, List, Option, None, Some, IsTrue};
-ghost use Rattle.sector_disk.specs.Disk.{Picture, Shown, Disk, MayLeave};
-ghost use Rattle.rbg_game.specs.Games.{Game};
-ghost use Rattle.rbg_game.specs.declared.roles.Player.{Player};
-ghost use Rattle.rbg_read.specs.Reading.{Reads};
-ghost use Rattle.retrograde.specs.Changes.{counts_of};
-ghost use Rattle.retrograde.specs.Graph.{IsReachable};
-ghost use Rattle.retrograde.specs.Stored.{view_of};
-ghost use Rattle.retrograde.specs.Values.{WonIn, Drawn};
-ghost use Rattle.retrograde.specs.View.{IsKnown, HasNumber, HasValue, IsFinished};
-ghost use Rattle.best_line.specs.declared.answers.Value.{Value};
-ghost use Rattle.best_line.specs.Values.{IsComplete, IsValue};
-ghost use Rattle.best_line.specs.Laws.{IsSo};
-ghost use Rattle.game_file.specs.Kept.{Kept};
-ghost use Rattle.game_file.specs.State.{State};
-ghost use Rattle.recover.specs.Headline.{Headline};
-ghost use Rattle.recover.specs.Held.{Holds, IsSound, graph_in};
-ghost use Rattle.recover.specs.Histories.{Sitting, LeadTo, History};
-ghost use Rattle.recover.specs.Machine.{Command, MayDo};
-ghost use Rattle.recover.specs.Opening.{IsOpened};
+//! What holds of the tables that this program makes.
+ghost use Rattle.std.specs.Prelude.{List};
+ghost use Rattle.sector_disk.specs.Disk.{Picture, Shown, MayLeave};
+ghost use Rattle.solver.specs.Headline.{Headline};
+ghost use Rattle.solver.specs.Histories.{Sitting, History};
+ghost use Rattle.tree_table.specs.Held.{StoresTrees};
 
-use game_file::GameFile;
+use crate::TableFile;
+use sector_disk::SectorDisk;
+use solver::laws::the_headline;
 
-/// A picture of the disk stores one table at most.
-pub fn a_picture_stores_one_table<F: GameFile>()
-    ensures { (picture : Picture) (one other : Option Kept) → F.stores picture one → F.stores picture other → one ≡ other }
-{}
-
-/// A picture that stores a locally sound table holds it.
-pub fn a_sound_table_is_held<F: GameFile>()
-    ensures { (picture : Picture) (kept : Option Kept) → F.stores picture kept → IsSound kept → Holds F.stores picture kept }
-{}
-
-/// Where each stop of the power has left the one table or the other, one of them is opened.
-pub fn what_was_left_is_opened<F: GameFile>()
-    ensures { (disk : Disk) (count : ℕ) (state : State) (one other : Option Kept) → IsOpened F.stores disk count state → IsTrue disk.honest
-        → ((picture : Picture) → MayLeave disk.now picture → Holds F.stores picture one ⊎ Holds F.stores picture other)
-        → (state.kept ≡ one) ⊎ (state.kept ≡ other) }
-{}
-
-/// Each settled position of a locally sound table is won by the named player in exactly the named number of moves.
-pub fn what_is_settled_is_won()
-    ensures { (kept : Kept) (game : Game) → IsSound (Some kept) → Reads kept.text game
-        → (x : List ℕ) (w : Player) (n : ℕ) → HasValue (view_of kept.table) x w n → WonIn (graph_in game kept) w n x }
-{}
-
-/// A finished, locally sound table has exactly the positions that play can come to.
-pub fn finished_is_all()
-    ensures { (kept : Kept) (game : Game) → IsSound (Some kept) → Reads kept.text game → IsFinished (view_of kept.table)
-        → (x : List ℕ) → IsKnown (view_of kept.table) x ↔ IsReachable (graph_in game kept) x }
-{}
-
-/// A locally sound table is finished exactly if nothing is left to do by its counts: so what `status` and `work` answer tells it, and so
-/// does the word `finished` that a session prints.
-pub fn counts_tell_what_is_finished()
-    ensures { (kept : Kept) → IsSound (Some kept) → IsComplete (counts_of kept.table) ↔ IsFinished (view_of kept.table) }
-{}
-
-/// In a finished, locally sound table exactly the drawn positions are unsettled.
-pub fn finished_leaves_the_drawn()
-    ensures { (kept : Kept) (game : Game) → IsSound (Some kept) → Reads kept.text game → IsFinished (view_of kept.table)
-        → (i : ℕ) (x : List ℕ) → HasNumber (view_of kept.table) i x → ((view_of kept.table).value i ≡ None) ↔ Drawn (graph_in game kept) x }
-{}
-
-/// What is answered of a position of a locally sound table is so in the game: who is said to win it does, in so many moves
-/// and no fewer, and nobody wins what is said to be drawn.
-pub fn a_value_is_so()
-    ensures { (kept : Kept) (game : Game) → IsSound (Some kept) → Reads kept.text game → (i : ℕ) (x : List ℕ) (value : Value)
-        → HasNumber (view_of kept.table) i x → IsValue (view_of kept.table) i value → IsSo (graph_in game kept) x value }
-{}
-
-/// What a command may do to a locally sound table leaves it locally sound.
-pub fn what_may_be_done_is_sound()
-    ensures { (command : Command) (old new : Option Kept) → MayDo command old new → IsSound old → IsSound new }
-{}
-
-/// What sittings lead to from a locally sound table is locally sound.
-pub fn what_sittings_lead_to_is_sound()
-    ensures { (sittings : List Sitting) (old new : Option Kept) → LeadTo sittings old new → IsSound old → IsSound new }
-{}
-
-/// The headline. A table is made, and used in any number of sittings; each opens what was left, and may end by a stop of the power
-/// before or within any write. Whatever the last stop leaves, reopening gives a table which the sittings lead to: with all that was
-/// answered, and in each at most one command that was not. Each of its settled positions is won by the named player in exactly the
-/// named number of moves, and if it says finished, its positions are those that play can come to and the unsettled exactly the drawn.
-pub fn the_headline<F: GameFile>()
-    ensures { (sittings : List Sitting) (left : Shown) (picture : Picture) → History F.stores sittings left → MayLeave left picture
-        → Headline F.stores sittings picture }
-{}
+/// The headline of the tables that this program makes, with what a picture of their file holds: the gate's bit, the slot, the text's
+/// chain and the trees.
+pub fn the_headline_of_our_tables<D: SectorDisk>()
+    ensures { (sittings : List Sitting) (left : Shown) (picture : Picture) → History StoresTrees sittings left → MayLeave left picture
+        → Headline StoresTrees sittings picture }
+{
+    the_headline::<TableFile<D>>()
+}

@@ -1,22 +1,12 @@
-//! The solver: a game's table in a file, and the commands on it.
+//! The solver over the file of today's layout. This is the one crate that names the layout: whoever stands on `solver` alone is not
+//! proved again where the trees change.
 #![tactic(auto)]
 
-mod fault;
 pub mod laws;
-mod listing;
-mod listings;
-mod queries;
-mod replies;
-mod run;
-mod solver;
-mod with_game;
 
-pub use fault::{Refused, SolverFault};
-pub use listing::Listing;
-pub use replies::{Command, Reply, Units, Worked};
-pub use solver::FileSolver;
+pub use solver::{Command, FileSolver, Listing, Refused, Reply, SolverFault, Units, Worked};
 
-/// The file of today's layout, on a disk: no other line of the solver, the sessions and the program names a layout.
+/// The file of today's layout, on a disk.
 pub type TableFile<D> = tree_file::TreeFile<page_store::PageStore<D>>;
 
 /// A solver over such a file.

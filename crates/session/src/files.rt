@@ -7,7 +7,7 @@ use line_answers::advice::advice;
 use page_store::MIN_PAGES;
 use printed_lines::refused::Refused;
 use rbg_read::read::read_game;
-use recover::SolverFault;
+use solver::SolverFault;
 use root_pair::MAGIC;
 use sector_disk::FileDisk;
 use std::alloc::{AllocError, Global};

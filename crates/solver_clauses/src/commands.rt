@@ -1,13 +1,13 @@
 //! What changes a table.
 ghost use Rattle.std.specs.Prelude.{IfOk, IfErr, OnOk};
-ghost use Rattle.recover.specs.Machine.{work as work_on, LoadCause, WorkCause};
-ghost use Rattle.recover.specs.Runs.{IsRun};
-ghost use Rattle.recover.specs.Solvers.{state, IsReady};
-ghost use Rattle.recover.specs.Steps.{IsDone};
-ghost use Rattle.recover.specs.Units.{units_in};
+ghost use Rattle.solver.specs.Machine.{work as work_on, LoadCause, WorkCause};
+ghost use Rattle.solver.specs.Runs.{IsRun};
+ghost use Rattle.solver.specs.Solvers.{state, IsReady};
+ghost use Rattle.solver.specs.Steps.{IsDone};
+ghost use Rattle.solver.specs.Units.{units_in};
 
 use game_file::GameFile;
-use recover::{Command, FileSolver, Reply, SolverFault, Units, Worked};
+use solver::{Command, FileSolver, Reply, SolverFault, Units, Worked};
 
 /// `refused` of `FileSolver::load`, and of that the cause.
 pub fn load<F: GameFile>(solver: &mut FileSolver<F>, text: &[u8]) -> Result<(), SolverFault>

@@ -1,13 +1,13 @@
 //! What is asked of a table.
 ghost use Rattle.std.specs.Prelude.{◌≡◌, ◌<◌, true, IfOk, IsErrOf};
-ghost use Rattle.recover.specs.Audits.{HasVerdict};
-ghost use Rattle.recover.specs.Queries.{Tells, HasText};
-ghost use Rattle.recover.specs.Solvers.{state, IsReady};
+ghost use Rattle.solver.specs.Audits.{HasVerdict};
+ghost use Rattle.solver.specs.Queries.{Tells, HasText};
+ghost use Rattle.solver.specs.Solvers.{state, IsReady};
 
 use audit::Verdict;
 use best_line::Row;
 use game_file::GameFile;
-use recover::{FileSolver, SolverFault, Units};
+use solver::{FileSolver, SolverFault, Units};
 use retrograde::Record;
 use table::TableFault;
 

@@ -2,7 +2,8 @@
 
 use audit::Verdict;
 use game_file::GameFile;
-use recover::{FileSolver, TableFile};
+use recover::TableFile;
+use solver::FileSolver;
 use retrograde::Counts;
 use sector_disk::{FlakyDisk, MemDisk};
 use std::alloc::Global;

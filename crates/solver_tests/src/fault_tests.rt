@@ -2,7 +2,7 @@
 
 use crate::deeds::{InMemory, LOADED, WORKED, all_say, status, take_table};
 use game_file::GameFile;
-use recover::{FileSolver, SolverFault, Units, Worked};
+use solver::{FileSolver, SolverFault, Units, Worked};
 use sector_disk::{FlakyDisk, MemDisk};
 use std::alloc::Global;
 use std::test::Fail;

@@ -2,7 +2,7 @@
 
 use crate::deeds::{InMemory, empty_table, is_right, opened, unfailing};
 use game_file::GameFile;
-use recover::{Command, Reply, SolverFault, Units};
+use solver::{Command, Reply, SolverFault, Units};
 use retrograde::Counts;
 use std::alloc::Global;
 use std::test::Fail;

@@ -7,11 +7,11 @@ use Rattle.sector_disk.specs.Disk.{Disk, size, IsFresh}
 use Rattle.game_file.specs.Calls.{IsNotOpened}
 use Rattle.game_file.specs.State.{State, GoesAhead}
 use Rattle.game_file.specs.Kept.{Layout}
-use Rattle.recover.specs.declared.replies.Reply.{Reply}
-use Rattle.recover.specs.Headline.{IsPart, LeavesAPrefix}
-use Rattle.recover.specs.Histories.{Sitting, History, was_made, was_reopened, was_not_opened, IsSitting, IsFound, no_call, by_closing}
-use Rattle.recover.specs.Machine.{Command}
-use Rattle.recover.specs.Opening.{IsCreated, IsOpened}
+use Rattle.solver.specs.declared.replies.Reply.{Reply}
+use Rattle.solver.specs.Headline.{IsPart, LeavesAPrefix}
+use Rattle.solver.specs.Histories.{Sitting, History, was_made, was_reopened, was_not_opened, IsSitting, IsFound, no_call, by_closing}
+use Rattle.solver.specs.Machine.{Command}
+use Rattle.solver.specs.Opening.{IsCreated, IsOpened}
 use Rattle.witness.specs.aid.Sittings.{IsOwn, AreOwn, IsOwnSitting, IsBehindSittings, EndsOwnSitting}
 
 fresh_size : (disk : Disk) → IsFresh 256 disk → size disk ≡ 256

@@ -28,18 +28,18 @@ use Rattle.best_line.specs.Laws.{IsSo}
 use Rattle.best_line.specs.Values.{IsValue}
 use Rattle.game_file.specs.Kept.{Kept, Layout}
 use Rattle.game_file.specs.State.{State, GoesAhead}
-use Rattle.recover.specs.declared.fault.SolverFault.{SolverFault}
-use Rattle.recover.specs.declared.fault.SolverFault.TheVariants as fault
-use Rattle.recover.specs.declared.replies.Reply.{Reply}
-use Rattle.recover.specs.declared.replies.Reply.TheVariants.{Loaded, Worked, Refused}
-use Rattle.recover.specs.Headline.{Headline, IsUnlucky}
-use Rattle.recover.specs.Held.{IsSound}
-use Rattle.recover.specs.Histories.{Sitting, History, DoAll, DoesInDoubt, LeadTo}
-use Rattle.recover.specs.aid.Laws.{a_sound_table_is_right, a_value_is_so}
-use Rattle.recover.specs.Machine.{Command, load, work, Does, WorksOnTable, TextCause, LoadCause, WorkCause, StopsAt}
-use Rattle.recover.specs.Opening.{IsOpened, OpenCause, CreateCause}
-use Rattle.recover.specs.Queries.{OfKept, Tells, HasValueAt, AskCause, NumberCause, IsThere}
-use Rattle.recover.specs.Steps.{IsDone, IsRefused}
+use Rattle.solver.specs.declared.fault.SolverFault.{SolverFault}
+use Rattle.solver.specs.declared.fault.SolverFault.TheVariants as fault
+use Rattle.solver.specs.declared.replies.Reply.{Reply}
+use Rattle.solver.specs.declared.replies.Reply.TheVariants.{Loaded, Worked, Refused}
+use Rattle.solver.specs.Headline.{Headline, IsUnlucky}
+use Rattle.solver.specs.Held.{IsSound}
+use Rattle.solver.specs.Histories.{Sitting, History, DoAll, DoesInDoubt, LeadTo}
+use Rattle.solver.specs.aid.Laws.{a_sound_table_is_right, a_value_is_so}
+use Rattle.solver.specs.Machine.{Command, load, work, Does, WorksOnTable, TextCause, LoadCause, WorkCause, StopsAt}
+use Rattle.solver.specs.Opening.{IsOpened, OpenCause, CreateCause}
+use Rattle.solver.specs.Queries.{OfKept, Tells, HasValueAt, AskCause, NumberCause, IsThere}
+use Rattle.solver.specs.Steps.{IsDone, IsRefused}
 use Rattle.witness.specs.Game.{witness_text, witness_game}
 use Rattle.witness.specs.Sittings.{IsWantOfRoom}
 use Rattle.witness.specs.aid.Sittings.{IsOwn, AreOwn, IsOwnSitting, IsBehindSittings, IsFoundBehind, IsNoneOrIt, IsIt, IsItFinished, HasTable}

@@ -2,9 +2,9 @@ pub use Rattle.game_file.specs.State
 pub use Rattle.legal_moves.specs.Moves
 pub use Rattle.legal_moves.specs.Sources
 pub use Rattle.rbg_read.specs.Reading
-pub use Rattle.recover.specs.Held
-pub use Rattle.recover.specs.Solvers
-pub use Rattle.recover.specs.Units
+pub use Rattle.solver.specs.Held
+pub use Rattle.solver.specs.Solvers
+pub use Rattle.solver.specs.Units
 pub use Rattle.retrograde.specs.Values
 pub use Rattle.sector_disk.specs.Disk
 pub mod Game

@@ -1,7 +1,7 @@
 -- What may keep the small game from its answer.
 use Rattle.rbg_read.specs.declared.fault.GameFault.TheVariants as game_fault
-use Rattle.recover.specs.declared.fault.SolverFault.{SolverFault}
-use Rattle.recover.specs.declared.fault.SolverFault.TheVariants.{Disk as DiskFailed, TableFull, OutOfMemory, Game as BadGame}
+use Rattle.solver.specs.declared.fault.SolverFault.{SolverFault}
+use Rattle.solver.specs.declared.fault.SolverFault.TheVariants.{Disk as DiskFailed, TableFull, OutOfMemory, Game as BadGame}
 
 -- memory ran out: for the solver (E8), for the reader of the text (G10), or for the disk in memory, which fails for nothing else
 -- (E1); or no page was free (E7)

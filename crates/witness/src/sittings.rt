@@ -4,9 +4,9 @@ ghost use Rattle.best_line.specs.declared.answers.Value.TheVariants.{Won};
 ghost use Rattle.rbg_game.specs.declared.roles.Player.TheVariants.{First};
 ghost use Rattle.sector_disk.specs.Disk.{IsFresh};
 ghost use Rattle.game_file.specs.State.{GoesAhead};
-ghost use Rattle.recover.specs.Held.{IsSound};
-ghost use Rattle.recover.specs.Solvers.{state, IsReady};
-ghost use Rattle.recover.specs.Units.{units_in};
+ghost use Rattle.solver.specs.Held.{IsSound};
+ghost use Rattle.solver.specs.Solvers.{state, IsReady};
+ghost use Rattle.solver.specs.Units.{units_in};
 ghost use Rattle.witness.specs.Game.{witness_text};
 ghost use Rattle.witness.specs.Sittings.{IsWantOfRoom};
 ghost use Rattle.witness.specs.aid.Sittings.{IsBehindSittings, IsFoundBehind};
@@ -14,8 +14,8 @@ ghost use Rattle.witness.specs.aid.Sittings.{EndsOwnSitting, HasTable, IsNoneOrI
 
 use best_line::Value;
 use game_file::GameFile;
-use recover::laws::{the_headline, what_sittings_lead_to_is_sound};
-use recover::{Command, FileSolver, SolverFault, Units};
+use solver::laws::{the_headline, what_sittings_lead_to_is_sound};
+use solver::{Command, FileSolver, SolverFault, Units};
 use std::alloc::Global;
 
 /// The text of the small game.

@@ -6,7 +6,8 @@ ghost use Rattle.witness.specs.Sittings.{IsWantOfRoom};
 
 use crate::sittings::{make, use_table, value_of};
 use best_line::Value;
-use recover::{SolverFault, TableFile};
+use recover::TableFile;
+use solver::SolverFault;
 use sector_disk::{FuseDisk, MemDisk};
 use std::alloc::Global;
 

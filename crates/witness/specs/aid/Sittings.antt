@@ -6,11 +6,11 @@ use Rattle.retrograde.specs.Stored.{view_of}
 use Rattle.retrograde.specs.View.{IsFinished}
 use Rattle.game_file.specs.Kept.{Kept, Layout}
 use Rattle.game_file.specs.State.{State}
-use Rattle.recover.specs.declared.replies.Reply.{Reply}
-use Rattle.recover.specs.Held.{IsSound}
-use Rattle.recover.specs.Histories.{Sitting, IsSitting, History}
-use Rattle.recover.specs.Machine.{Command, load, work}
-use Rattle.recover.specs.Queries.{OfKept}
+use Rattle.solver.specs.declared.replies.Reply.{Reply}
+use Rattle.solver.specs.Held.{IsSound}
+use Rattle.solver.specs.Histories.{Sitting, IsSitting, History}
+use Rattle.solver.specs.Machine.{Command, load, work}
+use Rattle.solver.specs.Queries.{OfKept}
 use Rattle.witness.specs.Game.{witness_text}
 
 -- the command loads the small game, or works

@@ -1,5 +1,5 @@
 use Rattle.std.proofs.Common.{rules, inl, inr, ap}
-use Rattle.recover.specs.Solvers.{state}
+use Rattle.solver.specs.Solvers.{state}
 use Rattle.line_answers.proofs.questions.put_worked.Goals as goal
 
 pub returns-in-Refused-clause-done : goal.returns-in-Refused-clause-done

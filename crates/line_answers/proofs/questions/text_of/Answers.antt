@@ -1,4 +1,4 @@
-use Rattle.recover.specs.Solvers.{state}
+use Rattle.solver.specs.Solvers.{state}
 use Rattle.line_answers.proofs.Telling.{play_told}
 use Rattle.line_answers.proofs.questions.text_of.Goals as goal
 

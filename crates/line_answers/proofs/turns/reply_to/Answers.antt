@@ -1,7 +1,7 @@
 use Rattle.std.proofs.Common.{inl, ap, ◌∙◌}
 use Rattle.std.specs.Prelude.{slice_get, unwrap_or}
-use Rattle.recover.specs.declared.replies.Reply.TheVariants as answer
-use Rattle.recover.specs.declared.fault.SolverFault.TheVariants as fault
+use Rattle.solver.specs.declared.replies.Reply.TheVariants as answer
+use Rattle.solver.specs.declared.fault.SolverFault.TheVariants as fault
 use Rattle.line_answers.proofs.OneReply.{one_reply}
 use Rattle.line_answers.proofs.turns.reply_to.Goals as goal
 

@@ -1,5 +1,5 @@
 use Rattle.std.proofs.lemmas.Result.{IfOk-weaker, IfErr-weaker}
-use Rattle.recover.specs.Solvers.{state}
+use Rattle.solver.specs.Solvers.{state}
 use Rattle.witness.proofs.Telling.{work_done, work_refused, value_is, value_refused}
 use Rattle.witness.proofs.sittings.answer.Goals as goal
 

@@ -1,4 +1,4 @@
-use Rattle.recover.specs.Solvers.{state}
+use Rattle.solver.specs.Solvers.{state}
 use Rattle.witness.proofs.Behind.{sitting_of}
 use Rattle.witness.proofs.sittings.use_solver.Goals as goal
 

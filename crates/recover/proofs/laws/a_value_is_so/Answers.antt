@@ -1,5 +1,0 @@
-use Rattle.recover.specs.aid.Laws.{a_value_is_so}
-use Rattle.recover.proofs.laws.a_value_is_so.Goals as goal
-
-pub returns : goal.returns
-returns c = a_value_is_so

@@ -1,5 +1,0 @@
-use Rattle.best_line.proofs.FinishLemmas.{complete_finished, finished_complete}
-use Rattle.recover.proofs.laws.counts_tell_what_is_finished.Goals as goal
-
-pub returns : goal.returns
-returns c = λ kept sound. (complete_finished kept.table sound.2.table, finished_complete kept.table sound.2.table)

@@ -1,5 +1,0 @@
-use Rattle.recover.specs.aid.Laws.{finished_leaves_the_drawn}
-use Rattle.recover.proofs.laws.finished_leaves_the_drawn.Goals as goal
-
-pub returns : goal.returns
-returns c = finished_leaves_the_drawn

@@ -1,5 +1,0 @@
-use Rattle.recover.specs.aid.Laws.{what_is_settled_is_won}
-use Rattle.recover.proofs.laws.what_is_settled_is_won.Goals as goal
-
-pub returns : goal.returns
-returns c = what_is_settled_is_won

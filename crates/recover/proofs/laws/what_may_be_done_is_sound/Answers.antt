@@ -1,5 +1,0 @@
-use Rattle.recover.proofs.Prefixes.{what_may_be_done_is_sound}
-use Rattle.recover.proofs.laws.what_may_be_done_is_sound.Goals as goal
-
-pub returns : goal.returns
-returns c = what_may_be_done_is_sound

@@ -1,5 +1,0 @@
-use Rattle.recover.proofs.Prefixes.{what_sittings_lead_to_is_sound}
-use Rattle.recover.proofs.laws.what_sittings_lead_to_is_sound.Goals as goal
-
-pub returns : goal.returns
-returns c = what_sittings_lead_to_is_sound

@@ -1,5 +1,0 @@
-use Rattle.recover.specs.aid.Laws.{what_was_left_is_opened}
-use Rattle.recover.proofs.laws.what_was_left_is_opened.Goals as goal
-
-pub returns : goal.returns
-returns g c = what_was_left_is_opened g.F.GameFile.stores

@@ -1,6 +1,0 @@
--- How many units a command asks for.
-use Rattle.std.specs.Prelude.{ℕ}
-use Rattle.recover.specs.declared.replies.Units.{Units}
-
-abbrev pub units_in : Units → ℕ
-units_in units = units.count

@@ -1,0 +1,96 @@
+-- What is left behind the sittings of a history is a table that they lead to, and reopening gives it.
+use Rattle.std.proofs.Common.{◌≡◌, inl, inr, ℕ, List, [], ◌∷◌, ◌++◌, Option, None, refl, sym, subst}
+use Rattle.std.specs.Prelude.{IsTrue}
+use Rattle.sector_disk.specs.Disk.{Picture, Shown, Disk, MayLeave}
+use Rattle.sector_disk.specs.aid.Moments.{reads_left, still_honest}
+use Rattle.root_pair.specs.Root.{IsTablePicture}
+use Rattle.game_file.specs.Kept.{Kept, Layout}
+use Rattle.game_file.specs.State.{State}
+use Rattle.game_file.specs.Stops.{LeavesNow}
+use Rattle.solver.specs.declared.fault.SolverFault.{SolverFault}
+use Rattle.solver.specs.declared.fault.SolverFault.TheVariants.{Disk as DiskFailed, NotATable, AlreadyATable, Damaged, OldLayout, TooSmall, TableFull, OutOfMemory, Closed, Game as BadGame, NoGame, GameAlready, KeeperChooses, TooWide, TooManyPositions, Inconsistent, NoSuchPosition, NotSettled, ListingsUsedUp, BadPosition}
+use Rattle.solver.specs.Headline.{IsUnlucky, Reopens, Headline}
+use Rattle.solver.specs.Held.{Holds, IsSound}
+use Rattle.solver.specs.Histories.{Sitting, LeadTo, History, was_made, was_reopened, was_not_opened}
+use Rattle.solver.specs.aid.Laws.{a_sound_table_is_held}
+use Rattle.solver.specs.Opening.{IsOpened, OpenCause}
+use Rattle.solver.proofs.Prefixes.{what_sittings_lead_to_is_sound, sitting_leads, a_sound_table_is_exact}
+
+-- one sitting more
+lead_more : (sittings : List Sitting) (sitting : Sitting) (old mid new : Option Kept) → LeadTo sittings old mid → LeadTo (sitting ∷ []) mid new → LeadTo (sittings ++ (sitting ∷ [])) old new
+lead_more [] sitting old mid new same leads = subst (λ (k : Option Kept). LeadTo (sitting ∷ []) k new) same leads
+lead_more (s ∷ sittings) sitting old mid new (begins, (last, all, (left, may, rest))) leads =
+    (begins, (last, all, (left, may, lead_more sittings sitting left mid new rest leads)))
+
+module _ (Stores : Layout) where
+  -- a table that the sittings lead to, stored
+  abbrev IsLeft : List Sitting → Picture → Type 0
+  IsLeft sittings picture = (kept : Option Kept) × LeadTo sittings None kept × Stores picture kept
+
+  sound_here : (sittings : List Sitting) (kept : Option Kept) → LeadTo sittings None kept → IsSound kept
+  sound_here sittings kept leads = what_sittings_lead_to_is_sound sittings None kept leads tt
+
+  history_leads : {sittings : List Sitting} {left : Shown} → History Stores sittings left → (picture : Picture) → MayLeave left picture → IsLeft sittings picture
+  history_leads (was_made {disk} {count} {was} {sitting} {left} honest created sits) picture may =
+      let none : was.kept ≡ None = created.empty honest in
+      let (kept, leads, stores) =
+      sitting_leads Stores was sitting left sits (still_honest created.from.goes_on honest) (subst (λ (k : Option Kept). IsSound k) (sym none) tt)
+      (subst (λ (k : Option Kept). LeavesNow Stores was.disk k) (sym none) (created.now honest)) picture may in
+      (kept, subst (λ (k : Option Kept). LeadTo (sitting ∷ []) k kept) none leads, stores)
+  history_leads (was_reopened {sittings} {before} {left} {disk} {count} {was} {sitting} history found opened sits) picture may =
+      let (old, led, stored) = history_leads history disk.now.contents (found.as_left disk.now.contents (reads_left disk)) in
+      let sound = sound_here sittings old led in
+      let same : was.kept ≡ old = opened.only found.honest old (a_sound_table_is_held Stores disk.now.contents old stored sound) in
+      let (kept, leads, stores) =
+      sitting_leads Stores was sitting left sits (still_honest opened.from.goes_on found.honest) (subst (λ (k : Option Kept). IsSound k) (sym same) sound) (opened.now found.honest) picture may in
+      (kept, lead_more sittings sitting None old kept led (subst (λ (k : Option Kept). LeadTo (sitting ∷ []) k kept) same leads), stores)
+  history_leads (was_not_opened history found leaves moment from to) picture may = history_leads history picture (found.as_left picture (leaves.each moment picture from to may))
+
+  -- a disk that holds a table is opened with it
+  pub opened_so : (disk : Disk) (count : ℕ) (state : State) (kept : Option Kept) → IsTrue disk.honest → Holds Stores disk.now.contents kept → IsOpened Stores disk count state
+      → (state.kept ≡ kept) × LeavesNow Stores state.disk kept
+  opened_so disk count state kept honest holds opened =
+      let same = opened.only honest kept holds in
+      (same, subst (λ (k : Option Kept). LeavesNow Stores state.disk k) same (opened.now honest))
+
+  module _ (begins : (picture : Picture) (kept : Option Kept) → Stores picture kept → IsTablePicture picture) where
+    -- or that is refused for want of memory or for a fault of the disk
+    pub opens_or_fails : (disk : Disk) (before now : ℕ) (kept : Option Kept) (fault : SolverFault) → IsTrue disk.honest → Holds Stores disk.now.contents kept
+        → OpenCause Stores disk before now fault → IsUnlucky before now fault
+    opens_or_fails disk before now kept DiskFailed honest holds cause = inl (refl, cause)
+    opens_or_fails disk before now kept NotATable honest holds cause = absurd (cause honest (begins disk.now.contents kept holds.stores))
+    opens_or_fails disk before now kept AlreadyATable honest holds cause = absurd cause
+    opens_or_fails disk before now kept Damaged honest holds cause = absurd (cause honest kept holds)
+    opens_or_fails disk before now kept OldLayout honest holds cause = absurd (cause honest kept holds.stores)
+    opens_or_fails disk before now kept TooSmall honest holds cause = absurd cause
+    opens_or_fails disk before now kept TableFull honest holds cause = absurd cause
+    opens_or_fails disk before now kept OutOfMemory honest holds cause = inr refl
+    opens_or_fails disk before now kept Closed honest holds cause = absurd cause
+    opens_or_fails disk before now kept (BadGame fault) honest holds cause = absurd cause
+    opens_or_fails disk before now kept NoGame honest holds cause = absurd cause
+    opens_or_fails disk before now kept GameAlready honest holds cause = absurd cause
+    opens_or_fails disk before now kept (KeeperChooses number) honest holds cause = absurd cause
+    opens_or_fails disk before now kept TooWide honest holds cause = absurd cause
+    opens_or_fails disk before now kept TooManyPositions honest holds cause = absurd cause
+    opens_or_fails disk before now kept Inconsistent honest holds cause = absurd cause
+    opens_or_fails disk before now kept NoSuchPosition honest holds cause = absurd cause
+    opens_or_fails disk before now kept NotSettled honest holds cause = absurd cause
+    opens_or_fails disk before now kept ListingsUsedUp honest holds cause = absurd cause
+    opens_or_fails disk before now kept BadPosition honest holds cause = absurd cause
+
+    -- reopening gives the table that a picture holds
+    pub reopens : (picture : Picture) (kept : Option Kept) → Holds Stores picture kept → Reopens Stores picture kept
+    reopens picture kept holds = record {
+      holds = holds;
+      gives = λ disk count state honest reads opened.
+          opened_so disk count state kept honest (subst (λ (p : Picture). Holds Stores p kept) (sym reads) holds) opened;
+      fails = λ disk before now fault honest reads cause.
+          opens_or_fails disk before now kept fault honest (subst (λ (p : Picture). Holds Stores p kept) (sym reads) holds) cause;
+    }
+
+    -- the headline
+    pub the_headline : (sittings : List Sitting) (left : Shown) (picture : Picture) → History Stores sittings left → MayLeave left picture → Headline Stores sittings picture
+    the_headline sittings left picture history may =
+        let (kept, leads, stores) = history_leads history picture may in
+        let sound = sound_here sittings kept leads in
+        (kept, leads, reopens picture kept (a_sound_table_is_held Stores picture kept stores sound), a_sound_table_is_exact kept sound)

@@ -1,0 +1,122 @@
+-- A game is loaded, or not.
+use Rattle.std.proofs.Common.{◌≡◌, ◌≢◌, ◌⊎◌, ℕ, List, Option, None, Some, length, sym, ◌∙◌, ap, subst, false}
+use Rattle.std.specs.Prelude.{IsTrue}
+use Rattle.std.proofs.lemmas.Option.{same_Some}
+use Rattle.sector_disk.specs.Disk.{GoesOn}
+use Rattle.sector_disk.specs.aid.Moments.{leaves_more, still_honest}
+use Rattle.rbg_game.specs.Games.{Game}
+use Rattle.rbg_read.specs.Reading.{Reads}
+use Rattle.position_pack.specs.declared.kind.PackingKind.{PackingKind}
+use Rattle.position_pack.specs.declared.kind.PackingKind.TheVariants.{Bits}
+use Rattle.legal_moves.specs.Sources.{IsWideAt, graph_of}
+use Rattle.retrograde.specs.Sound.{IsLocallySound}
+use Rattle.legal_moves.specs.Compiled.{compiled_game, packing_kind}
+use Rattle.legal_moves.specs.declared.compiled.Compiled.{Compiled}
+use Rattle.retrograde.specs.Stored.{loaded}
+use Rattle.table.specs.Fitting.{FitsTogether}
+use Rattle.game_table.specs.aid.Laws.{starts_are_positions, sound_tables_fit, a_first_table_is_sound}
+use Rattle.game_table.specs.Tables.{packed_length}
+use Rattle.game_file.specs.Calls.{IsPut, IsNotPut}
+use Rattle.game_file.specs.Causes.{FileLoadCause}
+use Rattle.game_file.specs.Kept.{Kept, Layout, kept_as, text_kept, packing_kept}
+use Rattle.game_file.specs.State.{State}
+use Rattle.game_file.specs.Stops.{LeavesNow}
+use Rattle.game_file.specs.declared.fault.FileFault.{FileFault}
+use Rattle.game_file.specs.declared.fault.FileFault.TheVariants as file
+use Rattle.solver.specs.Faults.{file_fault}
+use Rattle.solver.specs.Held.{IsSound}
+use Rattle.solver.specs.declared.replies.Reply.TheVariants.{Loaded}
+use Rattle.solver.specs.Machine.{load, Loads, LoadCause}
+use Rattle.solver.specs.State.{IsSourceOf}
+use Rattle.solver.specs.Steps.{IsDone, IsRefused}
+use Rattle.solver.specs.Stops.{StopsDone}
+
+-- what is open and whole leaves what it keeps
+abbrev pub Leaves : Layout → State → Type 0
+Leaves Stores state = IsTrue state.disk.honest → state.closed ≡ false → LeavesNow Stores state.disk state.kept
+
+-- after a table was put in the place of another, a stop leaves the one or the other
+pub put_stops : (Stores : Layout) (is : Kept) (old new : State) → Leaves Stores new → GoesOn old.disk new.disk → IsPut Stores is old new → StopsDone Stores old new
+put_stops Stores is old new leaves goes_on put = record {
+  is_open = put.is_open;
+  since = λ honest. leaves_more
+      (λ picture either. subst (λ (kept : Option Kept). Stores picture old.kept ⊎ Stores picture kept) (sym (put.kept honest)) either)
+      (put.leaves honest);
+  now = λ honest. leaves (still_honest goes_on honest) put.is_open;
+}
+
+-- the game in memory is that of a table with this text and packing
+pub source_of_text : (source : Compiled) (kept : Option Kept) (text : List ℕ) (packing : PackingKind) → text_kept kept ≡ Some text → packing_kept kept ≡ Some packing
+    → Reads text (compiled_game source) → packing_kind source ≡ packing → IsSourceOf (Some source) kept
+source_of_text source None text packing is packed is_read kind = absurd (cc)
+source_of_text source (Some kept) text packing is packed is_read kind = record {
+  reads = subst (λ (t : List ℕ). Reads t (compiled_game source)) (sym (same_Some kept.text text is)) is_read;
+  packing = kind ∙ sym (same_Some kept.packing packing packed);
+}
+
+-- and of another with the same ones
+pub same_source : (source : Option Compiled) (old new : Option Kept) → text_kept new ≡ text_kept old → packing_kept new ≡ packing_kept old → IsSourceOf source old → IsSourceOf source new
+same_source None None None is packed it = tt
+same_source None None (Some k) is packed it = absurd (cc)
+same_source None (Some k) new is packed it = absurd it
+same_source (Some s) None new is packed it = absurd it
+same_source (Some s) (Some k) None is packed it = absurd (cc)
+same_source (Some s) (Some k) (Some l) is packed it = source_of_text s (Some l) k.text k.packing is packed it.reads it.packing
+
+-- what is so of a start by one packing is so by another that is the same
+pub start_by : (kind other : PackingKind) (game : Game) (start : List ℕ) → kind ≡ other → start ≡ (graph_of kind game).start → start ≡ (graph_of other game).start
+start_by kind other game start is it = subst (λ (k : PackingKind). start ≡ (graph_of k game).start) is it
+
+pub long_by : (kind other : PackingKind) (game : Game) (long : ℕ) → kind ≡ other → long ≡ packed_length kind game → long ≡ packed_length other game
+long_by kind other game long is it = subst (λ (k : PackingKind). long ≡ packed_length k game) is it
+
+module _ (Stores : Layout) (text start : List ℕ) (game : Game) (reads : Reads text game) (start_is : start ≡ (graph_of Bits game).start) (old new : State) (none : old.kept ≡ None) where
+  loads : Loads text old.kept (Some (kept_as text Bits (loaded start)))
+  loads = record { none = none; game = game; reads = reads; is = ap (λ (s : List ℕ). Some (kept_as text Bits (loaded s))) start_is }
+
+  pub loaded_done : Leaves Stores new → GoesOn old.disk new.disk → IsPut Stores (kept_as text Bits (loaded start)) old new → IsDone Stores (load text) Loaded old new
+  loaded_done leaves goes_on put = record {
+    step = record {
+      does = λ honest. record { none = none; game = game; reads = reads; is = put.kept honest ∙ ap (λ (s : List ℕ). Some (kept_as text Bits (loaded s))) start_is };
+      reason = tt;
+    };
+    stops = put_stops Stores (kept_as text Bits (loaded start)) old new leaves goes_on put;
+  }
+
+  load_cause : (fault : FileFault) → length start ≡ packed_length Bits game → FileLoadCause start old new fault → LoadCause text old new (file_fault fault)
+  load_cause file.Disk long cause = cause
+  load_cause file.NotATable long cause = absurd cause
+  load_cause file.AlreadyATable long cause = absurd cause
+  load_cause file.Damaged long cause = cause
+  load_cause file.OldLayout long cause = absurd cause
+  load_cause file.TooSmall long cause = absurd cause
+  load_cause file.TableFull long cause = (cause, (game, reads))
+  load_cause file.OutOfMemory long cause = tt
+  load_cause file.Closed long cause = cause
+  load_cause file.Inconsistent long cause =
+      let (are, fits) = sound_tables_fit Bits game (loaded (graph_of Bits game).start) (starts_are_positions text game reads) (a_first_table_is_sound Bits game) in
+      absurd (cause (subst (λ (s : List ℕ). FitsTogether (length start) (loaded s)) (sym start_is) (subst (λ (n : ℕ). FitsTogether n (loaded (graph_of Bits game).start)) (sym long) fits)))
+
+  pub loaded_refused : (fault : FileFault) → length start ≡ packed_length Bits game → IsNotPut Stores (kept_as text Bits (loaded start)) old new
+      → FileLoadCause start old new fault → (fault ≢ file.Disk → new.closed ≡ old.closed) → IsRefused Stores (load text) old new (file_fault fault)
+  loaded_refused fault long left cause still = record {
+    step = record { does = left.kept; reason = load_cause fault long cause };
+    stops = record {
+      commits = left.commits;
+      text = left.text;
+      packing = left.packing;
+      same = left.kept;
+      since = left.leaves;
+      failed = λ honest was is. (Some (kept_as text Bits (loaded start)), (Loaded, loads), left.either honest was);
+    };
+    still = λ other. still (λ is. other (ap file_fault is));
+  }
+
+  -- the game in memory is the table's
+  pub loaded_source : (source : Compiled) → compiled_game source ≡ game → packing_kind source ≡ Bits → IsPut Stores (kept_as text Bits (loaded start)) old new → IsSourceOf (Some source) new.kept
+  loaded_source source same kind put = source_of_text source new.kept text Bits put.text put.packing (subst (λ (g : Game). Reads text g) (sym same) reads) kind
+
+  pub loaded_sound : IsTrue old.disk.honest → IsPut Stores (kept_as text Bits (loaded start)) old new → IsSound new.kept
+  loaded_sound honest put =
+      subst (λ (kept : Option Kept). IsSound kept) (sym (put.kept honest))
+      (game, reads, subst (λ (s : List ℕ). IsLocallySound (graph_of Bits game) (IsWideAt Bits game) (loaded s)) (sym start_is) (a_first_table_is_sound Bits game))

@@ -1,0 +1,246 @@
+-- A stop in the course of many commands leaves a table after some of them.
+use Rattle.std.proofs.Common.{◌≡◌, ◌⊎◌, inl, inr, ℕ, ◌≤◌, ◌<◌, Bool, true, false, List, [], ◌∷◌, ◌++◌, map, Option, None, Some, refl, sym, ◌∙◌, ap, subst, arith}
+use Rattle.std.specs.Prelude.{IsTrue}
+use Rattle.std.proofs.lemmas.Bool.{cases_lt}
+use Rattle.sector_disk.specs.Disk.{Picture, Shown, GoesOn, MayLeave}
+use Rattle.sector_disk.specs.aid.Moments.{still_honest, goes_on_refl, goes_on_trans}
+use Rattle.rbg_read.specs.Reading.{Reads}
+use Rattle.position_pack.specs.declared.kind.PackingKind.{PackingKind}
+use Rattle.position_pack.specs.declared.kind.PackingKind.TheVariants.{Bits}
+use Rattle.legal_moves.specs.Sources.{IsWideAt, graph_of}
+use Rattle.retrograde.specs.Sound.{IsLocallySound}
+use Rattle.game_table.specs.aid.Laws.{a_first_table_is_sound}
+use Rattle.game_file.specs.Kept.{Kept, Layout}
+use Rattle.game_file.specs.State.{State}
+use Rattle.game_file.specs.Stops.{LeavesNow}
+use Rattle.solver.specs.declared.replies.Command.{Command as Asked}
+use Rattle.solver.specs.declared.fault.SolverFault.TheVariants.{Disk as DiskFailed}
+use Rattle.solver.specs.declared.replies.Reply.{Reply}
+use Rattle.solver.specs.declared.replies.Reply.TheVariants.{Loaded, Worked, Refused}
+use Rattle.solver.specs.Held.{Holds, IsSound}
+use Rattle.solver.specs.Headline.{IsExact, IsPart, LeavesAPrefix}
+use Rattle.solver.specs.Histories.{Sitting, DoAll, DoesInDoubt, LeadTo, IsUsed, no_call, a_question, a_command, Ends, by_closing, in_a_question, in_a_command, by_a_fault, IsSitting}
+use Rattle.solver.specs.aid.Laws.{a_sound_table_is_held, what_is_settled_is_won, finished_is_all, finished_leaves_the_drawn}
+use Rattle.solver.specs.Machine.{Command, load, work, Does, MayDo}
+use Rattle.solver.specs.Runs.{command_of, IsTurn, Turns, IsRun}
+
+-- what a sound table says is so
+pub a_sound_table_is_exact : (kept : Option Kept) → IsSound kept → IsExact kept
+a_sound_table_is_exact None sound = tt
+a_sound_table_is_exact (Some kept) (game, is_read, sound) =
+    let it : IsSound (Some kept) = (game, is_read, sound) in (
+      game,
+      record {
+        reads = is_read;
+        won = what_is_settled_is_won kept game it is_read;
+        all = λ finished. finished_is_all kept game it is_read finished;
+        drawn = λ finished. finished_leaves_the_drawn kept game it is_read finished;
+      },
+    )
+
+-- what a command may do to a sound table leaves it sound
+does_sound : (reply : Reply) (command : Command) (old new : Option Kept) → Does reply command old new → IsSound old → IsSound new
+does_sound Loaded (load text) old new loads sound = subst (λ (k : Option Kept). IsSound k) (sym loads.is) (loads.game, loads.reads, a_first_table_is_sound Bits loads.game)
+does_sound Loaded (work units) old new does sound = absurd does
+does_sound (Worked done counts) (load text) old new does sound = absurd does
+does_sound (Worked done counts) (work units) old new works sound =
+    let (game, is_read, here) : IsSound (Some works.was) = subst (λ (k : Option Kept). IsSound k) works.loaded sound in
+    subst (λ (k : Option Kept). IsSound k) (sym works.worked) (
+      game,
+      subst (λ (text : List ℕ). Reads text game) (sym works.same_text) is_read,
+      subst (λ (packing : PackingKind). IsLocallySound (graph_of packing game) (IsWideAt packing game) works.is.table) (sym works.same_packing) (works.work game is_read here).sound,
+    )
+does_sound (Refused fault) command old new same sound = subst (λ (k : Option Kept). IsSound k) (sym same) sound
+
+pub what_may_be_done_is_sound : (command : Command) (old new : Option Kept) → MayDo command old new → IsSound old → IsSound new
+what_may_be_done_is_sound command old new (reply, does) sound = does_sound reply command old new does sound
+
+all_sound : (answered : List (Command × Reply)) (old new : Option Kept) → DoAll answered old new → IsSound old → IsSound new
+all_sound [] old new same sound = subst (λ (k : Option Kept). IsSound k) (sym same) sound
+all_sound ((command, reply) ∷ answered) old new (mid, does, rest) sound =
+    all_sound answered mid new rest (does_sound reply command old mid does sound)
+
+may_sound : (in_doubt : Option Command) (old new : Option Kept) → DoesInDoubt in_doubt old new → IsSound old → IsSound new
+may_sound None old new same sound = subst (λ (k : Option Kept). IsSound k) (sym same) sound
+may_sound (Some command) old new may sound = what_may_be_done_is_sound command old new may sound
+
+-- what sittings lead to from a sound table is sound
+pub what_sittings_lead_to_is_sound : (sittings : List Sitting) (old new : Option Kept) → LeadTo sittings old new → IsSound old → IsSound new
+what_sittings_lead_to_is_sound [] old new same sound = subst (λ (k : Option Kept). IsSound k) (sym same) sound
+what_sittings_lead_to_is_sound (sitting ∷ sittings) old new (begins, (mid, all, (left, may, rest))) sound =
+    what_sittings_lead_to_is_sound sittings left new rest (may_sound sitting.in_doubt mid left may (all_sound sitting.answered old mid all sound))
+
+module _ (Stores : Layout) where
+  -- a solver that is open was open before
+  turn_open : (b : Bool) (command : Command) (reply : Reply) (was is : State) → IsTurn Stores command reply was is → is.closed ≡ false → was.closed ≡ b → was.closed ≡ false
+  turn_open false command reply was is turn open_ its_state = its_state
+  turn_open true command reply was is turn open_ its_state = sym (ap (λ (s : State). s.closed) (turn.shut its_state).1) ∙ open_
+
+  used_open : {answered : List (Command × Reply)} {was is : State} → IsUsed Stores answered was is → is.closed ≡ false → was.closed ≡ false
+  used_open no_call open_ = open_
+  used_open (a_question asked rest) open_ = sym asked.closed ∙ used_open rest open_
+  used_open (a_command {asked} {reply} {answered} {was} {mid} {is} turn rest) open_ = turn_open was.closed asked reply was mid turn (used_open rest open_) refl
+
+  -- a solver on an honest disk that is open, and a stop now leaves the sound table that is kept
+  record IsFit (state : State) : Type 0 where
+    honest : IsTrue state.disk.honest
+    sound : IsSound state.kept
+    leaves : LeavesNow Stores state.disk state.kept
+
+  -- commands that were answered have done what their replies say
+  used_does : {answered : List (Command × Reply)} {was is : State} → IsUsed Stores answered was is → is.closed ≡ false → IsFit was → DoAll answered was.kept is.kept × IsFit is
+  used_does no_call open_ fit = (refl, fit)
+  used_does (a_question {answered} {was} {mid} {is} asked rest) open_ fit =
+      let was_open = sym asked.closed ∙ used_open rest open_ in
+      let same = asked.kept fit.honest in
+      let it : IsFit mid = record {
+        honest = still_honest asked.ahead.goes_on fit.honest;
+        sound = subst (λ (k : Option Kept). IsSound k) (sym same) fit.sound;
+        leaves = subst (λ (k : Option Kept). LeavesNow Stores mid.disk k) (sym same) (asked.now fit.honest was_open);
+      } in
+      let (all, fit_then) = used_does rest open_ it in
+      (subst (λ (k : Option Kept). DoAll answered k is.kept) same all, fit_then)
+  used_does (a_command {asked} {reply} {answered} {was} {mid} {is} turn rest) open_ fit =
+      let mid_open = used_open rest open_ in
+      let was_open = turn_open was.closed asked reply was mid turn mid_open refl in
+      let does = turn.does fit.honest in
+      let it : IsFit mid = record {
+        honest = still_honest turn.ahead.goes_on fit.honest;
+        sound = does_sound reply asked was.kept mid.kept does fit.sound;
+        leaves = turn.at fit.honest was_open mid_open;
+      } in
+      let (all, fit_then) = used_does rest open_ it in
+      ((mid.kept, does, all), fit_then)
+
+  -- what is left of a table in a sitting: it is stored, and the sitting leads to it
+  record IsLeft (in_doubt : Option Command) (last : State) (picture : Picture) (kept : Option Kept) : Type 0 where
+    may : DoesInDoubt in_doubt last.kept kept
+    stores : Stores picture kept
+
+  either : (command : Command) (last : State) (next : Option Kept) (picture : Picture) → MayDo command last.kept next → Stores picture last.kept ⊎ Stores picture next
+      → (kept : Option Kept) × IsLeft (Some command) last picture kept
+  either command last next picture does (inl stores) = (last.kept, record { may = (Refused DiskFailed, refl); stores = stores })
+  either command last next picture does (inr stores) = (next, record { may = does; stores = stores })
+
+  in_command : (b : Bool) (command : Command) (reply : Reply) (last is : State) → IsTurn Stores command reply last is → last.closed ≡ false → is.closed ≡ b → IsFit last
+      → (moment : ℕ) (picture : Picture) → last.disk.clock ≤ moment → moment ≤ is.disk.clock → MayLeave (is.disk.was moment) picture → (kept : Option Kept) × IsLeft (Some command) last picture kept
+  in_command false command reply last is turn open_ its_state fit moment picture from to left =
+      either command last is.kept picture (reply, turn.does fit.honest) ((turn.between fit.honest open_ its_state).each moment picture from to left)
+  in_command true command reply last is turn open_ its_state fit moment picture from to left =
+      let (next, does, leaves) = (turn.failed open_ its_state).leaves fit.honest in
+      either command last next picture does (leaves.each moment picture from to left)
+
+  ends_left : {last : State} {in_doubt : Option Command} {left : Shown} → Ends Stores last in_doubt left → last.closed ≡ false → IsFit last
+      → (picture : Picture) → MayLeave left picture → (kept : Option Kept) × IsLeft in_doubt last picture kept
+  ends_left {last} by_closing open_ fit picture left = (last.kept, record { may = refl; stores = fit.leaves picture left })
+  ends_left {last} (in_a_question asked moment from to) open_ fit picture left =
+      (last.kept, record { may = refl; stores = (asked.since fit.honest open_).each moment picture from to left })
+  ends_left {last} (in_a_command {asked} {reply} {is} turn moment from to) open_ fit picture left =
+      in_command is.closed asked reply last is turn open_ refl fit moment picture from (omega (arith, to)) left
+  ends_left {last} (by_a_fault {asked} {reply} {is} turn shut moment from to) open_ fit picture left = in_command true asked reply last is turn open_ shut fit moment picture from to left
+
+  -- what is left of a sitting is a table that it leads to
+  pub sitting_leads : (was : State) (sitting : Sitting) (left : Shown) → IsSitting Stores was sitting left → IsTrue was.disk.honest → IsSound was.kept → LeavesNow Stores was.disk was.kept
+      → (picture : Picture) → MayLeave left picture → (kept : Option Kept) × LeadTo (sitting ∷ []) was.kept kept × Stores picture kept
+  sitting_leads was sitting left it honest sound leaves picture may =
+      let (all, fit) = used_does it.used it.is_open (record { honest = honest; sound = sound; leaves = leaves }) in
+      let (kept, is) = ends_left it.ends it.is_open fit picture may in
+      (kept, (it.begins, (it.last.kept, all, (kept, is.may, refl))), is.stores)
+
+  -- what is left of it holds the table, and what that says is so
+  sitting_holds : (was : State) (sitting : Sitting) (left : Shown) → IsSitting Stores was sitting left → IsTrue was.disk.honest → IsSound was.kept → LeavesNow Stores was.disk was.kept
+      → (picture : Picture) → MayLeave left picture → (kept : Option Kept) × LeadTo (sitting ∷ []) was.kept kept × Holds Stores picture kept × IsExact kept
+  sitting_holds was sitting left it honest sound leaves picture may =
+      let (kept, leads, stores) = sitting_leads was sitting left it honest sound leaves picture may in
+      let sound_now = what_sittings_lead_to_is_sound (sitting ∷ []) was.kept kept leads sound in
+      (kept, leads, a_sound_table_is_held Stores picture kept stores sound_now, a_sound_table_is_exact kept sound_now)
+
+  -- the states of a run are those of one disk
+  turns_go_on : (commands : List Command) (replies : List Reply) (was is : State) → Turns Stores commands replies was is → GoesOn was.disk is.disk
+  turns_go_on [] [] was is same = subst (λ (s : State). GoesOn was.disk s.disk) (sym same) (goes_on_refl was.disk)
+  turns_go_on [] (reply ∷ replies) was is none = absurd none
+  turns_go_on (command ∷ commands) [] was is none = absurd none
+  turns_go_on (command ∷ commands) (reply ∷ replies) was is (mid, it, rest) = goes_on_trans it.turn.ahead.goes_on (turns_go_on commands replies mid is rest)
+
+  -- a closed solver stays as it is
+  turns_shut : (commands : List Command) (replies : List Reply) (was is : State) → Turns Stores commands replies was is → was.closed ≡ true → is ≡ was
+  turns_shut [] [] was is same shut = same
+  turns_shut [] (reply ∷ replies) was is none shut = absurd none
+  turns_shut (command ∷ commands) [] was is none shut = absurd none
+  turns_shut (command ∷ commands) (reply ∷ replies) was is (mid, it, rest) shut =
+      let (said, same) = it.turn.shut shut in
+      turns_shut commands replies mid is rest (ap (λ (s : State). s.closed) same ∙ shut) ∙ same
+
+  -- a sitting that a stop ends at a moment of a run
+  record IsCut (commands : List Command) (replies : List Reply) (was : State) (left : Shown) : Type 0 where
+    sitting : Sitting
+    part : IsPart sitting.answered sitting.in_doubt commands replies
+    sits : IsSitting Stores was sitting left
+
+  cut_before : (command : Command) (commands : List Command) (reply : Reply) (replies : List Reply) (was : State) (left : Shown) → was.closed ≡ false → Ends Stores was (Some command) left
+      → IsCut (command ∷ commands) (reply ∷ replies) was left
+  cut_before command commands reply replies was left open_ ends = record {
+    sitting = record { begins = was.kept; answered = []; in_doubt = Some command };
+    part = refl;
+    sits = record { begins = refl; last = was; used = no_call; is_open = open_; ends = ends };
+  }
+
+  cut_behind : (command : Command) (commands : List Command) (reply : Reply) (replies : List Reply) (was mid : State) (left : Shown) → IsTurn Stores command reply was mid → IsCut commands replies mid left
+      → IsCut (command ∷ commands) (reply ∷ replies) was left
+  cut_behind command commands reply replies was mid left turn cut = record {
+    sitting = record { begins = was.kept; answered = (command, reply) ∷ cut.sitting.answered; in_doubt = cut.sitting.in_doubt };
+    part = (refl, refl, cut.part);
+    sits = record { begins = refl; last = cut.sits.last; used = a_command turn cut.sits.used; is_open = cut.sits.is_open; ends = cut.sits.ends };
+  }
+
+  cut_at : (commands : List Command) (replies : List Reply) (was is : State) → Turns Stores commands replies was is → was.closed ≡ false
+      → (moment : ℕ) → was.disk.clock ≤ moment → moment ≤ is.disk.clock → IsCut commands replies was (is.disk.was moment)
+  cut_at [] [] was is same open_ moment from to =
+      let clock : is.disk.clock ≡ was.disk.clock = ap (λ (s : State). s.disk.clock) same in
+      let at : moment ≡ is.disk.clock = omega (arith, from, to, clock) in
+      let left : is.disk.was moment ≡ was.disk.now = ap is.disk.was at ∙ is.disk.was_now ∙ ap (λ (s : State). s.disk.now) same in
+      record {
+        sitting = record { begins = was.kept; answered = []; in_doubt = None };
+        part = tt;
+        sits = record { begins = refl; last = was; used = no_call; is_open = open_; ends = subst (λ (shown : Shown). Ends Stores was None shown) (sym left) by_closing };
+      }
+  cut_at [] (reply ∷ replies) was is none open_ moment from to = absurd none
+  cut_at (command ∷ commands) [] was is none open_ moment from to = absurd none
+  cut_at (command ∷ commands) (reply ∷ replies) was is (mid, it, rest) open_ moment from to =
+      by mid.closed refl (λ mid_open later. cut_at commands replies mid is rest mid_open moment later to)
+    where
+      turn : IsTurn Stores command reply was mid
+      turn = it.turn
+
+      goes_on : GoesOn mid.disk is.disk
+      goes_on = turns_go_on commands replies mid is rest
+
+      -- what was shown by then is not changed
+      then_shown : moment ≤ mid.disk.clock → mid.disk.was moment ≡ is.disk.was moment
+      then_shown le = sym (goes_on.past moment le)
+
+      before : moment < mid.disk.clock → IsCut (command ∷ commands) (reply ∷ replies) was (is.disk.was moment)
+      before less = subst (λ (shown : Shown). IsCut (command ∷ commands) (reply ∷ replies) was shown) (then_shown (omega (arith, less)))
+          (cut_before command commands reply replies was (mid.disk.was moment) open_ (in_a_command turn moment from less))
+
+      by : (b : Bool) → mid.closed ≡ b → (mid.closed ≡ false → mid.disk.clock ≤ moment → IsCut commands replies mid (is.disk.was moment))
+          → IsCut (command ∷ commands) (reply ∷ replies) was (is.disk.was moment)
+      by true shut then =
+          let clock : is.disk.clock ≡ mid.disk.clock = ap (λ (s : State). s.disk.clock) (turns_shut commands replies mid is rest shut) in
+          let le : moment ≤ mid.disk.clock = omega (arith, to, clock) in
+          subst (λ (shown : Shown). IsCut (command ∷ commands) (reply ∷ replies) was shown) (then_shown le)
+          (cut_before command commands reply replies was (mid.disk.was moment) open_ (by_a_fault turn shut moment from le))
+      by false mid_open then = elim (cases_lt moment mid.disk.clock) [
+        | inl less ↦ before less
+        | inr le ↦ cut_behind command commands reply replies was mid (is.disk.was moment) turn (then mid_open le)
+      ]
+
+  -- a stop in a run leaves a table that the first of its commands lead to
+  pub stopped_run : (commands done : List Asked) (before after : List Reply) (was is : State) → done ≡ commands → IsRun Stores done before after was is
+      → IsTrue was.disk.honest → was.closed ≡ false → IsSound was.kept
+      → (added : List Reply) × (after ≡ before ++ added) × LeavesAPrefix Stores (map command_of commands) added was is
+  stopped_run commands done before after was is all run honest open_ sound =
+      let left : LeavesAPrefix Stores (map command_of done) run.added was is = λ moment from to.
+      let cut = cut_at (map command_of done) run.added was is run.turns open_ moment from to in
+      (cut.sitting, cut.part, cut.sits, λ picture may. sitting_holds was cut.sitting (is.disk.was moment) cut.sits honest sound (run.begins honest open_) picture may) in
+      (run.added, run.replies_are, subst (λ (cs : List Asked). LeavesAPrefix Stores (map command_of cs) run.added was is) all left)

@@ -1,0 +1,5 @@
+use Rattle.solver.specs.aid.Laws.{finished_leaves_the_drawn}
+use Rattle.solver.proofs.laws.finished_leaves_the_drawn.Goals as goal
+
+pub returns : goal.returns
+returns c = finished_leaves_the_drawn

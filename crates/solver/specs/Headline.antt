@@ -1,0 +1,72 @@
+-- The headline: what a stop of the power leaves of a table in the course of many commands, and what that says of the game.
+use Rattle.std.specs.Prelude.{◌≡◌, ◌⊎◌, ◌↔◌, ℕ, ◌≤◌, List, [], ◌∷◌, Option, None, Some, IsTrue}
+use Rattle.sector_disk.specs.Disk.{Picture, Disk, MayLeave, Grew}
+use Rattle.rbg_game.specs.Games.{Game}
+use Rattle.rbg_game.specs.declared.roles.Player.{Player}
+use Rattle.rbg_read.specs.Reading.{Reads}
+use Rattle.retrograde.specs.Graph.{IsReachable}
+use Rattle.retrograde.specs.Stored.{view_of}
+use Rattle.retrograde.specs.Values.{WonIn, Drawn}
+use Rattle.retrograde.specs.View.{IsKnown, HasNumber, HasValue, IsFinished}
+use Rattle.game_file.specs.Kept.{Kept, Layout}
+use Rattle.game_file.specs.State.{State}
+use Rattle.game_file.specs.Stops.{LeavesNow}
+use Rattle.solver.specs.declared.fault.SolverFault.{SolverFault}
+use Rattle.solver.specs.declared.fault.SolverFault.TheVariants.{Disk as DiskFailed, OutOfMemory}
+use Rattle.solver.specs.Held.{Holds, graph_in}
+use Rattle.solver.specs.Histories.{Sitting, LeadTo, IsSitting}
+use Rattle.solver.specs.declared.replies.Reply.{Reply}
+use Rattle.solver.specs.Machine.{Command}
+use Rattle.solver.specs.Opening.{IsOpened, OpenCause}
+
+-- what the table says is so by the rules of the game that its text reads to: each settled position is won by the named player in
+-- exactly the named number of moves, and where the table says finished, its positions are those that play can come to, and the
+-- unsettled are exactly the drawn
+pub record SaysWhatIs (kept : Kept) (game : Game) : Type 0 where
+  pub reads : Reads kept.text game
+  pub won : (x : List ℕ) (w : Player) (n : ℕ) → HasValue (view_of kept.table) x w n → WonIn (graph_in game kept) w n x
+  pub all : IsFinished (view_of kept.table) → (x : List ℕ) → IsKnown (view_of kept.table) x ↔ IsReachable (graph_in game kept) x
+  pub drawn : IsFinished (view_of kept.table) → (i : ℕ) (x : List ℕ) → HasNumber (view_of kept.table) i x
+      → ((view_of kept.table).value i ≡ None) ↔ Drawn (graph_in game kept) x
+
+-- no game is loaded, or what the table says is so
+abbrev pub IsExact : Option Kept → Type 0
+IsExact None = Unit {0}
+IsExact (Some kept) = (game : Game) × SaysWhatIs kept game
+
+-- E1 where the count of failures grew, or E8
+abbrev pub IsUnlucky : ℕ → ℕ → SolverFault → Type 0
+IsUnlucky before now fault = ((fault ≡ DiskFailed) × Grew before now) ⊎ (fault ≡ OutOfMemory)
+
+-- the first of these commands were answered, with these replies, and the next was perhaps begun
+abbrev pub IsPart : List (Command × Reply) → Option Command → List Command → List Reply → Type 0
+IsPart [] None commands replies = Unit {0}
+IsPart [] (Some asked) (command ∷ commands) replies = asked ≡ command
+IsPart ((asked, said) ∷ answered) in_doubt (command ∷ commands) (reply ∷ replies) =
+    (asked ≡ command) × (said ≡ reply) × IsPart answered in_doubt commands replies
+IsPart _ _ _ _ = ⊥
+
+module _ (Stores : Layout) where
+  -- reopening gives this table: an honest disk that reads as the picture is opened with it, and every stop then leaves it; or `open`
+  -- is refused because the disk failed or memory ran out, and for nothing else
+  pub record Reopens (picture : Picture) (kept : Option Kept) : Type 0 where
+    pub holds : Holds Stores picture kept
+    pub gives : (disk : Disk) (count : ℕ) (state : State) → IsTrue disk.honest → disk.now.contents ≡ picture
+        → IsOpened Stores disk count state → (state.kept ≡ kept) × LeavesNow Stores state.disk kept
+    pub fails : (disk : Disk) (before now : ℕ) (fault : SolverFault) → IsTrue disk.honest → disk.now.contents ≡ picture
+        → OpenCause Stores disk before now fault → IsUnlucky before now fault
+
+  -- whenever the power stops behind these sittings, the table that reopening gives is one that they lead to from the empty one: with
+  -- every command that was answered as it was answered, and in each sitting at most one that was not; and what it says is so
+  abbrev pub Headline : List Sitting → Picture → Type 0
+  Headline sittings picture = (kept : Option Kept) × LeadTo sittings None kept × Reopens picture kept × IsExact kept
+
+  -- a stop at any moment of the run ends a sitting with the first of the commands: those that were answered by then, and perhaps the
+  -- next, in doubt; what it leaves holds a table that they lead to, and what that says is so
+  abbrev pub LeavesAPrefix : List Command → List Reply → State → State → Type 0
+  LeavesAPrefix commands replies old new =
+      (moment : ℕ) → old.disk.clock ≤ moment → moment ≤ new.disk.clock
+      → (sitting : Sitting) × IsPart sitting.answered sitting.in_doubt commands replies
+      × IsSitting Stores old sitting (new.disk.was moment)
+      × ((picture : Picture) → MayLeave (new.disk.was moment) picture
+      → (kept : Option Kept) × LeadTo (sitting ∷ []) old.kept kept × Holds Stores picture kept × IsExact kept)

@@ -1,0 +1,78 @@
+-- All that may come of a table in many sittings, each of which a stop of the power may end.
+use Rattle.std.specs.Prelude.{◌≡◌, ℕ, ◌<◌, ◌≤◌, true, false, List, [], ◌∷◌, ◌++◌, Option, None, Some, IsTrue}
+use Rattle.sector_disk.specs.Disk.{Picture, Shown, Disk, LeavesOnly, MayLeave}
+use Rattle.game_file.specs.Calls.{IsAsked}
+use Rattle.game_file.specs.Kept.{Kept, Layout}
+use Rattle.game_file.specs.State.{State}
+use Rattle.solver.specs.declared.replies.Reply.{Reply}
+use Rattle.solver.specs.Machine.{Command, Does, MayDo}
+use Rattle.solver.specs.Opening.{IsCreated, IsOpened}
+use Rattle.solver.specs.Runs.{IsTurn}
+
+-- what is known of one sitting: the table that it began with, the commands that were answered, each with its reply, and the one in
+-- doubt, if there is one: it was begun and not answered, or answered E1 for a write or a sync that failed
+pub record Sitting : Type 0 where
+  pub begins : Option Kept
+  pub answered : List (Command × Reply)
+  pub in_doubt : Option Command
+
+-- commands that were answered lead from the one table to the other: each does what its reply says
+abbrev pub DoAll : List (Command × Reply) → Option Kept → Option Kept → Type 0
+DoAll [] old new = new ≡ old
+DoAll ((command, reply) ∷ answered) old new = (mid : Option Kept) × Does reply command old mid × DoAll answered mid new
+
+-- so may the one in doubt, if there is one: it is done or leaves the table
+abbrev pub DoesInDoubt : Option Command → Option Kept → Option Kept → Type 0
+DoesInDoubt None old new = new ≡ old
+DoesInDoubt (Some command) old new = MayDo command old new
+
+-- the sittings lead from the one table to the other: in each all that was answered is held, and one command more at most
+abbrev pub LeadTo : List Sitting → Option Kept → Option Kept → Type 0
+LeadTo [] old new = new ≡ old
+LeadTo (sitting ∷ sittings) old new = (sitting.begins ≡ old) × ((mid : Option Kept) × DoAll sitting.answered old mid
+    × ((left : Option Kept) × DoesInDoubt sitting.in_doubt mid left × LeadTo sittings left new))
+
+module _ (Stores : Layout) where
+  -- calls on a solver, one after another: commands with their replies, and questions, which change nothing
+  pub data IsUsed : List (Command × Reply) → State → State → Type 0 where
+    no_call : {state : State} → IsUsed [] state state
+    a_question : {answered : List (Command × Reply)} {was mid is : State} → IsAsked Stores was mid → IsUsed answered mid is
+        → IsUsed answered was is
+    a_command : {asked : Command} {reply : Reply} {answered : List (Command × Reply)} {was mid is : State}
+        → IsTurn Stores asked reply was mid → IsUsed answered mid is → IsUsed ((asked, reply) ∷ answered) was is
+
+  -- what the disk shows at the end of a sitting, and the command in doubt: the solver is closed; a stop comes in a question, or in
+  -- a command before it is answered; or a write or a sync fails in a command, which is answered E1
+  pub data Ends (last : State) : Option Command → Shown → Type 0 where
+    by_closing : Ends last None last.disk.now
+    in_a_question : {is : State} → IsAsked Stores last is → (moment : ℕ) → last.disk.clock ≤ moment → moment ≤ is.disk.clock
+        → Ends last None (is.disk.was moment)
+    in_a_command : {asked : Command} {reply : Reply} {is : State} → IsTurn Stores asked reply last is → (moment : ℕ)
+        → last.disk.clock ≤ moment → moment < is.disk.clock → Ends last (Some asked) (is.disk.was moment)
+    by_a_fault : {asked : Command} {reply : Reply} {is : State} → IsTurn Stores asked reply last is → is.closed ≡ true → (moment : ℕ)
+        → last.disk.clock ≤ moment → moment ≤ is.disk.clock → Ends last (Some asked) (is.disk.was moment)
+
+  -- a sitting with a solver from this state on, at whose end the disk shows this
+  pub record IsSitting (was : State) (sitting : Sitting) (left : Shown) : Type 0 where
+    pub begins : sitting.begins ≡ was.kept
+    pub last : State
+    pub used : IsUsed sitting.answered was last
+    pub is_open : last.closed ≡ false
+    pub ends : Ends last sitting.in_doubt left
+
+  -- an honest disk as it is found behind a stop: nothing can be left of it that the stop could not leave
+  pub record IsFound (left : Shown) (disk : Disk) : Type 0 where
+    pub honest : IsTrue disk.honest
+    pub as_left : (picture : Picture) → MayLeave disk.now picture → MayLeave left picture
+
+  -- the sittings of a table since it was made, and what the disk shows behind them: `create` has answered Ok and the first sitting
+  -- goes on from there; another opens what was left; and while it is opened a stop may come, or `open` is refused
+  pub data History : List Sitting → Shown → Type 0 where
+    was_made : {disk : Disk} {count : ℕ} {was : State} {sitting : Sitting} {left : Shown} → IsTrue disk.honest
+        → IsCreated Stores disk count was → IsSitting was sitting left → History (sitting ∷ []) left
+    was_reopened : {sittings : List Sitting} {before left : Shown} {disk : Disk} {count : ℕ} {was : State} {sitting : Sitting}
+        → History sittings before → IsFound before disk → IsOpened Stores disk count was → IsSitting was sitting left
+        → History (sittings ++ (sitting ∷ [])) left
+    was_not_opened : {sittings : List Sitting} {before : Shown} {disk later : Disk} → History sittings before → IsFound before disk
+        → LeavesOnly disk later (MayLeave disk.now) → (moment : ℕ) → disk.clock ≤ moment → moment ≤ later.clock
+        → History sittings (later.was moment)

@@ -1,0 +1,237 @@
+//! A solver over a disk.
+ghost use Rattle.std.specs.Prelude.{◌≡◌, ◌≤◌, ◌↔◌, ℕ, List, true, false, Option, None, option_map};
+ghost use Rattle.std.specs.Prelude.{IsSome, IsOk, OnOk, IfOk, IfErr, IsErrOf, IsTrue};
+ghost use Rattle.sector_disk.specs.Disk.{Picture};
+ghost use Rattle.retrograde.specs.Changes.{counts_of};
+ghost use Rattle.game_file.specs.Kept.{Kept};
+ghost use Rattle.game_file.specs.Calls.{IsNotOpened, IsNotCreated};
+ghost use Rattle.game_file.specs.State.{GoesAhead};
+ghost use Rattle.game_file.specs.Stops.{LeavesNow};
+ghost use Rattle.solver.specs.Headline.{IsUnlucky};
+ghost use Rattle.solver.specs.Held.{Holds, IsSound};
+ghost use Rattle.solver.specs.Machine.{load as load_it, work as work_on, LoadCause};
+ghost use Rattle.solver.specs.Opening.{IsOpened, IsCreated, OpenCause, LayoutCause, CreateCause};
+ghost use Rattle.solver.specs.Queries.{AskCause};
+ghost use Rattle.solver.specs.Steps.{IsDone, IsRefused};
+ghost use Rattle.solver.specs.Units.{units_in};
+
+use crate::with_game::with_game;
+use crate::{Refused, Reply, SolverFault, Units, Worked};
+use game_file::GameFile;
+use game_table::Source;
+use page_store::MOST_CACHED;
+use position_pack::PackingKind;
+use retrograde::Counts;
+use sector_disk::SectorDisk;
+use std::alloc::Global;
+use table::Table;
+
+/// A game's table in a file.
+#[derive(Drop)]
+pub struct FileSolver<F: GameFile> {
+    pub(crate) alloc: Global,
+    pub(crate) file: F,
+    /// The game, where one is loaded.
+    pub(crate) source: Option<Source>,
+    // says nothing, but names the layout, so that contracts can write `state self` and need no path through a trait
+    ghost layout: { (picture : Picture) (kept : Option Kept) → F.stores picture kept → Unit {0} },
+}
+
+impl<F: GameFile> FileSolver<F> {
+    ghost use Rattle.solver.specs.Solvers.{state, IsReady};
+
+    /// Makes the empty table on this disk: E1, E3 and then E6, E8.
+    pub fn create(alloc: Global, disk: F::Device) -> Result<Self, Refused<F::Device>>
+        ensures ready { IfOk result IsReady }
+        ensures created { IfOk result (λ solver. IsCreated F.stores (F.Device.disk disk) (F.Device.failures disk) (state solver)) }
+        ensures refused { IfErr result (λ back. IsNotCreated F.stores (F.Device.disk disk) (F.Device.failures disk)
+            (F.Device.disk back.disk) (F.Device.failures back.disk)) }
+        ensures cause { IfErr result (λ back. CreateCause (F.Device.disk disk) (F.Device.failures disk)
+            (F.Device.failures back.disk) back.fault) }
+    {
+        match F::create(alloc, disk) {
+            Ok(file) => with_game(alloc, file),
+            Err(refused) => Err(Refused {
+                disk: refused.disk,
+                fault: refused.fault.into(),
+            }),
+        }
+    }
+
+    /// Opens the table that this disk holds: E1, E2, E4, E5, E8. Where it holds one, that is the one that is given, and only a failure
+    /// of the disk or want of memory can refuse it.
+    pub fn open(alloc: Global, disk: F::Device) -> Result<Self, Refused<F::Device>>
+        ensures ready { IfOk result IsReady }
+        ensures opened { IfOk result (λ solver. IsOpened F.stores (F.Device.disk disk) (F.Device.failures disk) (state solver)) }
+        ensures gives { (kept : Option Kept) → IsTrue (F.Device.disk disk).honest → Holds F.stores (F.Device.disk disk).now.contents kept
+            → IfOk result (λ solver. ((state solver).kept ≡ kept) × LeavesNow F.stores (state solver).disk kept) }
+        ensures unlucky { (kept : Option Kept) → IsTrue (F.Device.disk disk).honest → Holds F.stores (F.Device.disk disk).now.contents kept
+            → IfErr result (λ back. IsUnlucky (F.Device.failures disk) (F.Device.failures back.disk) back.fault) }
+        ensures refused { IfErr result (λ back. IsNotOpened (F.Device.disk disk) (F.Device.failures disk) (F.Device.disk back.disk)
+            (F.Device.failures back.disk)) }
+        ensures cause { IfErr result (λ back. OpenCause F.stores (F.Device.disk disk) (F.Device.failures disk)
+            (F.Device.failures back.disk) back.fault) }
+        ensures older { IfErr result (λ back. LayoutCause F.is_older (F.Device.disk disk) back.fault) }
+    {
+        FileSolver::open_with_cache(alloc, disk, MOST_CACHED)
+    }
+
+    /// The same with so many of the file's pages, 64 at most, kept in memory once they were read or written, and 0 for none: `open` keeps
+    /// 64. What is answered is the same, but for the calls of the disk.
+    pub fn open_with_cache(
+        alloc: Global,
+        disk: F::Device,
+        pages: usize,
+    ) -> Result<Self, Refused<F::Device>>
+        requires { pages ≤ 64 }
+        ensures ready { IfOk result IsReady }
+        ensures opened { IfOk result (λ solver. IsOpened F.stores (F.Device.disk disk) (F.Device.failures disk) (state solver)) }
+        ensures gives { (kept : Option Kept) → IsTrue (F.Device.disk disk).honest → Holds F.stores (F.Device.disk disk).now.contents kept
+            → IfOk result (λ solver. ((state solver).kept ≡ kept) × LeavesNow F.stores (state solver).disk kept) }
+        ensures unlucky { (kept : Option Kept) → IsTrue (F.Device.disk disk).honest → Holds F.stores (F.Device.disk disk).now.contents kept
+            → IfErr result (λ back. IsUnlucky (F.Device.failures disk) (F.Device.failures back.disk) back.fault) }
+        ensures refused { IfErr result (λ back. IsNotOpened (F.Device.disk disk) (F.Device.failures disk) (F.Device.disk back.disk)
+            (F.Device.failures back.disk)) }
+        ensures cause { IfErr result (λ back. OpenCause F.stores (F.Device.disk disk) (F.Device.failures disk)
+            (F.Device.failures back.disk) back.fault) }
+        ensures older { IfErr result (λ back. LayoutCause F.is_older (F.Device.disk disk) back.fault) }
+    {
+        match F::open_with_cache(alloc, disk, pages) {
+            Ok(file) => with_game(alloc, file),
+            Err(refused) => Err(Refused {
+                disk: refused.disk,
+                fault: refused.fault.into(),
+            }),
+        }
+    }
+
+    /// Whether a game may be loaded: E9, S2.
+    fn needs_no_game(&self) -> Result<(), SolverFault>
+        ensures open { OnOk result ((state self.now).closed ≡ false) }
+        ensures none { OnOk result ((state self.now).kept ≡ None) }
+        ensures closed { (state self.now).closed ≡ true → IsErrOf result SolverFault.Closed }
+        ensures already { (state self.now).closed ≡ false
+            → IsSome (state self.now).kept
+            → IsErrOf result SolverFault.GameAlready }
+        ensures free { (state self.now).closed ≡ false → (state self.now).kept ≡ None → IsOk result }
+        ensures cause { (text : List ℕ) → IfErr result (LoadCause text (state self.now) (state self.now)) }
+    {
+        if self.file.is_closed() {
+            return Err(SolverFault::Closed);
+        }
+        match self.file.text() {
+            Some(_) => Err(SolverFault::GameAlready),
+            None => Ok(()),
+        }
+    }
+
+    /// Whether a game is loaded, and may be asked and worked on: E9, S1.
+    pub(crate) fn needs_game(&self) -> Result<(), SolverFault>
+        ensures open { OnOk result ((state self.now).closed ≡ false) }
+        ensures some { OnOk result (IsSome (state self.now).kept) }
+        ensures closed { (state self.now).closed ≡ true → IsErrOf result SolverFault.Closed }
+        ensures no_game { (state self.now).closed ≡ false
+            → (state self.now).kept ≡ None
+            → IsErrOf result SolverFault.NoGame }
+        ensures free { (state self.now).closed ≡ false → IsSome (state self.now).kept → IsOk result }
+        ensures cause { IfErr result (AskCause (state self.now) (state self.now)) }
+    {
+        if self.file.is_closed() {
+            return Err(SolverFault::Closed);
+        }
+        match self.file.text() {
+            Some(_) => Ok(()),
+            None => Err(SolverFault::NoGame),
+        }
+    }
+
+    /// Loads the game of this text: E9, S2, then G1 to G10, then E1, E7, E8.
+    pub fn load(&mut self, text: &[u8]) -> Result<(), SolverFault>
+        ensures ready { IsReady self.old → IsReady self.new }
+        ensures lasts { F.lasts self.old.file self.new.file }
+        ensures ahead { GoesAhead (state self.old) (state self.new) }
+        ensures done { IsReady self.old
+            → OnOk result (IsDone F.stores (load_it text.now) Reply.Loaded (state self.old)
+            (state self.new)) }
+        ensures refused { IsReady self.old
+            → IfErr result (IsRefused F.stores (load_it text.now) (state self.old)
+            (state self.new)) }
+        ensures closed { (state self.old).closed ≡ true → IsErrOf result SolverFault.Closed × (self.new ≡ self.old) }
+        ensures already { (state self.old).closed ≡ false
+            → IsSome (state self.old).kept
+            → IsErrOf result SolverFault.GameAlready × (self.new ≡ self.old) }
+        ensures sound { IsReady self.old → IsTrue (state self.old).disk.honest
+            → IsSound (state self.old).kept
+            → IsSound (state self.new).kept }
+    {
+        self.needs_no_game()?;
+        let source = Source::read(self.alloc, text, PackingKind::Bits)?;
+        self.file.load(text, PackingKind::Bits, &source.start())?;
+        self.source = Some(source);
+        Ok(())
+    }
+
+    /// Does so many units of work, or fewer where the table is finished by then, and commits them at once: E9, S1,
+    /// then S3 to S6, E1, E7, E8. Where no unit is done nothing is committed.
+    pub fn work(&mut self, units: Units) -> Result<Worked, SolverFault>
+        ensures ready { IsReady self.old → IsReady self.new }
+        ensures lasts { F.lasts self.old.file self.new.file }
+        ensures ahead { GoesAhead (state self.old) (state self.new) }
+        ensures done { IsReady self.old → IfOk result (λ done.
+            IsDone F.stores (work_on (units_in units)) (Reply.Worked done.units done.counts) (state self.old)
+            (state self.new)) }
+        ensures refused { IsReady self.old
+            → IfErr result (IsRefused F.stores (work_on (units_in units)) (state self.old)
+            (state self.new)) }
+        ensures closed { (state self.old).closed ≡ true → IsErrOf result SolverFault.Closed × (self.new ≡ self.old) }
+        ensures no_game { (state self.old).closed ≡ false
+            → (state self.old).kept ≡ None
+            → IsErrOf result SolverFault.NoGame × (self.new ≡ self.old) }
+        ensures idle { IfOk result (λ done. done.units ≡ 0 → self.new ≡ self.old) }
+        ensures sound { IsReady self.old → IsTrue (state self.old).disk.honest
+            → IsSound (state self.old).kept
+            → IsSound (state self.new).kept }
+    {
+        self.needs_game()?;
+        let Some(source) = &self.source else {
+            return Err(SolverFault::NoGame);
+        };
+        let done = match source.work(self.alloc, &mut self.file, units.count()) {
+            Ok(done) => done,
+            Err(fault) => {
+                self.file.discard();
+                return Err(fault.into());
+            }
+        };
+        let counts = self.file.counts();
+        if done > 0 {
+            self.file.commit()?;
+        }
+        Ok(Worked {
+            units: done,
+            counts,
+        })
+    }
+
+    /// How far the table of the last commit is; none where no game is loaded. It takes no memory and always answers, of a
+    /// closed solver too.
+    pub fn status(&self) -> Option<Counts>
+        ensures counts { IsReady self.now → IsTrue (state self.now).disk.honest
+            → result ≡ option_map (λ kept. counts_of kept.table) (state self.now).kept }
+        ensures none { (result ≡ None) ↔ ((state self.now).kept ≡ None) }
+    {
+        if self.file.text().is_none() {
+            return None;
+        }
+        Some(self.file.counts())
+    }
+
+    /// Gives the disk back. It takes no memory and always answers, of a closed solver too.
+    pub fn close(self) -> F::Device
+        ensures disk { F.Device.disk result ≡ (state self).disk }
+        ensures failures { F.Device.failures result ≡ (state self).failures }
+    {
+        let FileSolver { file, .. } = self;
+        file.into_disk()
+    }
+}

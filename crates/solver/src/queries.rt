@@ -1,0 +1,168 @@
+//! What is asked of a solver.
+ghost use Rattle.std.specs.Prelude.{◌≡◌, ◌<◌, true, false, Ok, None, IsSome, IfOk, IfErr, OnOk, IfSome, IfNone, IsErrOf};
+ghost use Rattle.rbg_game.specs.Meaning.{game_of};
+ghost use Rattle.game_file.specs.Calls.{IsAsked};
+ghost use Rattle.audit.specs.declared.verdict.Verdict.TheVariants.{Right};
+ghost use Rattle.solver.specs.Audits.{HasVerdict, IsSoInGame, AuditCause};
+ghost use Rattle.solver.specs.Held.{IsSound};
+ghost use Rattle.solver.specs.Queries.{OfKept, Tells, HasValueAt, HasRows, HasLine, HasText, IsGameOf, AskCause, NumberCause, LineCause};
+ghost use Rattle.solver.specs.Queries.{ShowCause, FindCause};
+ghost use Rattle.solver.specs.Solvers.{state, IsReady};
+ghost use Rattle.solver.specs.Units.{units_in};
+
+use crate::{FileSolver, SolverFault, Units};
+use audit::Verdict;
+use best_line::{Row, Value};
+use game_file::GameFile;
+use rbg_game::game::Game;
+use table::Table;
+
+/// A question changes nothing, neither in memory nor of what a stop leaves. E9 comes first, then S1, then the others; E1 and
+/// E8 may come after E9.
+impl<F: GameFile> FileSolver<F> {
+    /// The game, where one is loaded. It takes no memory and always answers, of a closed solver too.
+    pub fn game(&self) -> Option<&Game>
+        ensures some { IsReady self.now → IfSome result (λ game. OfKept (IsGameOf (game_of game.now)) (state self.now).kept) }
+        ensures none { IsReady self.now → IfNone result ((state self.now).kept ≡ None) }
+    {
+        match &self.source {
+            Some(source) => Some(source.game()),
+            None => None,
+        }
+    }
+
+    /// How many positions are known: E9, S1.
+    fn known(&self) -> Result<u32, SolverFault>
+        ensures known { IfOk result (λ known. known ≡ (F.counted self.now.file).known) }
+        ensures some { OnOk result (IsSome (F.state self.now.file).kept) }
+        ensures cause { IfErr result (AskCause (F.state self.now.file) (F.state self.now.file)) }
+        ensures closed { (F.state self.now.file).closed ≡ true → IsErrOf result SolverFault.Closed }
+    {
+        self.needs_game()?;
+        Ok(self.file.counts().known)
+    }
+
+    /// Whether the number is that of a known position: E9, S1, S7.
+    fn check(&self, number: u32) -> Result<(), SolverFault>
+        ensures there { OnOk result (number < (F.counted self.now.file).known) }
+        ensures some { OnOk result (IsSome (F.state self.now.file).kept) }
+        ensures cause { F.is_whole self.now.file → IfErr result (NumberCause number (F.state self.now.file) (F.state self.now.file)) }
+        ensures closed { (F.state self.now.file).closed ≡ true → IsErrOf result SolverFault.Closed }
+    {
+        if number < self.known()? {
+            Ok(())
+        } else {
+            Err(SolverFault::NoSuchPosition)
+        }
+    }
+
+    /// Who wins the position with this number, and in how many moves; a draw only where the table is finished: E9, S1, S7.
+    pub fn value(&mut self, number: u32) -> Result<Value, SolverFault>
+        ensures ready { IsReady self.old → IsReady self.new }
+        ensures lasts { F.lasts self.old.file self.new.file }
+        ensures asked { IsReady self.old → IsAsked F.stores (state self.old) (state self.new) }
+        ensures value { IsReady self.old → IfOk result (λ value. Tells (HasValueAt number value) (state self.old)) }
+        ensures cause { IsReady self.old
+            → IfErr result (NumberCause number (state self.old)
+            (state self.new)) }
+        ensures closed { (state self.old).closed ≡ true → IsErrOf result SolverFault.Closed × (self.new ≡ self.old) }
+    {
+        self.check(number)?;
+        Ok(best_line::value(&mut self.file, number)?)
+    }
+
+    /// The positions from this number on with their values, so many or up to the last: E9, S1, S7.
+    pub fn list(&mut self, from: u32, count: Units) -> Result<Vec<Row>, SolverFault>
+        ensures ready { IsReady self.old → IsReady self.new }
+        ensures lasts { F.lasts self.old.file self.new.file }
+        ensures asked { IsReady self.old → IsAsked F.stores (state self.old) (state self.new) }
+        ensures rows { IsReady self.old → IfOk result (λ rows. Tells (HasRows from (units_in count) rows.items) (state self.old)) }
+        ensures cause { IsReady self.old → IfErr result (NumberCause from (state self.old) (state self.new)) }
+        ensures closed { (state self.old).closed ≡ true → IsErrOf result SolverFault.Closed × (self.new ≡ self.old) }
+    {
+        self.check(from)?;
+        Ok(best_line::list(self.alloc, &mut self.file, from, count.count())?)
+    }
+
+    /// The numbers of a best line: each next one is the first successor in packed order that the same player wins in one
+    /// fewer: E9, S1, S7, S8. S6 and S4 come only of a table that is not of this program's making.
+    pub fn line(&mut self, number: u32) -> Result<Vec<u32>, SolverFault>
+        ensures ready { IsReady self.old → IsReady self.new }
+        ensures lasts { F.lasts self.old.file self.new.file }
+        ensures asked { IsReady self.old → IsAsked F.stores (state self.old) (state self.new) }
+        ensures line { IsReady self.old → IsSound (state self.old).kept
+            → IfOk result (λ numbers. Tells (HasLine number numbers.items) (state self.old)) }
+        ensures cause { IsReady self.old → IfErr result (LineCause number (state self.old) (state self.new)) }
+        ensures closed { (state self.old).closed ≡ true → IsErrOf result SolverFault.Closed × (self.new ≡ self.old) }
+    {
+        self.check(number)?;
+        let Some(source) = &self.source else {
+            return Err(SolverFault::NoGame);
+        };
+        Ok(best_line::line(self.alloc, source.moves(), &mut self.file, number)?)
+    }
+
+    /// Whether the table is right, whoever made it: each number is compared with the game. If it is, each settled position is won by the
+    /// named player in exactly the named number of moves, and if it is finished, its positions are those that play can come to, and the
+    /// unsettled ones are the drawn. E9, S1; S4 only where some expanded position is too wide.
+    pub fn audit(&mut self) -> Result<Verdict, SolverFault>
+        ensures ready { IsReady self.old → IsReady self.new }
+        ensures lasts { F.lasts self.old.file self.new.file }
+        ensures asked { IsReady self.old → IsAsked F.stores (state self.old) (state self.new) }
+        ensures verdict { IsReady self.old → IfOk result (λ verdict. Tells (HasVerdict verdict) (state self.old)) }
+        ensures so { IsReady self.old → result ≡ Ok Right → Tells IsSoInGame (state self.old) }
+        ensures cause { IsReady self.old → IfErr result (AuditCause (state self.old) (state self.new)) }
+        ensures closed { (state self.old).closed ≡ true → IsErrOf result SolverFault.Closed × (self.new ≡ self.old) }
+    {
+        self.known()?;
+        let Some(source) = &self.source else {
+            return Err(SolverFault::NoGame);
+        };
+        Ok(audit::audit(self.alloc, source.moves(), &mut self.file)?)
+    }
+
+    /// The text of the position with this number: E9, S1, S7. S6 comes only of a table that is not of this program's making.
+    pub fn show(&mut self, number: u32) -> Result<Vec<u8>, SolverFault>
+        ensures ready { IsReady self.old → IsReady self.new }
+        ensures lasts { F.lasts self.old.file self.new.file }
+        ensures asked { IsReady self.old → IsAsked F.stores (state self.old) (state self.new) }
+        ensures text { IsReady self.old → IfOk result (λ text. Tells (HasText number text.items) (state self.old)) }
+        ensures cause { IsReady self.old → IfErr result (ShowCause number (state self.old) (state self.new)) }
+        ensures closed { (state self.old).closed ≡ true → IsErrOf result SolverFault.Closed × (self.new ≡ self.old) }
+    {
+        self.check(number)?;
+        let packed = self.file.packed(number)?;
+        let Some(source) = &self.source else {
+            return Err(SolverFault::NoGame);
+        };
+        match source.show(self.alloc, &packed)? {
+            Some(text) => Ok(text),
+            None => Err(SolverFault::Inconsistent),
+        }
+    }
+
+    /// The number of the position with this text: E9, S1, then S10 where it is the text of no position of the game, and
+    /// S7 where that position is not known.
+    pub fn find(&mut self, text: &[u8]) -> Result<u32, SolverFault>
+        ensures ready { IsReady self.old → IsReady self.new }
+        ensures lasts { F.lasts self.old.file self.new.file }
+        ensures asked { IsReady self.old → IsAsked F.stores (state self.old) (state self.new) }
+        ensures number { IsReady self.old → IfOk result (λ number. Tells (HasText number text.now) (state self.old)) }
+        ensures cause { IsReady self.old
+            → IfErr result (FindCause text.now (state self.old)
+            (state self.new)) }
+        ensures closed { (state self.old).closed ≡ true → IsErrOf result SolverFault.Closed × (self.new ≡ self.old) }
+    {
+        self.known()?;
+        let Some(source) = &self.source else {
+            return Err(SolverFault::NoGame);
+        };
+        let Some(packed) = source.position(text) else {
+            return Err(SolverFault::BadPosition);
+        };
+        match self.file.number_of(&packed)? {
+            Some(number) => Ok(number),
+            None => Err(SolverFault::NoSuchPosition),
+        }
+    }
+}

@@ -1,0 +1,64 @@
+//! Many commands at once.
+ghost use Rattle.std.specs.Prelude.{◌≡◌, ◌++◌, false, List, map, IsTrue, OnOk, OnErr, IfErr};
+ghost use Rattle.solver.specs.Headline.{LeavesAPrefix};
+ghost use Rattle.solver.specs.Held.{IsSound};
+ghost use Rattle.solver.specs.Runs.{command_of, IsTurnWithCause, IsRun};
+ghost use Rattle.game_file.specs.State.{GoesAhead};
+ghost use Rattle.solver.specs.Solvers.{state, IsReady};
+
+use crate::{Command, FileSolver, Reply, SolverFault, Worked};
+use game_file::GameFile;
+
+impl<F: GameFile> FileSolver<F> {
+    /// One command of a list, with its reply.
+    fn answer(&mut self, command: &Command) -> Reply
+        ensures ready { IsReady self.old → IsReady self.new }
+        ensures lasts { F.lasts self.old.file self.new.file }
+        ensures ahead { GoesAhead (state self.old) (state self.new) }
+        ensures turn { IsReady self.old
+            → IsTurnWithCause F.stores (command_of command.now) result (state self.old) (state self.new) }
+        ensures sound { IsReady self.old → IsTrue (state self.old).disk.honest
+            → IsSound (state self.old).kept
+            → IsSound (state self.new).kept }
+    {
+        match command {
+            Command::Load(text) => match self.load(text) {
+                Ok(()) => Reply::Loaded,
+                Err(fault) => Reply::Refused(fault),
+            },
+            Command::Work(units) => match self.work(*units) {
+                Ok(Worked { units, counts }) => Reply::Worked(units, counts),
+                Err(fault) => Reply::Refused(fault),
+            },
+        }
+    }
+
+    /// Does these commands one after another, each as `load` and `work` do, and puts a reply for each behind those that are
+    /// there. Room for all replies is asked for first: where it is refused, nothing is done (E8).
+    pub fn run(&mut self, commands: &[Command], replies: &mut Vec<Reply>) -> Result<(), SolverFault>
+        ensures ready { IsReady self.old → IsReady self.new }
+        ensures lasts { F.lasts self.old.file self.new.file }
+        ensures ahead { GoesAhead (state self.old) (state self.new) }
+        ensures run { IsReady self.old
+            → OnOk result (IsRun F.stores commands.now replies.old.items replies.new.items (state self.old)
+            (state self.new)) }
+        ensures stopped { IsReady self.old → IsSound (state self.old).kept
+            → (state self.old).closed ≡ false
+            → IsTrue (state self.old).disk.honest
+            → OnOk result ((added : List Reply) × (replies.new.items ≡ replies.old.items ++ added)
+            × LeavesAPrefix F.stores (map command_of commands.now) added (state self.old) (state self.new)) }
+        ensures sound { IsReady self.old → IsTrue (state self.old).disk.honest
+            → IsSound (state self.old).kept
+            → IsSound (state self.new).kept }
+        ensures fault { IfErr result (λ fault. fault ≡ SolverFault.OutOfMemory) }
+        ensures refused { OnErr result (self.new ≡ self.old) }
+        ensures unanswered { OnErr result (replies.new.items ≡ replies.old.items) }
+    {
+        replies.reserve(commands.len())?;
+        for command in commands {
+            let reply = self.answer(command);
+            replies.push(reply)?;
+        }
+        Ok(())
+    }
+}
