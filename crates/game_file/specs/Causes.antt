@@ -62,3 +62,11 @@ FileTableCause old new table.Damaged = ¬ IsTrue old.disk.honest
 FileTableCause old new table.TableFull = Unit {0}
 FileTableCause old new table.OutOfMemory = Unit {0}
 FileTableCause old new table.Closed = old.closed ≡ true
+
+-- a record of a version is not read: the disk failed, or is not honest, or the file is closed
+abbrev pub FileVersionCause : State → State → TableFault → Type 0
+FileVersionCause old new table.Disk = Grew old.failures new.failures
+FileVersionCause old new table.Damaged = ¬ IsTrue old.disk.honest
+FileVersionCause old new table.TableFull = ⊥
+FileVersionCause old new table.OutOfMemory = ⊥
+FileVersionCause old new table.Closed = old.closed ≡ true

@@ -3,6 +3,8 @@
 
 mod fault;
 mod file;
+mod versions;
 
 pub use fault::{FileFault, Refused};
 pub use file::GameFile;
+pub use versions::Versions;

@@ -3,6 +3,8 @@
 #![tactic(auto)]
 
 mod deeds;
+mod growing;
+mod growth;
 mod named;
 mod soak;
 mod standing;
@@ -10,6 +12,7 @@ mod sweep;
 mod watch;
 mod watched;
 
+use crate::growing::growing;
 use crate::soak::soak;
 use crate::sweep::sweep;
 use crate::watch::watch;
@@ -39,7 +42,7 @@ fn run(rt: &HostRuntime) -> anyhow::Result<bool> {
     match words.as_slice() {
         [_, take] => {
             let text = text_of(rt, alloc, take)?;
-            Ok(sweep(rt, alloc, &text)? && watch(rt, alloc, &text)?)
+            Ok(sweep(rt, alloc, &text)? && growing(rt, alloc)? && watch(rt, alloc, &text)?)
         }
         [_, games @ .., option, seed, rounds] if option.as_str() == "--soak" => {
             let mut texts = Vec::new(alloc);

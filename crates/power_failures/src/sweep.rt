@@ -12,7 +12,7 @@ const MOST_CALLS: u64 = 1_024;
 
 /// What happens at a disk call.
 #[derive(Clone, Copy, PartialEq, Eq, Debug)]
-enum Trouble {
+pub enum Trouble {
     /// The power stops before it.
     Stop,
     /// It fails, and is not carried out.
@@ -105,10 +105,10 @@ fn is_left(alloc: Global, left: &MemDisk, deed: Deed, progress: Progress) -> any
 
 /// Numbers of pictures that tell all others of what a stop leaves: each sector that is not synced is as at the last sync, as written, and
 /// filled with noise.
-const TELLING: [u64; 3] = [0, u64::MAX / 3, u64::MAX];
+pub const TELLING: [u64; 3] = [0, u64::MAX / 3, u64::MAX];
 
 /// What tells which pictures a stop now leaves: where it is the same of two disks, so are the pictures.
-fn telling(alloc: Global, disk: &MemDisk) -> anyhow::Result<Vec<u8>> {
+pub fn telling(alloc: Global, disk: &MemDisk) -> anyhow::Result<Vec<u8>> {
     let mut told = Vec::new(alloc);
     for pick in TELLING {
         let mut picture = disk.after_stop(alloc, pick)?;

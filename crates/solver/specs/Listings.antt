@@ -1,22 +1,12 @@
 -- Listings that are open.
-use Rattle.std.specs.Prelude.{◌≡◌, ◌⊎◌, ℕ, true, false, List, None}
-use Rattle.page_store.specs.declared.holds.HoldPlace.{HoldPlace}
-use Rattle.page_store.specs.Holds.{needed_by}
-use Rattle.retrograde.specs.Stored.{Stored}
+use Rattle.std.specs.Prelude.{◌≡◌, true, false, None}
 use Rattle.game_file.specs.State.{State}
-use Rattle.tree_file.specs.File.{File}
-use Rattle.tree_file.specs.Versions.{IsVersion}
-use Rattle.solver.specs.declared.listing.Listing.{Listing}
 use Rattle.solver.specs.declared.fault.SolverFault.{SolverFault}
 use Rattle.solver.specs.declared.fault.SolverFault.TheVariants.{Closed, NoGame, ListingsUsedUp}
 
--- this listing is open, and lists this table
-abbrev pub IsListing : Listing → Stored (List ℕ) → File → Type 0
-IsListing listing table file = IsVersion listing.kept table file
-
--- why none is begun: the solver is closed, no game is loaded, or four are open
-abbrev pub BeginCause : State → File → SolverFault → Type 0
-BeginCause old file Closed = old.closed ≡ true
-BeginCause old file NoGame = (old.closed ≡ false) × (old.kept ≡ None)
-BeginCause old file ListingsUsedUp = (place : HoldPlace) → needed_by file.work.store.holds.taken place ≡ true
-BeginCause old file _ = ⊥
+-- why none is begun: the solver is closed, no game is loaded, or as many are open as there can be
+abbrev pub BeginCause : State → Type 0 → SolverFault → Type 0
+BeginCause old UsedUp Closed = old.closed ≡ true
+BeginCause old UsedUp NoGame = (old.closed ≡ false) × (old.kept ≡ None)
+BeginCause old UsedUp ListingsUsedUp = UsedUp
+BeginCause old UsedUp _ = ⊥

@@ -27,7 +27,7 @@ use Rattle.tree_table.specs.Causes.{IsNoTable, ReadCause}
 use Rattle.tree_table.specs.aid.Standing.{taken_still, let_go_still, works_still}
 use Rattle.tree_table.specs.aid.Versions.{version_taken}
 use Rattle.tree_file.specs.File.{File, file_of, IsWholeFile, NamesSlot, kept_of, kept_with, state_of}
-use Rattle.tree_file.specs.Versions.{VersionCause}
+use Rattle.game_file.specs.Causes.{FileVersionCause}
 use Rattle.tree_file.specs.aid.Whole.{again_kept, again_packing, again_text, again_whole}
 use Rattle.tree_file.proofs.Saving.{calm_sealed}
 
@@ -150,7 +150,7 @@ place_apart place other slot table old new taken it same =
 
 -- why a record of a version is not read
 pub not_read : (place : HoldPlace) (slot : TreeSlot) (table : Stored (List ℕ)) (old new : File) → StandsInVersion place slot table old.work.store
-    → (fault : TableFault) → ReadCause IsNoTable slot old.work.store new.work.store fault → VersionCause old new fault
+    → (fault : TableFault) → ReadCause IsNoTable slot old.work.store new.work.store fault → FileVersionCause (state_of old) (state_of new) fault
 not_read place slot table old new it DiskFailed cause = cause
 not_read place slot table old new it Damaged none = λ honest. none honest it.text table (record {
   entries = it.entries;
@@ -163,6 +163,6 @@ not_read place slot table old new it OutOfMemory cause = cause
 not_read place slot table old new it Closed cause = cause
 
 pub read_not : {X : Type 0} (place : HoldPlace) (slot : TreeSlot) (table : Stored (List ℕ)) (old new : File) → StandsInVersion place slot table old.work.store
-    → (r : Result X TableFault) → IfErr r (ReadCause IsNoTable slot old.work.store new.work.store) → IfErr r (VersionCause old new)
+    → (r : Result X TableFault) → IfErr r (ReadCause IsNoTable slot old.work.store new.work.store) → IfErr r (FileVersionCause (state_of old) (state_of new))
 read_not place slot table old new it (Ok x) cause = tt
 read_not place slot table old new it (Err fault) cause = not_read place slot table old new it fault cause

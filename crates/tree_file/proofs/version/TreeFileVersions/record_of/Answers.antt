@@ -6,7 +6,7 @@ use Rattle.tree_file.specs.InFile.{file_in}
 use Rattle.tree_file.specs.aid.Backed.{IsBackedFile, backed_still}
 use Rattle.tree_file.specs.aid.Frames.{stays_here}
 use Rattle.tree_file.proofs.Versions.{read_not}
-use Rattle.tree_file.proofs.file.TreeFile.record_of.Goals as goal
+use Rattle.tree_file.proofs.version.TreeFileVersions.record_of.Goals as goal
 
 pub returns-then-number-version-clause-stays : goal.returns-then-number-version-clause-stays
 returns-then-number-version-clause-stays g c = stays_here (file_in c.args.self.now)

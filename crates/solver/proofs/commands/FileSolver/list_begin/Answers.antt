@@ -1,5 +1,5 @@
 use Rattle.solver.proofs.Loading.{same_source}
-use Rattle.solver.proofs.listings.FileSolver+TreeFile+PageStore+D.list_begin.Goals as goal
+use Rattle.solver.proofs.commands.FileSolver.list_begin.Goals as goal
 
 pub returns-in-Some-clause-ready : goal.returns-in-Some-clause-ready
 returns-in-Some-clause-ready g c = λ ready.
@@ -10,4 +10,4 @@ pub returns-in-Some-clause-begun : goal.returns-in-Some-clause-begun
 returns-in-Some-clause-begun g c = λ ready honest kept is. c.in-Some.ensures.kept honest ready.0 kept is
 
 pub returns-in-Some-clause-others : goal.returns-in-Some-clause-others
-returns-in-Some-clause-others g c = λ other table it. c.in-Some.ensures.others other.kept table it
+returns-in-Some-clause-others g c = λ other table it. c.in-Some.ensures.others other table it

@@ -1,5 +1,5 @@
 use Rattle.solver.proofs.Loading.{same_source}
-use Rattle.solver.proofs.listings.FileSolver+TreeFile+PageStore+D.list_end.Goals as goal
+use Rattle.solver.proofs.commands.FileSolver.list_end.Goals as goal
 
 pub returns-clause-ready : goal.returns-clause-ready
 returns-clause-ready g c = λ ready.

@@ -2,10 +2,10 @@ use Rattle.std.proofs.Common.{◌∙◌, inr, refl, ap, sym}
 use Rattle.tree_table.specs.InTrees.{work_in}
 use Rattle.tree_table.specs.Working.{Work}
 use Rattle.tree_table.specs.aid.Versions.{version_taken_else}
-use Rattle.tree_file.specs.File.{file_of}
+use Rattle.tree_file.specs.File.{file_of, state_of}
 use Rattle.tree_file.specs.aid.Backed.{IsBackedFile, backed_still}
 use Rattle.tree_file.proofs.Versions.{hold_still, place_apart, taken_packing, taken_state, taken_text, taken_version, taken_whole}
-use Rattle.tree_file.proofs.file.TreeFile.keep.Goals as goal
+use Rattle.tree_file.proofs.version.TreeFileVersions.keep.Goals as goal
 
 pub invariant_of-self : goal.invariant_of-self
 invariant_of-self g c =
@@ -46,7 +46,10 @@ returns-in-Some-hold-clause-others g c = λ version table it.
     )
 
 pub returns-in-None-clause-none : goal.returns-in-None-clause-none
-returns-in-None-clause-none g c = (ap (λ (w : Work). file_of w c.args.self.now.game) c.in-None.ensures.none.0, inr c.in-None.ensures.none.1)
+returns-in-None-clause-none g c = inr c.in-None.ensures.none.1
+
+pub returns-in-None-clause-refused : goal.returns-in-None-clause-refused
+returns-in-None-clause-refused g c = ap (λ (w : Work). state_of (file_of w c.args.self.now.game)) c.in-None.ensures.none.0
 
 pub returns-in-Some-hold-clause-text : goal.returns-in-Some-hold-clause-text
 returns-in-Some-hold-clause-text g c = λ whole.

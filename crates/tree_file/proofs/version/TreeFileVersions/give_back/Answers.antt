@@ -5,7 +5,7 @@ use Rattle.tree_table.specs.aid.Versions.{version_let_go}
 use Rattle.tree_file.specs.File.{file_of}
 use Rattle.tree_file.specs.aid.Backed.{IsBackedFile, backed_still}
 use Rattle.tree_file.proofs.Versions.{let_go_packing, let_go_state, let_go_text, let_go_whole}
-use Rattle.tree_file.proofs.file.TreeFile.give_back.Goals as goal
+use Rattle.tree_file.proofs.version.TreeFileVersions.give_back.Goals as goal
 
 pub invariant_of-self : goal.invariant_of-self
 invariant_of-self g c =
