@@ -1,0 +1,80 @@
+-- A sector is put into the place of its page.
+use Rattle.std.proofs.Common.{◌≡◌, ◌≢◌, ◌⊎◌, inl, inr, ℕ, zero, suc, ◌+◌, ◌-◌, ◌*◌, ◌/◌, ◌%◌, ◌<◌, ◌≤◌, Bool, true, false, List, [], ◌∷◌, ◌++◌, length, Some, None, refl, sym, ap, subst, ◌∙◌}
+use Rattle.std.proofs.Common.{arith, take, drop, length-append, length-drop, append_assoc}
+use Rattle.std.specs.Prelude.{Option, ◌==◌, if◌then◌else◌, slice_set}
+use Rattle.std.proofs.lemmas.Bool.{cases_eq, cases_lt}
+use Rattle.std.proofs.lemmas.List.{take-take, drop-drop, drop-take, length-take, take_at, drop_at, length-take-le, take_all}
+use Rattle.std.proofs.lemmas.Slice.{take-put_mid_below, drop-put_mid, between-put_mid}
+use borrow.Rule.Slice.PartMut.{put_mid, post_of}
+use Rattle.file_disk.specs.Bytes.{bytes_at, sector_of, LeavesOthers}
+
+-- a part of a part
+pub part_of : (bytes : List ℕ) (at count from n : ℕ) → from + n ≤ count → bytes_at (bytes_at bytes at count) from n ≡ bytes_at bytes (at + from) n
+part_of bytes at count from n le =
+    ap (λ (c : ℕ). take n (drop from (take c (drop at bytes)))) (split)
+    ∙ ap (λ (b : List ℕ). take n b) (drop-take from (count - from) (drop at bytes))
+    ∙ take-take n (count - from) (drop from (drop at bytes)) (omega arith)
+    ∙ ap (λ (b : List ℕ). take n b) (drop-drop from at bytes)
+  where
+    split : count ≡ from + (count - from)
+    split = omega arith
+
+-- a part in front of a change
+before_change : (old new : List ℕ) (at from n : ℕ) → take at new ≡ take at old → from + n ≤ at → bytes_at new from n ≡ bytes_at old from n
+before_change old new at from n same le =
+    sym (front new) ∙ ap (λ (b : List ℕ). take n (drop from b)) same ∙ front old
+  where
+    front : (b : List ℕ) → take n (drop from (take at b)) ≡ take n (drop from b)
+    front b = part_of b 0 at from n le ∙ ap (λ (a : ℕ). take n (drop a b)) (omega arith)
+
+-- and one behind it
+behind_change : (old new : List ℕ) (end from n : ℕ) → drop end new ≡ drop end old → end ≤ from → bytes_at new from n ≡ bytes_at old from n
+behind_change old new end from n same le =
+    ap (λ (b : List ℕ). take n b) (sym (rest new) ∙ ap (λ (b : List ℕ). drop (from - end) b) same ∙ rest old)
+  where
+    rest : (b : List ℕ) → drop (from - end) (drop end b) ≡ drop from b
+    rest b = drop-drop (from - end) end b ∙ ap (λ (a : ℕ). drop a b) (omega arith)
+
+-- bytes that are put over others
+pub spliced : (old new from : List ℕ) (at : ℕ) → at + length from ≤ length old → length new ≡ length old
+    → take at new ≡ take at old → drop (at + length from) new ≡ drop (at + length from) old → LeavesOthers at (length from) old new
+spliced old new from at within long before behind = record {
+  same_length = long;
+  before = λ start n le. before_change old new at start n before le;
+  behind = λ start n le. behind_change old new (at + length from) start n behind le;
+}
+
+-- a part that is put over another of its length
+length-put_mid : (at end : ℕ) (old from : List ℕ) → end ≡ at + length from → end ≤ length old → length (put_mid at (end - at) old from) ≡ length old
+length-put_mid at end old from is within =
+    length-append (take at old) (from ++ drop (end - at) (drop at old))
+    ∙ ap (λ (n : ℕ). length (take at old) + n) (length-append from (drop (end - at) (drop at old)))
+    ∙ (omega (arith, length-take at old, length-drop (end - at) (drop at old), length-drop at old))
+
+-- what a copy into a part of a vector leaves of it
+pub put_in : (old lent copied from : List ℕ) (at end len : ℕ) → lent ≡ old → copied ≡ from → len ≡ length old → end ≡ at + length from
+    → end ≤ length old
+    → take len (put_mid at (end - at) lent copied ++ drop (length (put_mid at (end - at) lent copied)) old) ≡ put_mid at (end - at) old from
+put_in old lent copied from at end len is_lent is_copied is_len is_end within =
+    ap (λ (l : List ℕ). take len (put_mid at (end - at) l copied ++ drop (length (put_mid at (end - at) l copied)) old)) is_lent
+    ∙ ap (λ (l : List ℕ). take len (put_mid at (end - at) old l ++ drop (length (put_mid at (end - at) old l)) old)) is_copied
+    ∙ take_at (put_mid at (end - at) old from) _ len (long ∙ sym is_len)
+  where
+    long : length (put_mid at (end - at) old from) ≡ length old
+    long = length-put_mid at end old from is_end within
+
+-- and the same said of its bytes
+pub put_over : (old from : List ℕ) (at end : ℕ) → end ≡ at + length from → end ≤ length old
+    → LeavesOthers at (length from) old (put_mid at (end - at) old from)
+put_over old from at end is_end within = spliced old (put_mid at (end - at) old from) from at (omega arith)
+    (length-put_mid at end old from is_end within)
+    (take-put_mid_below at (end - at) old from at (omega arith) (omega arith))
+    (drop-put_mid at (end - at) old from (at + length from) (omega arith) (omega arith) (omega arith))
+
+pub put_there : (old from : List ℕ) (at end : ℕ) → end ≡ at + length from → end ≤ length old
+    → bytes_at (put_mid at (end - at) old from) at (length from) ≡ from
+put_there old from at end is_end within =
+    ap (λ (n : ℕ). take n (drop at (put_mid at (end - at) old from))) count ∙ between-put_mid at (end - at) old from end (omega arith) (omega arith)
+  where
+    count : length from ≡ end - at
+    count = omega arith

@@ -1,0 +1,4 @@
+mod Slots
+mod Filling
+mod Placing
+mod Flushing

@@ -1,0 +1,22 @@
+use Rattle.std.proofs.Common.{rules, arith, ◌≡◌, ◌<◌, ℕ, length, None, Some, false, zero, suc, refl, sym, ◌∙◌}
+use Rattle.file_disk.specs.declared.waiting_page.WaitingPage.{WaitingPage}
+use Rattle.file_disk.specs.Waiting.{has_sector, place_of}
+use Rattle.file_disk.proofs.Placing.{added_same, added_distinct, added_placed, has_none}
+use Rattle.file_disk.proofs.waiting_writes.WaitingWrites.place_for.Goals as goal
+
+pub invariant_of-self : goal.invariant_of-self
+invariant_of-self c =
+    let room : c.args.self.now.count < length c.args.self.now.pages.items = search rules in
+    let none : place_of c.args.self.now.pages.items c.args.self.now.count c.args.page ≡ None = search rules in
+    record {
+      few = search rules;
+      sized = search rules;
+      distinct = added_distinct _ _ _ room none c.args.self.now.distinct;
+      placed = added_placed _ _ _ room c.requires c.args.self.now.placed;
+    }
+
+pub returns-clause-same : goal.returns-clause-same
+returns-clause-same c =
+    let room : c.args.self.now.count < length c.args.self.now.pages.items = search rules in
+    let none : place_of c.args.self.now.pages.items c.args.self.now.count c.args.page ≡ None = search rules in
+    λ content k. added_same _ _ _ room (λ s lt. has_none s) none _ content k

@@ -1,0 +1,16 @@
+//! A disk over an open file: the sectors that are written wait in memory until the sync, a read takes a page at once, and what the two
+//! buffers do is proved of every file of bytes.
+#![tactic(auto)]
+
+
+mod byte_file;
+
+
+
+mod flush;
+mod waiting_page;
+mod waiting_writes;
+
+
+pub use byte_file::ByteFile;
+
