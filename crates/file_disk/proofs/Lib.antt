@@ -2,3 +2,4 @@ mod Slots
 mod Filling
 mod Placing
 mod Flushing
+mod Showing

@@ -1,3 +1,4 @@
 pub mod Bytes
+pub mod Shown
 pub mod Waiting
 pub mod aid

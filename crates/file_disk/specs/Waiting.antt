@@ -2,7 +2,7 @@
 use Rattle.std.specs.Prelude.{◌≡◌, ◌⊎◌, ℕ, zero, suc, ◌+◌, ◌*◌, ◌/◌, ◌%◌, ◌^◌, ◌<◌, ◌≤◌, ◌==◌, Bool, true, false, if◌then◌else◌, List, [], length}
 use Rattle.std.specs.Prelude.{slice_index_or, Option, None, Some}
 use Rattle.file_disk.specs.declared.waiting_page.WaitingPage.{WaitingPage}
-use Rattle.file_disk.specs.Bytes.{sector_of}
+use Rattle.file_disk.specs.Bytes.{bytes_at, sector_of}
 
 -- a place without a page
 abbrev pub no_page : WaitingPage
@@ -85,3 +85,7 @@ AreInFile pages count bytes from to content =
 pub record Puts (pages : List WaitingPage) (count : ℕ) (bytes old new : List ℕ) (done : Bool) : Type 0 where
   pub same : ShowsSame pages count bytes old new
   pub stays : done ≡ true → StaysInFile pages count bytes old new
+
+-- a page in memory, if there is one, has the bytes that the file has
+abbrev pub IsCopyOf : Option ℕ → List ℕ → List ℕ → Type 0
+IsCopyOf number bytes content = (page : ℕ) → number ≡ Some page → bytes ≡ bytes_at content (4096 * page) 4096

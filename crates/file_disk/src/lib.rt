@@ -2,15 +2,15 @@
 //! buffers do is proved of every file of bytes.
 #![tactic(auto)]
 
-
+mod buffered_file;
 mod byte_file;
-
-
-
 mod flush;
+mod read_page;
+mod refused;
 mod waiting_page;
 mod waiting_writes;
 
-
+pub use buffered_file::BufferedFile;
 pub use byte_file::ByteFile;
+pub use refused::FileRefused;
 

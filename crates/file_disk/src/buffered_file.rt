@@ -1,0 +1,216 @@
+//! A file of bytes by sectors, where what is written waits until the sync.
+ghost use Rattle.std.specs.Prelude.{◌≡◌, ◌≢◌, ◌⊎◌, ◌+◌, ◌*◌, ◌/◌, ◌^◌, ◌<◌, ◌≤◌, ℕ, true, false, length, replicate, IsTrue, IfOk};
+ghost use Rattle.std.specs.Bool.{OnTrue, OnFalse};
+ghost use Rattle.file_disk.specs.Bytes.{sector_of};
+ghost use Rattle.file_disk.specs.Shown.{shown};
+ghost use Rattle.file_disk.specs.Waiting.{AreInside, HasRoom, IsCopyOf};
+
+use crate::byte_file::ByteFile;
+use crate::flush::put_all;
+use crate::read_page::ReadPage;
+use crate::refused::FileRefused;
+use crate::waiting_writes::WaitingWrites;
+use std::alloc::Global;
+
+/// A file that nobody else writes, by sectors. What is written waits in memory until the sync, or until there is no more room; a read takes
+/// it from there, and else from a page that is read by one call. A read never writes. After a sync of the file that failed, every call fails.
+#[derive(Drop)]
+pub struct BufferedFile<F: ByteFile> {
+    pub file: F,
+    pub waiting: WaitingWrites,
+    page: ReadPage,
+    pub sectors: u64,
+    pub lost: bool,
+    ghost room: { 0 < length waiting.pages.items },
+    ghost placed: { 512 * sectors < 2 ^ 64 },
+    ghost inside: { AreInside waiting.pages.items waiting.count (512 * sectors) },
+    ghost long: { IsTrue (F.honest file) → 512 * sectors ≤ length (F.content file) },
+    ghost copied: { IsTrue (F.honest file) → IsCopyOf page.number page.bytes (F.content file) },
+}
+
+impl<F: ByteFile + Drop> BufferedFile<F> {
+    /// Its sectors are the file's length divided by 512, rounded down. It has room for so many pages that wait, and takes no memory later.
+    pub fn new(alloc: Global, file: F, room: usize) -> Result<Self, FileRefused>
+        requires some { 0 < room }
+        requires fits { 4096 * room < 2 ^ 63 }
+        ensures sectors { IfOk result (λ f. IsTrue (F.honest f.file) → f.sectors ≡ length (F.content f.file) / 512) }
+        ensures file { IfOk result (λ f. f.file ≡ file) }
+        ensures none { IfOk result (λ f. f.waiting.count ≡ 0) }
+        ensures found { IfOk result (λ f. f.lost ≡ false) }
+    {
+        let Some(bytes) = file.len() else {
+            return Err(FileRefused::NoLength);
+        };
+        let Ok(waiting) = WaitingWrites::new(alloc, room) else {
+            return Err(FileRefused::OutOfMemory);
+        };
+        Ok(BufferedFile {
+            file,
+            waiting,
+            page: ReadPage::new(),
+            sectors: bytes / 512,
+            lost: false,
+        })
+    }
+
+    /// Reads a sector.
+    pub fn read(&mut self, at: u64, into: &mut [u8; 512]) -> bool
+        requires { at < self.old.sectors }
+        ensures bytes { IsTrue (F.honest self.old.file) → OnTrue result (into.new ≡ shown self.old.waiting (F.content self.old.file) at) }
+        ensures unchanged { IsTrue (F.honest self.old.file) → F.content self.new.file ≡ F.content self.old.file }
+        ensures waits { self.new.waiting ≡ self.old.waiting }
+        ensures lasts { IsTrue (F.honest self.old.file) → F.durable self.new.file ≡ F.durable self.old.file }
+        ensures same_honest { F.honest self.new.file ≡ F.honest self.old.file }
+        ensures sectors { self.new.sectors ≡ self.old.sectors }
+        ensures refused { self.old.lost ≡ true → result ≡ false }
+        ensures same_lost { self.new.lost ≡ self.old.lost }
+    {
+        if self.lost {
+            return false;
+        }
+        self.waiting.give(at, into) || self.read_file(at, into)
+    }
+
+    /// Reads a sector as the file has it.
+    fn read_file(&mut self, at: u64, into: &mut [u8; 512]) -> bool
+        requires { at < self.old.sectors }
+        ensures bytes { IsTrue (F.honest self.old.file) → OnTrue result (into.new ≡ sector_of (F.content self.old.file) at) }
+        ensures unchanged { IsTrue (F.honest self.old.file) → F.content self.new.file ≡ F.content self.old.file }
+        ensures waits { self.new.waiting ≡ self.old.waiting }
+        ensures lasts { IsTrue (F.honest self.old.file) → F.durable self.new.file ≡ F.durable self.old.file }
+        ensures same_honest { F.honest self.new.file ≡ F.honest self.old.file }
+        ensures sectors { self.new.sectors ≡ self.old.sectors }
+        ensures same_lost { self.new.lost ≡ self.old.lost }
+    {
+        if self.page.give(at, into) {
+            return true;
+        }
+        self.load_page(at / 8);
+        if self.page.give(at, into) {
+            return true;
+        }
+        self.file.read_at(512 * at, into)
+    }
+
+    /// Reads a page, where it is a whole one.
+    fn load_page(&mut self, page: u64)
+        ensures unchanged { IsTrue (F.honest self.old.file) → F.content self.new.file ≡ F.content self.old.file }
+        ensures waits { self.new.waiting ≡ self.old.waiting }
+        ensures lasts { IsTrue (F.honest self.old.file) → F.durable self.new.file ≡ F.durable self.old.file }
+        ensures same_honest { F.honest self.new.file ≡ F.honest self.old.file }
+        ensures sectors { self.new.sectors ≡ self.old.sectors }
+        ensures same_lost { self.new.lost ≡ self.old.lost }
+    {
+        if page < self.sectors / 8 {
+            self.page.load(&mut self.file, page);
+        }
+    }
+
+    /// Writes a sector, which then waits. What waits goes to the file first where there is no room.
+    pub fn write(&mut self, at: u64, from: &[u8; 512]) -> bool
+        requires { at < self.old.sectors }
+        ensures written { IsTrue (F.honest self.old.file) → OnTrue result (shown self.new.waiting (F.content self.new.file) at ≡ from.now) }
+        ensures others { IsTrue (F.honest self.old.file) → (k : ℕ) → k ≢ at
+            → shown self.new.waiting (F.content self.new.file) k ≡ shown self.old.waiting (F.content self.old.file) k }
+        ensures waits { HasRoom self.old.waiting.pages.items self.old.waiting.count at → self.new.file ≡ self.old.file }
+        ensures lasts { IsTrue (F.honest self.old.file) → F.durable self.new.file ≡ F.durable self.old.file }
+        ensures same_honest { F.honest self.new.file ≡ F.honest self.old.file }
+        ensures sectors { self.new.sectors ≡ self.old.sectors }
+        ensures refused { self.old.lost ≡ true → result ≡ false }
+        ensures same_lost { self.new.lost ≡ self.old.lost }
+    {
+        if self.lost {
+            return false;
+        }
+        if self.waiting.put(at, from) {
+            return true;
+        }
+        self.flush() && self.waiting.put(at, from)
+    }
+
+    /// Writes all that waits to the file. Where that fails it still waits.
+    pub fn flush(&mut self) -> bool
+        ensures shown { IsTrue (F.honest self.old.file) → (k : ℕ)
+            → shown self.new.waiting (F.content self.new.file) k ≡ shown self.old.waiting (F.content self.old.file) k }
+        ensures none { OnTrue result (self.new.waiting.count ≡ 0) }
+        ensures still { OnFalse result (self.new.waiting ≡ self.old.waiting) }
+        ensures why { OnFalse result ((0 < self.new.waiting.count) ⊎ (self.old.lost ≡ true)) }
+        ensures lasts { IsTrue (F.honest self.old.file) → F.durable self.new.file ≡ F.durable self.old.file }
+        ensures same_honest { F.honest self.new.file ≡ F.honest self.old.file }
+        ensures sectors { self.new.sectors ≡ self.old.sectors }
+        ensures refused { self.old.lost ≡ true → result ≡ false }
+        ensures same_lost { self.new.lost ≡ self.old.lost }
+    {
+        if self.lost {
+            return false;
+        }
+        self.page.clear();
+        if !put_all(&mut self.file, &self.waiting) {
+            return false;
+        }
+        self.waiting.clear();
+        true
+    }
+
+    /// Writes all that waits and makes it durable. Where the file cannot be synced the disk is lost.
+    pub fn sync(&mut self) -> bool
+        ensures all { IsTrue (F.honest self.old.file) → OnTrue result ((k : ℕ)
+            → sector_of (F.durable self.new.file) k ≡ shown self.old.waiting (F.content self.old.file) k) }
+        ensures durable { IsTrue (F.honest self.old.file) → OnTrue result (F.durable self.new.file ≡ F.content self.new.file) }
+        ensures shown { IsTrue (F.honest self.old.file) → (k : ℕ)
+            → shown self.new.waiting (F.content self.new.file) k ≡ shown self.old.waiting (F.content self.old.file) k }
+        ensures none { OnTrue result (self.new.waiting.count ≡ 0) }
+        ensures remembered { OnFalse result ((0 < self.new.waiting.count) ⊎ (self.new.lost ≡ true)) }
+        ensures same_honest { F.honest self.new.file ≡ F.honest self.old.file }
+        ensures sectors { self.new.sectors ≡ self.old.sectors }
+        ensures refused { self.old.lost ≡ true → (result ≡ false) × (self.new.lost ≡ true) }
+    {
+        if !self.flush() {
+            return false;
+        }
+        let done = self.file.sync();
+        self.lost = !done;
+        done
+    }
+
+    /// Makes it longer: so many sectors, and the new ones are zeros. A file that others have made longer is left alone.
+    pub fn extend(&mut self, sectors: u64) -> bool
+        requires { self.old.sectors ≤ sectors }
+        ensures longer { OnTrue result (self.new.sectors ≡ sectors) }
+        ensures same_sectors { OnFalse result (self.new.sectors ≡ self.old.sectors) }
+        ensures zeros { IsTrue (F.honest self.old.file) → OnTrue result ((k : ℕ) → self.old.sectors ≤ k → k < sectors
+            → shown self.new.waiting (F.content self.new.file) k ≡ replicate 512 0) }
+        ensures kept { IsTrue (F.honest self.old.file) → (k : ℕ) → k < self.old.sectors
+            → shown self.new.waiting (F.content self.new.file) k ≡ shown self.old.waiting (F.content self.old.file) k }
+        ensures not_cut { IsTrue (F.honest self.old.file) → 512 * (self.old.sectors + 1) ≤ length (F.content self.old.file)
+            → (result ≡ false) × (self.new.file ≡ self.old.file) }
+        ensures waits { self.new.waiting ≡ self.old.waiting }
+        ensures lasts { IsTrue (F.honest self.old.file) → F.durable self.new.file ≡ F.durable self.old.file }
+        ensures same_honest { F.honest self.new.file ≡ F.honest self.old.file }
+        ensures refused { self.old.lost ≡ true → result ≡ false }
+        ensures same_lost { self.new.lost ≡ self.old.lost }
+    {
+        if self.lost || sectors > u64::MAX / 512 || !self.ends_here() {
+            return false;
+        }
+        self.page.clear();
+        if !self.file.set_len(512 * self.sectors) {
+            return false;
+        }
+        if !self.file.set_len(512 * sectors) {
+            return false;
+        }
+        self.sectors = sectors;
+        true
+    }
+
+    /// Whether the file ends with its last sector, or behind it before there is room for one more.
+    fn ends_here(&self) -> bool
+        ensures { IsTrue (F.honest self.now.file) → OnTrue result (length (F.content self.now.file) < 512 * (self.now.sectors + 1)) }
+    {
+        match self.file.len() {
+            Some(bytes) => bytes / 512 == self.sectors,
+            None => false,
+        }
+    }
+}
