@@ -1,12 +1,10 @@
 -- A sector is put into the place of its page.
-use Rattle.std.proofs.Common.{◌≡◌, ◌≢◌, ◌⊎◌, inl, inr, ℕ, zero, suc, ◌+◌, ◌-◌, ◌*◌, ◌/◌, ◌%◌, ◌<◌, ◌≤◌, Bool, true, false, List, [], ◌∷◌, ◌++◌, length, Some, None, refl, sym, ap, subst, ◌∙◌}
-use Rattle.std.proofs.Common.{arith, take, drop, length-append, length-drop, append_assoc}
-use Rattle.std.specs.Prelude.{Option, ◌==◌, if◌then◌else◌, slice_set}
-use Rattle.std.proofs.lemmas.Bool.{cases_eq, cases_lt}
-use Rattle.std.proofs.lemmas.List.{take-take, drop-drop, drop-take, length-take, take_at, drop_at, length-take-le, take_all}
+use Rattle.std.proofs.Common.{◌≡◌, ℕ, ◌+◌, ◌-◌, ◌≤◌, List, ◌++◌, length, sym, ap, ◌∙◌}
+use Rattle.std.proofs.Common.{arith, take, drop, length-append, length-drop}
+use Rattle.std.proofs.lemmas.List.{take-take, drop-drop, drop-take, length-take, take_at}
 use Rattle.std.proofs.lemmas.Slice.{take-put_mid_below, drop-put_mid, between-put_mid}
-use borrow.Rule.Slice.PartMut.{put_mid, post_of}
-use Rattle.file_disk.specs.Bytes.{bytes_at, sector_of, LeavesOthers}
+use borrow.Rule.Slice.PartMut.{put_mid}
+use Rattle.file_disk.specs.Bytes.{bytes_at, LeavesOthers}
 
 -- a part of a part
 pub part_of : (bytes : List ℕ) (at count from n : ℕ) → from + n ≤ count → bytes_at (bytes_at bytes at count) from n ≡ bytes_at bytes (at + from) n
@@ -20,7 +18,7 @@ part_of bytes at count from n le =
     split = omega arith
 
 -- a part in front of a change
-before_change : (old new : List ℕ) (at from n : ℕ) → take at new ≡ take at old → from + n ≤ at → bytes_at new from n ≡ bytes_at old from n
+pub before_change : (old new : List ℕ) (at from n : ℕ) → take at new ≡ take at old → from + n ≤ at → bytes_at new from n ≡ bytes_at old from n
 before_change old new at from n same le =
     sym (front new) ∙ ap (λ (b : List ℕ). take n (drop from b)) same ∙ front old
   where

@@ -1,12 +1,12 @@
 -- Sectors that wait are written to the file.
-use Rattle.std.proofs.Common.{◌≡◌, ◌≢◌, ◌⊎◌, inl, inr, ℕ, zero, suc, ◌+◌, ◌-◌, ◌*◌, ◌/◌, ◌%◌, ◌^◌, ◌<◌, ◌≤◌, Bool, true, false, List, length, Some, None, refl, sym, ap, subst, ◌∙◌, arith, take, drop, length-take, length-drop}
+use Rattle.std.proofs.Common.{◌≡◌, ◌⊎◌, inl, inr, ℕ, ◌+◌, ◌-◌, ◌*◌, ◌/◌, ◌%◌, ◌<◌, ◌≤◌, Bool, true, false, List, length, Some, refl, sym, ap, subst, ◌∙◌, arith, take, drop, length-take, length-drop}
 use Rattle.std.specs.Prelude.{Option}
 use Rattle.std.specs.Bool.{OnTrue}
-use Rattle.std.proofs.lemmas.Bool.{cases_eq, cases_lt}
+use Rattle.std.proofs.lemmas.Bool.{cases_lt}
 use Rattle.std.proofs.lemmas.Option.{same_Some}
 use Rattle.file_disk.specs.declared.waiting_page.WaitingPage.{WaitingPage}
 use Rattle.file_disk.specs.Bytes.{bytes_at, sector_of, LeavesOthers}
-use Rattle.file_disk.specs.Waiting.{page_at, has_sector, slot_of, given, shown_of, AreDistinct, AreInside, IsRun, ShowsSame, IsInFile, StaysInFile, AreInFile, Puts}
+use Rattle.file_disk.specs.Waiting.{page_at, has_sector, slot_of, given, shown_of, AreDistinct, IsRun, IsInFile, AreInFile, Puts}
 use Rattle.file_disk.proofs.Slots.{slot_found, sector_of_page}
 use Rattle.file_disk.proofs.Filling.{part_of}
 
@@ -66,15 +66,15 @@ put_each pages count bytes old new part first slot sectors done wait is within l
     at (inr from) (inl to) =
         let there : first + (k - first) ≡ k = omega arith in
         from_slot (slot + (k - first)) (ap (slot_of pages count) (sym there) ∙ wait (k - first) (omega arith))
-            (λ is_done. ap (sector_of new) (sym there)
-                ∙ written_each bytes new part first slot sectors is within (on_true done written is_done) (k - first) (omega arith))
+        (λ is_done. ap (sector_of new) (sym there)
+        ∙ written_each bytes new part first slot sectors is within (on_true done written is_done) (k - first) (omega arith))
 
 -- where a sector of a place waits
 pub waits_at : (pages : List WaitingPage) (count p s : ℕ) → AreDistinct pages count → p < count → s < 8 → has_sector (page_at pages p) s ≡ true
     → slot_of pages count (8 * (page_at pages p).number + s) ≡ Some (8 * p + s)
 waits_at pages count p s distinct p_lt s_lt has =
     let both : ((8 * (page_at pages p).number + s) / 8 ≡ (page_at pages p).number) × ((8 * (page_at pages p).number + s) % 8 ≡ s) =
-        sector_of_page (page_at pages p).number s (8 * (page_at pages p).number + s) s_lt refl in
+    sector_of_page (page_at pages p).number s (8 * (page_at pages p).number + s) s_lt refl in
     slot_found pages count p (8 * (page_at pages p).number + s) distinct p_lt (sym both.0) (ap (has_sector (page_at pages p)) both.1 ∙ has)
     ∙ ap (λ (n : ℕ). Some (8 * p + n)) both.1
 

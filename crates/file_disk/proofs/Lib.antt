@@ -3,3 +3,5 @@ mod Filling
 mod Placing
 mod Flushing
 mod Showing
+mod Resizing
+mod Unsealed

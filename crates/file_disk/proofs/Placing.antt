@@ -1,11 +1,11 @@
 -- A page gets a place, and a sector is put there.
-use Rattle.std.proofs.Common.{◌≡◌, ◌≢◌, ◌⊎◌, inl, inr, ℕ, zero, suc, ◌+◌, ◌*◌, ◌/◌, ◌%◌, ◌^◌, ◌<◌, ◌≤◌, Bool, true, false, List, length, Some, None, refl, sym, ap, subst, ◌∙◌, arith, eq-eqb, ne_eqb, get_or, ◌∷◌, []}
-use Rattle.std.specs.Prelude.{Option, ◌==◌, if◌then◌else◌, slice_set, slice_index_or}
+use Rattle.std.proofs.Common.{◌≡◌, ◌≢◌, ◌⊎◌, inl, inr, ℕ, zero, suc, ◌+◌, ◌*◌, ◌/◌, ◌%◌, ◌^◌, ◌<◌, ◌≤◌, Bool, true, false, List, length, Some, None, refl, sym, ap, ◌∙◌, arith, eq-eqb, ne_eqb, get_or, ◌∷◌, []}
+use Rattle.std.specs.Prelude.{Option, ◌==◌, slice_set, slice_index_or}
 use Rattle.std.proofs.lemmas.Bool.{cases_eq, cases_lt}
 use Rattle.std.proofs.lemmas.List.{get_or-set_same, get_or-set_other}
 use Rattle.file_disk.specs.declared.waiting_page.WaitingPage.{WaitingPage}
 use Rattle.file_disk.specs.Bytes.{sector_of, LeavesOthers}
-use Rattle.file_disk.specs.Waiting.{no_page, page_at, has_sector, place_of, slot_in, slot_of, given, shown_of, AreDistinct, ArePlaced}
+use Rattle.file_disk.specs.Waiting.{no_page, page_at, has_sector, place_of, slot_in, given, shown_of, AreDistinct, ArePlaced}
 use Rattle.file_disk.proofs.Slots.{place_found, place_is, none_is, place_same, shown_same, stands}
 
 -- the page at a place, once it is put there
@@ -25,19 +25,19 @@ added_same pages count page room empty none bytes content k =
     ap (λ (n : ℕ). shown_of (slice_set pages count page) n bytes content k) next
     ∙ elim (cases_eq (k / 8) page.number) [
       | inl its ↦
-        let test : ((page_at (slice_set pages count page) count).number == (k / 8)) ≡ true =
-            eq-eqb _ _ (ap (λ (p : WaitingPage). p.number) (set_here pages count page room) ∙ sym its) in
-        let missing : has_sector (page_at (slice_set pages count page) count) (k % 8) ≡ false =
-            ap (λ (p : WaitingPage). has_sector p (k % 8)) (set_here pages count page room) ∙ empty (k % 8) (omega arith) in
-        let gone : place_of pages count (k / 8) ≡ None = ap (place_of pages count) its ∙ none in
-        rw test (rw missing (rw gone refl))
+          let test : ((page_at (slice_set pages count page) count).number == (k / 8)) ≡ true =
+          eq-eqb _ _ (ap (λ (p : WaitingPage). p.number) (set_here pages count page room) ∙ sym its) in
+          let missing : has_sector (page_at (slice_set pages count page) count) (k % 8) ≡ false =
+          ap (λ (p : WaitingPage). has_sector p (k % 8)) (set_here pages count page room) ∙ empty (k % 8) (omega arith) in
+          let gone : place_of pages count (k / 8) ≡ None = ap (place_of pages count) its ∙ none in
+          rw test (rw missing (rw gone refl))
       | inr other ↦
-        let test : ((page_at (slice_set pages count page) count).number == (k / 8)) ≡ false =
-            ne_eqb _ _ (λ is. other (sym is ∙ ap (λ (p : WaitingPage). p.number) (set_here pages count page room))) in
-        let same : place_of (slice_set pages count page) (suc count) (k / 8) ≡ place_of pages count (k / 8) =
-            rw test (place_same pages (slice_set pages count page) count (k / 8) (λ p lt. ap (λ (w : WaitingPage). w.number) (set_else pages count p page (omega arith)))) in
-        shown_same pages (slice_set pages count page) count (suc count) bytes bytes content k same
-            (λ q found. (ap (λ (p : WaitingPage). has_sector p (k % 8)) (set_else pages count q page (omega (arith, (place_is pages count (k / 8) q found).0))), refl))
+          let test : ((page_at (slice_set pages count page) count).number == (k / 8)) ≡ false =
+          ne_eqb _ _ (λ is. other (sym is ∙ ap (λ (p : WaitingPage). p.number) (set_here pages count page room))) in
+          let same : place_of (slice_set pages count page) (suc count) (k / 8) ≡ place_of pages count (k / 8) =
+          rw test (place_same pages (slice_set pages count page) count (k / 8) (λ p lt. ap (λ (w : WaitingPage). w.number) (set_else pages count p page (omega arith)))) in
+          shown_same pages (slice_set pages count page) count (suc count) bytes bytes content k same
+          (λ q found. (ap (λ (p : WaitingPage). has_sector p (k % 8)) (set_else pages count q page (omega (arith, (place_is pages count (k / 8) q found).0))), refl))
     ]
   where
     next : count + 1 ≡ suc count
@@ -68,12 +68,12 @@ pub added_placed : (pages : List WaitingPage) (count : ℕ) (page : WaitingPage)
     → ArePlaced pages count → ArePlaced (slice_set pages count page) (count + 1)
 added_placed pages count page room below placed = λ p lt. elim (cases_eq p count) [
   | inl is ↦
-    let new : (page_at (slice_set pages count page) p).number ≡ page.number =
-        ap (λ (n : ℕ). (page_at (slice_set pages count page) n).number) is ∙ ap (λ (w : WaitingPage). w.number) (set_here pages count page room) in
-    omega (arith, new, below)
+      let new : (page_at (slice_set pages count page) p).number ≡ page.number =
+      ap (λ (n : ℕ). (page_at (slice_set pages count page) n).number) is ∙ ap (λ (w : WaitingPage). w.number) (set_here pages count page room) in
+      omega (arith, new, below)
   | inr ne ↦
-    let old : (page_at (slice_set pages count page) p).number ≡ (page_at pages p).number = ap (λ (w : WaitingPage). w.number) (set_else pages count p page ne) in
-    omega (arith, old, placed p (omega arith))
+      let old : (page_at (slice_set pages count page) p).number ≡ (page_at pages p).number = ap (λ (w : WaitingPage). w.number) (set_else pages count p page ne) in
+      omega (arith, old, placed p (omega arith))
 ]
 
 -- a page that gets a sector more
@@ -99,9 +99,9 @@ pub fill_put : (pages : List WaitingPage) (count place at : ℕ) (page : Waiting
 fill_put pages count place at page bytes from content lt le distinct its gets written =
     let here : place < length pages = omega arith in
     let found : place_of (slice_set pages place page) count (at / 8) ≡ Some place =
-        fill_place pages count place page (at % 8) here gets (at / 8) ∙ place_found pages count place (at / 8) distinct lt its in
+    fill_place pages count place page (at % 8) here gets (at / 8) ∙ place_found pages count place (at / 8) distinct lt its in
     let has : has_sector (page_at (slice_set pages place page) place) (at % 8) ≡ true =
-        ap (λ (w : WaitingPage). has_sector w (at % 8)) (set_here pages place page here) ∙ gets.has in
+    ap (λ (w : WaitingPage). has_sector w (at % 8)) (set_here pages place page here) ∙ gets.has in
     ap (λ (o : Option ℕ). given bytes (sector_of content at) (slot_in (slice_set pages place page) (at % 8) o)) found ∙ rw has written
 
 -- and all else as before
@@ -111,7 +111,7 @@ pub fill_others : (pages : List WaitingPage) (count place at : ℕ) (page : Wait
     → (k : ℕ) → k ≢ at → shown_of (slice_set pages place page) count written content k ≡ shown_of pages count bytes content k
 fill_others pages count place at page bytes written content lt le its gets leaves k other =
     shown_same pages (slice_set pages place page) count count bytes written content k (fill_place pages count place page (at % 8) here gets (k / 8))
-        (λ q found. (has q found (cases_eq q place), stays q found (cases_lt (8 * q + k % 8) (8 * place + at % 8))))
+    (λ q found. (has q found (cases_eq q place), stays q found (cases_lt (8 * q + k % 8) (8 * place + at % 8))))
   where
     here : place < length pages
     here = omega arith

@@ -1,5 +1,5 @@
 -- What is shown where nothing waits.
-use Rattle.std.proofs.Common.{◌≡◌, ◌≢◌, ◌⊎◌, inl, inr, ℕ, zero, suc, ◌+◌, ◌-◌, ◌*◌, ◌/◌, ◌%◌, ◌^◌, ◌<◌, ◌≤◌, Bool, true, false, List, length, Some, None, refl, sym, ap, subst, ◌∙◌, arith}
+use Rattle.std.proofs.Common.{◌≡◌, ℕ, ◌+◌, ◌*◌, ◌/◌, ◌%◌, ◌<◌, ◌≤◌, Bool, true, false, List, length, Some, None, refl, sym, ap, ◌∙◌, arith}
 use Rattle.std.specs.Prelude.{Option, replicate, if◌then◌else◌}
 use Rattle.file_disk.specs.declared.waiting_page.WaitingPage.{WaitingPage}
 use Rattle.file_disk.specs.Bytes.{bytes_at, sector_of, IsResized, KeepsUpTo}
@@ -23,7 +23,7 @@ all_in_file pages count bytes content all k = at (place_of pages count (k / 8)) 
     at (Some p) found =
         let its : (p < count) × ((page_at pages p).number ≡ k / 8) = found p refl in
         by_has p (has_sector (page_at pages p) (k % 8))
-            (λ has. ap (sector_of content) (omega (arith, its.1)) ∙ all p (k % 8) its.0 (omega arith) has)
+        (λ has. ap (sector_of content) (omega (arith, its.1)) ∙ all p (k % 8) its.0 (omega arith) has)
 
 -- where no sector from a place on waits, the file's is shown
 pub none_waits : (pages : List WaitingPage) (count : ℕ) (bytes content : List ℕ) (sectors : ℕ) → AreInside pages count (512 * sectors)

@@ -1,5 +1,5 @@
 -- Where a sector waits.
-use Rattle.std.proofs.Common.{◌≡◌, ◌≢◌, ◌⊎◌, inl, inr, ℕ, zero, suc, ◌+◌, ◌*◌, ◌/◌, ◌%◌, ◌<◌, ◌≤◌, Bool, true, false, List, length, Some, None, refl, sym, ap, subst, ◌∙◌, get_or}
+use Rattle.std.proofs.Common.{◌≡◌, ◌≢◌, inl, inr, ℕ, zero, suc, ◌+◌, ◌*◌, ◌/◌, ◌%◌, ◌<◌, Bool, true, false, List, length, Some, None, refl, sym, ap, ◌∙◌, get_or}
 use Rattle.std.proofs.Common.{arith, eq-eqb, ne_eqb}
 use Rattle.std.specs.Prelude.{Option, ◌==◌, if◌then◌else◌}
 use Rattle.std.proofs.lemmas.Bool.{cases_eq}
@@ -15,12 +15,12 @@ pub place_found : (pages : List WaitingPage) (count p page : ℕ) → AreDistinc
 place_found pages zero p page distinct lt is = absurd (omega arith)
 place_found pages (suc n) p page distinct lt is = elim (cases_eq p n) [
   | inl same ↦
-    let here : ((page_at pages n).number == page) ≡ true = eq-eqb _ _ (ap (λ (q : ℕ). (page_at pages q).number) (sym same) ∙ is) in
-    rw here (ap Some (sym same))
+      let here : ((page_at pages n).number == page) ≡ true = eq-eqb _ _ (ap (λ (q : ℕ). (page_at pages q).number) (sym same) ∙ is) in
+      rw here (ap Some (sym same))
   | inr other ↦
-    let not_here : ((page_at pages n).number == page) ≡ false =
-        ne_eqb _ _ (λ here. other (distinct p n (omega arith) (omega arith) (is ∙ sym here))) in
-    rw not_here (place_found pages n p page (λ q r q_lt r_lt. distinct q r (omega arith) (omega arith)) (omega arith) is)
+      let not_here : ((page_at pages n).number == page) ≡ false =
+      ne_eqb _ _ (λ here. other (distinct p n (omega arith) (omega arith) (is ∙ sym here))) in
+      rw not_here (place_found pages n p page (λ q r q_lt r_lt. distinct q r (omega arith) (omega arith)) (omega arith) is)
 ]
 
 -- one that has none is not found
@@ -37,13 +37,13 @@ pub place_is : (pages : List WaitingPage) (count page p : ℕ) → place_of page
 place_is pages zero page p is = cc
 place_is pages (suc n) page p is = elim (cases_eq (page_at pages n).number page) [
   | inl here ↦
-    let test : ((page_at pages n).number == page) ≡ true = eq-eqb _ _ here in
-    let same : n ≡ p = same_Some _ _ (rw test at is) in
-    (omega arith, ap (λ (q : ℕ). (page_at pages q).number) (sym same) ∙ here)
+      let test : ((page_at pages n).number == page) ≡ true = eq-eqb _ _ here in
+      let same : n ≡ p = same_Some _ _ (rw test at is) in
+      (omega arith, ap (λ (q : ℕ). (page_at pages q).number) (sym same) ∙ here)
   | inr other ↦
-    let test : ((page_at pages n).number == page) ≡ false = ne_eqb _ _ other in
-    let found : (p < n) × ((page_at pages p).number ≡ page) = place_is pages n page p (rw test at is) in
-    (omega (arith, found.0), found.1)
+      let test : ((page_at pages n).number == page) ≡ false = ne_eqb _ _ other in
+      let found : (p < n) × ((page_at pages p).number ≡ page) = place_is pages n page p (rw test at is) in
+      (omega (arith, found.0), found.1)
 ]
 
 -- if none is found, no place has the page
@@ -51,14 +51,14 @@ pub none_is : (pages : List WaitingPage) (count page p : ℕ) → place_of pages
 none_is pages zero page p is lt = absurd (omega arith)
 none_is pages (suc n) page p is lt = elim (cases_eq (page_at pages n).number page) [
   | inl here ↦
-    let test : ((page_at pages n).number == page) ≡ true = eq-eqb _ _ here in
-    let no : Some n ≡ None = rw test at is in cc
+      let test : ((page_at pages n).number == page) ≡ true = eq-eqb _ _ here in
+      let no : Some n ≡ None = rw test at is in cc
   | inr other ↦
-    let test : ((page_at pages n).number == page) ≡ false = ne_eqb _ _ other in
-    elim (cases_eq p n) [
-      | inl same ↦ λ its. other (ap (λ (q : ℕ). (page_at pages q).number) (sym same) ∙ its)
-      | inr ne ↦ none_is pages n page p (rw test at is) (omega arith)
-    ]
+      let test : ((page_at pages n).number == page) ≡ false = ne_eqb _ _ other in
+      elim (cases_eq p n) [
+        | inl same ↦ λ its. other (ap (λ (q : ℕ). (page_at pages q).number) (sym same) ∙ its)
+        | inr ne ↦ none_is pages n page p (rw test at is) (omega arith)
+      ]
 ]
 
 -- places with the same pages are found alike
@@ -88,7 +88,7 @@ sector_of_page number s at lt is = (omega arith, omega arith)
 pub shown_same : (pages later : List WaitingPage) (count more : ℕ) (bytes written content : List ℕ) (k : ℕ)
     → place_of later more (k / 8) ≡ place_of pages count (k / 8)
     → ((q : ℕ) → place_of pages count (k / 8) ≡ Some q → (has_sector (page_at later q) (k % 8) ≡ has_sector (page_at pages q) (k % 8))
-        × (sector_of written (8 * q + k % 8) ≡ sector_of bytes (8 * q + k % 8)))
+    × (sector_of written (8 * q + k % 8) ≡ sector_of bytes (8 * q + k % 8)))
     → shown_of later more written content k ≡ shown_of pages count bytes content k
 shown_same pages later count more bytes written content k same each =
     ap (λ (o : Option ℕ). given written (sector_of content k) (slot_in later (k % 8) o)) same ∙ at (place_of pages count (k / 8)) each
@@ -100,12 +100,12 @@ shown_same pages later count more bytes written content k same each =
 
     at : (o : Option ℕ)
         → ((q : ℕ) → o ≡ Some q → (has_sector (page_at later q) (k % 8) ≡ has_sector (page_at pages q) (k % 8))
-            × (sector_of written (8 * q + k % 8) ≡ sector_of bytes (8 * q + k % 8)))
+        × (sector_of written (8 * q + k % 8) ≡ sector_of bytes (8 * q + k % 8)))
         → given written (sector_of content k) (slot_in later (k % 8) o) ≡ given bytes (sector_of content k) (slot_in pages (k % 8) o)
     at None each = refl
     at (Some q) each =
         let both : (has_sector (page_at later q) (k % 8) ≡ has_sector (page_at pages q) (k % 8))
-            × (sector_of written (8 * q + k % 8) ≡ sector_of bytes (8 * q + k % 8)) = each q refl in
+        × (sector_of written (8 * q + k % 8) ≡ sector_of bytes (8 * q + k % 8)) = each q refl in
         ap (λ (b : Bool). given written (sector_of content k) (if b then Some (8 * q + k % 8) else None)) both.0
         ∙ by_has (has_sector (page_at pages q) (k % 8)) (8 * q + k % 8) both.1
 

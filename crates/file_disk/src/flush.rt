@@ -46,7 +46,13 @@ fn put_one<F: ByteFile>(file: &mut F, waiting: &WaitingWrites, place: usize, sec
     if !page.has[sector] {
         return true;
     }
-    put_slots(file, waiting, 8 * place + sector, 8 * page.number + sector as u64, 1)
+    put_slots(
+        file,
+        waiting,
+        8 * place + sector,
+        8 * page.number + sector as u64,
+        1,
+    )
 }
 
 /// Writes the sectors of one page that wait.

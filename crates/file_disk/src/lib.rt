@@ -4,7 +4,11 @@
 
 mod buffered_file;
 mod byte_file;
+mod file;
 mod flush;
+mod memory_file;
+mod open_file;
+mod put_bytes;
 mod read_page;
 mod refused;
 mod waiting_page;
@@ -12,5 +16,6 @@ mod waiting_writes;
 
 pub use buffered_file::BufferedFile;
 pub use byte_file::ByteFile;
+pub use file::FileDisk;
+pub use memory_file::MemoryFile;
 pub use refused::FileRefused;
-

@@ -4,6 +4,7 @@ ghost use Rattle.std.specs.Bool.{OnTrue, OnFalse};
 ghost use Rattle.file_disk.specs.Bytes.{sector_of, LeavesOthers};
 ghost use Rattle.file_disk.specs.Waiting.{page_at, place_of, slot_of, shown_of, AreDistinct, ArePlaced, AreInside, HasRoom, IsRun};
 
+use crate::put_bytes::put_bytes;
 use crate::waiting_page::{WaitingPage, is_whole, with_sector};
 use std::alloc::{AllocError, Global};
 
@@ -13,8 +14,7 @@ fn put_sector(bytes: &mut Vec<u8>, slot: usize, from: &[u8; 512])
     ensures written { sector_of bytes.new.items slot ≡ from.now }
     ensures others { LeavesOthers (512 * slot) 512 bytes.old.items bytes.new.items }
 {
-    let start = 512 * slot;
-    bytes[start..start + 512].copy_from_slice(from);
+    put_bytes(bytes, 512 * slot, from);
 }
 
 /// Pages of which sectors wait, in the order in which they came, so many at most. The memory for all of them is taken once.

@@ -1,4 +1,3 @@
-pub mod Buffer
 pub mod Disk
 pub mod Log
 pub mod Moments

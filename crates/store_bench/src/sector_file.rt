@@ -2,7 +2,7 @@
 //! statement it is no honest disk.
 ghost use Rattle.std.specs.Prelude.{◌*◌, ◌^◌, ◌<◌, ◌≤◌, false, [], replicate};
 ghost use Rattle.sector_disk.specs.Disk.{HasCause, IsCounted, with_failed};
-ghost use Rattle.sector_disk.specs.File.{unknown_disk};
+ghost use Rattle.sector_disk.specs.Unknown.{unknown_disk};
 
 use sector_disk::{DiskFault, SectorDisk};
 use std::fs::File;

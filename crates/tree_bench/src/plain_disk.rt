@@ -1,7 +1,7 @@
 //! A disk in memory for measuring: it keeps no history. Nothing is promised of what it shows; by its statement it is no
 //! honest disk.
 ghost use Rattle.sector_disk.specs.Disk.{with_failed};
-ghost use Rattle.sector_disk.specs.File.{unknown_disk};
+ghost use Rattle.sector_disk.specs.Unknown.{unknown_disk};
 ghost use Rattle.std.specs.Prelude.{◌≡◌, ◌≤◌, length, OnOk};
 
 use sector_disk::{DiskFault, SectorDisk};

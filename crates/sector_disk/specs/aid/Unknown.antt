@@ -6,7 +6,7 @@ use Rattle.std.proofs.lemmas.List.{length-replicate, take-replicate, take-append
 use Rattle.sector_disk.specs.declared.log.Event.{Event}
 use Rattle.sector_disk.specs.declared.log.Event.TheVariants.{Extended}
 use Rattle.sector_disk.specs.Disk.{Picture, Extends, GoesOn}
-use Rattle.sector_disk.specs.File.{grown, unknown_disk}
+use Rattle.sector_disk.specs.Unknown.{grown, unknown_disk}
 use Rattle.sector_disk.specs.Past.{before, undone, synced_after, end_after, lasting_of, shown_at}
 
 undone-push : (events : List Event) (event : Event) (picture : Picture) → undone (events ++ event ∷ []) picture ≡ undone events (before event picture)

@@ -5,7 +5,7 @@ use Rattle.file_disk.proofs.flush.put_slots.Goals as goal
 pub returns-clause-puts : goal.returns-clause-puts
 returns-clause-puts g c = λ honest.
     let within : 512 * c.args.slot + 512 * c.args.sectors ≤ length c.args.waiting.now.bytes.items =
-        omega (arith, c.args.waiting.now.sized, c.args.waiting.now.few, c.requires.there) in
+    omega (arith, c.args.waiting.now.sized, c.args.waiting.now.few, c.requires.there) in
     let inside : 512 * c.args.first + 512 * c.args.sectors ≤ length (g.F.ByteFile.content c.args.file.now) = omega (arith, c.requires.inside honest) in
     let is = part_is _ _ (512 * c.args.slot) (512 * c.args.sectors) c.deref.ensures.value in
     let fits = part_fits _ _ _ _ _ _ is within inside in
@@ -14,7 +14,7 @@ returns-clause-puts g c = λ honest.
 pub returns-clause-put : goal.returns-clause-put
 returns-clause-put g c = λ honest.
     let within : 512 * c.args.slot + 512 * c.args.sectors ≤ length c.args.waiting.now.bytes.items =
-        omega (arith, c.args.waiting.now.sized, c.args.waiting.now.few, c.requires.there) in
+    omega (arith, c.args.waiting.now.sized, c.args.waiting.now.few, c.requires.there) in
     let inside : 512 * c.args.first + 512 * c.args.sectors ≤ length (g.F.ByteFile.content c.args.file.now) = omega (arith, c.requires.inside honest) in
     let is = part_is _ _ (512 * c.args.slot) (512 * c.args.sectors) c.deref.ensures.value in
     let fits = part_fits _ _ _ _ _ _ is within inside in

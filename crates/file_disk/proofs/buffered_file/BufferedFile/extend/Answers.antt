@@ -1,6 +1,5 @@
-use Rattle.std.proofs.Common.{ap, sym, subst, arith, ◌∙◌, ◌≤◌, ◌*◌, Bool, length, true}
+use Rattle.std.proofs.Common.{sym, subst, ◌∙◌, Bool}
 use Rattle.std.specs.Prelude.{IsTrue}
-use Rattle.file_disk.specs.Bytes.{IsResized}
 use Rattle.file_disk.proofs.Showing.{none_waits, shows_as, cut_keeps, longer_zeros, longer_keeps}
 use Rattle.file_disk.proofs.buffered_file.BufferedFile.extend.Goals as goal
 

@@ -8,14 +8,14 @@ pub returns-then-index-page : goal.returns-then-index-page
 returns-then-index-page c =
     let within : c.args.self.now.last < length c.args.self.now.pages.items = omega arith in
     let is : (page_at c.args.self.now.pages.items c.args.self.now.last).number ≡ c.args.page =
-        ap (λ (p : WaitingPage). p.number) (stands c.args.self.now.pages.items _ _ c.index.ensures within) ∙ c.if-index-page.true in
+    ap (λ (p : WaitingPage). p.number) (stands c.args.self.now.pages.items _ _ c.index.ensures within) ∙ c.if-index-page.true in
     record { is = sym (place_found _ _ _ _ c.args.self.now.distinct c.if-self.true is); there = (c.if-self.true, is) }
 
 pub returns-then-index-page-2 : goal.returns-then-index-page-2
 returns-then-index-page-2 c =
     let within : c.loop-place.place < length c.args.self.now.pages.items = omega arith in
     let is : (page_at c.args.self.now.pages.items c.loop-place.place).number ≡ c.args.page =
-        ap (λ (p : WaitingPage). p.number) (stands c.args.self.now.pages.items _ _ c.index-in-loop-place.ensures within) ∙ c.if-index-page-2.true in
+    ap (λ (p : WaitingPage). p.number) (stands c.args.self.now.pages.items _ _ c.index-in-loop-place.ensures within) ∙ c.if-index-page-2.true in
     record { is = sym (place_found _ _ _ _ c.args.self.now.distinct c.loop-place-test.true is); there = (c.loop-place-test.true, is) }
 
 pub returns-clause-is : goal.returns-clause-is

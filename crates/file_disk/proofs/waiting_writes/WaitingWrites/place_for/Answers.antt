@@ -1,6 +1,5 @@
-use Rattle.std.proofs.Common.{rules, arith, ◌≡◌, ◌<◌, ℕ, length, None, Some, false, zero, suc, refl, sym, ◌∙◌}
-use Rattle.file_disk.specs.declared.waiting_page.WaitingPage.{WaitingPage}
-use Rattle.file_disk.specs.Waiting.{has_sector, place_of}
+use Rattle.std.proofs.Common.{rules, ◌≡◌, ◌<◌, length, None}
+use Rattle.file_disk.specs.Waiting.{place_of}
 use Rattle.file_disk.proofs.Placing.{added_same, added_distinct, added_placed, has_none}
 use Rattle.file_disk.proofs.waiting_writes.WaitingWrites.place_for.Goals as goal
 

@@ -1,0 +1,16 @@
+use Rattle.std.proofs.Common.{rules, refl}
+use Rattle.file_disk.proofs.Unsealed.{no_word, failures_are, goes_on}
+use Rattle.file_disk.proofs.file.FileDiskSectorDisk.sync.Goals as goal
+
+pub returns-clause-cause : goal.returns-clause-cause
+returns-clause-cause c =
+    search (rules, c.told_write.ensures.cause, failures_are _ _ _ c.self.view_is, failures_are c.sync-done.new.self.sectors c.told_write.new.failures c.told_write.new.failed_writes refl)
+
+pub returns-clause-all : goal.returns-clause-all
+returns-clause-all c = λ honest. absurd (no_word _ _ _ c.self.view_is honest)
+
+pub returns-clause-same : goal.returns-clause-same
+returns-clause-same c = λ honest. absurd (no_word _ _ _ c.self.view_is honest)
+
+pub returns-clause-time : goal.returns-clause-time
+returns-clause-time c = goes_on _ _ _ _ _ _ c.sync-done.ensures.sectors c.self.view_is refl

@@ -1,0 +1,11 @@
+-- What is stated of a file in memory.
+use Rattle.std.specs.Prelude.{ℕ, List}
+use Rattle.file_disk.specs.declared.memory_file.MemoryFile.{MemoryFile}
+
+-- what reads give
+abbrev pub bytes_of : MemoryFile → List ℕ
+bytes_of f = f.bytes.items
+
+-- and what they gave at the last sync
+abbrev pub synced_of : MemoryFile → List ℕ
+synced_of f = f.synced.items

@@ -1,0 +1,113 @@
+//! A file of bytes in memory.
+ghost use Rattle.std.specs.Prelude.{◌≡◌, ◌+◌, ◌≤◌, length, true, []};
+
+use crate::byte_file::ByteFile;
+use crate::put_bytes::put_bytes;
+use std::alloc::Global;
+
+/// A file in memory, of which one call can be made to fail.
+#[derive(Drop)]
+pub struct MemoryFile {
+    pub bytes: Vec<u8>,
+    /// As they were at the last sync.
+    pub synced: Vec<u8>,
+    /// The calls before the one that fails, while it is still to come.
+    ahead: Option<u64>,
+}
+
+impl MemoryFile {
+    /// A file with these bytes, of which none is synced.
+    pub fn new(alloc: Global, bytes: Vec<u8>) -> Self
+        ensures bytes { result.bytes ≡ bytes }
+        ensures synced { result.synced.items ≡ [] }
+    {
+        MemoryFile {
+            bytes,
+            synced: Vec::new(alloc),
+            ahead: None,
+        }
+    }
+
+    /// The call behind so many fails, and is not carried out.
+    pub fn fail_after(&mut self, calls: u64)
+        ensures bytes { self.new.bytes ≡ self.old.bytes }
+        ensures synced { self.new.synced ≡ self.old.synced }
+    {
+        self.ahead = Some(calls);
+    }
+}
+
+/// Whether it is this call that fails.
+fn strikes(ahead: &mut Option<u64>) -> bool {
+    match *ahead {
+        Some(0) => {
+            *ahead = None;
+            true
+        }
+        Some(calls) => {
+            *ahead = Some(calls - 1);
+            false
+        }
+        None => false,
+    }
+}
+
+/// Whether so many bytes from this place on are there.
+fn has_part(bytes: &Vec<u8>, at: u64, count: usize) -> bool
+    ensures { result ≡ true → at + count ≤ length bytes.now.items }
+{
+    at <= bytes.len() as u64 && count <= bytes.len() - at as usize
+}
+
+impl ByteFile for MemoryFile {
+    ghost use Rattle.file_disk.specs.InMemory.{bytes_of, synced_of};
+
+    ghost content = { bytes_of };
+
+    ghost durable = { synced_of };
+
+    ghost honest = { λ f. true };
+
+    fn len(&self) -> Option<u64> {
+        Some(self.bytes.len() as u64)
+    }
+
+    fn read_at(&mut self, at: u64, into: &mut [u8]) -> bool {
+        if strikes(&mut self.ahead) || !has_part(&self.bytes, at, into.len()) {
+            return false;
+        }
+        into.copy_from_slice(&self.bytes[at as usize..at as usize + into.len()]);
+        true
+    }
+
+    fn write_at(&mut self, at: u64, from: &[u8]) -> bool {
+        if strikes(&mut self.ahead) || !has_part(&self.bytes, at, from.len()) {
+            return false;
+        }
+        put_bytes(&mut self.bytes, at as usize, from);
+        true
+    }
+
+    fn sync(&mut self) -> bool {
+        if strikes(&mut self.ahead) {
+            return false;
+        }
+        match self.bytes.clone() {
+            Ok(synced) => {
+                self.synced = synced;
+                true
+            }
+            Err(_) => false,
+        }
+    }
+
+    fn set_len(&mut self, bytes: u64) -> bool {
+        if strikes(&mut self.ahead) {
+            return false;
+        }
+        match self.bytes.resize(bytes as usize, 0) {
+            Ok(()) => true,
+            Err(_) => false,
+        }
+    }
+}
