@@ -1,11 +1,12 @@
 //! Each call is made again where memory was refused.
 
+use file_disk::FileDisk;
 use game_file::GameFile;
 use rbg_read::fault::GameFault;
 use recover::TableFile;
 use solver::{FileSolver, SolverFault, Units};
 use retrograde::Counts;
-use sector_disk::{FileDisk, SectorDisk};
+use sector_disk::SectorDisk;
 use std::alloc::Global;
 use std::fs::OpenOptions;
 
@@ -144,7 +145,7 @@ fn how_it_stands<F: GameFile>(
 /// The disk over a file.
 fn disk_of(rt: &HostRuntime, name: &str) -> anyhow::Result<FileDisk> {
     let file = OpenOptions::new().read(true).write(true).open(rt, name)?;
-    Ok(FileDisk::new(file)?)
+    Ok(FileDisk::new(rt.alloc(), file)?)
 }
 
 /// Whether this is a want of memory.

@@ -1,9 +1,10 @@
 //! What the tests share: disks with tables on them, stores over these, and what is done to their pages. Each function here
 //! tests for itself what it needs and promises nothing, so that a test which calls many of them is proved fast.
 
+use file_disk::FileDisk;
 use page_store::{PageFault, PageStore, Pages};
 use root_pair::create;
-use sector_disk::{FileDisk, MemDisk, SectorDisk};
+use sector_disk::{MemDisk, SectorDisk};
 use std::alloc::Global;
 use std::fmt::Debug;
 use std::fs::{File, OpenOptions};
@@ -71,8 +72,8 @@ pub fn let_go<P: Pages>(pages: &mut P, page: u32) -> Result<(), PageFault> {
 }
 
 /// The file as a disk, open for reading and writing.
-pub fn file_disk(rt: &HostRuntime, path: &str) -> Result<FileDisk, Fail> {
-    Ok(FileDisk::new(writable(rt, path)?)?)
+pub fn disk_over(rt: &HostRuntime, path: &str) -> Result<FileDisk, Fail> {
+    Ok(FileDisk::new(rt.alloc(), writable(rt, path)?)?)
 }
 
 /// The file, open for reading and writing.

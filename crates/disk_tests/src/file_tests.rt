@@ -1,10 +1,11 @@
 //! What files answer as disks (`FileDisk`), and the bytes that are in them then.
 
-use crate::disks::{file_disk, writable};
+use crate::disks::{disk_over, writable};
 use crate::scripts::{Answer, Deed, Script, run};
 use Answer::{Count, Done, Fault, Halves};
 use Deed::{Extend, Read, Sectors, Sync, Write};
-use sector_disk::FileDisk;
+use file_disk::FileDisk;
+use sector_disk::SectorDisk;
 use std::fs;
 use std::fs::File;
 use std::test::Fail;
@@ -26,7 +27,7 @@ struct FileRow {
     bytes: &'static [(usize, u8)],
 }
 
-const FILES: [FileRow; 7] = [
+const FILES: [FileRow; 9] = [
     // A file of odd length has its whole sectors.
     FileRow {
         length: 1100,
@@ -42,6 +43,7 @@ const FILES: [FileRow; 7] = [
             (Read(1), Halves(7, 7)),
             (Write(1, 9), Done),
             (Read(1), Halves(9, 9)),
+            (Sync, Done),
         ],
         bytes: &[(511, 1), (512, 9), (1023, 9), (1024, 1)],
     },
@@ -60,6 +62,7 @@ const FILES: [FileRow; 7] = [
             (Read(2), Halves(0, 0)),
             (Write(3, 9), Done),
             (Read(3), Halves(9, 9)),
+            (Sync, Done),
         ],
         bytes: &[
             (1023, 1),
@@ -90,6 +93,7 @@ const FILES: [FileRow; 7] = [
             (Read(7), Halves(6, 6)),
             (Read(4), Halves(8, 8)),
             (Read(8), Halves(9, 9)),
+            (Sync, Done),
         ],
         bytes: &[
             (1535, 2),
@@ -112,7 +116,21 @@ const FILES: [FileRow; 7] = [
         script: &[(Sectors, Count(0)), (Sync, Done)],
         bytes: &[],
     },
-    // Sectors that follow one another are in the file once a page ends with one of them, and others at the next read or sync.
+    // What is written is not in the file before the sync.
+    FileRow {
+        length: 8192,
+        byte: 2,
+        read_only: false,
+        cut: 8192,
+        end: 8192,
+        script: &[
+            (Write(3, 5), Done),
+            (Read(3), Halves(5, 5)),
+            (Write(15, 9), Done),
+        ],
+        bytes: &[(1536, 2), (7680, 2)],
+    },
+    // And all of it is there then.
     FileRow {
         length: 8192,
         byte: 2,
@@ -123,14 +141,15 @@ const FILES: [FileRow; 7] = [
             (Write(3, 5), Done),
             (Write(13, 7), Done),
             (Write(14, 8), Done),
+            (Write(3, 4), Done),
             (Write(15, 9), Done),
             (Write(0, 6), Done),
-            (Write(1, 6), Done),
+            (Sync, Done),
         ],
         bytes: &[
-            (511, 2),
-            (1024, 2),
-            (1536, 5),
+            (511, 6),
+            (512, 2),
+            (1536, 4),
             (2048, 2),
             (6655, 2),
             (6656, 7),
@@ -139,7 +158,7 @@ const FILES: [FileRow; 7] = [
             (8191, 9),
         ],
     },
-    // One that is read only fails as soon as what was written goes to the file, and again.
+    // One that is read only fails as soon as what was written goes to the file, and again; it still waits.
     FileRow {
         length: 1024,
         byte: 4,
@@ -151,10 +170,21 @@ const FILES: [FileRow; 7] = [
             (Read(1), Halves(4, 4)),
             (Write(1, 5), Done),
             (Sync, Fault),
-            (Read(1), Fault),
-            (Write(0, 5), Fault),
+            (Read(1), Halves(5, 5)),
+            (Read(0), Halves(4, 4)),
+            (Sync, Fault),
         ],
         bytes: &[(512, 4)],
+    },
+    // One that has grown meanwhile is not cut.
+    FileRow {
+        length: 1024,
+        byte: 4,
+        read_only: false,
+        cut: 1600,
+        end: 1600,
+        script: &[(Extend(8), Fault), (Sectors, Count(2))],
+        bytes: &[(1023, 4), (1599, 0)],
     },
     // One that was cut fails at reads.
     FileRow {
@@ -180,9 +210,9 @@ fn made(rt: &HostRuntime, row: FileRow) -> Result<FileDisk, Fail> {
     let bytes = vec![in rt.alloc(); row.byte; row.length]?;
     fs::write(rt, PATH, bytes.as_slice())?;
     if row.read_only {
-        return Ok(FileDisk::new(File::open(rt, PATH)?)?);
+        return Ok(FileDisk::new(rt.alloc(), File::open(rt, PATH)?)?);
     }
-    file_disk(rt, PATH)
+    disk_over(rt, PATH)
 }
 
 /// The bytes of that file, which is removed then.
@@ -216,4 +246,11 @@ fn a_file_has_whole_sectors_and_tells_what_fails(rt: HostRuntime) -> Result<(), 
         expect_file(&rt, row)?;
     }
     Ok(())
+}
+
+#[test]
+fn a_file_that_cannot_be_synced_tells_it(rt: HostRuntime) -> Result<(), Fail> {
+    let mut disk = FileDisk::new(rt.alloc(), File::open(&rt, "/dev/null")?)?;
+    expect(disk.sync().is_err(), true, 0)?;
+    expect(disk.sync().is_err(), true, 1)
 }

@@ -2,6 +2,8 @@
 #![tactic(auto)]
 
 #[cfg(test)]
+mod buffer_tests;
+#[cfg(test)]
 mod cache_tests;
 #[cfg(test)]
 mod chain_tests;

@@ -1,9 +1,10 @@
 //! What `create`, `open` and `publish` do on each kind of disk (`root_pair`), with a fault of the device and a stop of the
 //! power at each of their disk calls.
 
-use crate::disks::{all_over, file_disk};
+use crate::disks::{all_over, disk_over};
+use file_disk::FileDisk;
 use root_pair::{RootFault, create, open, publish};
-use sector_disk::{FileDisk, FlakyDisk, FuseDisk, MemDisk, SectorDisk};
+use sector_disk::{FlakyDisk, FuseDisk, MemDisk, SectorDisk};
 use std::alloc::Global;
 use std::fs;
 use std::fs::File;
@@ -319,12 +320,12 @@ const PATH: &str = "roots.table";
 fn made(rt: &HostRuntime, length: usize, byte: u8) -> Result<FileDisk, Fail> {
     let bytes = vec![in rt.alloc(); byte; length]?;
     fs::write(rt, PATH, bytes.as_slice())?;
-    Ok(FileDisk::new(File::open(rt, PATH)?)?)
+    Ok(FileDisk::new(rt.alloc(), File::open(rt, PATH)?)?)
 }
 
 /// Runs a script on that file where it may be written, and answers its bytes then.
 fn written(rt: &HostRuntime, script: Script) -> Result<Vec<u8>, Fail> {
-    run(&mut file_disk(rt, PATH)?, script)?;
+    run(&mut disk_over(rt, PATH)?, script)?;
     Ok(fs::read(rt, PATH)?)
 }
 

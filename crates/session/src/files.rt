@@ -3,13 +3,13 @@
 use crate::commands::{FileCommand, Outcome, command_on};
 use crate::line_by_line::session_over;
 use crate::program::{read_start, status_of_refused, tell, tell_game_fault};
+use file_disk::{FileDisk, FileRefused};
 use line_answers::advice::advice;
 use page_store::MIN_PAGES;
 use printed_lines::refused::Refused;
 use rbg_read::read::read_game;
 use solver::SolverFault;
 use root_pair::MAGIC;
-use sector_disk::FileDisk;
 use std::alloc::{AllocError, Global};
 use std::fs::{self, File, Metadata, OpenOptions};
 use std::io::{self, BufWriter, ErrorKind, Read};
@@ -104,14 +104,35 @@ pub fn session_of_file(rt: &HostRuntime, alloc: Global, name: &str) -> u8 {
         Ok(file) => file,
         Err(why) => return refused_opening(rt, name, why),
     };
-    let Ok(disk) = FileDisk::new(file) else {
-        return refused_for(rt, name, Refused::Disk, SolverFault::Disk);
+    let disk = match disk_over(rt, alloc, name, file) {
+        Ok(disk) => disk,
+        Err((status, _)) => return status,
     };
     let Ok(mut out) = BufWriter::new(alloc, io::writer(rt)) else {
         return status_of_refused(rt, Refused::OutOfMemory);
     };
     let (status, _disk) = session_over(alloc, disk, &mut rt.stdin(), &mut out, &mut rt.stderr());
     status
+}
+
+/// The disk over an open file; or the status, once it was said why there is none.
+fn disk_over(
+    rt: &HostRuntime,
+    alloc: Global,
+    name: &str,
+    file: File,
+) -> Result<FileDisk, (u8, SolverFault)> {
+    match FileDisk::new(alloc, file) {
+        Ok(disk) => Ok(disk),
+        Err(FileRefused::NoLength) => {
+            let status = refused_for(rt, name, Refused::Disk, SolverFault::Disk);
+            Err((status, SolverFault::Disk))
+        }
+        Err(FileRefused::OutOfMemory) => {
+            let status = status_of_refused(rt, Refused::OutOfMemory);
+            Err((status, SolverFault::OutOfMemory))
+        }
+    }
 }
 
 /// Does the command on the table of an open file, and says what its refusal means; what is wrong with a text is left to be
@@ -123,9 +144,9 @@ fn command_on_file(
     file: File,
     command: FileCommand,
 ) -> Outcome {
-    let Ok(disk) = FileDisk::new(file) else {
-        let status = refused_for(rt, name, Refused::Disk, SolverFault::Disk);
-        return undone(status, SolverFault::Disk);
+    let disk = match disk_over(rt, alloc, name, file) {
+        Ok(disk) => disk,
+        Err((status, fault)) => return undone(status, fault),
     };
     let Ok(mut out) = BufWriter::new(alloc, io::writer(rt)) else {
         let status = status_of_refused(rt, Refused::OutOfMemory);

@@ -8,7 +8,8 @@ mod sector_file;
 
 use crate::count::{Count, begun, work};
 use crate::sector_file::SectorFile;
-use sector_disk::{FileDisk, SectorDisk};
+use file_disk::FileDisk;
+use sector_disk::SectorDisk;
 use std::fs::OpenOptions;
 use std::io::{self, Read};
 use std::process::ExitCode;
@@ -34,7 +35,7 @@ fn run(rt: &HostRuntime) -> anyhow::Result<()> {
     let pages = pages.parse::<usize>().unwrap_or(0).min(64);
     let file = OpenOptions::new().read(true).write(true).open(rt, path)?;
     if by_sectors.is_empty() {
-        answer_all(rt, FileDisk::new(file)?, last, pages)
+        answer_all(rt, FileDisk::new(rt.alloc(), file)?, last, pages)
     } else {
         answer_all(rt, SectorFile::new(file)?, last, pages)
     }

@@ -11,7 +11,8 @@ use crate::measure::measure;
 use crate::plain_disk::PlainDisk;
 use page_store::{PageStore, Pages};
 use root_pair::create;
-use sector_disk::{FileDisk, SectorDisk};
+use file_disk::FileDisk;
+use sector_disk::SectorDisk;
 use std::fs::OpenOptions;
 use std::process::ExitCode;
 
@@ -41,7 +42,7 @@ fn run(rt: &HostRuntime) -> anyhow::Result<bool> {
         [_, count, path] => {
             let keys = count.parse::<u64>().unwrap_or(0).min(MOST_KEYS);
             let file = OpenOptions::new().read(true).write(true).open(rt, path)?;
-            measure_on(rt, FileDisk::new(file)?, keys)
+            measure_on(rt, FileDisk::new(rt.alloc(), file)?, keys)
         }
         _ => {
             rt.eprintln("usage: tree_bench KEYS [FILE]")?;
