@@ -1,6 +1,6 @@
 //! A disk over an open file. Nothing is known of its honesty.
-ghost use Rattle.std.specs.Prelude.{◌≡◌, ◌≤◌, IfOk, OnOk};
-ghost use Rattle.sector_disk.specs.Disk.{Grew, HasCause};
+ghost use Rattle.std.specs.Prelude.{◌≡◌, ◌≤◌, IfOk};
+ghost use Rattle.sector_disk.specs.Disk.{Grew, HasCause, IsCounted};
 ghost use Rattle.file_disk.specs.File.{file_disk};
 
 use crate::buffered_file::BufferedFile;
@@ -71,8 +71,8 @@ fn failed_write(failures: &mut u64, failed_writes: &mut u64) -> DiskFault
 /// What a write or a sync came to; a failure counts.
 fn told_write(failures: &mut u64, failed_writes: &mut u64, done: bool) -> Result<(), DiskFault>
     ensures cause { HasCause failures.old failures.new result }
-    ensures write_cause { HasCause failed_writes.old failed_writes.new result }
-    ensures same { OnOk result (failed_writes.new ≡ failed_writes.old) }
+    ensures later { failed_writes.old ≤ failed_writes.new }
+    ensures counted { IsCounted failed_writes.old failed_writes.new result }
 {
     if done {
         return Ok(());

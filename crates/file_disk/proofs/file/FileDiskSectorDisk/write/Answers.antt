@@ -1,5 +1,5 @@
 use Rattle.std.proofs.Common.{rules, refl}
-use Rattle.file_disk.proofs.Unsealed.{no_word, sectors_are, failures_are, goes_on}
+use Rattle.file_disk.proofs.Unsealed.{no_word, sectors_are, failures_are, writes_are, goes_on}
 use Rattle.file_disk.proofs.file.FileDiskSectorDisk.write.Goals as goal
 
 pub returns-clause-cause : goal.returns-clause-cause
@@ -16,4 +16,7 @@ pub returns-clause-others : goal.returns-clause-others
 returns-clause-others c = λ honest. absurd (no_word _ _ _ c.self.view_is honest)
 
 pub returns-clause-time : goal.returns-clause-time
-returns-clause-time c = goes_on _ _ _ _ _ _ c.write-done.ensures.sectors c.self.view_is refl
+returns-clause-time c = goes_on _ _ _ _ _ _ c.write-done.ensures.sectors c.told_write.ensures.later c.self.view_is refl
+
+pub returns-clause-counted : goal.returns-clause-counted
+returns-clause-counted c = search (rules, c.told_write.ensures.counted, writes_are _ _ _ c.self.view_is, writes_are c.write-done.new.self.sectors c.told_write.new.failures c.told_write.new.failed_writes refl)
