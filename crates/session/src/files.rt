@@ -2,6 +2,7 @@
 
 use crate::commands::{FileCommand, Outcome, command_on};
 use crate::line_by_line::session_over;
+use crate::open::{Purpose, Unopened, new_file, opened};
 use crate::program::{read_start, status_of_refused, tell, tell_game_fault};
 use file_disk::{FileDisk, FileRefused};
 use line_answers::advice::advice;
@@ -11,58 +12,55 @@ use rbg_read::read::read_game;
 use solver::SolverFault;
 use root_pair::MAGIC;
 use std::alloc::{AllocError, Global};
-use std::fs::{self, File, Metadata, OpenOptions};
+use std::fs::{self, File};
 use std::io::{self, BufWriter, ErrorKind, Read};
-use std::os::unix::fs::{FileTypeExt, MetadataExt};
 use std::path::Path;
-
-/// Why no file is open.
-#[derive(Drop)]
-enum Unopened {
-    Failed(io::Error),
-    /// The program's own output goes there, so that nothing may be said.
-    OwnOutput,
-}
-
-impl From<io::Error> for Unopened {
-    fn from(error: io::Error) -> Unopened {
-        Unopened::Failed(error)
-    }
-}
 
 /// The bytes of a page.
 const PAGE: u64 = 4_096;
 
+const TO_READ: &str = "give a file that is there and may be read";
+
+const TO_CHANGE: &str = "give a file that is there and may be read and written";
+
+const TO_MAKE: &str =
+    "give a file that may be read and written, or a new one in a folder that is there";
+
+const TO_GROW: &str = "see that there is room for so many pages, or give fewer";
+
+const TO_KEEP: &str =
+    "a new name is kept only in a folder that may be read: give a file in such a folder";
+
 /// Makes a file of so many pages and the empty table in it. A table that is there is not touched, and with too few pages
-/// no file is made or changed. A new file goes again if no table came to be in it.
+/// no file is made or changed. What else was in the file is lost, which is said before. A new file goes again if no table came to be in it.
 pub fn create_file(rt: &HostRuntime, alloc: Global, name: &str, pages: u32) -> u8 {
-    let found = match opened(rt, name) {
+    let found = match opened(rt, name, Purpose::Change) {
         Ok(mut file) => match begins_as_a_table(&mut file) {
-            Ok(true) => return refused_for(
-                rt,
-                name,
-                Refused::AlreadyATable,
-                SolverFault::AlreadyATable,
-            ),
+            Ok(true) => return refused_table(rt, name),
             Ok(false) => Some(file),
-            Err(error) => return refused_file(rt, name, &error),
+            Err(error) => return refused_file(rt, name, &error, TO_MAKE),
         },
         Err(Unopened::Failed(error)) if error.kind() == ErrorKind::NotFound => None,
-        Err(why) => return refused_opening(rt, name, why),
+        Err(why) => return refused_opening(rt, name, why, TO_MAKE),
     };
     if pages < MIN_PAGES {
         return refused_for(rt, name, Refused::TooSmall, SolverFault::TooSmall);
     }
+    let folder = match folder_of(rt, name) {
+        Ok(folder) => folder,
+        Err(error) => return refused_folder(rt, name, &error),
+    };
     let (file, is_new) = match found {
         Some(file) => (file, false),
         None => match new_file(rt, name) {
             Ok(file) => (file, true),
-            Err(error) => return refused_file(rt, name, &error),
+            Err(why) => return refused_opening(rt, name, why, TO_MAKE),
         },
     };
-    let outcome = match sized(rt, name, &file, u64::from(pages) * PAGE) {
+    tell_loss(rt, name, &file);
+    let outcome = match sized(&file, &folder, u64::from(pages) * PAGE) {
         Ok(()) => command_on_file(rt, alloc, name, file, FileCommand::Create),
-        Err(error) => undone(refused_file(rt, name, &error), SolverFault::Disk),
+        Err(error) => undone(refused_file(rt, name, &error, TO_GROW), SolverFault::Disk),
     };
     if is_new && outcome.refused.is_some() {
         let _ = fs::remove_file(rt, name);
@@ -74,12 +72,12 @@ pub fn create_file(rt: &HostRuntime, alloc: Global, name: &str, pages: u32) -> u
 pub fn load_file(rt: &HostRuntime, alloc: Global, name: &str, game: &str) -> u8 {
     let mut text = Vec::new(alloc);
     if let Err(error) = read_start(rt, game, &mut text) {
-        return refused_file(rt, game, &error);
+        return refused_file(rt, game, &error, TO_READ);
     }
     let explained: Result<Vec<u8>, AllocError> = text.clone();
-    let outcome = match opened(rt, name) {
+    let outcome = match opened(rt, name, Purpose::Change) {
         Ok(file) => command_on_file(rt, alloc, name, file, FileCommand::Load(text)),
-        Err(why) => return refused_opening(rt, name, why),
+        Err(why) => return refused_opening(rt, name, why, TO_CHANGE),
     };
     if let Some(SolverFault::Game(_)) = outcome.refused
         && let Ok(text) = explained
@@ -92,17 +90,17 @@ pub fn load_file(rt: &HostRuntime, alloc: Global, name: &str, game: &str) -> u8 
 
 /// Says whether the table of a file is right.
 pub fn audit_file(rt: &HostRuntime, alloc: Global, name: &str) -> u8 {
-    match opened(rt, name) {
+    match opened(rt, name, Purpose::Ask) {
         Ok(file) => command_on_file(rt, alloc, name, file, FileCommand::Audit).status,
-        Err(why) => refused_opening(rt, name, why),
+        Err(why) => refused_opening(rt, name, why, TO_READ),
     }
 }
 
 /// A session over the table of a file, on standard input and output.
 pub fn session_of_file(rt: &HostRuntime, alloc: Global, name: &str) -> u8 {
-    let file = match opened(rt, name) {
+    let file = match opened(rt, name, Purpose::Change) {
         Ok(file) => file,
-        Err(why) => return refused_opening(rt, name, why),
+        Err(why) => return refused_opening(rt, name, why, TO_CHANGE),
     };
     let disk = match disk_over(rt, alloc, name, file) {
         Ok(disk) => disk,
@@ -178,19 +176,26 @@ fn begins_as_a_table(file: &mut File) -> io::Result<bool> {
     }
 }
 
-/// A file that was not there.
-fn new_file(rt: &HostRuntime, name: &str) -> io::Result<File> {
-    OpenOptions::new()
-        .read(true)
-        .write(true)
-        .create_new(true)
-        .open(rt, name)
+/// Says that the bytes of a file that is no table are lost, where it has any.
+fn tell_loss(rt: &HostRuntime, name: &str, file: &File) {
+    let length = match file.metadata() {
+        Ok(metadata) => metadata.len(),
+        Err(_) => 0,
+    };
+    if length > 0 {
+        tell(
+            rt,
+            format_args!(
+                "{name}: it is no table: the {length} bytes in it are lost, since it becomes one"
+            ),
+        );
+    }
 }
 
 /// Gives the file this length, and its name a place on the disk.
-fn sized(rt: &HostRuntime, name: &str, file: &File, length: u64) -> io::Result<()> {
+fn sized(file: &File, folder: &File, length: u64) -> io::Result<()> {
     file.set_len(length)?;
-    folder_of(rt, name)?.sync_all()
+    folder.sync_all()
 }
 
 /// The folder that a file is in.
@@ -201,64 +206,49 @@ fn folder_of(rt: &HostRuntime, name: &str) -> io::Result<File> {
     }
 }
 
-/// The file, to be read and written, or, where it may not be written, to be read alone. Whatever is no regular file
-/// and no block device is refused before it is opened, since one that is a pipe could be waited for without end.
-fn opened(rt: &HostRuntime, name: &str) -> Result<File, Unopened> {
-    holds_a_table(&fs::metadata(rt, name)?)?;
-    let written = OpenOptions::new().read(true).write(true).open(rt, name);
-    let file = match written {
-        Err(error) if is_read_only(&error) => File::open(rt, name)?,
-        written => written?,
-    };
-    let metadata = file.metadata()?;
-    holds_a_table(&metadata)?;
-    if is_at(rt, "/dev/fd/1", &metadata) || is_at(rt, "/dev/fd/2", &metadata) {
-        return Err(Unopened::OwnOutput);
-    }
-    Ok(file)
-}
-
-/// Whether the file is the one with this name.
-fn is_at(rt: &HostRuntime, name: &str, metadata: &Metadata) -> bool {
-    match fs::metadata(rt, name) {
-        Ok(other) => other.dev() == metadata.dev() && other.ino() == metadata.ino(),
-        Err(_) => false,
-    }
-}
-
-/// Refuses what is no regular file and no block device.
-fn holds_a_table(metadata: &Metadata) -> io::Result<()> {
-    if metadata.is_file() || metadata.file_type().is_block_device() {
-        return Ok(());
-    }
-    Err(io::Error::new(ErrorKind::InvalidInput, "it is no regular file"))
-}
-
-/// Whether a file may be there to be read, and not to be written.
-fn is_read_only(error: &io::Error) -> bool {
-    matches!(
-        error.kind(),
-        ErrorKind::PermissionDenied | ErrorKind::ReadOnlyFilesystem
-    )
-}
-
 /// Says that a table's file is not open, and gives the status.
-fn refused_opening(rt: &HostRuntime, name: &str, why: Unopened) -> u8 {
+fn refused_opening(rt: &HostRuntime, name: &str, why: Unopened, advice: &str) -> u8 {
     match why {
-        Unopened::Failed(error) => refused_file(rt, name, &error),
+        Unopened::Failed(error) => refused_file(rt, name, &error, advice),
         Unopened::OwnOutput => 4,
+        Unopened::Taken => {
+            tell(
+                rt,
+                format_args!(
+                    "rbgsolve: another run has {name}; two at once would lose work, so wait for its end"
+                ),
+            );
+            4
+        }
     }
 }
 
-/// Says that a file cannot be used, and gives the status.
-fn refused_file(rt: &HostRuntime, name: &str, error: &io::Error) -> u8 {
+/// Says that the folder of a file that is to be made cannot be used, and gives the status.
+fn refused_folder(rt: &HostRuntime, name: &str, error: &io::Error) -> u8 {
+    let advice = match error.kind() {
+        ErrorKind::PermissionDenied => TO_KEEP,
+        _ => TO_MAKE,
+    };
+    refused_file(rt, name, error, advice)
+}
+
+/// Says that a file cannot be used and what to do, and gives the status.
+fn refused_file(rt: &HostRuntime, name: &str, error: &io::Error, advice: &str) -> u8 {
     if error.kind() == ErrorKind::OutOfMemory {
         return status_of_refused(rt, Refused::OutOfMemory);
     }
     let status = status_of_refused(rt, Refused::Disk);
+    tell(rt, format_args!("{name}: {error}: {advice}"));
+    status
+}
+
+/// Says that a file begins as a table does, so that none is made in it, and gives the status.
+fn refused_table(rt: &HostRuntime, name: &str) -> u8 {
+    let status = status_of_refused(rt, Refused::AlreadyATable);
+    let advice = advice(SolverFault::AlreadyATable);
     tell(
         rt,
-        format_args!("{name}: {error}: give a file that is there and may be read and written"),
+        format_args!("{name}: it begins as a table does: {advice}"),
     );
     status
 }

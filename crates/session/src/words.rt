@@ -3,6 +3,7 @@ ghost use Rattle.std.specs.Prelude.{IfErr};
 ghost use Rattle.session.specs.Statuses.{IsStatusOfWords};
 
 use clap::builder::ValueParser;
+use clap::error::ErrorKind;
 use clap::{Arg, ArgAction, ArgMatches, Command, Error};
 pub use line_answers::input::SESSION_LINES;
 use page_store::MAX_PAGES;
@@ -53,7 +54,8 @@ const AFTER_HELP: &str = concat!(
     "  echo value 0 | rbgsolve session take.table\n",
     "    prints  black in 3\n",
     "\n",
-    "A command that cannot be done is answered by `refused` and a code; README.md lists the codes.",
+    "A command that cannot be done is answered by `refused` and a code, which docs/REFUSALS.md lists. A run takes its ",
+    "table: while one works on it, others end with status 4. Audits may run side by side.",
 );
 
 const CREATE_ABOUT: &str = "Makes an empty table in a file";
@@ -62,8 +64,8 @@ const CREATE_LONG_ABOUT: &str = concat!(
     "Makes an empty table in a file, and prints `created`.\n",
     "\n",
     "FILE gets the length of N pages. Of what was in it, the first 2,048 bytes are written over at once, the ",
-    "others only as the table grows, and all behind the new length is lost. A file that begins as each table does ",
-    "is not touched: that is answered by `refused E3`.",
+    "others only as the table grows, and all behind the new length is lost: standard error says so before. A file that ",
+    "begins as each table does is not touched: that is answered by `refused E3`.",
 );
 
 const LOAD_ABOUT: &str = "Loads a game into an empty table";
@@ -110,6 +112,8 @@ const MOVES_LONG_ABOUT: &str = concat!(
     "scores and the variables. A start without a legal move is answered by `ended`.",
 );
 
+const NO_NUMBER: &str = "the number behind `--pages` is one to ten digits";
+
 /// The command that the words ask for; the first word is the program's name.
 pub fn words_of(alloc: Global, words: &[String]) -> Result<Words, Refusal>
     ensures { IfErr result (λ refusal. IsStatusOfWords refusal.status) }
@@ -121,9 +125,25 @@ pub fn words_of(alloc: Global, words: &[String]) -> Result<Words, Refusal>
 }
 
 fn parsed<'a>(alloc: Global, words: &'a [String]) -> Result<Words, Error> {
-    let command: Command<'a> = command(alloc)?;
-    let matches = command.try_get_matches_from(words)?;
+    let mut command: Command<'a> = command(alloc)?;
+    let matches = command.try_get_matches_from_mut(words)?;
+    if has_signed_pages(&matches) {
+        return Err(command.error(ErrorKind::ValueValidation, NO_NUMBER)?);
+    }
     Ok(asked_in(alloc, &matches)?)
+}
+
+/// Whether what stands behind `--pages` is anything but one to ten digits.
+fn has_signed_pages(matches: &ArgMatches<'_>) -> bool {
+    match matches.subcommand() {
+        Some(("create", inner)) => !is_number(inner.get_str("pages").unwrap_or("")),
+        _ => false,
+    }
+}
+
+/// Whether a word is one to ten digits.
+fn is_number(word: &str) -> bool {
+    (1..=10).contains(&word.len()) && word.bytes().all(|byte| byte.is_ascii_digit())
 }
 
 /// What the command that was given asks for.
@@ -257,7 +277,7 @@ fn refusal_of(alloc: Global, error: Error) -> Refusal
     ensures { IsStatusOfWords result.status }
 {
     let status = match error.kind() {
-        clap::error::ErrorKind::OutOfMemory => 5,
+        ErrorKind::OutOfMemory => 5,
         _ if error.use_stderr() => 2,
         _ => 0,
     };
