@@ -8,14 +8,14 @@ pub fn advice(fault: SolverFault) -> &'static str {
     match fault {
         SolverFault::Disk => "see that the file can be read and written, and start again",
         SolverFault::NotATable =>
-            "`rbgsolve create` makes one; if the file of one was cut short, go back to a copy",
+            "`rbgsolve create` makes one; if a table's file was cut short, go back to a copy",
         SolverFault::AlreadyATable => "it stays as it is, so give the name of another file",
         SolverFault::Damaged => "go back to a copy of the file, or begin with a new one",
         SolverFault::OldLayout =>
             "open it with the version of rbgsolve that made it, or load the game into a new table",
         SolverFault::TooSmall => "give `--pages` 16 or more",
         SolverFault::TableFull =>
-            "the table stays as it was: fewer units may still fit, or load the game into a table of more pages (`create --pages N`)",
+            "the table stays as it was, and fewer units may still fit; else load the game into a table of more pages (`create --pages N`)",
         SolverFault::OutOfMemory => "the table stays as it was, so try again with more memory free",
         SolverFault::Closed => "start a session again",
         SolverFault::Game(_) => "mend the text, and load it again",

@@ -24,7 +24,7 @@ const TO_READ: &str = "give a file that is there and may be read";
 const TO_CHANGE: &str = "give a file that is there and may be read and written";
 
 const TO_MAKE: &str =
-    "give a file that may be read and written, or a new one in a folder that is there";
+    "give a file that may be read and written, or a new one in a folder that is there and may be written";
 
 const TO_GROW: &str = "see that there is room for so many pages, or give fewer";
 
@@ -58,6 +58,8 @@ pub fn create_file(rt: &HostRuntime, alloc: Global, name: &str, pages: u32) -> u
         },
     };
     tell_loss(rt, name, &file);
+    // no other run gets the file before it is removed
+    let _held = file.try_clone();
     let outcome = match sized(&file, &folder, u64::from(pages) * PAGE) {
         Ok(()) => command_on_file(rt, alloc, name, file, FileCommand::Create),
         Err(error) => undone(refused_file(rt, name, &error, TO_GROW), SolverFault::Disk),
@@ -186,7 +188,7 @@ fn tell_loss(rt: &HostRuntime, name: &str, file: &File) {
         tell(
             rt,
             format_args!(
-                "{name}: it is no table: the {length} bytes in it are lost, since it becomes one"
+                "{name}: it is no table and becomes one: the {length} bytes in it are lost"
             ),
         );
     }

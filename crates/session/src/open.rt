@@ -42,7 +42,12 @@ pub fn opened(rt: &HostRuntime, name: &str, purpose: Purpose) -> Result<File, Un
     if is_at(rt, "/dev/fd/1", &metadata) || is_at(rt, "/dev/fd/2", &metadata) {
         return Err(Unopened::OwnOutput);
     }
-    taken(file, purpose)
+    let file = taken(file, purpose)?;
+    if is_at(rt, name, &metadata) {
+        return Ok(file);
+    }
+    // another run has put a file in its place, or taken it away, before it was taken
+    Err(Unopened::Taken)
 }
 
 /// A file that was not there, taken for this run until it is closed.
