@@ -2,7 +2,7 @@
 
 use crate::commands::{FileCommand, Outcome, command_on};
 use crate::line_by_line::session_over;
-use crate::open::{Purpose, Unopened, new_file, opened};
+use crate::open::{Purpose, Unopened, new_file, opened, writable};
 use crate::program::{read_start, status_of_refused, tell, tell_game_fault};
 use file_disk::{FileDisk, FileRefused};
 use line_answers::advice::advice;
@@ -32,17 +32,40 @@ const TO_KEEP: &str =
     "a new name is kept only in a folder that may be read: give a file in such a folder";
 
 /// Makes a file of so many pages and the empty table in it. A table that is there is not touched, and with too few pages
-/// no file is made or changed. What else was in the file is lost, which is said before. A new file goes again if no table came to be in it.
+/// no file is made or changed.
 pub fn create_file(rt: &HostRuntime, alloc: Global, name: &str, pages: u32) -> u8 {
-    let found = match opened(rt, name, Purpose::Change) {
-        Ok(mut file) => match begins_as_a_table(&mut file) {
-            Ok(true) => return refused_table(rt, name),
-            Ok(false) => Some(file),
-            Err(error) => return refused_file(rt, name, &error, TO_MAKE),
-        },
-        Err(Unopened::Failed(error)) if error.kind() == ErrorKind::NotFound => None,
-        Err(why) => return refused_opening(rt, name, why, TO_MAKE),
+    match opened(rt, name, Purpose::Change) {
+        Ok(file) => create_over(rt, alloc, name, file, pages),
+        Err(Unopened::Failed(error)) if error.kind() == ErrorKind::NotFound => {
+            create_new(rt, alloc, name, pages)
+        }
+        Err(why) => refused_opening(rt, name, why, TO_MAKE),
+    }
+}
+
+/// Makes the empty table in a file that was there, unless it begins as a table does. What is lost is said before.
+fn create_over(rt: &HostRuntime, alloc: Global, name: &str, mut file: File, pages: u32) -> u8 {
+    match begins_as_a_table(&mut file) {
+        Ok(true) => return refused_table(rt, name),
+        Ok(false) => {}
+        Err(error) => return refused_file(rt, name, &error, TO_MAKE),
+    }
+    if pages < MIN_PAGES {
+        return refused_for(rt, name, Refused::TooSmall, SolverFault::TooSmall);
+    }
+    if let Err(error) = writable(rt, name) {
+        return refused_file(rt, name, &error, TO_MAKE);
+    }
+    let folder = match folder_of(rt, name) {
+        Ok(folder) => folder,
+        Err(error) => return refused_folder(rt, name, &error),
     };
+    tell_loss(rt, name, &file);
+    made(rt, alloc, name, file, &folder, pages).status
+}
+
+/// Makes the empty table in a new file, which goes again if no table came to be in it.
+fn create_new(rt: &HostRuntime, alloc: Global, name: &str, pages: u32) -> u8 {
     if pages < MIN_PAGES {
         return refused_for(rt, name, Refused::TooSmall, SolverFault::TooSmall);
     }
@@ -50,24 +73,32 @@ pub fn create_file(rt: &HostRuntime, alloc: Global, name: &str, pages: u32) -> u
         Ok(folder) => folder,
         Err(error) => return refused_folder(rt, name, &error),
     };
-    let (file, is_new) = match found {
-        Some(file) => (file, false),
-        None => match new_file(rt, name) {
-            Ok(file) => (file, true),
-            Err(why) => return refused_opening(rt, name, why, TO_MAKE),
-        },
+    let file = match new_file(rt, name) {
+        Ok(file) => file,
+        Err(why) => return refused_opening(rt, name, why, TO_MAKE),
     };
-    tell_loss(rt, name, &file);
-    // no other run gets the file before it is removed
+    // so that no other run gets the file before it is removed
     let _held = file.try_clone();
-    let outcome = match sized(&file, &folder, u64::from(pages) * PAGE) {
-        Ok(()) => command_on_file(rt, alloc, name, file, FileCommand::Create),
-        Err(error) => undone(refused_file(rt, name, &error, TO_GROW), SolverFault::Disk),
-    };
-    if is_new && outcome.refused.is_some() {
+    let outcome = made(rt, alloc, name, file, &folder, pages);
+    if outcome.refused.is_some() {
         let _ = fs::remove_file(rt, name);
     }
     outcome.status
+}
+
+/// Gives a file so many pages, and makes the empty table in it.
+fn made(
+    rt: &HostRuntime,
+    alloc: Global,
+    name: &str,
+    file: File,
+    folder: &File,
+    pages: u32,
+) -> Outcome {
+    match sized(&file, folder, u64::from(pages) * PAGE) {
+        Ok(()) => command_on_file(rt, alloc, name, file, FileCommand::Create),
+        Err(error) => undone(refused_file(rt, name, &error, TO_GROW), SolverFault::Disk),
+    }
 }
 
 /// Loads the game of a text into the table of a file. The text is read first.

@@ -60,6 +60,12 @@ pub fn new_file(rt: &HostRuntime, name: &str) -> Result<File, Unopened> {
     taken(file, Purpose::Change)
 }
 
+/// Fails where the file may not be written.
+pub fn writable(rt: &HostRuntime, name: &str) -> io::Result<()> {
+    let _file = OpenOptions::new().read(true).write(true).open(rt, name)?;
+    Ok(())
+}
+
 /// The file, to be read and written, or, where it may not be written, to be read alone, which is to ask.
 fn opened_to_change(rt: &HostRuntime, name: &str) -> io::Result<(File, Purpose)> {
     match OpenOptions::new().read(true).write(true).open(rt, name) {

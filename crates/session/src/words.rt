@@ -54,8 +54,8 @@ const AFTER_HELP: &str = concat!(
     "  echo value 0 | rbgsolve session take.table\n",
     "    prints  black in 3\n",
     "\n",
-    "A command that cannot be done is answered by `refused` and a code, which docs/REFUSALS.md lists. A run takes its ",
-    "table: while one works on it, others end with status 4. Audits may run side by side.",
+    "A command that cannot be done is answered by `refused` and a code, which docs/REFUSALS.md lists.\n",
+    "A run takes its table: while one works on it, others end with status 4. Audits may run side by side.",
 );
 
 const CREATE_ABOUT: &str = "Makes an empty table in a file";
