@@ -1,13 +1,9 @@
 -- The predecessors of a number, one after the other.
-use Rattle.std.proofs.Common.{◌≡◌, ◌∙◌, sym, ap, subst, ℕ, zero, suc, ◌+◌, ◌-◌, ◌<◌, ◌≤◌, ⊎_elim, true, false, Option, Some, None, refl, arith}
-use Rattle.std.proofs.lemmas.Bool.{cases_lt}
-use Rattle.retrograde.specs.Graph.{Graph}
+use Rattle.std.proofs.Common.{◌≡◌, ◌∙◌, sym, ap, ℕ, zero, suc, ◌+◌, ◌-◌, ◌<◌, ◌≤◌, ⊎_elim, false, Option, Some, None, refl, arith}
 use Rattle.retrograde.specs.Stored.{Stored, count_below}
 use Rattle.retrograde.specs.Edges.{IsAfter, IsNextEdge, HasNoMoreEdges}
-use Rattle.retrograde.specs.Audit.{EdgesAreMoves}
 use Rattle.retrograde.proofs.Counting.{true_or_false, counts_one, counts_none}
 use Rattle.retrograde.proofs.Adding.{count_past}
-use Rattle.audit.specs.aid.Edges.{LeadsFrom}
 
 -- the least number that a look behind this one can give
 abbrev pub bound_of : Option ℕ → ℕ
@@ -73,21 +69,3 @@ module _ {P : Type 0} (stored : Stored P) (i : ℕ) (after : Option ℕ) where
       let full : n ≡ size = omega arith in
       let whole : bound_of after ≡ size = omega arith in
       sym full ∙ (counted ∙ ap (λ m. count_below m (λ q. stored.has_edge i q)) whole)
-
-  -- each edge from before is a move, and so is the next
-  pub moves_next : (graph : Graph P) (x : P) (p : ℕ) → IsNextEdge stored i after p
-      → ((q : ℕ) → q < bound_of after → stored.has_edge i q ≡ true → LeadsFrom graph stored x q)
-      → LeadsFrom graph stored x p → (q : ℕ) → q < suc p → stored.has_edge i q ≡ true → LeadsFrom graph stored x q
-  moves_next graph x p next before now q lt edge =
-      ⊎_elim
-      (λ early. before q early edge)
-      (λ late.
-      let le : p ≤ q = next.least q edge (bound_after after q late) in
-      let same : p ≡ q = omega arith in
-      subst (λ (k : ℕ). LeadsFrom graph stored x k) same now)
-      (cases_lt q (bound_of after))
-
-  pub moves_all : (graph : Graph P) (x : P) → HasNoMoreEdges stored i after
-      → ((q : ℕ) → q < bound_of after → stored.has_edge i q ≡ true → LeadsFrom graph stored x q) → EdgesAreMoves graph stored i x
-  moves_all graph x none before q edge =
-      ⊎_elim (λ early. before q early edge) (λ late. absurd (none q edge (bound_after after q late))) (cases_lt q (bound_of after))

@@ -4,6 +4,7 @@ pub mod ValueLemmas
 pub mod MoveValueLemmas
 pub mod LowestLemmas
 pub mod EdgeLemmas
+pub mod ArrivalLemmas
 pub mod MoveLemmas
 pub mod FloorLemmas
 pub mod AnswerLemmas

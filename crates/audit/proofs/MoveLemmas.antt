@@ -1,5 +1,5 @@
 -- What is found of the moves of a position, and what its record has of them.
-use Rattle.std.proofs.Common.{◌≡◌, ◌≢◌, ◌∙◌, ◌↔◌, sym, ap, subst, ℕ, ◌+◌, ◌<◌, ◌≤◌, Bool, true, not, cond, Option, Some, List, [], ◌∷◌, length, get_or, refl, arith, slice_get}
+use Rattle.std.proofs.Common.{◌≡◌, ◌≢◌, ◌∙◌, sym, ap, subst, ℕ, ◌+◌, ◌≤◌, Bool, true, not, cond, Option, Some, List, [], ◌∷◌, length, get_or, refl, arith, slice_get}
 use Rattle.std.specs.Prelude.{Contains, All, AllPairs, count_by}
 use Rattle.std.specs.List.{AllZip}
 use Rattle.std.specs.Cmp.Lexicographic.{slice_cmp}
@@ -13,17 +13,15 @@ use Rattle.std.proofs.lemmas.Slice.Zip.{AllZip-long}
 use Rattle.rbg_game.specs.declared.roles.Role.{Role}
 use Rattle.retrograde.specs.declared.records.Record.{Record}
 use Rattle.retrograde.specs.Graph.{Graph}
-use Rattle.retrograde.specs.View.{HasNumber}
-use Rattle.retrograde.specs.Stored.{Stored, IsTable, HasRecord, view_of, is_processed, processed_in, expanded_count}
+use Rattle.retrograde.specs.Stored.{Stored, IsTable, HasRecord, view_of, is_processed, processed_in}
 use Rattle.retrograde.specs.Audit.{AreSuccessors, AreItsMoves, HasItsMoves}
 use Rattle.retrograde.proofs.ByEdges.{moves_by_list}
 use Rattle.retrograde.proofs.Listing.{number_in, as_many}
 use Rattle.legal_moves.specs.Listed.{ListsExactly}
 use Rattle.audit.specs.aid.Conditions.{AreItsRecords}
-use Rattle.audit.specs.aid.Edges.{LeadsFrom}
 
 -- ascending bytes differ
-ascending_differ : (ys : List (List ℕ)) → AllPairs (λ x y. slice_cmp nat_cmp x y ≡ Less) ys → AllPairs ◌≢◌ ys
+pub ascending_differ : (ys : List (List ℕ)) → AllPairs (λ x y. slice_cmp nat_cmp x y ≡ Less) ys → AllPairs ◌≢◌ ys
 ascending_differ ys pairs = λ i j d lt within same.
     let less : slice_cmp nat_cmp (get_or ys i d) (get_or ys j d) ≡ Less = pairs i j d lt within in
     let tied : slice_cmp nat_cmp (get_or ys i d) (get_or ys i d) ≡ Equal = tied_itself nat_list_cmp_total (get_or ys i d) in
@@ -103,11 +101,3 @@ module _ (graph : Graph (List ℕ)) (stored : Stored (List ℕ)) (i : ℕ) (x : 
         };
         records_are = zip;
       }
-
--- whether a position is among the successors of another
-pub leads_so : (graph : Graph (List ℕ)) (stored : Stored (List ℕ)) (x z : List ℕ) (p : ℕ) (ys : List (List ℕ)) (among : Bool) → HasNumber (view_of stored) p z
-    → p < expanded_count stored → ListsExactly (graph.Successor z) ys → (among ≡ true) ↔ Contains ys x → (among ≡ true) ↔ LeadsFrom graph stored x p
-leads_so graph stored x z p ys among at within lists is = (
-  λ there. (z, at, within, All-contains (graph.Successor z) ys x lists.only (is.0 there)),
-  λ (u, u_at, _, move). is.1 (lists.all x (subst (λ (v : List ℕ). graph.Successor v x) (same_Some u z (sym u_at ∙ at)) move)),
-)

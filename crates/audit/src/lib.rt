@@ -1,13 +1,13 @@
 //! Whether a table is right: each number is compared with the game and with the numbers beside it.
 #![tactic(auto)]
 
+mod arrivals;
 mod edges;
 mod fault;
 mod laws;
 mod moves;
 mod number;
 mod order;
-mod strays;
 mod sums;
 mod values;
 mod verdict;

@@ -7,12 +7,13 @@ ghost use Rattle.retrograde.specs.Verdicts.{condition_of};
 ghost use Rattle.table.specs.Faults.{NeedsNoPage};
 ghost use Rattle.audit.specs.Causes.{OfTableFault, HasWide};
 ghost use Rattle.audit.specs.aid.Conditions.{IsLowest, own_condition, IsFloor};
+ghost use Rattle.audit.specs.aid.Edges.{IsArriving};
 ghost use Rattle.audit.specs.declared.verdict.Reason.TheVariants.{A1, A2};
 ghost use Rattle.audit.specs.declared.fault.AuditFault.TheVariants.{TooWide};
 
+use crate::edges::count_edges;
 use crate::fault::AuditFault;
 use crate::moves::successors_of;
-use crate::strays::has_stray;
 use crate::values::{order_failing, value_failing, waiting_failing};
 use crate::verdict::Reason;
 use legal_moves::MoveSource;
@@ -127,18 +128,20 @@ fn is_lower(reason: Option<Reason>) -> bool
     matches!(reason, Some(Reason::A1 | Reason::A2))
 }
 
-/// The lowest condition that fails at a number.
+/// The lowest condition that fails at a number to which so many edges that are moves lead.
 pub fn failing<M: MoveSource, T: Table>(
     alloc: Global,
     source: &M,
     table: &mut T,
     number: u32,
     floor: u32,
+    arriving: u32,
 ) -> Result<Option<Reason>, AuditFault>
     requires source { M.is_sound source.now }
     requires known { number < (T.counted table.old).known }
     ensures lowest { T.is_honest table.old → IsTable (T.stored table.old) → IsFloor (T.stored table.old) number floor
         → (x : List ℕ) → HasNumber (view_of (T.stored table.old)) number x
+        → IsArriving (M.graph source.now) (T.stored table.old) number x (expanded_count (T.stored table.old)) arriving
         → IfOk result (IsLowest (condition_of (M.graph source.now) (T.stored table.old) number x)) }
     ensures narrow { T.is_honest table.old → result ≡ Ok None → (x : List ℕ) → HasNumber (view_of (T.stored table.old)) number x
         → number < expanded_count (T.stored table.old) → ¬ M.is_wide source.now x }
@@ -154,8 +157,7 @@ pub fn failing<M: MoveSource, T: Table>(
     if is_lower(own) {
         return Ok(own);
     }
-    let at = table.packed(number)?;
-    if has_stray(alloc, source, table, number, &at)? {
+    if count_edges(table, number)? != arriving {
         return Ok(Some(Reason::A2));
     }
     Ok(own)

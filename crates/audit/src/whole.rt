@@ -1,15 +1,17 @@
 //! The verdict of a table.
 ghost use Rattle.std.specs.Prelude.{◌≡◌, ◌↔◌, ◌^◌, ◌≤◌, ℕ, List, true, IfOk, OnOk, IfErr, Err, Ok, length};
 ghost use Rattle.retrograde.specs.View.{HasNumber};
-ghost use Rattle.retrograde.specs.Stored.{IsTable, view_of};
+ghost use Rattle.retrograde.specs.Stored.{IsTable, view_of, expanded_count};
 ghost use Rattle.retrograde.specs.Sound.{IsLocallySound};
 ghost use Rattle.table.specs.Faults.{NeedsNoPage};
 ghost use Rattle.audit.specs.Answers.{IsAnswer, IsTableSo};
 ghost use Rattle.audit.specs.Causes.{OfTableFault, HasWide};
 ghost use Rattle.audit.specs.aid.Conditions.{AreFloors};
+ghost use Rattle.audit.specs.aid.Edges.{AreArrivals};
 ghost use Rattle.audit.specs.declared.verdict.Verdict.TheVariants.{Right};
 ghost use Rattle.audit.specs.declared.fault.AuditFault.TheVariants.{TooWide};
 
+use crate::arrivals::arrivals;
 use crate::fault::AuditFault;
 use crate::number::failing;
 use crate::order::floors;
@@ -25,11 +27,14 @@ fn first_wrong<M: MoveSource, T: Table>(
     source: &M,
     table: &mut T,
     floors: &[u32],
+    arrivals: &[u32],
 ) -> Result<Verdict, AuditFault>
     requires source { M.is_sound source.now }
-    requires lengths { length floors.now ≡ (T.counted table.old).known }
+    requires floors { length floors.now ≡ (T.counted table.old).known }
+    requires arrivals { length arrivals.now ≡ (T.counted table.old).known }
     ensures answer { T.is_honest table.old → IsTable (T.stored table.old)
         → AreFloors (T.stored table.old) (length (T.stored table.old).order) floors.now
+        → AreArrivals (M.graph source.now) (T.stored table.old) (expanded_count (T.stored table.old)) arrivals.now
         → IfOk result (IsAnswer (M.graph source.now) (M.is_wide source.now) (T.stored table.old)) }
     ensures wide { T.is_honest table.old → result ≡ Err TooWide → HasWide (M.is_wide source.now) (T.stored table.old) }
     ensures same { T.is_honest table.old → T.stored table.new ≡ T.stored table.old }
@@ -41,7 +46,8 @@ fn first_wrong<M: MoveSource, T: Table>(
 {
     for number in 0..table.counts().known {
         let floor = floors[number as usize];
-        if let Some(reason) = failing(alloc, source, table, number, floor)? {
+        let arriving = arrivals[number as usize];
+        if let Some(reason) = failing(alloc, source, table, number, floor, arriving)? {
             return Ok(Verdict::Wrong(number, reason));
         }
     }
@@ -77,5 +83,6 @@ pub fn audit<M: MoveSource, T: Table>(
     if adds_up(alloc, source, table, &floors)? {
         return Ok(Verdict::Right);
     }
-    first_wrong(alloc, source, table, &floors)
+    let arrivals = arrivals(alloc, source, table)?;
+    first_wrong(alloc, source, table, &floors, &arrivals)
 }

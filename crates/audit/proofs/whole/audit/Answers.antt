@@ -3,11 +3,12 @@ use Rattle.audit.proofs.Passing.{passed_on, not_this, ok_differs, of_table_after
 use Rattle.std.proofs.Common.{◌≡◌, ◌∙◌, subst, ℕ, List, Bool, true, length, ap, Err}
 use Rattle.std.specs.Prelude.{IfOk, Ok}
 use Rattle.std.specs.declared.result.Result.{Result}
-use Rattle.retrograde.specs.Stored.{Stored, IsTable}
+use Rattle.retrograde.specs.Stored.{Stored, IsTable, expanded_count}
 use Rattle.audit.specs.declared.verdict.Verdict.TheVariants.{Right}
 use Rattle.audit.specs.declared.fault.AuditFault.{AuditFault}
 use Rattle.audit.specs.Answers.{IsAnswer}
 use Rattle.audit.specs.aid.Conditions.{AreFloors}
+use Rattle.audit.specs.aid.Edges.{AreArrivals}
 use Rattle.audit.proofs.AnswerLemmas.{right_sound, right_so}
 use Rattle.audit.proofs.whole.audit.Goals as goal
 
@@ -51,29 +52,53 @@ returns-then-branch-clause-so g c = λ honest table is.
     right table (c.in_ok-floors.ensures.floors honest table) (is_ok c.in_ok-adds_up.field-0 c.if-branch.true) in
     right_so graph IsWide stored table added
 
+pub returns-clause-answer : goal.returns-clause-answer
+returns-clause-answer g c = λ honest table.
+    let h1 = c.in_ok-floors.ensures.honest.0 honest in
+    let h2 = c.in_ok-adds_up.ensures.honest.0 h1 in
+    let h3 = c.in_ok-arrivals.ensures.honest.0 h2 in
+    let graph = g.M.GameGraph.graph c.args.source.now in
+    let IsWide = g.M.GameGraph.is_wide c.args.source.now in
+    let stored = g.T.Table.stored c.args.table.now in
+    let same2 = c.in_ok-adds_up.ensures.same h1 ∙ c.in_ok-floors.ensures.same honest in
+    let arrivals = subst (λ (t : Stored (List ℕ)). IsTable t → AreArrivals graph t (expanded_count t) c.in_ok-arrivals.arrivals.items) same2
+    (c.in_ok-arrivals.ensures.arrivals h2) in
+    let answer = subst (λ (t : Stored (List ℕ)). IsTable t → AreFloors t (length t.order) c.in_ok-floors.floors.items
+    → AreArrivals graph t (expanded_count t) c.in_ok-arrivals.arrivals.items → IfOk c.first_wrong.result (IsAnswer graph IsWide t))
+    (c.in_ok-arrivals.ensures.same h2 ∙ same2) (rw (c.deref-2.ensures.value, c.deref-3.ensures.value) at c.first_wrong.ensures.answer h3) in
+    answer table (c.in_ok-floors.ensures.floors honest table) (arrivals table)
+
 pub returns-clause-sound : goal.returns-clause-sound
 returns-clause-sound g c = λ honest table is.
     let h1 = c.in_ok-floors.ensures.honest.0 honest in
     let h2 = c.in_ok-adds_up.ensures.honest.0 h1 in
-    let stored = g.T.Table.stored c.args.table.now in
+    let h3 = c.in_ok-arrivals.ensures.honest.0 h2 in
     let graph = g.M.GameGraph.graph c.args.source.now in
     let IsWide = g.M.GameGraph.is_wide c.args.source.now in
+    let stored = g.T.Table.stored c.args.table.now in
+    let same2 = c.in_ok-adds_up.ensures.same h1 ∙ c.in_ok-floors.ensures.same honest in
+    let arrivals = subst (λ (t : Stored (List ℕ)). IsTable t → AreArrivals graph t (expanded_count t) c.in_ok-arrivals.arrivals.items) same2
+    (c.in_ok-arrivals.ensures.arrivals h2) in
     let answer = subst (λ (t : Stored (List ℕ)). IsTable t → AreFloors t (length t.order) c.in_ok-floors.floors.items
-    → IfOk c.first_wrong.result (IsAnswer graph IsWide t))
-    (c.in_ok-adds_up.ensures.same h1 ∙ c.in_ok-floors.ensures.same honest) (rw c.deref-2.ensures.value at c.first_wrong.ensures.answer h2) in
-    right_sound graph IsWide stored table (rw is at answer table (c.in_ok-floors.ensures.floors honest table))
+    → AreArrivals graph t (expanded_count t) c.in_ok-arrivals.arrivals.items → IfOk c.first_wrong.result (IsAnswer graph IsWide t))
+    (c.in_ok-arrivals.ensures.same h2 ∙ same2) (rw (c.deref-2.ensures.value, c.deref-3.ensures.value) at c.first_wrong.ensures.answer h3) in
+    right_sound graph IsWide stored table (rw is at answer table (c.in_ok-floors.ensures.floors honest table) (arrivals table))
 
 pub returns-clause-so : goal.returns-clause-so
 returns-clause-so g c = λ honest table is.
     let h1 = c.in_ok-floors.ensures.honest.0 honest in
     let h2 = c.in_ok-adds_up.ensures.honest.0 h1 in
-    let stored = g.T.Table.stored c.args.table.now in
+    let h3 = c.in_ok-arrivals.ensures.honest.0 h2 in
     let graph = g.M.GameGraph.graph c.args.source.now in
     let IsWide = g.M.GameGraph.is_wide c.args.source.now in
+    let stored = g.T.Table.stored c.args.table.now in
+    let same2 = c.in_ok-adds_up.ensures.same h1 ∙ c.in_ok-floors.ensures.same honest in
+    let arrivals = subst (λ (t : Stored (List ℕ)). IsTable t → AreArrivals graph t (expanded_count t) c.in_ok-arrivals.arrivals.items) same2
+    (c.in_ok-arrivals.ensures.arrivals h2) in
     let answer = subst (λ (t : Stored (List ℕ)). IsTable t → AreFloors t (length t.order) c.in_ok-floors.floors.items
-    → IfOk c.first_wrong.result (IsAnswer graph IsWide t))
-    (c.in_ok-adds_up.ensures.same h1 ∙ c.in_ok-floors.ensures.same honest) (rw c.deref-2.ensures.value at c.first_wrong.ensures.answer h2) in
-    right_so graph IsWide stored table (rw is at answer table (c.in_ok-floors.ensures.floors honest table))
+    → AreArrivals graph t (expanded_count t) c.in_ok-arrivals.arrivals.items → IfOk c.first_wrong.result (IsAnswer graph IsWide t))
+    (c.in_ok-arrivals.ensures.same h2 ∙ same2) (rw (c.deref-2.ensures.value, c.deref-3.ensures.value) at c.first_wrong.ensures.answer h3) in
+    right_so graph IsWide stored table (rw is at answer table (c.in_ok-floors.ensures.floors honest table) (arrivals table))
 
 pub returns-in_err-floors-clause-same : goal.returns-in_err-floors-clause-same
 returns-in_err-floors-clause-same g c =
@@ -155,18 +180,50 @@ pub returns-then-branch-clause-wide : goal.returns-then-branch-clause-wide
 returns-then-branch-clause-wide g c =
     λ honest is. absurd (ok_differs _ _ is)
 
+pub returns-in_err-arrivals-clause-same : goal.returns-in_err-arrivals-clause-same
+returns-in_err-arrivals-clause-same g c =
+    λ h. c.in_err-arrivals.ensures.same (c.in_ok-adds_up.ensures.honest.0 (c.in_ok-floors.ensures.honest.0 h)) ∙ (c.in_ok-adds_up.ensures.same (c.in_ok-floors.ensures.honest.0 h) ∙ (c.in_ok-floors.ensures.same h))
+
+pub returns-in_err-arrivals-clause-honest : goal.returns-in_err-arrivals-clause-honest
+returns-in_err-arrivals-clause-honest g c =
+    (λ h. c.in_err-arrivals.ensures.honest.0 (c.in_ok-adds_up.ensures.honest.0 (c.in_ok-floors.ensures.honest.0 h)), λ h. c.in_ok-floors.ensures.honest.1 (c.in_ok-adds_up.ensures.honest.1 (c.in_err-arrivals.ensures.honest.1 h)))
+
+pub returns-in_err-arrivals-clause-counts : goal.returns-in_err-arrivals-clause-counts
+returns-in_err-arrivals-clause-counts g c =
+    c.in_err-arrivals.ensures.counts ∙ (c.in_ok-adds_up.ensures.counts ∙ c.in_ok-floors.ensures.counts)
+
+pub returns-in_err-arrivals-clause-stays : goal.returns-in_err-arrivals-clause-stays
+returns-in_err-arrivals-clause-stays g c =
+    g.met.T.Table.stays_then _ _ _ (g.met.T.Table.stays_then _ _ _ c.in_ok-floors.ensures.stays c.in_ok-adds_up.ensures.stays) c.in_err-arrivals.ensures.stays
+
+pub returns-in_err-arrivals-clause-room : goal.returns-in_err-arrivals-clause-room
+returns-in_err-arrivals-clause-room g c =
+    passed_on _ c.from_residual-in_err-arrivals.result _ c.from_residual-in_err-arrivals.ensures c.in_err-arrivals.ensures.room
+
+pub returns-in_err-arrivals-clause-fault : goal.returns-in_err-arrivals-clause-fault
+returns-in_err-arrivals-clause-fault g c =
+    passed_on _ c.from_residual-in_err-arrivals.result _ c.from_residual-in_err-arrivals.ensures
+    (of_table_after _ _ _ (λ fault. g.met.T.Table.fails_since _ _ _ fault (g.met.T.Table.stays_goes_on _ _ (g.met.T.Table.stays_then _ _ _ c.in_ok-floors.ensures.stays c.in_ok-adds_up.ensures.stays))) c.in_err-arrivals.ensures.fault)
+
+pub returns-in_err-arrivals-clause-wide : goal.returns-in_err-arrivals-clause-wide
+returns-in_err-arrivals-clause-wide g c =
+    λ honest is.
+    let h1 = c.in_ok-floors.ensures.honest.0 honest in
+    subst (λ (t : Stored (List ℕ)). HasWide (g.M.GameGraph.is_wide c.args.source.now) t) (c.in_ok-adds_up.ensures.same h1 ∙ c.in_ok-floors.ensures.same honest)
+    (c.in_err-arrivals.ensures.wide (c.in_ok-adds_up.ensures.honest.0 h1) (ap (λ (f : AuditFault). Err f) (not_this c.from_residual-in_err-arrivals.result _ _ c.from_residual-in_err-arrivals.ensures is)))
+
 pub returns-clause-same : goal.returns-clause-same
 returns-clause-same g c =
-    λ h. c.first_wrong.ensures.same (c.in_ok-adds_up.ensures.honest.0 (c.in_ok-floors.ensures.honest.0 h)) ∙ (c.in_ok-adds_up.ensures.same (c.in_ok-floors.ensures.honest.0 h) ∙ c.in_ok-floors.ensures.same h)
+    λ h. c.first_wrong.ensures.same (c.in_ok-arrivals.ensures.honest.0 (c.in_ok-adds_up.ensures.honest.0 (c.in_ok-floors.ensures.honest.0 h))) ∙ (c.in_ok-arrivals.ensures.same (c.in_ok-adds_up.ensures.honest.0 (c.in_ok-floors.ensures.honest.0 h)) ∙ (c.in_ok-adds_up.ensures.same (c.in_ok-floors.ensures.honest.0 h) ∙ (c.in_ok-floors.ensures.same h)))
 
 pub returns-clause-honest : goal.returns-clause-honest
 returns-clause-honest g c =
-    (λ h. c.first_wrong.ensures.honest.0 (c.in_ok-adds_up.ensures.honest.0 (c.in_ok-floors.ensures.honest.0 h)), λ h. c.in_ok-floors.ensures.honest.1 (c.in_ok-adds_up.ensures.honest.1 (c.first_wrong.ensures.honest.1 h)))
+    (λ h. c.first_wrong.ensures.honest.0 (c.in_ok-arrivals.ensures.honest.0 (c.in_ok-adds_up.ensures.honest.0 (c.in_ok-floors.ensures.honest.0 h))), λ h. c.in_ok-floors.ensures.honest.1 (c.in_ok-adds_up.ensures.honest.1 (c.in_ok-arrivals.ensures.honest.1 (c.first_wrong.ensures.honest.1 h))))
 
 pub returns-clause-counts : goal.returns-clause-counts
 returns-clause-counts g c =
-    c.first_wrong.ensures.counts ∙ (c.in_ok-adds_up.ensures.counts ∙ c.in_ok-floors.ensures.counts)
+    c.first_wrong.ensures.counts ∙ (c.in_ok-arrivals.ensures.counts ∙ (c.in_ok-adds_up.ensures.counts ∙ c.in_ok-floors.ensures.counts))
 
 pub returns-clause-stays : goal.returns-clause-stays
 returns-clause-stays g c =
-    g.met.T.Table.stays_then _ _ _ (g.met.T.Table.stays_then _ _ _ c.in_ok-floors.ensures.stays c.in_ok-adds_up.ensures.stays) c.first_wrong.ensures.stays
+    g.met.T.Table.stays_then _ _ _ (g.met.T.Table.stays_then _ _ _ (g.met.T.Table.stays_then _ _ _ c.in_ok-floors.ensures.stays c.in_ok-adds_up.ensures.stays) c.in_ok-arrivals.ensures.stays) c.first_wrong.ensures.stays

@@ -8,6 +8,8 @@ use Rattle.retrograde.specs.View.{HasNumber}
 use Rattle.retrograde.specs.Verdicts.{condition_of}
 use Rattle.retrograde.specs.Stored.{Stored, IsTable, view_of, expanded_count}
 use Rattle.audit.specs.aid.Conditions.{IsLowest, IsFloor}
+use Rattle.audit.specs.aid.Edges.{IsArriving}
+use Rattle.audit.proofs.ArrivalLemmas.{arriving_at}
 use Rattle.audit.proofs.FloorLemmas.{floor_of}
 use Rattle.audit.proofs.AnswerLemmas.{one_more, all_right, this_wrong}
 use Rattle.audit.proofs.whole.first_wrong.Goals as goal
@@ -19,25 +21,25 @@ loop-number-preserved g c = record {
   stays = g.met.T.Table.stays_then _ _ _ c.loop-number.invariant.stays c.in_ok-reason.ensures.stays;
   honest = (λ h. c.in_ok-reason.ensures.honest.0 (c.loop-number.invariant.honest.0 h), λ h. c.loop-number.invariant.honest.1 (c.in_ok-reason.ensures.honest.1 h));
   same = λ h. c.in_ok-reason.ensures.same (c.loop-number.invariant.honest.0 h) ∙ c.loop-number.invariant.same h;
-  sound = λ honest table floors.
+  sound = λ honest table floors arrivals.
       let h = c.loop-number.invariant.honest.0 honest in
       let same = c.loop-number.invariant.same honest in
       let graph = g.M.GameGraph.graph c.args.source.now in
       let IsWide = g.M.GameGraph.is_wide c.args.source.now in
       let stored = g.T.Table.stored c.args.table.now in
       let read = ap (λ (k : Counts). k.known) c.counts-number-end.ensures in
-      let within : c.loop-number.number < length c.args.floors.now = omega (arith, read, c.requires.lengths, c.loop-number-test.true) in
+      let within : c.loop-number.number < length c.args.floors.now = omega (arith, read, c.requires.floors, c.loop-number-test.true) in
       let floor = floor_of stored c.args.floors.now c.loop-number.number (get_or c.args.floors.now c.loop-number.number 0) floors (slice_get-get_or c.args.floors.now c.loop-number.number 0 within) in
       let lowest = subst (λ (t : Stored (List ℕ)). IsTable t → IsFloor t c.loop-number.number (get_or c.args.floors.now c.loop-number.number 0) → (x : List ℕ) → HasNumber (view_of t) c.loop-number.number x
-      → IsLowest (condition_of graph t c.loop-number.number x) c.in_ok-reason.field-0) same (c.in_ok-reason.ensures.lowest h) in
+      → IsArriving graph t c.loop-number.number x (expanded_count t) (get_or c.args.arrivals.now c.loop-number.number 0) → IsLowest (condition_of graph t c.loop-number.number x) c.in_ok-reason.field-0) same (c.in_ok-reason.ensures.lowest h) in
       let narrow = subst (λ (t : Stored (List ℕ)). (x : List ℕ) → HasNumber (view_of t) c.loop-number.number x → c.loop-number.number < expanded_count t → IsWide x → ⊥)
       same (c.in_ok-reason.ensures.narrow h (search rules)) in
-      one_more graph IsWide stored c.loop-number.number (c.loop-number.invariant.sound honest table floors)
-      (λ x at. subst (λ (o : Option _). IsLowest (condition_of graph stored c.loop-number.number x) o) c.in_default.is (lowest table floor x at)) narrow;
+      one_more graph IsWide stored c.loop-number.number (c.loop-number.invariant.sound honest table floors arrivals)
+      (λ x at. subst (λ (o : Option _). IsLowest (condition_of graph stored c.loop-number.number x) o) c.in_default.is (lowest table floor x at (arriving_at graph stored c.args.arrivals.now arrivals c.loop-number.number x at))) narrow;
 }
 
 pub returns-in-Some-clause-answer : goal.returns-in-Some-clause-answer
-returns-in-Some-clause-answer g c = λ honest table floors.
+returns-in-Some-clause-answer g c = λ honest table floors arrivals.
     let h = c.loop-number.invariant.honest.0 honest in
     let same = c.loop-number.invariant.same honest in
     let graph = g.M.GameGraph.graph c.args.source.now in
@@ -45,20 +47,20 @@ returns-in-Some-clause-answer g c = λ honest table floors.
     let stored = g.T.Table.stored c.args.table.now in
     let read = ap (λ (k : Counts). k.known) c.counts-number-end.ensures in
     let count = ap (λ (k : Counts). k.known) (g.met.T.Table.counts_are c.args.table.now honest) in
-    let within : c.loop-number.number < length c.args.floors.now = omega (arith, read, c.requires.lengths, c.loop-number-test.true) in
+    let within : c.loop-number.number < length c.args.floors.now = omega (arith, read, c.requires.floors, c.loop-number-test.true) in
     let floor = floor_of stored c.args.floors.now c.loop-number.number (get_or c.args.floors.now c.loop-number.number 0) floors (slice_get-get_or c.args.floors.now c.loop-number.number 0 within) in
     let lowest = subst (λ (t : Stored (List ℕ)). IsTable t → IsFloor t c.loop-number.number (get_or c.args.floors.now c.loop-number.number 0) → (x : List ℕ) → HasNumber (view_of t) c.loop-number.number x
-    → IsLowest (condition_of graph t c.loop-number.number x) c.in_ok-reason.field-0) same (c.in_ok-reason.ensures.lowest h) in
+    → IsArriving graph t c.loop-number.number x (expanded_count t) (get_or c.args.arrivals.now c.loop-number.number 0) → IsLowest (condition_of graph t c.loop-number.number x) c.in_ok-reason.field-0) same (c.in_ok-reason.ensures.lowest h) in
     this_wrong graph IsWide stored c.loop-number.number c.in-Some.reason (omega (arith, read, count, c.loop-number-test.true))
-    (c.loop-number.invariant.sound honest table floors)
-    (λ x at. subst (λ (o : Option _). IsLowest (condition_of graph stored c.loop-number.number x) o) c.in-Some.is (lowest table floor x at))
+    (c.loop-number.invariant.sound honest table floors arrivals)
+    (λ x at. subst (λ (o : Option _). IsLowest (condition_of graph stored c.loop-number.number x) o) c.in-Some.is (lowest table floor x at (arriving_at graph stored c.args.arrivals.now arrivals c.loop-number.number x at)))
 
 pub returns-clause-answer : goal.returns-clause-answer
-returns-clause-answer g c = λ honest table floors.
+returns-clause-answer g c = λ honest table floors arrivals.
     let read = ap (λ (k : Counts). k.known) c.counts-number-end.ensures in
     let count = ap (λ (k : Counts). k.known) (g.met.T.Table.counts_are c.args.table.now honest) in
     all_right (g.M.GameGraph.graph c.args.source.now) (g.M.GameGraph.is_wide c.args.source.now) (g.T.Table.stored c.args.table.now) c.loop-number.number
-    (omega (arith, read, count, c.loop-number-test.false)) (c.loop-number.invariant.sound honest table floors)
+    (omega (arith, read, count, c.loop-number-test.false)) (c.loop-number.invariant.sound honest table floors arrivals)
 
 pub returns-in_err-reason-clause-same : goal.returns-in_err-reason-clause-same
 returns-in_err-reason-clause-same g c =

@@ -1,6 +1,7 @@
 use Rattle.std.proofs.Common.{◌≡◌, ◌↔◌, length}
-use Rattle.retrograde.specs.Stored.{IsTable}
+use Rattle.retrograde.specs.Stored.{IsTable, expanded_count}
 use Rattle.audit.specs.aid.Conditions.{AreFloors}
+use Rattle.audit.specs.aid.Edges.{AreArrivals}
 use Rattle.audit.proofs.AnswerLemmas.{AreSound}
 use Rattle.audit.proofs.whole.first_wrong.Given as goal
 
@@ -13,5 +14,6 @@ invariant-loop-number g l = record {
   same : g.T.Table.is_honest l.fn.table → g.T.Table.stored l.table ≡ g.T.Table.stored l.fn.table;
   sound : g.T.Table.is_honest l.fn.table → IsTable (g.T.Table.stored l.fn.table)
       → AreFloors (g.T.Table.stored l.fn.table) (length (g.T.Table.stored l.fn.table).order) l.floors
+      → AreArrivals (g.M.GameGraph.graph l.fn.source) (g.T.Table.stored l.fn.table) (expanded_count (g.T.Table.stored l.fn.table)) l.arrivals
       → AreSound (g.M.GameGraph.graph l.fn.source) (g.M.GameGraph.is_wide l.fn.source) (g.T.Table.stored l.fn.table) l.number;
 }
