@@ -7,8 +7,8 @@ use rand::{Rng, RngExt};
 use rand_pcg::Pcg32;
 use rbg_read::read::read_game;
 use recover::TableFile;
-use solver::{FileSolver, SolverFault};
 use sector_disk::{MemDisk, SectorDisk};
+use solver::{FileSolver, SolverFault};
 use std::alloc::Global;
 
 /// The sectors of 1,024 pages.

@@ -4,9 +4,9 @@ use file_disk::FileDisk;
 use game_file::GameFile;
 use rbg_read::fault::GameFault;
 use recover::TableFile;
-use solver::{FileSolver, SolverFault, Units};
 use retrograde::Counts;
 use sector_disk::SectorDisk;
+use solver::{FileSolver, SolverFault, Units};
 use std::alloc::Global;
 use std::fs::OpenOptions;
 

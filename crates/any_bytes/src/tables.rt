@@ -2,8 +2,8 @@
 
 use game_file::GameFile;
 use recover::TableFile;
-use solver::{FileSolver, SolverFault, Units};
 use sector_disk::{MemDisk, SectorDisk};
+use solver::{FileSolver, SolverFault, Units};
 use std::alloc::Global;
 
 /// A disk of so many sectors with the table of this game, so many times 256 units of it worked, or as many as there are.

@@ -5,8 +5,8 @@ use audit::Verdict;
 use line_answers::input::{Asked, Question};
 use line_answers::questions::put_answer;
 use page_store::MOST_CACHED;
-use solver::{FileSolver, Units};
 use retrograde::Counts;
+use solver::{FileSolver, Units};
 use std::alloc::Global;
 use std::io::Write;
 

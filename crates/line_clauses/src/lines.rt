@@ -17,8 +17,8 @@ use line_answers::questions;
 use printed_lines::{moves, replies};
 use rbg_game::game::Game;
 use rbg_game::roles::Player;
-use solver::FileSolver;
 use retrograde::Counts;
+use solver::FileSolver;
 use std::alloc::{AllocError, Global};
 use std::io::{self, Write};
 

@@ -3,8 +3,8 @@
 use crate::standing::Standing;
 use game_file::GameFile;
 use recover::TableFile;
-use solver::{Command, FileSolver, Reply, SolverFault, Units};
 use sector_disk::{MemDisk, SectorDisk};
+use solver::{Command, FileSolver, Reply, SolverFault, Units};
 use std::alloc::Global;
 
 /// Sectors of the smallest disk that takes a table.

@@ -185,8 +185,8 @@ pub fn found_on(alloc: Global, disk: MemDisk) -> Option<(u8, u8)> {
         Err(_) => None,
         Ok(mut store) => {
             let said = Said::of_root(&store.root().bytes);
-            let is_whole =
-                room >= u64::from(said.pages) && byte_of(&mut store, said.named) == Some(said.byte);
+            let is_whole = room >= u64::from(said.pages)
+                && byte_of(&mut store, said.named) == Some(said.byte);
             let _ = store.into_disk();
             is_whole.then_some((said.pages, said.byte))
         }

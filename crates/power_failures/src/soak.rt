@@ -8,8 +8,8 @@ use game_file::GameFile;
 use rand::{Rng, RngExt};
 use rand_pcg::Pcg32;
 use recover::TableFile;
-use solver::{FileSolver, SolverFault, Units};
 use sector_disk::{FuseDisk, MemDisk};
+use solver::{FileSolver, SolverFault, Units};
 use std::alloc::Global;
 
 /// The sectors of 128 pages: a table that is full refuses an order, and stays as it was.

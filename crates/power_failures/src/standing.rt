@@ -3,9 +3,9 @@
 use audit::Verdict;
 use game_file::GameFile;
 use recover::TableFile;
-use solver::{FileSolver, SolverFault};
 use retrograde::Counts;
 use sector_disk::MemDisk;
+use solver::{FileSolver, SolverFault};
 use std::alloc::Global;
 
 /// What is found on a disk.

@@ -2,8 +2,8 @@
 
 use crate::deeds::{DEEDS, Deed, Given, Progress, before, done_on};
 use crate::standing::{all_stand, is_right_on};
-use solver::SolverFault;
 use sector_disk::{FlakyDisk, FuseDisk, MemDisk, SectorDisk};
+use solver::SolverFault;
 use std::alloc::Global;
 use std::fmt::{self, Display, Formatter, Write};
 

@@ -6,8 +6,8 @@ pub use line_answers::puts::{put_line, put_refused, put_reply, status_of};
 use line_answers::turns::reply_to;
 use printed_lines::verdicts::put_verdict;
 use recover::TableFile;
-use solver::{Command, FileSolver, Reply, SolverFault};
 use sector_disk::SectorDisk;
+use solver::{Command, FileSolver, Reply, SolverFault};
 use std::alloc::Global;
 use std::io::Write;
 

@@ -6,8 +6,8 @@ use line_answers::advice::tell_fault;
 use line_answers::input::{Asked, Line};
 use line_answers::questions::put_answer;
 use recover::TableFile;
-use solver::{FileSolver, SolverFault};
 use sector_disk::SectorDisk;
+use solver::{FileSolver, SolverFault};
 use std::alloc::Global;
 use std::io::{ErrorKind, Read, Write};
 

@@ -7,8 +7,8 @@ ghost use Rattle.solver.specs.Solvers.{state, IsReady};
 use audit::Verdict;
 use best_line::Row;
 use game_file::GameFile;
-use solver::{FileSolver, SolverFault, Units};
 use retrograde::Record;
+use solver::{FileSolver, SolverFault, Units};
 use table::TableFault;
 
 /// `text` of `FileSolver::show`.

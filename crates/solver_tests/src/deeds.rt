@@ -3,9 +3,9 @@
 use audit::Verdict;
 use game_file::GameFile;
 use recover::TableFile;
-use solver::FileSolver;
 use retrograde::Counts;
 use sector_disk::{FlakyDisk, MemDisk};
+use solver::FileSolver;
 use std::alloc::Global;
 use std::test::Fail;
 use test_aids::TAKE;

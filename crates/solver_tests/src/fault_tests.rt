@@ -2,8 +2,8 @@
 
 use crate::deeds::{InMemory, LOADED, WORKED, all_say, status, take_table};
 use game_file::GameFile;
-use solver::{FileSolver, SolverFault, Units, Worked};
 use sector_disk::{FlakyDisk, MemDisk};
+use solver::{FileSolver, SolverFault, Units, Worked};
 use std::alloc::Global;
 use std::test::Fail;
 use test_aids::expect;

@@ -2,8 +2,8 @@
 
 use crate::deeds::{InMemory, empty_table, is_right, opened, unfailing};
 use game_file::GameFile;
-use solver::{Command, Reply, SolverFault, Units};
 use retrograde::Counts;
+use solver::{Command, Reply, SolverFault, Units};
 use std::alloc::Global;
 use std::test::Fail;
 use test_aids::{TAKE, expect};

@@ -46,7 +46,11 @@ where
 }
 
 /// The same of a write, a sync or an extension, which counts once more.
-fn told_write<T>(failures: &mut u64, failed_writes: &mut u64, answer: io::Result<T>) -> Result<(), DiskFault>
+fn told_write<T>(
+    failures: &mut u64,
+    failed_writes: &mut u64,
+    answer: io::Result<T>,
+) -> Result<(), DiskFault>
 where
     T: Drop,
     ensures cause { HasCause failures.old failures.new result }

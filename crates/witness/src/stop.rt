@@ -7,8 +7,8 @@ ghost use Rattle.witness.specs.Sittings.{IsWantOfRoom};
 use crate::sittings::{make, use_table, value_of};
 use best_line::Value;
 use recover::TableFile;
-use solver::SolverFault;
 use sector_disk::{FuseDisk, MemDisk};
+use solver::SolverFault;
 use std::alloc::Global;
 
 /// The sectors of 32 pages.
