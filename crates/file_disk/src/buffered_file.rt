@@ -132,6 +132,8 @@ impl<F: ByteFile + Drop> BufferedFile<F> {
     pub fn flush(&mut self) -> bool
         ensures shown { IsTrue (F.honest self.old.file) → (k : ℕ)
             → shown self.new.waiting (F.content self.new.file) k ≡ shown self.old.waiting (F.content self.old.file) k }
+        ensures in_file { IsTrue (F.honest self.old.file) → OnTrue result ((k : ℕ)
+            → sector_of (F.content self.new.file) k ≡ shown self.old.waiting (F.content self.old.file) k) }
         ensures none { OnTrue result (self.new.waiting.count ≡ 0) }
         ensures still { OnFalse result (self.new.waiting ≡ self.old.waiting) }
         ensures why { OnFalse result ((0 < self.new.waiting.count) ⊎ (self.old.lost ≡ true)) }
