@@ -67,12 +67,40 @@ fn done_in_trouble(
 /// leave, 256 lose the end of a disk that was made longer and three tell how it is kept.
 fn is_left(alloc: Global, left: &MemDisk, growth: Growth) -> anyhow::Result<bool> {
     let end = if growth.refused.is_some() { 2 } else { 1 };
-    for pick in (0..256).chain(TELLING) {
-        let found = found_on(alloc, left.after_stop(alloc, pick)?);
-        let mut allowed = STANDINGS.iter().skip(growth.done).take(end);
-        if !allowed.any(|standing| found == Some(*standing)) {
+    let allowed = STANDINGS.iter().skip(growth.done).take(end);
+    let allowed: Vec<_> = allowed.copied().collect(alloc)?;
+    Ok(first_are_left(alloc, left, &allowed)? && telling_are_left(alloc, left, &allowed)?)
+}
+
+/// Whether one of these is found on each of the first 256 pictures.
+fn first_are_left(alloc: Global, left: &MemDisk, allowed: &[(u8, u8)]) -> anyhow::Result<bool> {
+    for pick in 0..256 {
+        if !is_found(alloc, left, pick, allowed)? {
             return Ok(false);
         }
     }
     Ok(true)
+}
+
+/// Whether one of these is found on each of the pictures that tell all others.
+fn telling_are_left(alloc: Global, left: &MemDisk, allowed: &[(u8, u8)]) -> anyhow::Result<bool> {
+    for pick in TELLING {
+        if !is_found(alloc, left, pick, allowed)? {
+            return Ok(false);
+        }
+    }
+    Ok(true)
+}
+
+/// Whether one of these is found on the picture with this number.
+fn is_found(
+    alloc: Global,
+    left: &MemDisk,
+    pick: u64,
+    allowed: &[(u8, u8)],
+) -> anyhow::Result<bool> {
+    match found_on(alloc, left.after_stop(alloc, pick)?) {
+        Some(found) => Ok(allowed.contains(&found)),
+        None => Ok(false),
+    }
 }
