@@ -6,7 +6,8 @@ use Rattle.std.proofs.lemmas.Bool.{cases_lt}
 use Rattle.std.proofs.lemmas.Option.{same_Some}
 use Rattle.file_disk.specs.declared.waiting_page.WaitingPage.{WaitingPage}
 use Rattle.file_disk.specs.Bytes.{bytes_at, sector_of, LeavesOthers}
-use Rattle.file_disk.specs.Waiting.{page_at, has_sector, slot_of, given, shown_of, AreDistinct, IsRun, IsInFile, AreInFile, Puts}
+use Rattle.file_disk.specs.Waiting.{page_at, has_sector, slot_of, given, shown_of}
+use Rattle.file_disk.specs.aid.Waiting.{AreDistinct, IsRun, IsInFile, AreInFile, Puts}
 use Rattle.file_disk.proofs.Slots.{slot_found, sector_of_page}
 use Rattle.file_disk.proofs.Filling.{part_of}
 

@@ -5,7 +5,8 @@ use Rattle.std.proofs.lemmas.Bool.{cases_eq, cases_lt}
 use Rattle.std.proofs.lemmas.List.{get_or-set_same, get_or-set_other}
 use Rattle.file_disk.specs.declared.waiting_page.WaitingPage.{WaitingPage}
 use Rattle.file_disk.specs.Bytes.{sector_of, LeavesOthers}
-use Rattle.file_disk.specs.Waiting.{no_page, page_at, has_sector, place_of, slot_in, given, shown_of, AreDistinct, ArePlaced}
+use Rattle.file_disk.specs.Waiting.{no_page, page_at, has_sector, place_of, slot_in, given, shown_of}
+use Rattle.file_disk.specs.aid.Waiting.{AreDistinct, ArePlaced}
 use Rattle.file_disk.proofs.Slots.{place_found, place_is, none_is, place_same, shown_same, stands}
 
 -- the page at a place, once it is put there

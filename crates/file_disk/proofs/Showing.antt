@@ -3,7 +3,8 @@ use Rattle.std.proofs.Common.{◌≡◌, ℕ, ◌+◌, ◌*◌, ◌/◌, ◌%◌
 use Rattle.std.specs.Prelude.{Option, replicate, if◌then◌else◌}
 use Rattle.file_disk.specs.declared.waiting_page.WaitingPage.{WaitingPage}
 use Rattle.file_disk.specs.Bytes.{bytes_at, sector_of, IsResized, KeepsUpTo}
-use Rattle.file_disk.specs.Waiting.{page_at, has_sector, place_of, slot_in, slot_of, given, shown_of, AreInside, IsInFile}
+use Rattle.file_disk.specs.Waiting.{page_at, has_sector, place_of, slot_in, slot_of, given, shown_of}
+use Rattle.file_disk.specs.aid.Waiting.{AreInside, IsInFile}
 use Rattle.file_disk.proofs.Slots.{place_is}
 use Rattle.file_disk.proofs.Filling.{part_of}
 

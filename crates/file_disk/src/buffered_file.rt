@@ -3,7 +3,8 @@ ghost use Rattle.std.specs.Prelude.{◌≡◌, ◌≢◌, ◌⊎◌, ◌+◌, �
 ghost use Rattle.std.specs.Bool.{OnTrue, OnFalse};
 ghost use Rattle.file_disk.specs.Bytes.{sector_of};
 ghost use Rattle.file_disk.specs.Shown.{shown};
-ghost use Rattle.file_disk.specs.Waiting.{AreInside, HasRoom, IsCopyOf};
+ghost use Rattle.file_disk.specs.Waiting.{HasRoom};
+ghost use Rattle.file_disk.specs.aid.Waiting.{AreInside, IsCopyOf};
 
 use crate::byte_file::ByteFile;
 use crate::flush::put_all;

@@ -1,6 +1,6 @@
 use Rattle.std.proofs.Common.{ℕ, arith, refl, sym, subst, below_more, ◌∙◌, Bool}
 use Rattle.std.specs.Prelude.{IsTrue}
-use Rattle.file_disk.specs.Waiting.{IsInFile}
+use Rattle.file_disk.specs.aid.Waiting.{IsInFile}
 use Rattle.file_disk.proofs.Flushing.{puts_then}
 use Rattle.file_disk.proofs.flush.put_page.Goals as goal
 
