@@ -114,6 +114,7 @@ impl<F: ByteFile + Drop> BufferedFile<F> {
         ensures others { IsTrue (F.honest self.old.file) → (k : ℕ) → k ≢ at
             → shown self.new.waiting (F.content self.new.file) k ≡ shown self.old.waiting (F.content self.old.file) k }
         ensures waits { HasRoom self.old.waiting.pages.items self.old.waiting.count at → self.new.file ≡ self.old.file }
+        ensures done { HasRoom self.old.waiting.pages.items self.old.waiting.count at → self.old.lost ≡ false → result ≡ true }
         ensures lasts { IsTrue (F.honest self.old.file) → F.durable self.new.file ≡ F.durable self.old.file }
         ensures same_honest { F.honest self.new.file ≡ F.honest self.old.file }
         ensures sectors { self.new.sectors ≡ self.old.sectors }
