@@ -1,9 +1,9 @@
 //! A file of bytes by sectors, where what is written waits until the sync.
-ghost use Rattle.std.specs.Prelude.{◌≡◌, ◌≢◌, ◌⊎◌, ◌+◌, ◌*◌, ◌/◌, ◌^◌, ◌<◌, ◌≤◌, ℕ, true, false, length, replicate, IsTrue, IfOk};
+ghost use Rattle.std.specs.Prelude.{◌≡◌, ◌≢◌, ◌⊎◌, ◌+◌, ◌*◌, ◌/◌, ◌^◌, ◌<◌, ◌≤◌, ℕ, true, false, length, replicate, IsTrue, IfOk, Some};
 ghost use Rattle.std.specs.Bool.{OnTrue, OnFalse};
 ghost use Rattle.file_disk.specs.Bytes.{sector_of};
 ghost use Rattle.file_disk.specs.Shown.{shown};
-ghost use Rattle.file_disk.specs.Waiting.{HasRoom};
+ghost use Rattle.file_disk.specs.Waiting.{HasRoom, slot_of};
 ghost use Rattle.file_disk.specs.aid.Waiting.{AreInside, IsCopyOf};
 
 use crate::byte_file::ByteFile;
@@ -60,6 +60,8 @@ impl<F: ByteFile + Drop> BufferedFile<F> {
         ensures bytes { IsTrue (F.honest self.old.file) → OnTrue result (into.new ≡ shown self.old.waiting (F.content self.old.file) at) }
         ensures unchanged { IsTrue (F.honest self.old.file) → F.content self.new.file ≡ F.content self.old.file }
         ensures waits { self.new.waiting ≡ self.old.waiting }
+        ensures at_hand { (slot : ℕ) → slot_of self.old.waiting.pages.items self.old.waiting.count at ≡ Some slot
+            → self.old.lost ≡ false → result ≡ true }
         ensures lasts { IsTrue (F.honest self.old.file) → F.durable self.new.file ≡ F.durable self.old.file }
         ensures same_honest { F.honest self.new.file ≡ F.honest self.old.file }
         ensures sectors { self.new.sectors ≡ self.old.sectors }

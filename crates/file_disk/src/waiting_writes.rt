@@ -78,6 +78,7 @@ impl WaitingWrites {
         ensures found { (content : List ℕ) → OnTrue result (into.new ≡ shown_of self.now.pages.items self.now.count self.now.bytes.items content at) }
         ensures none { OnFalse result ((content : List ℕ)
             → shown_of self.now.pages.items self.now.count self.now.bytes.items content at ≡ sector_of content at) }
+        ensures absent { OnFalse result (slot_of self.now.pages.items self.now.count at ≡ None) }
     {
         let Some(place) = self.place(at / 8) else {
             return false;
