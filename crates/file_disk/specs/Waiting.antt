@@ -1,8 +1,8 @@
 -- Sectors that were written and wait in memory: pages by their places, the bytes of all places one behind the other.
-use Rattle.std.specs.Prelude.{◌≡◌, ◌⊎◌, ℕ, zero, suc, ◌+◌, ◌*◌, ◌/◌, ◌%◌, ◌^◌, ◌<◌, ◌≤◌, ◌==◌, Bool, true, false, if◌then◌else◌, List, [], length}
+use Rattle.std.specs.Prelude.{◌≡◌, ◌⊎◌, ℕ, zero, suc, ◌+◌, ◌*◌, ◌/◌, ◌%◌, ◌<◌, ◌==◌, Bool, false, if◌then◌else◌, List, [], length}
 use Rattle.std.specs.Prelude.{slice_index_or, Option, None, Some}
 use Rattle.file_disk.specs.declared.waiting_page.WaitingPage.{WaitingPage}
-use Rattle.file_disk.specs.Bytes.{bytes_at, sector_of}
+use Rattle.file_disk.specs.Bytes.{sector_of}
 
 -- a place without a page
 abbrev pub no_page : WaitingPage
