@@ -1,7 +1,7 @@
 //! A disk over a file that reads and writes it sector by sector, to be measured beside the one that moves whole pages. By its
 //! statement it is no honest disk.
 ghost use Rattle.std.specs.Prelude.{◌*◌, ◌^◌, ◌<◌, ◌≤◌, false, [], replicate};
-ghost use Rattle.sector_disk.specs.Disk.{HasCause, IsCounted, with_failed};
+ghost use Rattle.sector_disk.specs.Disk.{Grew, HasCause, IsCounted, with_failed};
 ghost use Rattle.sector_disk.specs.Unknown.{unknown_disk};
 
 use sector_disk::{DiskFault, SectorDisk};
@@ -45,7 +45,19 @@ where
     Err(DiskFault)
 }
 
-/// The same of a write, a sync or an extension, which counts once more.
+/// A write, a sync or an extension failed: that counts as a failure, and as one of these.
+fn failed_write(failures: &mut u64, failed_writes: &mut u64) -> DiskFault
+    ensures later { failures.old ≤ failures.new }
+    ensures grew { Grew failures.old failures.new }
+    ensures writes_later { failed_writes.old ≤ failed_writes.new }
+    ensures writes_grew { Grew failed_writes.old failed_writes.new }
+{
+    *failures = failures.saturating_add(1);
+    *failed_writes = failed_writes.saturating_add(1);
+    DiskFault
+}
+
+/// What a write, a sync or an extension came to; a failure counts twice.
 fn told_write<T>(
     failures: &mut u64,
     failed_writes: &mut u64,
@@ -57,11 +69,10 @@ where
     ensures later { failed_writes.old ≤ failed_writes.new }
     ensures counted { IsCounted failed_writes.old failed_writes.new result }
 {
-    let outcome = told(failures, answer);
-    if outcome.is_err() {
-        *failed_writes = failed_writes.saturating_add(1);
+    if answer.is_ok() {
+        return Ok(());
     }
-    outcome
+    Err(failed_write(failures, failed_writes))
 }
 
 impl SectorDisk for SectorFile {
@@ -90,9 +101,7 @@ impl SectorDisk for SectorFile {
 
     fn extend(&mut self, sectors: u64) -> Result<(), DiskFault> {
         if sectors > u64::MAX / 512 {
-            self.failures = self.failures.saturating_add(1);
-            self.failed_writes = self.failed_writes.saturating_add(1);
-            return Err(DiskFault);
+            return Err(failed_write(&mut self.failures, &mut self.failed_writes));
         }
         let answer = self.file.set_len(512 * sectors);
         told_write(&mut self.failures, &mut self.failed_writes, answer)?;

@@ -1,6 +1,6 @@
 //! A disk in memory for measuring: it keeps no history. Nothing is promised of what it shows; by its statement it is no
 //! honest disk.
-ghost use Rattle.sector_disk.specs.Disk.{with_failed};
+ghost use Rattle.sector_disk.specs.Disk.{Grew, with_failed};
 ghost use Rattle.sector_disk.specs.Unknown.{unknown_disk};
 ghost use Rattle.std.specs.Prelude.{◌≡◌, ◌≤◌, length, OnOk};
 
@@ -42,6 +42,15 @@ fn add_zeros(contents: &mut Vec<[u8; 512]>, sectors: u64) -> Result<(), AllocErr
     Ok(())
 }
 
+/// A failure counts.
+fn failed(failures: &mut u64) -> DiskFault
+    ensures later { failures.old ≤ failures.new }
+    ensures grew { Grew failures.old failures.new }
+{
+    *failures = failures.saturating_add(1);
+    DiskFault
+}
+
 impl SectorDisk for PlainDisk {
     ghost disk = { λ d. with_failed (unknown_disk (length d.contents.items)) d.failures };
 
@@ -67,8 +76,7 @@ impl SectorDisk for PlainDisk {
 
     fn extend(&mut self, sectors: u64) -> Result<(), DiskFault> {
         if add_zeros(&mut self.contents, sectors).is_err() {
-            self.failures = self.failures.saturating_add(1);
-            return Err(DiskFault);
+            return Err(failed(&mut self.failures));
         }
         Ok(())
     }

@@ -9,4 +9,4 @@ returns-clause-time c =
 
 pub returns-then-is_err-clause-time : goal.returns-then-is_err-clause-time
 returns-then-is_err-clause-time c =
-    extends_failed _ _ _ (unknown_extends _ _ _ c.add_zeros.ensures.no_shorter c.add_zeros.ensures.no_longer) c.saturating_add.ensures.more
+    extends_failed _ _ _ (unknown_extends _ _ _ c.add_zeros.ensures.no_shorter c.add_zeros.ensures.no_longer) c.failed.ensures.later
