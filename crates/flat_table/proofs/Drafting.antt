@@ -10,7 +10,7 @@ use Rattle.retrograde.specs.Stored.{Stored, loaded}
 use Rattle.table.specs.Fitting.{FitsTogether}
 use Rattle.game_file.specs.Calls.{IsPut, IsNotPut}
 use Rattle.game_file.specs.Causes.{FileLoadCause, FileCommitCause}
-use Rattle.game_file.specs.Kept.{Kept, kept_as}
+use Rattle.game_file.specs.Kept.{Kept, counts_kept, kept_as}
 use Rattle.game_file.specs.State.{State, count_behind}
 use Rattle.flat_table.specs.Slot.{commits_in}
 use Rattle.game_file.specs.declared.fault.FileFault.{FileFault}
@@ -44,7 +44,7 @@ both_err (Err e) f p q = f p q
 
 -- a file with these pages that keeps this
 abbrev with_kept : Store → Option Kept → State
-with_kept s k = record { disk = s.disk; failures = s.failures; capacity = length s.marks; closed = s.closed; commits = commits_in s.root; kept = k }
+with_kept s k = record { disk = s.disk; failures = s.failures; capacity = length s.marks; closed = s.closed; commits = commits_in s.root; counts = counts_kept k; kept = k }
 
 -- a file that was not written is in the same state
 same_state : (was mid : FlatFile) → IsUnwrittenFile was mid → state_of mid ≡ state_of was

@@ -8,7 +8,7 @@ use Rattle.flat_table.specs.File.{FlatFile, IsFile, IsGame, IsBacked, kept_in, k
 use Rattle.game_file.specs.Kept.{Kept}
 use Rattle.flat_table.specs.aid.StoredLaws.{a_file_is_kept}
 use Rattle.game_file.specs.Calls.{IsPut, IsNotPut}
-use Rattle.game_file.specs.Kept.{packing_kept, text_kept}
+use Rattle.game_file.specs.Kept.{counts_kept, packing_kept, text_kept}
 use Rattle.game_file.specs.State.{count_behind}
 use Rattle.flat_table.specs.Slot.{commits_in}
 use Rattle.game_file.specs.Stops.{LeavesEither, LeavesTable}
@@ -67,6 +67,7 @@ put_whole is old new commits put = record {
 pub not_put_whole : (is : Kept) (old new : FlatFile) → new.store.root ≡ old.store.root → IsNotPutInFile is old new → IsNotPut Stores is (state_of old) (state_of new)
 not_put_whole is old new root left = record {
   commits = ap commits_in root;
+  counts = ap (λ (game : Option Game). counts_kept (kept_of game)) left.game;
   text = ap (λ (game : Option Game). text_kept (kept_of game)) left.game;
   packing = ap (λ (game : Option Game). packing_kept (kept_of game)) left.game;
   kept = λ honest. ap kept_of left.game;

@@ -2,6 +2,7 @@
 use Rattle.std.specs.Prelude.{length, Option}
 use Rattle.page_store.specs.Store.{Store}
 use Rattle.flat_table.specs.Slot.{commits_in}
+use Rattle.game_file.specs.Kept.{counts_kept}
 use Rattle.game_file.specs.State.{State}
 use Rattle.flat_table.specs.declared.game.Game.{Game}
 use Rattle.flat_table.specs.File.{FlatFile, kept_of}
@@ -18,5 +19,6 @@ state_of file = record {
   capacity = length file.store.marks;
   closed = file.store.closed;
   commits = commits_in file.store.root;
+  counts = counts_kept (kept_of file.game);
   kept = kept_of file.game;
 }

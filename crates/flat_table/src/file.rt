@@ -18,7 +18,7 @@ ghost use Rattle.flat_table.specs.aid.Calls.{IsPutInFile, IsNotPutInFile};
 ghost use Rattle.flat_table.specs.aid.Causes.{PutCause};
 ghost use Rattle.flat_table.specs.Pages.{ArePages};
 ghost use Rattle.flat_table.specs.aid.Drafts.{few_stored};
-ghost use Rattle.flat_table.specs.aid.Whole.{the_table_is_kept, unwritten_ahead, unwritten_asked, memory_cause};
+ghost use Rattle.flat_table.specs.aid.Whole.{the_table_is_kept, unwritten_ahead, unwritten_asked, memory_cause, whole_counts};
 ghost use Rattle.position_pack.specs.declared.limits.TheConstants.{MAX_PACKED};
 ghost use Rattle.rbg_game.specs.declared.limits.TheConstants.{MAX_TEXT_BYTES};
 
@@ -184,6 +184,8 @@ impl<D: SectorDisk> GameFile for FlatTable<D> {
     ghost whole_stored = { λ t kept whole honest is.
         let both = the_table_is_kept (store_in t.store) t.draft t.game kept whole.0 whole.1 is in
         (tt, both.0, both.1) };
+
+    ghost whole_counts = { λ t whole. whole_counts t.draft t.game whole.1 };
 
     ghost whole_stays = { λ old new whole stays. (
       (stays.unwritten.stands whole.0, stays.idle whole.1),

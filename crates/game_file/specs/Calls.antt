@@ -49,6 +49,7 @@ module _ (Stores : Layout) where
   -- what was kept still is, and a stop leaves it; where a write or a sync failed, it leaves that or what should have been put
   pub record IsNotPut (is : Kept) (old new : State) : Type 0 where
     pub commits : new.commits ≡ old.commits
+    pub counts : new.counts ≡ old.counts
     pub text : text_kept new.kept ≡ text_kept old.kept
     pub packing : packing_kept new.kept ≡ packing_kept old.kept
     pub kept : IsTrue old.disk.honest → new.kept ≡ old.kept
@@ -59,6 +60,7 @@ module _ (Stores : Layout) where
   pub record IsNothingPut (old new : State) : Type 0 where
     pub ahead : GoesAhead old new
     pub commits : new.commits ≡ old.commits
+    pub counts : new.counts ≡ old.counts
     pub text : text_kept new.kept ≡ text_kept old.kept
     pub packing : packing_kept new.kept ≡ packing_kept old.kept
     pub kept : IsTrue old.disk.honest → new.kept ≡ old.kept
@@ -69,6 +71,7 @@ module _ (Stores : Layout) where
   pub record IsAsked (old new : State) : Type 0 where
     pub ahead : GoesAhead old new
     pub commits : new.commits ≡ old.commits
+    pub counts : new.counts ≡ old.counts
     pub text : text_kept new.kept ≡ text_kept old.kept
     pub packing : packing_kept new.kept ≡ packing_kept old.kept
     pub kept : IsTrue old.disk.honest → new.kept ≡ old.kept

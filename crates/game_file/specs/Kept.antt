@@ -1,7 +1,9 @@
 -- What a file keeps of a game, and which pictures of a disk store it.
 use Rattle.std.specs.Prelude.{ℕ, List, Option, None, Some}
 use Rattle.sector_disk.specs.Disk.{Picture}
+use Rattle.retrograde.specs.Changes.{counts_of}
 use Rattle.retrograde.specs.Stored.{Stored}
+use Rattle.retrograde.specs.declared.records.Counts.{Counts}
 use Rattle.position_pack.specs.declared.kind.PackingKind.{PackingKind}
 
 -- what is kept of a game: its text, how its positions are packed, and its table
@@ -23,6 +25,11 @@ text_kept (Some kept) = Some kept.text
 abbrev pub packing_kept : Option Kept → Option PackingKind
 packing_kept None = None
 packing_kept (Some kept) = Some kept.packing
+
+-- the counts of the table of what is kept, if a game is loaded
+abbrev pub counts_kept : Option Kept → Option Counts
+counts_kept None = None
+counts_kept (Some kept) = Some (counts_of kept.table)
 
 -- which picture of a disk stores which table, or that none of a game is there: each layout of a file says it in its own way
 abbrev pub Layout : Type 1

@@ -2,16 +2,19 @@
 use Rattle.std.specs.Prelude.{◌≡◌, ℕ, ◌+◌, ◌%◌, ◌^◌, ◌≤◌, Bool, Option}
 use Rattle.sector_disk.specs.Disk.{Disk, size, GoesOn}
 use Rattle.page_store.specs.Store.{ClosesByWrites}
+use Rattle.retrograde.specs.declared.records.Counts.{Counts}
 use Rattle.game_file.specs.Kept.{Kept}
 
 -- its disk, how often that has failed, how many pages there are, whether a write or a sync has failed since it was opened, how many
--- commits it counts since it was made, and the text, packing and table of the last one, if a game is loaded
+-- commits it counts since it was made, and of the last one, if a game is loaded, the counts that the file tells, and the text, the
+-- packing and the table
 pub record State : Type 0 where
   pub disk : Disk
   pub failures : ℕ
   pub capacity : ℕ
   pub closed : Bool
   pub commits : ℕ
+  pub counts : Option Counts
   pub kept : Option Kept
 
 -- the next count: 0 follows the greatest number of 64 bits

@@ -1,5 +1,5 @@
 //! What a game's table in a file promises.
-ghost use Rattle.std.specs.Prelude.{◌≡◌, ◌≢◌, ◌≤◌, ◌^◌, ℕ, true, false, Option, None, Some, length, OnOk, OnErr, IfOk, IfErr, IfSome};
+ghost use Rattle.std.specs.Prelude.{◌≡◌, ◌≢◌, ◌≤◌, ◌^◌, ℕ, true, false, Option, None, Some, length, OnOk, OnErr, IfOk, IfErr, IfSome, option_map};
 ghost use Rattle.std.specs.Prelude.{IfNone, IsTrue};
 ghost use Rattle.sector_disk.specs.Disk.{Picture};
 ghost use Rattle.root_pair.specs.Root.{IsTablePicture};
@@ -146,6 +146,10 @@ pub trait GameFile: Table {
     /// The table of a file that is whole is what it keeps.
     ghost whole_stored: { (file : Self) (kept : Kept) → is_whole file → IsTrue (state file).disk.honest → (state file).kept ≡ Some kept
         → Self.is_honest file × (Self.stored file ≡ kept.table) × IsTable kept.table };
+
+    /// What a file that is whole tells of its counts are those of the table.
+    ghost whole_counts: { (file : Self) → is_whole file
+        → (state file).counts ≡ option_map (λ kept. Self.counted file) (state file).kept };
 
     /// A question leaves a file whole.
     ghost whole_stays: { (old new : Self) → is_whole old → Self.stays old new → is_whole new × IsAsked stores (state old) (state new) };

@@ -103,6 +103,7 @@ module _ (Stores : Layout) (text start : List ℕ) (game : Game) (reads : Reads 
     step = record { does = left.kept; reason = load_cause fault long cause };
     stops = record {
       commits = left.commits;
+      counts = left.counts;
       text = left.text;
       packing = left.packing;
       same = left.kept;

@@ -21,6 +21,7 @@ nothing_done Stores command state fault leaves step = record {
   step = step;
   stops = record {
     commits = refl;
+    counts = refl;
     text = refl;
     packing = refl;
     same = λ honest. refl;

@@ -152,6 +152,7 @@ module _ (Stores : Layout) (old new : State) (source : Compiled) (k : Kept) (mad
     step = record { does = left.kept; reason = keep_cause fault cause };
     stops = record {
       commits = left.commits;
+      counts = left.counts;
       text = left.text;
       packing = left.packing;
       same = left.kept;
@@ -249,6 +250,7 @@ module _ (Stores : Layout) (old new : State) (source : Compiled) (k : Kept) (mad
       step = record { does = given.kept; reason = work_cause fault cause consistent left };
       stops = record {
         commits = given.commits;
+        counts = given.counts;
         text = given.text;
         packing = given.packing;
         same = given.kept;

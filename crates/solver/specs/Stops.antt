@@ -11,11 +11,12 @@ module _ (Stores : Layout) where
     pub since : IsTrue old.disk.honest → LeavesEither Stores old.disk new.disk old.kept new.kept
     pub now : IsTrue old.disk.honest → LeavesNow Stores new.disk new.kept
 
-  -- a command is refused: the count of commits, the text and the packing are as they were, whatever the disk does; on an honest one
+  -- a command is refused: the count of commits, the counts, the text and the packing are as they were, whatever the disk does; on an honest one
   -- what was kept is, and a stop since the command began leaves that; but if a write or a sync has failed, it leaves that or one that
   -- the command may have come to
   pub record StopsRefused (Next : Option Kept → Type 0) (old new : State) : Type 0 where
     pub commits : new.commits ≡ old.commits
+    pub counts : new.counts ≡ old.counts
     pub text : text_kept new.kept ≡ text_kept old.kept
     pub packing : packing_kept new.kept ≡ packing_kept old.kept
     pub same : IsTrue old.disk.honest → new.kept ≡ old.kept

@@ -216,6 +216,7 @@ impl<F: GameFile> FileSolver<F> {
     /// How far the table of the last commit is; none where no game is loaded. It takes no memory and always answers, of a
     /// closed solver too.
     pub fn status(&self) -> Option<Counts>
+        ensures told { IsReady self.now → result ≡ (state self.now).counts }
         ensures counts { IsReady self.now → IsTrue (state self.now).disk.honest
             → result ≡ option_map (λ kept. counts_of kept.table) (state self.now).kept }
         ensures none { (result ≡ None) ↔ ((state self.now).kept ≡ None) }

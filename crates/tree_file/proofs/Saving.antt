@@ -15,7 +15,7 @@ use Rattle.page_store.specs.declared.marks.Mark.TheVariants.{Committed, Waiting,
 use Rattle.page_store.specs.Marks.{mark, rests}
 use Rattle.page_store.specs.Spelling.{IsCalm}
 use Rattle.page_store.specs.aid.Works.{closes_same, closes_then}
-use Rattle.page_store.specs.Store.{Store, IsSoundStore, StoreWorks, IsRemarked, reads}
+use Rattle.page_store.specs.Store.{Store, IsSoundStore, StoreWorks, StoreCloses, IsRemarked, reads}
 use Rattle.retrograde.specs.Stored.{Stored, IsTable}
 use Rattle.root_slot.specs.Fields.{commits_in}
 use Rattle.game_file.specs.Calls.{IsPut, IsNotPut, IsNothingPut}
@@ -31,7 +31,7 @@ use Rattle.tree_table.specs.Working.{HoldsTable, HoldsWork, table_now}
 use Rattle.tree_table.specs.aid.Keeping.{kept_is_held}
 use Rattle.tree_table.specs.aid.Standing.{still_then, was_honest, works_still}
 use Rattle.tree_file.specs.Calls.{FileGoesOn}
-use Rattle.tree_file.specs.File.{File, NamesSlot, IsWholeFile, kept_of, kept_with, state_of}
+use Rattle.tree_file.specs.File.{File, NamesSlot, IsWholeFile, kept_of, kept_with, counts_told, state_of}
 use Rattle.tree_file.specs.aid.Whole.{again_kept, again_packing, again_text, again_whole, kept_spells, works_leaves}
 
 -- the disk of a later state is that of another
@@ -66,6 +66,7 @@ module _ (was mid new : File) (whole : IsWholeFile was) (works : StoreWorks was.
   given_up_kept = record {
     ahead = given_up_ahead;
     commits = ap commits_in all_still.root;
+    counts = ap counts_told (new_game ∙ game);
     text = again_text was new whole all_still (new_game ∙ game) (new_text ∙ text) calm;
     packing = again_packing was new whole all_still (new_game ∙ game) (new_text ∙ text) calm;
     kept = again_kept was new whole all_still (new_game ∙ game) (new_text ∙ text) calm;
@@ -190,12 +191,27 @@ module _ (was new : File) (is : Kept) (whole : IsWholeFile was) (still : IsStill
       → IsNotPut StoresTrees is (state_of was) (state_of new)
   not_put leaves either = record {
     commits = ap commits_in still.root;
+    counts = ap counts_told game;
     text = again_text was new whole still game text calm;
     packing = again_packing was new whole still game text calm;
     kept = again_kept was new whole still game text calm;
     leaves = leaves;
     either = either;
   }
+
+-- it goes back behind a call that was refused: a later state of the same file
+pub refused_ahead : (was : File) (left : Store) (new : File) → GoesOn was.work.store.disk left.disk → size left.disk ≡ size was.work.store.disk
+    → was.work.store.failures ≤ left.failures → length left.marks ≡ length was.work.store.marks → StoreCloses was.work.store left
+    → IsRemarked left new.work.store → IsStill left new.work.store → GoesAhead (state_of was) (state_of new)
+refused_ahead was left new goes_on same_size failures same_pages closes others still =
+    let same : new.work.store.disk.failed_writes ≡ left.disk.failed_writes = ap (λ (d : Disk). d.failed_writes) others.disk in
+    record {
+      goes_on = goes_on_trans goes_on still.goes_on;
+      same_size = ap size others.disk ∙ same_size;
+      failures = omega (arith, failures, others.failures);
+      capacity = still.same_pages ∙ same_pages;
+      closes = closes_then goes_on.failed_writes (omega (arith, same)) closes (closes_same others.closed same);
+    }
 
 -- why it is not committed
 pub why_not : (was mid new : File) (table now : Stored (List ℕ)) (left : Store) (fault : PageFault) → StoreWorks was.work.store mid.work.store

@@ -26,7 +26,7 @@ use Rattle.table.specs.declared.fault.TableFault.TheVariants.{Disk as DiskFailed
 use Rattle.tree_table.specs.Causes.{IsNoTable, ReadCause}
 use Rattle.tree_table.specs.aid.Standing.{taken_still, let_go_still, works_still}
 use Rattle.tree_table.specs.aid.Versions.{version_taken}
-use Rattle.tree_file.specs.File.{File, file_of, IsWholeFile, NamesSlot, kept_of, kept_with, state_of}
+use Rattle.tree_file.specs.File.{File, file_of, IsWholeFile, NamesSlot, kept_of, kept_with, counts_told, state_of}
 use Rattle.game_file.specs.Causes.{FileVersionCause}
 use Rattle.tree_file.specs.aid.Whole.{again_kept, again_packing, again_text, again_whole}
 use Rattle.tree_file.proofs.Saving.{calm_sealed}
@@ -55,6 +55,7 @@ module _ (was new : File) (whole : IsWholeFile was) (still : IsStill was.work.st
         capacity = still.same_pages i;
         closed = closed i;
         commits = commits_in (still.root i);
+        counts = counts_told (game i);
         kept = kept i;
       }
 

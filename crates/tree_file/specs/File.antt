@@ -5,6 +5,7 @@ use Rattle.page_store.specs.Marks.{mark}
 use Rattle.page_store.specs.Spelling.{IsCalm}
 use Rattle.page_store.specs.Store.{IsSoundStore, reads}
 use Rattle.root_slot.specs.Fields.{commits_in}
+use Rattle.retrograde.specs.declared.records.Counts.{Counts}
 use Rattle.game_file.specs.Kept.{Kept, kept_as}
 use Rattle.game_file.specs.State.{State}
 use Rattle.tree_table.specs.declared.slot.TreeSlot.{TreeSlot}
@@ -32,6 +33,11 @@ kept_with (Some slot) text bytes = Some (kept_as text slot.packing (table_in slo
 abbrev pub kept_of : File → Option Kept
 kept_of file = kept_with file.game file.work.text (reads file.work.store)
 
+-- the counts that a slot tells, if a game is loaded
+abbrev pub counts_told : Option TreeSlot → Option Counts
+counts_told None = None
+counts_told (Some slot) = Some slot.sizes.counts
+
 -- what is stated of it as of a table's file of any layout
 abbrev pub state_of : File → State
 state_of file = record {
@@ -40,6 +46,7 @@ state_of file = record {
   capacity = length file.work.store.marks;
   closed = file.work.store.closed;
   commits = commits_in file.work.store.root;
+  counts = counts_told file.game;
   kept = kept_of file;
 }
 

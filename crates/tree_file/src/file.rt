@@ -16,7 +16,7 @@ ghost use Rattle.tree_file.specs.Older.{IsOlderTable};
 ghost use Rattle.tree_table.specs.Versions.{KeepsHolds};
 ghost use Rattle.tree_table.specs.aid.Versions.{keeps_holds_then, works_keep_holds};
 ghost use Rattle.tree_file.specs.aid.Faults.{load_fault};
-ghost use Rattle.tree_file.specs.aid.Whole.{whole_leaves, whole_stored, whole_stays, works_ahead, fails_for, older_none};
+ghost use Rattle.tree_file.specs.aid.Whole.{whole_counts, whole_leaves, whole_stored, whole_stays, works_ahead, fails_for, older_none};
 
 use crate::on_disk::PagesOnDisk;
 use crate::open::{Opened, read_all};
@@ -121,6 +121,8 @@ impl<P: PagesOnDisk> GameFile for TreeFile<P> {
     ghost whole_leaves = { λ t whole honest is_open. whole_leaves (file_in t) whole honest is_open };
 
     ghost whole_stored = { λ t kept whole honest is. whole_stored (file_in t) kept whole honest is };
+
+    ghost whole_counts = { λ t whole. whole_counts (file_in t) whole };
 
     ghost whole_stays = { λ old new whole stays. whole_stays (file_in old) (file_in new) (P.sound new.table.store) whole stays };
 

@@ -4,7 +4,7 @@ ghost use Rattle.sector_disk.specs.Disk.{GoesOn, size};
 ghost use Rattle.page_store.specs.declared.marks.Mark.TheVariants.{Waiting};
 ghost use Rattle.page_store.specs.Marks.{mark as mark_of};
 ghost use Rattle.page_store.specs.Spelling.{IsCalm};
-ghost use Rattle.page_store.specs.Store.{StoreWorks};
+ghost use Rattle.page_store.specs.Store.{StoreWorks, StoreCloses};
 ghost use Rattle.retrograde.specs.Stored.{loaded};
 ghost use Rattle.table.specs.declared.fault.TableFault.TheVariants.{Disk};
 ghost use Rattle.game_file.specs.Kept.{kept_as};
@@ -118,6 +118,7 @@ pub fn load<P: Pages>(
     ensures open { OnOk result ((P.store store.new).closed ≡ false) }
     ensures still { IfErr result (λ fault. fault ≢ Disk → (P.store store.new).closed ≡ (P.store store.old).closed) }
     ensures shut { (P.store store.new).closed ≡ false → (P.store store.old).closed ≡ false }
+    ensures closes { StoreCloses (P.store store.old) (P.store store.new) }
     ensures cause { IfErr result (StartCause (length text.now) (P.store store.old) (P.store store.new)) }
 {
     let slot = first_table(alloc, store, text, packing, start)?;

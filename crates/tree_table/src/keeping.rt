@@ -5,7 +5,7 @@ ghost use Rattle.page_store.specs.declared.marks.Mark.TheVariants.{Waiting};
 ghost use Rattle.page_store.specs.Causes.{StoreCommitCause};
 ghost use Rattle.page_store.specs.Marks.{mark as mark_of};
 ghost use Rattle.page_store.specs.Spelling.{IsCalm};
-ghost use Rattle.page_store.specs.Store.{Store, IsRemarked};
+ghost use Rattle.page_store.specs.Store.{Store, StoreCloses, IsRemarked};
 ghost use Rattle.retrograde.specs.Stored.{loaded};
 ghost use Rattle.table.specs.declared.fault.TableFault.TheVariants.{Disk};
 ghost use Rattle.game_file.specs.Kept.{Kept, kept_as};
@@ -142,6 +142,7 @@ impl<P: Pages> TreeTable<P> {
         ensures still { IfErr result (λ fault. fault ≢ PageFault.Disk
             → (work_in self.new).store.closed ≡ (work_in self.old).store.closed) }
         ensures shut { (work_in self.new).store.closed ≡ false → (work_in self.old).store.closed ≡ false }
+        ensures closes { StoreCloses (work_in self.old).store (work_in self.new).store }
         ensures cause { IfErr result (StoreCommitCause (work_in self.old).store (work_in self.new).store) }
     {
         let torn = self.torn;
@@ -189,6 +190,7 @@ impl<P: Pages> TreeTable<P> {
         ensures still { IfErr result (λ fault. fault ≢ Disk
             → (work_in self.new).store.closed ≡ (work_in self.old).store.closed) }
         ensures shut { (work_in self.new).store.closed ≡ false → (work_in self.old).store.closed ≡ false }
+        ensures closes { StoreCloses (work_in self.old).store (work_in self.new).store }
         ensures cause { IfErr result (StartCause (length text.items) (work_in self.old).store (work_in self.new).store) }
     {
         self.torn = true;

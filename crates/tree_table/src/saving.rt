@@ -3,7 +3,7 @@ ghost use Rattle.std.specs.Prelude.{◌≡◌, ◌≢◌, ◌≤◌, ℕ, List, 
 ghost use Rattle.sector_disk.specs.Disk.{GoesOn, size};
 ghost use Rattle.page_store.specs.Causes.{StoreCommitCause};
 ghost use Rattle.page_store.specs.Spelling.{IsCalm};
-ghost use Rattle.page_store.specs.Store.{Store, StoreWorks, IsCommitted, reads};
+ghost use Rattle.page_store.specs.Store.{Store, StoreWorks, StoreCloses, IsCommitted, reads};
 ghost use Rattle.game_file.specs.Kept.{Kept};
 ghost use Rattle.game_file.specs.Stops.{LeavesEither, LeavesTable};
 ghost use Rattle.root_slot.specs.Fields.{commits_in};
@@ -44,6 +44,7 @@ pub fn commit<P: Pages>(store: &mut P, commits: u64, slot: &TreeSlot) -> Result<
     ensures same_pages { length (P.store store.new).marks ≡ length (P.store store.old).marks }
     ensures still { IfErr result (λ fault. fault ≢ PageFault.Disk → (P.store store.new).closed ≡ (P.store store.old).closed) }
     ensures shut { (P.store store.new).closed ≡ false → (P.store store.old).closed ≡ false }
+    ensures closes { StoreCloses (P.store store.old) (P.store store.new) }
     ensures cause { IfErr result (StoreCommitCause (P.store store.old) (P.store store.new)) }
 {
     let root = game_slot(commits, slot);

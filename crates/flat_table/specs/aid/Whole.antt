@@ -1,5 +1,5 @@
 -- What a whole file promises as a table's file of any layout does.
-use Rattle.std.specs.Prelude.{◌≡◌, Option, None, Some, refl}
+use Rattle.std.specs.Prelude.{◌≡◌, Option, None, Some, option_map, refl}
 use Rattle.std.proofs.Common.{sym, ap, subst, arith}
 use Rattle.std.proofs.lemmas.Option.{same_Some}
 use Rattle.sector_disk.specs.aid.Moments.{goes_on_refl, leaves_now}
@@ -10,7 +10,8 @@ use Rattle.table.specs.declared.fault.TableFault.{TableFault}
 use Rattle.table.specs.declared.fault.TableFault.TheVariants.{OutOfMemory}
 use Rattle.game_file.specs.Calls.{IsAsked, IsNothingPut}
 use Rattle.game_file.specs.Causes.{FileTableCause}
-use Rattle.game_file.specs.Kept.{Kept, packing_kept, text_kept}
+use Rattle.retrograde.specs.Changes.{counts_of}
+use Rattle.game_file.specs.Kept.{Kept, counts_kept, packing_kept, text_kept}
 use Rattle.game_file.specs.State.{State, GoesAhead}
 use Rattle.page_store.specs.aid.Works.{closes_same}
 use Rattle.flat_table.specs.declared.game.Game.{Game}
@@ -35,6 +36,7 @@ same_pages : (s : Store) (was is : Option Game) → IsFile (file_of s was) → k
 same_pages s was is stands same = record {
   ahead = record { goes_on = goes_on_refl s.disk; same_size = refl; failures = omega arith; capacity = refl; closes = closes_same refl refl };
   commits = refl;
+  counts = ap counts_kept same;
   text = ap text_kept same;
   packing = ap packing_kept same;
   kept = λ honest. same;
@@ -62,6 +64,7 @@ unwritten_kept old new it same =
     record {
       ahead = asked.ahead;
       commits = asked.commits;
+      counts = asked.counts;
       text = asked.text;
       packing = asked.packing;
       kept = asked.kept;
@@ -71,3 +74,10 @@ unwritten_kept old new it same =
 -- want of memory needs no cause
 pub memory_cause : (old new : State) (fault : TableFault) → fault ≡ OutOfMemory → FileTableCause old new fault
 memory_cause old new fault is = subst (λ (f : TableFault). FileTableCause old new f) (sym is) tt
+
+-- what is told of its counts are those of the table
+pub whole_counts : (draft : Option MemTable) (game : Option Game) → draft ≡ None
+    → counts_kept (kept_of game) ≡ option_map (λ (k : Kept). counts_of (stored_now draft game)) (kept_of game)
+whole_counts (Some draft) game none = absurd (cc)
+whole_counts None None none = refl
+whole_counts None (Some game) none = refl

@@ -1,5 +1,5 @@
 -- What a whole file promises as a table's file of any layout does.
-use Rattle.std.specs.Prelude.{◌≡◌, ◌⊎◌, ℕ, Bool, true, false, List, length, Option, None, Some, IsTrue}
+use Rattle.std.specs.Prelude.{◌≡◌, ◌⊎◌, ℕ, Bool, true, false, List, length, Option, None, Some, option_map, IsTrue}
 use Rattle.std.proofs.Common.{inl, inr, refl, sym, ◌∙◌, ap, subst, arith}
 use Rattle.std.proofs.lemmas.Option.{same_Some}
 use mathlib.Core.Logic.{∥∥₁_elim}
@@ -33,7 +33,7 @@ use Rattle.tree_table.specs.aid.Spelling.{table_is}
 use Rattle.tree_table.specs.aid.Standing.{still_keeps, works_still}
 use Rattle.tree_file.specs.Calls.{FileStays, FileFails}
 use Rattle.tree_file.specs.Older.{IsOlderTable}
-use Rattle.tree_file.specs.File.{File, NamesSlot, IsWholeFile, kept_of, kept_with, state_of}
+use Rattle.tree_file.specs.File.{File, NamesSlot, IsWholeFile, kept_of, kept_with, counts_told, state_of}
 
 -- between commands a stop leaves what is kept
 pub whole_leaves : (file : File) → IsWholeFile file → IsTrue file.work.store.disk.honest → file.work.store.closed ≡ false
@@ -155,6 +155,16 @@ whole_stored file kept whole honest is =
         ap (λ (x : TreeSlot). table_in x (reads file.work.store)) slot
         ∙ ap (λ (k : Kept). k.table) (same_Some (kept_as file.work.text s.packing (table_in s (reads file.work.store))) kept some)
 
+-- the counts that the slot tells are those of the table at work
+pub whole_counts : (file : File) → IsWholeFile file
+    → counts_told file.game ≡ option_map (λ (k : Kept). file.work.slot.sizes.counts) (kept_of file)
+whole_counts file whole = of_game file.game whole.slot
+  where
+    of_game : (game : Option TreeSlot) → file.work.slot ≡ slot_or_bare game
+        → counts_told game ≡ option_map (λ (k : Kept). file.work.slot.sizes.counts) (kept_with game file.work.text (reads file.work.store))
+    of_game None slot = refl
+    of_game (Some s) slot = ap (λ (x : TreeSlot). Some x.sizes.counts) (sym slot)
+
 -- a question leaves it whole
 pub whole_stays : (old new : File) → IsSoundStore new.work.store → IsWholeFile old → FileStays old new
     → IsWholeFile new × IsAsked StoresTrees (state_of old) (state_of new)
@@ -170,6 +180,7 @@ whole_stays old new sound whole stays =
       record {
         ahead = works_ahead old new stays.work.works;
         commits = ap commits_in unchanged.root;
+        counts = ap counts_told stays.game;
         text = again_text old new whole still stays.game stays.work.text calm;
         packing = again_packing old new whole still stays.game stays.work.text calm;
         kept = again_kept old new whole still stays.game stays.work.text calm;

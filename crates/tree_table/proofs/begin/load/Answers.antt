@@ -3,6 +3,7 @@ use Rattle.sector_disk.specs.aid.Moments.{leaves_more, goes_on_trans, still_hone
 use Rattle.retrograde.specs.Stored.{loaded}
 use Rattle.game_file.specs.Kept.{kept_as}
 use Rattle.game_file.specs.Stops.{LeavesTable}
+use Rattle.page_store.specs.aid.Works.{closes_then}
 use Rattle.tree_table.specs.Held.{StoresTrees}
 use Rattle.tree_table.proofs.Committing.{held_on, committed_held, committed_calm, committed_stands}
 use Rattle.tree_table.proofs.Loading.{any_error, worked_on, vacant_leaves}
@@ -88,3 +89,11 @@ returns-in-Ok-clause-held g c =
 
 pub returns-in-Ok-clause-shut : goal.returns-in-Ok-clause-shut
 returns-in-Ok-clause-shut g c = λ is. c.first_table.ensures.works.closed (c.commit.ensures.shut is)
+
+pub returns-in-Ok-clause-closes : goal.returns-in-Ok-clause-closes
+returns-in-Ok-clause-closes g c =
+    closes_then c.first_table.ensures.works.goes_on.failed_writes c.commit.ensures.time.failed_writes c.first_table.ensures.works.closes c.commit.ensures.closes
+
+pub returns-in-Err-clause-closes : goal.returns-in-Err-clause-closes
+returns-in-Err-clause-closes g c =
+    closes_then c.first_table.ensures.works.goes_on.failed_writes c.commit.ensures.time.failed_writes c.first_table.ensures.works.closes c.commit.ensures.closes

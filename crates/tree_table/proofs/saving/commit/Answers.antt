@@ -112,3 +112,6 @@ returns-clause-held g c =
     let old = g.P.Pages.store c.args.store.now in
     let new = g.P.Pages.store c.commit.new.self in
     commits_keep_holds _ old new (commit_pages _ old new c.commit.result c.commit.ensures.ok c.commit.ensures.kept_marks) c.commit.ensures.commits
+
+pub returns-clause-closes : goal.returns-clause-closes
+returns-clause-closes g c = c.commit.ensures.commits.closes

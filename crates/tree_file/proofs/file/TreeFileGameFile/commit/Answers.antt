@@ -16,7 +16,7 @@ use Rattle.tree_file.specs.File.{file_of, kept_of, state_of}
 use Rattle.tree_file.specs.InFile.{file_in}
 use Rattle.tree_file.specs.aid.Backed.{IsBackedFile, backed_still}
 use Rattle.tree_file.specs.aid.Whole.{again_whole}
-use Rattle.tree_file.proofs.Saving.{calm_sealed, kept_packing_is, kept_text_is, not_put, put_now, put_whole, same_disk, why_not, worked}
+use Rattle.tree_file.proofs.Saving.{calm_sealed, kept_packing_is, kept_text_is, not_put, put_now, put_whole, refused_ahead, same_disk, why_not, worked}
 use Rattle.tree_file.proofs.file.TreeFileGameFile.commit.Goals as goal
 
 pub invariant_of-self : goal.invariant_of-self
@@ -112,3 +112,17 @@ returns-in-Err-clause-cause g c = λ begun kept whole is ahead.
     subst (λ (f : FileFault). FileCommitCause kept.table now (state_of was) (state_of new) f) (sym c.into.ensures)
     (why_not was (file_in self) new kept.table now (work_in c.save.new.self).store c.in-Err.fault ahead.work.works ahead.work.still c.restore.ensures.others
     c.in-Err.ensures.cause)
+
+pub returns-in-Ok-clause-ahead : goal.returns-in-Ok-clause-ahead
+returns-in-Ok-clause-ahead g c = record {
+  goes_on = c.save.ensures.time;
+  same_size = c.save.ensures.same_size;
+  failures = c.save.ensures.failures;
+  capacity = c.save.ensures.same_pages;
+  closes = c.save.ensures.closes;
+}
+
+pub returns-in-Err-clause-ahead : goal.returns-in-Err-clause-ahead
+returns-in-Err-clause-ahead g c =
+    refused_ahead (file_in c.args.self.now) (work_in c.save.new.self).store (file_of (work_in c.restore.new.self) c.args.self.now.game) c.save.ensures.time c.save.ensures.same_size
+    c.save.ensures.failures c.save.ensures.same_pages c.save.ensures.closes c.restore.ensures.others c.restore.ensures.still

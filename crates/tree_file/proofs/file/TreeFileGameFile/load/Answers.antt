@@ -14,7 +14,7 @@ use Rattle.tree_file.specs.File.{file_of, state_of}
 use Rattle.tree_file.specs.InFile.{file_in}
 use Rattle.tree_file.specs.aid.Whole.{again_whole}
 use Rattle.tree_file.proofs.Loading.{no_game, none_kept, nothing_put, so_refused, vacant, why_not_loaded}
-use Rattle.tree_file.proofs.Saving.{calm_sealed, not_put, put_now, put_whole, same_disk}
+use Rattle.tree_file.proofs.Saving.{calm_sealed, not_put, put_now, put_whole, refused_ahead, same_disk}
 use Rattle.tree_file.proofs.file.TreeFileGameFile.load.Goals as goal
 
 pub returns-then-is_empty-clause-err : goal.returns-then-is_empty-clause-err
@@ -116,3 +116,17 @@ returns-in-Err-clause-cause g c = λ whole unkept is_open.
     subst (λ (f : FileFault). FileLoadCause c.args.start.now.items (state_of was) (state_of new) f) (sym c.load_fault.ensures)
     (why_not_loaded c.args.start.now.items (length c.in_ok-text.text.items) was new left c.in-Err.fault c.capacity.result same c.restore.ensures.others
     c.in-Err.ensures.cause)
+
+pub returns-in-Ok-clause-ahead : goal.returns-in-Ok-clause-ahead
+returns-in-Ok-clause-ahead g c = record {
+  goes_on = c.start.ensures.time;
+  same_size = c.start.ensures.same_size;
+  failures = c.start.ensures.failures;
+  capacity = c.start.ensures.same_pages;
+  closes = c.start.ensures.closes;
+}
+
+pub returns-in-Err-clause-ahead : goal.returns-in-Err-clause-ahead
+returns-in-Err-clause-ahead g c =
+    refused_ahead (file_in c.args.self.now) (work_in c.start.new.self).store (file_of (work_in c.restore.new.self) c.args.self.now.game) c.start.ensures.time c.start.ensures.same_size
+    c.start.ensures.failures c.start.ensures.same_pages c.start.ensures.closes c.restore.ensures.others c.restore.ensures.still
