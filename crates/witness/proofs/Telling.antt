@@ -1,7 +1,7 @@
 -- What the table of the small game is, opened again, and what it tells.
 use Rattle.std.proofs.Common.{◌≡◌, ℕ, ◌⊎◌, inl, inr, ◌<◌, ◌^◌, List, [], ◌∷◌, length, get_or, replicate, Option, Some, None, refl, sym, ap, ◌∙◌, subst, arith}
 use Rattle.std.proofs.lemmas.List.{length-replicate}
-use Rattle.std.specs.Prelude.{◌/◌, min, IsTrue, IfSome, IsSome}
+use Rattle.std.specs.Prelude.{IsTrue, IfSome, IsSome}
 use Rattle.std.specs.List.{AllByRecursion}
 use Rattle.sector_disk.specs.Disk.{Picture, Shown, Disk, size, MayLeave, IsFresh}
 use Rattle.sector_disk.specs.aid.Moments.{reads_left}
@@ -102,7 +102,6 @@ module _ (Stores : Layout) where
       record {
         honest = subst (λ h. IsTrue h) (sym opened.from.goes_on.honest) behind.honest;
         is_open = opened.is_open;
-        pages = opened.capacity ∙ ap (λ n. min (n / 8) 1048576) (behind.as_long ∙ behind.behind.sectors);
         sound = subst IsSound (sym given) (sound_by behind.behind.sittings None headline.0 headline.1 tt);
         such = subst IsNoneOrIt (sym given) (own_table behind.behind.sittings None headline.0 behind.behind.own headline.1 tt);
       }
@@ -113,7 +112,7 @@ module _ (Stores : Layout) where
       → ((sittings : List Sitting) (old new : Option Kept) → LeadTo sittings old new → IsSound old → IsSound new)
       → IsOpened Stores disk count state → HasTable IsNoneOrIt state
   opened_again disk count state behind =
-      reopened disk count state (record { honest = behind.honest; disk = disk; behind = behind; as_long = refl; left = reads_left disk })
+      reopened disk count state (record { honest = behind.honest; disk = disk; behind = behind; left = reads_left disk })
 
   unlucky : (before now : ℕ) (why : SolverFault) → IsUnlucky before now why → IsWantOfRoom why
   unlucky before now why (inl failed) = subst IsWantOfRoom (sym failed.0) tt
@@ -147,7 +146,6 @@ module _ (Stores : Layout) where
   load_done old new table ahead done sound = record {
     honest = subst (λ h. IsTrue h) (sym ahead.goes_on.honest) table.honest;
     is_open = done.stops.is_open;
-    pages = ahead.capacity ∙ table.pages;
     sound = sound;
     such = subst IsIt (sym (done.step.does table.honest).is) refl;
   }
@@ -186,7 +184,6 @@ module _ (Stores : Layout) where
   work_done units old new done counts all_units table ahead is_done sound = record {
     honest = subst (λ h. IsTrue h) (sym ahead.goes_on.honest) table.honest;
     is_open = is_done.stops.is_open;
-    pages = ahead.capacity ∙ table.pages;
     sound = sound;
     such = subst IsItFinished (sym works.worked) (works.same_text ∙ text, finished all_done.all);
   }

@@ -49,7 +49,6 @@ module _ (Stores : Layout) where
     pub honest : IsTrue found.honest
     pub disk : Disk
     pub behind : IsBehindSittings disk
-    pub as_long : size found ≡ size disk
     pub left : MayLeave disk.now found.now.contents
 
 -- no game is loaded, or it is the small one
@@ -65,10 +64,9 @@ IsIt = OfKept (λ kept. kept.text ≡ witness_text)
 abbrev pub IsItFinished : Option Kept → Type 0
 IsItFinished = OfKept (λ kept. (kept.text ≡ witness_text) × IsFinished (view_of kept.table))
 
--- a solver that is open, on an honest disk of 32 pages, with a locally sound table of which this holds
+-- a solver that is open, on an honest disk, with a locally sound table of which this holds
 pub record HasTable (Such : Option Kept → Type 0) (state : State) : Type 0 where
   pub honest : IsTrue state.disk.honest
   pub is_open : state.closed ≡ false
-  pub pages : state.capacity ≡ 32
   pub sound : IsSound state.kept
   pub such : Such state.kept

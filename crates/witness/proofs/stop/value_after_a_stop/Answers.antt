@@ -2,12 +2,10 @@ use Rattle.witness.proofs.stop.value_after_a_stop.Goals as goal
 
 pub value_of-requires : goal.value_of-requires
 value_of-requires c =
-    let exact = rw c.into_inner.ensures at c.in_ok-found.ensures.exact in
     record {
       honest = c.in_ok-found.ensures.honest;
       disk = _;
       behind = c.in_ok-used.ensures.used;
-      as_long = exact.as_long;
       left = rw c.into_inner.ensures at c.in_ok-found.ensures.picture;
     }
 
