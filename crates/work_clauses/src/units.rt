@@ -1,5 +1,5 @@
-//! One unit of work.
-ghost use Rattle.std.specs.Prelude.{◌<◌, ◌≤◌, ◌^◌, IfErr, OnOk};
+//! One unit of work of either kind.
+ghost use Rattle.std.specs.Prelude.{◌≡◌, ◌<◌, ◌≤◌, ◌^◌, IfErr, OnOk};
 ghost use Rattle.retrograde.specs.Sound.{IsLocallySound};
 ghost use Rattle.frontier.specs.Causes.{HasUnitCause};
 ghost use Rattle.frontier.specs.Done.{IsUnitDone};
@@ -41,4 +41,17 @@ pub fn refused_expansion<M: MoveSource, T: Table>(
     ensures { IfErr result (HasUnitCause (M.graph source.now) (M.is_wide source.now) (T.stored asked.old)) }
 {
     frontier::expand_one(alloc, source, asked)
+}
+
+/// `done` of `settle_one`.
+pub fn process<M: MoveSource, T: Table>(source: &M, table: &mut T) -> Result<u32, StepFault>
+    requires source { M.is_sound source.now }
+    requires expanded { (T.counted table.old).expanded ≡ (T.counted table.old).known }
+    requires waiting { (T.counted table.old).processed < (T.counted table.old).settled }
+    requires limit { (T.counted table.old).known ≤ 2 ^ 24 }
+    requires honest { T.is_honest table.old }
+    requires sound { IsLocallySound (M.graph source.now) (M.is_wide source.now) (T.stored table.old) }
+    ensures { OnOk result (IsUnitDone (M.graph source.now) (M.is_wide source.now) (T.stored table.old) (T.stored table.new)) }
+{
+    settle::settle_one(source, table)
 }
