@@ -5,7 +5,7 @@ ghost use Rattle.retrograde.specs.Stored.{IsTable, view_of, expanded_count};
 ghost use Rattle.table.specs.Memory.{bytes_of_each};
 ghost use Rattle.table.specs.Faults.{NeedsNoPage};
 ghost use Rattle.audit.specs.Causes.{OfTableFault, HasWide};
-ghost use Rattle.audit.specs.aid.Edges.{CountsIf, IsMove, AreArrivals};
+ghost use Rattle.audit.specs.aid.Edges.{CountsIf, IsMoveEdge, AreArrivals};
 ghost use Rattle.audit.specs.declared.fault.AuditFault.TheVariants.{TooWide};
 
 use crate::edges::has_edge;
@@ -84,7 +84,7 @@ fn count_moves<M: MoveSource, T: Table>(
     requires lengths { length arrivals.old.items ≡ (T.counted table.old).known }
     ensures counted { T.is_honest table.old → IsTable (T.stored table.old) → from < expanded_count (T.stored table.old)
         → OnOk result ((i : ℕ) (x : List ℕ) → HasNumber (view_of (T.stored table.old)) i x
-        → CountsIf (IsMove (M.graph source.now) (T.stored table.old) i x from) arrivals.old.items arrivals.new.items i) }
+        → CountsIf (IsMoveEdge (M.graph source.now) (T.stored table.old) i x from) arrivals.old.items arrivals.new.items i) }
     ensures lengths { length arrivals.new.items ≡ length arrivals.old.items }
     ensures wide { T.is_honest table.old → from < expanded_count (T.stored table.old) → result ≡ Err TooWide
         → HasWide (M.is_wide source.now) (T.stored table.old) }

@@ -3,7 +3,7 @@ ghost use Rattle.std.specs.Prelude.{◌≡◌, ◌≤◌, ◌<◌, false, length
 ghost use Rattle.page_store.specs.Causes.{NewCause, PageWriteCause};
 ghost use Rattle.page_store.specs.Marks.{mark as mark_of, AreCut, AreDiscarded};
 ghost use Rattle.page_store.specs.Pages.{AllWait};
-ghost use Rattle.page_store.specs.Store.{IsCommitted, IsGrown, IsTaken, IsLetGo};
+ghost use Rattle.page_store.specs.Store.{IsCommitted, IsStoreGrown, IsHoldTaken, IsLetGo};
 ghost use Rattle.page_store.specs.declared.limits.TheConstants.{MAX_PAGES};
 ghost use Rattle.page_store.specs.declared.marks.Mark.TheVariants.{Fresh};
 
@@ -66,14 +66,14 @@ pub fn grow<P: Pages>(
     requires some { 1 ≤ length (P.store store.old).marks }
     requires more { length (P.store store.old).marks < pages }
     requires few { pages ≤ MAX_PAGES }
-    ensures { OnOk result (IsGrown root.now pages (P.store store.old) (P.store store.new)) }
+    ensures { OnOk result (IsStoreGrown root.now pages (P.store store.old) (P.store store.new)) }
 {
     store.grow(alloc, pages, root)
 }
 
 /// `some` of `Pages::hold`.
 pub fn hold<P: Pages>(store: &mut P) -> Option<Hold>
-    ensures { IfSome result (λ hold. IsTaken hold.place (P.store store.old) (P.store store.new)) }
+    ensures { IfSome result (λ hold. IsHoldTaken hold.place (P.store store.old) (P.store store.new)) }
 {
     store.hold()
 }

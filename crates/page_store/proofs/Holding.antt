@@ -10,7 +10,7 @@ use Rattle.page_store.specs.declared.holds.HoldPlace.TheVariants.{First, Second,
 use Rattle.page_store.specs.declared.holds.Holders.{Holders}
 use Rattle.page_store.specs.Holds.{Holds, any, needed_by, with_need, holders_at}
 use Rattle.page_store.specs.Marks.{mark, needs, is_past, is_rooted, stays, left, IsNeeded}
-use Rattle.page_store.specs.Store.{Store, IsSafe, IsSoundStore, IsTaken, IsLetGo}
+use Rattle.page_store.specs.Store.{Store, IsSafe, IsSoundStore, IsHoldTaken, IsLetGo}
 use Rattle.page_store.specs.aid.Holding.{need_is, other_need, need_any, some_need, need_within}
 
 -- two places are the same or not
@@ -41,7 +41,7 @@ rooted_stays Free is = cc
 rooted_stays Past is = cc
 
 -- a hold is taken
-module _ (place : HoldPlace) (old new : Store) (taken : IsTaken place old new) (sound : IsSoundStore old) where
+module _ (place : HoldPlace) (old new : Store) (taken : IsHoldTaken place old new) (sound : IsSoundStore old) where
   still_safe : IsSafe old → IsSafe new
   still_safe safe =
       let long : length new.marks ≡ length old.marks = ap (λ (ms : List Mark). length ms) taken.marks in

@@ -6,7 +6,7 @@ use Rattle.root_pair.specs.Root.{HoldsRoot}
 use Rattle.page_store.specs.declared.holds.HoldPlace.{HoldPlace}
 use Rattle.page_store.specs.Marks.{mark, rests, IsNeeded, IsKept}
 use Rattle.page_store.specs.Page.{page}
-use Rattle.page_store.specs.Store.{Store, reads, IsHeldBy, IsCommitted, IsGrown, IsLengthened, IsUnchanged}
+use Rattle.page_store.specs.Store.{Store, reads, IsHeldBy, IsCommitted, IsStoreGrown, IsLengthened, IsUnchanged}
 
 -- these pages alone, with the bytes that they have here, spell it
 pub record SpelledBy (named : ℕ → Type 0) (bytes : ℕ → List ℕ) (Spelt : (ℕ → List ℕ) → Type 0) : Type 0 where
@@ -43,7 +43,7 @@ pub record IsCarried (root : List ℕ) (was_named : ℕ → Type 0) (Was : (ℕ 
 -- such a refusal leaves it under the old root
 pub record IsCarriedGrown (root : List ℕ) (pages : ℕ) (named : ℕ → Type 0) (Spelt : (ℕ → List ℕ) → Type 0) (old new : Store) : Type 0 where
   pub stop : LeavesOnly old.disk new.disk (λ picture. Spells old.root (length old.marks) Spelt picture ⊎ Spells root pages Spelt picture)
-  pub done : IsGrown root pages old new → Stands named Spelt new
+  pub done : IsStoreGrown root pages old new → Stands named Spelt new
   pub left : IsLengthened old new → Stands named Spelt new
   pub left_stop : IsLengthened old new → LeavesOnly old.disk new.disk (Spells old.root (length old.marks) Spelt)
 

@@ -173,7 +173,7 @@ pub record IsLengthened (old new : Store) : Type 0 where
 
 -- the store grows to so many pages, by this root, whatever is answered: the disk may be longer afterwards; a stop leaves what was saved
 -- before, or this root, room for so many pages, and each page that was there as it reads; the holds stay, and their pages
-pub record Grows (root : List ℕ) (pages : ℕ) (old new : Store) : Type 0 where
+pub record StoreGrows (root : List ℕ) (pages : ℕ) (old new : Store) : Type 0 where
   pub goes_on : GoesOn old.disk new.disk
   pub no_shorter : size old.disk ≤ size new.disk
   pub failures : old.failures ≤ new.failures
@@ -185,14 +185,14 @@ pub record Grows (root : List ℕ) (pages : ℕ) (old new : Store) : Type 0 wher
 
 -- growing answers Ok: this root, each page that was there as it reads, the marks of a new beginning, where a page that was released
 -- stays for the holds that need it, and the new pages free
-pub record IsGrown (root : List ℕ) (pages : ℕ) (old new : Store) : Type 0 where
+pub record IsStoreGrown (root : List ℕ) (pages : ℕ) (old new : Store) : Type 0 where
   pub is : new.root ≡ root
   pub marks : AreGrown old.holds.of pages old.marks new.marks
   pub closed : new.closed ≡ false
   pub reads : IsTrue old.disk.honest → (p : ℕ) → 1 ≤ p → p < length old.marks → reads new p ≡ reads old p
 
 -- a hold was taken: it is this one, which was not, and it needs the pages that the committed root needs
-pub record IsTaken (place : HoldPlace) (old new : Store) : Type 0 where
+pub record IsHoldTaken (place : HoldPlace) (old new : Store) : Type 0 where
   pub disk : new.disk ≡ old.disk
   pub failures : new.failures ≡ old.failures
   pub root : new.root ≡ old.root

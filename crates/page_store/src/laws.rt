@@ -6,7 +6,7 @@ ghost use Rattle.page_store.specs.declared.marks.Mark.TheVariants.{Committed, Wa
 ghost use Rattle.page_store.specs.Holds.{needed_by};
 ghost use Rattle.page_store.specs.Marks.{mark, is_past, AreSealed, AreDiscarded};
 ghost use Rattle.page_store.specs.Store.{Store, reads, StopLeaves, IsSafe, StoreWorks, Commits, IsRemarked, IsCommitted, IsOpened};
-ghost use Rattle.page_store.specs.Store.{IsHeldBy, IsSoundStore, IsTaken, IsLetGo, Grows, IsGrown};
+ghost use Rattle.page_store.specs.Store.{IsHeldBy, IsSoundStore, IsHoldTaken, IsLetGo, StoreGrows, IsStoreGrown};
 ghost use Rattle.page_store.specs.Spelling.{SpelledBy, Stands, StandsHeld, IsPrepared, Spells, IsCarried, IsCarriedGrown, IsCalm, IsBack};
 
 /// What the pages of a root spell for a layer above: a chain, a tree, a whole table. Only proofs speak of it.
@@ -30,7 +30,7 @@ pub fn commit_carries<Was: Spelling, Is: Spelling>()
 /// under the new one with room for so many pages; after a refusal that left the store open, under the old.
 pub fn grow_carries<S: Spelling>()
     ensures { (root : List ℕ) (pages : ℕ) (old new : Store) → IsTrue old.disk.honest → IsSafe old → IsSoundStore old
-        → length old.marks < pages → IsCalm old → Stands S.named S.spelt old → Grows root pages old new
+        → length old.marks < pages → IsCalm old → Stands S.named S.spelt old → StoreGrows root pages old new
         → IsCarriedGrown root pages S.named S.spelt old new }
 {}
 
@@ -73,19 +73,19 @@ pub fn committed_calm()
 
 /// After growing nothing is handed out or released.
 pub fn grown_calm()
-    ensures { (root : List ℕ) (pages : ℕ) (old new : Store) → ((p : ℕ) → mark old.marks p ≡ Waiting → ⊥) → IsGrown root pages old new
+    ensures { (root : List ℕ) (pages : ℕ) (old new : Store) → ((p : ℕ) → mark old.marks p ≡ Waiting → ⊥) → IsStoreGrown root pages old new
         → IsCalm new }
 {}
 
 /// A hold that is taken needs the pages of the committed root, so that what they spell stands until it is let go.
 pub fn hold_stands<S: Spelling>()
-    ensures { (place : HoldPlace) (old new : Store) → ((p : ℕ) → mark old.marks p ≡ Waiting → ⊥) → IsTaken place old new
+    ensures { (place : HoldPlace) (old new : Store) → ((p : ℕ) → mark old.marks p ≡ Waiting → ⊥) → IsHoldTaken place old new
         → Stands S.named S.spelt old → StandsHeld place S.named S.spelt new }
 {}
 
 /// Another hold is taken: what a hold needs stands.
 pub fn hold_stands_held<S: Spelling>()
-    ensures { (place other : HoldPlace) (old new : Store) → IsSoundStore old → place ≢ other → IsTaken place old new
+    ensures { (place other : HoldPlace) (old new : Store) → IsSoundStore old → place ≢ other → IsHoldTaken place old new
         → StandsHeld other S.named S.spelt old → StandsHeld other S.named S.spelt new }
 {}
 
@@ -103,7 +103,7 @@ pub fn commit_stands_held<S: Spelling>()
 
 /// Growing keeps what a hold needs, whatever it answers.
 pub fn grow_stands_held<S: Spelling>()
-    ensures { (place : HoldPlace) (root : List ℕ) (pages : ℕ) (old new : Store) → IsTrue old.disk.honest → Grows root pages old new
+    ensures { (place : HoldPlace) (root : List ℕ) (pages : ℕ) (old new : Store) → IsTrue old.disk.honest → StoreGrows root pages old new
         → StandsHeld place S.named S.spelt old → StandsHeld place S.named S.spelt new }
 {}
 

@@ -1,7 +1,8 @@
 //! What each page is used for.
 ghost use Rattle.std.specs.Prelude.{◌≡◌, ◌≢◌, ◌≤◌, ◌<◌, ℕ, false, length, IfOk, IfSome, IfNone};
 ghost use Rattle.page_store.specs.Marks.{mark as mark_of, turned as turned_of, keeps, let_go as let_go_of, free_one as free_one_of, Turned};
-ghost use Rattle.page_store.specs.Marks.{IsMarked, free_count, committed as committed_of, left as left_of, AreCommitted, AreGrown, AreLeft, is_rooted as is_rooted_of};
+ghost use Rattle.page_store.specs.Marks.{IsMarked, free_count, committed as committed_of, left as left_of};
+ghost use Rattle.page_store.specs.Marks.{AreCommitted, AreGrown, AreLeft, is_rooted as is_rooted_of};
 ghost use Rattle.page_store.specs.Holds.{needed_by, with_need, any, holders_at};
 ghost use Rattle.page_store.specs.declared.marks.Mark.TheVariants.{Free};
 ghost use Rattle.page_store.specs.declared.limits.TheConstants.{MAX_PAGES};

@@ -7,7 +7,7 @@ ghost use Rattle.page_store.specs.Marks.{mark as mark_of, AreCut, AreSealed, Are
 ghost use Rattle.page_store.specs.Pages.{AllWait};
 ghost use Rattle.page_store.specs.declared.limits.TheConstants.{MAX_PAGES};
 ghost use Rattle.page_store.specs.Store.{Store, reads, SavedAs, StopLeaves, IsSoundStore, StoreWorks, IsUnchanged, IsRemarked, Commits};
-ghost use Rattle.page_store.specs.Store.{IsCommitted, IsShortened, Grows, IsGrown, SavedIn, IsTaken, IsLetGo};
+ghost use Rattle.page_store.specs.Store.{IsCommitted, IsShortened, StoreGrows, IsStoreGrown, SavedIn, IsHoldTaken, IsLetGo};
 ghost use Rattle.page_store.specs.Holds.{needed_by};
 ghost use Rattle.page_store.specs.declared.holds.HoldPlace.{HoldPlace};
 
@@ -134,10 +134,10 @@ pub trait Pages {
         requires some { 1 ≤ length (store self.old).marks }
         requires more { length (store self.old).marks < pages }
         requires few { pages ≤ MAX_PAGES }
-        ensures grows { Grows root.now pages (store self.old) (store self.new) }
+        ensures grows { StoreGrows root.now pages (store self.old) (store self.new) }
         ensures after { IsTrue (store self.old).disk.honest
             → OnOk result (StopLeaves (store self.new) (SavedIn root.now pages (store self.old))) }
-        ensures ok { OnOk result (IsGrown root.now pages (store self.old) (store self.new)) }
+        ensures ok { OnOk result (IsStoreGrown root.now pages (store self.old) (store self.new)) }
         ensures kept_pages { IsTrue (store self.old).disk.honest → (p : ℕ) → 1 ≤ p → p < length (store self.old).marks
             → reads (store self.new) p ≡ reads (store self.old) p }
         ensures kept_root { OnErr result ((store self.new).root ≡ (store self.old).root) }
@@ -155,7 +155,7 @@ pub trait Pages {
     /// Takes a hold on the committed root: until it is let go, the pages that this root needs are neither free nor written. None where
     /// four are taken. It takes no memory and always answers, of a closed store too.
     fn hold(&mut self) -> Option<Hold>
-        ensures some { IfSome result (λ hold. IsTaken hold.place (store self.old) (store self.new)) }
+        ensures some { IfSome result (λ hold. IsHoldTaken hold.place (store self.old) (store self.new)) }
         ensures none { IfNone result ((store self.new ≡ store self.old)
             × ((place : HoldPlace) → needed_by (store self.old).holds.taken place ≡ true)) };
 

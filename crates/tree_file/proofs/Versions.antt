@@ -7,7 +7,7 @@ use Rattle.page_store.specs.declared.holds.Hold.{Hold}
 use Rattle.page_store.specs.Holds.{needed_by}
 use Rattle.page_store.specs.aid.Works.{works_refl}
 use Rattle.page_store.specs.Marks.{mark, rests}
-use Rattle.page_store.specs.Store.{Store, IsSoundStore, IsTaken, IsLetGo, reads}
+use Rattle.page_store.specs.Store.{Store, IsSoundStore, IsHoldTaken, IsLetGo, reads}
 use Rattle.page_store.specs.aid.Carrying.{let_go_calm}
 use Rattle.page_store.specs.Spelling.{IsCalm}
 use Rattle.retrograde.specs.Stored.{Stored}
@@ -59,13 +59,13 @@ module _ (was new : File) (whole : IsWholeFile was) (still : IsStill was.work.st
         kept = kept i;
       }
 
-taken_calm : (place : HoldPlace) (old new : Store) → IsTaken place old new → IsCalm old → IsCalm new
+taken_calm : (place : HoldPlace) (old new : Store) → IsHoldTaken place old new → IsCalm old → IsCalm new
 taken_calm place old new taken calm = record {
   each = λ p. subst (λ (ms : List Mark). IsTrue (rests (mark ms p))) (sym taken.marks) (calm.each p);
 }
 
 -- a hold is taken
-module _ (place : HoldPlace) (was new : File) (whole : IsWholeFile was) (taken : IsTaken place was.work.store new.work.store)
+module _ (place : HoldPlace) (was new : File) (whole : IsWholeFile was) (taken : IsHoldTaken place was.work.store new.work.store)
     (sound : IsSoundStore new.work.store) (slot : new.work.slot ≡ was.work.slot) (text : new.work.text ≡ was.work.text)
     (torn : new.work.torn ≡ was.work.torn) (game : new.game ≡ was.game) where
   still : IsStill was.work.store new.work.store
@@ -136,14 +136,14 @@ module _ (place : HoldPlace) (was new : File) (whole : IsWholeFile was) (gone : 
       (let_go_calm place was.work.store new.work.store gone whole.calm) sound slot text torn game honest gone.disk gone.failures gone.closed
 
 -- a hold was taken, or was not
-pub hold_still : (old new : Work) (r : Option Hold) → IfSome r (λ hold. IsTaken hold.place old.store new.store)
+pub hold_still : (old new : Work) (r : Option Hold) → IfSome r (λ hold. IsHoldTaken hold.place old.store new.store)
     → IfNone r ((new ≡ old) × ((place : HoldPlace) → needed_by old.store.holds.taken place ≡ true)) → IsStill old.store new.store
 hold_still old new (Some hold) taken none = taken_still hold.place old.store new.store taken
 hold_still old new None taken none =
     subst (λ (s : Store). IsStill old.store s) (sym (ap (λ (w : Work). w.store) none.0)) (works_still (works_refl old.store))
 
 -- a version that is there is of another place than a hold that is taken
-pub place_apart : (place other : HoldPlace) (slot : TreeSlot) (table : Stored (List ℕ)) (old new : Store) → IsTaken place old new
+pub place_apart : (place other : HoldPlace) (slot : TreeSlot) (table : Stored (List ℕ)) (old new : Store) → IsHoldTaken place old new
     → StandsInVersion other slot table old → other ≢ place
 place_apart place other slot table old new taken it same =
     let free : needed_by old.holds.taken other ≡ false = subst (λ (p : HoldPlace). needed_by old.holds.taken p ≡ false) (sym same) taken.was_free in

@@ -5,7 +5,7 @@ ghost use Rattle.page_store.specs.declared.holds.HoldPlace.{HoldPlace};
 ghost use Rattle.page_store.specs.declared.marks.Mark.TheVariants.{Committed, Waiting};
 ghost use Rattle.page_store.specs.Marks.{mark, IsNeeded};
 ghost use Rattle.page_store.specs.Spelling.{SpelledBy, Stands, StandsHeld, IsPrepared};
-ghost use Rattle.page_store.specs.Store.{Store, reads, StoreWorks, IsTaken};
+ghost use Rattle.page_store.specs.Store.{Store, reads, StoreWorks, IsHoldTaken};
 ghost use Rattle.tree_page.specs.Page.{Item, key_cmp};
 ghost use Rattle.tree_page.specs.declared.widths.Widths.{Widths};
 ghost use Rattle.tree_map.specs.Changes.{AreHeld, HoldsMap, TakePlace};
@@ -50,7 +50,7 @@ pub fn a_map_stands()
 /// A map of the committed root, as a hold is taken on it: its pages stay for the hold, and are the same map until the hold is let go.
 pub fn a_map_is_held()
     ensures { (w : Widths) (root : ℕ) (pages : List ℕ) (es : List Item) (place : HoldPlace) (old new : Store)
-        → ((p : ℕ) → mark old.marks p ≡ Waiting → ⊥) → IsTaken place old new → HoldsMap w old root pages es
+        → ((p : ℕ) → mark old.marks p ≡ Waiting → ⊥) → IsHoldTaken place old new → HoldsMap w old root pages es
         → ((p : ℕ) → Contains pages p → IsNeeded old.marks p)
         → StandsHeld place (λ p. Contains pages p) (IsMap w (length old.marks) root pages es) new }
 {}

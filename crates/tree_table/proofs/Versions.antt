@@ -10,7 +10,7 @@ use Rattle.page_store.specs.declared.marks.Mark.{Mark}
 use Rattle.page_store.specs.declared.marks.Mark.TheVariants.{Committed, Fresh}
 use Rattle.page_store.specs.Holds.{needed_by, holders_at}
 use Rattle.page_store.specs.Marks.{mark, left}
-use Rattle.page_store.specs.Store.{Store, IsTaken, IsLetGo, reads}
+use Rattle.page_store.specs.Store.{Store, IsHoldTaken, IsLetGo, reads}
 use Rattle.retrograde.specs.Stored.{Stored}
 use Rattle.tree_table.specs.declared.slot.TreeSlot.{TreeSlot}
 use Rattle.tree_table.specs.Spelled.{table_in}
@@ -34,7 +34,7 @@ hold_keeps slot text torn old new marks disk holds honest =
 
 -- so after a hold was taken, or was not
 pub taken_keeps : (slot : TreeSlot) (text : List ℕ) (torn : Bool) (old new : Store) (r : Option Hold)
-    → IfSome r (λ hold. IsTaken hold.place old new)
+    → IfSome r (λ hold. IsHoldTaken hold.place old new)
     → IfNone r ((new ≡ old) × ((place : HoldPlace) → needed_by old.holds.taken place ≡ true))
     → (IsHonestWork (work_of slot text torn old) → ∥ HoldsWork (work_of slot text torn old) ∥₁) → IsHonestWork (work_of slot text torn new)
     → ∥ HoldsWork (work_of slot text torn new) ∥₁

@@ -1,7 +1,7 @@
 //! A table as it was committed, which a hold keeps.
 ghost use Rattle.std.specs.Prelude.{◌≡◌, ◌≤◌, ◌<◌, ℕ, List, true, IfOk, IfErr, IfSome, IfNone, IsTrue};
 ghost use Rattle.page_store.specs.Holds.{needed_by};
-ghost use Rattle.page_store.specs.Store.{IsTaken, IsLetGo};
+ghost use Rattle.page_store.specs.Store.{IsHoldTaken, IsLetGo};
 ghost use Rattle.page_store.specs.declared.holds.HoldPlace.{HoldPlace};
 ghost use Rattle.position_pack.specs.declared.limits.TheConstants.{MAX_PACKED};
 ghost use Rattle.retrograde.specs.Stored.{Stored, HasRecord};
@@ -21,7 +21,7 @@ impl<P: Pages> TreeTable<P> {
 
     /// Takes a hold on the committed root; none where four are taken. The table at work stays as it is.
     pub fn hold(&mut self) -> Option<Hold>
-        ensures some { IfSome result (λ hold. IsTaken hold.place (work_in self.old).store (work_in self.new).store) }
+        ensures some { IfSome result (λ hold. IsHoldTaken hold.place (work_in self.old).store (work_in self.new).store) }
         ensures none { IfNone result ((work_in self.new ≡ work_in self.old)
             × ((place : HoldPlace) → needed_by (work_in self.old).store.holds.taken place ≡ true)) }
         ensures slot { (work_in self.new).slot ≡ (work_in self.old).slot }

@@ -42,7 +42,7 @@ use Rattle.solver.specs.Queries.{OfKept, Tells, HasValueAt, AskCause, NumberCaus
 use Rattle.solver.specs.Steps.{IsDone, IsRefused}
 use Rattle.witness.specs.Game.{witness_text, witness_game}
 use Rattle.witness.specs.Sittings.{IsWantOfRoom}
-use Rattle.witness.specs.aid.Sittings.{IsOwn, AreOwn, IsOwnSitting, IsBehindSittings, IsFoundBehind, IsNoneOrIt, IsIt, IsItFinished, HasTable}
+use Rattle.witness.specs.aid.Sittings.{IsOwn, AreOwn, IsOwnSitting, IsBehindSittings, IsFoundBehind, IsNoneOrIt, IsIt, IsItFinished, HasSuchTable}
 use Rattle.witness.proofs.Finishing.{no_nine_units}
 use Rattle.witness.proofs.Positions.{graph}
 use Rattle.witness.proofs.Reading.{witness_read}
@@ -95,7 +95,7 @@ module _ (Stores : Layout) where
   pub reopened : (found : Disk) (count : ℕ) (state : State) (behind : IsFoundBehind Stores found)
       → ((sittings : List Sitting) (left : Shown) (picture : Picture) → History Stores sittings left → MayLeave left picture → Headline Stores sittings picture)
       → ((sittings : List Sitting) (old new : Option Kept) → LeadTo sittings old new → IsSound old → IsSound new)
-      → IsOpened Stores found count state → HasTable IsNoneOrIt state
+      → IsOpened Stores found count state → HasSuchTable IsNoneOrIt state
   reopened found count state behind law sound_by opened =
       let headline = law behind.behind.sittings behind.disk.now found.now.contents behind.behind.history behind.left in
       let given : state.kept ≡ headline.0 = (headline.2.gives found count state behind.honest refl opened).0 in
@@ -110,7 +110,7 @@ module _ (Stores : Layout) where
   pub opened_again : (disk : Disk) (count : ℕ) (state : State) → IsBehindSittings Stores disk
       → ((sittings : List Sitting) (left : Shown) (picture : Picture) → History Stores sittings left → MayLeave left picture → Headline Stores sittings picture)
       → ((sittings : List Sitting) (old new : Option Kept) → LeadTo sittings old new → IsSound old → IsSound new)
-      → IsOpened Stores disk count state → HasTable IsNoneOrIt state
+      → IsOpened Stores disk count state → HasSuchTable IsNoneOrIt state
   opened_again disk count state behind =
       reopened disk count state (record { honest = behind.honest; disk = disk; behind = behind; left = reads_left disk })
 
@@ -141,8 +141,8 @@ module _ (Stores : Layout) where
 
   -- ---- loading
 
-  pub load_done : (old new : State) → HasTable IsNoneOrIt old → GoesAhead old new → IsDone Stores (load witness_text) Loaded old new
-      → IsSound new.kept → HasTable IsIt new
+  pub load_done : (old new : State) → HasSuchTable IsNoneOrIt old → GoesAhead old new → IsDone Stores (load witness_text) Loaded old new
+      → IsSound new.kept → HasSuchTable IsIt new
   load_done old new table ahead done sound = record {
     honest = subst (λ h. IsTrue h) (sym ahead.goes_on.honest) table.honest;
     is_open = done.stops.is_open;
@@ -154,7 +154,7 @@ module _ (Stores : Layout) where
   text_cause game_fault.OutOfMemory cause = tt
   text_cause why cause = absurd (no_fault witness_text witness_game why witness_read (cause (λ same. cc)))
 
-  load_cause : (old new : State) (why : SolverFault) → HasTable IsNoneOrIt old → old.kept ≡ None → LoadCause witness_text old new why → IsWantOfRoom why
+  load_cause : (old new : State) (why : SolverFault) → HasSuchTable IsNoneOrIt old → old.kept ≡ None → LoadCause witness_text old new why → IsWantOfRoom why
   load_cause old new fault.Disk table none cause = tt
   load_cause old new fault.Damaged table none cause = absurd (cause table.honest)
   load_cause old new fault.TableFull table none cause = tt
@@ -164,7 +164,7 @@ module _ (Stores : Layout) where
   load_cause old new fault.GameAlready table none cause = let some : IsSome {T = Kept} None = subst (λ (k : Option Kept). IsSome k) none cause in absurd (cc)
   load_cause old new why table none cause = absurd cause
 
-  pub load_refused : (text : List ℕ) (old new : State) (why : SolverFault) → text ≡ witness_text → HasTable IsNoneOrIt old → old.kept ≡ None
+  pub load_refused : (text : List ℕ) (old new : State) (why : SolverFault) → text ≡ witness_text → HasSuchTable IsNoneOrIt old → old.kept ≡ None
       → IsRefused Stores (load text) old new why → IsWantOfRoom why
   load_refused text old new why is table none refused =
       load_cause old new why table none (subst (λ t. LoadCause t old new why) is refused.step.reason)
@@ -179,8 +179,8 @@ module _ (Stores : Layout) where
   sound_for_it kept text (game, is_read, sound) =
       subst (λ (g : Game). IsLocallySound (graph_of kept.packing g) (IsWideAt kept.packing g) kept.table) (one_game kept.text game witness_game is_read (its_own kept text)) sound
 
-  pub work_done : (units : ℕ) (old new : State) (done : ℕ) (counts : Counts) → units ≡ 256 → HasTable IsIt old → GoesAhead old new
-      → IsDone Stores (work units) (Worked done counts) old new → IsSound new.kept → HasTable IsItFinished new
+  pub work_done : (units : ℕ) (old new : State) (done : ℕ) (counts : Counts) → units ≡ 256 → HasSuchTable IsIt old → GoesAhead old new
+      → IsDone Stores (work units) (Worked done counts) old new → IsSound new.kept → HasSuchTable IsItFinished new
   work_done units old new done counts all_units table ahead is_done sound = record {
     honest = subst (λ h. IsTrue h) (sym ahead.goes_on.honest) table.honest;
     is_open = is_done.stops.is_open;
@@ -209,7 +209,7 @@ module _ (Stores : Layout) where
       let at = stops witness_game (its_own kept text) (sound_for_it kept text sound) in
       unit_is_done kept.packing at.reached at.works.right why own at.cause
 
-  work_cause : (old new : State) (why : SolverFault) → HasTable IsIt old → WorkCause 256 old new why → IsWantOfRoom why
+  work_cause : (old new : State) (why : SolverFault) → HasSuchTable IsIt old → WorkCause 256 old new why → IsWantOfRoom why
   work_cause old new fault.Disk table cause = tt
   work_cause old new fault.Damaged table cause = absurd (cause table.honest)
   work_cause old new fault.TableFull table cause = tt
@@ -222,7 +222,7 @@ module _ (Stores : Layout) where
   work_cause old new fault.Inconsistent table cause = absurd (cause table.honest table.sound)
   work_cause old new why table cause = absurd cause
 
-  pub work_refused : (units : ℕ) (old new : State) (why : SolverFault) → units ≡ 256 → HasTable IsIt old → IsRefused Stores (work units) old new why
+  pub work_refused : (units : ℕ) (old new : State) (why : SolverFault) → units ≡ 256 → HasSuchTable IsIt old → IsRefused Stores (work units) old new why
       → IsWantOfRoom why
   work_refused units old new why all_units table refused =
       work_cause old new why table (subst (λ n. WorkCause n old new why) all_units refused.step.reason)
@@ -230,7 +230,7 @@ module _ (Stores : Layout) where
   -- ---- asking
 
   -- the value of a finished table's start
-  pub value_is : (state : State) (value : Value) → HasTable IsItFinished state → Tells (HasValueAt 0 value) state → value ≡ Won First 2
+  pub value_is : (state : State) (value : Value) → HasSuchTable IsItFinished state → Tells (HasValueAt 0 value) state → value ≡ Won First 2
   value_is state value table tells = go state.kept table.such table.sound (tells table.honest)
     where
       won : (kept : Kept) (v : Value) → IsFinished (view_of kept.table) → IsValue (view_of kept.table) 0 v → IsSo (graph kept.packing) (graph kept.packing).start v → v ≡ Won First 2
@@ -245,7 +245,7 @@ module _ (Stores : Layout) where
           let first = (a_sound_table_is_right kept witness_game sound reads).moves.first in
           won kept value it.1 has.value_is (a_value_is_so kept witness_game sound reads 0 (graph kept.packing).start value first has.value_is)
 
-  ask_cause : (old new : State) (why : SolverFault) → HasTable IsItFinished old → AskCause old new why → IsWantOfRoom why
+  ask_cause : (old new : State) (why : SolverFault) → HasSuchTable IsItFinished old → AskCause old new why → IsWantOfRoom why
   ask_cause old new fault.Disk table cause = tt
   ask_cause old new fault.Damaged table cause = absurd (cause table.honest)
   ask_cause old new fault.OutOfMemory table cause = tt
@@ -257,6 +257,6 @@ module _ (Stores : Layout) where
   is_there None it sound none = it
   is_there (Some kept) it sound none = none (sound_for_it kept it.0 sound).table.started
 
-  pub value_refused : (old new : State) (why : SolverFault) → HasTable IsItFinished old → NumberCause 0 old new why → IsWantOfRoom why
+  pub value_refused : (old new : State) (why : SolverFault) → HasSuchTable IsItFinished old → NumberCause 0 old new why → IsWantOfRoom why
   value_refused old new fault.NoSuchPosition table cause = absurd (is_there old.kept table.such table.sound (cause table.honest))
   value_refused old new why table cause = ask_cause old new why table cause

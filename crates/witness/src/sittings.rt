@@ -10,7 +10,7 @@ ghost use Rattle.solver.specs.Units.{units_in};
 ghost use Rattle.witness.specs.Game.{witness_text};
 ghost use Rattle.witness.specs.Sittings.{IsWantOfRoom};
 ghost use Rattle.witness.specs.aid.Sittings.{IsBehindSittings, IsFoundBehind};
-ghost use Rattle.witness.specs.aid.Sittings.{EndsOwnSitting, HasTable, IsNoneOrIt, IsIt};
+ghost use Rattle.witness.specs.aid.Sittings.{EndsOwnSitting, HasSuchTable, IsNoneOrIt, IsIt};
 
 use best_line::Value;
 use game_file::GameFile;
@@ -115,7 +115,7 @@ where
 /// Loads the game if it is not there, works to the end, and asks who wins the start.
 fn answer<F: GameFile>(solver: &mut FileSolver<F>) -> Result<Value, SolverFault>
     requires ready { IsReady solver.old }
-    requires table { HasTable IsNoneOrIt (state solver.old) }
+    requires table { HasSuchTable IsNoneOrIt (state solver.old) }
     ensures value { IfOk result (λ value. value ≡ Won First 2) }
     ensures fault { IfErr result IsWantOfRoom }
 {
@@ -129,9 +129,9 @@ fn answer<F: GameFile>(solver: &mut FileSolver<F>) -> Result<Value, SolverFault>
 /// Loads the game if it is not there.
 fn load<F: GameFile>(solver: &mut FileSolver<F>) -> Result<(), SolverFault>
     requires ready { IsReady solver.old }
-    requires table { HasTable IsNoneOrIt (state solver.old) }
+    requires table { HasSuchTable IsNoneOrIt (state solver.old) }
     ensures ready { IsReady solver.new }
-    ensures table { OnOk result (HasTable IsIt (state solver.new)) }
+    ensures table { OnOk result (HasSuchTable IsIt (state solver.new)) }
     ensures fault { IfErr result IsWantOfRoom }
 {
     match solver.status() {

@@ -9,15 +9,15 @@ abbrev pub LeadsFrom : {P : Type 0} → Graph P → Stored P → P → ℕ → T
 LeadsFrom {P} graph stored x p = (z : P) × HasNumber (view_of stored) p z × (p < expanded_count stored) × graph.Successor z x
 
 -- there is an edge to i, which is the number of x, from p, and it is a move
-abbrev pub IsMove : {P : Type 0} → Graph P → Stored P → ℕ → P → ℕ → Type 0
-IsMove graph stored i x p = (stored.has_edge i p ≡ true) × LeadsFrom graph stored x p
+abbrev pub IsMoveEdge : {P : Type 0} → Graph P → Stored P → ℕ → P → ℕ → Type 0
+IsMoveEdge graph stored i x p = (stored.has_edge i p ≡ true) × LeadsFrom graph stored x p
 
 -- from so many of the numbers below p there is an edge to i that is a move
 abbrev pub IsArriving : {P : Type 0} → Graph P → Stored P → ℕ → P → ℕ → ℕ → Type 0
 IsArriving graph stored i x zero n = n ≡ 0
 IsArriving graph stored i x (suc p) n =
-    ((m : ℕ) × IsMove graph stored i x p × IsArriving graph stored i x p m × (n ≡ suc m))
-    ⊎ ((IsMove graph stored i x p → ⊥) × IsArriving graph stored i x p n)
+    ((m : ℕ) × IsMoveEdge graph stored i x p × IsArriving graph stored i x p m × (n ≡ suc m))
+    ⊎ ((IsMoveEdge graph stored i x p → ⊥) × IsArriving graph stored i x p n)
 
 -- the same of each number
 abbrev pub AreArrivals : {P : Type 0} → Graph P → Stored P → ℕ → List ℕ → Type 0

@@ -14,8 +14,9 @@ use Rattle.page_store.specs.Marks.{mark, needs, keeps, is_past, is_rooted, stays
 use Rattle.page_store.specs.aid.Holding.{need_is, other_need, some_need, held_within, held_still}
 use Rattle.page_store.specs.Page.{page}
 use Rattle.page_store.specs.aid.Page.{page_same}
-use Rattle.page_store.specs.Store.{Store, reads, IsHeldBy, Saved, SavedAs, SavedIn, StopLeaves, IsSafe, IsSoundStore, StoreWorks, Commits, Grows, IsRemarked, IsUnchanged}
-use Rattle.page_store.specs.Store.{IsCommitted, IsGrown, IsTaken, IsLetGo}
+use Rattle.page_store.specs.Store.{Store, reads, IsHeldBy, Saved, SavedAs, SavedIn, StopLeaves, IsSafe}
+use Rattle.page_store.specs.Store.{IsSoundStore, StoreWorks, Commits, StoreGrows, IsRemarked, IsUnchanged}
+use Rattle.page_store.specs.Store.{IsCommitted, IsStoreGrown, IsHoldTaken, IsLetGo}
 use Rattle.page_store.specs.Store.{IsOpened}
 use Rattle.page_store.specs.aid.Works.{safe_saves, saved_before, still_needed, still_held, commit_after}
 use Rattle.page_store.specs.Spelling.{SpelledBy, Stands, StandsHeld, IsPrepared, Spells, IsCarried, IsCarriedGrown, IsCalm, IsBack}
@@ -216,7 +217,7 @@ calm_keeps Past calm needed = needed
 
 -- a store that grows, in which nothing is handed out or released
 pub grow_carries : {named : ℕ → Type 0} {Spelt : (ℕ → List ℕ) → Type 0} (root : List ℕ) (pages : ℕ) (old new : Store) → IsTrue old.disk.honest
-    → IsSafe old → IsSoundStore old → length old.marks < pages → IsCalm old → Stands named Spelt old → Grows root pages old new
+    → IsSafe old → IsSoundStore old → length old.marks < pages → IsCalm old → Stands named Spelt old → StoreGrows root pages old new
     → IsCarriedGrown root pages named Spelt old new
 grow_carries {named} {Spelt} root pages old new honest safe sound more calm stands grows = record {
   stop = leaves_more each (grows.leaves honest safe);
@@ -246,7 +247,7 @@ grow_carries {named} {Spelt} root pages old new honest safe sound more calm stan
     each picture (inr saved) = inr (saved_in_spells root pages old stands picture saved)
 
 -- a store of which no page waits and that has grown: nothing is handed out or released
-pub grown_calm : (root : List ℕ) (pages : ℕ) (old new : Store) → ((p : ℕ) → mark old.marks p ≡ Waiting → ⊥) → IsGrown root pages old new → IsCalm new
+pub grown_calm : (root : List ℕ) (pages : ℕ) (old new : Store) → ((p : ℕ) → mark old.marks p ≡ Waiting → ⊥) → IsStoreGrown root pages old new → IsCalm new
 grown_calm root pages old new none done = record { each = each }
   where
     each : (p : ℕ) → IsTrue (rests (mark new.marks p))
@@ -261,7 +262,7 @@ grown_calm root pages old new none done = record { each = each }
 
 -- growing keeps what a hold needs, whatever is answered
 pub grow_stands_held : {named : ℕ → Type 0} {Spelt : (ℕ → List ℕ) → Type 0} (place : HoldPlace) (root : List ℕ) (pages : ℕ) (old new : Store)
-    → IsTrue old.disk.honest → Grows root pages old new → StandsHeld place named Spelt old → StandsHeld place named Spelt new
+    → IsTrue old.disk.honest → StoreGrows root pages old new → StandsHeld place named Spelt old → StandsHeld place named Spelt new
 grow_stands_held place root pages old new honest grows stands = record {
   spelled = spelled_as (reads old) (reads new) (λ p here. grows.held honest place p (stands.held p here)) stands.spelled;
   held = λ p here. held_still old new grows.holds place p (stands.held p here);
@@ -277,7 +278,7 @@ rooted Free needed none = cc
 rooted Past needed none = cc
 
 pub hold_stands : {named : ℕ → Type 0} {Spelt : (ℕ → List ℕ) → Type 0} (place : HoldPlace) (old new : Store)
-    → ((p : ℕ) → mark old.marks p ≡ Waiting → ⊥) → IsTaken place old new → Stands named Spelt old → StandsHeld place named Spelt new
+    → ((p : ℕ) → mark old.marks p ≡ Waiting → ⊥) → IsHoldTaken place old new → Stands named Spelt old → StandsHeld place named Spelt new
 hold_stands place old new none taken stands = record {
   spelled = spelled_as (reads old) (reads new) (λ p here. ap (λ (d : Disk). page d.now.contents p) taken.disk) stands.spelled;
   held = λ p here.
@@ -290,14 +291,14 @@ hold_stands place old new none taken stands = record {
 }
 
 -- a hold was taken: another hold needs what it needed
-pub hold_others : (place other : HoldPlace) (old new : Store) → place ≢ other → IsTaken place old new → (p : ℕ) → p < length old.marks
+pub hold_others : (place other : HoldPlace) (old new : Store) → place ≢ other → IsHoldTaken place old new → (p : ℕ) → p < length old.marks
     → needed_by (holders_at new.holds.of p) other ≡ needed_by (holders_at old.holds.of p) other
 hold_others place other old new apart taken p within =
     ap (λ (h : Holders). needed_by h other) (taken.each p within) ∙ other_need (holders_at old.holds.of p) place other (is_rooted (mark old.marks p)) apart
 
 -- what another hold needs it needs still
 pub hold_stands_held : {named : ℕ → Type 0} {Spelt : (ℕ → List ℕ) → Type 0} (place other : HoldPlace) (old new : Store) → IsSoundStore old
-    → place ≢ other → IsTaken place old new → StandsHeld other named Spelt old → StandsHeld other named Spelt new
+    → place ≢ other → IsHoldTaken place old new → StandsHeld other named Spelt old → StandsHeld other named Spelt new
 hold_stands_held place other old new sound apart taken stands = record {
   spelled = spelled_as (reads old) (reads new) (λ p here. ap (λ (d : Disk). page d.now.contents p) taken.disk) stands.spelled;
   held = λ p here.

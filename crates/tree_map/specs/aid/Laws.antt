@@ -10,7 +10,7 @@ use Rattle.page_store.specs.declared.marks.Mark.TheVariants.{Waiting}
 use Rattle.page_store.specs.declared.holds.HoldPlace.{HoldPlace}
 use Rattle.page_store.specs.Marks.{mark, needs, keeps, IsNeeded}
 use Rattle.page_store.specs.Spelling.{SpelledBy, Stands, StandsHeld, IsPrepared}
-use Rattle.page_store.specs.Store.{Store, reads, IsTaken}
+use Rattle.page_store.specs.Store.{Store, reads, IsHoldTaken}
 use Rattle.page_store.specs.aid.Carrying.{hold_stands}
 use Rattle.tree_page.specs.declared.kind.Kind.TheVariants.{Leaf, Inner}
 use Rattle.tree_page.specs.declared.widths.Widths.{Widths}
@@ -217,7 +217,7 @@ a_map_stands w capacity root pages es store room map marked = record {
 
 -- a map of the committed root, as a hold is taken on it
 pub a_map_is_held : (w : Widths) (root : ℕ) (pages : List ℕ) (es : List Item) (place : HoldPlace) (old new : Store)
-    → ((p : ℕ) → mark old.marks p ≡ Waiting → ⊥) → IsTaken place old new → HoldsMap w old root pages es
+    → ((p : ℕ) → mark old.marks p ≡ Waiting → ⊥) → IsHoldTaken place old new → HoldsMap w old root pages es
     → ((p : ℕ) → Contains pages p → IsNeeded old.marks p)
     → StandsHeld place (λ p. Contains pages p) (IsMap w (length old.marks) root pages es) new
 a_map_is_held w root pages es place old new sealed taken holds needed =

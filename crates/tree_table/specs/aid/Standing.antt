@@ -11,7 +11,7 @@ use Rattle.page_store.specs.declared.holds.Holders.{Holders}
 use Rattle.page_store.specs.Holds.{any, holders_at}
 use Rattle.page_store.specs.Marks.{mark, needs, is_past, rests, turned, left, IsNeeded, AreDiscarded}
 use Rattle.page_store.specs.Spelling.{IsCalm}
-use Rattle.page_store.specs.Store.{Store, reads, StoreWorks, IsRemarked, IsTaken, IsLetGo}
+use Rattle.page_store.specs.Store.{Store, reads, StoreWorks, IsRemarked, IsHoldTaken, IsLetGo}
 use Rattle.game_file.specs.Kept.{Kept}
 use Rattle.tree_table.specs.declared.slot.TreeSlot.{TreeSlot}
 use Rattle.tree_table.specs.Forest.{IsForest}
@@ -90,7 +90,7 @@ discarded_still old new marks others = record {
 }
 
 -- so is a store as a hold is taken
-pub taken_still : (place : HoldPlace) (old new : Store) → IsTaken place old new → IsStill old new
+pub taken_still : (place : HoldPlace) (old new : Store) → IsHoldTaken place old new → IsStill old new
 taken_still place old new taken = record {
   goes_on = subst (λ (d : Disk). GoesOn old.disk d) (sym taken.disk) (goes_on_refl old.disk);
   root = taken.root;

@@ -12,7 +12,7 @@ use Rattle.page_store.specs.Holds.{needed_by}
 use Rattle.page_store.specs.aid.Holding.{need_is, other_need, same_holds, same_holds_then, held_still}
 use Rattle.page_store.specs.Marks.{mark}
 use Rattle.page_store.specs.Spelling.{Stands, StandsHeld}
-use Rattle.page_store.specs.Store.{Store, StoreWorks, IsRemarked, IsHeldBy, IsSoundStore, IsTaken, IsLetGo, Commits, Grows, reads}
+use Rattle.page_store.specs.Store.{Store, StoreWorks, IsRemarked, IsHeldBy, IsSoundStore, IsHoldTaken, IsLetGo, Commits, StoreGrows, reads}
 use Rattle.page_store.specs.aid.Carrying.{hold_stands, hold_stands_held, let_go_stands_held}
 use Rattle.page_store.specs.aid.Works.{works_refl}
 use Rattle.retrograde.specs.Stored.{Stored}
@@ -29,7 +29,7 @@ one other p store held = record {
   held = λ q is. subst (λ (r : ℕ). IsHeldBy other store r) (sym is) held;
 }
 
-held_else : (place other : HoldPlace) (old new : Store) → IsSoundStore old → place ≢ other → IsTaken place old new → (p : ℕ)
+held_else : (place other : HoldPlace) (old new : Store) → IsSoundStore old → place ≢ other → IsHoldTaken place old new → (p : ℕ)
     → IsHeldBy other old p → IsHeldBy other new p
 held_else place other old new sound apart taken p held =
     (hold_stands_held place other old new sound apart taken (one other p old held)).held p refl
@@ -79,7 +79,7 @@ commits_keep_holds root old new long commits =
     record { goes_on = commits.goes_on; no_fewer = omega (arith, long); holds = same_holds commits.holds; held = commits.held }
 
 -- and so does growing
-pub grows_keep_holds : (root : List ℕ) (pages : ℕ) (old new : Store) → Grows root pages old new → KeepsHolds old new
+pub grows_keep_holds : (root : List ℕ) (pages : ℕ) (old new : Store) → StoreGrows root pages old new → KeepsHolds old new
 grows_keep_holds root pages old new grows =
     record { goes_on = grows.goes_on; no_fewer = grows.no_fewer; holds = grows.holds; held = grows.held }
 
@@ -103,7 +103,7 @@ version_kept place slot table old new honest keeps it =
 
 -- what stands as a hold is taken
 module _ (place : HoldPlace) (slot : TreeSlot) (text : List ℕ) (old new : Store) (sealed : (p : ℕ) → mark old.marks p ≡ Waiting → ⊥)
-    (taken : IsTaken place old new) (it : StandsInTrees slot text old) where
+    (taken : IsHoldTaken place old new) (it : StandsInTrees slot text old) where
   abbrev Spelt : (ℕ → List ℕ) → Type 0
   Spelt bytes = IsForest slot.sizes.packed (length old.marks) slot.first slot.roots text it.text_pages it.pages it.entries bytes
 
@@ -136,7 +136,7 @@ module _ (place : HoldPlace) (slot : TreeSlot) (text : List ℕ) (old new : Stor
 
 -- another hold is taken
 pub version_taken_else : (place other : HoldPlace) (slot : TreeSlot) (table : Stored (List ℕ)) (old new : Store) → IsSoundStore old → place ≢ other
-    → IsTaken place old new → StandsInVersion other slot table old → StandsInVersion other slot table new
+    → IsHoldTaken place old new → StandsInVersion other slot table old → StandsInVersion other slot table new
 version_taken_else place other slot table old new sound apart taken it =
     version_on other slot table old new (omega (arith, ap (λ (ms : List Mark). length ms) taken.marks))
     (λ p held. ap (λ (d : Disk). page d.now.contents p) taken.disk) (λ p held. held_else place other old new sound apart taken p held)

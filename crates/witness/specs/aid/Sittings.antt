@@ -65,7 +65,7 @@ abbrev pub IsItFinished : Option Kept → Type 0
 IsItFinished = OfKept (λ kept. (kept.text ≡ witness_text) × IsFinished (view_of kept.table))
 
 -- a solver that is open, on an honest disk, with a locally sound table of which this holds
-pub record HasTable (Such : Option Kept → Type 0) (state : State) : Type 0 where
+pub record HasSuchTable (Such : Option Kept → Type 0) (state : State) : Type 0 where
   pub honest : IsTrue state.disk.honest
   pub is_open : state.closed ≡ false
   pub sound : IsSound state.kept

@@ -6,7 +6,7 @@ use Rattle.std.proofs.lemmas.List.{length-replicate}
 use Rattle.retrograde.specs.declared.records.Counts.{Counts}
 use Rattle.retrograde.specs.View.{HasNumber}
 use Rattle.retrograde.specs.Stored.{Stored, IsTable, view_of, expanded_count}
-use Rattle.audit.specs.aid.Edges.{CountsIf, IsMove, AreArrivals}
+use Rattle.audit.specs.aid.Edges.{CountsIf, IsMoveEdge, AreArrivals}
 use Rattle.audit.proofs.ArrivalLemmas.{expanded_known, no_arrivals, arrivals_next}
 use Rattle.audit.proofs.arrivals.arrivals.Goals as goal
 
@@ -43,7 +43,7 @@ loop-from-preserved g c = record {
       let within : c.loop-from.from < expanded_count stored = omega (arith, count, read, c.min-from-end.ensures, c.loop-from-test.true) in
       let below : suc c.loop-from.from < 2 ^ 32 = omega (arith, c.loop-from-test.true, c.min-from-end.ensures) in
       let now = subst (λ (t : Stored (List ℕ)). IsTable t → c.loop-from.from < expanded_count t → (i : ℕ) (x : List ℕ) → HasNumber (view_of t) i x
-      → CountsIf (IsMove graph t i x c.loop-from.from) c.loop-from.arrivals.items c.count_moves.new.arrivals.items i) same (c.in_ok-count_moves.ensures.counted h) in
+      → CountsIf (IsMoveEdge graph t i x c.loop-from.from) c.loop-from.arrivals.items c.count_moves.new.arrivals.items i) same (c.in_ok-count_moves.ensures.counted h) in
       arrivals_next graph stored c.loop-from.from c.loop-from.arrivals.items c.count_moves.new.arrivals.items below
       (c.loop-from.invariant.arrivals honest table) (now table within);
 }

@@ -4,14 +4,14 @@ use Rattle.page_store.proofs.Caching.{carried}
 use Rattle.page_store.proofs.Holding.{taken_sound}
 use Rattle.page_store.specs.Holds.{holds_of, holders_at, with_need}
 use Rattle.page_store.specs.Marks.{mark, is_rooted}
-use Rattle.page_store.specs.Store.{store_of, IsTaken, Store}
+use Rattle.page_store.specs.Store.{store_of, IsHoldTaken, Store}
 use Rattle.page_store.proofs.store.PageStorePages.hold.Goals as goal
 
 pub invariant_of-self : goal.invariant_of-self
 invariant_of-self g c =
     let old : Store = store_of (g.D.SectorDisk.disk c.args.self.now.disk) (g.D.SectorDisk.failures c.args.self.now.disk) c.args.self.now.root.bytes c.args.self.now.marks.items c.args.self.now.closed (holds_of c.args.self.now.taken c.args.self.now.holders.items) in
     let new : Store = store_of (g.D.SectorDisk.disk c.args.self.now.disk) (g.D.SectorDisk.failures c.args.self.now.disk) c.args.self.now.root.bytes c.args.self.now.marks.items c.args.self.now.closed (holds_of c.with-self.result c.take_hold.new.holders.items) in
-    let taken : IsTaken c.in-Some.place old new =
+    let taken : IsHoldTaken c.in-Some.place old new =
     record {
       disk = refl;
       failures = refl;
