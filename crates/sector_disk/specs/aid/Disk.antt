@@ -1,5 +1,5 @@
 -- What is stated of a disk: what it shows, what a stop leaves, and how a call goes on.
-use Rattle.std.specs.Prelude.{ℕ, ◌-◌, IsTrue}
+use Rattle.std.specs.Prelude.{ℕ, IsTrue}
 use Rattle.sector_disk.specs.Disk.{Agrees, Disk, GoesOn, LeavesOnly, Keeps}
 
 -- from the one moment to the other these sectors are kept, and a stop leaves those of them that were synced

@@ -19,7 +19,7 @@ pub past : (events : List Event) (event : Event) (old new : Picture) → before 
 past events event old new back k le =
     let contents : undone (drop k (events ++ event ∷ [])) new ≡ undone (drop k events) old =
     ap (λ (es : List Event). undone es new) (drop-append-le k events (event ∷ []) le) ∙ undone-push (drop k events) event new
-        ∙ ap (undone (drop k events)) back in
+    ∙ ap (undone (drop k events)) back in
     let first : take k (events ++ event ∷ []) ≡ take k events = take-append-le k events (event ∷ []) le in
     λ i. record {
       contents = contents i;
