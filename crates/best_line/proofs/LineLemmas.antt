@@ -12,15 +12,11 @@ use Rattle.retrograde.specs.Stored.{Stored, view_of}
 use Rattle.retrograde.specs.Sound.{IsLocallySound}
 use Rattle.retrograde.proofs.Finished.{values_are_won, is_some_at}
 use Rattle.retrograde.proofs.Sound.{known_number, valued_known, sound_right}
-use Rattle.best_line.specs.Lines.{IsBestStep, IsBestLine, IsBestPlay}
+use Rattle.best_line.specs.Lines.{IsBestStep, IsBestLine, IsBestPlay, IsLineTo as IsLineOf, IsToldLine}
 
 module _ (graph : Graph (List ℕ)) (view : View (List ℕ)) (w : Player) where
-  -- best steps lead from the first number, won in n, to the last, j, won in m
-  abbrev pub IsLineTo : ℕ → List ℕ → ℕ → ℕ → Type 0
-  IsLineTo n [] j m = ⊥
-  IsLineTo n (i ∷ []) j m = (i ≡ j) × (n ≡ m) × (view.value i ≡ Some (w, n))
-  IsLineTo zero (i ∷ k ∷ rest) j m = ⊥
-  IsLineTo (suc n) (i ∷ k ∷ rest) j m = (view.value i ≡ Some (w, suc n)) × IsBestStep graph view i w n k × IsLineTo n (k ∷ rest) j m
+  abbrev IsLineTo : ℕ → List ℕ → ℕ → ℕ → Type 0
+  IsLineTo = IsLineOf graph view w
 
   -- the last number is won in what is left
   pub line_value : (n : ℕ) (numbers : List ℕ) (j m : ℕ) → IsLineTo n numbers j m → view.value j ≡ Some (w, m)
@@ -78,3 +74,10 @@ module _ (graph : Graph (List ℕ)) (IsWide : List ℕ → Type 0) (stored : Sto
       → IfOk result (λ v. slice_get (items v) 0 ≡ Some number) → IfOk result (λ v. IsBestPlay graph (view_of stored) number (items v))
   answers_play items (Ok v) line begins = best_play (items v) line begins
   answers_play items (Err e) line begins = tt
+
+-- an answer that is a best line is the line that the table tells
+pub answers_told : (graph : Graph (List ℕ)) (view : View (List ℕ)) (w : Player) (n number : ℕ) → view.value number ≡ Some (w, n) → {V E : Type 0} (items : V → List ℕ)
+    (result : Result V E) → IfOk result (λ v. IsBestLine graph view w n (items v)) → IfOk result (λ v. slice_get (items v) 0 ≡ Some number)
+    → IfOk result (λ v. IsToldLine graph view number (items v))
+answers_told graph view w n number value items (Ok v) line begins = record { winner = w; distance = n; value = value; begins = begins; line = line }
+answers_told graph view w n number value items (Err e) line begins = tt

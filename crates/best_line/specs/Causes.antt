@@ -1,10 +1,12 @@
 -- Why there is no line.
-use Rattle.std.specs.Prelude.{◌≡◌, ℕ, None, IsSome}
+use Rattle.std.specs.Prelude.{◌≡◌, ℕ, List, None, IsSome}
 use Rattle.legal_moves.specs.declared.fault.MoveFault.{MoveFault}
 use Rattle.legal_moves.specs.declared.fault.MoveFault.TheVariants as search
+use Rattle.retrograde.specs.Graph.{Graph}
 use Rattle.retrograde.specs.View.{View}
 use Rattle.table.specs.declared.fault.TableFault.{TableFault}
 use Rattle.best_line.specs.declared.fault.LineFault.{LineFault}
+use Rattle.best_line.specs.Lines.{BreaksOff, MeetsWide}
 use Rattle.best_line.specs.declared.fault.LineFault.TheVariants.{NotSettled, Inconsistent, TooWide, OutOfMemory, Table}
 
 -- what a fault of the search is as a fault of the line
@@ -19,6 +21,15 @@ IsLineCause view number Inconsistent = ⊥
 IsLineCause view number TooWide = ⊥
 IsLineCause view number OutOfMemory = IsSome (view.value number)
 IsLineCause view number (Table fault) = Unit {0}
+
+-- why any table has no line from this number: it has no value, or the line that the table tells breaks off, or meets a position that
+-- is too wide, or memory or the table gave out
+abbrev pub LineStops : Graph (List ℕ) → (List ℕ → Type 0) → View (List ℕ) → ℕ → LineFault → Type 0
+LineStops graph IsWide view number NotSettled = view.value number ≡ None
+LineStops graph IsWide view number Inconsistent = BreaksOff graph view number
+LineStops graph IsWide view number TooWide = MeetsWide graph IsWide view number
+LineStops graph IsWide view number OutOfMemory = Unit {0}
+LineStops graph IsWide view number (Table fault) = Unit {0}
 
 -- where the fault is the table's, this is said of it
 abbrev pub OfTable : (TableFault → Type 0) → LineFault → Type 0

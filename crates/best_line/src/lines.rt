@@ -1,9 +1,9 @@
 //! A best line: the winner wins as soon as he can, and the other side puts it off as long as it can.
-ghost use Rattle.std.specs.Prelude.{◌≡◌, ◌↔◌, ◌<◌, IfOk, OnOk, IfErr, Err, Some, None, slice_get};
+ghost use Rattle.std.specs.Prelude.{◌≡◌, ◌↔◌, ◌<◌, IfOk, OnOk, IfErr, Some, slice_get};
 ghost use Rattle.retrograde.specs.Stored.{IsTable, view_of};
 ghost use Rattle.retrograde.specs.Sound.{IsLocallySound};
-ghost use Rattle.best_line.specs.Lines.{IsBestLine, IsBestPlay};
-ghost use Rattle.best_line.specs.Causes.{IsLineCause, OfTable};
+ghost use Rattle.best_line.specs.Lines.{IsBestLine, IsBestPlay, IsToldLine};
+ghost use Rattle.best_line.specs.Causes.{IsLineCause, LineStops, OfTable};
 ghost use Rattle.best_line.specs.declared.fault.LineFault.TheVariants.{NotSettled};
 ghost use Rattle.table.specs.Faults.{NeedsNoPage};
 
@@ -34,6 +34,9 @@ fn follow<M: MoveSource, T: Table>(
     ensures cause { T.is_honest table.old → IsLocallySound (M.graph source.now) (M.is_wide source.now) (T.stored table.old)
         → (view_of (T.stored table.old)).value number ≡ Some (winner, distance)
         → IfErr result (IsLineCause (view_of (T.stored table.old)) number) }
+    ensures stops { T.is_honest table.old → IsTable (T.stored table.old)
+        → (view_of (T.stored table.old)).value number ≡ Some (winner, distance)
+        → IfErr result (LineStops (M.graph source.now) (M.is_wide source.now) (view_of (T.stored table.old)) number) }
     ensures settled { IfErr result (λ fault. ¬ (fault ≡ NotSettled)) }
     ensures same { T.is_honest table.old → T.stored table.new ≡ T.stored table.old }
     ensures honest { T.is_honest table.old ↔ T.is_honest table.new }
@@ -56,8 +59,9 @@ fn follow<M: MoveSource, T: Table>(
 /// positions, each next one is the first successor in the order of the bytes that the same player wins
 /// in one fewer, and the last is won in 0.
 ///
-/// `NotSettled` comes where the position has no winner. `Inconsistent` and `TooWide` come only where the
-/// table did not agree with itself. The table stays as it was.
+/// `NotSettled` comes where the position has no winner. `Inconsistent` comes where the line breaks off, at a position from which
+/// no move leads to where the same player wins in one fewer, and `TooWide` where it meets a position that is too wide: both only
+/// where the table does not agree with itself. The table stays as it was.
 pub fn line<M: MoveSource, T: Table>(
     alloc: Global,
     source: &M,
@@ -68,11 +72,13 @@ pub fn line<M: MoveSource, T: Table>(
     requires known { number < (T.counted table.old).known }
     ensures line { T.is_honest table.old → IsLocallySound (M.graph source.now) (M.is_wide source.now) (T.stored table.old)
         → IfOk result (λ numbers. IsBestPlay (M.graph source.now) (view_of (T.stored table.old)) number numbers.items) }
+    ensures told { T.is_honest table.old → IsTable (T.stored table.old)
+        → IfOk result (λ numbers. IsToldLine (M.graph source.now) (view_of (T.stored table.old)) number numbers.items) }
     ensures begins { IfOk result (λ numbers. slice_get numbers.items 0 ≡ Some number) }
     ensures cause { T.is_honest table.old → IsLocallySound (M.graph source.now) (M.is_wide source.now) (T.stored table.old)
         → IfErr result (IsLineCause (view_of (T.stored table.old)) number) }
-    ensures settled { T.is_honest table.old → IsTable (T.stored table.old) → result ≡ Err NotSettled
-        → (view_of (T.stored table.old)).value number ≡ None }
+    ensures stops { T.is_honest table.old → IsTable (T.stored table.old)
+        → IfErr result (LineStops (M.graph source.now) (M.is_wide source.now) (view_of (T.stored table.old)) number) }
     ensures same { T.is_honest table.old → T.stored table.new ≡ T.stored table.old }
     ensures honest { T.is_honest table.old ↔ T.is_honest table.new }
     ensures counts { T.counted table.new ≡ T.counted table.old }

@@ -3,8 +3,8 @@ ghost use Rattle.std.specs.Prelude.{◌≡◌, ◌↔◌, ◌⊎◌, ◌<◌, �
 ghost use Rattle.table.specs.Memory.{bytes_of_each};
 ghost use Rattle.retrograde.specs.View.{HasNumber, HasValue};
 ghost use Rattle.retrograde.specs.Stored.{IsTable, view_of};
-ghost use Rattle.best_line.specs.Lines.{IsBestStep};
-ghost use Rattle.best_line.specs.aid.Lines.{HasNoStep, IsFirstWon};
+ghost use Rattle.best_line.specs.Lines.{IsBestStep, HasNoStep};
+ghost use Rattle.best_line.specs.aid.Lines.{IsFirstWon};
 ghost use Rattle.best_line.specs.Causes.{OfTable};
 ghost use Rattle.best_line.specs.declared.fault.LineFault.TheVariants.{NotSettled, Inconsistent, TooWide};
 ghost use Rattle.table.specs.Faults.{NeedsNoPage};

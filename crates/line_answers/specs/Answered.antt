@@ -17,7 +17,7 @@ use Rattle.solver.specs.declared.replies.Reply.{Reply}
 use Rattle.solver.specs.declared.replies.Reply.TheVariants as answer
 use Rattle.solver.specs.Held.{IsSound}
 use Rattle.solver.specs.Machine.{work}
-use Rattle.solver.specs.Queries.{Tells, IsGameOf, HasValueAt, HasRows, HasLine, HasText, NumberCause, LineCause, ShowCause, FindCause}
+use Rattle.solver.specs.Queries.{Tells, IsGameOf, HasValueAt, HasRows, HasLine, HasToldLine, HasText, NumberCause, LineCause, ShowCause, FindCause}
 use Rattle.solver.specs.Runs.{IsTurnWithCause}
 use Rattle.solver.specs.Units.{units_in}
 use Rattle.line_answers.specs.declared.input.Asked.{Asked}
@@ -44,10 +44,11 @@ pub record AreRowLines (from count : ℕ) (text : List ℕ) (kept : Kept) : Type
   pub has : HasRows from count rows kept
   pub text_is : text ≡ flat_map (row_line game) rows
 
--- the numbers of a best line from this one, as a line
+-- the numbers of the line that the table tells from this one, as a line; of a sound table they are a best line in the game
 pub record IsPlayLine (number : ℕ) (text : List ℕ) (kept : Kept) : Type 0 where
   pub numbers : List ℕ
-  pub has : HasLine number numbers kept
+  pub told : HasToldLine number numbers kept
+  pub so : IsSound (Some kept) → HasLine number numbers kept
   pub text_is : text ≡ line_line numbers
 
 -- the text of the position with this number, as a line
@@ -62,10 +63,10 @@ pub record IsFoundLine (position text : List ℕ) (kept : Kept) : Type 0 where
   pub has : HasText number position kept
   pub text_is : text ≡ codes "number " ++ decimal number ++ 10 ∷ []
 
--- the answer to a question, in whole lines; that of `line` is said of a sound table alone
+-- the answer to a question, in whole lines
 abbrev pub IsAnswerTo : Question → List ℕ → Kept → Type 0
 IsAnswerTo (question.Value number) text kept = IsValueLine number text kept
-IsAnswerTo (question.Line number) text kept = IsSound (Some kept) → IsPlayLine number text kept
+IsAnswerTo (question.Line number) text kept = IsPlayLine number text kept
 IsAnswerTo (question.List from count) text kept = AreRowLines from (units_in count) text kept
 IsAnswerTo (question.Show number) text kept = IsShownLine number text kept
 IsAnswerTo (question.Find position) text kept = IsFoundLine position.now text kept

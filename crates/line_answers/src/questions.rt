@@ -6,7 +6,6 @@ ghost use Rattle.game_file.specs.Calls.{IsAsked};
 ghost use Rattle.solver.specs.Machine.{work as work_on};
 ghost use Rattle.solver.specs.Runs.{IsTurnWithCause};
 ghost use Rattle.solver.specs.Queries.{Tells, NumberCause, LineCause, ShowCause, FindCause};
-ghost use Rattle.solver.specs.Held.{IsSound};
 ghost use Rattle.solver.specs.Solvers.{state, IsReady};
 ghost use Rattle.solver.specs.Units.{units_in};
 ghost use Rattle.line_answers.specs.Answered.{IsValueLine, AreRowLines, IsPlayLine, IsShownLine, IsFoundLine, IsAnswerTo, QuestionCause};
@@ -139,10 +138,7 @@ fn value_of<F: GameFile>(
     ensures cause { IsReady solver.old → IfErr result (NumberCause number (state solver.old) (state solver.new)) }
 {
     let value = solver.value(number)?;
-    let Some(game) = solver.game() else {
-        return Err(SolverFault::NoGame);
-    };
-    Ok(value_line(alloc, game, value)?)
+    Ok(value_line(alloc, solver.needs_game()?, value)?)
 }
 
 /// The lines of a list.
@@ -158,10 +154,7 @@ fn rows_of<F: GameFile>(
     ensures cause { IsReady solver.old → IfErr result (NumberCause from (state solver.old) (state solver.new)) }
 {
     let rows = solver.list(from, count)?;
-    let Some(game) = solver.game() else {
-        return Err(SolverFault::NoGame);
-    };
-    Ok(row_lines(alloc, game, &rows)?)
+    Ok(row_lines(alloc, solver.needs_game()?, &rows)?)
 }
 
 /// The line of a best line's numbers.
@@ -172,8 +165,7 @@ fn play_of<F: GameFile>(
 ) -> Result<Vec<u8>, SolverFault>
     ensures ready { IsReady solver.old → IsReady solver.new }
     ensures asked { IsReady solver.old → IsAsked F.stores (state solver.old) (state solver.new) }
-    ensures text { IsReady solver.old → IsSound (state solver.old).kept
-        → IfOk result (λ text. Tells (IsPlayLine number text.items) (state solver.old)) }
+    ensures text { IsReady solver.old → IfOk result (λ text. Tells (IsPlayLine number text.items) (state solver.old)) }
     ensures cause { IsReady solver.old → IfErr result (LineCause number (state solver.old) (state solver.new)) }
 {
     let numbers = solver.line(number)?;

@@ -1,6 +1,6 @@
 //! The commands of a session and of a command line, each a run of its own.
 
-ghost use Rattle.std.specs.Prelude.{◌≡◌, ◌⊎◌, slice_get, unwrap_or};
+ghost use Rattle.std.specs.Prelude.{◌≡◌, ◌⊎◌, ◌≤◌, Some, length, slice_get};
 ghost use Rattle.solver.specs.Runs.{command_of, IsTurnWithCause};
 ghost use Rattle.solver.specs.Solvers.{state, IsReady};
 ghost use Rattle.solver.specs.declared.replies.Reply.TheVariants as answer;
@@ -25,12 +25,13 @@ pub fn reply_to<F: GameFile>(alloc: Global, solver: &mut FileSolver<F>, command:
     }
 }
 
-/// The first reply; there always is one behind a run of one command.
+/// The first of these replies.
 fn first_of(replies: &[Reply]) -> Reply
-    ensures { result ≡ unwrap_or (slice_get replies.now 0) (answer.Refused fault.OutOfMemory) }
+    requires { 1 ≤ length replies.now }
+    ensures { slice_get replies.now 0 ≡ Some result }
 {
     match replies.first() {
         Some(reply) => *reply,
-        None => Reply::Refused(SolverFault::OutOfMemory),
+        None => unreachable!(),
     }
 }

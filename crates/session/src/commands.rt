@@ -1,4 +1,14 @@
 //! The commands on a table's file that are one command each.
+ghost use Rattle.std.specs.Prelude.{◌≡◌, ◌⊎◌, List, ℕ, Some, None};
+ghost use Rattle.std.specs.Io.KnownBytes.{Appends};
+ghost use Rattle.game_file.specs.Calls.{IsAsked};
+ghost use Rattle.recover.specs.Held.{StoresTrees};
+ghost use Rattle.line_answers.specs.Answered.{status_of_fault, status_of_reply};
+ghost use Rattle.line_answers.specs.Told.{fault_line, IsReplyLine};
+ghost use Rattle.session.specs.Commands.{Answer, IsDoneOnFile, TellsVerdict, refusal, refused_in};
+ghost use Rattle.solver.specs.Audits.{AuditCause};
+ghost use Rattle.solver.specs.Solvers.{state, IsReady};
+ghost use Rattle.solver.specs.declared.fault.SolverFault.{SolverFault as Fault};
 
 use audit::Verdict;
 use game_file::GameFile;
@@ -38,7 +48,11 @@ pub fn command_on<D: SectorDisk, W: Write>(
     disk: D,
     command: FileCommand,
     out: &mut W,
-) -> (Outcome, D) {
+) -> (Outcome, D)
+    ensures { (answer : Answer) × IsDoneOnFile StoresTrees command (D.disk disk) (D.failures disk) answer (D.disk result.1)
+        (D.failures result.1) × (result.0.refused ≡ answer.refused)
+        × (((result.0.status ≡ answer.status) × Appends (W.contents out.old) (W.contents out.new) answer.line) ⊎ (result.0.status ≡ 4)) }
+{
     command_in::<TableFile<D>, W>(alloc, disk, command, out)
 }
 
@@ -48,7 +62,11 @@ fn command_in<F: GameFile, W: Write>(
     disk: F::Device,
     command: FileCommand,
     out: &mut W,
-) -> (Outcome, F::Device) {
+) -> (Outcome, F::Device)
+    ensures { (answer : Answer) × IsDoneOnFile F.stores command (F.Device.disk disk) (F.Device.failures disk) answer (F.Device.disk result.1)
+        (F.Device.failures result.1) × (result.0.refused ≡ answer.refused)
+        × (((result.0.status ≡ answer.status) × Appends (W.contents out.old) (W.contents out.new) answer.line) ⊎ (result.0.status ≡ 4)) }
+{
     match command {
         FileCommand::Create => match FileSolver::<F>::create(alloc, disk) {
             Ok(solver) => (said(out, b"created\n"), solver.close()),
@@ -69,13 +87,20 @@ fn command_in<F: GameFile, W: Write>(
 }
 
 /// Says whether the table is right: the status is 1 where it is not.
-fn audited<F: GameFile, W: Write>(solver: &mut FileSolver<F>, out: &mut W) -> Outcome {
+fn audited<F: GameFile, W: Write>(solver: &mut FileSolver<F>, out: &mut W) -> Outcome
+    requires { IsReady solver.old }
+    ensures asked { IsAsked F.stores (state solver.old) (state solver.new) }
+    ensures answer { (answer : Answer) × (result.refused ≡ answer.refused)
+        × (TellsVerdict (state solver.old) answer
+        ⊎ ((why : Fault) × AuditCause (state solver.old) (state solver.new) why × (answer ≡ refusal why)))
+        × (((result.status ≡ answer.status) × Appends (W.contents out.old) (W.contents out.new) answer.line) ⊎ (result.status ≡ 4)) }
+{
+    let Some(counts) = solver.status() else {
+        return said_refused(out, SolverFault::NoGame);
+    };
     let verdict = match solver.audit() {
         Ok(verdict) => verdict,
         Err(fault) => return said_refused(out, fault),
-    };
-    let Some(counts) = solver.status() else {
-        return said_refused(out, SolverFault::NoGame);
     };
     let said = put_verdict(out, verdict, counts).and_then(|()| out.flush());
     let status = match (said, verdict) {
@@ -90,7 +115,10 @@ fn audited<F: GameFile, W: Write>(solver: &mut FileSolver<F>, out: &mut W) -> Ou
 }
 
 /// Writes a line of a command that was done.
-fn said<W: Write>(out: &mut W, line: &[u8]) -> Outcome {
+fn said<W: Write>(out: &mut W, line: &[u8]) -> Outcome
+    ensures refused { result.refused ≡ None }
+    ensures line { ((result.status ≡ 0) × Appends (W.contents out.old) (W.contents out.new) line.now) ⊎ (result.status ≡ 4) }
+{
     let status = match put_line(out, line) {
         Ok(()) => 0,
         Err(_) => 4,
@@ -102,7 +130,11 @@ fn said<W: Write>(out: &mut W, line: &[u8]) -> Outcome {
 }
 
 /// Writes the line of a reply.
-fn said_reply<W: Write>(out: &mut W, reply: Reply) -> Outcome {
+fn said_reply<W: Write>(out: &mut W, reply: Reply) -> Outcome
+    ensures refused { result.refused ≡ refused_in reply }
+    ensures line { (line : List ℕ) × IsReplyLine reply line
+        × (((result.status ≡ status_of_reply reply) × Appends (W.contents out.old) (W.contents out.new) line) ⊎ (result.status ≡ 4)) }
+{
     if let Reply::Refused(fault) = reply {
         return said_refused(out, fault);
     }
@@ -117,7 +149,11 @@ fn said_reply<W: Write>(out: &mut W, reply: Reply) -> Outcome {
 }
 
 /// Writes the line of a refusal.
-pub fn said_refused<W: Write>(out: &mut W, fault: SolverFault) -> Outcome {
+pub fn said_refused<W: Write>(out: &mut W, fault: SolverFault) -> Outcome
+    ensures refused { result.refused ≡ Some fault }
+    ensures line { ((result.status ≡ status_of_fault fault) × Appends (W.contents out.old) (W.contents out.new) (fault_line fault))
+        ⊎ (result.status ≡ 4) }
+{
     let status = match put_refused(out, fault) {
         Ok(()) => status_of(fault),
         Err(_) => 4,

@@ -1,6 +1,8 @@
 -- Questions change nothing, and answer from what is kept.
 use Rattle.std.proofs.Common.{◌≡◌, ℕ, ◌<◌, ◌≤◌, List, slice_get, length, Option, None, Some, Result, Ok, Err, refl, sym, ◌∙◌, ap, subst, arith}
-use Rattle.std.specs.Prelude.{IsSome, IsTrue}
+use Rattle.std.specs.Prelude.{IsSome, IfSome, IsTrue, option_map}
+use Rattle.rbg_game.specs.Games.{Game}
+use Rattle.rbg_read.specs.Reading.{Reads}
 use Rattle.position_pack.specs.Texts.{text_of}
 use Rattle.legal_moves.specs.Sources.{IsWideAt, graph_of}
 use Rattle.legal_moves.specs.Compiled.{compiled_game, packing_kind}
@@ -14,8 +16,8 @@ use Rattle.game_table.specs.Texts.{IsText}
 use Rattle.table.specs.Faults.{NeedsNoPage}
 use Rattle.table.specs.declared.fault.TableFault.{TableFault}
 use Rattle.table.specs.declared.fault.TableFault.TheVariants as table
-use Rattle.best_line.specs.Causes.{OfTable}
-use Rattle.best_line.specs.Lines.{IsBestPlay}
+use Rattle.best_line.specs.Causes.{OfTable, LineStops}
+use Rattle.best_line.specs.Lines.{IsBestPlay, IsToldLine}
 use Rattle.best_line.specs.Rows.{AreRows}
 use Rattle.best_line.specs.Values.{IsValue}
 use Rattle.best_line.specs.declared.answers.Row.{Row}
@@ -35,9 +37,9 @@ use Rattle.solver.specs.Audits.{HasVerdict, IsSoInGame, HasWidePosition, AuditCa
 use Rattle.solver.specs.Faults.{line_fault, table_fault, audit_fault}
 use Rattle.solver.specs.declared.fault.SolverFault.{SolverFault}
 use Rattle.solver.specs.declared.fault.SolverFault.TheVariants as solver
-use Rattle.solver.specs.Held.{IsSound}
+use Rattle.solver.specs.Held.{IsSound, graph_in, wide_in}
 use Rattle.solver.specs.State.{IsMadeOf}
-use Rattle.solver.specs.Queries.{OfKept, IsThere, HasValueAt, HasRows, HasLine, HasText, IsOfUnknown, IsOfNone, AskCause, NumberCause, LineCause, ShowCause, FindCause}
+use Rattle.solver.specs.Queries.{OfKept, IsThere, HasValueAt, HasRows, HasLine, HasToldLine, HasText, IsOfSome, IsOfUnknown, IsOfNone, AskCause, NumberCause, LineCause, ShowCause, FindCause}
 use Rattle.solver.proofs.Working.{of_any, sound_here}
 
 -- what an answer has in it
@@ -53,6 +55,10 @@ ok_is x y is = ap (λ v. Ok v) (ap (λ r. answered x r) is)
 pub tells : (kept : Option Kept) (Such : Kept → Type 0) → IsSome kept → ((k : Kept) → kept ≡ Some k → Such k) → OfKept Such kept
 tells None Such some such = absurd (cc)
 tells (Some k) Such some such = such k refl
+
+-- why the table that is kept has no line from this number, by any game that its text reads to
+abbrev pub StopsIn : ℕ → LineFault → Kept → Type 0
+StopsIn number fault k = (game : Game) → Reads k.text game → LineStops (graph_in game k) (wide_in game k) (view_of k.table) number fault
 
 -- the table in hand is the one that is kept
 module _ (k : Kept) (stored : Stored (List ℕ)) (same : stored ≡ k.table) (fits : IsTable k.table) (counts : Counts) (counted : counts ≡ counts_of stored) where
@@ -121,6 +127,29 @@ module _ (k : Kept) (stored : Stored (List ℕ)) (same : stored ≡ k.table) (fi
         of_any compiled k made (λ p g. IsBestPlay (graph_of p g) (view_of k.table) number numbers) game read
         (subst (λ (t : Stored (List ℕ)). IsBestPlay (graph_of (packing_kind compiled) (compiled_game compiled)) (view_of t) number numbers) same (found (sound_stored sound)))
 
+    -- so is the line that the table tells
+    pub told_found : (number : ℕ) (numbers : List ℕ)
+        → (IsTable stored → IsToldLine (graph_of (packing_kind compiled) (compiled_game compiled)) (view_of stored) number numbers) → HasToldLine number numbers k
+    told_found number numbers found = λ game read.
+        of_any compiled k made (λ p g. IsToldLine (graph_of p g) (view_of k.table) number numbers) game read
+        (subst (λ (t : Stored (List ℕ)). IsToldLine (graph_of (packing_kind compiled) (compiled_game compiled)) (view_of t) number numbers) same (found its_table))
+
+    -- and why there is none
+    pub stops_found : (number : ℕ) (fault : LineFault)
+        → (IsTable stored → LineStops (graph_of (packing_kind compiled) (compiled_game compiled)) (IsWideAt (packing_kind compiled) (compiled_game compiled)) (view_of stored) number fault)
+        → StopsIn number fault k
+    stops_found number fault found = λ game read.
+        of_any compiled k made (λ p g. LineStops (graph_of p g) (IsWideAt p g) (view_of k.table) number fault) game read
+        (subst (λ (t : Stored (List ℕ)). LineStops (graph_of (packing_kind compiled) (compiled_game compiled)) (IsWideAt (packing_kind compiled) (compiled_game compiled)) (view_of t) number fault) same
+        (found its_table))
+
+    -- there is none where the position has no value
+    pub stops_unsettled : (number : ℕ) (fault : LineFault) → fault ≡ line.NotSettled
+        → (IsTable stored → LineStops (graph_of (packing_kind compiled) (compiled_game compiled)) (IsWideAt (packing_kind compiled) (compiled_game compiled)) (view_of stored) number fault)
+        → IsTable stored → (view_of stored).value number ≡ None
+    stops_unsettled number fault is found it =
+        subst (λ (f : LineFault). LineStops (graph_of (packing_kind compiled) (compiled_game compiled)) (IsWideAt (packing_kind compiled) (compiled_game compiled)) (view_of stored) number f) is (found it)
+
     -- the verdict by the game in memory is that by any that the text reads to
     pub verdict_found : (verdict : Verdict)
         → (IsTable stored → IsAnswer (graph_of (packing_kind compiled) (compiled_game compiled)) (IsWideAt (packing_kind compiled) (compiled_game compiled)) stored verdict) → HasVerdict verdict k
@@ -147,6 +176,15 @@ module _ (k : Kept) (stored : Stored (List ℕ)) (same : stored ≡ k.table) (fi
     pub never : (Impossible : Type 0) → IsSound (Some k)
         → (IsLocallySound (graph_of (packing_kind compiled) (compiled_game compiled)) (IsWideAt (packing_kind compiled) (compiled_game compiled)) stored → Impossible) → Impossible
     never Impossible sound cause = cause (sound_stored sound)
+
+-- a position of the game has this text
+pub text_of_some : (k : Kept) (compiled : Compiled) → IsMadeOf compiled k → (bytes text : List ℕ) → IsText (packing_kind compiled) (compiled_game compiled) bytes text → IsOfSome text k
+text_of_some k compiled made bytes text it = record {
+  game = compiled_game compiled;
+  reads = made.reads;
+  bytes = bytes;
+  text_is = of_any compiled k made (λ p g. IsText p g bytes text) (compiled_game compiled) made.reads it;
+}
 
 -- no position of the game has this text
 pub text_of_none : (k : Kept) (compiled : Compiled) → IsMadeOf compiled k → (text : List ℕ)
@@ -234,9 +272,16 @@ module _ (old new : State) where
   pub line_cause : {Fails : TableFault → Type 0} (number : ℕ) (fault : LineFault)
       → (fault ≡ line.NotSettled → IsTrue old.disk.honest → OfKept (λ k. IsThere number k × ((view_of k.table).value number ≡ None)) old.kept)
       → (IsTrue old.disk.honest → IsSound old.kept → (fault ≡ line.Inconsistent → ⊥) × (fault ≡ line.TooWide → ⊥))
+      → (IsTrue old.disk.honest → OfKept (StopsIn number fault) old.kept)
       → OfTable NeedsNoPage fault → OfTable Fails fault → ((f : TableFault) → Fails f → FileTableCause old new f) → LineCause number old new (line_fault fault)
-  line_cause number line.NotSettled unsettled sound no_page fails cause = unsettled refl
-  line_cause number line.Inconsistent unsettled sound no_page fails cause = λ honest is. (sound honest is).0 refl
-  line_cause number line.TooWide unsettled sound no_page fails cause = λ honest is. (sound honest is).1 refl
-  line_cause number line.OutOfMemory unsettled sound no_page fails cause = tt
-  line_cause number (line.Table fault) unsettled sound no_page fails cause = line_table_cause number fault no_page (cause fault fails)
+  line_cause number line.NotSettled unsettled sound stops no_page fails cause = unsettled refl
+  line_cause number line.Inconsistent unsettled sound stops no_page fails cause = (λ honest is. (sound honest is).0 refl, stops)
+  line_cause number line.TooWide unsettled sound stops no_page fails cause = (λ honest is. (sound honest is).1 refl, stops)
+  line_cause number line.OutOfMemory unsettled sound stops no_page fails cause = tt
+  line_cause number (line.Table fault) unsettled sound stops no_page fails cause = line_table_cause number fault no_page (cause fault fails)
+
+-- by the counts that a whole file tells, no known position has this number
+pub past_counts : (counts : Option Counts) (kept : Option Kept) (told : Counts) (number : ℕ) → counts ≡ option_map (λ k. told) kept → told.known ≤ number
+    → IfSome counts (λ c. c.known ≤ number)
+past_counts counts None told number is past = rw is tt
+past_counts counts (Some k) told number is past = rw is past

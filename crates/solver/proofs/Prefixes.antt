@@ -18,11 +18,11 @@ use Rattle.solver.specs.declared.fault.SolverFault.TheVariants.{Disk as DiskFail
 use Rattle.solver.specs.declared.replies.Reply.{Reply}
 use Rattle.solver.specs.declared.replies.Reply.TheVariants.{Loaded, Worked, Refused}
 use Rattle.solver.specs.Held.{Holds, IsSound}
-use Rattle.solver.specs.Headline.{IsExact, IsPart, LeavesAPrefix}
+use Rattle.solver.specs.Headline.{IsExact, IsAnsweredBy, LeavesAPrefix}
 use Rattle.solver.specs.Histories.{Sitting, DoAll, DoesInDoubt, LeadTo, IsUsed, no_call, a_question, a_command, Ends, by_closing, in_a_question, in_a_command, by_a_fault, IsSitting}
 use Rattle.solver.specs.aid.Laws.{a_sound_table_is_held, what_is_settled_is_won, finished_is_all, finished_leaves_the_drawn}
 use Rattle.solver.specs.Machine.{Command, load, work, Does, MayDo}
-use Rattle.solver.specs.Runs.{command_of, IsTurn, Turns, IsRun}
+use Rattle.solver.specs.Runs.{command_of, IsTurn, IsTurnWithCause, Turns, IsRun}
 
 -- what a sound table says is so
 pub a_sound_table_is_exact : (kept : Option Kept) → IsSound kept → IsExact kept
@@ -136,7 +136,7 @@ module _ (Stores : Layout) where
   ends_left {last} (in_a_question asked moment from to) open_ fit picture left =
       (last.kept, record { may = refl; stores = (asked.since fit.honest open_).each moment picture from to left })
   ends_left {last} (in_a_command {asked} {reply} {is} turn moment from to) open_ fit picture left =
-      in_command is.closed asked reply last is turn open_ refl fit moment picture from (omega (arith, to)) left
+      in_command is.closed asked reply last is turn open_ refl fit moment picture from to left
   ends_left {last} (by_a_fault {asked} {reply} {is} turn shut moment from to) open_ fit picture left = in_command true asked reply last is turn open_ shut fit moment picture from to left
 
   -- what is left of a sitting is a table that it leads to
@@ -172,36 +172,38 @@ module _ (Stores : Layout) where
       turns_shut commands replies mid is rest (ap (λ (s : State). s.closed) same ∙ shut) ∙ same
 
   -- a sitting that a stop ends at a moment of a run
-  record IsCut (commands : List Command) (replies : List Reply) (was : State) (left : Shown) : Type 0 where
+  record IsCut (moment : ℕ) (commands : List Command) (replies : List Reply) (was is : State) (left : Shown) : Type 0 where
     sitting : Sitting
-    part : IsPart sitting.answered sitting.in_doubt commands replies
+    part : IsAnsweredBy Stores moment sitting.answered sitting.in_doubt commands replies was is
     sits : IsSitting Stores was sitting left
 
-  cut_before : (command : Command) (commands : List Command) (reply : Reply) (replies : List Reply) (was : State) (left : Shown) → was.closed ≡ false → Ends Stores was (Some command) left
-      → IsCut (command ∷ commands) (reply ∷ replies) was left
-  cut_before command commands reply replies was left open_ ends = record {
+  cut_before : (moment : ℕ) (command : Command) (commands : List Command) (reply : Reply) (replies : List Reply) (was mid is : State) (left : Shown) → was.closed ≡ false
+      → IsTurnWithCause Stores command reply was mid → (moment < mid.disk.clock) ⊎ (mid.closed ≡ true) → Turns Stores commands replies mid is → Ends Stores was (Some command) left
+      → IsCut moment (command ∷ commands) (reply ∷ replies) was is left
+  cut_before moment command commands reply replies was mid is left open_ turn later rest ends = record {
     sitting = record { begins = was.kept; answered = []; in_doubt = Some command };
-    part = refl;
+    part = (refl, (mid, turn, later, rest));
     sits = record { begins = refl; last = was; used = no_call; is_open = open_; ends = ends };
   }
 
-  cut_behind : (command : Command) (commands : List Command) (reply : Reply) (replies : List Reply) (was mid : State) (left : Shown) → IsTurn Stores command reply was mid → IsCut commands replies mid left
-      → IsCut (command ∷ commands) (reply ∷ replies) was left
-  cut_behind command commands reply replies was mid left turn cut = record {
+  cut_behind : (moment : ℕ) (command : Command) (commands : List Command) (reply : Reply) (replies : List Reply) (was mid is : State) (left : Shown)
+      → IsTurnWithCause Stores command reply was mid → mid.disk.clock ≤ moment → mid.closed ≡ false → IsCut moment commands replies mid is left
+      → IsCut moment (command ∷ commands) (reply ∷ replies) was is left
+  cut_behind moment command commands reply replies was mid is left turn by_then open_ cut = record {
     sitting = record { begins = was.kept; answered = (command, reply) ∷ cut.sitting.answered; in_doubt = cut.sitting.in_doubt };
-    part = (refl, refl, cut.part);
-    sits = record { begins = refl; last = cut.sits.last; used = a_command turn cut.sits.used; is_open = cut.sits.is_open; ends = cut.sits.ends };
+    part = (refl, refl, (mid, turn, by_then, open_, cut.part));
+    sits = record { begins = refl; last = cut.sits.last; used = a_command turn.turn cut.sits.used; is_open = cut.sits.is_open; ends = cut.sits.ends };
   }
 
   cut_at : (commands : List Command) (replies : List Reply) (was is : State) → Turns Stores commands replies was is → was.closed ≡ false
-      → (moment : ℕ) → was.disk.clock ≤ moment → moment ≤ is.disk.clock → IsCut commands replies was (is.disk.was moment)
+      → (moment : ℕ) → was.disk.clock ≤ moment → moment ≤ is.disk.clock → IsCut moment commands replies was is (is.disk.was moment)
   cut_at [] [] was is same open_ moment from to =
       let clock : is.disk.clock ≡ was.disk.clock = ap (λ (s : State). s.disk.clock) same in
       let at : moment ≡ is.disk.clock = omega (arith, from, to, clock) in
       let left : is.disk.was moment ≡ was.disk.now = ap is.disk.was at ∙ is.disk.was_now ∙ ap (λ (s : State). s.disk.now) same in
       record {
         sitting = record { begins = was.kept; answered = []; in_doubt = None };
-        part = tt;
+        part = same;
         sits = record { begins = refl; last = was; used = no_call; is_open = open_; ends = subst (λ (shown : Shown). Ends Stores was None shown) (sym left) by_closing };
       }
   cut_at [] (reply ∷ replies) was is none open_ moment from to = absurd none
@@ -219,20 +221,20 @@ module _ (Stores : Layout) where
       then_shown : moment ≤ mid.disk.clock → mid.disk.was moment ≡ is.disk.was moment
       then_shown le = sym (goes_on.past moment le)
 
-      before : moment < mid.disk.clock → IsCut (command ∷ commands) (reply ∷ replies) was (is.disk.was moment)
-      before less = subst (λ (shown : Shown). IsCut (command ∷ commands) (reply ∷ replies) was shown) (then_shown (omega (arith, less)))
-          (cut_before command commands reply replies was (mid.disk.was moment) open_ (in_a_command turn moment from less))
+      before : moment < mid.disk.clock → IsCut moment (command ∷ commands) (reply ∷ replies) was is (is.disk.was moment)
+      before less = subst (λ (shown : Shown). IsCut moment (command ∷ commands) (reply ∷ replies) was is shown) (then_shown (omega (arith, less)))
+          (cut_before moment command commands reply replies was mid is (mid.disk.was moment) open_ it (inl less) rest (in_a_command turn moment from (omega (arith, less))))
 
-      by : (b : Bool) → mid.closed ≡ b → (mid.closed ≡ false → mid.disk.clock ≤ moment → IsCut commands replies mid (is.disk.was moment))
-          → IsCut (command ∷ commands) (reply ∷ replies) was (is.disk.was moment)
+      by : (b : Bool) → mid.closed ≡ b → (mid.closed ≡ false → mid.disk.clock ≤ moment → IsCut moment commands replies mid is (is.disk.was moment))
+          → IsCut moment (command ∷ commands) (reply ∷ replies) was is (is.disk.was moment)
       by true shut then =
           let clock : is.disk.clock ≡ mid.disk.clock = ap (λ (s : State). s.disk.clock) (turns_shut commands replies mid is rest shut) in
           let le : moment ≤ mid.disk.clock = omega (arith, to, clock) in
-          subst (λ (shown : Shown). IsCut (command ∷ commands) (reply ∷ replies) was shown) (then_shown le)
-          (cut_before command commands reply replies was (mid.disk.was moment) open_ (by_a_fault turn shut moment from le))
+          subst (λ (shown : Shown). IsCut moment (command ∷ commands) (reply ∷ replies) was is shown) (then_shown le)
+          (cut_before moment command commands reply replies was mid is (mid.disk.was moment) open_ it (inr shut) rest (by_a_fault turn shut moment from le))
       by false mid_open then = elim (cases_lt moment mid.disk.clock) [
         | inl less ↦ before less
-        | inr le ↦ cut_behind command commands reply replies was mid (is.disk.was moment) turn (then mid_open le)
+        | inr le ↦ cut_behind moment command commands reply replies was mid is (is.disk.was moment) it le mid_open (then mid_open le)
       ]
 
   -- a stop in a run leaves a table that the first of its commands lead to

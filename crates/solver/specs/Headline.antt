@@ -1,5 +1,5 @@
 -- The headline: what a stop of the power leaves of a table in the course of many commands, and what that says of the game.
-use Rattle.std.specs.Prelude.{◌≡◌, ◌⊎◌, ◌↔◌, ℕ, ◌≤◌, List, [], ◌∷◌, Option, None, Some, IsTrue}
+use Rattle.std.specs.Prelude.{◌≡◌, ◌⊎◌, ◌↔◌, ℕ, ◌≤◌, ◌<◌, true, false, List, [], ◌∷◌, Option, None, Some, IsTrue}
 use Rattle.sector_disk.specs.Disk.{Picture, Disk, MayLeave, Grew}
 use Rattle.rbg_game.specs.Games.{Game}
 use Rattle.rbg_game.specs.declared.roles.Player.{Player}
@@ -18,6 +18,7 @@ use Rattle.solver.specs.Histories.{Sitting, LeadTo, IsSitting}
 use Rattle.solver.specs.declared.replies.Reply.{Reply}
 use Rattle.solver.specs.Machine.{Command}
 use Rattle.solver.specs.Opening.{IsOpened, OpenCause}
+use Rattle.solver.specs.Runs.{IsTurnWithCause, Turns}
 
 -- what the table says is so by the rules of the game that its text reads to: each settled position is won by the named player in
 -- exactly the named number of moves, and where the table says finished, its positions are those that play can come to, and the
@@ -38,14 +39,6 @@ IsExact (Some kept) = (game : Game) × SaysWhatIs kept game
 abbrev pub IsUnlucky : ℕ → ℕ → SolverFault → Type 0
 IsUnlucky before now fault = ((fault ≡ DiskFailed) × Grew before now) ⊎ (fault ≡ OutOfMemory)
 
--- the first of these commands were answered, with these replies, and the next was perhaps begun
-abbrev pub IsPart : List (Command × Reply) → Option Command → List Command → List Reply → Type 0
-IsPart [] None commands replies = Unit {0}
-IsPart [] (Some asked) (command ∷ commands) replies = asked ≡ command
-IsPart ((asked, said) ∷ answered) in_doubt (command ∷ commands) (reply ∷ replies) =
-    (asked ≡ command) × (said ≡ reply) × IsPart answered in_doubt commands replies
-IsPart _ _ _ _ = ⊥
-
 module _ (Stores : Layout) where
   -- reopening gives this table: an honest disk that reads as the picture is opened with it, and every stop then leaves it; or `open`
   -- is refused because the disk failed or memory ran out, and for nothing else
@@ -61,12 +54,24 @@ module _ (Stores : Layout) where
   abbrev pub Headline : List Sitting → Picture → Type 0
   Headline sittings picture = (kept : Option Kept) × LeadTo sittings None kept × Reopens picture kept × IsExact kept
 
-  -- a stop at any moment of the run ends a sitting with the first of the commands: those that were answered by then, and perhaps the
+  -- what of a run is answered at this moment: the first of its commands, each with its reply, in states of the run that come no later;
+  -- and where there is a next command, it is in doubt: it is answered later, or a write or a sync fails in it, which closes the solver
+  abbrev pub IsAnsweredBy : ℕ → List (Command × Reply) → Option Command → List Command → List Reply → State → State → Type 0
+  IsAnsweredBy moment [] None [] [] was is = is ≡ was
+  IsAnsweredBy moment [] (Some asked) (command ∷ commands) (reply ∷ replies) was is =
+      (asked ≡ command) × ((mid : State) × IsTurnWithCause Stores command reply was mid
+      × ((moment < mid.disk.clock) ⊎ (mid.closed ≡ true)) × Turns Stores commands replies mid is)
+  IsAnsweredBy moment ((asked, said) ∷ answered) in_doubt (command ∷ commands) (reply ∷ replies) was is =
+      (asked ≡ command) × (said ≡ reply) × ((mid : State) × IsTurnWithCause Stores command reply was mid
+      × (mid.disk.clock ≤ moment) × (mid.closed ≡ false) × IsAnsweredBy moment answered in_doubt commands replies mid is)
+  IsAnsweredBy _ _ _ _ _ _ _ = ⊥
+
+  -- a stop at any moment of the run ends a sitting with the first of the commands: all that were answered by then, and perhaps the
   -- next, in doubt; what it leaves holds a table that they lead to, and what that says is so
   abbrev pub LeavesAPrefix : List Command → List Reply → State → State → Type 0
   LeavesAPrefix commands replies old new =
       (moment : ℕ) → old.disk.clock ≤ moment → moment ≤ new.disk.clock
-      → (sitting : Sitting) × IsPart sitting.answered sitting.in_doubt commands replies
+      → (sitting : Sitting) × IsAnsweredBy moment sitting.answered sitting.in_doubt commands replies old new
       × IsSitting Stores old sitting (new.disk.was moment)
       × ((picture : Picture) → MayLeave (new.disk.was moment) picture
       → (kept : Option Kept) × LeadTo (sitting ∷ []) old.kept kept × Holds Stores picture kept × IsExact kept)

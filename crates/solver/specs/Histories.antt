@@ -1,5 +1,5 @@
 -- All that may come of a table in many sittings, each of which a stop of the power may end.
-use Rattle.std.specs.Prelude.{◌≡◌, ℕ, ◌<◌, ◌≤◌, true, false, List, [], ◌∷◌, ◌++◌, Option, None, Some, IsTrue}
+use Rattle.std.specs.Prelude.{◌≡◌, ℕ, ◌≤◌, true, false, List, [], ◌∷◌, ◌++◌, Option, None, Some, IsTrue}
 use Rattle.sector_disk.specs.Disk.{Picture, Shown, Disk, LeavesOnly, MayLeave}
 use Rattle.game_file.specs.Calls.{IsAsked}
 use Rattle.game_file.specs.Kept.{Kept, Layout}
@@ -42,13 +42,13 @@ module _ (Stores : Layout) where
         → IsTurn Stores asked reply was mid → IsUsed answered mid is → IsUsed ((asked, reply) ∷ answered) was is
 
   -- what the disk shows at the end of a sitting, and the command in doubt: the solver is closed; a stop comes in a question, or in
-  -- a command before it is answered; or a write or a sync fails in a command, which is answered E1
+  -- a command, up to its last call of the disk; or a write or a sync fails in a command, which is answered E1
   pub data Ends (last : State) : Option Command → Shown → Type 0 where
     by_closing : Ends last None last.disk.now
     in_a_question : {is : State} → IsAsked Stores last is → (moment : ℕ) → last.disk.clock ≤ moment → moment ≤ is.disk.clock
         → Ends last None (is.disk.was moment)
     in_a_command : {asked : Command} {reply : Reply} {is : State} → IsTurn Stores asked reply last is → (moment : ℕ)
-        → last.disk.clock ≤ moment → moment < is.disk.clock → Ends last (Some asked) (is.disk.was moment)
+        → last.disk.clock ≤ moment → moment ≤ is.disk.clock → Ends last (Some asked) (is.disk.was moment)
     by_a_fault : {asked : Command} {reply : Reply} {is : State} → IsTurn Stores asked reply last is → is.closed ≡ true → (moment : ℕ)
         → last.disk.clock ≤ moment → moment ≤ is.disk.clock → Ends last (Some asked) (is.disk.was moment)
 

@@ -1,5 +1,5 @@
 -- What is asked of a solver, what it answers, and why not.
-use Rattle.std.specs.Prelude.{◌≡◌, ◌<◌, ℕ, List, length, true, false, Option, None, Some, IsTrue}
+use Rattle.std.specs.Prelude.{◌≡◌, ◌<◌, ◌≤◌, ℕ, List, length, true, false, Option, None, Some, IsTrue, IfSome}
 use Rattle.sector_disk.specs.Disk.{Grew}
 use Rattle.rbg_game.specs.Games.{Game}
 use Rattle.rbg_read.specs.Reading.{Reads}
@@ -10,13 +10,13 @@ use Rattle.best_line.specs.declared.answers.Value.{Value}
 use Rattle.best_line.specs.declared.answers.Row.{Row}
 use Rattle.best_line.specs.Values.{IsValue}
 use Rattle.best_line.specs.Rows.{AreRows}
-use Rattle.best_line.specs.Lines.{IsBestPlay}
+use Rattle.best_line.specs.Lines.{IsBestPlay, IsToldLine, BreaksOff, MeetsWide}
 use Rattle.game_file.specs.Kept.{Kept}
 use Rattle.game_file.specs.State.{State}
 use Rattle.solver.specs.declared.fault.SolverFault.{SolverFault}
 use Rattle.solver.specs.declared.fault.SolverFault.TheVariants.{Disk, Damaged, OutOfMemory, Closed, NoGame, TooWide, Inconsistent}
 use Rattle.solver.specs.declared.fault.SolverFault.TheVariants.{NoSuchPosition, NotSettled, BadPosition}
-use Rattle.solver.specs.Held.{graph_in}
+use Rattle.solver.specs.Held.{graph_in, wide_in}
 use Rattle.solver.specs.State.{IsOfOtherOrigin}
 
 -- a game is loaded, and this holds of what is kept
@@ -50,6 +50,18 @@ pub record HasRows (from count : ℕ) (rows : List Row) (kept : Kept) : Type 0 w
 abbrev pub HasLine : ℕ → List ℕ → Kept → Type 0
 HasLine number numbers kept = (game : Game) → Reads kept.text game → IsBestPlay (graph_in game kept) (view_of kept.table) number numbers
 
+-- the numbers are the line that the table tells from this one to its end, whether or not what it tells is so
+abbrev pub HasToldLine : ℕ → List ℕ → Kept → Type 0
+HasToldLine number numbers kept = (game : Game) → Reads kept.text game → IsToldLine (graph_in game kept) (view_of kept.table) number numbers
+
+-- the line that the table tells from this number comes to one from which no move leads to where the same player wins in one fewer
+abbrev pub HasBrokenLine : ℕ → Kept → Type 0
+HasBrokenLine number kept = (game : Game) → Reads kept.text game → BreaksOff (graph_in game kept) (view_of kept.table) number
+
+-- it comes to one whose position is too wide
+abbrev pub HasWideLine : ℕ → Kept → Type 0
+HasWideLine number kept = (game : Game) → Reads kept.text game → MeetsWide (graph_in game kept) (wide_in game kept) (view_of kept.table) number
+
 -- the position with this number has this text
 pub record HasText (number : ℕ) (text : List ℕ) (kept : Kept) : Type 0 where
   pub game : Game
@@ -66,6 +78,13 @@ pub record IsOfUnknown (text : List ℕ) (kept : Kept) : Type 0 where
   pub text_is : IsText kept.packing game bytes text
   pub unknown : (number : ℕ) → ¬ HasNumber (view_of kept.table) number bytes
 
+-- the text is that of a position of the game
+pub record IsOfSome (text : List ℕ) (kept : Kept) : Type 0 where
+  pub game : Game
+  pub reads : Reads kept.text game
+  pub bytes : List ℕ
+  pub text_is : IsText kept.packing game bytes text
+
 -- the text is that of no position of the game
 pub record IsOfNone (text : List ℕ) (kept : Kept) : Type 0 where
   pub game : Game
@@ -81,16 +100,17 @@ AskCause old new Closed = old.closed ≡ true
 AskCause old new NoGame = (old.closed ≡ false) × (old.kept ≡ None)
 AskCause old new _ = ⊥
 
--- why `value` and `list` are refused
+-- why `value` and `list` are refused: by the counts that the file tells, on any disk, no known position has the number
 abbrev pub NumberCause : ℕ → State → State → SolverFault → Type 0
-NumberCause number old new NoSuchPosition = Tells (λ kept. ¬ IsThere number kept) old
+NumberCause number old new NoSuchPosition = IfSome old.counts (λ counts. counts.known ≤ number) × Tells (λ kept. ¬ IsThere number kept) old
 NumberCause number old new fault = AskCause old new fault
 
--- why `line` is refused; S6 and S4 never come of a sound table on an honest disk
+-- why `line` is refused; S6 and S4 never come of a sound table on an honest disk, and of any other where its line breaks off or
+-- comes to a position that is too wide
 abbrev pub LineCause : ℕ → State → State → SolverFault → Type 0
 LineCause number old new NotSettled = Tells (λ kept. IsThere number kept × ((view_of kept.table).value number ≡ None)) old
-LineCause number old new Inconsistent = IsOfOtherOrigin old
-LineCause number old new TooWide = IsOfOtherOrigin old
+LineCause number old new Inconsistent = IsOfOtherOrigin old × Tells (HasBrokenLine number) old
+LineCause number old new TooWide = IsOfOtherOrigin old × Tells (HasWideLine number) old
 LineCause number old new fault = NumberCause number old new fault
 
 -- why `show` is refused; S6 never comes of a sound table on an honest disk
@@ -98,8 +118,8 @@ abbrev pub ShowCause : ℕ → State → State → SolverFault → Type 0
 ShowCause number old new Inconsistent = IsOfOtherOrigin old
 ShowCause number old new fault = NumberCause number old new fault
 
--- why `find` is refused
+-- why `find` is refused; which texts are those of positions is said of any disk
 abbrev pub FindCause : List ℕ → State → State → SolverFault → Type 0
-FindCause text old new BadPosition = Tells (IsOfNone text) old
-FindCause text old new NoSuchPosition = Tells (IsOfUnknown text) old
+FindCause text old new BadPosition = OfKept (IsOfNone text) old.kept
+FindCause text old new NoSuchPosition = OfKept (IsOfSome text) old.kept × Tells (IsOfUnknown text) old
 FindCause text old new fault = AskCause old new fault

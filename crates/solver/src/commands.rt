@@ -11,10 +11,10 @@ ghost use Rattle.solver.specs.Headline.{IsUnlucky};
 ghost use Rattle.solver.specs.Held.{Holds, IsSound};
 ghost use Rattle.solver.specs.Machine.{load as load_it, work as work_on, LoadCause};
 ghost use Rattle.solver.specs.Opening.{IsOpened, IsCreated, OpenCause, LayoutCause, CreateCause};
-ghost use Rattle.solver.specs.Queries.{AskCause};
 ghost use Rattle.solver.specs.Steps.{IsDone, IsRefused};
 ghost use Rattle.solver.specs.Units.{units_in};
 
+use crate::needs::game_in;
 use crate::with_game::with_game;
 use crate::{Refused, Reply, SolverFault, Units, Worked};
 use game_file::GameFile;
@@ -125,26 +125,6 @@ impl<F: GameFile> FileSolver<F> {
         }
     }
 
-    /// Whether a game is loaded, and may be asked and worked on: E9, S1.
-    pub(crate) fn needs_game(&self) -> Result<(), SolverFault>
-        ensures open { OnOk result ((state self.now).closed ≡ false) }
-        ensures some { OnOk result (IsSome (state self.now).kept) }
-        ensures closed { (state self.now).closed ≡ true → IsErrOf result SolverFault.Closed }
-        ensures no_game { (state self.now).closed ≡ false
-            → (state self.now).kept ≡ None
-            → IsErrOf result SolverFault.NoGame }
-        ensures free { (state self.now).closed ≡ false → IsSome (state self.now).kept → IsOk result }
-        ensures cause { IfErr result (AskCause (state self.now) (state self.now)) }
-    {
-        if self.file.is_closed() {
-            return Err(SolverFault::Closed);
-        }
-        match self.file.text() {
-            Some(_) => Ok(()),
-            None => Err(SolverFault::NoGame),
-        }
-    }
-
     /// Loads the game of this text: E9, S2, then G1 to G10, then E1, E7, E8.
     pub fn load(&mut self, text: &[u8]) -> Result<(), SolverFault>
         ensures ready { IsReady self.old → IsReady self.new }
@@ -192,10 +172,7 @@ impl<F: GameFile> FileSolver<F> {
             → IsSound (state self.old).kept
             → IsSound (state self.new).kept }
     {
-        self.needs_game()?;
-        let Some(source) = &self.source else {
-            return Err(SolverFault::NoGame);
-        };
+        let source = game_in(&self.file, &self.source)?;
         let done = match source.work(self.alloc, &mut self.file, units.count()) {
             Ok(done) => done,
             Err(fault) => {

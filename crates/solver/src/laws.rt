@@ -1,11 +1,12 @@
 //! What holds of every table that a solver keeps: each is a law, which proofs cite by a call, or by the lemma of the same name in specs/.
-ghost use Rattle.std.specs.Prelude.{◌≡◌, ◌⊎◌, ◌↔◌, ℕ, List, Option, None, Some, IsTrue};
+ghost use Rattle.std.specs.Prelude.{◌≡◌, ◌⊎◌, ◌↔◌, ℕ, true, false, List, Option, None, Some, IsTrue};
 ghost use Rattle.sector_disk.specs.Disk.{Picture, Shown, Disk, MayLeave};
 ghost use Rattle.rbg_game.specs.Games.{Game};
 ghost use Rattle.rbg_game.specs.declared.roles.Player.{Player};
 ghost use Rattle.rbg_read.specs.Reading.{Reads};
 ghost use Rattle.retrograde.specs.Changes.{counts_of};
 ghost use Rattle.retrograde.specs.Graph.{IsReachable};
+ghost use Rattle.retrograde.specs.Right.{IsRight};
 ghost use Rattle.retrograde.specs.Stored.{view_of};
 ghost use Rattle.retrograde.specs.Values.{WonIn, Drawn};
 ghost use Rattle.retrograde.specs.View.{IsKnown, HasNumber, HasValue, IsFinished};
@@ -13,12 +14,18 @@ ghost use Rattle.best_line.specs.declared.answers.Value.{Value};
 ghost use Rattle.best_line.specs.Values.{IsComplete, IsValue};
 ghost use Rattle.best_line.specs.Laws.{IsSo};
 ghost use Rattle.game_file.specs.Kept.{Kept};
-ghost use Rattle.game_file.specs.State.{State};
+ghost use Rattle.game_file.specs.State.{State, GoesAhead};
 ghost use Rattle.solver.specs.Headline.{Headline};
 ghost use Rattle.solver.specs.Held.{Holds, IsSound, graph_in};
 ghost use Rattle.solver.specs.Histories.{Sitting, LeadTo, History};
 ghost use Rattle.solver.specs.Machine.{Command, MayDo};
 ghost use Rattle.solver.specs.Opening.{IsOpened};
+ghost use Rattle.solver.specs.Runs.{IsTurnWithCause};
+ghost use Rattle.solver.specs.Steps.{IsDone, IsRefused};
+ghost use Rattle.solver.specs.declared.fault.SolverFault.{SolverFault};
+ghost use Rattle.solver.specs.declared.fault.SolverFault.TheVariants.{Closed};
+ghost use Rattle.solver.specs.declared.replies.Reply.{Reply};
+ghost use Rattle.solver.specs.declared.replies.Reply.TheVariants.{Refused};
 
 use game_file::GameFile;
 
@@ -37,6 +44,23 @@ pub fn what_was_left_is_opened<F: GameFile>()
     ensures { (disk : Disk) (count : ℕ) (state : State) (one other : Option Kept) → IsOpened F.stores disk count state → IsTrue disk.honest
         → ((picture : Picture) → MayLeave disk.now picture → Holds F.stores picture one ⊎ Holds F.stores picture other)
         → (state.kept ≡ one) ⊎ (state.kept ≡ other) }
+{}
+
+/// A locally sound table is right for the game that its text reads to.
+pub fn a_sound_table_is_right()
+    ensures { (kept : Kept) (game : Game) → IsSound (Some kept) → Reads kept.text game → IsRight (graph_in game kept) (view_of kept.table) }
+{}
+
+/// A `load` or `work` that was done is a turn, as `run` makes them: so a history may go on by it.
+pub fn a_done_call_is_a_turn<F: GameFile>()
+    ensures { (command : Command) (reply : Reply) (old new : State) → GoesAhead old new → IsDone F.stores command reply old new
+        → old.closed ≡ false → IsTurnWithCause F.stores command reply old new }
+{}
+
+/// And so is one that was refused, where a closed solver answers E9 and stays as it is.
+pub fn a_refused_call_is_a_turn<F: GameFile>()
+    ensures { (command : Command) (fault : SolverFault) (old new : State) → GoesAhead old new → IsRefused F.stores command old new fault
+        → (old.closed ≡ true → (fault ≡ Closed) × (new ≡ old)) → IsTurnWithCause F.stores command (Refused fault) old new }
 {}
 
 /// Each settled position of a locally sound table is won by the named player in exactly the named number of moves.

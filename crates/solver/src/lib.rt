@@ -6,6 +6,7 @@ mod fault;
 pub mod laws;
 mod listing;
 mod listings;
+mod needs;
 mod queries;
 mod replies;
 mod run;

@@ -5,6 +5,7 @@ ghost use Rattle.retrograde.specs.Stored.{Stored};
 ghost use Rattle.solver.specs.Listings.{BeginCause};
 ghost use Rattle.solver.specs.Solvers.{state, IsReady};
 
+use crate::needs::needs_game;
 use crate::listing::Listing;
 use crate::{FileSolver, SolverFault};
 use game_file::Versions;
@@ -26,7 +27,7 @@ impl<F: Versions> FileSolver<F> {
         ensures closed { (state self.old).closed ≡ true → IsErrOf result SolverFault.Closed }
         ensures no_game { (state self.old).closed ≡ false → (state self.old).kept ≡ None → IsErrOf result SolverFault.NoGame }
     {
-        self.needs_game()?;
+        needs_game(&self.file)?;
         match self.file.keep() {
             Some(version) => Ok(Listing { version, next: 0 }),
             None => Err(SolverFault::ListingsUsedUp),

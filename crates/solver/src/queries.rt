@@ -1,15 +1,16 @@
 //! What is asked of a solver.
-ghost use Rattle.std.specs.Prelude.{◌≡◌, ◌<◌, true, false, Ok, None, IsSome, IfOk, IfErr, OnOk, IfSome, IfNone, IsErrOf};
+ghost use Rattle.std.specs.Prelude.{◌≡◌, true, false, Ok, None, IfOk, IfErr, IfSome, IfNone, IsErrOf};
 ghost use Rattle.rbg_game.specs.Meaning.{game_of};
 ghost use Rattle.game_file.specs.Calls.{IsAsked};
 ghost use Rattle.audit.specs.declared.verdict.Verdict.TheVariants.{Right};
 ghost use Rattle.solver.specs.Audits.{HasVerdict, IsSoInGame, AuditCause};
 ghost use Rattle.solver.specs.Held.{IsSound};
-ghost use Rattle.solver.specs.Queries.{OfKept, Tells, HasValueAt, HasRows, HasLine, HasText, IsGameOf, AskCause, NumberCause, LineCause};
-ghost use Rattle.solver.specs.Queries.{ShowCause, FindCause};
+ghost use Rattle.solver.specs.Queries.{OfKept, Tells, HasValueAt, HasRows, HasLine, HasToldLine, HasText, IsGameOf, AskCause, NumberCause};
+ghost use Rattle.solver.specs.Queries.{LineCause, ShowCause, FindCause};
 ghost use Rattle.solver.specs.Solvers.{state, IsReady};
 ghost use Rattle.solver.specs.Units.{units_in};
 
+use crate::needs::{game_at, game_in};
 use crate::{FileSolver, SolverFault, Units};
 use audit::Verdict;
 use best_line::{Row, Value};
@@ -31,29 +32,14 @@ impl<F: GameFile> FileSolver<F> {
         }
     }
 
-    /// How many positions are known: E9, S1.
-    fn known(&self) -> Result<u32, SolverFault>
-        ensures known { IfOk result (λ known. known ≡ (F.counted self.now.file).known) }
-        ensures some { OnOk result (IsSome (F.state self.now.file).kept) }
-        ensures cause { IfErr result (AskCause (F.state self.now.file) (F.state self.now.file)) }
-        ensures closed { (F.state self.now.file).closed ≡ true → IsErrOf result SolverFault.Closed }
+    /// The game of an open solver in which one is loaded: E9, S1. It takes no memory.
+    pub fn needs_game(&self) -> Result<&Game, SolverFault>
+        ensures game { IsReady self.now → IfOk result (λ game. OfKept (IsGameOf (game_of game.now)) (state self.now).kept) }
+        ensures cause { IsReady self.now → IfErr result (AskCause (state self.now) (state self.now)) }
+        ensures closed { (state self.now).closed ≡ true → IsErrOf result SolverFault.Closed }
+        ensures no_game { (state self.now).closed ≡ false → (state self.now).kept ≡ None → IsErrOf result SolverFault.NoGame }
     {
-        self.needs_game()?;
-        Ok(self.file.counts().known)
-    }
-
-    /// Whether the number is that of a known position: E9, S1, S7.
-    fn check(&self, number: u32) -> Result<(), SolverFault>
-        ensures there { OnOk result (number < (F.counted self.now.file).known) }
-        ensures some { OnOk result (IsSome (F.state self.now.file).kept) }
-        ensures cause { F.is_whole self.now.file → IfErr result (NumberCause number (F.state self.now.file) (F.state self.now.file)) }
-        ensures closed { (F.state self.now.file).closed ≡ true → IsErrOf result SolverFault.Closed }
-    {
-        if number < self.known()? {
-            Ok(())
-        } else {
-            Err(SolverFault::NoSuchPosition)
-        }
+        Ok(game_in(&self.file, &self.source)?.game())
     }
 
     /// Who wins the position with this number, and in how many moves; a draw only where the table is finished: E9, S1, S7.
@@ -66,8 +52,10 @@ impl<F: GameFile> FileSolver<F> {
             → IfErr result (NumberCause number (state self.old)
             (state self.new)) }
         ensures closed { (state self.old).closed ≡ true → IsErrOf result SolverFault.Closed × (self.new ≡ self.old) }
+        ensures no_game { (state self.old).closed ≡ false → (state self.old).kept ≡ None
+            → IsErrOf result SolverFault.NoGame × (self.new ≡ self.old) }
     {
-        self.check(number)?;
+        game_at(&self.file, &self.source, number)?;
         Ok(best_line::value(&mut self.file, number)?)
     }
 
@@ -79,26 +67,29 @@ impl<F: GameFile> FileSolver<F> {
         ensures rows { IsReady self.old → IfOk result (λ rows. Tells (HasRows from (units_in count) rows.items) (state self.old)) }
         ensures cause { IsReady self.old → IfErr result (NumberCause from (state self.old) (state self.new)) }
         ensures closed { (state self.old).closed ≡ true → IsErrOf result SolverFault.Closed × (self.new ≡ self.old) }
+        ensures no_game { (state self.old).closed ≡ false → (state self.old).kept ≡ None
+            → IsErrOf result SolverFault.NoGame × (self.new ≡ self.old) }
     {
-        self.check(from)?;
+        game_at(&self.file, &self.source, from)?;
         Ok(best_line::list(self.alloc, &mut self.file, from, count.count())?)
     }
 
     /// The numbers of a best line: each next one is the first successor in packed order that the same player wins in one
-    /// fewer: E9, S1, S7, S8. S6 and S4 come only of a table that is not of this program's making.
+    /// fewer: E9, S1, S7, S8. S6 comes where the line comes to a position that has no such successor, and S4 where it comes to one that
+    /// is too wide: both only of a table that is not of this program's making.
     pub fn line(&mut self, number: u32) -> Result<Vec<u32>, SolverFault>
         ensures ready { IsReady self.old → IsReady self.new }
         ensures lasts { F.lasts self.old.file self.new.file }
         ensures asked { IsReady self.old → IsAsked F.stores (state self.old) (state self.new) }
         ensures line { IsReady self.old → IsSound (state self.old).kept
             → IfOk result (λ numbers. Tells (HasLine number numbers.items) (state self.old)) }
+        ensures told { IsReady self.old → IfOk result (λ numbers. Tells (HasToldLine number numbers.items) (state self.old)) }
         ensures cause { IsReady self.old → IfErr result (LineCause number (state self.old) (state self.new)) }
         ensures closed { (state self.old).closed ≡ true → IsErrOf result SolverFault.Closed × (self.new ≡ self.old) }
+        ensures no_game { (state self.old).closed ≡ false → (state self.old).kept ≡ None
+            → IsErrOf result SolverFault.NoGame × (self.new ≡ self.old) }
     {
-        self.check(number)?;
-        let Some(source) = &self.source else {
-            return Err(SolverFault::NoGame);
-        };
+        let source = game_at(&self.file, &self.source, number)?;
         Ok(best_line::line(self.alloc, source.moves(), &mut self.file, number)?)
     }
 
@@ -113,11 +104,10 @@ impl<F: GameFile> FileSolver<F> {
         ensures so { IsReady self.old → result ≡ Ok Right → Tells IsSoInGame (state self.old) }
         ensures cause { IsReady self.old → IfErr result (AuditCause (state self.old) (state self.new)) }
         ensures closed { (state self.old).closed ≡ true → IsErrOf result SolverFault.Closed × (self.new ≡ self.old) }
+        ensures no_game { (state self.old).closed ≡ false → (state self.old).kept ≡ None
+            → IsErrOf result SolverFault.NoGame × (self.new ≡ self.old) }
     {
-        self.known()?;
-        let Some(source) = &self.source else {
-            return Err(SolverFault::NoGame);
-        };
+        let source = game_in(&self.file, &self.source)?;
         Ok(audit::audit(self.alloc, source.moves(), &mut self.file)?)
     }
 
@@ -129,12 +119,11 @@ impl<F: GameFile> FileSolver<F> {
         ensures text { IsReady self.old → IfOk result (λ text. Tells (HasText number text.items) (state self.old)) }
         ensures cause { IsReady self.old → IfErr result (ShowCause number (state self.old) (state self.new)) }
         ensures closed { (state self.old).closed ≡ true → IsErrOf result SolverFault.Closed × (self.new ≡ self.old) }
+        ensures no_game { (state self.old).closed ≡ false → (state self.old).kept ≡ None
+            → IsErrOf result SolverFault.NoGame × (self.new ≡ self.old) }
     {
-        self.check(number)?;
+        let source = game_at(&self.file, &self.source, number)?;
         let packed = self.file.packed(number)?;
-        let Some(source) = &self.source else {
-            return Err(SolverFault::NoGame);
-        };
         match source.show(self.alloc, &packed)? {
             Some(text) => Ok(text),
             None => Err(SolverFault::Inconsistent),
@@ -152,11 +141,10 @@ impl<F: GameFile> FileSolver<F> {
             → IfErr result (FindCause text.now (state self.old)
             (state self.new)) }
         ensures closed { (state self.old).closed ≡ true → IsErrOf result SolverFault.Closed × (self.new ≡ self.old) }
+        ensures no_game { (state self.old).closed ≡ false → (state self.old).kept ≡ None
+            → IsErrOf result SolverFault.NoGame × (self.new ≡ self.old) }
     {
-        self.known()?;
-        let Some(source) = &self.source else {
-            return Err(SolverFault::NoGame);
-        };
+        let source = game_in(&self.file, &self.source)?;
         let Some(packed) = source.position(text) else {
             return Err(SolverFault::BadPosition);
         };

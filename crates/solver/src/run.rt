@@ -1,5 +1,5 @@
 //! Many commands at once.
-ghost use Rattle.std.specs.Prelude.{◌≡◌, ◌++◌, false, List, map, IsTrue, OnOk, OnErr, IfErr};
+ghost use Rattle.std.specs.Prelude.{◌≡◌, ◌+◌, ◌++◌, false, List, [], length, map, IsTrue, IsOk, OnOk, OnErr, IfErr};
 ghost use Rattle.solver.specs.Headline.{LeavesAPrefix};
 ghost use Rattle.solver.specs.Held.{IsSound};
 ghost use Rattle.solver.specs.Runs.{command_of, IsTurnWithCause, IsRun};
@@ -34,7 +34,7 @@ impl<F: GameFile> FileSolver<F> {
     }
 
     /// Does these commands one after another, each as `load` and `work` do, and puts a reply for each behind those that are
-    /// there. Room for all replies is asked for first: where it is refused, nothing is done (E8).
+    /// there. Room for all replies is asked for first: where it is refused, nothing is done (E8). No commands are done at once.
     pub fn run(&mut self, commands: &[Command], replies: &mut Vec<Reply>) -> Result<(), SolverFault>
         ensures ready { IsReady self.old → IsReady self.new }
         ensures lasts { F.lasts self.old.file self.new.file }
@@ -50,10 +50,15 @@ impl<F: GameFile> FileSolver<F> {
         ensures sound { IsReady self.old → IsTrue (state self.old).disk.honest
             → IsSound (state self.old).kept
             → IsSound (state self.new).kept }
+        ensures each { OnOk result (length replies.new.items ≡ length replies.old.items + length commands.now) }
+        ensures none { commands.now ≡ [] → IsOk result × (self.new ≡ self.old) × (replies.new.items ≡ replies.old.items) }
         ensures fault { IfErr result (λ fault. fault ≡ SolverFault.OutOfMemory) }
         ensures refused { OnErr result (self.new ≡ self.old) }
         ensures unanswered { OnErr result (replies.new.items ≡ replies.old.items) }
     {
+        if commands.is_empty() {
+            return Ok(());
+        }
         replies.reserve(commands.len())?;
         for command in commands {
             let reply = self.answer(command);

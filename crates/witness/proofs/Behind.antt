@@ -8,7 +8,7 @@ use Rattle.game_file.specs.Calls.{IsNotOpened}
 use Rattle.game_file.specs.State.{State, GoesAhead}
 use Rattle.game_file.specs.Kept.{Layout}
 use Rattle.solver.specs.declared.replies.Reply.{Reply}
-use Rattle.solver.specs.Headline.{IsPart, LeavesAPrefix}
+use Rattle.solver.specs.Headline.{IsAnsweredBy, LeavesAPrefix}
 use Rattle.solver.specs.Histories.{Sitting, History, was_made, was_reopened, was_not_opened, IsSitting, IsFound, no_call, by_closing}
 use Rattle.solver.specs.Machine.{Command}
 use Rattle.solver.specs.Opening.{IsCreated, IsOpened}
@@ -67,22 +67,23 @@ module _ (Stores : Layout) where
   }
 
   -- what is answered of one's own commands
-  own_part : (answered : List (Command × Reply)) (in_doubt : Option Command) (commands : List Command) (replies : List Reply)
-      → IsPart answered in_doubt commands replies → AllByRecursion IsOwn commands → AreOwn answered × IfSome in_doubt IsOwn
-  own_part [] None commands replies part own = (tt, tt)
-  own_part [] (Some asked) [] replies part own = elim part [ ]
-  own_part ((asked, said) ∷ answered) in_doubt [] replies part own = elim part [ ]
-  own_part ((asked, said) ∷ answered) in_doubt (command ∷ commands) [] part own = elim part [ ]
-  own_part [] (Some asked) (command ∷ commands) replies part own = (tt, subst IsOwn (sym part) own.0)
-  own_part ((asked, said) ∷ answered) in_doubt (command ∷ commands) (reply ∷ replies) part own =
-      let rest = own_part answered in_doubt commands replies part.2 own.1 in
-      ((subst IsOwn (sym part.0) own.0, rest.0), rest.1)
+  own_part : (moment : ℕ) (answered : List (Command × Reply)) (in_doubt : Option Command) (commands : List Command) (replies : List Reply) (was is : State)
+      → IsAnsweredBy Stores moment answered in_doubt commands replies was is → AllByRecursion IsOwn commands → AreOwn answered × IfSome in_doubt IsOwn
+  own_part moment [] None commands replies was is part own = (tt, tt)
+  own_part moment [] (Some asked) [] replies was is part own = elim part [ ]
+  own_part moment [] (Some asked) (command ∷ commands) [] was is part own = elim part [ ]
+  own_part moment [] (Some asked) (command ∷ commands) (reply ∷ replies) was is part own = (tt, subst IsOwn (sym part.0) own.0)
+  own_part moment ((asked, said) ∷ answered) in_doubt [] replies was is part own = elim part [ ]
+  own_part moment ((asked, said) ∷ answered) in_doubt (command ∷ commands) [] was is part own = elim part [ ]
+  own_part moment ((asked, said) ∷ answered) in_doubt (command ∷ commands) (reply ∷ replies) was is (same, told, (mid, turn, by_then, open_, part)) own =
+      let rest = own_part moment answered in_doubt commands replies mid is part own.1 in
+      ((subst IsOwn (sym same) own.0, rest.0), rest.1)
 
   pub sitting_run : (was is : State) (commands : List Command) (replies : List Reply) → GoesAhead was is → AllByRecursion IsOwn commands
       → LeavesAPrefix Stores commands replies was is → EndsOwnSitting Stores was is
   sitting_run was is commands replies ahead own leaves =
       let it = leaves is.disk.clock ahead.goes_on.later (omega arith) in
-      let parts = own_part it.0.answered it.0.in_doubt commands replies it.1 own in
+      let parts = own_part is.disk.clock it.0.answered it.0.in_doubt commands replies was is it.1 own in
       record {
         sitting = it.0;
         own = record { answered = parts.0; in_doubt = parts.1 };

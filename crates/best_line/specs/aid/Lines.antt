@@ -1,14 +1,7 @@
 -- The first of some positions that a player wins in a number of moves.
 use Rattle.std.specs.Prelude.{◌≡◌, ℕ, List, Some, slice_get, ◌<◌}
 use Rattle.rbg_game.specs.declared.roles.Player.{Player}
-use Rattle.retrograde.specs.Graph.{Graph}
 use Rattle.retrograde.specs.View.{View, HasNumber, HasValue}
-
--- no move from i leads to where w wins in n
-pub record HasNoStep (graph : Graph (List ℕ)) (view : View (List ℕ)) (i : ℕ) (w : Player) (n : ℕ) : Type 0 where
-  pub from : List ℕ
-  pub number : HasNumber view i from
-  pub none : (y : List ℕ) → graph.Successor from y → HasValue view y w n → ⊥
 
 -- i is the number of one of these positions, w wins it in n, and none of those before it in n
 pub record IsFirstWon {P : Type 0} (view : View P) (ys : List P) (w : Player) (n i : ℕ) : Type 0 where

@@ -5,12 +5,11 @@ use Rattle.retrograde.specs.Stored.{Stored, IsTable, view_of}
 use Rattle.retrograde.proofs.Adding.{push_before}
 use Rattle.retrograde.proofs.Finished.{is_some_at}
 use Rattle.best_line.specs.Causes.{IsLineCause}
-use Rattle.best_line.specs.Lines.{IsBestStep}
-use Rattle.best_line.specs.aid.Lines.{HasNoStep}
+use Rattle.best_line.specs.Lines.{IsBestStep, IsLineTo, HasNoStep, ComesTo}
 use Rattle.best_line.specs.declared.fault.LineFault.{LineFault}
 use Rattle.best_line.proofs.Passing.{passed_on, memory_settled, of_table_after}
-use Rattle.best_line.proofs.LineLemmas.{IsLineTo, line_value, line_push, line_done}
-use Rattle.best_line.proofs.StepLemmas.{step_cause}
+use Rattle.best_line.proofs.LineLemmas.{line_value, line_push, line_done}
+use Rattle.best_line.proofs.StepLemmas.{step_cause, step_stops}
 use Rattle.best_line.proofs.lines.follow.Goals as goal
 
 pub returns-in_err-at-clause-cause : goal.returns-in_err-at-clause-cause
@@ -31,6 +30,35 @@ returns-in_err-at-clause-cause g c = λ honest sound value.
     (λ is. rw same at c.in_err-at.ensures.wide h (ap (λ (f : LineFault). Err f) is))
     c.in_err-at.ensures.settled in
     passed_on _ c.from_residual-in_err-at.result _ c.from_residual-in_err-at.ensures it
+
+pub returns-in_err-at-clause-stops : goal.returns-in_err-at-clause-stops
+returns-in_err-at-clause-stops g c = λ honest table value.
+    let h = c.loop-step.invariant.honest.0 honest in
+    let same = c.loop-step.invariant.same honest in
+    let table' = subst (λ (t : Stored (List ℕ)). IsTable t) (sym same) table in
+    let graph = g.M.GameGraph.graph c.args.source.now in
+    let view = view_of (g.T.Table.stored c.args.table.now) in
+    let left = c.args.distance - c.loop-step.step - 1 in
+    let one : c.args.distance - c.loop-step.step ≡ suc (c.args.distance - c.loop-step.step - 1) = omega (arith, c.loop-step-test.true) in
+    let comes : ComesTo graph view c.args.number c.args.winner c.loop-step.at (suc left) = record {
+      distance = c.args.distance;
+      value = value;
+      numbers = c.loop-step.numbers.items;
+      begins = c.loop-step.invariant.begins;
+      line = subst (λ (l : ℕ). IsLineTo graph view c.args.winner c.args.distance c.loop-step.numbers.items c.loop-step.at l) one
+      (c.loop-step.invariant.line honest table value);
+    } in
+    passed_on _ c.from_residual-in_err-at.result _ c.from_residual-in_err-at.ensures
+    (step_stops graph (g.M.GameGraph.is_wide c.args.source.now) view c.args.winner c.args.number c.loop-step.at left comes c.in_err-at.field-0.0
+    (λ is. subst (λ (t : Stored (List ℕ)). HasNoStep graph (view_of t) c.loop-step.at c.args.winner left) same (c.in_err-at.ensures.none h table' (ap (λ (f : LineFault). Err f) is)))
+    (λ is. rw same at c.in_err-at.ensures.wide h (ap (λ (f : LineFault). Err f) is))
+    c.in_err-at.ensures.settled)
+
+pub returns-in_err-push-clause-stops : goal.returns-in_err-push-clause-stops
+returns-in_err-push-clause-stops g c = λ honest table value. passed_on _ c.from_residual.result _ c.from_residual.ensures tt
+
+pub returns-in_err-push-2-clause-stops : goal.returns-in_err-push-2-clause-stops
+returns-in_err-push-2-clause-stops g c = λ honest table value. passed_on _ c.from_residual-in_err-push-2.result _ c.from_residual-in_err-push-2.ensures tt
 
 pub loop-step-preserved : goal.loop-step-preserved
 loop-step-preserved g c = record {

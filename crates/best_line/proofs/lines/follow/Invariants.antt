@@ -1,6 +1,6 @@
 use Rattle.std.proofs.Common.{◌≡◌, ◌↔◌, ◌-◌, ◌<◌, Some, slice_get}
 use Rattle.retrograde.specs.Stored.{IsTable, view_of}
-use Rattle.best_line.proofs.LineLemmas.{IsLineTo}
+use Rattle.best_line.specs.Lines.{IsLineTo}
 use Rattle.best_line.proofs.lines.follow.Given as goal
 
 abbrev pub invariant-loop-step : goal.invariant-loop-step

@@ -1,5 +1,6 @@
-use Rattle.std.proofs.Common.{ℕ, ◌+◌, ◌-◌, ◌<◌, ◌≤◌, length, arith, rules, refl}
+use Rattle.std.proofs.Common.{◌≡◌, ℕ, ◌+◌, ◌-◌, ◌<◌, ◌≤◌, ◌==◌, true, false, ⊎_elim, List, [], ◌∷◌, length, length-append, ap, sym, ◌∙◌, arith, rules, refl}
 use Rattle.std.specs.Vec.{vec_len, vec_capacity}
+use Rattle.std.proofs.lemmas.Bool.Decides.{eqb_tells}
 use Rattle.std.proofs.lemmas.List.{take_all}
 use Rattle.sector_disk.specs.aid.Moments.{still_honest}
 use Rattle.solver.proofs.Prefixes.{stopped_run}
@@ -11,6 +12,23 @@ use Rattle.solver.proofs.commands.FileSolver.run.Goals as goal
 no_room_left : (some all index room : ℕ) → some + (all - index) ≤ room → index < all → room ≤ some → ⊥
 no_room_left some all index room fits less full = omega arith
 
+nothing_in : {A : Type 0} (xs : List A) → length xs ≡ 0 → xs ≡ []
+nothing_in [] none = refl
+nothing_in (x ∷ xs) none = absurd (omega (arith, none))
+
+no_commands : {A : Type 0} (xs : List A) → (length xs == 0) ≡ true → xs ≡ []
+no_commands xs is =
+    ⊎_elim
+    (λ (_, none). nothing_in xs none)
+    (λ (fails, _). let both : true ≡ false = sym is ∙ fails in cc)
+    (eqb_tells (length xs) 0)
+
+pub returns-then-is_empty-clause-stopped : goal.returns-then-is_empty-clause-stopped
+returns-then-is_empty-clause-stopped g c = λ ready sound is_open honest.
+    let none : c.args.commands.now ≡ [] = no_commands c.args.commands.now (sym c.is_empty.ensures ∙ c.if-is_empty.true) in
+    stopped_run _ c.args.commands.now [] _ _ _ _ (sym none)
+    (run_begins _ c.args.replies.now.items _ (λ honest is_open. g.met.F.GameFile.whole_leaves c.args.self.now.file ready.0 honest is_open)) honest is_open sound
+
 pub loop-command-preserved : goal.loop-command-preserved
 loop-command-preserved g c =
     let so_far = c.loop-command.invariant in
@@ -18,6 +36,9 @@ loop-command-preserved g c =
     let pushed = c.in_ok-push.ensures in
     record {
       room = omega (arith, so_far.room, pushed.len, pushed.capacity, c.loop-command-test.true);
+      many =
+          let longer : length c.push.new.self.items ≡ length c.loop-command.replies.items + 1 = ap length pushed.items ∙ length-append c.loop-command.replies.items (c.answer-reply.result ∷ []) in
+          omega (arith, longer, so_far.many);
       ready = λ ready. reply.ready (so_far.ready ready);
       ahead = ahead_then so_far.ahead reply.ahead;
       lasts = g.met.F.GameFile.lasts_then c.args.self.now.file c.loop-command.self.file c.answer-reply.new.self.file so_far.lasts reply.lasts;
@@ -30,6 +51,7 @@ loop-command-preserved g c =
 pub loop-command-init : goal.loop-command-init
 loop-command-init g c = record {
   room = search rules;
+  many = let same : length c.reserve.new.self.items ≡ length c.args.replies.now.items = ap length c.in_ok-reserve.ensures.items in omega (arith, same);
   ready = λ ready. ready;
   ahead = g.met.F.GameFile.goes_ahead c.args.self.now.file c.args.self.now.file (g.met.F.Table.stays_goes_on c.args.self.now.file c.args.self.now.file (g.met.F.Table.stays_here c.args.self.now.file));
   lasts = g.met.F.GameFile.goes_on_lasts c.args.self.now.file c.args.self.now.file (g.met.F.Table.stays_goes_on c.args.self.now.file c.args.self.now.file (g.met.F.Table.stays_here c.args.self.now.file));
@@ -92,6 +114,9 @@ returns-in_err-push-clause-refused g c = absurd (no_room_left (vec_len c.loop-co
 
 pub returns-in_err-push-clause-unanswered : goal.returns-in_err-push-clause-unanswered
 returns-in_err-push-clause-unanswered g c = absurd (no_room_left (vec_len c.loop-command.replies) (length c.args.commands.now) c.loop-command.command-index (vec_capacity c.loop-command.replies) c.loop-command.invariant.room c.loop-command-test.true c.in_err-push.ensures.full)
+
+pub returns-clause-each : goal.returns-clause-each
+returns-clause-each g c = omega (arith, c.loop-command.invariant.many, c.loop-command-test.false, c.loop-command-test.false)
 
 pub returns-clause-ready : goal.returns-clause-ready
 returns-clause-ready g c = c.loop-command.invariant.ready

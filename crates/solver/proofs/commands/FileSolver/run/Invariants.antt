@@ -1,4 +1,4 @@
-use Rattle.std.proofs.Common.{◌+◌, ◌-◌, ◌≤◌, length, take}
+use Rattle.std.proofs.Common.{◌≡◌, ◌+◌, ◌-◌, ◌≤◌, length, take}
 use Rattle.std.specs.Prelude.{IsTrue}
 use Rattle.std.specs.Vec.{vec_len, vec_capacity}
 use Rattle.solver.specs.Held.{IsSound}
@@ -11,6 +11,7 @@ abbrev pub invariant-loop-command : goal.invariant-loop-command
 invariant-loop-command g l =
     record {
       room : vec_len l.replies + (length l.fn.commands - l.command-index) ≤ vec_capacity l.replies;
+      many : length l.replies.items ≡ length l.fn.replies.items + l.command-index;
       ready : IsReady l.fn.self → IsReady l.self;
       ahead : GoesAhead (state l.fn.self) (state l.self);
       lasts : g.F.GameFile.lasts l.fn.self.file l.self.file;

@@ -17,41 +17,41 @@ none_done done few = omega arith
 some_done : (done : ℕ) → 0 < done → done ≡ 0 → ⊥
 some_done done some none = omega arith
 
-pub returns-in_err-needs_game-clause-refused : goal.returns-in_err-needs_game-clause-refused
-returns-in_err-needs_game-clause-refused g c = λ ready.
+pub returns-in_err-source-clause-refused : goal.returns-in_err-source-clause-refused
+returns-in_err-source-clause-refused g c = λ ready.
     passed_on _ c.from_residual.result _ c.from_residual.ensures
     (nothing_done _ _ _ _ (λ honest is_open. g.met.F.GameFile.whole_leaves c.args.self.now.file ready.0 honest is_open)
-    (record { does = λ honest. refl; reason = asked_work _ (g.F.GameFile.state c.args.self.now.file) _ c.in_err-needs_game.ensures.cause }))
+    (record { does = λ honest. refl; reason = asked_work _ (g.F.GameFile.state c.args.self.now.file) _ (c.in_err-source.ensures.cause ready.1) }))
 
 pub returns-in-Err-clause-refused : goal.returns-in-Err-clause-refused
 returns-in-Err-clause-refused g c = λ ready.
     let file = c.args.self.now.file in
-    let (k, is, made) = kept_there c.in-Some.source _ (subst (λ (o : Option Compiled). IsSourceOf o (g.F.GameFile.state file).kept) c.in-Some.is ready.1) in
+    let (k, is, made) = kept_there c.in_ok-source.source.now _ (subst (λ (o : Option Compiled). IsSourceOf o (g.F.GameFile.state file).kept) c.in_ok-source.ensures.game ready.1) in
     let given = given_up (g.F.Table.fails file c.work.new.table) _ c.in-Err.fault c.in-Err.ensures.left
     (λ ahead. c.discard.ensures.back file ready.0 ahead) (λ f fails. c.discard.ensures.failed file f ready.0 fails) in
     rw c.into.ensures
-    (work_refused _ _ _ c.in-Some.source k made is _ _ (g.F.Table.fails file c.work.new.table) (λ f fails. (c.discard.ensures.failed file f ready.0 fails).2) c.in-Err.fault
-    (λ honest. let stored = g.met.F.GameFile.whole_stored file k ready.0 honest is in stops_on c.in-Some.source k _ stored.1 _ _ _ c.count.ensures.is (c.in-Err.ensures.cause stored.0))
+    (work_refused _ _ _ c.in_ok-source.source.now k made is _ _ (g.F.Table.fails file c.work.new.table) (λ f fails. (c.discard.ensures.failed file f ready.0 fails).2) c.in-Err.fault
+    (λ honest. let stored = g.met.F.GameFile.whole_stored file k ready.0 honest is in stops_on c.in_ok-source.source.now k _ stored.1 _ _ _ c.count.ensures.is (c.in-Err.ensures.cause stored.0))
     (λ honest sound inconsistent.
     let stored = g.met.F.GameFile.whole_stored file k ready.0 honest is in
     c.in-Err.ensures.consistent stored.0 (rw stored.1 sound) (ap (λ (f : StepFault). Err f) inconsistent))
-    c.in-Err.ensures.left c.in_ok-needs_game.ensures.open given.1
+    c.in-Err.ensures.left c.in_ok-source.ensures.open given.1
     (λ ahead. (c.discard.ensures.back file ready.0 ahead).2) (λ f fails other. c.discard.ensures.still file f ready.0 fails other))
 
 pub returns-in_err-commit-clause-refused : goal.returns-in_err-commit-clause-refused
 returns-in_err-commit-clause-refused g c = λ ready.
     let file = c.args.self.now.file in
-    let (k, is, made) = kept_there c.in-Some.source _ (subst (λ (o : Option Compiled). IsSourceOf o (g.F.GameFile.state file).kept) c.in-Some.is ready.1) in
+    let (k, is, made) = kept_there c.in_ok-source.source.now _ (subst (λ (o : Option Compiled). IsSourceOf o (g.F.GameFile.state file).kept) c.in_ok-source.ensures.game ready.1) in
     let refused = c.in_err-commit.ensures in
     passed_on _ c.from_residual-in_err-commit.result _ c.from_residual-in_err-commit.ensures
-    (not_kept _ _ _ c.in-Some.source k made is _ c.in-Ok.done _
-    (λ honest. let stored = g.met.F.GameFile.whole_stored file k ready.0 honest is in works_on c.in-Some.source k _ stored.1 _ _ _ _ c.count.ensures.is (c.in-Ok.ensures.works stored.0))
+    (not_kept _ _ _ c.in_ok-source.source.now k made is _ c.in-Ok.done _
+    (λ honest. let stored = g.met.F.GameFile.whole_stored file k ready.0 honest is in works_on c.in_ok-source.source.now k _ stored.1 _ _ _ _ c.count.ensures.is (c.in-Ok.ensures.works stored.0))
     _ (refused.err file k ready.0 is c.in-Ok.ensures.ahead (λ honest. let stored = g.met.F.GameFile.whole_stored file k ready.0 honest is in c.in-Ok.ensures.fits stored.0 (rw stored.1 stored.2))).1 (refused.cause file k ready.0 is c.in-Ok.ensures.ahead) (refused.still file c.in-Ok.ensures.ahead))
 
 pub returns-in_err-commit-clause-ready : goal.returns-in_err-commit-clause-ready
 returns-in_err-commit-clause-ready g c = λ ready.
     let file = c.args.self.now.file in
-    let (k, is, made) = kept_there c.in-Some.source _ (subst (λ (o : Option Compiled). IsSourceOf o (g.F.GameFile.state file).kept) c.in-Some.is ready.1) in
+    let (k, is, made) = kept_there c.in_ok-source.source.now _ (subst (λ (o : Option Compiled). IsSourceOf o (g.F.GameFile.state file).kept) c.in_ok-source.ensures.game ready.1) in
     let left = c.in_err-commit.ensures.err file k ready.0 is c.in-Ok.ensures.ahead
     (λ honest. let stored = g.met.F.GameFile.whole_stored file k ready.0 honest is in c.in-Ok.ensures.fits stored.0 (rw stored.1 stored.2)) in
     (left.0, same_source _ _ _ left.1.text left.1.packing ready.1)
@@ -59,7 +59,7 @@ returns-in_err-commit-clause-ready g c = λ ready.
 pub returns-in_err-commit-clause-sound : goal.returns-in_err-commit-clause-sound
 returns-in_err-commit-clause-sound g c = λ ready honest sound.
     let file = c.args.self.now.file in
-    let (k, is, made) = kept_there c.in-Some.source _ (subst (λ (o : Option Compiled). IsSourceOf o (g.F.GameFile.state file).kept) c.in-Some.is ready.1) in
+    let (k, is, made) = kept_there c.in_ok-source.source.now _ (subst (λ (o : Option Compiled). IsSourceOf o (g.F.GameFile.state file).kept) c.in_ok-source.ensures.game ready.1) in
     let left = c.in_err-commit.ensures.err file k ready.0 is c.in-Ok.ensures.ahead
     (λ honest. let stored = g.met.F.GameFile.whole_stored file k ready.0 honest is in c.in-Ok.ensures.fits stored.0 (rw stored.1 stored.2)) in
     rw (left.1.kept honest) sound
@@ -67,20 +67,20 @@ returns-in_err-commit-clause-sound g c = λ ready honest sound.
 pub returns-in_ok-commit-clause-ready : goal.returns-in_ok-commit-clause-ready
 returns-in_ok-commit-clause-ready g c = λ ready.
     let file = c.args.self.now.file in
-    let source = subst (λ (o : Option Compiled). IsSourceOf o (g.F.GameFile.state file).kept) c.in-Some.is ready.1 in
-    let (k, is, made) = kept_there c.in-Some.source _ source in
+    let source = subst (λ (o : Option Compiled). IsSourceOf o (g.F.GameFile.state file).kept) c.in_ok-source.ensures.game ready.1 in
+    let (k, is, made) = kept_there c.in_ok-source.source.now _ source in
     let put = c.in_ok-commit.ensures.ok file k ready.0 is c.in-Ok.ensures.ahead
     (λ honest. let stored = g.met.F.GameFile.whole_stored file k ready.0 honest is in c.in-Ok.ensures.fits stored.0 (rw stored.1 stored.2)) in
-    (put.0, rw c.in-Some.is (source_of_text c.in-Some.source _ k.text k.packing put.1.text put.1.packing made.reads made.packing))
+    (put.0, rw c.in_ok-source.ensures.game (source_of_text c.in_ok-source.source.now _ k.text k.packing put.1.text put.1.packing made.reads made.packing))
 
 pub returns-in_ok-commit-clause-done : goal.returns-in_ok-commit-clause-done
 returns-in_ok-commit-clause-done g c = λ ready.
     let file = c.args.self.now.file in
-    let (k, is, made) = kept_there c.in-Some.source _ (subst (λ (o : Option Compiled). IsSourceOf o (g.F.GameFile.state file).kept) c.in-Some.is ready.1) in
+    let (k, is, made) = kept_there c.in_ok-source.source.now _ (subst (λ (o : Option Compiled). IsSourceOf o (g.F.GameFile.state file).kept) c.in_ok-source.ensures.game ready.1) in
     let put = c.in_ok-commit.ensures.ok file k ready.0 is c.in-Ok.ensures.ahead
     (λ honest. let stored = g.met.F.GameFile.whole_stored file k ready.0 honest is in c.in-Ok.ensures.fits stored.0 (rw stored.1 stored.2)) in
-    worked_done _ _ _ c.in-Some.source k made is _ c.in-Ok.done _
-    (λ honest. let stored = g.met.F.GameFile.whole_stored file k ready.0 honest is in works_on c.in-Some.source k _ stored.1 _ _ _ _ c.count.ensures.is (c.in-Ok.ensures.works stored.0))
+    worked_done _ _ _ c.in_ok-source.source.now k made is _ c.in-Ok.done _
+    (λ honest. let stored = g.met.F.GameFile.whole_stored file k ready.0 honest is in works_on c.in_ok-source.source.now k _ stored.1 _ _ _ _ c.count.ensures.is (c.in-Ok.ensures.works stored.0))
     _ (λ honest. c.counts-counts.ensures ∙ g.met.F.Table.counts_are c.work.new.table (c.in-Ok.ensures.honest.0 (g.met.F.GameFile.whole_stored file k ready.0 honest is).0))
     (λ honest is_open. g.met.F.GameFile.whole_leaves c.commit.new.self put.0 honest is_open)
     (ahead_then (g.met.F.GameFile.goes_ahead file c.work.new.table c.in-Ok.ensures.ahead) c.commit.ensures.ahead).goes_on put.1
@@ -88,47 +88,29 @@ returns-in_ok-commit-clause-done g c = λ ready.
 pub returns-in_ok-commit-clause-sound : goal.returns-in_ok-commit-clause-sound
 returns-in_ok-commit-clause-sound g c = λ ready honest sound.
     let file = c.args.self.now.file in
-    let (k, is, made) = kept_there c.in-Some.source _ (subst (λ (o : Option Compiled). IsSourceOf o (g.F.GameFile.state file).kept) c.in-Some.is ready.1) in
+    let (k, is, made) = kept_there c.in_ok-source.source.now _ (subst (λ (o : Option Compiled). IsSourceOf o (g.F.GameFile.state file).kept) c.in_ok-source.ensures.game ready.1) in
     let put = c.in_ok-commit.ensures.ok file k ready.0 is c.in-Ok.ensures.ahead
     (λ honest. let stored = g.met.F.GameFile.whole_stored file k ready.0 honest is in c.in-Ok.ensures.fits stored.0 (rw stored.1 stored.2)) in
-    kept_sound _ _ _ c.in-Some.source k made is _ c.in-Ok.done _
-    (λ honest. let stored = g.met.F.GameFile.whole_stored file k ready.0 honest is in works_on c.in-Some.source k _ stored.1 _ _ _ _ c.count.ensures.is (c.in-Ok.ensures.works stored.0))
+    kept_sound _ _ _ c.in_ok-source.source.now k made is _ c.in-Ok.done _
+    (λ honest. let stored = g.met.F.GameFile.whole_stored file k ready.0 honest is in works_on c.in_ok-source.source.now k _ stored.1 _ _ _ _ c.count.ensures.is (c.in-Ok.ensures.works stored.0))
     honest sound put.1
 
 pub returns-else-done-gt0-clause-done : goal.returns-else-done-gt0-clause-done
 returns-else-done-gt0-clause-done g c = λ ready.
     let file = c.args.self.now.file in
-    let (k, is, made) = kept_there c.in-Some.source _ (subst (λ (o : Option Compiled). IsSourceOf o (g.F.GameFile.state file).kept) c.in-Some.is ready.1) in
+    let (k, is, made) = kept_there c.in_ok-source.source.now _ (subst (λ (o : Option Compiled). IsSourceOf o (g.F.GameFile.state file).kept) c.in_ok-source.ensures.game ready.1) in
     let same = c.in-Ok.ensures.idle (none_done _ c.if-done-gt0.false) in
     rw same
-    (idle_done _ _ c.in-Some.source k made is _ c.in-Ok.done (g.F.Table.stored c.work.new.table) _
-    (λ honest. let stored = g.met.F.GameFile.whole_stored file k ready.0 honest is in works_on c.in-Some.source k _ stored.1 _ _ _ _ c.count.ensures.is (c.in-Ok.ensures.works stored.0))
+    (idle_done _ _ c.in_ok-source.source.now k made is _ c.in-Ok.done (g.F.Table.stored c.work.new.table) _
+    (λ honest. let stored = g.met.F.GameFile.whole_stored file k ready.0 honest is in works_on c.in_ok-source.source.now k _ stored.1 _ _ _ _ c.count.ensures.is (c.in-Ok.ensures.works stored.0))
     (λ honest. ap g.F.Table.stored same ∙ (g.met.F.GameFile.whole_stored file k ready.0 honest is).1)
     (λ honest. c.counts-counts.ensures ∙ g.met.F.Table.counts_are c.work.new.table (c.in-Ok.ensures.honest.0 (g.met.F.GameFile.whole_stored file k ready.0 honest is).0))
-    (λ honest is_open. g.met.F.GameFile.whole_leaves file ready.0 honest is_open) c.in_ok-needs_game.ensures.open)
+    (λ honest is_open. g.met.F.GameFile.whole_leaves file ready.0 honest is_open) c.in_ok-source.ensures.open)
 
 pub returns-else-done-gt0-clause-idle : goal.returns-else-done-gt0-clause-idle
 returns-else-done-gt0-clause-idle g c = λ none.
     let same = c.in-Ok.ensures.idle (none_done _ c.if-done-gt0.false) in
     rw same refl
-
-pub returns-in_default-clause-ready : goal.returns-in_default-clause-ready
-returns-in_default-clause-ready g c = λ ready. ready
-
-pub returns-in_default-clause-ahead : goal.returns-in_default-clause-ahead
-returns-in_default-clause-ahead g c = g.met.F.GameFile.goes_ahead c.args.self.now.file c.args.self.now.file (g.met.F.Table.stays_goes_on c.args.self.now.file c.args.self.now.file (g.met.F.Table.stays_here c.args.self.now.file))
-
-pub returns-in_default-clause-refused : goal.returns-in_default-clause-refused
-returns-in_default-clause-refused g c = search rules
-
-pub returns-in_default-clause-closed : goal.returns-in_default-clause-closed
-returns-in_default-clause-closed g c = λ is. absurd (not_refused _ _ (c.in_ok-needs_game.ensures.closed is))
-
-pub returns-in_default-clause-no_game : goal.returns-in_default-clause-no_game
-returns-in_default-clause-no_game g c = λ is_open none. (refl, refl)
-
-pub returns-in_default-clause-sound : goal.returns-in_default-clause-sound
-returns-in_default-clause-sound g c = λ ready honest sound. sound
 
 pub work-requires : goal.work-requires
 work-requires g c = g.met.F.GameFile.few c.args.self.now.file
@@ -149,10 +131,10 @@ returns-in-Err-clause-ahead g c =
     c.discard.ensures.ahead
 
 pub returns-in-Err-clause-closed : goal.returns-in-Err-clause-closed
-returns-in-Err-clause-closed g c = λ is. absurd (not_refused _ _ (c.in_ok-needs_game.ensures.closed is))
+returns-in-Err-clause-closed g c = λ is. absurd (not_refused _ _ (c.in_ok-source.ensures.closed is))
 
 pub returns-in-Err-clause-no_game : goal.returns-in-Err-clause-no_game
-returns-in-Err-clause-no_game g c = λ is_open none. absurd (not_refused _ _ (c.in_ok-needs_game.ensures.no_game is_open none))
+returns-in-Err-clause-no_game g c = λ is_open none. absurd (not_refused _ _ (c.in_ok-source.ensures.no_game is_open none))
 
 pub returns-in-Err-clause-sound : goal.returns-in-Err-clause-sound
 returns-in-Err-clause-sound g c = λ ready honest sound.
@@ -168,10 +150,10 @@ pub returns-in_err-commit-clause-done : goal.returns-in_err-commit-clause-done
 returns-in_err-commit-clause-done g c = λ ready. gives_none c.from_residual-in_err-commit.result _ _ c.from_residual-in_err-commit.ensures
 
 pub returns-in_err-commit-clause-closed : goal.returns-in_err-commit-clause-closed
-returns-in_err-commit-clause-closed g c = λ is. absurd (not_refused _ _ (c.in_ok-needs_game.ensures.closed is))
+returns-in_err-commit-clause-closed g c = λ is. absurd (not_refused _ _ (c.in_ok-source.ensures.closed is))
 
 pub returns-in_err-commit-clause-no_game : goal.returns-in_err-commit-clause-no_game
-returns-in_err-commit-clause-no_game g c = λ is_open none. absurd (not_refused _ _ (c.in_ok-needs_game.ensures.no_game is_open none))
+returns-in_err-commit-clause-no_game g c = λ is_open none. absurd (not_refused _ _ (c.in_ok-source.ensures.no_game is_open none))
 
 pub returns-in_err-commit-clause-idle : goal.returns-in_err-commit-clause-idle
 returns-in_err-commit-clause-idle g c = gives_none c.from_residual-in_err-commit.result _ _ c.from_residual-in_err-commit.ensures
@@ -180,10 +162,10 @@ pub returns-in_ok-commit-clause-ahead : goal.returns-in_ok-commit-clause-ahead
 returns-in_ok-commit-clause-ahead g c = ahead_then (g.met.F.GameFile.goes_ahead c.args.self.now.file c.work.new.table c.in-Ok.ensures.ahead) c.commit.ensures.ahead
 
 pub returns-in_ok-commit-clause-closed : goal.returns-in_ok-commit-clause-closed
-returns-in_ok-commit-clause-closed g c = λ is. absurd (not_refused _ _ (c.in_ok-needs_game.ensures.closed is))
+returns-in_ok-commit-clause-closed g c = λ is. absurd (not_refused _ _ (c.in_ok-source.ensures.closed is))
 
 pub returns-in_ok-commit-clause-no_game : goal.returns-in_ok-commit-clause-no_game
-returns-in_ok-commit-clause-no_game g c = λ is_open none. absurd (not_refused _ _ (c.in_ok-needs_game.ensures.no_game is_open none))
+returns-in_ok-commit-clause-no_game g c = λ is_open none. absurd (not_refused _ _ (c.in_ok-source.ensures.no_game is_open none))
 
 pub returns-in_ok-commit-clause-idle : goal.returns-in_ok-commit-clause-idle
 returns-in_ok-commit-clause-idle g c = λ none. absurd (some_done _ c.if-done-gt0.true none)
@@ -197,42 +179,36 @@ pub returns-else-done-gt0-clause-ahead : goal.returns-else-done-gt0-clause-ahead
 returns-else-done-gt0-clause-ahead g c = g.met.F.GameFile.goes_ahead c.args.self.now.file c.work.new.table c.in-Ok.ensures.ahead
 
 pub returns-else-done-gt0-clause-closed : goal.returns-else-done-gt0-clause-closed
-returns-else-done-gt0-clause-closed g c = λ is. absurd (not_refused _ _ (c.in_ok-needs_game.ensures.closed is))
+returns-else-done-gt0-clause-closed g c = λ is. absurd (not_refused _ _ (c.in_ok-source.ensures.closed is))
 
 pub returns-else-done-gt0-clause-no_game : goal.returns-else-done-gt0-clause-no_game
-returns-else-done-gt0-clause-no_game g c = λ is_open none. absurd (not_refused _ _ (c.in_ok-needs_game.ensures.no_game is_open none))
+returns-else-done-gt0-clause-no_game g c = λ is_open none. absurd (not_refused _ _ (c.in_ok-source.ensures.no_game is_open none))
 
 pub returns-else-done-gt0-clause-sound : goal.returns-else-done-gt0-clause-sound
 returns-else-done-gt0-clause-sound g c = λ ready honest sound.
     let same = c.in-Ok.ensures.idle (none_done _ c.if-done-gt0.false) in
     rw same sound
 
-pub returns-in_err-needs_game-clause-ready : goal.returns-in_err-needs_game-clause-ready
-returns-in_err-needs_game-clause-ready g c = λ ready. ready
+pub returns-in_err-source-clause-ready : goal.returns-in_err-source-clause-ready
+returns-in_err-source-clause-ready g c = λ ready. ready
 
-pub returns-in_err-needs_game-clause-ahead : goal.returns-in_err-needs_game-clause-ahead
-returns-in_err-needs_game-clause-ahead g c = g.met.F.GameFile.goes_ahead c.args.self.now.file c.args.self.now.file (g.met.F.Table.stays_goes_on c.args.self.now.file c.args.self.now.file (g.met.F.Table.stays_here c.args.self.now.file))
+pub returns-in_err-source-clause-ahead : goal.returns-in_err-source-clause-ahead
+returns-in_err-source-clause-ahead g c = g.met.F.GameFile.goes_ahead c.args.self.now.file c.args.self.now.file (g.met.F.Table.stays_goes_on c.args.self.now.file c.args.self.now.file (g.met.F.Table.stays_here c.args.self.now.file))
 
-pub returns-in_err-needs_game-clause-done : goal.returns-in_err-needs_game-clause-done
-returns-in_err-needs_game-clause-done g c = λ ready. gives_none c.from_residual.result _ _ c.from_residual.ensures
+pub returns-in_err-source-clause-done : goal.returns-in_err-source-clause-done
+returns-in_err-source-clause-done g c = λ ready. gives_none c.from_residual.result _ _ c.from_residual.ensures
 
-pub returns-in_err-needs_game-clause-closed : goal.returns-in_err-needs_game-clause-closed
-returns-in_err-needs_game-clause-closed g c = λ is. (passed_as c.from_residual.result _ _ c.from_residual.ensures (c.in_err-needs_game.ensures.closed is), refl)
+pub returns-in_err-source-clause-closed : goal.returns-in_err-source-clause-closed
+returns-in_err-source-clause-closed g c = λ is. (passed_as c.from_residual.result _ _ c.from_residual.ensures (c.in_err-source.ensures.closed is), refl)
 
-pub returns-in_err-needs_game-clause-no_game : goal.returns-in_err-needs_game-clause-no_game
-returns-in_err-needs_game-clause-no_game g c = λ is_open none. (passed_as c.from_residual.result _ _ c.from_residual.ensures (c.in_err-needs_game.ensures.no_game is_open none), refl)
+pub returns-in_err-source-clause-no_game : goal.returns-in_err-source-clause-no_game
+returns-in_err-source-clause-no_game g c = λ is_open none. (passed_as c.from_residual.result _ _ c.from_residual.ensures (c.in_err-source.ensures.no_game is_open none), refl)
 
-pub returns-in_err-needs_game-clause-idle : goal.returns-in_err-needs_game-clause-idle
-returns-in_err-needs_game-clause-idle g c = gives_none c.from_residual.result _ _ c.from_residual.ensures
+pub returns-in_err-source-clause-idle : goal.returns-in_err-source-clause-idle
+returns-in_err-source-clause-idle g c = gives_none c.from_residual.result _ _ c.from_residual.ensures
 
-pub returns-in_err-needs_game-clause-sound : goal.returns-in_err-needs_game-clause-sound
-returns-in_err-needs_game-clause-sound g c = λ ready honest sound. sound
-
-pub returns-in_default-clause-done : goal.returns-in_default-clause-done
-returns-in_default-clause-done g c = λ ready. tt
-
-pub returns-in_default-clause-idle : goal.returns-in_default-clause-idle
-returns-in_default-clause-idle g c = tt
+pub returns-in_err-source-clause-sound : goal.returns-in_err-source-clause-sound
+returns-in_err-source-clause-sound g c = λ ready honest sound. sound
 
 pub returns-in-Err-clause-done : goal.returns-in-Err-clause-done
 returns-in-Err-clause-done g c = λ ready. tt
@@ -246,11 +222,8 @@ returns-in_ok-commit-clause-refused g c = λ ready. tt
 pub returns-else-done-gt0-clause-refused : goal.returns-else-done-gt0-clause-refused
 returns-else-done-gt0-clause-refused g c = λ ready. tt
 
-pub returns-in_err-needs_game-clause-lasts : goal.returns-in_err-needs_game-clause-lasts
-returns-in_err-needs_game-clause-lasts g c = g.met.F.GameFile.goes_on_lasts c.args.self.now.file c.args.self.now.file (g.met.F.Table.stays_goes_on c.args.self.now.file c.args.self.now.file (g.met.F.Table.stays_here c.args.self.now.file))
-
-pub returns-in_default-clause-lasts : goal.returns-in_default-clause-lasts
-returns-in_default-clause-lasts g c = g.met.F.GameFile.goes_on_lasts c.args.self.now.file c.args.self.now.file (g.met.F.Table.stays_goes_on c.args.self.now.file c.args.self.now.file (g.met.F.Table.stays_here c.args.self.now.file))
+pub returns-in_err-source-clause-lasts : goal.returns-in_err-source-clause-lasts
+returns-in_err-source-clause-lasts g c = g.met.F.GameFile.goes_on_lasts c.args.self.now.file c.args.self.now.file (g.met.F.Table.stays_goes_on c.args.self.now.file c.args.self.now.file (g.met.F.Table.stays_here c.args.self.now.file))
 
 pub returns-in-Err-clause-lasts : goal.returns-in-Err-clause-lasts
 returns-in-Err-clause-lasts g c =

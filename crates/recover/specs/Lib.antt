@@ -1,0 +1,1 @@
+pub use Rattle.tree_table.specs.Held

@@ -1,0 +1,107 @@
+//! A table is made, loaded, worked, asked and audited by the calls that the program makes.
+
+use sector_disk::MemDisk;
+use session::commands::{FileCommand, command_on};
+use session::line_by_line::session_over;
+use session::moves::moves_to;
+use session::words::{Words, words_of};
+use std::alloc::Global;
+use std::test::Fail;
+use test_aids::{TAKE, expect};
+
+/// Sectors of the smallest disk that takes a table and a game.
+const SECTORS: u64 = 8 * 24;
+
+/// What is printed, with the exit status.
+type Said = (u8, Vec<u8>);
+
+/// What the command prints that is done on this disk; it gives the disk back.
+fn command_says(alloc: Global, disk: MemDisk, command: FileCommand) -> (Said, MemDisk) {
+    let mut out = Vec::new(alloc);
+    let (outcome, disk) = command_on(alloc, disk, command, &mut out);
+    ((outcome.status, out), disk)
+}
+
+/// What a session over this disk answers to these lines; it gives the disk back.
+fn session_says(alloc: Global, disk: MemDisk, lines: &str) -> (Said, MemDisk) {
+    let mut out = Vec::new(alloc);
+    let mut told = Vec::new(alloc);
+    let mut input = lines.as_bytes();
+    let (status, disk) = session_over(alloc, disk, &mut input, &mut out, &mut told);
+    ((status, out), disk)
+}
+
+/// A failure if something else is printed than these lines, or the status is another.
+fn expect_said(said: &Said, status: u8, lines: &str, row: u32) -> Result<(), Fail> {
+    let (found, out) = said;
+    expect(*found, status, row)?;
+    expect(out.as_slice() == lines.as_bytes(), true, row)
+}
+
+/// The game of takes, as the text of a load.
+fn take(alloc: Global) -> Result<FileCommand, Fail> {
+    let mut text = Vec::new(alloc);
+    text.extend_from_slice(TAKE.as_bytes())?;
+    Ok(FileCommand::Load(text))
+}
+
+#[test]
+fn a_table_is_made_loaded_solved_and_audited(rt: HostRuntime) -> Result<(), Fail> {
+    let alloc = rt.alloc();
+    let disk = MemDisk::new(alloc, SECTORS)?;
+    let (none, disk) = command_says(alloc, disk, FileCommand::Audit);
+    expect_said(&none, 1, "refused E2\n", 0)?;
+    let (made, disk) = command_says(alloc, disk, FileCommand::Create);
+    expect_said(&made, 0, "created\n", 1)?;
+    let (again, disk) = command_says(alloc, disk, FileCommand::Create);
+    expect_said(&again, 1, "refused E3\n", 2)?;
+    let (empty, disk) = command_says(alloc, disk, FileCommand::Audit);
+    expect_said(&empty, 1, "refused S1\n", 3)?;
+    let (loaded, disk) = command_says(alloc, disk, take(alloc)?);
+    expect_said(&loaded, 0, "loaded\n", 4)?;
+    let (twice, disk) = command_says(alloc, disk, take(alloc)?);
+    expect_said(&twice, 1, "refused S2\n", 5)?;
+    let (solved, disk) = session_says(alloc, disk, "work 256\nvalue 0\nnonsense\nquit\nvalue 1\n");
+    let replies = "units 14 known 7 expanded 7 settled 7 processed 7 finished\nblack in 3\nusage\n";
+    expect_said(&solved, 0, replies, 6)?;
+    let (right, _disk) = command_says(alloc, disk, FileCommand::Audit);
+    expect_said(&right, 0, "audit right finished\n", 7)
+}
+
+#[test]
+fn the_moves_of_a_start_are_printed(rt: HostRuntime) -> Result<(), Fail> {
+    let alloc = rt.alloc();
+    let mut out = Vec::new(alloc);
+    let status = moves_to(alloc, TAKE.as_bytes(), &mut out);
+    let lines = "1@v 2@v => white 2 v e 0,0,3\n";
+    expect_said(&(status, out), 0, lines, 0)
+}
+
+/// These words, the first of which is the program's name.
+fn spelled(alloc: Global, words: &[&str]) -> Result<Vec<String>, Fail> {
+    let mut spelled = Vec::new(alloc);
+    for word in words {
+        spelled.push(String::from_str(alloc, word)?)?;
+    }
+    Ok(spelled)
+}
+
+/// The pages of the table that these words ask for, or the status that they end with.
+fn pages_asked(alloc: Global, words: &[&str]) -> Result<Result<u32, u8>, Fail> {
+    Ok(match words_of(alloc, &spelled(alloc, words)?) {
+        Ok(Words::Create { pages, .. }) => Ok(pages),
+        Ok(_) => Ok(0),
+        Err(refusal) => Err(refusal.status),
+    })
+}
+
+#[test]
+fn words_are_a_command_help_or_no_command(rt: HostRuntime) -> Result<(), Fail> {
+    let alloc = rt.alloc();
+    let create = ["rbgsolve", "create", "a.table", "--pages", "16"];
+    expect(pages_asked(alloc, &create)?, Ok(16), 0)?;
+    let audit = ["rbgsolve", "audit", "a.table"];
+    expect(pages_asked(alloc, &audit)?, Ok(0), 1)?;
+    expect(pages_asked(alloc, &["rbgsolve", "--help"])?, Err(0), 2)?;
+    expect(pages_asked(alloc, &["rbgsolve", "make"])?, Err(2), 3)
+}

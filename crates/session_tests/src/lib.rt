@@ -1,0 +1,5 @@
+//! Tests of the public calls of a session and of the command line, on disks in memory.
+#![tactic(auto)]
+
+#[cfg(test)]
+mod call_tests;

@@ -1,0 +1,7 @@
+use Rattle.std.proofs.Common.{◌≡◌, true, false, sym, ◌∙◌}
+use Rattle.solver.proofs.Turning.{done_turn}
+use Rattle.solver.proofs.Refusing.{apart}
+use Rattle.solver.proofs.laws.a_done_call_is_a_turn.Goals as goal
+
+pub returns : goal.returns
+returns g c = λ command reply old new ahead done is_open. done_turn g.F.GameFile.stores command old new ahead reply done (λ shut. apart old.closed is_open shut)
