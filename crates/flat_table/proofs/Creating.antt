@@ -108,7 +108,7 @@ module _ {root : List ℕ} (empty : IsEmptySlot root) (disk mid : Disk) (count m
   create_cause now DiskFailed cause first = grew_from more cause
   create_cause now NotATable cause first = λ honest. cause (still_honest laid.goes_on honest) (laid.holds honest).table
   create_cause now AlreadyATable cause first = absurd cause
-  create_cause now Damaged cause first = λ honest. (cause (still_honest laid.goes_on honest)).0 None (stored_empty honest)
+  create_cause now Damaged cause first = λ honest. (cause (still_honest laid.goes_on honest)).1 None (stored_empty honest)
   create_cause now OldLayout cause first = absurd (first refl)
   create_cause now TooSmall cause first = absurd cause
   create_cause now TableFull cause first = absurd cause

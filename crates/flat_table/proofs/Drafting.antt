@@ -11,6 +11,7 @@ use Rattle.table.specs.Fitting.{FitsTogether}
 use Rattle.game_file.specs.Calls.{IsPut, IsNotPut}
 use Rattle.game_file.specs.Causes.{FileLoadCause, FileCommitCause}
 use Rattle.game_file.specs.Kept.{Kept, counts_kept, kept_as}
+use Rattle.game_file.specs.aid.Loading.{loaded_fits}
 use Rattle.game_file.specs.State.{State, count_behind}
 use Rattle.flat_table.specs.Slot.{commits_in}
 use Rattle.game_file.specs.declared.fault.FileFault.{FileFault}
@@ -142,7 +143,7 @@ load_cause text kind start old new it none is_open TooSmall cause = cause
 load_cause text kind start old new it none is_open TableFull cause = loading_room text kind start old.store.marks (it.backed.free is_open none) cause
 load_cause text kind start old new it none is_open OutOfMemory cause = tt
 load_cause text kind start old new it none is_open Closed cause = cause
-load_cause text kind start old new it none is_open Inconsistent cause = cause
+load_cause text kind start old new it none is_open Inconsistent cause = absurd (cause (loaded_fits start))
 
 -- where there is no draft, what is stored is the table of the last commit
 pub copied : (draft : Option MemTable) (game : Option Game) (it : Game) → draft ≡ None → game ≡ Some it → stored_now draft game ≡ stored_in it.table

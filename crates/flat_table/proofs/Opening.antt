@@ -93,6 +93,7 @@ module _ (disk : Disk) (count : ℕ) (found now : Store) (at_first : IsFound dis
   open_cause page.Disk cause = grew_from at_first.failures cause
   open_cause page.NotATable cause = absurd cause
   open_cause page.Damaged cause = λ honest. (
+    (at_first.root honest).table,
     λ kept stores.
         let less = cause (still_honest at_first.goes_on honest) at_first.marks kept (kept_there kept honest stores) in
         omega (arith, less, stores.room, at_first.capacity),

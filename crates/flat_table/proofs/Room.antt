@@ -1,24 +1,14 @@
 -- How much room a game that is loaded takes.
-use Rattle.std.proofs.Common.{◌≡◌, ◌+◌, ◌*◌, ◌<◌, ◌≤◌, ℕ, suc, false, true, List, [], ◌∷◌, length, Contains, refl, sym, ◌∙◌, ap, arith}
+use Rattle.std.proofs.Common.{◌≡◌, ◌+◌, ◌*◌, ◌<◌, ◌≤◌, ℕ, false, true, List, [], ◌∷◌, length, Contains, refl, sym, ◌∙◌, ap, arith}
 use Rattle.page_store.specs.declared.marks.Mark.{Mark}
 use Rattle.page_store.specs.declared.marks.Mark.TheVariants.{Free}
-use Rattle.page_store.specs.Marks.{mark, free_one, free_count}
+use Rattle.page_store.specs.Marks.{mark}
+use Rattle.page_store.specs.aid.Counting.{rest_free}
 use Rattle.table_bytes.specs.aid.Laws.{tables_have_their_length}
 use Rattle.position_pack.specs.declared.kind.PackingKind.{PackingKind}
 use Rattle.retrograde.specs.Stored.{loaded}
 use Rattle.game_file.specs.Kept.{kept_as}
 use Rattle.flat_table.specs.aid.Causes.{IsTooLong}
-
-all_free : (marks : List Mark) → ((p : ℕ) → p < length marks → mark marks p ≡ Free) → free_count marks ≡ length marks
-all_free [] each = refl
-all_free (m ∷ marks) each =
-    let one : free_one m ≡ 1 = ap free_one (each 0 (omega arith)) in
-    omega (arith, one, all_free marks (λ p less. each (suc p) (omega (arith, less))))
-
--- where all pages but the system page are free
-rest_free : (marks : List Mark) → ((p : ℕ) → 1 ≤ p → p < length marks → mark marks p ≡ Free) → length marks ≤ free_count marks + 1
-rest_free [] each = omega arith
-rest_free (m ∷ marks) each = omega (arith, all_free marks (λ p less. each (suc p) (omega arith) (omega (arith, less))))
 
 no_edges : (edges : List (ℕ × ℕ)) → ((i p : ℕ) → Contains edges (i, p) → false ≡ true) → length edges ≡ 0
 no_edges [] only = refl

@@ -1,6 +1,7 @@
 //! The table that a command has come to: that of the last commit, or a copy of it that was worked on.
-ghost use Rattle.std.specs.Prelude.{◌≡◌, None, refl, OnOk, OnErr, IfErr, IsSome};
+ghost use Rattle.std.specs.Prelude.{◌≡◌, ◌≢◌, None, refl, OnOk, OnErr, IfOk, IfErr, IsSome};
 ghost use Rattle.retrograde.specs.Changes.{counts_of};
+ghost use Rattle.retrograde.specs.Stored.{loaded};
 ghost use Rattle.table.specs.declared.fault.TableFault.TheVariants.{OutOfMemory};
 ghost use Rattle.flat_table.specs.Drafts.{stored_now, IsUnwrittenFile, IsOnlyRead};
 ghost use Rattle.flat_table.specs.InFile.{file_in};
@@ -10,11 +11,12 @@ use crate::file::FlatTable;
 use position_pack::Packed;
 use retrograde::{Counts, Record};
 use sector_disk::SectorDisk;
-use table::{Table, TableFault};
+use table::{MemTable, Table, TableFault};
 
 impl<D: SectorDisk> FlatTable<D> {
-    /// Begins a command: the table of the last commit is copied, if it is not yet.
+    /// Begins a command: the table of the last commit is copied, if it is not yet. Without a game there has to be a draft.
     pub(crate) fn begin(&mut self) -> Result<(), TableFault>
+        requires { self.old.game ≡ None → self.old.draft ≢ None }
         ensures same { file_in self.new ≡ file_in self.old }
         ensures some { OnOk result (IsSome self.new.draft) }
         ensures idle { OnErr result (self.new.draft ≡ None) }
@@ -22,13 +24,26 @@ impl<D: SectorDisk> FlatTable<D> {
         ensures memory { IfErr result (λ fault. fault ≡ OutOfMemory) }
     {
         if self.draft.is_none() {
-            let Some(game) = &self.game else {
-                return Err(TableFault::OutOfMemory);
+            let draft = match &self.game {
+                Some(game) => game.table.copy()?,
+                None => unreachable!(),
             };
-            let draft = game.table.copy()?;
             self.draft = Some(draft);
         }
         Ok(())
+    }
+
+    /// Begins a draft with this position alone, where nothing is stored.
+    fn add_first(&mut self, packed: &Packed) -> Result<u32, TableFault>
+        requires game { self.old.game ≡ None }
+        requires idle { self.old.draft ≡ None }
+        ensures number { IfOk result (λ i. i ≡ 0) }
+        ensures same { file_in self.new ≡ file_in self.old }
+        ensures added { OnOk result (stored_now self.new.draft self.new.game ≡ loaded packed.now.items) }
+        ensures memory { IfErr result (λ fault. fault ≡ OutOfMemory) }
+    {
+        self.draft = Some(MemTable::new(self.alloc, packed)?);
+        Ok(0)
     }
 }
 
@@ -107,6 +122,9 @@ impl<D: SectorDisk> Table for FlatTable<D> {
     }
 
     fn add(&mut self, packed: &Packed) -> Result<u32, TableFault> {
+        if self.game.is_none() && self.draft.is_none() {
+            return self.add_first(packed);
+        }
         self.begin()?;
         match &mut self.draft {
             Some(draft) => draft.add(packed),

@@ -38,7 +38,7 @@ use table::{MemTable, Table};
 /// writes; to give the command up the copy is dropped.
 #[derive(Drop)]
 pub struct FlatTable<D: SectorDisk> {
-    alloc: Global,
+    pub(crate) alloc: Global,
     store: PageStore<D>,
     /// Commits since the file was made, as the committed root tells them.
     commits: u64,
@@ -249,6 +249,9 @@ impl<D: SectorDisk> GameFile for FlatTable<D> {
     }
 
     fn commit(&mut self) -> Result<(), FileFault> {
+        if self.game.is_none() {
+            return Err(FileFault::Inconsistent);
+        }
         self.begin()?;
         match self.draft.take() {
             Some(table) => self.keep(table),

@@ -97,9 +97,6 @@ fn bytes_of(
     if !table.fits(alloc, packed)? {
         return Err(FileFault::Inconsistent);
     }
-    // a table in memory refuses for want of memory alone
-    let Ok(written) = write_table(alloc, text, packed, table) else {
-        return Err(FileFault::OutOfMemory);
-    };
+    let written = write_table(alloc, text, packed, table)?;
     Ok(written)
 }

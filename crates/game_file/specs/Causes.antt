@@ -2,7 +2,7 @@
 use Rattle.std.specs.Prelude.{◌≡◌, ◌<◌, ℕ, true, List, length, Option, IsTrue}
 use Rattle.sector_disk.specs.Disk.{Disk, size, Grew}
 use Rattle.root_pair.specs.Root.{Begins, IsTablePicture}
-use Rattle.retrograde.specs.Stored.{Stored, loaded}
+use Rattle.retrograde.specs.Stored.{Stored}
 use Rattle.table.specs.Fitting.{FitsTogether}
 use Rattle.table.specs.declared.fault.TableFault.{TableFault}
 use Rattle.table.specs.declared.fault.TableFault.TheVariants as table
@@ -12,13 +12,14 @@ use Rattle.game_file.specs.declared.fault.FileFault.{FileFault}
 use Rattle.game_file.specs.declared.fault.FileFault.TheVariants.{Disk as DiskFailed, NotATable, AlreadyATable, Damaged, OldLayout, TooSmall}
 use Rattle.game_file.specs.declared.fault.FileFault.TheVariants.{TableFull, OutOfMemory, Closed, Inconsistent}
 
--- `open`: the disk failed; it is no table; it stores none, and none of an earlier layout; it holds one of an earlier layout; or
--- memory ran out
+-- `open`: the disk failed; it is no table; it begins as each table does, and stores none, and none of an earlier layout; it holds one
+-- of an earlier layout; or memory ran out
 abbrev pub FileOpenCause : Layout → Older → Disk → ℕ → ℕ → FileFault → Type 0
 FileOpenCause Stores IsOlder disk before now DiskFailed = Grew before now
 FileOpenCause Stores IsOlder disk before now NotATable = IsTrue disk.honest → ¬ IsTablePicture disk.now.contents
 FileOpenCause Stores IsOlder disk before now Damaged =
-    IsTrue disk.honest → ((kept : Option Kept) → ¬ Stores disk.now.contents kept) × (¬ IsOlder disk.now.contents)
+    IsTrue disk.honest
+    → IsTablePicture disk.now.contents × ((kept : Option Kept) → ¬ Stores disk.now.contents kept) × (¬ IsOlder disk.now.contents)
 FileOpenCause Stores IsOlder disk before now OldLayout = IsTrue disk.honest → IsOlder disk.now.contents
 FileOpenCause Stores IsOlder disk before now OutOfMemory = Unit {0}
 FileOpenCause Stores IsOlder disk before now _ = ⊥
@@ -33,15 +34,15 @@ FileCreateCause disk before now TooSmall = (size disk < 128) × (IsTrue disk.hon
 FileCreateCause disk before now OutOfMemory = Unit {0}
 FileCreateCause disk before now _ = ⊥
 
--- `load`: the disk failed, or is not honest; there are fewer than 24 pages; memory ran out; the file was closed; or the start is no
--- position that a table can hold
+-- `load`: the disk failed, or is not honest; there are fewer than 24 pages; memory ran out; the file was closed; or the start has no
+-- bytes, so that it is no position
 abbrev pub FileLoadCause : List ℕ → State → State → FileFault → Type 0
 FileLoadCause start old new DiskFailed = Grew old.failures new.failures
 FileLoadCause start old new Damaged = ¬ IsTrue old.disk.honest
 FileLoadCause start old new TableFull = old.capacity < 24
 FileLoadCause start old new OutOfMemory = Unit {0}
 FileLoadCause start old new Closed = old.closed ≡ true
-FileLoadCause start old new Inconsistent = ¬ FitsTogether (length start) (loaded start)
+FileLoadCause start old new Inconsistent = length start ≡ 0
 FileLoadCause start old new _ = ⊥
 
 -- `commit`: the disk failed, or is not honest; too few pages are free; memory ran out; the file was closed; or the table's parts

@@ -7,3 +7,4 @@ pub mod Stops
 pub mod Faults
 pub mod Causes
 pub mod Calls
+pub mod aid

@@ -13,6 +13,7 @@ ghost use Rattle.game_file.specs.Causes.{FileOpenCause, FileCreateCause, FileLoa
 ghost use Rattle.rbg_game.specs.declared.limits.TheConstants.{MAX_TEXT_BYTES};
 
 use crate::{FileFault, Refused};
+use page_store::MOST_CACHED;
 use position_pack::{Packed, PackingKind};
 use sector_disk::SectorDisk;
 use std::alloc::Global;
@@ -66,6 +67,18 @@ pub trait GameFile: Table {
         ensures cause { IfErr result (λ back. FileOpenCause stores is_older (Self.Device.disk disk) (Self.Device.failures disk)
             (Self.Device.failures back.disk) back.fault) };
 
+    /// The same, with 64 pages kept in memory.
+    fn open(alloc: Global, disk: Self::Device) -> Result<Self, Refused<Self::Device>>
+        ensures whole { IfOk result is_whole }
+        ensures ok { IfOk result (λ file. IsOpenedFile stores (Self.Device.disk disk) (Self.Device.failures disk) (state file)) }
+        ensures refused { IfErr result (λ back. IsNotOpened (Self.Device.disk disk) (Self.Device.failures disk)
+            (Self.Device.disk back.disk) (Self.Device.failures back.disk)) }
+        ensures cause { IfErr result (λ back. FileOpenCause stores is_older (Self.Device.disk disk) (Self.Device.failures disk)
+            (Self.Device.failures back.disk) back.fault) }
+    {
+        Self::open_with_cache(alloc, disk, MOST_CACHED)
+    }
+
     /// The text of the game, if one is loaded. It takes no memory and always answers.
     fn text(&self) -> Option<&[u8]>
         ensures some { IfSome result (λ text. text_kept (state self.now).kept ≡ Some text.now) }
@@ -80,8 +93,9 @@ pub trait GameFile: Table {
     fn is_closed(&self) -> bool
         ensures { result ≡ (state self.now).closed };
 
-    /// Commits the table of a game that is loaded now, its start and no more, where none was, with this packing: E9, E1, E7, E8. After
-    /// a refusal there is still none, but that after E1 in a write or a sync the file is closed, and the disk has the one or the other.
+    /// Commits the table of a game that is loaded now, its start and no more, where none was, with this packing: S6 if the start has no
+    /// bytes, and E9, E1, E7, E8. After a refusal there is still none, but that after E1 in a write or a sync the file is closed, and
+    /// the disk has the one or the other.
     fn load(&mut self, text: &[u8], packing: PackingKind, start: &Packed) -> Result<(), FileFault>
         requires { length text.now ≤ MAX_TEXT_BYTES }
         ensures ahead { GoesAhead (state self.old) (state self.new) }

@@ -1,5 +1,5 @@
 -- Pages are taken, one by one.
-use Rattle.std.proofs.Common.{◌≡◌, inl, inr, ◌⊎◌, ℕ, zero, suc, ◌+◌, ◌<◌, ◌≤◌, List, [], ◌∷◌, ◌++◌, false, length, Contains, refl, sym, ◌∙◌, ap, subst, arith}
+use Rattle.std.proofs.Common.{◌≡◌, inl, inr, ◌⊎◌, ℕ, ◌+◌, ◌<◌, ◌≤◌, List, [], ◌∷◌, ◌++◌, false, length, Contains, refl, sym, ◌∙◌, ap, subst, arith}
 use Rattle.std.proofs.lemmas.List.{length-append}
 use Rattle.std.proofs.lemmas.List.Elements.{Contains-push_cases}
 use Rattle.std.proofs.lemmas.Bool.{cases_eq}
@@ -8,29 +8,13 @@ use Rattle.page_store.specs.declared.marks.Mark.TheVariants.{Fresh, Free}
 use Rattle.page_store.specs.declared.fault.PageFault.{PageFault}
 use Rattle.page_store.specs.declared.fault.PageFault.TheVariants.{Disk, NotATable, Damaged, TableFull, OutOfMemory, Closed}
 use Rattle.page_store.specs.Causes.{NewCause}
-use Rattle.page_store.specs.Marks.{mark, free_one, free_count, IsMarked}
+use Rattle.page_store.specs.Marks.{mark, free_count, IsMarked}
 use Rattle.page_store.specs.Store.{Store, StoreWorks, IsRemarked}
+use Rattle.page_store.specs.aid.Counting.{one_fewer}
 use Rattle.page_store.specs.aid.Works.{works_refl, works_then}
 use Rattle.page_chain.specs.aid.Causes.{HandOutCause}
 use Rattle.page_chain.specs.aid.Links.{HandsOut, AreTaken}
 use Rattle.page_chain.proofs.Linking.{once_more, none_once, none_contained, contains_before, contains_last}
-
--- marks that agree are as many free ones
-free_same : (old new : List Mark) → length new ≡ length old → ((p : ℕ) → mark new p ≡ mark old p) → free_count new ≡ free_count old
-free_same [] [] long same = refl
-free_same [] (n ∷ new) long same = absurd (omega (arith, long))
-free_same (m ∷ old) [] long same = absurd (omega (arith, long))
-free_same (m ∷ old) (n ∷ new) long same = omega (arith, ap free_one (same 0), free_same old new (omega (arith, long)) (λ p. same (suc p)))
-
--- one page fewer is free
-pub one_fewer : (old new : List Mark) (at : ℕ) → length new ≡ length old → at < length old → mark old at ≡ Free → mark new at ≡ Fresh
-    → ((p : ℕ) → (p ≡ at → ⊥) → mark new p ≡ mark old p) → free_count new + 1 ≡ free_count old
-one_fewer [] new at long low was is others = absurd (omega (arith, low))
-one_fewer (m ∷ old) [] at long low was is others = absurd (omega (arith, long))
-one_fewer (m ∷ old) (n ∷ new) zero long low was is others =
-    omega (arith, ap free_one was, ap free_one is, free_same old new (omega (arith, long)) (λ p. others (suc p) (λ same. omega (arith, same))))
-one_fewer (m ∷ old) (n ∷ new) (suc at) long low was is others =
-    omega (arith, ap free_one (others 0 (λ same. omega (arith, same))), one_fewer old new at (omega (arith, long)) (omega (arith, low)) was is (λ p other. others (suc p) (λ same. other (omega (arith, same)))))
 
 pub hands_out_refl : (store : Store) → HandsOut store store
 hands_out_refl store = record { works = works_refl store; disk = refl; failures = refl; closed = refl; others = λ p. inl refl }

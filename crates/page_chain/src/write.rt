@@ -17,7 +17,7 @@ use crate::read::add_page;
 use page_store::{PageFault, Pages};
 use std::alloc::Global;
 
-/// Writes a chain with this content on free pages, and answers its pages in turn. `TableFull` where too few are free:
+/// Writes a chain with this content on free pages, no more than it takes, and answers them in turn. `TableFull` where too few are free:
 /// then nothing is handed out. After another error some pages may be: the store goes back by `discard`. Only `Disk`
 /// closes it.
 pub fn write_chain<P: Pages>(
@@ -31,6 +31,8 @@ pub fn write_chain<P: Pages>(
     ensures freed { IfOk result (λ pages. (p : ℕ) → Contains pages.items p → mark_of (P.store store.old).marks p ≡ Free) }
     ensures kept { IfOk result (λ pages. (p : ℕ) → (mark_of (P.store store.new).marks p ≡ mark_of (P.store store.old).marks p)
         ⊎ Contains pages.items p) }
+    ensures few { OnOk result
+        (PAYLOAD * free_count (P.store store.old).marks < PAYLOAD * free_count (P.store store.new).marks + length content.now + PAYLOAD) }
     ensures others { (p : ℕ) → (mark_of (P.store store.new).marks p ≡ mark_of (P.store store.old).marks p)
         ⊎ ((mark_of (P.store store.old).marks p ≡ Free) × (mark_of (P.store store.new).marks p ≡ Fresh)) }
     ensures open { OnOk result (1 ≤ length content.now → (P.store store.new).closed ≡ false) }
@@ -53,6 +55,7 @@ pub fn write_chain<P: Pages>(
 fn take_pages<P: Pages>(alloc: Global, store: &mut P, count: usize) -> Result<Vec<u32>, PageFault>
     requires { count ≤ free_count (P.store store.old).marks }
     ensures taken { IfOk result (λ pages. AreTaken (P.store store.old) (P.store store.new) count pages.items) }
+    ensures few { OnOk result (free_count (P.store store.new).marks + count ≡ free_count (P.store store.old).marks) }
     ensures out { HandsOut (P.store store.old) (P.store store.new) }
     ensures cause { IfErr result (HandOutCause (P.store store.old)) }
 {

@@ -1,4 +1,5 @@
 pub mod Carrying
+pub mod Counting
 pub mod Holding
 pub mod Marking
 pub mod Page

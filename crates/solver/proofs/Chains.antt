@@ -60,7 +60,7 @@ module _ (Stores : Layout) where
     opens_or_fails disk before now kept DiskFailed honest holds cause = inl (refl, cause)
     opens_or_fails disk before now kept NotATable honest holds cause = absurd (cause honest (begins disk.now.contents kept holds.stores))
     opens_or_fails disk before now kept AlreadyATable honest holds cause = absurd cause
-    opens_or_fails disk before now kept Damaged honest holds cause = absurd (cause honest kept holds)
+    opens_or_fails disk before now kept Damaged honest holds cause = absurd ((cause honest).1 kept holds)
     opens_or_fails disk before now kept OldLayout honest holds cause = absurd (cause honest kept holds.stores)
     opens_or_fails disk before now kept TooSmall honest holds cause = absurd cause
     opens_or_fails disk before now kept TableFull honest holds cause = absurd cause

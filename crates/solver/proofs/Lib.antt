@@ -8,3 +8,4 @@ pub mod Turning
 pub mod Prefixes
 pub mod Chains
 pub mod Making
+pub mod Starts

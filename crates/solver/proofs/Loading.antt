@@ -1,11 +1,12 @@
 -- A game is loaded, or not.
-use Rattle.std.proofs.Common.{◌≡◌, ◌≢◌, ◌⊎◌, ℕ, List, Option, None, Some, length, sym, ◌∙◌, ap, subst, false}
+use Rattle.std.proofs.Common.{◌≡◌, ◌≢◌, ◌⊎◌, ℕ, List, Option, None, Some, length, sym, ◌∙◌, ap, subst, false, arith}
 use Rattle.std.specs.Prelude.{IsTrue}
 use Rattle.std.proofs.lemmas.Option.{same_Some}
 use Rattle.sector_disk.specs.Disk.{GoesOn}
 use Rattle.sector_disk.specs.aid.Moments.{leaves_more, still_honest}
 use Rattle.rbg_game.specs.Games.{Game}
 use Rattle.rbg_read.specs.Reading.{Reads}
+use Rattle.position_pack.specs.Shape.{shape_of}
 use Rattle.position_pack.specs.declared.kind.PackingKind.{PackingKind}
 use Rattle.position_pack.specs.declared.kind.PackingKind.TheVariants.{Bits}
 use Rattle.legal_moves.specs.Sources.{IsWideAt, graph_of}
@@ -13,8 +14,7 @@ use Rattle.retrograde.specs.Sound.{IsLocallySound}
 use Rattle.legal_moves.specs.Compiled.{compiled_game, packing_kind}
 use Rattle.legal_moves.specs.declared.compiled.Compiled.{Compiled}
 use Rattle.retrograde.specs.Stored.{loaded}
-use Rattle.table.specs.Fitting.{FitsTogether}
-use Rattle.game_table.specs.aid.Laws.{starts_are_positions, sound_tables_fit, a_first_table_is_sound}
+use Rattle.game_table.specs.aid.Laws.{a_first_table_is_sound}
 use Rattle.game_table.specs.Tables.{packed_length}
 use Rattle.game_file.specs.Calls.{IsPut, IsNotPut}
 use Rattle.game_file.specs.Causes.{FileLoadCause}
@@ -30,6 +30,7 @@ use Rattle.solver.specs.Machine.{load, Loads, LoadCause}
 use Rattle.solver.specs.State.{IsSourceOf}
 use Rattle.solver.specs.Steps.{IsDone, IsRefused}
 use Rattle.solver.specs.Stops.{StopsDone}
+use Rattle.solver.proofs.Starts.{some_bytes}
 
 -- what is open and whole leaves what it keeps
 abbrev pub Leaves : Layout → State → Type 0
@@ -93,9 +94,7 @@ module _ (Stores : Layout) (text start : List ℕ) (game : Game) (reads : Reads 
   load_cause file.TableFull long cause = (cause, (game, reads))
   load_cause file.OutOfMemory long cause = tt
   load_cause file.Closed long cause = cause
-  load_cause file.Inconsistent long cause =
-      let (are, fits) = sound_tables_fit Bits game (loaded (graph_of Bits game).start) (starts_are_positions text game reads) (a_first_table_is_sound Bits game) in
-      absurd (cause (subst (λ (s : List ℕ). FitsTogether (length start) (loaded s)) (sym start_is) (subst (λ (n : ℕ). FitsTogether n (loaded (graph_of Bits game).start)) (sym long) fits)))
+  load_cause file.Inconsistent long cause = absurd (let some = some_bytes Bits (shape_of game) in omega (arith, some, long, cause))
 
   pub loaded_refused : (fault : FileFault) → length start ≡ packed_length Bits game → IsNotPut Stores (kept_as text Bits (loaded start)) old new
       → FileLoadCause start old new fault → (fault ≢ file.Disk → new.closed ≡ old.closed) → IsRefused Stores (load text) old new (file_fault fault)

@@ -4,6 +4,7 @@ use Rattle.std.specs.Prelude.{IsTrue, Result, Ok, Err}
 use Rattle.std.specs.Result.{IfOk, OnOk}
 use Rattle.sector_disk.specs.Disk.{Picture, Disk, LeavesOnly, MayLeave, Grew}
 use Rattle.sector_disk.specs.aid.Moments.{goes_on_trans, leaves_then, leaves_more, still_honest}
+use Rattle.root_pair.specs.Root.{IsTablePicture}
 use Rattle.game_file.specs.Calls.{IsOpenedFile, IsNotOpened, IsCreatedFile, IsNotCreated, IsAsked}
 use Rattle.game_file.specs.Causes.{FileOpenCause, FileCreateCause}
 use Rattle.game_file.specs.Kept.{Kept, Layout, Older}
@@ -27,6 +28,10 @@ StoresOne Stores = (picture : Picture) (one other : Option Kept) → Stores pict
 -- a picture of an earlier layout stores none
 abbrev pub OlderStoresNone : Layout → Older → Type 0
 OlderStoresNone Stores IsOlder = (picture : Picture) (kept : Option Kept) → IsOlder picture → Stores picture kept → ⊥
+
+-- a picture that stores a table begins as each table does
+abbrev pub StoresBegins : Layout → Type 0
+StoresBegins Stores = (picture : Picture) (kept : Option Kept) → Stores picture kept → IsTablePicture picture
 
 -- a count that grew from a later one on grew
 grew_from : {before mid now : ℕ} → before ≤ mid → Grew mid now → Grew before now
@@ -81,29 +86,33 @@ module _ (Stores : Layout) (disk : Disk) (count : ℕ) (file : State) where
             (it.asked.leaves (still_honest found.from.goes_on honest)));
       }))
 
-  pub no_game_opened : (now : ℕ) (fault : SolverFault) → StoresOne Stores → IsOpenedFile Stores disk count file → NoGameCause file now fault → OpenCause Stores disk count now fault
-  no_game_opened now DiskFailed one found cause = grew_from found.from.failures cause
-  no_game_opened now NotATable one found cause = absurd cause
-  no_game_opened now AlreadyATable one found cause = cause
-  no_game_opened now Damaged one found cause = λ honest kept holds.
-      cause (still_honest found.from.goes_on honest)
-      (subst (λ (k : Option Kept). IsOfAGame k) (one disk.now.contents kept file.kept holds.stores (found.stored honest)) holds.of_a_game)
-  no_game_opened now OldLayout one found cause = absurd cause
-  no_game_opened now TooSmall one found cause = cause
-  no_game_opened now TableFull one found cause = cause
-  no_game_opened now OutOfMemory one found cause = tt
-  no_game_opened now Closed one found cause = apart file.closed found.is_open cause
-  no_game_opened now (Game fault) one found cause = cause
-  no_game_opened now NoGame one found cause = cause
-  no_game_opened now GameAlready one found cause = cause
-  no_game_opened now (KeeperChooses number) one found cause = cause
-  no_game_opened now TooWide one found cause = cause
-  no_game_opened now TooManyPositions one found cause = cause
-  no_game_opened now Inconsistent one found cause = cause
-  no_game_opened now NoSuchPosition one found cause = cause
-  no_game_opened now NotSettled one found cause = cause
-  no_game_opened now ListingsUsedUp one found cause = absurd cause
-  no_game_opened now BadPosition one found cause = cause
+  pub no_game_opened : (now : ℕ) (fault : SolverFault) → StoresOne Stores → StoresBegins Stores → IsOpenedFile Stores disk count file → NoGameCause file now fault
+      → OpenCause Stores disk count now fault
+  no_game_opened now DiskFailed one begins found cause = grew_from found.from.failures cause
+  no_game_opened now NotATable one begins found cause = absurd cause
+  no_game_opened now AlreadyATable one begins found cause = cause
+  no_game_opened now Damaged one begins found cause = λ honest. (
+    begins disk.now.contents file.kept (found.stored honest),
+    λ kept holds.
+        cause (still_honest found.from.goes_on honest)
+        (subst (λ (k : Option Kept). IsOfAGame k) (one disk.now.contents kept file.kept holds.stores (found.stored honest)) holds.of_a_game),
+  )
+  no_game_opened now OldLayout one begins found cause = absurd cause
+  no_game_opened now TooSmall one begins found cause = cause
+  no_game_opened now TableFull one begins found cause = cause
+  no_game_opened now OutOfMemory one begins found cause = tt
+  no_game_opened now Closed one begins found cause = apart file.closed found.is_open cause
+  no_game_opened now (Game fault) one begins found cause = cause
+  no_game_opened now NoGame one begins found cause = cause
+  no_game_opened now GameAlready one begins found cause = cause
+  no_game_opened now (KeeperChooses number) one begins found cause = cause
+  no_game_opened now TooWide one begins found cause = cause
+  no_game_opened now TooManyPositions one begins found cause = cause
+  no_game_opened now Inconsistent one begins found cause = cause
+  no_game_opened now NoSuchPosition one begins found cause = cause
+  no_game_opened now NotSettled one begins found cause = cause
+  no_game_opened now ListingsUsedUp one begins found cause = absurd cause
+  no_game_opened now BadPosition one begins found cause = cause
 
   -- its table has no earlier layout
   pub no_game_older : (IsOlder : Older) → OlderStoresNone Stores IsOlder → (now : ℕ) (fault : SolverFault) → IsOpenedFile Stores disk count file
@@ -173,7 +182,7 @@ module _ (Stores : Layout) (IsOlder : Older) where
   open_cause none disk count now file.Disk cause = cause
   open_cause none disk count now file.NotATable cause = cause
   open_cause none disk count now file.AlreadyATable cause = cause
-  open_cause none disk count now file.Damaged cause = λ honest kept holds. (cause honest).0 kept holds.stores
+  open_cause none disk count now file.Damaged cause = λ honest. ((cause honest).0, λ kept holds. (cause honest).1 kept holds.stores)
   open_cause none disk count now file.OldLayout cause = λ honest kept stores. none disk.now.contents kept (cause honest) stores
   open_cause none disk count now file.TooSmall cause = cause
   open_cause none disk count now file.TableFull cause = cause
@@ -183,7 +192,7 @@ module _ (Stores : Layout) (IsOlder : Older) where
 
   -- and which layout it has is told
   pub open_older : (disk : Disk) (count now : ℕ) (fault : FileFault) → FileOpenCause Stores IsOlder disk count now fault → LayoutCause IsOlder disk (file_fault fault)
-  open_older disk count now file.Damaged cause = λ honest. (cause honest).1
+  open_older disk count now file.Damaged cause = λ honest. (cause honest).2
   open_older disk count now file.OldLayout cause = cause
   open_older disk count now fault cause = tt
 

@@ -33,12 +33,13 @@ module _ (Stores : Layout) where
     pub since : IsTrue disk.honest → LeavesOnly disk state.disk (OldOrEmpty Stores disk.now)
     pub now : IsTrue disk.honest → LeavesNow Stores state.disk None
 
-  -- why `open` is refused: the disk failed; no table is there; it holds none; it has an earlier layout, so that it stores none; or
-  -- memory ran out
+  -- why `open` is refused: the disk failed; no table is there; it begins as each table does, and holds none; it has an earlier layout,
+  -- so that it stores none; or memory ran out
   abbrev pub OpenCause : Disk → ℕ → ℕ → SolverFault → Type 0
   OpenCause disk before now DiskFailed = Grew before now
   OpenCause disk before now NotATable = IsTrue disk.honest → ¬ IsTablePicture disk.now.contents
-  OpenCause disk before now Damaged = IsTrue disk.honest → (kept : Option Kept) → ¬ Holds Stores disk.now.contents kept
+  OpenCause disk before now Damaged =
+      IsTrue disk.honest → IsTablePicture disk.now.contents × ((kept : Option Kept) → ¬ Holds Stores disk.now.contents kept)
   OpenCause disk before now OldLayout = IsTrue disk.honest → (kept : Option Kept) → ¬ Stores disk.now.contents kept
   OpenCause disk before now OutOfMemory = Unit {0}
   OpenCause disk before now _ = ⊥

@@ -1,8 +1,7 @@
 -- A game is loaded into a file without one.
-use Rattle.std.proofs.Common.{◌≡◌, inl, ℕ, Bool, true, false, List, length, Option, None, Some, Result, Ok, Err, IsTrue, refl, sym, ap, subst, arith}
-use Rattle.std.specs.Prelude.{OnErr, nat_lt, if◌then◌else◌}
+use Rattle.std.proofs.Common.{◌≡◌, ◌≤◌, inl, ℕ, false, List, Option, None, Some, Result, Ok, Err, IsTrue, refl, sym, ap, subst, arith}
+use Rattle.std.specs.Prelude.{OnErr}
 use Rattle.std.specs.Option.{is_some}
-use Rattle.std.proofs.lemmas.Bool.{ltb-true}
 use Rattle.sector_disk.specs.Disk.{Grew}
 use Rattle.sector_disk.specs.aid.Moments.{leaves_more, leaves_now}
 use Rattle.page_store.specs.Store.{Store, IsRemarked, reads}
@@ -11,7 +10,7 @@ use Rattle.table.specs.declared.fault.TableFault.{TableFault}
 use Rattle.table.specs.declared.fault.TableFault.TheVariants as table
 use Rattle.game_file.specs.Calls.{IsNotPut}
 use Rattle.game_file.specs.Causes.{FileLoadCause}
-use Rattle.game_file.specs.declared.fault.FileFault.TheVariants.{TableFull, OutOfMemory}
+use Rattle.game_file.specs.Faults.{of_table}
 use Rattle.game_file.specs.Kept.{Kept}
 use Rattle.tree_table.specs.declared.slot.TreeSlot.{TreeSlot}
 use Rattle.tree_table.specs.Causes.{StartCause}
@@ -19,8 +18,7 @@ use Rattle.tree_table.specs.Held.{StoresTrees}
 use Rattle.tree_table.specs.Keeping.{IsKeptInTrees, IsVacant}
 use Rattle.tree_table.specs.aid.Standing.{works_still}
 use Rattle.tree_file.specs.File.{File, IsWholeFile, kept_of, kept_with, state_of}
-use Rattle.tree_file.specs.aid.Faults.{load_fault}
-use Rattle.tree_file.specs.aid.Whole.{whole_leaves}
+use Rattle.tree_file.specs.aid.Whole.{no_game_is_free, whole_leaves}
 use Rattle.tree_file.proofs.Saving.{not_put}
 
 -- nothing is done
@@ -50,16 +48,12 @@ vacant was whole none honest is_open = record {
   enough = whole.room;
 }
 
--- why none is loaded
-pub why_not_loaded : (start : List ℕ) (long : ℕ) (was new : File) (left : Store) (fault : TableFault) (capacity : ℕ) → capacity ≡ length was.work.store.marks
-    → IsRemarked left new.work.store → StartCause long was.work.store left fault
-    → FileLoadCause start (state_of was) (state_of new) (load_fault fault capacity)
-why_not_loaded start long was new left table.Disk capacity same others cause = subst (λ (n : ℕ). Grew was.work.store.failures n) (sym others.failures) cause
-why_not_loaded start long was new left table.Damaged capacity same others cause = cause
-why_not_loaded start long was new left table.TableFull capacity same others cause = by_size (nat_lt capacity 24) refl
-  where
-    by_size : (b : Bool) → nat_lt capacity 24 ≡ b → FileLoadCause start (state_of was) (state_of new) (if b then TableFull else OutOfMemory)
-    by_size true is = omega (arith, ltb-true capacity 24 is, same)
-    by_size false is = tt
-why_not_loaded start long was new left table.OutOfMemory capacity same others cause = tt
-why_not_loaded start long was new left table.Closed capacity same others cause = cause
+-- why none is loaded: 24 pages are never too few, since all but the system page are free
+pub why_not_loaded : (start : List ℕ) (long : ℕ) (was new : File) (left : Store) (fault : TableFault) → IsWholeFile was → was.game ≡ None
+    → long ≤ 65536 → IsRemarked left new.work.store → StartCause long was.work.store left fault
+    → FileLoadCause start (state_of was) (state_of new) (of_table fault)
+why_not_loaded start long was new left table.Disk whole none short others cause = subst (λ (n : ℕ). Grew was.work.store.failures n) (sym others.failures) cause
+why_not_loaded start long was new left table.Damaged whole none short others cause = cause
+why_not_loaded start long was new left table.TableFull whole none short others cause = omega (arith, cause, short, no_game_is_free was whole none)
+why_not_loaded start long was new left table.OutOfMemory whole none short others cause = tt
+why_not_loaded start long was new left table.Closed whole none short others cause = cause

@@ -18,7 +18,7 @@ use Rattle.tree_table.specs.Held.{KeepsTrees, StoresTrees}
 use Rattle.tree_table.specs.Keeping.{slot_or_bare}
 use Rattle.tree_table.specs.Working.{work_of}
 use Rattle.tree_table.specs.aid.Keeping.{kept_stands}
-use Rattle.tree_file.specs.File.{IsWholeFile, file_of, kept_with, state_of}
+use Rattle.tree_file.specs.File.{IsWholeFile, UsesNoOther, file_of, kept_with, state_of}
 use Rattle.tree_file.specs.Older.{IsOlderTable}
 use Rattle.tree_file.specs.Opening.{IsFoundInFile, TreesReadCause}
 use Rattle.tree_file.specs.aid.Backed.{IsBackedFile}
@@ -92,6 +92,7 @@ module _ (disk : Disk) (count : ℕ) (found now : Store) (at_first : IsOpenedSto
   read_cause NotATable cause = absurd cause
   read_cause AlreadyATable cause = absurd cause
   read_cause Damaged cause = λ honest. (
+    (at_first.root honest).table,
     λ kept stores.
         let less = cause.0 (still_honest at_first.goes_on honest) at_first.marks kept (kept_there kept honest stores) in
         omega (arith, less, stores.room, at_first.capacity),
@@ -127,6 +128,11 @@ found_whole commits game text now it sound = record {
   free = it.free;
   kept = it.kept;
 }
+
+-- and uses no page that its root does not name
+pub found_alone : (commits : ℕ) (game : Option TreeSlot) (text : List ℕ) (now : Store) → IsFoundInFile commits game text now
+    → UsesNoOther (file_of (work_of (slot_or_bare game) text false now) game)
+found_alone commits game text now it = record { kept = it.kept; alone = it.alone }
 
 -- what is found stands behind its file
 pub found_backed : (commits : ℕ) (game : Option TreeSlot) (text : List ℕ) (now : Store) → IsFoundInFile commits game text now

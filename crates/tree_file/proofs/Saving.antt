@@ -1,5 +1,5 @@
 -- What a command has come to is committed, or given up.
-use Rattle.std.proofs.Common.{◌≢◌, ◌≡◌, inl, inr, ℕ, ◌≤◌, false, true, List, length, Option, None, Some, IsTrue, sym, ◌∙◌, ap, subst, arith}
+use Rattle.std.proofs.Common.{◌≢◌, ◌≡◌, ℕ, ◌≤◌, false, true, List, length, Option, None, Some, IsTrue, sym, ◌∙◌, ap, subst, arith}
 use Rattle.std.proofs.lemmas.Option.{same_Some}
 use Rattle.sector_disk.specs.Disk.{Disk, GoesOn, Grew, LeavesOnly, size}
 use Rattle.page_store.specs.Causes.{StoreCommitCause}
@@ -11,7 +11,7 @@ use Rattle.game_file.specs.declared.fault.FileFault.{FileFault}
 use Rattle.game_file.specs.declared.fault.FileFault.TheVariants.{OutOfMemory, TableFull}
 use Rattle.tree_map.specs.aid.Unchanged.{grew_before}
 use Rattle.sector_disk.specs.aid.Moments.{goes_on_trans}
-use Rattle.page_store.specs.declared.marks.Mark.TheVariants.{Committed, Waiting, Free}
+use Rattle.page_store.specs.declared.marks.Mark.TheVariants.{Waiting}
 use Rattle.page_store.specs.Marks.{mark, rests}
 use Rattle.page_store.specs.Spelling.{IsCalm}
 use Rattle.page_store.specs.aid.Works.{closes_same, closes_then}

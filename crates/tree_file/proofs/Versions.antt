@@ -1,23 +1,21 @@
 -- A version is kept in a file, and given back.
-use Rattle.std.proofs.Common.{◌≡◌, ◌≢◌, ◌⊎◌, inl, inr, ℕ, ◌<◌, ◌≤◌, ◌^◌, Bool, true, false, List, length, Option, None, Some, Result, Ok, Err, IsTrue, refl, sym, ◌∙◌, ap, subst, arith}
-use Rattle.sector_disk.specs.Disk.{Disk}
+use Rattle.std.proofs.Common.{◌≡◌, ◌≢◌, ℕ, true, false, List, Option, None, Some, Result, Ok, Err, IsTrue, refl, sym, ◌∙◌, ap, subst}
 use Rattle.page_store.specs.declared.marks.Mark.{Mark}
 use Rattle.page_store.specs.declared.holds.HoldPlace.{HoldPlace}
 use Rattle.page_store.specs.declared.holds.Hold.{Hold}
 use Rattle.page_store.specs.Holds.{needed_by}
 use Rattle.page_store.specs.aid.Works.{works_refl}
 use Rattle.page_store.specs.Marks.{mark, rests}
-use Rattle.page_store.specs.Store.{Store, IsSoundStore, IsHoldTaken, IsLetGo, reads}
+use Rattle.page_store.specs.Store.{Store, IsSoundStore, IsHoldTaken, IsLetGo}
 use Rattle.page_store.specs.aid.Carrying.{let_go_calm}
 use Rattle.page_store.specs.Spelling.{IsCalm}
 use Rattle.retrograde.specs.Stored.{Stored}
 use Rattle.root_slot.specs.Fields.{commits_in}
 use Rattle.game_file.specs.Kept.{Kept as KeptTable, packing_kept, text_kept}
-use Rattle.game_file.specs.State.{State}
 use Rattle.tree_table.specs.declared.slot.TreeSlot.{TreeSlot}
 use Rattle.tree_table.specs.Keeping.{IsKeptInTrees, IsStill, StandsInTrees, slot_or_bare}
 use Rattle.tree_table.specs.Slot.{slot_in}
-use Rattle.tree_table.specs.Working.{Work, work_of}
+use Rattle.tree_table.specs.Working.{Work}
 use Rattle.tree_table.specs.Versions.{StandsInVersion}
 use Rattle.std.specs.Option.{IfSome, IfNone}
 use Rattle.std.specs.Result.{IfErr}
@@ -26,7 +24,7 @@ use Rattle.table.specs.declared.fault.TableFault.TheVariants.{Disk as DiskFailed
 use Rattle.tree_table.specs.Causes.{IsNoTable, ReadCause}
 use Rattle.tree_table.specs.aid.Standing.{taken_still, let_go_still, works_still}
 use Rattle.tree_table.specs.aid.Versions.{version_taken}
-use Rattle.tree_file.specs.File.{File, file_of, IsWholeFile, NamesSlot, kept_of, kept_with, counts_told, state_of}
+use Rattle.tree_file.specs.File.{File, IsWholeFile, NamesSlot, kept_of, counts_told, state_of}
 use Rattle.game_file.specs.Causes.{FileVersionCause}
 use Rattle.tree_file.specs.aid.Whole.{again_kept, again_packing, again_text, again_whole}
 use Rattle.tree_file.proofs.Saving.{calm_sealed}

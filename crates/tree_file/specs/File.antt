@@ -9,7 +9,7 @@ use Rattle.retrograde.specs.declared.records.Counts.{Counts}
 use Rattle.game_file.specs.Kept.{Kept, kept_as}
 use Rattle.game_file.specs.State.{State}
 use Rattle.tree_table.specs.declared.slot.TreeSlot.{TreeSlot}
-use Rattle.tree_table.specs.Keeping.{IsKeptInTrees, slot_or_bare}
+use Rattle.tree_table.specs.Keeping.{IsKeptInTrees, IsOneOf, slot_or_bare}
 use Rattle.tree_table.specs.Slot.{slot_in, IsEmptyTreeSlot}
 use Rattle.tree_table.specs.Spelled.{table_in}
 use Rattle.tree_table.specs.Working.{Work}
@@ -66,3 +66,9 @@ pub record IsWholeFile (file : File) : Type 0 where
   pub calm : IsCalm file.work.store
   pub free : file.game ≡ None → (p : ℕ) → 1 ≤ p → p < length file.work.store.marks → mark file.work.store.marks p ≡ Free
   pub kept : IsTrue file.work.store.disk.honest → IsKeptInTrees file.work.store (kept_of file)
+
+-- on an honest disk the committed root and its pages spell what is kept, and each other page is free
+pub record UsesNoOther (file : File) : Type 0 where
+  pub kept : IsTrue file.work.store.disk.honest → IsKeptInTrees file.work.store (kept_of file)
+  pub alone : (honest : IsTrue file.work.store.disk.honest) (p : ℕ) → 1 ≤ p → p < length file.work.store.marks
+      → ¬ IsOneOf (kept honest).text_pages (kept honest).pages p → mark file.work.store.marks p ≡ Free

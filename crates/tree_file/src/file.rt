@@ -8,14 +8,13 @@ ghost use Rattle.tree_table.specs.Held.{StoresTrees};
 ghost use Rattle.tree_table.specs.InTrees.{work_in};
 ghost use Rattle.tree_table.specs.aid.OneTable.{a_picture_stores_one_tree_table};
 ghost use Rattle.tree_table.specs.Keeping.{AreSized, StandsFor};
-ghost use Rattle.tree_file.specs.File.{IsWholeFile, state_of};
+ghost use Rattle.tree_file.specs.File.{IsWholeFile, UsesNoOther, state_of};
 ghost use Rattle.tree_file.specs.aid.Backed.{are_sized_prop};
 ghost use Rattle.page_store.specs.declared.marks.Mark.TheVariants.{Waiting};
 ghost use Rattle.page_store.specs.Marks.{mark};
 ghost use Rattle.tree_file.specs.Older.{IsOlderTable};
 ghost use Rattle.tree_table.specs.Versions.{KeepsHolds};
 ghost use Rattle.tree_table.specs.aid.Versions.{keeps_holds_then, works_keep_holds};
-ghost use Rattle.tree_file.specs.aid.Faults.{load_fault};
 ghost use Rattle.tree_file.specs.aid.Whole.{whole_counts, whole_leaves, whole_stored, whole_stays, works_ahead, fails_for, older_none};
 
 use crate::on_disk::PagesOnDisk;
@@ -24,7 +23,6 @@ use game_file::{FileFault, GameFile, Refused};
 use position_pack::{Packed, PackingKind};
 use root_pair::create;
 use std::alloc::Global;
-use table::TableFault;
 use tree_table::{TreeSlot, TreeTable, empty_slot};
 
 /// A game's table in a file. A command works on the trees themselves: it writes pages that the last commit does not need, and to
@@ -44,16 +42,6 @@ pub struct TreeFile<P: PagesOnDisk> {
     ghost stands: { IsTrue (work_in table).store.disk.honest → ∥ StandsFor game (work_in table).text (work_in table).store ∥₁ },
 }
 
-/// The fault of a game that is not loaded. A text and a start take 19 pages at most, so that 24 are never too few.
-fn load_fault(fault: TableFault, capacity: u32) -> FileFault
-    ensures { result ≡ load_fault fault capacity }
-{
-    match fault {
-        TableFault::TableFull if capacity >= 24 => FileFault::OutOfMemory,
-        other => other.into(),
-    }
-}
-
 impl<P: PagesOnDisk> TreeFile<P> {
     ghost use Rattle.tree_file.specs.InFile.{file_in};
 
@@ -64,6 +52,7 @@ impl<P: PagesOnDisk> TreeFile<P> {
         ensures ok { IfOk result (λ t. IsOpenedFile StoresTrees (P.Device.disk disk) (P.Device.failures disk) (state_of (file_in t))) }
         ensures root { IfOk result (λ t. IsTrue (P.Device.disk disk).honest
             → HoldsRoot (file_in t).work.store.root (P.Device.disk disk).now.contents) }
+        ensures alone { IfOk result (λ t. UsesNoOther (file_in t)) }
         ensures refused { IfErr result (λ back. IsNotOpened (P.Device.disk disk) (P.Device.failures disk)
             (P.Device.disk back.disk) (P.Device.failures back.disk)) }
         ensures cause { IfErr result (λ back. FileOpenCause StoresTrees IsOlderTable (P.Device.disk disk) (P.Device.failures disk)
@@ -153,11 +142,21 @@ impl<P: PagesOnDisk> GameFile for TreeFile<P> {
         }
     }
 
+    /// As the trait says, and each page that the committed root does not name is free.
     fn open_with_cache(
         alloc: Global,
         disk: P::Device,
         pages: usize,
-    ) -> Result<Self, Refused<P::Device>> {
+    ) -> Result<Self, Refused<P::Device>>
+        requires { pages ≤ 64 }
+        ensures whole { IfOk result (λ t. IsWholeFile (file_in t)) }
+        ensures ok { IfOk result (λ t. IsOpenedFile StoresTrees (P.Device.disk disk) (P.Device.failures disk) (state_of (file_in t))) }
+        ensures alone { IfOk result (λ t. UsesNoOther (file_in t)) }
+        ensures refused { IfErr result (λ back. IsNotOpened (P.Device.disk disk) (P.Device.failures disk)
+            (P.Device.disk back.disk) (P.Device.failures back.disk)) }
+        ensures cause { IfErr result (λ back. FileOpenCause StoresTrees IsOlderTable (P.Device.disk disk) (P.Device.failures disk)
+            (P.Device.failures back.disk) back.fault) }
+    {
         TreeFile::read(alloc, disk, pages)
     }
 
@@ -184,7 +183,7 @@ impl<P: PagesOnDisk> GameFile for TreeFile<P> {
             return Err(FileFault::Inconsistent);
         }
         if start.is_empty() {
-            return Err(FileFault::OutOfMemory);
+            return Err(FileFault::Inconsistent);
         }
         let text = text.to_vec(self.alloc)?;
         let commits = self.commits.wrapping_add(1);
@@ -196,7 +195,7 @@ impl<P: PagesOnDisk> GameFile for TreeFile<P> {
             }
             Err(fault) => {
                 self.table.restore(&None);
-                Err(load_fault(fault, self.table.store.capacity()))
+                Err(fault.into())
             }
         }
     }

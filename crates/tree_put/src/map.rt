@@ -1,5 +1,6 @@
 //! An entry is put into a map, which may get a new root.
-ghost use Rattle.std.specs.Prelude.{◌≡◌, ◌≢◌, ◌≤◌, ◌<◌, [], ◌∷◌, ℕ, false, List, length, OnOk, IfOk, IfErr, IsTrue};
+ghost use Rattle.std.specs.Prelude.{◌≡◌, ◌≢◌, ◌≤◌, ◌<◌, ◌+◌, [], ◌∷◌, ℕ, false, List, length, OnOk, IfOk, IfErr, IsTrue};
+ghost use Rattle.page_store.specs.Marks.{free_count};
 ghost use Rattle.page_store.specs.Store.{reads, StoreWorks};
 ghost use Rattle.tree_page.specs.Page.{Item, least_of, items_in, IsPage};
 ghost use Rattle.tree_map.specs.Changes.{HoldsMap, AreHeld, TakePlace, MapPutCause};
@@ -17,8 +18,8 @@ use tree_page::{Kind, Widths};
 /// How many levels a map has at most below the page of its root.
 const LEVELS: usize = MAX_LEVELS - 1;
 
-/// Puts this value at this key, and answers the new root. `Damaged` where below the root is no map, `TableFull` where a
-/// page is needed and none is free. After an error the store goes back by `discard`.
+/// Puts this value at this key, and answers the new root. The first entry of a map takes one page. `Damaged` where below the root is
+/// no map, `TableFull` where a page is needed and none is free. After an error the store goes back by `discard`.
 pub fn put<P: Pages>(
     store: &mut P,
     widths: Widths,
@@ -37,6 +38,8 @@ pub fn put<P: Pages>(
     ensures works { StoreWorks (P.store store.old) (P.store store.new) }
     ensures still { IfErr result (λ fault. fault ≢ PageFault.Disk → (P.store store.new).closed ≡ (P.store store.old).closed) }
     ensures cause { IfErr result (MapPutCause widths root (P.store store.old) (P.store store.new)) }
+    ensures first { root ≡ 0 → OnOk result (free_count (P.store store.new).marks + 1 ≡ free_count (P.store store.old).marks) }
+    ensures refused { root ≡ 0 → IfErr result (λ fault. fault ≡ PageFault.TableFull → P.store store.new ≡ P.store store.old) }
 {
     if root == 0 {
         let entry = new_entry(widths, key, value);
@@ -70,6 +73,8 @@ fn on_new_page<P: Pages>(
     ensures works { StoreWorks (P.store store.old) (P.store store.new) }
     ensures still { IfErr result (λ fault. fault ≢ PageFault.Disk → (P.store store.new).closed ≡ (P.store store.old).closed) }
     ensures cause { IfErr result (WriteCause (P.store store.old) (P.store store.new)) }
+    ensures first { OnOk result (free_count (P.store store.new).marks + 1 ≡ free_count (P.store store.old).marks) }
+    ensures refused { IfErr result (λ fault. fault ≡ PageFault.TableFull → P.store store.new ≡ P.store store.old) }
 {
     let page = store.new_page()?;
     write_on(store, widths, kind, page, items.count, &items.bytes)?;

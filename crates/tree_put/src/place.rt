@@ -1,5 +1,6 @@
 //! A page is written in the place of another.
 ghost use Rattle.std.specs.Prelude.{◌≡◌, ◌≢◌, ◌≤◌, ◌<◌, ◌*◌, [], ◌∷◌, ℕ, false, length, OnOk, IfOk, IfErr, IsTrue};
+ghost use Rattle.page_store.specs.Causes.{PageWriteCause};
 ghost use Rattle.page_store.specs.declared.marks.Mark.TheVariants.{Fresh};
 ghost use Rattle.page_store.specs.Marks.{mark as mark_of};
 ghost use Rattle.page_store.specs.Store.{reads, StoreWorks};
@@ -53,7 +54,7 @@ pub fn write_on<P: Pages>(
     ensures open { OnOk result ((P.store store.new).closed ≡ false) }
     ensures works { StoreWorks (P.store store.old) (P.store store.new) }
     ensures still { IfErr result (λ fault. fault ≢ PageFault.Disk → (P.store store.new).closed ≡ (P.store store.old).closed) }
-    ensures cause { IfErr result (WriteCause (P.store store.old) (P.store store.new)) }
+    ensures cause { IfErr result (PageWriteCause (P.store store.old) (P.store store.new)) }
 {
     let bytes = page_of(widths, kind, count, items);
     store.write_page(page, &bytes)

@@ -1,12 +1,12 @@
 -- Faults that are handed on.
-use Rattle.std.proofs.Common.{◌≡◌, ℕ, List, Result, Ok, Err, sym, ◌∙◌, subst}
+use Rattle.std.proofs.Common.{◌≡◌, Result, Ok, Err, sym, ◌∙◌, subst}
 use Rattle.std.specs.Result.{IsErr, IfErr, IsErrAnd}
 use Rattle.page_store.specs.Store.{Store, StoreWorks}
 use Rattle.table.specs.declared.fault.TableFault.{TableFault}
 use Rattle.table.specs.declared.fault.TableFault.TheVariants.{Disk, Damaged, TableFull, OutOfMemory, Closed}
 use Rattle.tree_map.specs.aid.Unchanged.{grew_before}
 use Rattle.tree_table.specs.declared.slot.TreeSlot.{TreeSlot}
-use Rattle.tree_table.specs.Causes.{HasNoTable, ReadCause, ChangeCause, AddCause}
+use Rattle.tree_table.specs.Causes.{ReadCause, ChangeCause}
 
 -- a fault is passed on
 pub passed_on : {X E : Type 0} (Cause : E → Type 0) (r : Result X E) (fault : E) → IsErr r × IsErrAnd r (λ f. f ≡ fault) → Cause fault → IfErr r Cause
@@ -46,11 +46,3 @@ change_since One Other slot later old mid new Damaged works still so cause = so 
 change_since One Other slot later old mid new TableFull works still so cause = cause
 change_since One Other slot later old mid new OutOfMemory works still so cause = cause
 change_since One Other slot later old mid new Closed works still so cause = sym still ∙ cause
-
--- a position is not added as nothing is changed
-pub add_for : (x : List ℕ) (slot : TreeSlot) (old new : Store) (fault : TableFault) → ChangeCause HasNoTable slot old new fault → AddCause x slot old new fault
-add_for x slot old new Disk cause = cause
-add_for x slot old new Damaged cause = cause
-add_for x slot old new TableFull cause = cause
-add_for x slot old new OutOfMemory cause = absurd cause
-add_for x slot old new Closed cause = cause

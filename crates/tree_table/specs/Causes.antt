@@ -1,5 +1,5 @@
 -- Why what a slot names is not read or changed.
-use Rattle.std.specs.Prelude.{◌≡◌, ◌≢◌, ◌⊎◌, ℕ, ◌*◌, ◌<◌, true, List, length, IsTrue}
+use Rattle.std.specs.Prelude.{◌≡◌, ℕ, ◌+◌, ◌*◌, ◌<◌, true, List, IsTrue}
 use Rattle.sector_disk.specs.Disk.{Grew}
 use Rattle.page_store.specs.Marks.{free_count}
 use Rattle.page_store.specs.Store.{Store}
@@ -44,16 +44,11 @@ ChangeCause HasNone slot old new TableFull = free_count new.marks ≡ 0
 ChangeCause HasNone slot old new OutOfMemory = ⊥
 ChangeCause HasNone slot old new Closed = old.closed ≡ true
 
--- no position is added: or it has not as many bytes as the others, which is told as want of memory
-abbrev pub AddCause : List ℕ → TreeSlot → Store → Store → TableFault → Type 0
-AddCause position slot old new OutOfMemory = length position ≢ slot.sizes.packed
-AddCause position slot old new fault = ChangeCause HasNoTable slot old new fault
-
--- no game is loaded: the disk failed, or is not honest; its text takes more pages than are free, or a page is needed then and none is
--- free; memory ran out; the store was closed
+-- no game is loaded: the disk failed, or is not honest; fewer pages are free than its text, its start and the record of that take, the
+-- last two one each; memory ran out; the store was closed
 abbrev pub StartCause : ℕ → Store → Store → TableFault → Type 0
 StartCause long old new Disk = Grew old.failures new.failures
 StartCause long old new Damaged = ¬ IsTrue old.disk.honest
-StartCause long old new TableFull = (PAYLOAD * free_count old.marks < long) ⊎ (free_count new.marks ≡ 0)
+StartCause long old new TableFull = PAYLOAD * free_count old.marks < long + 2 * PAYLOAD
 StartCause long old new OutOfMemory = Unit {0}
 StartCause long old new Closed = old.closed ≡ true

@@ -1,13 +1,14 @@
 //! What a slot names is changed. The pages that it names stay as they are where the committed root needs them.
 ghost use Rattle.std.specs.Prelude.{◌≡◌, ◌≢◌, ◌+◌, ◌≤◌, ◌<◌, ℕ, List, Some, OnOk, IfOk, IfErr, IsTrue, length, slice_get};
+ghost use Rattle.page_store.specs.Marks.{free_count};
 ghost use Rattle.page_store.specs.Store.{StoreWorks};
 ghost use Rattle.retrograde.specs.Changes.{fresh_record, with_position, with_record, with_edge, with_settled};
 ghost use Rattle.retrograde.specs.Stored.{Stored};
-ghost use Rattle.table.specs.declared.fault.TableFault.TheVariants.{Disk};
+ghost use Rattle.table.specs.declared.fault.TableFault.TheVariants.{Disk, TableFull};
 ghost use Rattle.tree_page.specs.Page.{Item};
 ghost use Rattle.tree_table.specs.declared.tree.Tree.{Tree};
-ghost use Rattle.tree_table.specs.Causes.{HasNoForest, HasNoTable, AddCause, ChangeCause};
-ghost use Rattle.tree_table.specs.Trees.{key_width, value_width};
+ghost use Rattle.tree_table.specs.Causes.{HasNoForest, HasNoTable, ChangeCause};
+ghost use Rattle.tree_table.specs.Trees.{key_width, value_width, root_of, with_root};
 ghost use Rattle.tree_table.specs.Working.{HoldsForest, HoldsTable, with_entry};
 ghost use Rattle.tree_table.specs.aid.Slots.{IsSameButRoots, IsSameFrame, counts_with, recounted};
 ghost use Rattle.position_pack.specs.declared.limits.TheConstants.{MAX_PACKED};
@@ -23,7 +24,7 @@ use retrograde::{Counts, Record, State};
 use table::TableFault;
 use tree_put::put;
 
-/// Puts this value at this key of this tree. Answers the slot with the tree's new root.
+/// Puts this value at this key of this tree. Answers the slot with the tree's new root. The first entry of a tree takes one page.
 fn put_in<P: Pages>(
     store: &mut P,
     slot: TreeSlot,
@@ -43,6 +44,10 @@ fn put_in<P: Pages>(
     ensures open { OnOk result ((P.store store.new).closed ≡ (P.store store.old).closed) }
     ensures still { IfErr result (λ fault. fault ≢ Disk → (P.store store.new).closed ≡ (P.store store.old).closed) }
     ensures cause { IfErr result (ChangeCause HasNoForest slot (P.store store.old) (P.store store.new)) }
+    ensures roots { IfOk result (λ next. next.roots ≡ with_root slot.roots tree (root_of next.roots tree)) }
+    ensures first { root_of slot.roots tree ≡ 0
+        → OnOk result (free_count (P.store store.new).marks + 1 ≡ free_count (P.store store.old).marks) }
+    ensures full { root_of slot.roots tree ≡ 0 → IfErr result (λ fault. fault ≡ TableFull → free_count (P.store store.old).marks ≡ 0) }
 {
     let widths = widths_of(slot.sizes.packed, tree);
     match put(store, widths, slot.roots.root(tree), key, value) {
@@ -69,7 +74,7 @@ pub fn fresh() -> Record
     }
 }
 
-/// Adds a position, with the next number. One that has not as many bytes as the others is refused.
+/// Adds a position, which has as many bytes as the others, with the next number. The first one takes two pages.
 pub fn add_position<P: Pages>(
     store: &mut P,
     slot: TreeSlot,
@@ -78,6 +83,7 @@ pub fn add_position<P: Pages>(
     requires some { 1 ≤ slot.sizes.packed }
     requires short { slot.sizes.packed ≤ MAX_PACKED }
     requires room { slot.sizes.counts.known < 16777216 }
+    requires long { length packed.now.items ≡ slot.sizes.packed }
     ensures slot { IfOk result (IsSameFrame slot) }
     ensures known { IfOk result (λ next. next.sizes.counts.known ≡ slot.sizes.counts.known + 1) }
     ensures table { IsTrue (P.store store.old).disk.honest → (text : List ℕ) (table : Stored (List ℕ))
@@ -87,11 +93,10 @@ pub fn add_position<P: Pages>(
     ensures works { StoreWorks (P.store store.old) (P.store store.new) }
     ensures open { OnOk result ((P.store store.new).closed ≡ (P.store store.old).closed) }
     ensures still { IfErr result (λ fault. fault ≢ Disk → (P.store store.new).closed ≡ (P.store store.old).closed) }
-    ensures cause { IfErr result (AddCause packed.now.items slot (P.store store.old) (P.store store.new)) }
+    ensures cause { IfErr result (ChangeCause HasNoTable slot (P.store store.old) (P.store store.new)) }
+    ensures full { slot.roots.positions ≡ 0 → slot.roots.records ≡ 0
+        → IfErr result (λ fault. fault ≡ TableFull → free_count (P.store store.old).marks < 2) }
 {
-    if packed.len() != slot.sizes.packed as usize {
-        return Err(TableFault::OutOfMemory);
-    }
     let number = slot.sizes.counts.known;
     let key = number_key(number);
     let slot = put_in(store, slot, Tree::Positions, packed, &key)?;

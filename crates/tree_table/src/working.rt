@@ -102,6 +102,9 @@ impl<P: Pages> Table for TreeTable<P> {
     }
 
     fn add(&mut self, packed: &Packed) -> Result<u32, TableFault> {
+        if packed.len() != self.slot.sizes.packed as usize {
+            return Err(TableFault::OutOfMemory);
+        }
         let number = self.slot.sizes.counts.known;
         let torn = self.torn;
         self.torn = true;

@@ -1,6 +1,6 @@
 -- What a whole file promises as a table's file of any layout does.
-use Rattle.std.specs.Prelude.{◌≡◌, ◌⊎◌, ℕ, Bool, true, false, List, length, Option, None, Some, option_map, IsTrue}
-use Rattle.std.proofs.Common.{inl, inr, refl, sym, ◌∙◌, ap, subst, arith}
+use Rattle.std.specs.Prelude.{◌≡◌, ◌+◌, ◌≤◌, ℕ, Bool, true, false, List, length, Option, None, Some, option_map, IsTrue}
+use Rattle.std.proofs.Common.{refl, sym, ◌∙◌, ap, subst, arith}
 use Rattle.std.proofs.lemmas.Option.{same_Some}
 use mathlib.Core.Logic.{∥∥₁_elim}
 use denote.Struct.Props.{props}
@@ -8,10 +8,11 @@ use Rattle.sector_disk.specs.Disk.{Picture}
 use Rattle.sector_disk.specs.aid.Moments.{leaves_more, still_honest}
 use Rattle.page_store.specs.declared.marks.Mark.{Mark}
 use Rattle.page_store.specs.declared.marks.Mark.TheVariants.{Committed, Waiting, Fresh, Released, Free, Past}
-use Rattle.page_store.specs.Marks.{mark, needs, is_past, rests}
+use Rattle.page_store.specs.Marks.{mark, free_count, needs, is_past, rests}
 use Rattle.page_store.specs.Spelling.{IsCalm}
 use Rattle.page_store.specs.Store.{Store, IsSoundStore, StoreWorks, reads}
 use Rattle.page_store.specs.aid.Carrying.{saved_spells}
+use Rattle.page_store.specs.aid.Counting.{rest_free}
 use Rattle.retrograde.specs.Stored.{Stored, IsTable}
 use Rattle.page_store.specs.Page.{page}
 use Rattle.root_slot.specs.Fields.{capacity_of, commits_in, layout_in}
@@ -40,6 +41,10 @@ pub whole_leaves : (file : File) → IsWholeFile file → IsTrue file.work.store
     → LeavesNow StoresTrees file.work.store.disk (kept_of file)
 whole_leaves file whole honest is_open =
     kept_stays file.work.store (kept_of file) whole.room whole.sound.few (whole.kept honest) (whole.sound.safe honest is_open)
+
+-- where no game is loaded all pages but the system page are free
+pub no_game_is_free : (file : File) → IsWholeFile file → file.game ≡ None → length file.work.store.marks ≤ free_count file.work.store.marks + 1
+no_game_is_free file whole none = rest_free file.work.store.marks (whole.free none)
 
 -- what is kept is what the committed root and its pages spell
 pub kept_spells : (store : Store) (kept : Kept) → IsCalm store → IsKeptInTrees store (Some kept)

@@ -32,3 +32,8 @@ returns-clause-taken g c =
 
 pub returns-clause-out : goal.returns-clause-out
 returns-clause-out g c = c.loop.invariant.out
+
+pub returns-clause-few : goal.returns-clause-few
+returns-clause-few g c =
+    let all : c.loop.counter ≡ c.args.count = omega (arith, c.loop-test.false, c.loop.auto.counter-end) in
+    omega (arith, all, c.loop.invariant.free)

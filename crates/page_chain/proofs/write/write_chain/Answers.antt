@@ -1,6 +1,6 @@
-use Rattle.std.proofs.Common.{◌≡◌, ◌⊎◌, ◌∙◌, ℕ, List, subst, sym}
+use Rattle.std.proofs.Common.{◌≡◌, ◌⊎◌, ◌∙◌, ℕ, List, ap, subst, sym, arith}
 use Rattle.std.specs.Prelude.{Contains}
-use Rattle.page_store.specs.Marks.{mark}
+use Rattle.page_store.specs.Marks.{mark, free_count}
 use Rattle.page_store.specs.aid.Works.{works_refl, works_then}
 use Rattle.page_store.specs.declared.marks.Mark.{Mark}
 use Rattle.page_store.specs.declared.marks.Mark.TheVariants.{Fresh, Free}
@@ -56,3 +56,7 @@ returns-clause-closed g c = c.in_ok-write_pages.ensures.closed ∙ c.take_pages.
 
 pub returns-clause-works : goal.returns-clause-works
 returns-clause-works g c = works_then c.take_pages.ensures.out.works c.write_pages.ensures.works
+
+pub returns-clause-few : goal.returns-clause-few
+returns-clause-few g c =
+    omega (arith, ap free_count c.write_pages.ensures.marks, c.in_ok-pages.ensures.few, c.pages_for-count.ensures.no_more)

@@ -1,10 +1,17 @@
-use Rattle.std.proofs.Common.{◌≡◌, ◌≤◌, ◌*◌, ◌∙◌, ◌∷◌, [], ℕ, List, length, refl, ap, arith}
+use Rattle.std.proofs.Common.{◌≡◌, ◌≤◌, ◌+◌, ◌*◌, ◌∙◌, ◌∷◌, [], ℕ, List, length, refl, ap, subst, arith}
 use Rattle.sector_disk.specs.aid.Moments.{still_honest}
+use Rattle.page_store.specs.Causes.{PageWriteCause}
+use Rattle.page_store.specs.declared.fault.PageFault.{PageFault}
+use Rattle.page_store.specs.declared.fault.PageFault.TheVariants.{TableFull}
+use Rattle.page_store.specs.declared.marks.Mark.{Mark}
+use Rattle.page_store.specs.Marks.{free_count}
+use Rattle.page_store.specs.Store.{Store}
+use Rattle.page_store.specs.aid.Counting.{one_fewer}
 use Rattle.page_store.specs.aid.Works.{works_then}
 use Rattle.tree_page.specs.declared.kind.Kind.{Kind}
 use Rattle.tree_page.specs.declared.widths.Widths.{Widths}
 use Rattle.tree_page.specs.Page.{behind_of, item_width, items_of}
-use Rattle.tree_put.proofs.Failing.{passed_on, none_free, cause_later}
+use Rattle.tree_put.proofs.Failing.{passed_on, none_free, write_fails}
 use Rattle.tree_put.proofs.Listing.{mul-mono, narrow}
 use Rattle.tree_put.proofs.Placing.{one_contains, take_none, take_more, take_wrote}
 use Rattle.tree_put.proofs.map.on_new_page.Goals as goal
@@ -54,7 +61,30 @@ pub returns-in_err-write_on-clause-cause : goal.returns-in_err-write_on-clause-c
 returns-in_err-write_on-clause-cause g c =
     let store = g.P.Pages.store in
     passed_on _ c.from_residual-in_err-write_on.result _ c.from_residual-in_err-write_on.ensures
-    (cause_later (store c.args.store.now) (store c.new_page.new.self) (store c.write_on.new.store) _ c.in_ok-page.ensures.works c.in_ok-page.ensures.open c.in_err-write_on.ensures.cause)
+    (write_fails (store c.args.store.now) (store c.new_page.new.self) (store c.write_on.new.store) _ c.in_ok-page.ensures.works c.in_ok-page.ensures.others.closed
+    c.in_err-write_on.ensures.cause)
+
+-- a page that was handed out is written without another one
+never_full : (old new : Store) (fault : PageFault) → PageWriteCause old new fault → fault ≡ TableFull → ⊥
+never_full old new fault cause is = subst (λ (f : PageFault). PageWriteCause old new f) is cause
+
+pub returns-in_err-write_on-clause-refused : goal.returns-in_err-write_on-clause-refused
+returns-in_err-write_on-clause-refused g c =
+    let store = g.P.Pages.store in
+    passed_on _ c.from_residual-in_err-write_on.result _ c.from_residual-in_err-write_on.ensures
+    (λ full. absurd (never_full (store c.new_page.new.self) (store c.write_on.new.store) _ c.in_err-write_on.ensures.cause full))
+
+pub returns-in_err-page-clause-refused : goal.returns-in_err-page-clause-refused
+returns-in_err-page-clause-refused g c = passed_on _ c.from_residual.result _ c.from_residual.ensures (λ full. c.in_err-page.ensures.refused)
+
+pub returns-clause-first : goal.returns-clause-first
+returns-clause-first g c =
+    let store = g.P.Pages.store in
+    let got = c.in_ok-page.ensures in
+    let old = (store c.args.store.now).marks in
+    let mid = (store c.new_page.new.self).marks in
+    ap (λ (ms : List Mark). free_count ms + 1) c.in_ok-write_on.ensures.marks
+    ∙ one_fewer old mid c.in_ok-page.page got.ok.same_length got.within got.free got.ok.is got.ok.others
 
 pub returns-clause-is_page : goal.returns-clause-is_page
 returns-clause-is_page g c =

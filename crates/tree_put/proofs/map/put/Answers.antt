@@ -125,3 +125,9 @@ returns-else-tops-eq1-clause-cause g c =
     let new = g.P.Pages.store c.on_new_page-else-tops-eq1.new.store in
     IfErr-weaker c.on_new_page-else-tops-eq1.result (WriteCause mid new) (MapPutCause c.args.widths c.args.root old new)
     (λ fault cause. as_put c.args.widths c.args.root old new fault (cause_later old mid new fault c.in_ok-tops.ensures.works c.in_ok-tops.ensures.open cause)) c.on_new_page-else-tops-eq1.ensures.cause
+
+pub returns-then-root-eq0-clause-first : goal.returns-then-root-eq0-clause-first
+returns-then-root-eq0-clause-first g c = λ none. c.on_new_page.ensures.first
+
+pub returns-then-root-eq0-clause-refused : goal.returns-then-root-eq0-clause-refused
+returns-then-root-eq0-clause-refused g c = λ none. c.on_new_page.ensures.refused

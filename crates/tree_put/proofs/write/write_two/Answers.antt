@@ -8,7 +8,7 @@ use Rattle.tree_page.specs.declared.widths.Widths.{Widths}
 use Rattle.tree_page.specs.Page.{Item, behind_of, item_width, items_of, least_of}
 use Rattle.tree_put.specs.aid.Growing.{AreWritten}
 use Rattle.tree_put.specs.aid.Items.{listed, IsCut}
-use Rattle.tree_put.proofs.Failing.{passed_on, none_free, cause_later}
+use Rattle.tree_put.proofs.Failing.{passed_on, none_free, write_fails}
 use Rattle.tree_put.proofs.Listing.{mul-mono}
 use Rattle.tree_put.proofs.Writing.{items_parts, leads_back, first_of, rest_is, written_two}
 use Rattle.tree_put.proofs.write.write_two.Goals as goal
@@ -102,15 +102,18 @@ pub returns-in_err-write_on-clause-cause : goal.returns-in_err-write_on-clause-c
 returns-in_err-write_on-clause-cause g c =
     let store = g.P.Pages.store in
     passed_on _ c.from_residual-in_err-write_on.result _ c.from_residual-in_err-write_on.ensures
-    (cause_later (store c.args.store.now) (store c.new_page.new.self) (store c.write_on.new.store) _
-    (works_then c.in_ok-first.ensures.works c.in_ok-second.ensures.works) c.in_ok-second.ensures.open c.in_err-write_on.ensures.cause)
+    (write_fails (store c.args.store.now) (store c.new_page.new.self) (store c.write_on.new.store) _
+    (works_then c.in_ok-first.ensures.works c.in_ok-second.ensures.works) (c.in_ok-second.ensures.others.closed ∙ c.in_ok-first.ensures.closed)
+    c.in_err-write_on.ensures.cause)
 
 pub returns-in_err-write_on-2-clause-cause : goal.returns-in_err-write_on-2-clause-cause
 returns-in_err-write_on-2-clause-cause g c =
     let store = g.P.Pages.store in
     passed_on _ c.from_residual-in_err-write_on-2.result _ c.from_residual-in_err-write_on-2.ensures
-    (cause_later (store c.args.store.now) (store c.write_on.new.store) (store c.write_on-2.new.store) _
-    (works_then (works_then c.in_ok-first.ensures.works c.in_ok-second.ensures.works) c.write_on.ensures.works) c.in_ok-write_on.ensures.open c.in_err-write_on-2.ensures.cause)
+    (write_fails (store c.args.store.now) (store c.write_on.new.store) (store c.write_on-2.new.store) _
+    (works_then (works_then c.in_ok-first.ensures.works c.in_ok-second.ensures.works) c.write_on.ensures.works)
+    (c.in_ok-write_on.ensures.open ∙ sym (c.in_ok-first.ensures.works.closed (c.in_ok-second.ensures.works.closed c.in_ok-second.ensures.open)))
+    c.in_err-write_on-2.ensures.cause)
 
 pub returns-in_err-write_on-clause-works : goal.returns-in_err-write_on-clause-works
 returns-in_err-write_on-clause-works g c = works_then (works_then c.in_ok-first.ensures.works c.in_ok-second.ensures.works) c.write_on.ensures.works

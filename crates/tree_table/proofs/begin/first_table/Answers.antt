@@ -1,10 +1,12 @@
-use Rattle.std.proofs.Common.{◌≡◌, inr, ℕ, length, IsTrue, sym, ◌∙◌, ap, subst, arith}
+use Rattle.std.proofs.Common.{◌≡◌, ◌<◌, inr, ℕ, length, IsTrue, sym, ◌∙◌, ap, subst, arith}
 use Rattle.sector_disk.specs.aid.Moments.{still_honest}
+use Rattle.page_store.specs.Marks.{free_count}
 use Rattle.page_store.specs.Store.{reads}
 use Rattle.page_store.specs.aid.Works.{works_then}
 use Rattle.page_chain.specs.Chain.{IsChain, first_of}
+use Rattle.table.specs.declared.fault.TableFault.TheVariants.{TableFull}
 use Rattle.tree_table.specs.declared.slot.TreeSlot.{TreeSlot}
-use Rattle.tree_table.specs.Causes.{AddCause, StartCause}
+use Rattle.tree_table.specs.Causes.{ChangeCause, HasNoTable, StartCause}
 use Rattle.tree_table.specs.Working.{text_slot, HoldsTable}
 use Rattle.table.specs.Records.{nothing}
 use Rattle.tree_table.proofs.Bare.{text_holds}
@@ -37,12 +39,18 @@ returns-clause-table g c = λ honest.
 pub returns-clause-works : goal.returns-clause-works
 returns-clause-works g c = works_then c.write_chain.ensures.works c.add_position.ensures.works
 
+pub add_position-requires-clause-long : goal.add_position-requires-clause-long
+add_position-requires-clause-long g c = sym (ap (λ (s : TreeSlot). s.sizes.packed) c.text_slot-slot.ensures ∙ c.len.ensures.value)
+
 pub returns-clause-cause : goal.returns-clause-cause
 returns-clause-cause g c =
     let old = g.P.Pages.store c.args.store.now in
     let mid = g.P.Pages.store c.write_chain.new.store in
     let new = g.P.Pages.store c.add_position.new.store in
     let long = length c.args.text.now in
-    on_error (AddCause c.args.start.now.items c.text_slot-slot.result mid new) (StartCause long old new) c.add_position.result
-    (λ fault cause. add_fails long c.args.start.now.items c.text_slot-slot.result old mid new fault c.write_chain.ensures.works c.in-Ok.ensures.closed
-    (λ honest none. none honest c.args.text.now nothing (chain_held g c (was_honest c.write_chain.ensures.works.goes_on honest))) cause) c.add_position.ensures.cause
+    let slot = c.text_slot-slot.result in
+    on_error (λ fault. fault ≡ TableFull → free_count mid.marks < 2) (ChangeCause HasNoTable slot mid new) (StartCause long old new) c.add_position.result
+    (λ fault full cause. add_fails long slot old mid new fault c.write_chain.ensures.works c.in-Ok.ensures.closed
+    (λ honest none. none honest c.args.text.now nothing (chain_held g c (was_honest c.write_chain.ensures.works.goes_on honest))) c.in-Ok.ensures.few full cause)
+    (c.add_position.ensures.full (ap (λ (s : TreeSlot). s.roots.positions) c.text_slot-slot.ensures) (ap (λ (s : TreeSlot). s.roots.records) c.text_slot-slot.ensures))
+    c.add_position.ensures.cause

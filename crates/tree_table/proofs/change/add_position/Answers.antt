@@ -1,25 +1,27 @@
-use Rattle.std.proofs.Common.{◌≡◌, ◌∙◌, ◌+◌, sym, subst, length, arith}
+use Rattle.std.proofs.Common.{◌≡◌, ◌∙◌, ◌+◌, ap, sym, subst, length, arith}
 use Rattle.retrograde.specs.Changes.{fresh_record, with_position}
 use Rattle.record_bytes.specs.Bytes.{IsCell}
+use Rattle.tree_table.specs.declared.tree.Roots.{Roots}
 use Rattle.tree_table.specs.declared.tree.Tree.TheVariants.{Positions, Records}
+use Rattle.tree_table.specs.Trees.{root_of}
 use Rattle.tree_table.specs.Entries.{number_key}
 use Rattle.tree_table.specs.Working.{HoldsForest, HoldsTable, with_entry}
-use Rattle.page_store.specs.aid.Works.{works_refl, works_then}
+use Rattle.page_store.specs.aid.Works.{works_then}
 use Rattle.sector_disk.specs.aid.Moments.{still_honest}
 use Rattle.tree_table.specs.Causes.{HasNoForest, HasNoTable}
-use Rattle.tree_table.proofs.Faults.{passed_on, change_for, change_since, add_for}
+use Rattle.tree_table.proofs.Faults.{passed_on, change_for, change_since}
 use Rattle.tree_table.proofs.Tables.{plain_cell, slot_of, known_as, position_added}
 use Rattle.tree_table.proofs.change.add_position.Goals as goal
-
-pub returns-then-len-slot-clause-works : goal.returns-then-len-slot-clause-works
-returns-then-len-slot-clause-works g c = works_refl _
 
 pub returns-in_err-slot-clause-cause : goal.returns-in_err-slot-clause-cause
 returns-in_err-slot-clause-cause g c =
     passed_on _ c.from_residual.result _ c.from_residual.ensures
-    (add_for c.args.packed.now.items c.args.slot (g.P.Pages.store c.args.store.now) (g.P.Pages.store c.put_in.new.store) _
     (change_for HasNoForest HasNoTable c.args.slot c.args.slot (g.P.Pages.store c.args.store.now) (g.P.Pages.store c.put_in.new.store) _ (λ none honest text table h. none honest text h.entries h.forest)
-    c.in_err-slot.ensures.cause))
+    c.in_err-slot.ensures.cause)
+
+pub returns-in_err-slot-clause-full : goal.returns-in_err-slot-clause-full
+returns-in_err-slot-clause-full g c = λ positions records.
+    passed_on _ c.from_residual.result _ c.from_residual.ensures (λ is. let none = c.in_err-slot.ensures.full positions is in omega (arith, none))
 
 pub returns-in_err-slot-2-clause-works : goal.returns-in_err-slot-2-clause-works
 returns-in_err-slot-2-clause-works g c = works_then c.in_ok-slot.ensures.works c.in_err-slot-2.ensures.works
@@ -28,10 +30,15 @@ pub returns-in_err-slot-2-clause-cause : goal.returns-in_err-slot-2-clause-cause
 returns-in_err-slot-2-clause-cause g c =
     let works = c.in_ok-slot.ensures.works in
     passed_on _ c.from_residual-in_err-slot-2.result _ c.from_residual-in_err-slot-2.ensures
-    (add_for c.args.packed.now.items c.args.slot (g.P.Pages.store c.args.store.now) (g.P.Pages.store c.put_in-2.new.store) _
     (change_since HasNoForest HasNoTable c.args.slot c.in_ok-slot.slot (g.P.Pages.store c.args.store.now) (g.P.Pages.store c.put_in.new.store) (g.P.Pages.store c.put_in-2.new.store) _ works c.in_ok-slot.ensures.open
     (λ none honest text table h. none (still_honest works.goes_on honest) text _ (c.in_ok-slot.ensures.map honest text h.entries h.forest))
-    c.in_err-slot-2.ensures.cause))
+    c.in_err-slot-2.ensures.cause)
+
+pub returns-in_err-slot-2-clause-full : goal.returns-in_err-slot-2-clause-full
+returns-in_err-slot-2-clause-full g c = λ positions records.
+    let other : c.in_ok-slot.slot.roots.records ≡ 0 = ap (λ (r : Roots). root_of r Records) c.in_ok-slot.ensures.roots ∙ records in
+    passed_on _ c.from_residual-in_err-slot-2.result _ c.from_residual-in_err-slot-2.ensures
+    (λ is. let none = c.in_err-slot-2.ensures.full other is in let one = c.in_ok-slot.ensures.first positions in omega (arith, none, one))
 
 pub returns-clause-works : goal.returns-clause-works
 returns-clause-works g c = works_then c.in_ok-slot.ensures.works c.in_ok-slot-2.ensures.works
@@ -49,7 +56,7 @@ returns-clause-table g c = λ honest text table h unknown.
     let key : c.number_key-key.result ≡ number_key slot.sizes.counts.known = c.number_key-key.ensures in
     let position : c.deref.result.now ≡ x = c.deref.ensures.0 in
     let cell : c.deref-2.result.now ≡ c.cell_bytes-cell.result.items = c.deref-2.ensures.0 in
-    let long : length x ≡ slot.sizes.packed = sym c.len.ensures.value ∙ c.if-len-slot.false in
+    let long : length x ≡ slot.sizes.packed = c.requires.long in
     let is : IsCell slot.sizes.packed c.cell_bytes-cell.result.items (x, fresh_record) =
     subst (λ (X : Type 0). X) (λ i. IsCell (long i) c.cell_bytes-cell.result.items (x, c.fresh.ensures i))
     (plain_cell (length x) c.cell_bytes-cell.result.items (x, c.fresh.result) c.cell_bytes-cell.ensures) in

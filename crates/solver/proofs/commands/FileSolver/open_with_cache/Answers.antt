@@ -22,14 +22,14 @@ returns-in-Ok-clause-refused g c =
 
 pub returns-in-Ok-clause-cause : goal.returns-in-Ok-clause-cause
 returns-in-Ok-clause-cause g c =
-    IfErr-weaker c.with_game.result _ _ (λ back cause. no_game_opened _ _ _ _ _ back.fault g.met.F.GameFile.stores_one c.in-Ok.ensures.ok cause)
+    IfErr-weaker c.with_game.result _ _ (λ back cause. no_game_opened _ _ _ _ _ back.fault g.met.F.GameFile.stores_one g.met.F.GameFile.stores_begins c.in-Ok.ensures.ok cause)
     (c.with_game.ensures.cause c.in-Ok.ensures.whole)
 
 pub returns-in-Ok-clause-unlucky : goal.returns-in-Ok-clause-unlucky
 returns-in-Ok-clause-unlucky g c = λ kept honest holds.
     IfErr-weaker c.with_game.result _ _
     (λ back cause. opens_or_fails g.F.GameFile.stores g.met.F.GameFile.stores_begins (g.F.Device.SectorDisk.disk c.args.disk) (g.F.Device.SectorDisk.failures c.args.disk) _ kept back.fault honest holds
-    (no_game_opened _ _ _ _ _ back.fault g.met.F.GameFile.stores_one c.in-Ok.ensures.ok cause))
+    (no_game_opened _ _ _ _ _ back.fault g.met.F.GameFile.stores_one g.met.F.GameFile.stores_begins c.in-Ok.ensures.ok cause))
     (c.with_game.ensures.cause c.in-Ok.ensures.whole)
 
 pub returns-in-Err-clause-unlucky : goal.returns-in-Err-clause-unlucky

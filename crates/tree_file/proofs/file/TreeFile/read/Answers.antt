@@ -2,9 +2,9 @@ use Rattle.std.proofs.Common.{sym, subst}
 use Rattle.tree_table.specs.Working.{Work}
 use Rattle.game_file.specs.Calls.{IsOpenedFile}
 use Rattle.tree_table.specs.Held.{StoresTrees}
-use Rattle.tree_file.specs.File.{IsWholeFile, file_of, state_of}
+use Rattle.tree_file.specs.File.{IsWholeFile, UsesNoOther, file_of, state_of}
 use Rattle.tree_file.specs.aid.Backed.{IsBackedFile}
-use Rattle.tree_file.proofs.Opening.{found_backed, found_opened, found_whole, read_cause}
+use Rattle.tree_file.proofs.Opening.{found_alone, found_backed, found_opened, found_whole, read_cause}
 use Rattle.tree_file.proofs.Sealing.{found_stands}
 use Rattle.tree_file.proofs.file.TreeFile.read.Goals as goal
 
@@ -27,6 +27,12 @@ returns-in-Ok-read_all-clause-whole g c =
     let found = read.found c.in-Ok.ensures.ok.closed c.in-Ok.ensures.ok.marks in
     subst (λ (w : Work). IsWholeFile (file_of w c.in-Ok-read_all.field-0.game)) (sym c.standing.ensures.work)
     (found_whole _ _ _ _ found (g.met.P.Pages.sound c.read_all.new.store))
+
+pub returns-in-Ok-read_all-clause-alone : goal.returns-in-Ok-read_all-clause-alone
+returns-in-Ok-read_all-clause-alone g c =
+    let read = c.in-Ok-read_all.ensures in
+    let found = read.found c.in-Ok.ensures.ok.closed c.in-Ok.ensures.ok.marks in
+    subst (λ (w : Work). UsesNoOther (file_of w c.in-Ok-read_all.field-0.game)) (sym c.standing.ensures.work) (found_alone _ _ _ _ found)
 
 pub returns-in-Ok-read_all-clause-ok : goal.returns-in-Ok-read_all-clause-ok
 returns-in-Ok-read_all-clause-ok g c =

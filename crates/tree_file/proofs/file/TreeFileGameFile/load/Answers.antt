@@ -112,10 +112,11 @@ returns-in-Err-clause-cause g c = λ whole unkept is_open.
     let was = file_in self in
     let left = (work_in c.start.new.self).store in
     let new = file_of (work_in c.restore.new.self) self.game in
-    let same : c.capacity.result ≡ length was.work.store.marks = c.capacity.ensures ∙ c.restore.ensures.still.same_pages ∙ c.in-Err.ensures.left.same_pages in
-    subst (λ (f : FileFault). FileLoadCause c.args.start.now.items (state_of was) (state_of new) f) (sym c.load_fault.ensures)
-    (why_not_loaded c.args.start.now.items (length c.in_ok-text.text.items) was new left c.in-Err.fault c.capacity.result same c.restore.ensures.others
-    c.in-Err.ensures.cause)
+    let same : c.in_ok-text.text.items ≡ c.args.text.now = c.in_ok-text.ensures.items_if_clones_equal (λ x y h. h) in
+    let none = no_game self.game (sym c.if-is_some.ensures) in
+    subst (λ (f : FileFault). FileLoadCause c.args.start.now.items (state_of was) (state_of new) f) (sym c.into.ensures)
+    (why_not_loaded c.args.start.now.items (length c.in_ok-text.text.items) was new left c.in-Err.fault whole none (omega (arith, ap length same, c.requires))
+    c.restore.ensures.others c.in-Err.ensures.cause)
 
 pub returns-in-Ok-clause-ahead : goal.returns-in-Ok-clause-ahead
 returns-in-Ok-clause-ahead g c = record {

@@ -1,4 +1,4 @@
-use Rattle.std.proofs.Common.{◌∙◌, inr, refl, ap, sym}
+use Rattle.std.proofs.Common.{inr, refl, ap, sym}
 use Rattle.tree_table.specs.InTrees.{work_in}
 use Rattle.tree_table.specs.Working.{Work}
 use Rattle.tree_table.specs.aid.Versions.{version_taken_else}

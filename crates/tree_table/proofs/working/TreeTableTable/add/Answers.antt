@@ -1,8 +1,12 @@
 use Rattle.std.proofs.Common.{◌≤◌, ◌^◌, refl, arith}
 use Rattle.retrograde.specs.Changes.{with_position}
 use Rattle.tree_table.specs.Working.{work_of, table_now, HoldsTable, HoldsWork, IsHonestWork}
+use Rattle.tree_table.specs.aid.Frames.{memory_fails, stays_goes_on, stays_here}
 use Rattle.tree_table.proofs.Holding.{now_held, now_stored, now_goes_on}
 use Rattle.tree_table.proofs.working.TreeTableTable.add.Goals as goal
+
+pub returns-then-len-self-clause-fault : goal.returns-then-len-self-clause-fault
+returns-then-len-self-clause-fault g c = memory_fails (stays_goes_on (stays_here _))
 
 pub invariant_of-self-2 : goal.invariant_of-self-2
 invariant_of-self-2 g c =
