@@ -4,4 +4,5 @@
 //! which is refused here is refused by that contract.
 #![tactic(auto)]
 
+pub mod goals;
 pub mod moves;

@@ -1,5 +1,5 @@
 -- When a table is one of a game, and what units of work on it come to.
-use Rattle.std.specs.Prelude.{◌≡◌, ℕ, List, slice_get, Some}
+use Rattle.std.specs.Prelude.{◌≡◌, ℕ, List, slice_get, Option, Some}
 use Rattle.rbg_game.specs.Games.{Game}
 use Rattle.position_pack.specs.declared.kind.PackingKind.{PackingKind}
 use Rattle.position_pack.specs.Shape.{shape_of}
@@ -17,5 +17,5 @@ abbrev pub packed_length : PackingKind → Game → ℕ
 packed_length kind game = length_by kind (shape_of game)
 
 -- so many units were asked of the old table and these done, all or to its end, and the new one agrees with itself
-abbrev pub IsWorkOf : PackingKind → Game → ℕ → Stored (List ℕ) → ℕ → Stored (List ℕ) → Type 0
-IsWorkOf kind game units old done new = AreDone (graph_of kind game) (IsWideAt kind game) units old done new
+abbrev pub IsWorkOf : PackingKind → Option ℕ → Game → ℕ → Stored (List ℕ) → ℕ → Stored (List ℕ) → Type 0
+IsWorkOf kind goal game units old done new = AreDone (graph_of kind goal game) (IsWideAt kind game) units old done new

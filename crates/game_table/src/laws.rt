@@ -1,5 +1,5 @@
 //! What holds of every game and its tables: each is a law, which proofs cite by a call, or by the lemma of the same name in specs/.
-ghost use Rattle.std.specs.Prelude.{◌≡◌, ◌≤◌, ℕ, List, length};
+ghost use Rattle.std.specs.Prelude.{◌≡◌, ◌≤◌, ℕ, List, length, Option};
 ghost use Rattle.rbg_game.specs.Games.{Game};
 ghost use Rattle.rbg_game.specs.Positions.{IsPositionOf};
 ghost use Rattle.rbg_text.specs.Token.{Text};
@@ -31,13 +31,13 @@ pub fn positions_have_one_length()
 /// A table that agrees with itself at each number stores positions of the game alone, so its parts fit together and its
 /// positions have their length.
 pub fn sound_tables_fit()
-    ensures { (kind : PackingKind) (game : Game) (stored : Stored (List ℕ)) → IsPositionOf game (start_of game)
-        → IsLocallySound (graph_of kind game) (IsWideAt kind game) stored
+    ensures { (kind : PackingKind) (goal : Option ℕ) (game : Game) (stored : Stored (List ℕ)) → IsPositionOf game (start_of game)
+        → IsLocallySound (graph_of kind goal game) (IsWideAt kind game) stored
         → ArePositions kind game stored × FitsTogether (packed_length kind game) stored }
 {}
 
 /// The table of a game that was just loaded agrees with itself at each number.
 pub fn a_first_table_is_sound()
-    ensures { (kind : PackingKind) (game : Game)
-        → IsLocallySound (graph_of kind game) (IsWideAt kind game) (loaded (graph_of kind game).start) }
+    ensures { (kind : PackingKind) (goal : Option ℕ) (game : Game)
+        → IsLocallySound (graph_of kind goal game) (IsWideAt kind game) (loaded (graph_of kind goal game).start) }
 {}

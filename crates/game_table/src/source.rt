@@ -7,7 +7,8 @@ ghost use Rattle.rbg_game.specs.Positions.{IsPositionOf};
 ghost use Rattle.rbg_read.specs.Reading.{Reads, Fault};
 ghost use Rattle.legal_moves.specs.Moves.{start_of};
 ghost use Rattle.legal_moves.specs.Sources.{IsPositionBytes, IsWideAt, graph_of};
-ghost use Rattle.legal_moves.specs.Compiled.{compiled_game, packing_kind};
+ghost use Rattle.legal_moves.specs.Compiled.{compiled_game, packing_kind, compiled_goal};
+ghost use Rattle.rbg_game.specs.Goals.{points_of};
 ghost use Rattle.retrograde.specs.Stored.{IsTable};
 ghost use Rattle.retrograde.specs.Sound.{IsLocallySound};
 ghost use Rattle.frontier.specs.Causes.{Leaves};
@@ -20,6 +21,7 @@ use crate::packings::are_packed;
 use legal_moves::{Compiled, MoveSource};
 use position_pack::{Packed, PackingKind};
 use rbg_game::game::Game;
+use rbg_game::goal::Goal;
 use rbg_read::fault::GameFault;
 use rbg_read::read::read_game;
 use std::alloc::Global;
@@ -52,10 +54,16 @@ impl Model for Source {
 
 impl Source {
     /// The game that a text reads to, or the first cause for which it is no game. A text that reads to a game is refused
-    /// for want of memory alone. Its positions are packed by the packing of this kind.
-    pub fn read(alloc: Global, text: &[u8], kind: PackingKind) -> Result<Source, GameFault>
+    /// for want of memory alone. Its positions are packed by the packing of this kind, and its table has this goal, if there is one.
+    pub fn read(
+        alloc: Global,
+        text: &[u8],
+        kind: PackingKind,
+        goal: Option<Goal>,
+    ) -> Result<Source, GameFault>
         ensures reads { IfOk result (λ source. Reads text.now (compiled_game source)) }
         ensures packing { IfOk result (λ source. packing_kind source ≡ kind) }
+        ensures goal { IfOk result (λ source. compiled_goal source ≡ points_of goal) }
         ensures one { (game : TextbookGame) → Reads text.now game → IfOk result (λ source. compiled_game source ≡ game) }
         ensures fault { IfErr result (λ fault. fault ≢ GameFault.OutOfMemory → Fault text.now fault) }
         ensures only { (game : TextbookGame) → Reads text.now game → IfErr result (λ fault. fault ≡ GameFault.OutOfMemory) }
@@ -63,7 +71,7 @@ impl Source {
         ensures start { IfOk result (λ source. IsPositionOf (compiled_game source) (start_of (compiled_game source))) }
     {
         let game = read_game(alloc, text)?;
-        let compiled = Compiled::new(alloc, game, kind)?;
+        let compiled = Compiled::new(alloc, game, kind, goal)?;
         Ok(Source { compiled })
     }
 
@@ -84,7 +92,7 @@ impl Source {
 
     /// The bytes of the start.
     pub fn start(&self) -> Packed
-        ensures start { result.items ≡ (graph_of (packing_kind self.now) (compiled_game self.now)).start }
+        ensures start { result.items ≡ (graph_of (packing_kind self.now) (compiled_goal self.now) (compiled_game self.now)).start }
         ensures position { IsPositionBytes (packing_kind self.now) (compiled_game self.now) result.items }
         ensures long { length result.items ≡ packed_length (packing_kind self.now) (compiled_game self.now) }
     {
@@ -115,19 +123,19 @@ impl Source {
         ensures limit { OnOk result ((T.counted table.new).known ≤ 2 ^ 24) }
         ensures honest { OnOk result (T.is_honest table.old ↔ T.is_honest table.new) }
         ensures idle { IfOk result (λ done. done ≡ 0 → table.new ≡ table.old) }
-        ensures works { T.is_honest table.old → IsLocallySound (graph_of (packing_kind self.now) (compiled_game self.now))
+        ensures works { T.is_honest table.old → IsLocallySound (graph_of (packing_kind self.now) (compiled_goal self.now) (compiled_game self.now))
             (IsWideAt (packing_kind self.now) (compiled_game self.now))
             (T.stored table.old)
-            → IfOk result (λ done. IsWorkOf (packing_kind self.now) (compiled_game self.now) units
+            → IfOk result (λ done. IsWorkOf (packing_kind self.now) (compiled_goal self.now) (compiled_game self.now) units
             (T.stored table.old) done (T.stored table.new)) }
         ensures fits { T.is_honest table.old → IsTable (T.stored table.old) → OnOk result (IsTable (T.stored table.new)) }
-        ensures cause { T.is_honest table.old → IsLocallySound (graph_of (packing_kind self.now) (compiled_game self.now))
+        ensures cause { T.is_honest table.old → IsLocallySound (graph_of (packing_kind self.now) (compiled_goal self.now) (compiled_game self.now))
             (IsWideAt (packing_kind self.now) (compiled_game self.now))
             (T.stored table.old)
-            → IfErr result (StopsWith (graph_of (packing_kind self.now) (compiled_game self.now))
+            → IfErr result (StopsWith (graph_of (packing_kind self.now) (compiled_goal self.now) (compiled_game self.now))
             (IsWideAt (packing_kind self.now) (compiled_game self.now)) (T.stored table.old) units) }
         ensures consistent { T.is_honest table.old
-            → IsLocallySound (graph_of (packing_kind self.now) (compiled_game self.now))
+            → IsLocallySound (graph_of (packing_kind self.now) (compiled_goal self.now) (compiled_game self.now))
             (IsWideAt (packing_kind self.now) (compiled_game self.now)) (T.stored table.old)
             → result ≡ Err StepFault.Inconsistent → ⊥ }
         ensures ahead { OnOk result (T.goes_on table.old table.new) }

@@ -1,5 +1,5 @@
 -- What the bytes of a position say of its mover and its scores.
-use Rattle.std.proofs.Common.{◌≡◌, ℕ, suc, ◌+◌, ◌*◌, ◌/◌, ◌%◌, ◌<◌, ◌≤◌, Bool, true, false, cond, List, [], ◌∷◌, ◌++◌, length, refl, ap, ◌∙◌, append_assoc, arith, None, Some}
+use Rattle.std.proofs.Common.{◌≡◌, ℕ, suc, ◌+◌, ◌*◌, ◌/◌, ◌%◌, ◌<◌, ◌≤◌, Bool, true, false, cond, List, [], ◌∷◌, ◌++◌, length, refl, ap, ◌∙◌, append_assoc, arith, Option, None, Some}
 use Rattle.std.specs.Prelude.{nat_lt, slice_index, map, ◌↔◌}
 use Rattle.std.proofs.lemmas.Bool.{ltb-true, ltb-false}
 use Rattle.rbg_game.specs.Games.{Game}
@@ -22,7 +22,7 @@ use Rattle.position_pack.proofs.ShapeLemmas.{fits, small_shape}
 use Rattle.position_pack.proofs.PartLemmas.{length-spelled, last_bytes}
 use Rattle.position_pack.proofs.ValueBytes.{spelled, spelled-cons}
 use Rattle.legal_moves.specs.Moves.{IsAhead, score}
-use Rattle.legal_moves.specs.Sources.{IsAt, role_by, role_in, value_in, leader, leader_in}
+use Rattle.legal_moves.specs.Sources.{IsAt, role_by, role_in, value_in, alone_at, leader, leader_in, more_of}
 
 -- a role comes back from its byte
 role_back : (r : Role) → role_by (role_code r) ≡ r
@@ -55,8 +55,8 @@ value_behind a b n i e =
     let two : slice_index (a ++ b) (n + i + 2) ≡ slice_index b (i + 2) = ap (slice_index (a ++ b)) (let h : n + i + 2 ≡ n + (i + 2) = omega arith in h) ∙ behind a b n (i + 2) e in
     omega (arith, one, two, behind a b n i e)
 
--- the leader by two scores
-leads_first : (a b : ℕ) → (leader a b ≡ Some First) ↔ (b < a)
+-- who has more
+leads_first : (a b : ℕ) → (more_of a b ≡ Some First) ↔ (b < a)
 leads_first a b = go (nat_lt b a) refl (nat_lt a b) refl
   where
     go : (s : Bool) → nat_lt b a ≡ s → (t : Bool) → nat_lt a b ≡ t → (cond s (Some First) (cond t (Some Second) None) ≡ Some First) ↔ (b < a)
@@ -64,13 +64,32 @@ leads_first a b = go (nat_lt b a) refl (nat_lt a b) refl
     go false e true f = (λ h. absurd (cc), λ h. absurd (omega (arith, h, ltb-false b a e)))
     go false e false f = (λ h. absurd (cc), λ h. absurd (omega (arith, h, ltb-false b a e)))
 
-leads_second : (a b : ℕ) → (leader a b ≡ Some Second) ↔ (a < b)
+leads_second : (a b : ℕ) → (more_of a b ≡ Some Second) ↔ (a < b)
 leads_second a b = go (nat_lt b a) refl (nat_lt a b) refl
   where
     go : (s : Bool) → nat_lt b a ≡ s → (t : Bool) → nat_lt a b ≡ t → (cond s (Some First) (cond t (Some Second) None) ≡ Some Second) ↔ (a < b)
     go true e t f = (λ h. absurd (cc), λ h. absurd (omega (arith, h, ltb-true b a e)))
     go false e true f = (λ h. ltb-true a b f, λ h. refl)
     go false e false f = (λ h. absurd (cc), λ h. absurd (omega (arith, h, ltb-false a b f)))
+
+-- who alone has so many points
+alone_first : (n a b : ℕ) → (alone_at n a b ≡ Some First) ↔ ((n ≤ a) × (b < n))
+alone_first n a b = go (nat_lt a n) refl (nat_lt b n) refl
+  where
+    go : (s : Bool) → nat_lt a n ≡ s → (t : Bool) → nat_lt b n ≡ t → (cond s (cond t None (Some Second)) (cond t (Some First) None) ≡ Some First) ↔ ((n ≤ a) × (b < n))
+    go true e true f = (λ h. absurd (cc), λ h. absurd (omega (arith, h.0, ltb-true a n e)))
+    go true e false f = (λ h. absurd (cc), λ h. absurd (omega (arith, h.0, ltb-true a n e)))
+    go false e true f = (λ h. (ltb-false a n e, ltb-true b n f), λ h. refl)
+    go false e false f = (λ h. absurd (cc), λ h. absurd (omega (arith, h.1, ltb-false b n f)))
+
+alone_second : (n a b : ℕ) → (alone_at n a b ≡ Some Second) ↔ ((n ≤ b) × (a < n))
+alone_second n a b = go (nat_lt a n) refl (nat_lt b n) refl
+  where
+    go : (s : Bool) → nat_lt a n ≡ s → (t : Bool) → nat_lt b n ≡ t → (cond s (cond t None (Some Second)) (cond t (Some First) None) ≡ Some Second) ↔ ((n ≤ b) × (a < n))
+    go true e true f = (λ h. absurd (cc), λ h. absurd (omega (arith, h.0, ltb-true b n f)))
+    go true e false f = (λ h. (ltb-false b n f, ltb-true a n e), λ h. refl)
+    go false e true f = (λ h. absurd (cc), λ h. absurd (omega (arith, h.0, ltb-true b n f)))
+    go false e false f = (λ h. absurd (cc), λ h. absurd (omega (arith, h.1, ltb-false a n e)))
 
 low_value : (game : Game) → IsSoundGame game → (at : Position) → IsPositionOf game at → (v : ℕ) → v < length at.state.values.items → slice_index at.state.values.items v ≤ 1000000
 low_value game sound at is v inside =
@@ -87,9 +106,16 @@ second_of_values [] rest some small = absurd (omega (arith, some))
 second_of_values (u ∷ []) rest some small = absurd (omega (arith, some))
 second_of_values (u ∷ v ∷ vs) rest some small = second_value u v vs rest small
 
-leads : (a b : ℕ) (at : Position) (w : Player) → a ≡ score First at.state → b ≡ score Second at.state → (leader a b ≡ Some w) ↔ IsAhead w at
-leads a b at First e f = let h = leads_first a b in (λ l. omega (arith, h.0 l, e, f), λ l. h.1 (omega (arith, l, e, f)))
-leads a b at Second e f = let h = leads_second a b in (λ l. omega (arith, h.0 l, e, f), λ l. h.1 (omega (arith, l, e, f)))
+leads : (goal : Option ℕ) (a b : ℕ) (at : Position) (w : Player) → a ≡ score First at.state → b ≡ score Second at.state
+    → (leader goal a b ≡ Some w) ↔ IsAhead goal w at
+leads None a b at First e f = let h = leads_first a b in (λ l. omega (arith, h.0 l, e, f), λ l. h.1 (omega (arith, l, e, f)))
+leads None a b at Second e f = let h = leads_second a b in (λ l. omega (arith, h.0 l, e, f), λ l. h.1 (omega (arith, l, e, f)))
+leads (Some n) a b at First e f =
+    let h = alone_first n a b in
+    (λ l. let k = h.0 l in (omega (arith, k.0, e), omega (arith, k.1, f)), λ l. h.1 (omega (arith, l.0, e), omega (arith, l.1, f)))
+leads (Some n) a b at Second e f =
+    let h = alone_second n a b in
+    (λ l. let k = h.0 l in (omega (arith, k.0, f), omega (arith, k.1, e)), λ l. h.1 (omega (arith, l.0, f), omega (arith, l.1, e)))
 
 module _ (game : Game) (sound : IsSoundGame game) (x : List ℕ) (at : Position) (here : IsAt Bytes game x at) where
   whole : x ≡ at.state.pieces.items ++ (spelled at.state.values.items ++ last_bytes at)
@@ -126,8 +152,8 @@ module _ (game : Game) (sound : IsSoundGame game) (x : List ℕ) (at : Position)
   second_is : value_in x (length game.vertices + 3) ≡ score Second at.state
   second_is = value_is 3 ∙ second_of_values at.state.values.items (last_bytes at) two (low 1 (omega (arith, two)))
 
-  by_bytes_leader : (w : Player) → (leader_in Bytes game x ≡ Some w) ↔ IsAhead w at
-  by_bytes_leader w = leads (value_in x (length game.vertices)) (value_in x (length game.vertices + 3)) at w first_is second_is
+  by_bytes_leader : (goal : Option ℕ) (w : Player) → (leader_in Bytes goal game x ≡ Some w) ↔ IsAhead goal w at
+  by_bytes_leader goal w = leads goal (value_in x (length game.vertices)) (value_in x (length game.vertices + 3)) at w first_is second_is
 
 module _ (game : Game) (sound : IsSoundGame game) (x : List ℕ) (at : Position) (here : IsAt Bits game x at) where
   abbrev front : List ℕ
@@ -165,15 +191,16 @@ module _ (game : Game) (sound : IsSoundGame game) (x : List ℕ) (at : Position)
       ∙ behind at.state.pieces.items (at.state.values.items ++ last) (length game.vertices) v pieces
       ∙ get_or-append at.state.values.items last 0 v (omega (arith, lt, values, sound.has_players))
 
-  by_bits_leader : (w : Player) → (leader_in Bits game x ≡ Some w) ↔ IsAhead w at
-  by_bits_leader w =
-      leads (field_at (shape_of game) (length game.vertices) x) (field_at (shape_of game) (length game.vertices + 1) x) at w
+  by_bits_leader : (goal : Option ℕ) (w : Player) → (leader_in Bits goal game x ≡ Some w) ↔ IsAhead goal w at
+  by_bits_leader goal w =
+      leads goal (field_at (shape_of game) (length game.vertices) x) (field_at (shape_of game) (length game.vertices + 1) x) at w
       (ap (λ k. field_at (shape_of game) k x) (let h : length game.vertices ≡ length game.vertices + 0 = omega arith in h) ∙ score_at 0 (omega arith)) (score_at 1 (omega arith))
 
 pub role_is : (kind : PackingKind) (game : Game) → IsSoundGame game → (x : List ℕ) (at : Position) → IsAt kind game x at → role_in kind game x ≡ at.state.mover
 role_is Bytes game sound x at here = by_bytes_role game sound x at here
 role_is Bits game sound x at here = by_bits_role game sound x at here
 
-pub leader_is : (kind : PackingKind) (game : Game) → IsSoundGame game → (x : List ℕ) (at : Position) → IsAt kind game x at → (w : Player) → (leader_in kind game x ≡ Some w) ↔ IsAhead w at
-leader_is Bytes game sound x at here = by_bytes_leader game sound x at here
-leader_is Bits game sound x at here = by_bits_leader game sound x at here
+pub leader_is : (kind : PackingKind) (goal : Option ℕ) (game : Game) → IsSoundGame game → (x : List ℕ) (at : Position) → IsAt kind game x at → (w : Player)
+    → (leader_in kind goal game x ≡ Some w) ↔ IsAhead goal w at
+leader_is Bytes goal game sound x at here = by_bytes_leader game sound x at here goal
+leader_is Bits goal game sound x at here = by_bits_leader game sound x at here goal

@@ -1,5 +1,5 @@
 -- What a `Compiled` stands for.
-use Rattle.std.specs.Prelude.{◌≡◌}
+use Rattle.std.specs.Prelude.{◌≡◌, ℕ, Option}
 use Rattle.rbg_game.specs.Games.{Game}
 use Rattle.rbg_game.specs.Meaning.{game_of}
 use Rattle.rbg_game.specs.Sound.{IsSoundGame}
@@ -21,6 +21,10 @@ compiled_game c = game_of c.game
 -- the packing of the positions that it is asked of, and of those that it answers
 abbrev pub packing_kind : CompiledGame → PackingKind
 packing_kind c = c.kind
+
+-- the goal of its table, if it has one
+abbrev pub compiled_goal : CompiledGame → Option ℕ
+compiled_goal c = c.goal
 
 -- the game is within its limits, and its start a position
 pub record IsSoundCompiled (c : CompiledGame) : Type 0 where

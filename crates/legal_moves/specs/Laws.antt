@@ -1,5 +1,5 @@
 -- Laws of the search, each the contract of a function.
-use Rattle.std.specs.Prelude.{◌≡◌, ℕ, ◌↔◌, Bool, true, List, ◌∷◌, length, Some}
+use Rattle.std.specs.Prelude.{◌≡◌, ℕ, ◌↔◌, Bool, true, List, ◌∷◌, length, Option, Some}
 use Rattle.rbg_game.specs.Rules.{Regex, Action, pattern, action_at, is_switch}
 use Rattle.rbg_game.specs.Games.{Game}
 use Rattle.rbg_game.specs.Expressions.{Expression, HasSmallParts, NamesBelow, value_of}
@@ -50,8 +50,8 @@ SuccessorsArePositions =
 -- the bytes of a position of a game say who has the turn, and who is ahead
 abbrev pub BytesSayMoverAndLeader : Type 0
 BytesSayMoverAndLeader =
-    (kind : PackingKind) (game : Game) (x : List ℕ) (at : Position) → IsSoundGame game → IsAt kind game x at
-    → (role_in kind game x ≡ at.state.mover) × ((w : Player) → (leader_in kind game x ≡ Some w) ↔ IsAhead w at)
+    (kind : PackingKind) (goal : Option ℕ) (game : Game) (x : List ℕ) (at : Position) → IsSoundGame game → IsAt kind game x at
+    → (role_in kind game x ≡ at.state.mover) × ((w : Player) → (leader_in kind goal game x ≡ Some w) ↔ IsAhead goal w at)
 
 -- bytes are those of one position of a game at most
 abbrev pub BytesAreOfOnePosition : Type 0
@@ -74,11 +74,11 @@ ValuesFitTheMachine =
 -- no move leads from a position exactly where none leads from its bytes in the graph of the game
 abbrev pub EndsAgree : Type 0
 EndsAgree =
-    (kind : PackingKind) (game : Game) (x : List ℕ) (at : Position) → IsSoundGame game → IsAt kind game x at
-    → HasNoMove game at ↔ IsEnded (graph_of kind game) x
+    (kind : PackingKind) (goal : Option ℕ) (game : Game) (x : List ℕ) (at : Position) → IsSoundGame game → IsAt kind game x at
+    → HasNoMove game at ↔ IsEnded (graph_of kind goal game) x
 
 -- plays come to a position exactly where it is one of the game and its bytes can be reached in the graph
 abbrev pub PlaysAgree : Type 0
 PlaysAgree =
-    (kind : PackingKind) (game : Game) (at : Position) → IsSoundGame game
-    → Reach game at ↔ ((x : List ℕ) × IsAt kind game x at × IsReachable (graph_of kind game) x)
+    (kind : PackingKind) (goal : Option ℕ) (game : Game) (at : Position) → IsSoundGame game
+    → Reach game at ↔ ((x : List ℕ) × IsAt kind game x at × IsReachable (graph_of kind goal game) x)

@@ -1,4 +1,5 @@
 pub use Rattle.position_pack.specs.Packings
+pub use Rattle.rbg_game.specs.Goals
 pub use Rattle.rbg_game.specs.Meaning
 pub use Rattle.rbg_game.specs.Positions
 pub use Rattle.rbg_game.specs.Rules

@@ -1,5 +1,5 @@
 -- Moves, successors, reach, and the end of a play.
-use Rattle.std.specs.Prelude.{◌≡◌, ℕ, ◌≤◌, ◌<◌, true, List, [], ◌∷◌, ◌++◌, length, map, if◌then◌else◌, slice_index}
+use Rattle.std.specs.Prelude.{◌≡◌, ℕ, ◌≤◌, ◌<◌, true, List, [], ◌∷◌, ◌++◌, length, map, if◌then◌else◌, slice_index, Option, None, Some}
 use Rattle.rbg_game.specs.Rules.{Regex, action_at, is_switch, is_modifier}
 use Rattle.rbg_game.specs.Games.{Game}
 use Rattle.rbg_game.specs.declared.roles.Player.{Player}
@@ -52,8 +52,10 @@ abbrev pub opponent : Player → Player
 opponent First = Second
 opponent Second = First
 
-abbrev pub IsAhead : Player → Position → Type 0
-IsAhead w at = score (opponent w) at.state < score w at.state
+-- w is ahead: without a goal with more points than the other, and with one with at least so many points while the other has fewer
+abbrev pub IsAhead : Option ℕ → Player → Position → Type 0
+IsAhead None w at = score (opponent w) at.state < score w at.state
+IsAhead (Some points) w at = (points ≤ score w at.state) × (score (opponent w) at.state < points)
 
 -- no word of a move between the two is shorter
 abbrev pub IsShortest : Game → Position → List ℕ → Position → Type 0

@@ -48,21 +48,32 @@ role_in Bits game x = role_by (field_at (shape_of game) (length game.vertices + 
 abbrev pub value_in : List ℕ → ℕ → ℕ
 value_in x i = slice_index x i * 65536 + slice_index x (i + 1) * 256 + slice_index x (i + 2)
 
--- who has more
-abbrev pub leader : ℕ → ℕ → Option Player
-leader first second = if nat_lt second first then Some First else if nat_lt first second then Some Second else None
+-- who has more points
+abbrev pub more_of : ℕ → ℕ → Option Player
+more_of first second = if nat_lt second first then Some First else if nat_lt first second then Some Second else None
+
+-- who has at least so many points while the other has fewer
+abbrev pub alone_at : ℕ → ℕ → ℕ → Option Player
+alone_at points first second =
+    if nat_lt first points then (if nat_lt second points then None else Some Second)
+    else (if nat_lt second points then Some First else None)
+
+-- who is ahead by the two scores, without a goal and with one
+abbrev pub leader : Option ℕ → ℕ → ℕ → Option Player
+leader None first second = more_of first second
+leader (Some points) first second = alone_at points first second
 
 -- the scores are behind the pieces
-abbrev pub leader_in : PackingKind → Game → List ℕ → Option Player
-leader_in Bytes game x = leader (value_in x (length game.vertices)) (value_in x (length game.vertices + 3))
-leader_in Bits game x =
-    leader (field_at (shape_of game) (length game.vertices) x) (field_at (shape_of game) (length game.vertices + 1) x)
+abbrev pub leader_in : PackingKind → Option ℕ → Game → List ℕ → Option Player
+leader_in Bytes goal game x = leader goal (value_in x (length game.vertices)) (value_in x (length game.vertices + 3))
+leader_in Bits goal game x =
+    leader goal (field_at (shape_of game) (length game.vertices) x) (field_at (shape_of game) (length game.vertices + 1) x)
 
--- the game as a graph of the bytes of its positions, by the packing of this kind
-abbrev pub graph_of : PackingKind → Game → Graph (List ℕ)
-graph_of kind game = record {
+-- the game as a graph of the bytes of its positions, by the packing of this kind, without a goal or with this one
+abbrev pub graph_of : PackingKind → Option ℕ → Game → Graph (List ℕ)
+graph_of kind goal game = record {
   start = packed_by kind (shape_of game) (start_of game);
   mover = role_in kind game;
-  ahead = leader_in kind game;
+  ahead = leader_in kind goal game;
   Successor = IsMoveBetween kind game;
 }

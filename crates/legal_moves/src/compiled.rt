@@ -21,6 +21,7 @@ use crate::table::Table;
 use arrayvec::ArrayVec;
 use position_pack::{Packed, Packing, PackingKind};
 use rbg_game::game::Game;
+use rbg_game::goal::Goal;
 use rbg_game::position::{Position, SemiState};
 use rbg_game::roles::{Player, Role};
 use retrograde::GameGraph;
@@ -39,6 +40,8 @@ pub struct Compiled {
     tables: Vec<Table>,
     /// For each pattern the number of the first that asks the same.
     same: Vec<usize>,
+    /// The goal of the table, if it has one.
+    goal: Option<Goal>,
 }
 
 impl Model for Compiled {
@@ -49,8 +52,9 @@ impl Model for Compiled {
     ghost coded = { compiled_code };
 
     ghost use Rattle.legal_moves.specs.Compiled.{IsCompiled};
+    ghost use Rattle.rbg_game.specs.Goals.{points_of};
 
-    ghost view = { λ c. record { game = c.game; kind = c.packing.kind } };
+    ghost view = { λ c. record { game = c.game; kind = c.packing.kind; goal = points_of c.goal } };
 
     ghost invariant = { IsCompiled };
 }
@@ -63,14 +67,22 @@ impl Compiled {
     ghost use Rattle.legal_moves.specs.Moves.{start_of};
     ghost use Rattle.legal_moves.specs.Searches.{IsWide};
     ghost use Rattle.legal_moves.specs.Listed.{AreMoves, IsShortestMove};
-    ghost use Rattle.legal_moves.specs.Compiled.{compiled_game, packing_kind, IsSoundCompiled};
+    ghost use Rattle.legal_moves.specs.Compiled.{compiled_game, packing_kind, compiled_goal, IsSoundCompiled};
+    ghost use Rattle.rbg_game.specs.Goals.{points_of};
     ghost use Rattle.position_pack.specs.Packings.{form_of};
 
-    /// Makes the tables of the rules and of the patterns in them. Bytes of positions are by the packing of this kind.
-    pub fn new(alloc: Global, game: Game, kind: PackingKind) -> Result<Compiled, AllocError>
+    /// Makes the tables of the rules and of the patterns in them. Bytes of positions are by the packing of this kind, and who is ahead
+    /// goes by this goal, if there is one.
+    pub fn new(
+        alloc: Global,
+        game: Game,
+        kind: PackingKind,
+        goal: Option<Goal>,
+    ) -> Result<Compiled, AllocError>
         requires { IsSoundGame (game_of game) }
         ensures game { IfOk result (λ c. compiled_game c ≡ game_of game) }
         ensures kind { IfOk result (λ c. packing_kind c ≡ kind) }
+        ensures goal { IfOk result (λ c. compiled_goal c ≡ points_of goal) }
         ensures sound { IfOk result IsSoundCompiled }
     {
         let mut tables = Vec::new(alloc);
@@ -84,6 +96,7 @@ impl Compiled {
             rows,
             tables,
             same,
+            goal,
         })
     }
 
@@ -149,10 +162,10 @@ impl Compiled {
 }
 
 impl GameGraph for Compiled {
-    ghost use Rattle.legal_moves.specs.Compiled.{compiled_game, packing_kind};
+    ghost use Rattle.legal_moves.specs.Compiled.{compiled_game, packing_kind, compiled_goal};
     ghost use Rattle.legal_moves.specs.Sources.{IsWideAt, graph_of};
 
-    ghost graph = { λ c. graph_of (packing_kind c) (compiled_game c) };
+    ghost graph = { λ c. graph_of (packing_kind c) (compiled_goal c) (compiled_game c) };
 
     ghost is_wide = { λ c. IsWideAt (packing_kind c) (compiled_game c) };
 }
@@ -188,8 +201,13 @@ impl MoveSource for Compiled {
     fn ahead(&self, at: &Packed) -> Option<Player> {
         let scores = self.game.vertices.len();
         match self.packing.kind() {
-            PackingKind::Bytes => leader_of(value_at(at, scores), value_at(at, scores + 3)),
+            PackingKind::Bytes => leader_of(
+                self.goal,
+                value_at(at, scores),
+                value_at(at, scores + 3),
+            ),
             PackingKind::Bits => leader_of(
+                self.goal,
                 self.packing.field(scores, at),
                 self.packing.field(scores + 1, at),
             ),

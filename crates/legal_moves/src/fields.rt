@@ -1,7 +1,9 @@
 //! What the bytes of a position say without unpacking it.
 ghost use Rattle.std.specs.Prelude.{◌≡◌, ◌≤◌, slice_index};
-ghost use Rattle.legal_moves.specs.Sources.{leader, role_by, value_in};
+ghost use Rattle.rbg_game.specs.Goals.{points_of};
+ghost use Rattle.legal_moves.specs.Sources.{alone_at, leader, more_of, role_by, value_in};
 
+use rbg_game::goal::Goal;
 use rbg_game::roles::{Player, Role};
 
 /// The byte at the index, 0 past the end.
@@ -33,9 +35,30 @@ pub fn role_with(number: u32) -> Role
     }
 }
 
-/// The player who has more.
-pub fn leader_of(first: u32, second: u32) -> Option<Player>
-    ensures { result ≡ leader first second }
+/// The player who is ahead by the two scores, without a goal or with this one.
+pub fn leader_of(goal: Option<Goal>, first: u32, second: u32) -> Option<Player>
+    ensures { result ≡ leader (points_of goal) first second }
+{
+    match goal {
+        Some(goal) => alone_at(goal.points(), first, second),
+        None => more_of(first, second),
+    }
+}
+
+/// The player who has at least so many points while the other has fewer.
+fn alone_at(points: u32, first: u32, second: u32) -> Option<Player>
+    ensures { result ≡ alone_at points first second }
+{
+    match (first >= points, second >= points) {
+        (true, false) => Some(Player::First),
+        (false, true) => Some(Player::Second),
+        _ => None,
+    }
+}
+
+/// The player who has more points.
+fn more_of(first: u32, second: u32) -> Option<Player>
+    ensures { result ≡ more_of first second }
 {
     if second < first {
         Some(Player::First)

@@ -28,4 +28,5 @@ mod table;
 pub use compiled::Compiled;
 pub use fault::MoveFault;
 pub use moves::{Modifier, Moves};
+pub use rbg_game::goal::Goal;
 pub use source::MoveSource;

@@ -108,7 +108,7 @@ fn compiled_of(alloc: Global, text: &[u8]) -> Result<Compiled, Stop>
         Ok(game) => game,
         Err(fault) => return Err(Stop::Refused(Refused::Game(fault))),
     };
-    Ok(Compiled::new(alloc, game, PackingKind::Bytes)?)
+    Ok(Compiled::new(alloc, game, PackingKind::Bytes, None)?)
 }
 
 /// Writes the lines of the moves, or `ended` where there is none.

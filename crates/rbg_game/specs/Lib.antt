@@ -1,6 +1,7 @@
 pub mod Expressions
 pub mod Rules
 pub mod Games
+pub mod Goals
 pub mod Meaning
 pub mod Depth
 pub mod Sound

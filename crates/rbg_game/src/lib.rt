@@ -3,6 +3,7 @@
 
 pub mod count;
 pub mod game;
+pub mod goal;
 pub mod limits;
 pub mod position;
 pub mod roles;

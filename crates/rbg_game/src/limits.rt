@@ -23,3 +23,6 @@ pub const MAX_ACTIONS: usize = 4_096;
 
 /// The greatest number in a text, and the greatest bound of a variable.
 pub const MAX_NUMBER: u32 = 1_000_000;
+
+/// The most points of a goal.
+pub const MAX_POINTS: u32 = 1_000_000;

@@ -2,6 +2,8 @@
 #![tactic(auto)]
 
 #[cfg(test)]
+mod goal_tests;
+#[cfg(test)]
 mod move_tests;
 #[cfg(test)]
 mod pack_tests;

@@ -30,7 +30,7 @@ fn game_of(alloc: Global, text: &str, kind: PackingKind) -> Result<Compiled, Fai
     ensures { IfOk result IsSoundCompiled }
 {
     let game = read_game(alloc, text.as_bytes())?;
-    Ok(Compiled::new(alloc, game, kind)?)
+    Ok(Compiled::new(alloc, game, kind, None)?)
 }
 
 /// Expects the bytes of the only successor of the start, by the bound alone.

@@ -5,7 +5,7 @@ use Rattle.rbg_game.specs.Games.{Game}
 use Rattle.rbg_read.specs.Reading.{Reads}
 use Rattle.position_pack.specs.Texts.{text_of}
 use Rattle.legal_moves.specs.Sources.{IsWideAt, graph_of}
-use Rattle.legal_moves.specs.Compiled.{compiled_game, packing_kind}
+use Rattle.legal_moves.specs.Compiled.{compiled_game, packing_kind, compiled_goal}
 use Rattle.legal_moves.specs.declared.compiled.Compiled.{Compiled}
 use Rattle.retrograde.specs.declared.records.Counts.{Counts}
 use Rattle.retrograde.specs.Changes.{counts_of}
@@ -93,7 +93,7 @@ module _ (k : Kept) (stored : Stored (List ℕ)) (same : stored ≡ k.table) (fi
       game = compiled_game compiled;
       reads = made.reads;
       bytes = bytes;
-      text_is = of_any compiled k made (λ p g. IsText p g bytes text) (compiled_game compiled) made.reads it;
+      text_is = of_any compiled k made (λ p w g. IsText p g bytes text) (compiled_game compiled) made.reads it;
       number_is = subst (λ (t : Stored (List ℕ)). slice_get t.positions number ≡ Some bytes) same at;
     }
 
@@ -103,7 +103,7 @@ module _ (k : Kept) (stored : Stored (List ℕ)) (same : stored ≡ k.table) (fi
       game = compiled_game compiled;
       reads = made.reads;
       bytes = bytes;
-      text_is = of_any compiled k made (λ p g. IsText p g bytes text) (compiled_game compiled) made.reads it;
+      text_is = of_any compiled k made (λ p w g. IsText p g bytes text) (compiled_game compiled) made.reads it;
       unknown = subst (λ (t : Stored (List ℕ)). (i : ℕ) → slice_get t.positions i ≡ Some bytes → ⊥) same unknown;
     }
 
@@ -111,62 +111,62 @@ module _ (k : Kept) (stored : Stored (List ℕ)) (same : stored ≡ k.table) (fi
     pub no_text : (number : ℕ) (bytes : List ℕ) → slice_get stored.positions number ≡ Some bytes → ((text : List ℕ) → IsText (packing_kind compiled) (compiled_game compiled) bytes text → ⊥) → IsSound (Some k) → ⊥
     no_text number bytes at none sound =
         let game = compiled_game compiled in
-        let (positions, fits) = sound_tables_fit (packing_kind compiled) game k.table (starts_are_positions k.text game made.reads) (sound_here compiled k made sound) in
+        let (positions, fits) = sound_tables_fit (packing_kind compiled) (compiled_goal compiled) game k.table (starts_are_positions k.text game made.reads) (sound_here compiled k made sound) in
         let (position, here) = positions number bytes (subst (λ (t : Stored (List ℕ)). slice_get t.positions number ≡ Some bytes) same at) in
         none (text_of game position) (record { at = position; spelled = record { position = here.position_is; text_is = refl }; bytes_are = here.bytes_are })
 
-    sound_stored : IsSound (Some k) → IsLocallySound (graph_of (packing_kind compiled) (compiled_game compiled)) (IsWideAt (packing_kind compiled) (compiled_game compiled)) stored
+    sound_stored : IsSound (Some k) → IsLocallySound (graph_of (packing_kind compiled) (compiled_goal compiled) (compiled_game compiled)) (IsWideAt (packing_kind compiled) (compiled_game compiled)) stored
     sound_stored sound =
-        subst (λ (t : Stored (List ℕ)). IsLocallySound (graph_of (packing_kind compiled) (compiled_game compiled)) (IsWideAt (packing_kind compiled) (compiled_game compiled)) t) (sym same) (sound_here compiled k made sound)
+        subst (λ (t : Stored (List ℕ)). IsLocallySound (graph_of (packing_kind compiled) (compiled_goal compiled) (compiled_game compiled)) (IsWideAt (packing_kind compiled) (compiled_game compiled)) t) (sym same) (sound_here compiled k made sound)
 
     -- a line by the game in memory is one by any that the text reads to
     pub line_found : (number : ℕ) (numbers : List ℕ) → IsSound (Some k)
-        → (IsLocallySound (graph_of (packing_kind compiled) (compiled_game compiled)) (IsWideAt (packing_kind compiled) (compiled_game compiled)) stored
-        → IsBestPlay (graph_of (packing_kind compiled) (compiled_game compiled)) (view_of stored) number numbers) → HasLine number numbers k
+        → (IsLocallySound (graph_of (packing_kind compiled) (compiled_goal compiled) (compiled_game compiled)) (IsWideAt (packing_kind compiled) (compiled_game compiled)) stored
+        → IsBestPlay (graph_of (packing_kind compiled) (compiled_goal compiled) (compiled_game compiled)) (view_of stored) number numbers) → HasLine number numbers k
     line_found number numbers sound found = λ game read.
-        of_any compiled k made (λ p g. IsBestPlay (graph_of p g) (view_of k.table) number numbers) game read
-        (subst (λ (t : Stored (List ℕ)). IsBestPlay (graph_of (packing_kind compiled) (compiled_game compiled)) (view_of t) number numbers) same (found (sound_stored sound)))
+        of_any compiled k made (λ p w g. IsBestPlay (graph_of p w g) (view_of k.table) number numbers) game read
+        (subst (λ (t : Stored (List ℕ)). IsBestPlay (graph_of (packing_kind compiled) (compiled_goal compiled) (compiled_game compiled)) (view_of t) number numbers) same (found (sound_stored sound)))
 
     -- so is the line that the table tells
     pub told_found : (number : ℕ) (numbers : List ℕ)
-        → (IsTable stored → IsToldLine (graph_of (packing_kind compiled) (compiled_game compiled)) (view_of stored) number numbers) → HasToldLine number numbers k
+        → (IsTable stored → IsToldLine (graph_of (packing_kind compiled) (compiled_goal compiled) (compiled_game compiled)) (view_of stored) number numbers) → HasToldLine number numbers k
     told_found number numbers found = λ game read.
-        of_any compiled k made (λ p g. IsToldLine (graph_of p g) (view_of k.table) number numbers) game read
-        (subst (λ (t : Stored (List ℕ)). IsToldLine (graph_of (packing_kind compiled) (compiled_game compiled)) (view_of t) number numbers) same (found its_table))
+        of_any compiled k made (λ p w g. IsToldLine (graph_of p w g) (view_of k.table) number numbers) game read
+        (subst (λ (t : Stored (List ℕ)). IsToldLine (graph_of (packing_kind compiled) (compiled_goal compiled) (compiled_game compiled)) (view_of t) number numbers) same (found its_table))
 
     -- and why there is none
     pub stops_found : (number : ℕ) (fault : LineFault)
-        → (IsTable stored → LineStops (graph_of (packing_kind compiled) (compiled_game compiled)) (IsWideAt (packing_kind compiled) (compiled_game compiled)) (view_of stored) number fault)
+        → (IsTable stored → LineStops (graph_of (packing_kind compiled) (compiled_goal compiled) (compiled_game compiled)) (IsWideAt (packing_kind compiled) (compiled_game compiled)) (view_of stored) number fault)
         → StopsIn number fault k
     stops_found number fault found = λ game read.
-        of_any compiled k made (λ p g. LineStops (graph_of p g) (IsWideAt p g) (view_of k.table) number fault) game read
-        (subst (λ (t : Stored (List ℕ)). LineStops (graph_of (packing_kind compiled) (compiled_game compiled)) (IsWideAt (packing_kind compiled) (compiled_game compiled)) (view_of t) number fault) same
+        of_any compiled k made (λ p w g. LineStops (graph_of p w g) (IsWideAt p g) (view_of k.table) number fault) game read
+        (subst (λ (t : Stored (List ℕ)). LineStops (graph_of (packing_kind compiled) (compiled_goal compiled) (compiled_game compiled)) (IsWideAt (packing_kind compiled) (compiled_game compiled)) (view_of t) number fault) same
         (found its_table))
 
     -- there is none where the position has no value
     pub stops_unsettled : (number : ℕ) (fault : LineFault) → fault ≡ line.NotSettled
-        → (IsTable stored → LineStops (graph_of (packing_kind compiled) (compiled_game compiled)) (IsWideAt (packing_kind compiled) (compiled_game compiled)) (view_of stored) number fault)
+        → (IsTable stored → LineStops (graph_of (packing_kind compiled) (compiled_goal compiled) (compiled_game compiled)) (IsWideAt (packing_kind compiled) (compiled_game compiled)) (view_of stored) number fault)
         → IsTable stored → (view_of stored).value number ≡ None
     stops_unsettled number fault is found it =
-        subst (λ (f : LineFault). LineStops (graph_of (packing_kind compiled) (compiled_game compiled)) (IsWideAt (packing_kind compiled) (compiled_game compiled)) (view_of stored) number f) is (found it)
+        subst (λ (f : LineFault). LineStops (graph_of (packing_kind compiled) (compiled_goal compiled) (compiled_game compiled)) (IsWideAt (packing_kind compiled) (compiled_game compiled)) (view_of stored) number f) is (found it)
 
     -- the verdict by the game in memory is that by any that the text reads to
     pub verdict_found : (verdict : Verdict)
-        → (IsTable stored → IsAnswer (graph_of (packing_kind compiled) (compiled_game compiled)) (IsWideAt (packing_kind compiled) (compiled_game compiled)) stored verdict) → HasVerdict verdict k
+        → (IsTable stored → IsAnswer (graph_of (packing_kind compiled) (compiled_goal compiled) (compiled_game compiled)) (IsWideAt (packing_kind compiled) (compiled_game compiled)) stored verdict) → HasVerdict verdict k
     verdict_found verdict found = λ game read.
-        of_any compiled k made (λ p g. IsAnswer (graph_of p g) (IsWideAt p g) k.table verdict) game read
-        (subst (λ (t : Stored (List ℕ)). IsAnswer (graph_of (packing_kind compiled) (compiled_game compiled)) (IsWideAt (packing_kind compiled) (compiled_game compiled)) t verdict) same (found its_table))
+        of_any compiled k made (λ p w g. IsAnswer (graph_of p w g) (IsWideAt p g) k.table verdict) game read
+        (subst (λ (t : Stored (List ℕ)). IsAnswer (graph_of (packing_kind compiled) (compiled_goal compiled) (compiled_game compiled)) (IsWideAt (packing_kind compiled) (compiled_game compiled)) t verdict) same (found its_table))
 
     -- so is what a right table says
-    pub so_found : (IsTable stored → IsTableSo (graph_of (packing_kind compiled) (compiled_game compiled)) (view_of stored)) → IsSoInGame k
+    pub so_found : (IsTable stored → IsTableSo (graph_of (packing_kind compiled) (compiled_goal compiled) (compiled_game compiled)) (view_of stored)) → IsSoInGame k
     so_found found = λ game read.
-        of_any compiled k made (λ p g. IsTableSo (graph_of p g) (view_of k.table)) game read
-        (subst (λ (t : Stored (List ℕ)). IsTableSo (graph_of (packing_kind compiled) (compiled_game compiled)) (view_of t)) same (found its_table))
+        of_any compiled k made (λ p w g. IsTableSo (graph_of p w g) (view_of k.table)) game read
+        (subst (λ (t : Stored (List ℕ)). IsTableSo (graph_of (packing_kind compiled) (compiled_goal compiled) (compiled_game compiled)) (view_of t)) same (found its_table))
 
     -- and that some expanded position is too wide
     pub wide_found : HasWide (IsWideAt (packing_kind compiled) (compiled_game compiled)) stored → HasWidePosition k
     wide_found found = λ game read.
-        of_any compiled k made (λ p g. HasWide (IsWideAt p g) k.table) game read
+        of_any compiled k made (λ p w g. HasWide (IsWideAt p g) k.table) game read
         (subst (λ (t : Stored (List ℕ)). HasWide (IsWideAt (packing_kind compiled) (compiled_game compiled)) t) same found)
 
     -- there is no line
@@ -174,7 +174,7 @@ module _ (k : Kept) (stored : Stored (List ℕ)) (same : stored ≡ k.table) (fi
     unsettled number less none = (is_there number less, subst (λ (t : Stored (List ℕ)). (view_of t).value number ≡ None) same (none its_table))
 
     pub never : (Impossible : Type 0) → IsSound (Some k)
-        → (IsLocallySound (graph_of (packing_kind compiled) (compiled_game compiled)) (IsWideAt (packing_kind compiled) (compiled_game compiled)) stored → Impossible) → Impossible
+        → (IsLocallySound (graph_of (packing_kind compiled) (compiled_goal compiled) (compiled_game compiled)) (IsWideAt (packing_kind compiled) (compiled_game compiled)) stored → Impossible) → Impossible
     never Impossible sound cause = cause (sound_stored sound)
 
 -- a position of the game has this text
@@ -183,7 +183,7 @@ text_of_some k compiled made bytes text it = record {
   game = compiled_game compiled;
   reads = made.reads;
   bytes = bytes;
-  text_is = of_any compiled k made (λ p g. IsText p g bytes text) (compiled_game compiled) made.reads it;
+  text_is = of_any compiled k made (λ p w g. IsText p g bytes text) (compiled_game compiled) made.reads it;
 }
 
 -- no position of the game has this text
@@ -192,7 +192,7 @@ pub text_of_none : (k : Kept) (compiled : Compiled) → IsMadeOf compiled k → 
 text_of_none k compiled made text none = record {
   game = compiled_game compiled;
   reads = made.reads;
-  none = of_any compiled k made (λ p g. (bytes : List ℕ) → IsText p g bytes text → ⊥) (compiled_game compiled) made.reads none;
+  none = of_any compiled k made (λ p w g. (bytes : List ℕ) → IsText p g bytes text → ⊥) (compiled_game compiled) made.reads none;
 }
 
 -- a fault of a table that was asked

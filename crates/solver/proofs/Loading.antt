@@ -11,7 +11,7 @@ use Rattle.position_pack.specs.declared.kind.PackingKind.{PackingKind}
 use Rattle.position_pack.specs.declared.kind.PackingKind.TheVariants.{Bits}
 use Rattle.legal_moves.specs.Sources.{IsWideAt, graph_of}
 use Rattle.retrograde.specs.Sound.{IsLocallySound}
-use Rattle.legal_moves.specs.Compiled.{compiled_game, packing_kind}
+use Rattle.legal_moves.specs.Compiled.{compiled_game, packing_kind, compiled_goal}
 use Rattle.legal_moves.specs.declared.compiled.Compiled.{Compiled}
 use Rattle.retrograde.specs.Stored.{loaded}
 use Rattle.game_table.specs.aid.Laws.{a_first_table_is_sound}
@@ -48,11 +48,12 @@ put_stops Stores is old new leaves goes_on put = record {
 
 -- the game in memory is that of a table with this text and packing
 pub source_of_text : (source : Compiled) (kept : Option Kept) (text : List ℕ) (packing : PackingKind) → text_kept kept ≡ Some text → packing_kept kept ≡ Some packing
-    → Reads text (compiled_game source) → packing_kind source ≡ packing → IsSourceOf (Some source) kept
-source_of_text source None text packing is packed is_read kind = absurd (cc)
-source_of_text source (Some kept) text packing is packed is_read kind = record {
+    → Reads text (compiled_game source) → packing_kind source ≡ packing → compiled_goal source ≡ None → IsSourceOf (Some source) kept
+source_of_text source None text packing is packed is_read kind points = absurd (cc)
+source_of_text source (Some kept) text packing is packed is_read kind points = record {
   reads = subst (λ (t : List ℕ). Reads t (compiled_game source)) (sym (same_Some kept.text text is)) is_read;
   packing = kind ∙ sym (same_Some kept.packing packing packed);
+  goal = points;
 }
 
 -- and of another with the same ones
@@ -62,16 +63,16 @@ same_source None None (Some k) is packed it = absurd (cc)
 same_source None (Some k) new is packed it = absurd it
 same_source (Some s) None new is packed it = absurd it
 same_source (Some s) (Some k) None is packed it = absurd (cc)
-same_source (Some s) (Some k) (Some l) is packed it = source_of_text s (Some l) k.text k.packing is packed it.reads it.packing
+same_source (Some s) (Some k) (Some l) is packed it = source_of_text s (Some l) k.text k.packing is packed it.reads it.packing it.goal
 
 -- what is so of a start by one packing is so by another that is the same
-pub start_by : (kind other : PackingKind) (game : Game) (start : List ℕ) → kind ≡ other → start ≡ (graph_of kind game).start → start ≡ (graph_of other game).start
-start_by kind other game start is it = subst (λ (k : PackingKind). start ≡ (graph_of k game).start) is it
+pub start_by : (kind other : PackingKind) (game : Game) (start : List ℕ) → kind ≡ other → start ≡ (graph_of kind None game).start → start ≡ (graph_of other None game).start
+start_by kind other game start is it = subst (λ (k : PackingKind). start ≡ (graph_of k None game).start) is it
 
 pub long_by : (kind other : PackingKind) (game : Game) (long : ℕ) → kind ≡ other → long ≡ packed_length kind game → long ≡ packed_length other game
 long_by kind other game long is it = subst (λ (k : PackingKind). long ≡ packed_length k game) is it
 
-module _ (Stores : Layout) (text start : List ℕ) (game : Game) (reads : Reads text game) (start_is : start ≡ (graph_of Bits game).start) (old new : State) (none : old.kept ≡ None) where
+module _ (Stores : Layout) (text start : List ℕ) (game : Game) (reads : Reads text game) (start_is : start ≡ (graph_of Bits None game).start) (old new : State) (none : old.kept ≡ None) where
   loads : Loads text old.kept (Some (kept_as text Bits (loaded start)))
   loads = record { none = none; game = game; reads = reads; is = ap (λ (s : List ℕ). Some (kept_as text Bits (loaded s))) start_is }
 
@@ -113,10 +114,10 @@ module _ (Stores : Layout) (text start : List ℕ) (game : Game) (reads : Reads 
   }
 
   -- the game in memory is the table's
-  pub loaded_source : (source : Compiled) → compiled_game source ≡ game → packing_kind source ≡ Bits → IsPut Stores (kept_as text Bits (loaded start)) old new → IsSourceOf (Some source) new.kept
-  loaded_source source same kind put = source_of_text source new.kept text Bits put.text put.packing (subst (λ (g : Game). Reads text g) (sym same) reads) kind
+  pub loaded_source : (source : Compiled) → compiled_game source ≡ game → packing_kind source ≡ Bits → compiled_goal source ≡ None → IsPut Stores (kept_as text Bits (loaded start)) old new → IsSourceOf (Some source) new.kept
+  loaded_source source same kind points put = source_of_text source new.kept text Bits put.text put.packing (subst (λ (g : Game). Reads text g) (sym same) reads) kind points
 
   pub loaded_sound : IsTrue old.disk.honest → IsPut Stores (kept_as text Bits (loaded start)) old new → IsSound new.kept
   loaded_sound honest put =
       subst (λ (kept : Option Kept). IsSound kept) (sym (put.kept honest))
-      (game, reads, subst (λ (s : List ℕ). IsLocallySound (graph_of Bits game) (IsWideAt Bits game) (loaded s)) (sym start_is) (a_first_table_is_sound Bits game))
+      (game, reads, subst (λ (s : List ℕ). IsLocallySound (graph_of Bits None game) (IsWideAt Bits game) (loaded s)) (sym start_is) (a_first_table_is_sound Bits None game))

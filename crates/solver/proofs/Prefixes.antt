@@ -40,7 +40,7 @@ a_sound_table_is_exact (Some kept) (game, is_read, sound) =
 
 -- what a command may do to a sound table leaves it sound
 does_sound : (reply : Reply) (command : Command) (old new : Option Kept) → Does reply command old new → IsSound old → IsSound new
-does_sound Loaded (load text) old new loads sound = subst (λ (k : Option Kept). IsSound k) (sym loads.is) (loads.game, loads.reads, a_first_table_is_sound Bits loads.game)
+does_sound Loaded (load text) old new loads sound = subst (λ (k : Option Kept). IsSound k) (sym loads.is) (loads.game, loads.reads, a_first_table_is_sound Bits None loads.game)
 does_sound Loaded (work units) old new does sound = absurd does
 does_sound (Worked done counts) (load text) old new does sound = absurd does
 does_sound (Worked done counts) (work units) old new works sound =
@@ -48,7 +48,7 @@ does_sound (Worked done counts) (work units) old new works sound =
     subst (λ (k : Option Kept). IsSound k) (sym works.worked) (
       game,
       subst (λ (text : List ℕ). Reads text game) (sym works.same_text) is_read,
-      subst (λ (packing : PackingKind). IsLocallySound (graph_of packing game) (IsWideAt packing game) works.is.table) (sym works.same_packing) (works.work game is_read here).sound,
+      subst (λ (packing : PackingKind). IsLocallySound (graph_of packing None game) (IsWideAt packing game) works.is.table) (sym works.same_packing) (works.work game is_read here).sound,
     )
 does_sound (Refused fault) command old new same sound = subst (λ (k : Option Kept). IsSound k) (sym same) sound
 

@@ -8,7 +8,7 @@ use Rattle.rbg_read.specs.Reading.{Reads}
 use Rattle.rbg_read.proofs.OneReading.{one_game}
 use Rattle.position_pack.specs.declared.kind.PackingKind.{PackingKind}
 use Rattle.legal_moves.specs.Sources.{IsWideAt, graph_of}
-use Rattle.legal_moves.specs.Compiled.{compiled_game, packing_kind}
+use Rattle.legal_moves.specs.Compiled.{compiled_game, packing_kind, compiled_goal}
 use Rattle.legal_moves.specs.declared.compiled.Compiled.{Compiled}
 use Rattle.retrograde.specs.declared.records.Counts.{Counts}
 use Rattle.retrograde.specs.Changes.{counts_of}
@@ -48,46 +48,50 @@ kept_there source (Some k) it = (k, refl, it)
 
 -- what is said of the table in hand is said of the one that is kept
 pub works_on : (source : Compiled) (k : Kept) (stored : Stored (List ℕ)) → stored ≡ k.table → (units count done : ℕ) (now : Stored (List ℕ)) → count ≡ units
-    → (IsLocallySound (graph_of (packing_kind source) (compiled_game source)) (IsWideAt (packing_kind source) (compiled_game source)) stored → IsWorkOf (packing_kind source) (compiled_game source) count stored done now)
-    → IsLocallySound (graph_of (packing_kind source) (compiled_game source)) (IsWideAt (packing_kind source) (compiled_game source)) k.table → IsWorkOf (packing_kind source) (compiled_game source) units k.table done now
+    → (IsLocallySound (graph_of (packing_kind source) (compiled_goal source) (compiled_game source)) (IsWideAt (packing_kind source) (compiled_game source)) stored → IsWorkOf (packing_kind source) (compiled_goal source) (compiled_game source) count stored done now)
+    → IsLocallySound (graph_of (packing_kind source) (compiled_goal source) (compiled_game source)) (IsWideAt (packing_kind source) (compiled_game source)) k.table → IsWorkOf (packing_kind source) (compiled_goal source) (compiled_game source) units k.table done now
 works_on source k stored same units count done now counted works =
-    subst (λ (n : ℕ). IsLocallySound (graph_of (packing_kind source) (compiled_game source)) (IsWideAt (packing_kind source) (compiled_game source)) k.table → IsWorkOf (packing_kind source) (compiled_game source) n k.table done now) counted
-    (subst (λ (t : Stored (List ℕ)). IsLocallySound (graph_of (packing_kind source) (compiled_game source)) (IsWideAt (packing_kind source) (compiled_game source)) t → IsWorkOf (packing_kind source) (compiled_game source) count t done now) same works)
+    subst (λ (n : ℕ). IsLocallySound (graph_of (packing_kind source) (compiled_goal source) (compiled_game source)) (IsWideAt (packing_kind source) (compiled_game source)) k.table → IsWorkOf (packing_kind source) (compiled_goal source) (compiled_game source) n k.table done now) counted
+    (subst (λ (t : Stored (List ℕ)). IsLocallySound (graph_of (packing_kind source) (compiled_goal source) (compiled_game source)) (IsWideAt (packing_kind source) (compiled_game source)) t → IsWorkOf (packing_kind source) (compiled_goal source) (compiled_game source) count t done now) same works)
 
 pub stops_on : (source : Compiled) (k : Kept) (stored : Stored (List ℕ)) → stored ≡ k.table → (units count : ℕ) (fault : StepFault) → count ≡ units
-    → (IsLocallySound (graph_of (packing_kind source) (compiled_game source)) (IsWideAt (packing_kind source) (compiled_game source)) stored → StopsWith (graph_of (packing_kind source) (compiled_game source)) (IsWideAt (packing_kind source) (compiled_game source)) stored count fault)
-    → IsLocallySound (graph_of (packing_kind source) (compiled_game source)) (IsWideAt (packing_kind source) (compiled_game source)) k.table → StopsWith (graph_of (packing_kind source) (compiled_game source)) (IsWideAt (packing_kind source) (compiled_game source)) k.table units fault
+    → (IsLocallySound (graph_of (packing_kind source) (compiled_goal source) (compiled_game source)) (IsWideAt (packing_kind source) (compiled_game source)) stored → StopsWith (graph_of (packing_kind source) (compiled_goal source) (compiled_game source)) (IsWideAt (packing_kind source) (compiled_game source)) stored count fault)
+    → IsLocallySound (graph_of (packing_kind source) (compiled_goal source) (compiled_game source)) (IsWideAt (packing_kind source) (compiled_game source)) k.table → StopsWith (graph_of (packing_kind source) (compiled_goal source) (compiled_game source)) (IsWideAt (packing_kind source) (compiled_game source)) k.table units fault
 stops_on source k stored same units count fault counted stops =
-    subst (λ (n : ℕ). IsLocallySound (graph_of (packing_kind source) (compiled_game source)) (IsWideAt (packing_kind source) (compiled_game source)) k.table → StopsWith (graph_of (packing_kind source) (compiled_game source)) (IsWideAt (packing_kind source) (compiled_game source)) k.table n fault) counted
-    (subst (λ (t : Stored (List ℕ)). IsLocallySound (graph_of (packing_kind source) (compiled_game source)) (IsWideAt (packing_kind source) (compiled_game source)) t → StopsWith (graph_of (packing_kind source) (compiled_game source)) (IsWideAt (packing_kind source) (compiled_game source)) t count fault) same stops)
+    subst (λ (n : ℕ). IsLocallySound (graph_of (packing_kind source) (compiled_goal source) (compiled_game source)) (IsWideAt (packing_kind source) (compiled_game source)) k.table → StopsWith (graph_of (packing_kind source) (compiled_goal source) (compiled_game source)) (IsWideAt (packing_kind source) (compiled_game source)) k.table n fault) counted
+    (subst (λ (t : Stored (List ℕ)). IsLocallySound (graph_of (packing_kind source) (compiled_goal source) (compiled_game source)) (IsWideAt (packing_kind source) (compiled_game source)) t → StopsWith (graph_of (packing_kind source) (compiled_goal source) (compiled_game source)) (IsWideAt (packing_kind source) (compiled_game source)) t count fault) same stops)
 
 module _ (source : Compiled) (k : Kept) (made : IsMadeOf source k) where
   -- what holds of the source's game holds of any that the text read to
-  pub of_any : (P : PackingKind → Game → Type 0) (game : Game) → Reads k.text game → P (packing_kind source) (compiled_game source) → P k.packing game
+  pub of_any : (P : PackingKind → Option ℕ → Game → Type 0) (game : Game) → Reads k.text game
+      → P (packing_kind source) (compiled_goal source) (compiled_game source) → P k.packing None game
   of_any P game read so =
-      subst (λ (g : Game). P k.packing g) (one_game k.text (compiled_game source) game made.reads read)
-      (subst (λ (p : PackingKind). P p (compiled_game source)) made.packing so)
+      subst (λ (g : Game). P k.packing None g) (one_game k.text (compiled_game source) game made.reads read)
+      (subst (λ (w : Option ℕ). P k.packing w (compiled_game source)) made.goal
+      (subst (λ (p : PackingKind). P p (compiled_goal source) (compiled_game source)) made.packing so))
 
-  pub to_source : (P : PackingKind → Game → Type 0) (game : Game) → Reads k.text game → P k.packing game → P (packing_kind source) (compiled_game source)
+  pub to_source : (P : PackingKind → Option ℕ → Game → Type 0) (game : Game) → Reads k.text game → P k.packing None game
+      → P (packing_kind source) (compiled_goal source) (compiled_game source)
   to_source P game read so =
-      subst (λ (p : PackingKind). P p (compiled_game source)) (sym made.packing)
-      (subst (λ (g : Game). P k.packing g) (one_game k.text game (compiled_game source) read made.reads) so)
+      subst (λ (p : PackingKind). P p (compiled_goal source) (compiled_game source)) (sym made.packing)
+      (subst (λ (w : Option ℕ). P k.packing w (compiled_game source)) (sym made.goal)
+      (subst (λ (g : Game). P k.packing None g) (one_game k.text game (compiled_game source) read made.reads) so))
 
-  pub sound_here : IsSound (Some k) → IsLocallySound (graph_of (packing_kind source) (compiled_game source)) (IsWideAt (packing_kind source) (compiled_game source)) k.table
-  sound_here (game, read, sound) = to_source (λ p g. IsLocallySound (graph_of p g) (IsWideAt p g) k.table) game read sound
+  pub sound_here : IsSound (Some k) → IsLocallySound (graph_of (packing_kind source) (compiled_goal source) (compiled_game source)) (IsWideAt (packing_kind source) (compiled_game source)) k.table
+  sound_here (game, read, sound) = to_source (λ p w g. IsLocallySound (graph_of p w g) (IsWideAt p g) k.table) game read sound
 
   module _ (units done : ℕ) (now : Stored (List ℕ))
-      (works : IsLocallySound (graph_of (packing_kind source) (compiled_game source)) (IsWideAt (packing_kind source) (compiled_game source)) k.table → IsWorkOf (packing_kind source) (compiled_game source) units k.table done now) where
-    pub work_by : (game : Game) → Reads k.text game → IsLocallySound (graph_of k.packing game) (IsWideAt k.packing game) k.table → IsWorkOf k.packing game units k.table done now
+      (works : IsLocallySound (graph_of (packing_kind source) (compiled_goal source) (compiled_game source)) (IsWideAt (packing_kind source) (compiled_game source)) k.table → IsWorkOf (packing_kind source) (compiled_goal source) (compiled_game source) units k.table done now) where
+    pub work_by : (game : Game) → Reads k.text game → IsLocallySound (graph_of k.packing None game) (IsWideAt k.packing game) k.table → IsWorkOf k.packing None game units k.table done now
     work_by game read sound =
-        of_any (λ p g. IsWorkOf p g units k.table done now) game read (works (to_source (λ p g. IsLocallySound (graph_of p g) (IsWideAt p g) k.table) game read sound))
+        of_any (λ p w g. IsWorkOf p w g units k.table done now) game read (works (to_source (λ p w g. IsLocallySound (graph_of p w g) (IsWideAt p g) k.table) game read sound))
 
     -- a sound table stays sound
     pub worked_sound : IsSound (Some k) → IsSound (Some (kept_as k.text k.packing now))
     worked_sound sound = (
       compiled_game source,
       made.reads,
-      of_any (λ p g. IsLocallySound (graph_of p g) (IsWideAt p g) now) (compiled_game source) made.reads (works (sound_here sound)).sound,
+      of_any (λ p w g. IsLocallySound (graph_of p w g) (IsWideAt p g) now) (compiled_game source) made.reads (works (sound_here sound)).sound,
     )
 
     -- and fits, with positions of the same length
@@ -96,13 +100,13 @@ module _ (source : Compiled) (k : Kept) (made : IsMadeOf source k) where
         let game = compiled_game source in
         let here = sound_here sound in
         let start = starts_are_positions k.text game made.reads in
-        let (were, was_fits) = sound_tables_fit (packing_kind source) game k.table start here in
-        let (are, is_fits) = sound_tables_fit (packing_kind source) game now start (works here).sound in
+        let (were, was_fits) = sound_tables_fit (packing_kind source) (compiled_goal source) game k.table start here in
+        let (are, is_fits) = sound_tables_fit (packing_kind source) (compiled_goal source) game now start (works here).sound in
         cause (packed_length (packing_kind source) game) was_fits is_fits
 
 module _ (Stores : Layout) (old new : State) (source : Compiled) (k : Kept) (made : IsMadeOf source k) (loaded : old.kept ≡ Some k)
     (units done : ℕ) (now : Stored (List ℕ))
-    (works : IsTrue old.disk.honest → IsLocallySound (graph_of (packing_kind source) (compiled_game source)) (IsWideAt (packing_kind source) (compiled_game source)) k.table → IsWorkOf (packing_kind source) (compiled_game source) units k.table done now) where
+    (works : IsTrue old.disk.honest → IsLocallySound (graph_of (packing_kind source) (compiled_goal source) (compiled_game source)) (IsWideAt (packing_kind source) (compiled_game source)) k.table → IsWorkOf (packing_kind source) (compiled_goal source) (compiled_game source) units k.table done now) where
   works_of : (counts : Counts) → counts ≡ counts_of now → IsTrue old.disk.honest → WorksOnTable units old.kept done counts (Some (kept_as k.text k.packing now))
   works_of counts counted honest = record {
     was = k;
@@ -164,7 +168,7 @@ module _ (Stores : Layout) (old new : State) (source : Compiled) (k : Kept) (mad
 
 -- no unit is done, and nothing kept
 pub idle_done : (Stores : Layout) (state : State) (source : Compiled) (k : Kept) → IsMadeOf source k → state.kept ≡ Some k → (units done : ℕ) (now : Stored (List ℕ)) (counts : Counts)
-    → (IsTrue state.disk.honest → IsLocallySound (graph_of (packing_kind source) (compiled_game source)) (IsWideAt (packing_kind source) (compiled_game source)) k.table → IsWorkOf (packing_kind source) (compiled_game source) units k.table done now)
+    → (IsTrue state.disk.honest → IsLocallySound (graph_of (packing_kind source) (compiled_goal source) (compiled_game source)) (IsWideAt (packing_kind source) (compiled_game source)) k.table → IsWorkOf (packing_kind source) (compiled_goal source) (compiled_game source) units k.table done now)
     → (IsTrue state.disk.honest → now ≡ k.table) → (IsTrue state.disk.honest → counts ≡ counts_of now) → Leaves Stores state → state.closed ≡ false
     → IsDone Stores (work units) (Worked done counts) state state
 idle_done Stores state source k made loaded units done now counts works same counted leaves is_open = record {
@@ -209,21 +213,21 @@ left_so Fails step.OutOfMemory left back failed = back left
 left_so Fails (step.Table fault) left back failed = failed fault left
 
 module _ (Stores : Layout) (old new : State) (source : Compiled) (k : Kept) (made : IsMadeOf source k) (loaded : old.kept ≡ Some k) (units : ℕ) where
-  stops_at : (fault : StepFault) → (IsTrue old.disk.honest → IsLocallySound (graph_of (packing_kind source) (compiled_game source)) (IsWideAt (packing_kind source) (compiled_game source)) k.table
-      → StopsWith (graph_of (packing_kind source) (compiled_game source)) (IsWideAt (packing_kind source) (compiled_game source)) k.table units fault) → IsTrue old.disk.honest → StopsAt units old.kept fault
+  stops_at : (fault : StepFault) → (IsTrue old.disk.honest → IsLocallySound (graph_of (packing_kind source) (compiled_goal source) (compiled_game source)) (IsWideAt (packing_kind source) (compiled_game source)) k.table
+      → StopsWith (graph_of (packing_kind source) (compiled_goal source) (compiled_game source)) (IsWideAt (packing_kind source) (compiled_game source)) k.table units fault) → IsTrue old.disk.honest → StopsAt units old.kept fault
   stops_at fault cause honest =
       subst (λ (kept : Option Kept). StopsAt units kept fault) (sym loaded)
       (λ game read sound.
-      of_any source k made (λ p g. StopsWith (graph_of p g) (IsWideAt p g) k.table units fault) game read
-      (cause honest (to_source source k made (λ p g. IsLocallySound (graph_of p g) (IsWideAt p g) k.table) game read sound)))
+      of_any source k made (λ p w g. StopsWith (graph_of p w g) (IsWideAt p g) k.table units fault) game read
+      (cause honest (to_source source k made (λ p w g. IsLocallySound (graph_of p w g) (IsWideAt p g) k.table) game read sound)))
 
-  other_origin : (IsTrue old.disk.honest → IsLocallySound (graph_of (packing_kind source) (compiled_game source)) (IsWideAt (packing_kind source) (compiled_game source)) k.table → ⊥) → IsTrue old.disk.honest → IsSound old.kept → ⊥
+  other_origin : (IsTrue old.disk.honest → IsLocallySound (graph_of (packing_kind source) (compiled_goal source) (compiled_game source)) (IsWideAt (packing_kind source) (compiled_game source)) k.table → ⊥) → IsTrue old.disk.honest → IsSound old.kept → ⊥
   other_origin consistent honest sound = consistent honest (sound_here source k made (subst (λ (kept : Option Kept). IsSound kept) loaded sound))
 
   module _ (Ahead : Type 0) (Fails : TableFault → Type 0) (cause_of : (f : TableFault) → Fails f → FileTableCause old new f) where
     work_cause : (fault : StepFault)
-        → (IsTrue old.disk.honest → IsLocallySound (graph_of (packing_kind source) (compiled_game source)) (IsWideAt (packing_kind source) (compiled_game source)) k.table → StopsWith (graph_of (packing_kind source) (compiled_game source)) (IsWideAt (packing_kind source) (compiled_game source)) k.table units fault)
-        → (IsTrue old.disk.honest → IsLocallySound (graph_of (packing_kind source) (compiled_game source)) (IsWideAt (packing_kind source) (compiled_game source)) k.table → fault ≡ step.Inconsistent → ⊥)
+        → (IsTrue old.disk.honest → IsLocallySound (graph_of (packing_kind source) (compiled_goal source) (compiled_game source)) (IsWideAt (packing_kind source) (compiled_game source)) k.table → StopsWith (graph_of (packing_kind source) (compiled_goal source) (compiled_game source)) (IsWideAt (packing_kind source) (compiled_game source)) k.table units fault)
+        → (IsTrue old.disk.honest → IsLocallySound (graph_of (packing_kind source) (compiled_goal source) (compiled_game source)) (IsWideAt (packing_kind source) (compiled_game source)) k.table → fault ≡ step.Inconsistent → ⊥)
         → LeavesUnit Ahead Fails fault → WorkCause units old new (step_fault fault)
     work_cause step.TooWide cause consistent left = stops_at step.TooWide cause
     work_cause (step.KeeperChooses number) cause consistent left = stops_at (step.KeeperChooses number) cause
@@ -241,8 +245,8 @@ module _ (Stores : Layout) (old new : State) (source : Compiled) (k : Kept) (mad
 
     -- units are refused, and the command is given up
     pub work_refused : (fault : StepFault)
-        → (IsTrue old.disk.honest → IsLocallySound (graph_of (packing_kind source) (compiled_game source)) (IsWideAt (packing_kind source) (compiled_game source)) k.table → StopsWith (graph_of (packing_kind source) (compiled_game source)) (IsWideAt (packing_kind source) (compiled_game source)) k.table units fault)
-        → (IsTrue old.disk.honest → IsLocallySound (graph_of (packing_kind source) (compiled_game source)) (IsWideAt (packing_kind source) (compiled_game source)) k.table → fault ≡ step.Inconsistent → ⊥)
+        → (IsTrue old.disk.honest → IsLocallySound (graph_of (packing_kind source) (compiled_goal source) (compiled_game source)) (IsWideAt (packing_kind source) (compiled_game source)) k.table → StopsWith (graph_of (packing_kind source) (compiled_goal source) (compiled_game source)) (IsWideAt (packing_kind source) (compiled_game source)) k.table units fault)
+        → (IsTrue old.disk.honest → IsLocallySound (graph_of (packing_kind source) (compiled_goal source) (compiled_game source)) (IsWideAt (packing_kind source) (compiled_game source)) k.table → fault ≡ step.Inconsistent → ⊥)
         → LeavesUnit Ahead Fails fault → old.closed ≡ false → IsNothingPut Stores old new
         → (Ahead → new.closed ≡ old.closed) → ((f : TableFault) → Fails f → f ≢ table.Disk → new.closed ≡ old.closed)
         → IsRefused Stores (work units) old new (step_fault fault)

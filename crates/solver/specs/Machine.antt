@@ -34,7 +34,7 @@ pub record Loads (text : List ℕ) (old new : Option Kept) : Type 0 where
   pub none : old ≡ None
   pub game : Game
   pub reads : Reads text game
-  pub is : new ≡ Some (record { text = text; packing = Bits; table = loaded (graph_of Bits game).start })
+  pub is : new ≡ Some (record { text = text; packing = Bits; table = loaded (graph_of Bits None game).start })
 
 -- so many units were asked of the old table and these done, or the new one is finished by then; it has these counts. Nothing is said
 -- of a table that is not sound

@@ -2,15 +2,16 @@
 use Rattle.std.specs.Prelude.{◌≡◌, Option, None, Some, IsTrue}
 use Rattle.rbg_read.specs.Reading.{Reads}
 use Rattle.legal_moves.specs.declared.compiled.Compiled.{Compiled}
-use Rattle.legal_moves.specs.Compiled.{compiled_game, packing_kind}
+use Rattle.legal_moves.specs.Compiled.{compiled_game, packing_kind, compiled_goal}
 use Rattle.game_file.specs.Kept.{Kept}
 use Rattle.game_file.specs.State.{State}
 use Rattle.solver.specs.Held.{IsSound}
 
--- this game in memory is the one that the text of the table reads to, and packs positions as the table does
+-- this game in memory is the one that the text of the table reads to, packs positions as the table does, and has no goal
 pub record IsMadeOf (source : Compiled) (kept : Kept) : Type 0 where
   pub reads : Reads kept.text (compiled_game source)
   pub packing : packing_kind source ≡ kept.packing
+  pub goal : compiled_goal source ≡ None
 
 -- where a game is loaded, it is made ready in memory
 abbrev pub IsSourceOf : Option Compiled → Option Kept → Type 0

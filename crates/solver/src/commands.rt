@@ -145,7 +145,7 @@ impl<F: GameFile> FileSolver<F> {
             → IsSound (state self.new).kept }
     {
         self.needs_no_game()?;
-        let source = Source::read(self.alloc, text, PackingKind::Bits)?;
+        let source = Source::read(self.alloc, text, PackingKind::Bits, None)?;
         self.file.load(text, PackingKind::Bits, &source.start())?;
         self.source = Some(source);
         Ok(())

@@ -20,7 +20,7 @@ pub struct Solving {
 
 /// The game of a text, with its positions by bytes or by bits.
 pub fn source_of(alloc: Global, text: &str, kind: PackingKind) -> Result<Source, Fail> {
-    Ok(Source::read(alloc, text.as_bytes(), kind)?)
+    Ok(Source::read(alloc, text.as_bytes(), kind, None)?)
 }
 
 /// A game of white and black on one vertex, with these variables and rules.

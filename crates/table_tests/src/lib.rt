@@ -6,6 +6,8 @@ mod game_texts;
 #[cfg(test)]
 mod games;
 #[cfg(test)]
+mod goal_tests;
+#[cfg(test)]
 mod plain;
 #[cfg(test)]
 mod plain_tests;

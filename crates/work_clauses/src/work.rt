@@ -1,6 +1,6 @@
 //! Units of work on a table, and whether it is one of a game.
 ghost use Rattle.std.specs.Prelude.{◌≡◌, ◌↔◌, ◌^◌, ◌≤◌, true, IfOk, IfErr};
-ghost use Rattle.legal_moves.specs.Compiled.{compiled_game, packing_kind};
+ghost use Rattle.legal_moves.specs.Compiled.{compiled_game, packing_kind, compiled_goal};
 ghost use Rattle.legal_moves.specs.Sources.{IsWideAt, graph_of};
 ghost use Rattle.retrograde.specs.Sound.{IsLocallySound};
 ghost use Rattle.table_work.specs.Work.{AreDone, StopsWith};
@@ -54,9 +54,9 @@ pub fn source_work<T: Table>(
 ) -> Result<u32, StepFault>
     requires limit { (T.counted table.old).known ≤ 2 ^ 24 }
     requires honest { T.is_honest table.old }
-    requires sound { IsLocallySound (graph_of (packing_kind source.now) (compiled_game source.now))
+    requires sound { IsLocallySound (graph_of (packing_kind source.now) (compiled_goal source.now) (compiled_game source.now))
         (IsWideAt (packing_kind source.now) (compiled_game source.now)) (T.stored table.old) }
-    ensures { IfOk result (λ done. IsWorkOf (packing_kind source.now) (compiled_game source.now) units (T.stored table.old) done
+    ensures { IfOk result (λ done. IsWorkOf (packing_kind source.now) (compiled_goal source.now) (compiled_game source.now) units (T.stored table.old) done
         (T.stored table.new)) }
 {
     source.work(alloc, table, units)

@@ -1,5 +1,5 @@
 -- What holds of every game and its tables, for readers in src/laws.rt and for proofs here.
-use Rattle.std.specs.Prelude.{◌≡◌, ℕ, ◌≤◌, List, length}
+use Rattle.std.specs.Prelude.{◌≡◌, ℕ, ◌≤◌, List, length, Option}
 use Rattle.std.proofs.Common.{refl, ◌∙◌, ap}
 use Rattle.rbg_game.specs.Games.{Game}
 use Rattle.rbg_game.specs.Positions.{IsPositionOf}
@@ -37,22 +37,22 @@ positions_have_one_length kind game x (at, here) =
     ap length here.bytes_are ∙ as_many kind (shape_of game) at (fits game at here.position_is)
 
 -- play comes to positions of the game alone
-pub reachable_is_position : (kind : PackingKind) (game : Game) (x : List ℕ) → IsPositionOf game (start_of game)
-    → IsReachable (graph_of kind game) x
+pub reachable_is_position : (kind : PackingKind) (goal : Option ℕ) (game : Game) (x : List ℕ) → IsPositionOf game (start_of game)
+    → IsReachable (graph_of kind goal game) x
     → IsPositionBytes kind game x
-reachable_is_position kind game x start at_start = (start_of game, record { position_is = start; bytes_are = refl })
-reachable_is_position kind game x start (by_move before (at, next, from, to, leads)) = (next, to)
+reachable_is_position kind goal game x start at_start = (start_of game, record { position_is = start; bytes_are = refl })
+reachable_is_position kind goal game x start (by_move before (at, next, from, to, leads)) = (next, to)
 
 -- a table that agrees with itself at each number stores positions of the game, and its parts fit together
-pub sound_tables_fit : (kind : PackingKind) (game : Game) (stored : Stored (List ℕ)) → IsPositionOf game (start_of game)
-    → IsLocallySound (graph_of kind game) (IsWideAt kind game) stored
+pub sound_tables_fit : (kind : PackingKind) (goal : Option ℕ) (game : Game) (stored : Stored (List ℕ)) → IsPositionOf game (start_of game)
+    → IsLocallySound (graph_of kind goal game) (IsWideAt kind game) stored
     → ArePositions kind game stored × FitsTogether (packed_length kind game) stored
-sound_tables_fit kind game stored start sound =
-    let right = sound_right (graph_of kind game) (IsWideAt kind game) stored sound in
-    let are : ArePositions kind game stored = λ i x number. reachable_is_position kind game x start (right.moves.reached x (i, number)) in
+sound_tables_fit kind goal game stored start sound =
+    let right = sound_right (graph_of kind goal game) (IsWideAt kind game) stored sound in
+    let are : ArePositions kind game stored = λ i x number. reachable_is_position kind goal game x start (right.moves.reached x (i, number)) in
     (are, record { table = sound.table; long = λ i x number. positions_have_one_length kind game x (are i x number) })
 
 -- the table of a game that was just loaded agrees with itself at each number
-pub a_first_table_is_sound : (kind : PackingKind) (game : Game)
-    → IsLocallySound (graph_of kind game) (IsWideAt kind game) (loaded (graph_of kind game).start)
-a_first_table_is_sound kind game = loaded_sound (graph_of kind game) (IsWideAt kind game)
+pub a_first_table_is_sound : (kind : PackingKind) (goal : Option ℕ) (game : Game)
+    → IsLocallySound (graph_of kind goal game) (IsWideAt kind game) (loaded (graph_of kind goal game).start)
+a_first_table_is_sound kind goal game = loaded_sound (graph_of kind goal game) (IsWideAt kind game)

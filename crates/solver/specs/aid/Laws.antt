@@ -30,7 +30,7 @@ pub a_sound_table_is_held : (Stores : Layout) (picture : Picture) (kept : Option
     → Holds Stores picture kept
 a_sound_table_is_held Stores picture None stores sound = record { stores = stores; of_a_game = tt }
 a_sound_table_is_held Stores picture (Some kept) stores (game, is_read, sound) =
-    let (positions, fits) = sound_tables_fit kept.packing game kept.table (starts_are_positions kept.text game is_read) sound in
+    let (positions, fits) = sound_tables_fit kept.packing None game kept.table (starts_are_positions kept.text game is_read) sound in
     record { stores = stores; of_a_game = (game, record { reads = is_read; positions = positions }) }
 
 -- where a stop left the one table or the other, that is the one that is opened

@@ -1,7 +1,6 @@
 use Rattle.std.proofs.Common.{rules, ap, sym, map, ◌∙◌, arith}
 use Rattle.std.specs.Prelude.{sum_by}
 use Rattle.std.proofs.lemmas.List.{take_all}
-use Rattle.std.proofs.lemmas.List.Sums.{sum_by_more}
 use Rattle.rbg_game.specs.Rules.{count, cat_all, alt_all}
 use Rattle.rbg_game.specs.Meaning.{regex_of}
 use Rattle.rbg_game.specs.declared.rules.Rules.{the_lemmas}

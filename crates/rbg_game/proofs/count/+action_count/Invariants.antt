@@ -1,4 +1,4 @@
-use Rattle.std.proofs.Common.{◌≡◌, take, map}
+use Rattle.std.proofs.Common.{◌≡◌, take}
 use Rattle.std.specs.Prelude.{sum_by}
 use Rattle.rbg_game.specs.Rules.{count}
 use Rattle.rbg_game.specs.Meaning.{regex_of}

@@ -125,7 +125,7 @@ returns-clause-source g c = λ whole.
     let file = c.args.file.now in
     let asked = g.met.F.GameFile.whole_stays c.args.file.now c.are_positions.new.table whole c.are_positions.ensures.stays in
     source_of_text c.in-Ok.source (g.F.GameFile.state c.are_positions.new.table).kept c.in-Some.text.now c.in-Some-packing.kind (asked.1.text ∙ c.in-Some.ensures.some)
-    (asked.1.packing ∙ c.in-Some-packing.ensures.some) c.in-Ok.ensures.reads c.in-Ok.ensures.packing
+    (asked.1.packing ∙ c.in-Some-packing.ensures.some) c.in-Ok.ensures.reads c.in-Ok.ensures.packing c.in-Ok.ensures.goal
 
 pub returns-clause-cause : goal.returns-clause-cause
 returns-clause-cause g c = λ whole. tt

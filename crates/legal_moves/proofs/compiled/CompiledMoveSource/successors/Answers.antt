@@ -7,6 +7,7 @@ use Rattle.position_pack.specs.declared.kind.PackingKind.{PackingKind}
 use Rattle.position_pack.specs.declared.kind.PackingKind.TheVariants.{Bytes}
 use Rattle.position_pack.specs.Shape.{Shape}
 use Rattle.position_pack.specs.Packings.{Form, form_of, IsPacked}
+use Rattle.rbg_game.specs.Goals.{points_of}
 use Rattle.legal_moves.specs.Made.{CompiledGame}
 use Rattle.legal_moves.specs.Compiled.{compiled_game, packing_kind, IsCompiled}
 use Rattle.legal_moves.specs.declared.compiled.Compiled.TheInside.{Inside}
@@ -23,7 +24,7 @@ abbrev form_with : PackingKind → Shape → Form
 form_with kind shape = record { kind = kind; shape = shape }
 
 abbrev seen : Inside → CompiledGame
-seen c = record { game = c.game; kind = c.packing.kind }
+seen c = record { game = c.game; kind = c.packing.kind; goal = points_of c.goal }
 
 -- ---- what the fields are, said of what they stand for
 

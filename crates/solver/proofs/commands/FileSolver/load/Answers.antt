@@ -88,7 +88,7 @@ same-source g c = search rules
 pub returns-clause-ready : goal.returns-clause-ready
 returns-clause-ready g c = λ ready.
     let put = c.in_ok-load.ensures.ok ready.0 c.in_ok-needs_no_game.ensures.none in
-    (c.load.ensures.whole ready.0, source_of_text c.in_ok-source.source _ _ _ put.text put.packing c.in_ok-source.ensures.reads c.in_ok-source.ensures.packing)
+    (c.load.ensures.whole ready.0, source_of_text c.in_ok-source.source _ _ _ put.text put.packing c.in_ok-source.ensures.reads c.in_ok-source.ensures.packing c.in_ok-source.ensures.goal)
 
 pub returns-clause-ahead : goal.returns-clause-ahead
 returns-clause-ahead g c = c.load.ensures.ahead

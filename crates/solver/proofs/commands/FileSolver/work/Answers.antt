@@ -71,7 +71,7 @@ returns-in_ok-commit-clause-ready g c = λ ready.
     let (k, is, made) = kept_there c.in_ok-source.source.now _ source in
     let put = c.in_ok-commit.ensures.ok file k ready.0 is c.in-Ok.ensures.ahead
     (λ honest. let stored = g.met.F.GameFile.whole_stored file k ready.0 honest is in c.in-Ok.ensures.fits stored.0 (rw stored.1 stored.2)) in
-    (put.0, rw c.in_ok-source.ensures.game (source_of_text c.in_ok-source.source.now _ k.text k.packing put.1.text put.1.packing made.reads made.packing))
+    (put.0, rw c.in_ok-source.ensures.game (source_of_text c.in_ok-source.source.now _ k.text k.packing put.1.text put.1.packing made.reads made.packing made.goal))
 
 pub returns-in_ok-commit-clause-done : goal.returns-in_ok-commit-clause-done
 returns-in_ok-commit-clause-done g c = λ ready.
