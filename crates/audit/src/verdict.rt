@@ -1,4 +1,7 @@
 //! What audit answers.
+ghost use Rattle.std.specs.Prelude.{◌≡◌};
+ghost use Rattle.retrograde.specs.Verdicts.{number_of};
+ghost use Rattle.audit.specs.Answers.{reason_of};
 
 /// The condition that fails, by its code.
 #[derive(Clone, Copy, PartialEq, Eq, Debug, Drop)]
@@ -17,6 +20,23 @@ pub enum Reason {
     A6,
     /// What is not expanded is not settled.
     A7,
+}
+
+impl Reason {
+    /// The number in its code, from 1 to 7.
+    pub fn number(self) -> u8
+        ensures { result ≡ number_of (reason_of self) }
+    {
+        match self {
+            Reason::A1 => 1,
+            Reason::A2 => 2,
+            Reason::A3 => 3,
+            Reason::A4 => 4,
+            Reason::A5 => 5,
+            Reason::A6 => 6,
+            Reason::A7 => 7,
+        }
+    }
 }
 
 /// The table is right; or the lowest number that fails, with its lowest reason.

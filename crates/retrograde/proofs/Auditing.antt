@@ -1,5 +1,5 @@
 -- A table has one verdict at most, and an edge that is no move fails where it leads.
-use Rattle.std.proofs.Common.{◌≡◌, ◌∙◌, ◌↔◌, sym, ap, subst, ℕ, ◌<◌, ⊎_elim, true, not, Option, Some, None, List, refl, arith, slice_get}
+use Rattle.std.proofs.Common.{◌≡◌, ◌∙◌, ◌↔◌, sym, ap, subst, ℕ, ◌<◌, ⊎_elim, true, not, Some, List, refl, arith, slice_get}
 use Rattle.std.specs.Prelude.{count_by}
 use Rattle.std.proofs.lemmas.Option.{same_Some}
 use Rattle.std.proofs.lemmas.Bool.{cases_lt}
@@ -10,7 +10,7 @@ use Rattle.retrograde.specs.View.{HasNumber}
 use Rattle.retrograde.specs.Stored.{Stored, processed_in, view_of}
 use Rattle.retrograde.specs.Audit.{AreItsMoves, HasItsMoves, HasItsEdges}
 use Rattle.retrograde.specs.Sound.{IsLocallySoundAt}
-use Rattle.retrograde.specs.Verdicts.{Reason, A1, A2, A3, A4, A5, A6, A7, number_of, condition_of, Verdict, right, wrong, IsWrong, IsVerdict, IsVerdictOf}
+use Rattle.retrograde.specs.Verdicts.{Reason, A1, A2, A3, A4, A5, A6, A7, number_of, condition_of, Verdict, right, wrong, IsWrong, IsVerdict}
 use Rattle.retrograde.proofs.Listing.{AreNumbers, position_in, all_from_contains}
 
 module _ {P : Type 0} (graph : Graph P) (stored : Stored P) where
@@ -64,10 +64,6 @@ module _ {P : Type 0} (graph : Graph P) (stored : Stored P) where
       let number : n ≡ m = one_number n m c d a b in
       let reason : c ≡ d = one_reason n c d a (subst (λ (k : ℕ). IsWrong graph stored k d) (sym number) b) in
       cc
-
-pub one_verdict_of : {P : Type 0} (graph : Graph P) (table : Option (Stored P)) (v w : Verdict) → IsVerdictOf graph table v → IsVerdictOf graph table w → v ≡ w
-one_verdict_of graph None v w a b = a ∙ sym b
-one_verdict_of graph (Some stored) v w a b = one_verdict graph stored v w a b
 
 module _ {P : Type 0} (graph : Graph P) (a b : Stored P) (p : ℕ) (x : P) (positions : b.positions ≡ a.positions) (records : b.records ≡ a.records)
     (edges : (j : ℕ) (y : P) → slice_get a.positions j ≡ Some y → graph.Successor x y → b.has_edge j p ≡ a.has_edge j p) where

@@ -1,5 +1,5 @@
 -- What audit answers: that a table is right, or the lowest number that fails, with its lowest reason.
-use Rattle.std.specs.Prelude.{◌≡◌, ℕ, ◌<◌, Option, Some, None}
+use Rattle.std.specs.Prelude.{◌≡◌, ℕ, ◌<◌}
 use Rattle.retrograde.specs.Graph.{Graph}
 use Rattle.retrograde.specs.View.{HasNumber}
 use Rattle.retrograde.specs.Stored.{Stored, view_of}
@@ -56,8 +56,3 @@ pub record IsWrong {P : Type 0} (graph : Graph P) (stored : Stored P) (n c : ℕ
 abbrev pub IsVerdict : {P : Type 0} → Graph P → Stored P → Verdict → Type 0
 IsVerdict {P} graph stored right = (i : ℕ) (x : P) → HasNumber (view_of stored) i x → IsLocallySoundAt graph stored i x
 IsVerdict graph stored (wrong n c) = IsWrong graph stored n c
-
--- the verdict of a table or of none: where no game is loaded it is right
-abbrev pub IsVerdictOf : {P : Type 0} → Graph P → Option (Stored P) → Verdict → Type 0
-IsVerdictOf graph None verdict = verdict ≡ right
-IsVerdictOf graph (Some stored) verdict = IsVerdict graph stored verdict

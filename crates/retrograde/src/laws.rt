@@ -1,5 +1,5 @@
 //! What holds of every game and every table: each is a law, which proofs cite by a call.
-ghost use Rattle.std.specs.Prelude.{◌≡◌, ◌↔◌, ◌+◌, ◌≤◌, ◌<◌, ℕ, suc, true, List, length, Option, None};
+ghost use Rattle.std.specs.Prelude.{◌≡◌, ◌↔◌, ◌+◌, ◌≤◌, ◌<◌, ℕ, suc, true, List, length, None};
 ghost use Rattle.retrograde.specs.Graph.{Graph, IsReachable};
 ghost use Rattle.rbg_game.specs.declared.roles.Player.{Player};
 ghost use Rattle.retrograde.specs.declared.records.Record.{Record};
@@ -12,7 +12,7 @@ ghost use Rattle.retrograde.specs.Local.{HasLocalValues};
 ghost use Rattle.retrograde.specs.Stored.{Stored, IsTable, view_of, loaded, expanded_count};
 ghost use Rattle.retrograde.specs.Audit.{AreSuccessors, AreItsMoves, HasItsMoves, HasItsEdges};
 ghost use Rattle.retrograde.specs.Sound.{IsLocallySoundAt, IsLocallySound};
-ghost use Rattle.retrograde.specs.Verdicts.{Verdict, right, IsVerdict, IsVerdictOf};
+ghost use Rattle.retrograde.specs.Verdicts.{Verdict, right, IsVerdict};
 ghost use Rattle.retrograde.specs.ByEdges.{IsSoundByEdgesAt};
 ghost use Rattle.retrograde.specs.Play.{IsPlay};
 ghost use Rattle.retrograde.specs.Units.{UnitsOfWork};
@@ -95,8 +95,8 @@ pub fn stray_edges_fail_where_they_lead<M: GameGraph>()
 
 /// A table has one verdict at most.
 pub fn one_verdict<M: GameGraph>()
-    ensures { (game : M) (table : Option (Stored (List ℕ))) (v w : Verdict)
-        → IsVerdictOf (M.graph game) table v → IsVerdictOf (M.graph game) table w → v ≡ w }
+    ensures { (game : M) (stored : Stored (List ℕ)) (v w : Verdict)
+        → IsVerdict (M.graph game) stored v → IsVerdict (M.graph game) stored w → v ≡ w }
 {}
 
 /// A table is locally sound exactly where its parts fit together, its verdict is right, and no expanded position is too wide.
