@@ -1,6 +1,6 @@
 pub mod Making
 pub mod Passing
+pub mod Refusing
 pub mod Spelled
 pub mod Taking
-pub mod Windows
 pub mod Winners

@@ -1,4 +1,4 @@
-//! The entries of four trees are looked at, a range of numbers after another.
+//! The entries of four trees are looked at: the settled order, and then each number.
 ghost use Rattle.std.specs.Prelude.{◌≤◌, ℕ, List, OnOk, IfErr, IsTrue};
 ghost use Rattle.page_store.specs.Store.{StoreWorks, IsUnchanged};
 ghost use Rattle.retrograde.specs.Stored.{Stored};
@@ -10,14 +10,12 @@ ghost use Rattle.tree_check.specs.Causes.{CheckEntriesCause};
 ghost use Rattle.tree_check.specs.Counted.{AreAsMany};
 ghost use Rattle.tree_check.specs.Spelling.{SpellTable};
 
-use crate::window::check_window;
+use crate::number::check_number;
+use crate::places::find_places;
 use page_store::Pages;
 use std::alloc::Global;
 use table::TableFault;
 use tree_table::TreeSlot;
-
-/// How many numbers are looked at in one pass over the settled order: as many places are in memory.
-const WINDOW: u32 = 1048576;
 
 /// Looks whether the four trees that this slot names spell a table whose parts fit together, as many as the slot says. That
 /// there are as many entries, and each edge is between known numbers, has to be known.
@@ -35,11 +33,9 @@ pub fn check_entries<P: Pages>(
     ensures works { StoreWorks (P.store store.old) (P.store store.new) }
     ensures cause { IfErr result (CheckEntriesCause slot.now (P.store store.old) (P.store store.new)) }
 {
-    let known = slot.sizes.counts.known;
-    for window in 0..known.div_ceil(WINDOW) {
-        let from = window * WINDOW;
-        let to = known.min(from + WINDOW);
-        check_window(alloc, store, slot, from, to)?;
+    let placed = find_places(alloc, store, slot)?;
+    for number in 0..slot.sizes.counts.known {
+        check_number(store, slot, number, placed[number as usize])?;
     }
     Ok(())
 }

@@ -1,8 +1,9 @@
 //! Whether a record fits what is known of its number.
 ghost use Rattle.std.specs.Prelude.{◌≡◌, ◌↔◌, true};
 ghost use Rattle.retrograde.specs.Stored.{FitsState, is_settled as settled_in};
-ghost use Rattle.tree_check.specs.aid.Right.{FitsPlace, is_among};
+ghost use Rattle.tree_check.specs.aid.Right.{FitsPlaced, has_place, has_done};
 
+use crate::places::Placed;
 use retrograde::{Counts, Record, State};
 
 /// Whether a position in this state is settled.
@@ -12,6 +13,26 @@ fn is_settled(state: State) -> bool
     match state {
         State::Known | State::Expanded => false,
         State::Settled | State::Processed => true,
+    }
+}
+
+/// Whether a number has a place.
+fn is_placed(placed: Placed) -> bool
+    ensures { result ≡ has_place placed }
+{
+    match placed {
+        Placed::Nowhere => false,
+        Placed::Waiting | Placed::Processed => true,
+    }
+}
+
+/// Whether it has one that is processed.
+fn is_done(placed: Placed) -> bool
+    ensures { result ≡ has_done placed }
+{
+    match placed {
+        Placed::Nowhere | Placed::Waiting => false,
+        Placed::Processed => true,
     }
 }
 
@@ -28,25 +49,14 @@ fn fits_state(kept: Record) -> bool
     }
 }
 
-/// Whether it is one of so many first places.
-fn is_among(count: u32, place: Option<u32>) -> bool
-    ensures { result ≡ is_among count place }
-{
-    match place {
-        Some(place) => place < count,
-        None => false,
-    }
-}
-
-/// Whether the record of a number holds what one of its state may, and its state is that of a number that has this place in
-/// the settled order, or none.
-pub fn fits_place(counts: Counts, number: u32, place: Option<u32>, kept: Record) -> bool
-    ensures { (result ≡ true) ↔ FitsPlace counts number place kept }
+/// Whether the record of a number holds what one of its state may, and its state is that of a number of which the settled order says
+/// this.
+pub fn fits_placed(counts: Counts, number: u32, placed: Placed, kept: Record) -> bool
+    ensures { (result ≡ true) ↔ FitsPlaced counts number placed kept }
 {
     let is_early = number < counts.expanded;
-    let is_first = is_among(counts.processed, place);
     fits_state(kept)
         && kept.state.is_expanded() == is_early
-        && is_settled(kept.state) == place.is_some()
-        && kept.state.is_processed() == is_first
+        && is_settled(kept.state) == is_placed(placed)
+        && kept.state.is_processed() == is_done(placed)
 }

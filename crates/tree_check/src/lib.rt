@@ -5,6 +5,5 @@ mod check;
 mod fits;
 mod number;
 mod places;
-mod window;
 
 pub use check::check_entries;

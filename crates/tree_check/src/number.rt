@@ -4,10 +4,11 @@ ghost use Rattle.page_store.specs.Store.{StoreWorks, IsUnchanged};
 ghost use Rattle.retrograde.specs.declared.records.Record.{Record};
 ghost use Rattle.tree_table.specs.declared.tree.Tree.TheVariants.{Records};
 ghost use Rattle.tree_check.specs.aid.Reading.{TellsOfEntries, PlainCause};
-ghost use Rattle.tree_check.specs.aid.Right.{IsNumberAt, IsCellAt, IsRightAt};
+ghost use Rattle.tree_check.specs.aid.Right.{IsNumberAt, IsCellAt, IsRightPlaced};
 ghost use Rattle.position_pack.specs.declared.limits.TheConstants.{MAX_PACKED};
 
-use crate::fits::fits_place;
+use crate::fits::fits_placed;
+use crate::places::Placed;
 use page_store::Pages;
 use table::TableFault;
 use tree_table::{Cell, Tree, TreeSlot, cell_in, number_in, number_key, value_at};
@@ -57,19 +58,19 @@ fn cell_of<P: Pages>(store: &mut P, slot: &TreeSlot, number: u32) -> Result<Cell
     }
 }
 
-/// Looks whether the number has a position, at which it stands, and a record that fits its place in the settled order.
+/// Looks whether the number has a position, at which it stands, and a record that fits what the settled order says of it.
 pub fn check_number<P: Pages>(
     store: &mut P,
     slot: &TreeSlot,
     number: u32,
-    place: Option<u32>,
+    placed: Placed,
 ) -> Result<(), TableFault>
     requires some { 1 ≤ slot.now.sizes.packed }
     requires short { slot.now.sizes.packed ≤ MAX_PACKED }
-    ensures right { TellsOfEntries slot.now (P.store store.old) (λ entries. OnOk result (IsRightAt slot.now.sizes entries number place)) }
+    ensures right { TellsOfEntries slot.now (P.store store.old) (λ entries. OnOk result (IsRightPlaced slot.now.sizes entries number placed)) }
     ensures unchanged { IsUnchanged (P.store store.old) (P.store store.new) }
     ensures works { StoreWorks (P.store store.old) (P.store store.new) }
-    ensures cause { IfErr result (PlainCause (λ entries. IsRightAt slot.now.sizes entries number place)
+    ensures cause { IfErr result (PlainCause (λ entries. IsRightPlaced slot.now.sizes entries number placed)
         slot.now (P.store store.old) (P.store store.new)) }
 {
     let cell = cell_of(store, slot, number)?;
@@ -77,7 +78,7 @@ pub fn check_number<P: Pages>(
     if back != number {
         return Err(TableFault::Damaged);
     }
-    if fits_place(slot.sizes.counts, number, place, cell.kept) {
+    if fits_placed(slot.sizes.counts, number, placed, cell.kept) {
         Ok(())
     } else {
         Err(TableFault::Damaged)
