@@ -22,77 +22,96 @@ use Rattle.line_answers.specs.Told.{fault_line, IsReplyLine}
 use Rattle.session.specs.declared.commands.FileCommand.{FileCommand}
 use Rattle.session.specs.declared.commands.FileCommand.TheVariants as asked
 
--- an exit status, the line that is printed, and why the command was refused, if it was
-pub record Answer : Type 0 where
-  pub status : ℕ
-  pub line : List ℕ
-  pub refused : Option SolverFault
-
--- the answer of a refusal
-abbrev pub refusal : SolverFault → Answer
-refusal why = record { status = status_of_fault why; line = fault_line why; refused = Some why }
-
--- why a reply refuses, if it does
-abbrev pub refused_in : Reply → Option SolverFault
-refused_in (reply.Refused why) = Some why
-refused_in _ = None
-
--- the answer that tells a reply
-pub record TellsReply (said : Reply) (answer : Answer) : Type 0 where
-  pub status_is : answer.status ≡ status_of_reply said
-  pub line_is : IsReplyLine said answer.line
-  pub refused_is : answer.refused ≡ refused_in said
+-- what came of a command: the empty table was made; it was refused; it has this reply; or the table has this verdict and these counts
+pub data Came : Type 0 where
+  made : Came
+  refused : (why : SolverFault) → Came
+  replied : (said : Reply) → Came
+  audited : (verdict : Verdict) (counts : Counts) → Came
 
 -- the exit status of a verdict
 abbrev pub status_of_verdict : Verdict → ℕ
 status_of_verdict Right = 0
 status_of_verdict (Wrong number reason) = 1
 
+-- the exit status that belongs to it
+abbrev pub status_of_came : Came → ℕ
+status_of_came made = 0
+status_of_came (refused why) = status_of_fault why
+status_of_came (replied said) = status_of_reply said
+status_of_came (audited verdict counts) = status_of_verdict verdict
+
+-- the line that tells it
+abbrev pub IsLineOf : Came → List ℕ → Type 0
+IsLineOf made line = line ≡ codes "created" ++ 10 ∷ []
+IsLineOf (refused why) line = line ≡ fault_line why
+IsLineOf (replied said) line = IsReplyLine said line
+IsLineOf (audited verdict counts) line = IsVerdictLine counts verdict line
+
+-- why the reply refuses, if it does
+abbrev pub refusal_in : Reply → Option SolverFault
+refusal_in (reply.Refused why) = Some why
+refusal_in _ = None
+
+-- why the command was refused, if it was
+abbrev pub refusal_of : Came → Option SolverFault
+refusal_of made = None
+refusal_of (refused why) = Some why
+refusal_of (replied said) = refusal_in said
+refusal_of (audited verdict counts) = None
+
+-- it is told with this status: its line is printed and the status is its own, or the output failed and the status is 4
+pub data IsTold (Prints : List ℕ → Type 0) (came : Came) (status : ℕ) : Type 0 where
+  told : (line : List ℕ) → IsLineOf came line → Prints line → status ≡ status_of_came came → IsTold Prints came status
+  untold : status ≡ 4 → IsTold Prints came status
+
 -- the disk that is given back is that of the table in this state
 pub record GivesBack (state : State) (back : Disk) (now : ℕ) : Type 0 where
   pub disk : back ≡ state.disk
   pub failures : now ≡ state.failures
 
--- the table is audited, and the answer tells its verdict
-pub record TellsVerdict (was : State) (answer : Answer) : Type 0 where
-  pub verdict : Verdict
-  pub counts : Counts
+-- the table was audited, and has this verdict and these counts
+pub record HasCome (was : State) (verdict : Verdict) (counts : Counts) : Type 0 where
   pub counted : was.counts ≡ Some counts
   pub has : Tells (HasVerdict verdict) was
   pub so : verdict ≡ Right → Tells IsSoInGame was
-  pub status_is : answer.status ≡ status_of_verdict verdict
-  pub line_is : IsVerdictLine counts verdict answer.line
-  pub refused_is : answer.refused ≡ None
 
 module _ (Stores : Layout) where
   -- the empty table was made, or none was
-  abbrev pub IsCreateAnswer : Disk → ℕ → Answer → Disk → ℕ → Type 0
-  IsCreateAnswer disk count answer back now =
-      ((state : State) × IsCreated Stores disk count state × GivesBack state back now
-      × (answer ≡ record { status = 0; line = codes "created" ++ 10 ∷ []; refused = None }))
-      ⊎ ((why : SolverFault) × IsNotCreated Stores disk count back now × CreateCause disk count now why × (answer ≡ refusal why))
+  abbrev pub IsCreate : Disk → ℕ → Came → Disk → ℕ → Type 0
+  IsCreate disk count made back now = (state : State) × IsCreated Stores disk count state × GivesBack state back now
+  IsCreate disk count (refused why) back now = IsNotCreated Stores disk count back now × CreateCause disk count now why
+  IsCreate disk count _ back now = ⊥
 
   -- the table could not be opened
-  abbrev pub IsNotOpenedAnswer : Disk → ℕ → Answer → Disk → ℕ → Type 0
-  IsNotOpenedAnswer disk count answer back now =
-      (why : SolverFault) × IsNotOpened disk count back now × OpenCause Stores disk count now why × (answer ≡ refusal why)
+  abbrev pub IsUnopened : Disk → ℕ → SolverFault → Disk → ℕ → Type 0
+  IsUnopened disk count why back now = IsNotOpened disk count back now × OpenCause Stores disk count now why
 
-  -- the game was loaded in one turn, or refused; or there was no memory for the reply, and nothing was done
-  abbrev pub IsLoadAnswer : List ℕ → Disk → ℕ → Answer → Disk → ℕ → Type 0
-  IsLoadAnswer text disk count answer back now =
-      ((was : State) × (is : State) × (said : Reply) × IsOpened Stores disk count was × GivesBack is back now × TellsReply said answer
-      × (IsTurnWithCause Stores (load text) said was is ⊎ ((said ≡ reply.Refused fault.OutOfMemory) × (is ≡ was))))
-      ⊎ IsNotOpenedAnswer disk count answer back now
+  -- the table was opened, and the game loaded in one turn or refused; or there was no memory for the reply, and nothing was done
+  abbrev pub IsLoad : List ℕ → Disk → ℕ → Came → Disk → ℕ → Type 0
+  IsLoad text disk count (replied said) back now =
+      (was : State) × (is : State) × IsOpened Stores disk count was × GivesBack is back now
+      × (IsTurnWithCause Stores (load text) said was is ⊎ ((said ≡ reply.Refused fault.OutOfMemory) × (is ≡ was)))
+  IsLoad text disk count (refused why) back now = IsUnopened disk count why back now
+  IsLoad text disk count _ back now = ⊥
 
-  -- the table was audited, or could not be
-  abbrev pub IsAuditAnswer : Disk → ℕ → Answer → Disk → ℕ → Type 0
-  IsAuditAnswer disk count answer back now =
-      ((was : State) × (is : State) × IsOpened Stores disk count was × IsAsked Stores was is × GivesBack is back now
-      × (TellsVerdict was answer ⊎ ((why : SolverFault) × AuditCause was is why × (answer ≡ refusal why))))
-      ⊎ IsNotOpenedAnswer disk count answer back now
+  -- the table was opened and audited, which changes nothing, or either was refused
+  abbrev pub IsAudit : Disk → ℕ → Came → Disk → ℕ → Type 0
+  IsAudit disk count (audited verdict counts) back now =
+      (was : State) × (is : State) × IsOpened Stores disk count was × IsAsked Stores was is × GivesBack is back now × HasCome was verdict counts
+  IsAudit disk count (refused why) back now =
+      ((was : State) × (is : State) × IsOpened Stores disk count was × IsAsked Stores was is × GivesBack is back now × AuditCause was is why)
+      ⊎ IsUnopened disk count why back now
+  IsAudit disk count _ back now = ⊥
 
-  -- what is done for a command on the table of a disk, what belongs to it, and the disk as it is given back
-  abbrev pub IsDoneOnFile : FileCommand → Disk → ℕ → Answer → Disk → ℕ → Type 0
-  IsDoneOnFile asked.Create = IsCreateAnswer
-  IsDoneOnFile (asked.Load text) = IsLoadAnswer text.items
-  IsDoneOnFile asked.Audit = IsAuditAnswer
+  -- what is done for a command on the table of a disk, what comes of it, and the disk as it is given back
+  abbrev pub IsDoneOnFile : FileCommand → Disk → ℕ → Came → Disk → ℕ → Type 0
+  IsDoneOnFile asked.Create = IsCreate
+  IsDoneOnFile (asked.Load text) = IsLoad text.items
+  IsDoneOnFile asked.Audit = IsAudit
+
+-- what comes of an audit of an open table
+abbrev pub IsAudited : State → State → Came → Type 0
+IsAudited was is (audited verdict counts) = HasCome was verdict counts
+IsAudited was is (refused why) = AuditCause was is why
+IsAudited was is _ = ⊥

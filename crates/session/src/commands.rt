@@ -1,14 +1,13 @@
 //! The commands on a table's file that are one command each.
-ghost use Rattle.std.specs.Prelude.{◌≡◌, ◌⊎◌, List, ℕ, Some, None};
+ghost use Rattle.std.specs.Prelude.{◌≡◌, List, ℕ, false, Some, None, OnOk};
 ghost use Rattle.std.specs.Io.KnownBytes.{Appends};
 ghost use Rattle.game_file.specs.Calls.{IsAsked};
 ghost use Rattle.recover.specs.Held.{StoresTrees};
-ghost use Rattle.line_answers.specs.Answered.{status_of_fault, status_of_reply};
-ghost use Rattle.line_answers.specs.Told.{fault_line, IsReplyLine};
-ghost use Rattle.session.specs.Commands.{Answer, IsDoneOnFile, TellsVerdict, refusal, refused_in};
-ghost use Rattle.solver.specs.Audits.{AuditCause};
+ghost use Rattle.line_answers.specs.Answered.{status_of_reply};
+ghost use Rattle.printed_lines.specs.Verdicts.{IsVerdictLine};
+ghost use Rattle.session.specs.Commands.{Came, made, refused as refused_for, replied, audited as audited_as, IsDoneOnFile};
+ghost use Rattle.session.specs.Commands.{IsAudited, IsTold, IsLineOf, refusal_in, refusal_of, status_of_verdict};
 ghost use Rattle.solver.specs.Solvers.{state, IsReady};
-ghost use Rattle.solver.specs.declared.fault.SolverFault.{SolverFault as Fault};
 
 use audit::Verdict;
 use game_file::GameFile;
@@ -16,10 +15,11 @@ pub use line_answers::puts::{put_line, put_refused, put_reply, status_of};
 use line_answers::turns::reply_to;
 use printed_lines::verdicts::put_verdict;
 use recover::TableFile;
+use retrograde::Counts;
 use sector_disk::SectorDisk;
 use solver::{Command, FileSolver, Reply, SolverFault};
 use std::alloc::Global;
-use std::io::Write;
+use std::io::{self, Write};
 
 /// What is done to a file.
 #[derive(Drop)]
@@ -49,9 +49,9 @@ pub fn command_on<D: SectorDisk, W: Write>(
     command: FileCommand,
     out: &mut W,
 ) -> (Outcome, D)
-    ensures { (answer : Answer) × IsDoneOnFile StoresTrees command (D.disk disk) (D.failures disk) answer (D.disk result.1)
-        (D.failures result.1) × (result.0.refused ≡ answer.refused)
-        × (((result.0.status ≡ answer.status) × Appends (W.contents out.old) (W.contents out.new) answer.line) ⊎ (result.0.status ≡ 4)) }
+    ensures { (came : Came) × IsDoneOnFile StoresTrees command (D.disk disk) (D.failures disk) came (D.disk result.1)
+        (D.failures result.1) × (result.0.refused ≡ refusal_of came)
+        × IsTold (Appends (W.contents out.old) (W.contents out.new)) came result.0.status }
 {
     command_in::<TableFile<D>, W>(alloc, disk, command, out)
 }
@@ -63,9 +63,9 @@ fn command_in<F: GameFile, W: Write>(
     command: FileCommand,
     out: &mut W,
 ) -> (Outcome, F::Device)
-    ensures { (answer : Answer) × IsDoneOnFile F.stores command (F.Device.disk disk) (F.Device.failures disk) answer (F.Device.disk result.1)
-        (F.Device.failures result.1) × (result.0.refused ≡ answer.refused)
-        × (((result.0.status ≡ answer.status) × Appends (W.contents out.old) (W.contents out.new) answer.line) ⊎ (result.0.status ≡ 4)) }
+    ensures { (came : Came) × IsDoneOnFile F.stores command (F.Device.disk disk) (F.Device.failures disk) came (F.Device.disk result.1)
+        (F.Device.failures result.1) × (result.0.refused ≡ refusal_of came)
+        × IsTold (Appends (W.contents out.old) (W.contents out.new)) came result.0.status }
 {
     match command {
         FileCommand::Create => match FileSolver::<F>::create(alloc, disk) {
@@ -88,25 +88,47 @@ fn command_in<F: GameFile, W: Write>(
 
 /// Says whether the table is right: the status is 1 where it is not.
 fn audited<F: GameFile, W: Write>(solver: &mut FileSolver<F>, out: &mut W) -> Outcome
-    requires { IsReady solver.old }
+    requires ready { IsReady solver.old }
+    requires open { (state solver.old).closed ≡ false }
     ensures asked { IsAsked F.stores (state solver.old) (state solver.new) }
-    ensures answer { (answer : Answer) × (result.refused ≡ answer.refused)
-        × (TellsVerdict (state solver.old) answer
-        ⊎ ((why : Fault) × AuditCause (state solver.old) (state solver.new) why × (answer ≡ refusal why)))
-        × (((result.status ≡ answer.status) × Appends (W.contents out.old) (W.contents out.new) answer.line) ⊎ (result.status ≡ 4)) }
+    ensures came { (came : Came) × IsAudited (state solver.old) (state solver.new) came × (result.refused ≡ refusal_of came)
+        × IsTold (Appends (W.contents out.old) (W.contents out.new)) came result.status }
 {
     let Some(counts) = solver.status() else {
         return said_refused(out, SolverFault::NoGame);
     };
-    let verdict = match solver.audit() {
-        Ok(verdict) => verdict,
-        Err(fault) => return said_refused(out, fault),
-    };
-    let said = put_verdict(out, verdict, counts).and_then(|()| out.flush());
-    let status = match (said, verdict) {
-        (Err(_), _) => 4,
-        (Ok(()), Verdict::Right) => 0,
-        (Ok(()), Verdict::Wrong(_, _)) => 1,
+    match solver.audit() {
+        Ok(verdict) => said_verdict(out, verdict, counts),
+        Err(fault) => said_refused(out, fault),
+    }
+}
+
+/// Writes the line of a verdict at once.
+fn put_audited<W: Write>(out: &mut W, verdict: Verdict, counts: Counts) -> io::Result<()>
+    ensures { OnOk result ((line : List ℕ) × IsVerdictLine counts verdict line × Appends (W.contents out.old) (W.contents out.new) line) }
+{
+    put_verdict(out, verdict, counts)?;
+    out.flush()
+}
+
+/// The exit status of a verdict.
+fn status_of_verdict(verdict: Verdict) -> u8
+    ensures { result ≡ status_of_verdict verdict }
+{
+    match verdict {
+        Verdict::Right => 0,
+        Verdict::Wrong(_, _) => 1,
+    }
+}
+
+/// Writes the line of a verdict.
+fn said_verdict<W: Write>(out: &mut W, verdict: Verdict, counts: Counts) -> Outcome
+    ensures refused { result.refused ≡ None }
+    ensures told { IsTold (Appends (W.contents out.old) (W.contents out.new)) (audited_as verdict counts) result.status }
+{
+    let status = match put_audited(out, verdict, counts) {
+        Ok(()) => status_of_verdict(verdict),
+        Err(_) => 4,
     };
     Outcome {
         status,
@@ -117,7 +139,7 @@ fn audited<F: GameFile, W: Write>(solver: &mut FileSolver<F>, out: &mut W) -> Ou
 /// Writes a line of a command that was done.
 fn said<W: Write>(out: &mut W, line: &[u8]) -> Outcome
     ensures refused { result.refused ≡ None }
-    ensures line { ((result.status ≡ 0) × Appends (W.contents out.old) (W.contents out.new) line.now) ⊎ (result.status ≡ 4) }
+    ensures told { IsLineOf made line.now → IsTold (Appends (W.contents out.old) (W.contents out.new)) made result.status }
 {
     let status = match put_line(out, line) {
         Ok(()) => 0,
@@ -131,28 +153,43 @@ fn said<W: Write>(out: &mut W, line: &[u8]) -> Outcome
 
 /// Writes the line of a reply.
 fn said_reply<W: Write>(out: &mut W, reply: Reply) -> Outcome
-    ensures refused { result.refused ≡ refused_in reply }
-    ensures line { (line : List ℕ) × IsReplyLine reply line
-        × (((result.status ≡ status_of_reply reply) × Appends (W.contents out.old) (W.contents out.new) line) ⊎ (result.status ≡ 4)) }
+    ensures refused { result.refused ≡ refusal_in reply }
+    ensures told { IsTold (Appends (W.contents out.old) (W.contents out.new)) (replied reply) result.status }
 {
-    if let Reply::Refused(fault) = reply {
-        return said_refused(out, fault);
-    }
     let status = match put_reply(out, reply) {
-        Ok(()) => 0,
+        Ok(()) => status_of_reply(reply),
         Err(_) => 4,
     };
     Outcome {
         status,
-        refused: None,
+        refused: refusal_in(reply),
+    }
+}
+
+/// Why a reply refuses, if it does.
+fn refusal_in(reply: Reply) -> Option<SolverFault>
+    ensures { result ≡ refusal_in reply }
+{
+    match reply {
+        Reply::Refused(fault) => Some(fault),
+        Reply::Loaded | Reply::Worked(_, _) => None,
+    }
+}
+
+/// The exit status of a reply.
+fn status_of_reply(reply: Reply) -> u8
+    ensures { result ≡ status_of_reply reply }
+{
+    match reply {
+        Reply::Refused(fault) => status_of(fault),
+        Reply::Loaded | Reply::Worked(_, _) => 0,
     }
 }
 
 /// Writes the line of a refusal.
 pub fn said_refused<W: Write>(out: &mut W, fault: SolverFault) -> Outcome
     ensures refused { result.refused ≡ Some fault }
-    ensures line { ((result.status ≡ status_of_fault fault) × Appends (W.contents out.old) (W.contents out.new) (fault_line fault))
-        ⊎ (result.status ≡ 4) }
+    ensures told { IsTold (Appends (W.contents out.old) (W.contents out.new)) (refused_for fault) result.status }
 {
     let status = match put_refused(out, fault) {
         Ok(()) => status_of(fault),

@@ -1,0 +1,66 @@
+use Rattle.std.proofs.Common.{inl, inr, ap, refl}
+use Rattle.solver.specs.Solvers.{state}
+use Rattle.session.specs.Commands.{made, refused, replied}
+use Rattle.session.proofs.Auditing.{audit_done}
+use Rattle.session.proofs.commands.command_in.Goals as goal
+
+pub audited-requires-clause-open : goal.audited-requires-clause-open
+audited-requires-clause-open g c = c.in-Ok-open-2.ensures.opened.is_open
+
+pub returns-in-Ok : goal.returns-in-Ok
+returns-in-Ok g c = (
+  made,
+  rw c.in-Create.is (state c.in-Ok.solver, c.in-Ok.ensures.created, record { disk = c.close.ensures.disk; failures = c.close.ensures.failures }),
+  c.said.ensures.refused,
+  c.said.ensures.told refl,
+)
+
+pub returns-in-Err : goal.returns-in-Err
+returns-in-Err g c = (
+  refused c.in-Err.refused.fault,
+  rw c.in-Create.is (c.in-Err.ensures.refused, c.in-Err.ensures.cause),
+  c.said_refused.ensures.refused,
+  c.said_refused.ensures.told,
+)
+
+pub returns-in-Ok-open : goal.returns-in-Ok-open
+returns-in-Ok-open g c =
+    let turn = elim (c.reply_to-reply.ensures.turn c.in-Ok-open.ensures.ready) [ | inl turn ↦ inl turn | inr none ↦ inr (none.0, ap state none.1) ] in (
+      replied c.reply_to-reply.result,
+      rw c.in-Load.is (
+        state c.in-Ok-open.solver,
+        state c.reply_to-reply.new.solver,
+        c.in-Ok-open.ensures.opened,
+        record { disk = c.close-in-Ok-open.ensures.disk; failures = c.close-in-Ok-open.ensures.failures },
+        turn,
+      ),
+      c.said_reply.ensures.refused,
+      c.said_reply.ensures.told,
+    )
+
+pub returns-in-Err-open : goal.returns-in-Err-open
+returns-in-Err-open g c = (
+  refused c.in-Err-open.refused.fault,
+  rw c.in-Load.is (c.in-Err-open.ensures.refused, c.in-Err-open.ensures.cause),
+  c.said_refused-in-Err-open.ensures.refused,
+  c.said_refused-in-Err-open.ensures.told,
+)
+
+pub returns-in-Ok-open-2 : goal.returns-in-Ok-open-2
+returns-in-Ok-open-2 g c =
+    let (came, it, why, told) = c.audited.ensures.came in (
+      came,
+      rw c.in-Audit.is
+      (audit_done _ _ _ _ _ _ _ c.in-Ok-open-2.ensures.opened c.audited.ensures.asked
+      (record { disk = c.close-in-Ok-open-2.ensures.disk; failures = c.close-in-Ok-open-2.ensures.failures }) came it),
+      why,
+      told,
+    )
+
+pub returns-in-Err-open-2 : goal.returns-in-Err-open-2
+returns-in-Err-open-2 g c = (
+  refused c.in-Err-open-2.refused.fault,
+  rw c.in-Audit.is (inr (c.in-Err-open-2.ensures.refused, c.in-Err-open-2.ensures.cause)),
+  c.said_refused-in-Err-open-2.ensures.refused,
+  c.said_refused-in-Err-open-2.ensures.told,
+)
