@@ -1,8 +1,10 @@
 //! Chains of pages.
-ghost use Rattle.std.specs.Prelude.{length, IfErr, IfOk, IsTrue};
+ghost use Rattle.std.specs.Prelude.{◌+◌, ◌*◌, ◌<◌, length, IfErr, IfOk, IsTrue, OnOk};
+ghost use Rattle.page_store.specs.Marks.{free_count};
 ghost use Rattle.page_store.specs.Store.{reads};
 ghost use Rattle.page_chain.specs.Causes.{ChainWriteCause};
 ghost use Rattle.page_chain.specs.Chain.{IsChain};
+ghost use Rattle.page_chain.specs.declared.page.TheConstants.{PAYLOAD};
 
 use page_chain::Chain;
 use page_store::{PageFault, Pages};
@@ -30,4 +32,16 @@ pub fn write_chain<P: Pages>(
     ensures { IfErr result (ChainWriteCause (length content.now) (P.store store.old) (P.store store.new)) }
 {
     page_chain::write_chain(alloc, store, content)
+}
+
+/// `few` of `write_chain`.
+pub fn chain_written<P: Pages>(
+    alloc: Global,
+    store: &mut P,
+    bytes: &[u8],
+) -> Result<Vec<u32>, PageFault>
+    ensures { OnOk result
+        (PAYLOAD * free_count (P.store store.old).marks < PAYLOAD * free_count (P.store store.new).marks + length bytes.now + PAYLOAD) }
+{
+    page_chain::write_chain(alloc, store, bytes)
 }

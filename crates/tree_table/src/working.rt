@@ -102,6 +102,7 @@ impl<P: Pages> Table for TreeTable<P> {
     }
 
     fn add(&mut self, packed: &Packed) -> Result<u32, TableFault> {
+        // keys have one length; no game has a position of another
         if packed.len() != self.slot.sizes.packed as usize {
             return Err(TableFault::OutOfMemory);
         }
