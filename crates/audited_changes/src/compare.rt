@@ -86,7 +86,7 @@ fn are_alike_after(
 
 /// Whether each change of the finished table of this game, and of the table worked half as far, is judged alike.
 pub fn compare(rt: &HostRuntime, alloc: Global, text: &[u8], step: usize) -> anyhow::Result<bool> {
-    let source = Source::read(alloc, text, PackingKind::Bits)?;
+    let source = Source::read(alloc, text, PackingKind::Bits, None)?;
     let (whole, known) = are_alike_after(rt, text, &source, ALL_UNITS, step)?;
     Ok(whole && are_alike_after(rt, text, &source, known / 2, step)?.0)
 }

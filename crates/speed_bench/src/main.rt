@@ -49,7 +49,7 @@ fn run(rt: &HostRuntime) -> io::Result<()> {
 fn solve(rt: &HostRuntime, alloc: Global, game: Game, limit: u32) -> io::Result<()>
     requires { IsSoundGame (game_of game) }
 {
-    let compiled = Compiled::new(alloc, game, PackingKind::Bytes)?;
+    let compiled = Compiled::new(alloc, game, PackingKind::Bytes, None)?;
     match worked(alloc, &compiled, limit) {
         Ok((units, counts)) => tell(rt, units, counts),
         Err(fault) => eprintln!(rt; "{fault}"),

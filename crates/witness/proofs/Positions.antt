@@ -1,5 +1,5 @@
 -- The positions that play can come to, by their bytes.
-use Rattle.std.proofs.Common.{◌≡◌, ℕ, ◌⊎◌, inl, inr, Some, List, [], ◌∷◌, Contains, refl, sym, ap, ◌∙◌, subst, arith}
+use Rattle.std.proofs.Common.{◌≡◌, ℕ, ◌⊎◌, inl, inr, None, Some, List, [], ◌∷◌, Contains, refl, sym, ap, ◌∙◌, subst, arith}
 use Rattle.rbg_game.specs.Sound.{IsSoundGame}
 use Rattle.rbg_game.specs.Positions.{IsPositionOf}
 use Rattle.rbg_game.specs.declared.position.Position.{Position}
@@ -42,7 +42,7 @@ white_is_one = position_of witness_game white_chooses white_has_won sound choose
 
 -- the graph of the game, and the bytes of a position, by either packing
 abbrev pub graph : PackingKind → Graph (List ℕ)
-graph kind = graph_of kind witness_game
+graph kind = graph_of kind None witness_game
 
 abbrev pub packed : PackingKind → Position → List ℕ
 packed kind at = packed_by kind (shape_of witness_game) at
@@ -100,7 +100,7 @@ module _ (kind : PackingKind) where
   white_has_the_turn = role_at white_chooses chooses_is_one
 
   pub white_leads : (graph kind).ahead (packed kind white_has_won) ≡ Some First
-  white_leads = (leader_is kind witness_game sound (packed kind white_has_won) white_has_won (here white_has_won white_is_one) First).1 (omega arith)
+  white_leads = (leader_is kind None witness_game sound (packed kind white_has_won) white_has_won (here white_has_won white_is_one) First).1 (omega arith)
 
   -- ---- all that play can come to
 

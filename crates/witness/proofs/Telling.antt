@@ -177,7 +177,7 @@ module _ (Stores : Layout) where
 
   sound_for_it : (kept : Kept) → kept.text ≡ witness_text → IsSound (Some kept) → IsLocallySound (graph kept.packing) (IsWideAt kept.packing witness_game) kept.table
   sound_for_it kept text (game, is_read, sound) =
-      subst (λ (g : Game). IsLocallySound (graph_of kept.packing g) (IsWideAt kept.packing g) kept.table) (one_game kept.text game witness_game is_read (its_own kept text)) sound
+      subst (λ (g : Game). IsLocallySound (graph_of kept.packing None g) (IsWideAt kept.packing g) kept.table) (one_game kept.text game witness_game is_read (its_own kept text)) sound
 
   pub work_done : (units : ℕ) (old new : State) (done : ℕ) (counts : Counts) → units ≡ 256 → HasSuchTable IsIt old → GoesAhead old new
       → IsDone Stores (work units) (Worked done counts) old new → IsSound new.kept → HasSuchTable IsItFinished new

@@ -1,5 +1,5 @@
 //! What is so of the small game: each function's contract is one.
-ghost use Rattle.std.specs.Prelude.{◌≡◌, ◌⊎◌, ◌↔◌, ℕ};
+ghost use Rattle.std.specs.Prelude.{◌≡◌, ◌⊎◌, ◌↔◌, ℕ, None};
 ghost use Rattle.legal_moves.specs.Moves.{IsSuccessor, start_of};
 ghost use Rattle.legal_moves.specs.Sources.{graph_of};
 ghost use Rattle.position_pack.specs.declared.kind.PackingKind.{PackingKind};
@@ -24,12 +24,12 @@ pub fn white_has_a_choice()
 
 /// White wins the start in two moves, and in no fewer, however positions are packed.
 pub fn white_wins_the_start_in_two()
-    ensures { (kind : PackingKind) → WonIn (graph_of kind witness_game) First 2 (graph_of kind witness_game).start }
+    ensures { (kind : PackingKind) → WonIn (graph_of kind None witness_game) First 2 (graph_of kind None witness_game).start }
 {}
 
 /// Nobody wins the start in another number of moves, nor is it drawn.
 pub fn nothing_else_is_so()
-    ensures won { (kind : PackingKind) (w : Player) (n : ℕ) → WonIn (graph_of kind witness_game) w n (graph_of kind witness_game).start
+    ensures won { (kind : PackingKind) (w : Player) (n : ℕ) → WonIn (graph_of kind None witness_game) w n (graph_of kind None witness_game).start
         → (w ≡ First) × (n ≡ 2) }
-    ensures drawn { (kind : PackingKind) → ¬ Drawn (graph_of kind witness_game) (graph_of kind witness_game).start }
+    ensures drawn { (kind : PackingKind) → ¬ Drawn (graph_of kind None witness_game) (graph_of kind None witness_game).start }
 {}
