@@ -156,14 +156,12 @@ fn said_reply<W: Write>(out: &mut W, reply: Reply) -> Outcome
     ensures refused { result.refused ≡ refusal_in reply }
     ensures told { IsTold (Appends (W.contents out.old) (W.contents out.new)) (replied reply) result.status }
 {
+    let refused = refusal_in(reply);
     let status = match put_reply(out, reply) {
         Ok(()) => status_of_reply(reply),
         Err(_) => 4,
     };
-    Outcome {
-        status,
-        refused: refusal_in(reply),
-    }
+    Outcome { status, refused }
 }
 
 /// Why a reply refuses, if it does.

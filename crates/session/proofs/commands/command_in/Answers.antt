@@ -1,7 +1,7 @@
-use Rattle.std.proofs.Common.{inl, inr, ap, refl}
+use Rattle.std.proofs.Common.{inr, refl}
 use Rattle.solver.specs.Solvers.{state}
 use Rattle.session.specs.Commands.{made, refused, replied}
-use Rattle.session.proofs.Auditing.{audit_done}
+use Rattle.session.proofs.Auditing.{audit_done, or_same}
 use Rattle.session.proofs.commands.command_in.Goals as goal
 
 pub audited-requires-clause-open : goal.audited-requires-clause-open
@@ -24,19 +24,18 @@ returns-in-Err g c = (
 )
 
 pub returns-in-Ok-open : goal.returns-in-Ok-open
-returns-in-Ok-open g c =
-    let turn = elim (c.reply_to-reply.ensures.turn c.in-Ok-open.ensures.ready) [ | inl turn ↦ inl turn | inr none ↦ inr (none.0, ap state none.1) ] in (
-      replied c.reply_to-reply.result,
-      rw c.in-Load.is (
-        state c.in-Ok-open.solver,
-        state c.reply_to-reply.new.solver,
-        c.in-Ok-open.ensures.opened,
-        record { disk = c.close-in-Ok-open.ensures.disk; failures = c.close-in-Ok-open.ensures.failures },
-        turn,
-      ),
-      c.said_reply.ensures.refused,
-      c.said_reply.ensures.told,
-    )
+returns-in-Ok-open g c = (
+  replied c.reply_to-reply.result,
+  rw c.in-Load.is (
+    state c.in-Ok-open.solver,
+    state c.reply_to-reply.new.solver,
+    c.in-Ok-open.ensures.opened,
+    record { disk = c.close-in-Ok-open.ensures.disk; failures = c.close-in-Ok-open.ensures.failures },
+    or_same state c.in-Ok-open.solver c.reply_to-reply.new.solver (c.reply_to-reply.ensures.turn c.in-Ok-open.ensures.ready),
+  ),
+  c.said_reply.ensures.refused,
+  c.said_reply.ensures.told,
+)
 
 pub returns-in-Err-open : goal.returns-in-Err-open
 returns-in-Err-open g c = (
