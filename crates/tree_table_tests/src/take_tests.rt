@@ -122,7 +122,7 @@ fn expect_units<T: Table>(alloc: Global, source: &Source, table: &mut T) -> Resu
 
 #[test]
 fn takes_on_trees_are_takes_in_memory(rt: HostRuntime) -> Result<(), Fail> {
-    let source = Source::read(rt.alloc(), TAKE.as_bytes(), PackingKind::Bytes)?;
+    let source = Source::read(rt.alloc(), TAKE.as_bytes(), PackingKind::Bytes, None)?;
     let mut table = on_trees(rt.alloc(), &source)?;
     expect_units(rt.alloc(), &source, &mut table)
 }
