@@ -1,8 +1,9 @@
 //! Where moves lead, and who is ahead.
 ghost use Rattle.std.specs.Prelude.{◌≡◌, ◌<◌, Some, Err, IfOk, IfSome, IsOk, length, map, option_map, slice_get};
 ghost use Rattle.rbg_game.specs.Positions.{IsPositionOf};
-ghost use Rattle.legal_moves.specs.Compiled.{compiled_game};
+ghost use Rattle.legal_moves.specs.Compiled.{compiled_game, packing_kind, IsSoundCompiled};
 ghost use Rattle.legal_moves.specs.Listed.{IsShortestMove, ListsExactly, ShownMove};
+ghost use Rattle.legal_moves.specs.Sources.{graph_of};
 
 use legal_moves::{Compiled, Modifier, MoveFault, MoveSource, Moves};
 use position_pack::Packed;
@@ -29,6 +30,19 @@ pub fn successors<S: MoveSource>(
     ensures { IfOk result (λ found. ListsExactly ((S.graph source.now).Successor at.now.items) (map (λ p. p.items) found.items)) }
 {
     source.successors(alloc, at)
+}
+
+/// `exact` of `MoveSource::successors`, of a game that is compiled.
+pub fn compiled_successors(
+    compiled: &Compiled,
+    alloc: Global,
+    at: &Packed,
+) -> Result<Vec<Packed>, MoveFault>
+    requires { IsSoundCompiled compiled.now }
+    ensures { IfOk result (λ found. ListsExactly
+        ((graph_of (packing_kind compiled.now) (compiled_game compiled.now)).Successor at.now.items) (map (λ p. p.items) found.items)) }
+{
+    compiled.successors(alloc, at)
 }
 
 /// `wide` of `MoveSource::successors`.

@@ -1,10 +1,12 @@
 //! What changes a table.
-ghost use Rattle.std.specs.Prelude.{IfOk, IfErr, OnOk};
+ghost use Rattle.std.specs.Prelude.{◌≡◌, ◌∷◌, [], ◌++◌, ℕ, false, IfOk, IfErr, IsTrue, OnOk};
+ghost use Rattle.retrograde.specs.declared.records.Counts.{Counts};
 ghost use Rattle.solver.specs.Machine.{work as work_on, LoadCause, WorkCause};
 ghost use Rattle.solver.specs.Runs.{IsRun};
 ghost use Rattle.solver.specs.Solvers.{state, IsReady};
 ghost use Rattle.solver.specs.Steps.{IsDone};
 ghost use Rattle.solver.specs.Units.{units_in};
+ghost use Rattle.solver_clauses.specs.Between.{LeavesTheFirst};
 
 use game_file::GameFile;
 use solver::{Command, FileSolver, Reply, SolverFault, Units, Worked};
@@ -44,4 +46,45 @@ pub fn run<F: GameFile>(
         (state solver.new)) }
 {
     solver.run(commands, replies)
+}
+
+/// `run` of `FileSolver::run`, of two commands to work that are both done, and of that what a stop leaves between them.
+pub fn run_two<F: GameFile>(
+    solver: &mut FileSolver<F>,
+    first: Units,
+    second: Units,
+    replies: &mut Vec<Reply>,
+) -> Result<(), SolverFault>
+    ensures { (d e : ℕ) (c f : Counts) → IsReady solver.old → IsTrue (state solver.old).disk.honest → (state solver.old).closed ≡ false
+        → replies.new.items ≡ replies.old.items ++ Reply.Worked d c ∷ Reply.Worked e f ∷ []
+        → OnOk result (LeavesTheFirst F.stores (units_in first) (state solver.old) (state solver.new)) }
+{
+    two_commands(solver, first, second, replies)
+}
+
+/// `done` of `FileSolver::work`, and of that what a stop leaves behind it.
+pub fn work_alone<F: GameFile>(
+    solver: &mut FileSolver<F>,
+    units: Units,
+) -> Result<Worked, SolverFault>
+    ensures { IsReady solver.old → IsTrue (state solver.old).disk.honest
+        → OnOk result (LeavesTheFirst F.stores (units_in units) (state solver.old) (state solver.new)) }
+{
+    let done = solver.work(units)?;
+    Ok(done)
+}
+
+/// Two commands to work in one list.
+fn two_commands<F: GameFile>(
+    solver: &mut FileSolver<F>,
+    first: Units,
+    second: Units,
+    replies: &mut Vec<Reply>,
+) -> Result<(), SolverFault>
+    ensures { (d e : ℕ) (c f : Counts) → IsReady solver.old → IsTrue (state solver.old).disk.honest → (state solver.old).closed ≡ false
+        → replies.new.items ≡ replies.old.items ++ Reply.Worked d c ∷ Reply.Worked e f ∷ []
+        → OnOk result (LeavesTheFirst F.stores (units_in first) (state solver.old) (state solver.new)) }
+{
+    solver.run(&[Command::Work(first), Command::Work(second)], replies)?;
+    Ok(())
 }

@@ -44,6 +44,7 @@ pub fn refused_expansion<M: MoveSource, T: Table>(
 }
 
 /// `done` of `settle_one`.
+#[tactic(auto, using(crate::proofs::Written::written_back))]
 pub fn process<M: MoveSource, T: Table>(source: &M, table: &mut T) -> Result<u32, StepFault>
     requires source { M.is_sound source.now }
     requires expanded { (T.counted table.old).expanded ≡ (T.counted table.old).known }
