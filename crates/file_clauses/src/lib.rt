@@ -7,3 +7,4 @@
 pub mod files;
 pub mod records;
 pub mod tables;
+pub mod versions;
