@@ -5,8 +5,8 @@ ghost use Rattle.retrograde.specs.Stored.{Stored};
 ghost use Rattle.solver.specs.Listings.{BeginCause};
 ghost use Rattle.solver.specs.Solvers.{state, IsReady};
 
-use crate::needs::needs_game;
 use crate::listing::Listing;
+use crate::needs::needs_game;
 use crate::{FileSolver, SolverFault};
 use game_file::Versions;
 

@@ -27,7 +27,10 @@ pub fn needs_game<F: GameFile>(file: &F) -> Result<(), SolverFault>
 }
 
 /// The game of an open file in which one is loaded, where `source` is the game in memory: E9, S1.
-pub fn game_in<'a, F: GameFile>(file: &F, source: &'a Option<Source>) -> Result<&'a Source, SolverFault>
+pub fn game_in<'a, F: GameFile>(
+    file: &F,
+    source: &'a Option<Source>,
+) -> Result<&'a Source, SolverFault>
     ensures open { OnOk result ((F.state file.now).closed ≡ false) }
     ensures some { OnOk result (IsSome (F.state file.now).kept) }
     ensures game { IfOk result (λ game. source.now ≡ Some game.now) }

@@ -46,7 +46,7 @@ returns-in_err-at-clause-stops g c = λ honest table value.
       numbers = c.loop-step.numbers.items;
       begins = c.loop-step.invariant.begins;
       line = subst (λ (l : ℕ). IsLineTo graph view c.args.winner c.args.distance c.loop-step.numbers.items c.loop-step.at l) one
-      (c.loop-step.invariant.line honest table value);
+          (c.loop-step.invariant.line honest table value);
     } in
     passed_on _ c.from_residual-in_err-at.result _ c.from_residual-in_err-at.ensures
     (step_stops graph (g.M.GameGraph.is_wide c.args.source.now) view c.args.winner c.args.number c.loop-step.at left comes c.in_err-at.field-0.0

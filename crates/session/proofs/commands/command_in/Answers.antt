@@ -50,8 +50,8 @@ returns-in-Ok-open-2 g c =
     let (came, it, why, told) = c.audited.ensures.came in (
       came,
       rw c.in-Audit.is
-      (audit_done _ _ _ _ _ _ _ c.in-Ok-open-2.ensures.opened c.audited.ensures.asked
-      (record { disk = c.close-in-Ok-open-2.ensures.disk; failures = c.close-in-Ok-open-2.ensures.failures }) came it),
+          (audit_done _ _ _ _ _ _ _ c.in-Ok-open-2.ensures.opened c.audited.ensures.asked
+          (record { disk = c.close-in-Ok-open-2.ensures.disk; failures = c.close-in-Ok-open-2.ensures.failures }) came it),
       why,
       told,
     )

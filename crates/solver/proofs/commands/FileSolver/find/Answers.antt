@@ -31,10 +31,10 @@ returns-in-None-clause-cause g c = λ ready.
     let (k, is, made) = kept_there c.in_ok-source.source.now _ source in (
       rw is (text_of_some k c.in_ok-source.source.now made c.in-Some.packed.items c.args.text.now c.in-Some.ensures),
       λ honest.
-      let stored = g.met.F.GameFile.whole_stored file k ready.0 honest is in
-      rw is
-      (text_unknown k _ stored.1 stored.2 _ (g.met.F.Table.counts_are file stored.0) c.in_ok-source.source.now made c.in-Some.packed.items c.args.text.now
-      c.in-Some.ensures (rw c.in-None.is at c.in_ok-number.ensures.unknown stored.0)),
+          let stored = g.met.F.GameFile.whole_stored file k ready.0 honest is in
+          rw is
+          (text_unknown k _ stored.1 stored.2 _ (g.met.F.Table.counts_are file stored.0) c.in_ok-source.source.now made c.in-Some.packed.items c.args.text.now
+          c.in-Some.ensures (rw c.in-None.is at c.in_ok-number.ensures.unknown stored.0)),
     )
 
 pub returns-in_err-source-clause-ready : goal.returns-in_err-source-clause-ready
