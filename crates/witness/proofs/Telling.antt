@@ -258,5 +258,5 @@ module _ (Stores : Layout) where
   is_there (Some kept) it sound none = none (sound_for_it kept it.0 sound).table.started
 
   pub value_refused : (old new : State) (why : SolverFault) → HasSuchTable IsItFinished old → NumberCause 0 old new why → IsWantOfRoom why
-  value_refused old new fault.NoSuchPosition table cause = absurd (is_there old.kept table.such table.sound (cause table.honest))
+  value_refused old new fault.NoSuchPosition table cause = absurd (is_there old.kept table.such table.sound (cause.1 table.honest))
   value_refused old new why table cause = ask_cause old new why table cause
