@@ -86,13 +86,20 @@ fn spelled(alloc: Global, words: &[&str]) -> Result<Vec<String>, Fail> {
     Ok(spelled)
 }
 
+/// The pages of the table that is to be made; 0 for every other command.
+fn pages_in(words: &Words) -> u32 {
+    match words {
+        Words::Create { pages, .. } => *pages,
+        _ => 0,
+    }
+}
+
 /// The pages of the table that these words ask for, or the status that they end with.
 fn pages_asked(alloc: Global, words: &[&str]) -> Result<Result<u32, u8>, Fail> {
-    Ok(match words_of(alloc, &spelled(alloc, words)?) {
-        Ok(Words::Create { pages, .. }) => Ok(pages),
-        Ok(_) => Ok(0),
-        Err(refusal) => Err(refusal.status),
-    })
+    match words_of(alloc, &spelled(alloc, words)?) {
+        Ok(asked) => Ok(Ok(pages_in(&asked))),
+        Err(refusal) => Ok(Err(refusal.status)),
+    }
 }
 
 #[test]
