@@ -1,7 +1,7 @@
 //! Where moves lead, and who is ahead.
 ghost use Rattle.std.specs.Prelude.{◌≡◌, ◌<◌, Some, Err, IfOk, IfSome, IsOk, length, map, option_map, slice_get};
 ghost use Rattle.rbg_game.specs.Positions.{IsPositionOf};
-ghost use Rattle.legal_moves.specs.Compiled.{compiled_game, packing_kind, IsSoundCompiled};
+ghost use Rattle.legal_moves.specs.Compiled.{compiled_game, compiled_goal, packing_kind, IsSoundCompiled};
 ghost use Rattle.legal_moves.specs.Listed.{IsShortestMove, ListsExactly, ShownMove};
 ghost use Rattle.legal_moves.specs.Sources.{graph_of};
 
@@ -40,7 +40,7 @@ pub fn compiled_successors(
 ) -> Result<Vec<Packed>, MoveFault>
     requires { IsSoundCompiled compiled.now }
     ensures { IfOk result (λ found. ListsExactly
-        ((graph_of (packing_kind compiled.now) (compiled_game compiled.now)).Successor at.now.items) (map (λ p. p.items) found.items)) }
+        ((graph_of (packing_kind compiled.now) (compiled_goal compiled.now) (compiled_game compiled.now)).Successor at.now.items) (map (λ p. p.items) found.items)) }
 {
     compiled.successors(alloc, at)
 }
