@@ -1,13 +1,14 @@
 -- What is stated of a table's file between commands.
-use Rattle.std.specs.Prelude.{◌≡◌, ℕ, ◌+◌, ◌%◌, ◌^◌, ◌≤◌, Bool, Option}
+use Rattle.std.specs.Prelude.{◌≡◌, ℕ, ◌+◌, ◌/◌, ◌%◌, ◌^◌, ◌≤◌, min, Bool, Option}
 use Rattle.sector_disk.specs.Disk.{Disk, size, GoesOn}
 use Rattle.page_store.specs.Store.{ClosesByWrites}
 use Rattle.retrograde.specs.declared.records.Counts.{Counts}
 use Rattle.game_file.specs.Kept.{Kept}
+use Rattle.page_store.specs.declared.limits.TheConstants.{MAX_PAGES}
 
 -- its disk, how often that has failed, how many pages there are, whether a write or a sync has failed since it was opened, how many
 -- commits it counts since it was made, and of the last one, if a game is loaded, the counts that the file tells, and the text, the
--- packing and the table
+-- packing, the goal and the table
 pub record State : Type 0 where
   pub disk : Disk
   pub failures : ℕ
@@ -28,6 +29,10 @@ pub record GoesAhead (old new : State) : Type 0 where
   pub failures : old.failures ≤ new.failures
   pub capacity : new.capacity ≡ old.capacity
   pub closes : ClosesByWrites old.closed old.disk.failed_writes new.closed new.disk.failed_writes
+
+-- as many pages as a disk has room for, 1,048,576 at most
+abbrev pub pages_of : Disk → ℕ
+pages_of disk = min (size disk / 8) MAX_PAGES
 
 -- a later state of the same disk, with as many sectors
 pub record GoesFrom (disk : Disk) (count : ℕ) (later : Disk) (now : ℕ) : Type 0 where

@@ -1,20 +1,22 @@
 //! What a game's table in a file promises.
-ghost use Rattle.std.specs.Prelude.{◌≡◌, ◌≢◌, ◌≤◌, ◌^◌, ℕ, true, false, Option, None, Some, length, OnOk, OnErr, IfOk, IfErr, IfSome, option_map};
-ghost use Rattle.std.specs.Prelude.{IfNone, IsTrue};
+ghost use Rattle.std.specs.Prelude.{◌≡◌, ◌≢◌, ◌≤◌, ◌^◌, ℕ, true, false, Option, None, Some, length, OnOk, OnErr, IfOk, IfErr};
+ghost use Rattle.std.specs.Prelude.{IfSome, IfNone, IsTrue, option_map};
 ghost use Rattle.sector_disk.specs.Disk.{Picture};
 ghost use Rattle.root_pair.specs.Root.{IsTablePicture};
 ghost use Rattle.retrograde.specs.Stored.{IsTable, loaded};
 ghost use Rattle.table.specs.declared.fault.TableFault.{TableFault};
-ghost use Rattle.game_file.specs.Kept.{Kept, Layout, Older, kept_as, packing_kept, text_kept};
+ghost use Rattle.game_file.specs.Kept.{Kept, Layout, Older, goal_kept, in_any, kept_as, packing_kept, text_kept};
 ghost use Rattle.game_file.specs.State.{State, GoesAhead};
 ghost use Rattle.game_file.specs.Stops.{LeavesNow};
 ghost use Rattle.game_file.specs.Calls.{IsOpenedFile, IsNotOpened, IsCreatedFile, IsNotCreated, IsPut, IsNotPut, IsNothingPut, IsAsked};
 ghost use Rattle.game_file.specs.Causes.{FileOpenCause, FileCreateCause, FileLoadCause, FileCommitCause, FileTableCause};
+ghost use Rattle.rbg_game.specs.Goals.{points_of};
 ghost use Rattle.rbg_game.specs.declared.limits.TheConstants.{MAX_TEXT_BYTES};
 
 use crate::{FileFault, Refused};
 use page_store::MOST_CACHED;
 use position_pack::{Packed, PackingKind};
+use rbg_game::goal::Goal;
 use sector_disk::SectorDisk;
 use std::alloc::Global;
 use table::Table;
@@ -28,8 +30,8 @@ pub trait GameFile: Table {
     /// The disk that it is on.
     type Device: SectorDisk;
 
-    /// Which pictures of the disk store which table: the layout of the file.
-    ghost stores: { Layout };
+    /// Which pictures of the disk store which table in so many pages: the layout of the file.
+    ghost stores: { ℕ → Layout };
 
     /// Which pictures of the disk hold a table of an earlier layout, which is not opened.
     ghost is_older: { Older };
@@ -64,7 +66,7 @@ pub trait GameFile: Table {
         ensures ok { IfOk result (λ file. IsOpenedFile stores (Self.Device.disk disk) (Self.Device.failures disk) (state file)) }
         ensures refused { IfErr result (λ back. IsNotOpened (Self.Device.disk disk) (Self.Device.failures disk)
             (Self.Device.disk back.disk) (Self.Device.failures back.disk)) }
-        ensures cause { IfErr result (λ back. FileOpenCause stores is_older (Self.Device.disk disk) (Self.Device.failures disk)
+        ensures cause { IfErr result (λ back. FileOpenCause (in_any stores) is_older (Self.Device.disk disk) (Self.Device.failures disk)
             (Self.Device.failures back.disk) back.fault) };
 
     /// The same, with 64 pages kept in memory.
@@ -73,7 +75,7 @@ pub trait GameFile: Table {
         ensures ok { IfOk result (λ file. IsOpenedFile stores (Self.Device.disk disk) (Self.Device.failures disk) (state file)) }
         ensures refused { IfErr result (λ back. IsNotOpened (Self.Device.disk disk) (Self.Device.failures disk)
             (Self.Device.disk back.disk) (Self.Device.failures back.disk)) }
-        ensures cause { IfErr result (λ back. FileOpenCause stores is_older (Self.Device.disk disk) (Self.Device.failures disk)
+        ensures cause { IfErr result (λ back. FileOpenCause (in_any stores) is_older (Self.Device.disk disk) (Self.Device.failures disk)
             (Self.Device.failures back.disk) back.fault) }
     {
         Self::open_with_cache(alloc, disk, MOST_CACHED)
@@ -89,22 +91,34 @@ pub trait GameFile: Table {
         ensures some { IfSome result (λ packing. packing_kept (state self.now).kept ≡ Some packing) }
         ensures none { IfNone result ((state self.now).kept ≡ None) };
 
+    /// The goal, if a game is loaded and has one. It takes no memory and always answers.
+    fn goal(&self) -> Option<Goal>
+        ensures { points_of result ≡ goal_kept (state self.now).kept };
+
     /// Whether a write or a sync has failed; the file has then to be opened again. It takes no memory and always answers.
     fn is_closed(&self) -> bool
         ensures { result ≡ (state self.now).closed };
 
-    /// Commits the table of a game that is loaded now, its start and no more, where none was, with this packing: S6 if the start has no
-    /// bytes, and E9, E1, E7, E8. After a refusal there is still none, but that after E1 in a write or a sync the file is closed, and
-    /// the disk has the one or the other.
-    fn load(&mut self, text: &[u8], packing: PackingKind, start: &Packed) -> Result<(), FileFault>
+    /// Commits the table of a game that is loaded now, its start and no more, where none was, with this packing and goal: S6 if the start
+    /// has no bytes, and E9, E1, E7, E8. After a refusal there is still none, but that after E1 in a write or a sync the file is closed,
+    /// and the disk has the one or the other. A layout that has no place for a goal answers E8 where one is asked for.
+    fn load(
+        &mut self,
+        text: &[u8],
+        packing: PackingKind,
+        goal: Option<Goal>,
+        start: &Packed,
+    ) -> Result<(), FileFault>
         requires { length text.now ≤ MAX_TEXT_BYTES }
         ensures ahead { GoesAhead (state self.old) (state self.new) }
         ensures lasts { lasts self.old self.new }
         ensures whole { is_whole self.old → is_whole self.new }
         ensures ok { is_whole self.old → (state self.old).kept ≡ None
-            → OnOk result (IsPut stores (kept_as text.now packing (loaded start.now.items)) (state self.old) (state self.new)) }
+            → OnOk result (IsPut stores (kept_as text.now packing (points_of goal) (loaded start.now.items)) (state self.old)
+            (state self.new)) }
         ensures err { is_whole self.old → (state self.old).kept ≡ None
-            → OnErr result (IsNotPut stores (kept_as text.now packing (loaded start.now.items)) (state self.old) (state self.new)) }
+            → OnErr result (IsNotPut stores (kept_as text.now packing (points_of goal) (loaded start.now.items)) (state self.old)
+            (state self.new)) }
         ensures cause { is_whole self.old → (state self.old).kept ≡ None → (state self.old).closed ≡ false
             → IfErr result (FileLoadCause start.now.items (state self.old) (state self.new)) }
         ensures still { IfErr result (λ fault. fault ≢ FileFault.Disk → (state self.new).closed ≡ (state self.old).closed) };
@@ -117,12 +131,12 @@ pub trait GameFile: Table {
         ensures lasts { lasts self.old self.new }
         ensures ok { (was : Self) (kept : Kept) → is_whole was → (state was).kept ≡ Some kept → Self.goes_on was self.old
             → (IsTrue (state was).disk.honest → IsTable (Self.stored self.old))
-            → OnOk result (is_whole self.new × IsPut stores (kept_as kept.text kept.packing (Self.stored self.old)) (state was)
-            (state self.new)) }
+            → OnOk result (is_whole self.new × IsPut stores (kept_as kept.text kept.packing kept.goal (Self.stored self.old))
+            (state was) (state self.new)) }
         ensures err { (was : Self) (kept : Kept) → is_whole was → (state was).kept ≡ Some kept → Self.goes_on was self.old
             → (IsTrue (state was).disk.honest → IsTable (Self.stored self.old))
-            → OnErr result (is_whole self.new × IsNotPut stores (kept_as kept.text kept.packing (Self.stored self.old)) (state was)
-            (state self.new)) }
+            → OnErr result (is_whole self.new × IsNotPut stores (kept_as kept.text kept.packing kept.goal (Self.stored self.old))
+            (state was) (state self.new)) }
         ensures cause { (was : Self) (kept : Kept) → is_whole was → (state was).kept ≡ Some kept → Self.goes_on was self.old
             → IfErr result (FileCommitCause kept.table (Self.stored self.old) (state was) (state self.new)) }
         ensures still { (was : Self) → Self.goes_on was self.old
@@ -144,18 +158,19 @@ pub trait GameFile: Table {
         ensures disk { Self.Device.disk result ≡ (state self).disk }
         ensures failures { Self.Device.failures result ≡ (state self).failures };
 
-    /// A picture stores one table at most.
-    ghost stores_one: { (picture : Picture) (one other : Option Kept) → stores picture one → stores picture other → one ≡ other };
+    /// A picture stores one table at most, in one number of pages.
+    ghost stores_one: { (m n : ℕ) (picture : Picture) (one other : Option Kept) → stores m picture one → stores n picture other
+        → (m ≡ n) × (one ≡ other) };
 
     /// A picture that holds a table of an earlier layout stores none.
-    ghost older_stores_none: { (picture : Picture) (kept : Option Kept) → is_older picture → stores picture kept → ⊥ };
+    ghost older_stores_none: { (pages : ℕ) (picture : Picture) (kept : Option Kept) → is_older picture → stores pages picture kept → ⊥ };
 
     /// A picture that stores a table begins as each table does.
-    ghost stores_begins: { (picture : Picture) (kept : Option Kept) → stores picture kept → IsTablePicture picture };
+    ghost stores_begins: { (pages : ℕ) (picture : Picture) (kept : Option Kept) → stores pages picture kept → IsTablePicture picture };
 
     /// A stop of a file that is whole and open leaves what it keeps.
     ghost whole_leaves: { (file : Self) → is_whole file → IsTrue (state file).disk.honest → (state file).closed ≡ false
-        → LeavesNow stores (state file).disk (state file).kept };
+        → LeavesNow (stores (state file).capacity) (state file).disk (state file).kept };
 
     /// The table of a file that is whole is what it keeps.
     ghost whole_stored: { (file : Self) (kept : Kept) → is_whole file → IsTrue (state file).disk.honest → (state file).kept ≡ Some kept

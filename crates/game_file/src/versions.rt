@@ -3,7 +3,7 @@ ghost use Rattle.std.specs.Prelude.{◌≡◌, ◌<◌, ◌⊎◌, ℕ, List, le
 ghost use Rattle.retrograde.specs.Changes.{counts_of};
 ghost use Rattle.retrograde.specs.Stored.{Stored, HasRecord};
 ghost use Rattle.game_file.specs.Causes.{FileVersionCause};
-ghost use Rattle.game_file.specs.Kept.{Kept, text_kept, packing_kept};
+ghost use Rattle.game_file.specs.Kept.{Kept, text_kept, packing_kept, goal_kept};
 
 use crate::GameFile;
 use retrograde::{Counts, Record};
@@ -30,6 +30,7 @@ pub trait Versions: GameFile {
         ensures state { IsTrue (Self.state self.old).disk.honest → Self.is_whole self.old → Self.state self.new ≡ Self.state self.old }
         ensures text { Self.is_whole self.old → text_kept (Self.state self.new).kept ≡ text_kept (Self.state self.old).kept }
         ensures packing { Self.is_whole self.old → packing_kept (Self.state self.new).kept ≡ packing_kept (Self.state self.old).kept }
+        ensures goal { Self.is_whole self.old → goal_kept (Self.state self.new).kept ≡ goal_kept (Self.state self.old).kept }
         ensures kept { IsTrue (Self.state self.old).disk.honest → Self.is_whole self.old → (kept : Kept) → (Self.state self.old).kept ≡ Some kept
             → IfSome result (λ version. is_version version kept.table self.new) }
         ensures others { (version : Self.Version) (table : Stored (List ℕ)) → is_version version table self.old
@@ -57,6 +58,7 @@ pub trait Versions: GameFile {
         ensures state { IsTrue (Self.state self.old).disk.honest → Self.is_whole self.old → Self.state self.new ≡ Self.state self.old }
         ensures text { Self.is_whole self.old → text_kept (Self.state self.new).kept ≡ text_kept (Self.state self.old).kept }
         ensures packing { Self.is_whole self.old → packing_kept (Self.state self.new).kept ≡ packing_kept (Self.state self.old).kept }
+        ensures goal { Self.is_whole self.old → goal_kept (Self.state self.new).kept ≡ goal_kept (Self.state self.old).kept }
         ensures others { (other : Self.Version) (table : Stored (List ℕ)) → are_two other version → is_version other table self.old
             → is_version other table self.new };
 

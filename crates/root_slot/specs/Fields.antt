@@ -1,5 +1,5 @@
 -- What the 512 bytes of a root slot say in every layout. All numbers have their highest byte first.
-use Rattle.std.specs.Prelude.{◌≡◌, ◌==◌, if◌then◌else◌, ℕ, ◌/◌, ◌≤◌, ◌<◌, min, List, length, drop, slice_index}
+use Rattle.std.specs.Prelude.{◌≡◌, ◌==◌, if◌then◌else◌, ℕ, ◌/◌, ◌≤◌, ◌<◌, min, List, length, drop, slice_index, Option, None, Some}
 use Rattle.byteorder.specs.Endian.{big_number}
 use Rattle.sector_disk.specs.Disk.{Picture}
 use Rattle.position_pack.specs.declared.kind.PackingKind.{PackingKind}
@@ -52,6 +52,23 @@ sizes_in root = record {
 -- the bytes from one place on up to another are zero
 abbrev pub AreZero : ℕ → ℕ → List ℕ → Type 0
 AreZero from to root = (k : ℕ) → from ≤ k → k < to → slice_index root k ≡ 0
+
+-- how many pages there are, in the layouts that say so
+abbrev pub capacity_in : List ℕ → ℕ
+capacity_in root = word_at root 68
+
+-- the number of a goal: its points, 0 for none
+abbrev pub number_of_goal : Option ℕ → ℕ
+number_of_goal None = 0
+number_of_goal (Some points) = points
+
+-- the goal with this number
+abbrev pub goal_numbered : ℕ → Option ℕ
+goal_numbered number = if number == 0 then None else Some number
+
+-- the goal of the table, in the layouts that have one
+abbrev pub goal_in : List ℕ → Option ℕ
+goal_in root = goal_numbered (word_at root 72)
 
 -- so many pages are used of a picture: those that it has room for, 1,048,576 at most
 abbrev pub capacity_of : Picture → ℕ
