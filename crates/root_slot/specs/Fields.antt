@@ -1,5 +1,5 @@
 -- What the 512 bytes of a root slot say in every layout. All numbers have their highest byte first.
-use Rattle.std.specs.Prelude.{◌≡◌, ◌==◌, if◌then◌else◌, ℕ, ◌/◌, ◌≤◌, ◌<◌, min, List, length, drop, slice_index, Option, None, Some}
+use Rattle.std.specs.Prelude.{◌≡◌, ◌==◌, if◌then◌else◌, ℕ, ◌⊎◌, ◌/◌, ◌≤◌, ◌<◌, min, nat_lt, List, length, drop, slice_index, Option, None, Some}
 use Rattle.byteorder.specs.Endian.{big_number}
 use Rattle.sector_disk.specs.Disk.{Picture}
 use Rattle.position_pack.specs.declared.kind.PackingKind.{PackingKind}
@@ -57,6 +57,10 @@ AreZero from to root = (k : ℕ) → from ≤ k → k < to → slice_index root 
 abbrev pub capacity_in : List ℕ → ℕ
 capacity_in root = word_at root 68
 
+-- a slot of layout 3 says that there are so many pages; those of earlier layouts say nothing of it
+abbrev pub SaysPages : List ℕ → ℕ → Type 0
+SaysPages root pages = 3 ≤ layout_in root → capacity_in root ≡ pages
+
 -- the number of a goal: its points, 0 for none
 abbrev pub number_of_goal : Option ℕ → ℕ
 number_of_goal None = 0
@@ -66,9 +70,13 @@ number_of_goal (Some points) = points
 abbrev pub goal_numbered : ℕ → Option ℕ
 goal_numbered number = if number == 0 then None else Some number
 
--- the goal of the table, in the layouts that have one
-abbrev pub goal_in : List ℕ → Option ℕ
-goal_in root = goal_numbered (word_at root 72)
+-- the number of the table's goal; tables of layouts before 3 have none, whatever stands there
+abbrev pub goal_number_in : List ℕ → ℕ
+goal_number_in root = if nat_lt (layout_in root) 3 then 0 else word_at root 72
+
+-- a slot of this layout has a place for the goal of this number: layout 3 for each, earlier ones for none
+abbrev pub HasPlaceFor : ℕ → ℕ → Type 0
+HasPlaceFor layout number = (3 ≤ layout) ⊎ (number ≡ 0)
 
 -- so many pages are used of a picture: those that it has room for, 1,048,576 at most
 abbrev pub capacity_of : Picture → ℕ

@@ -1,2 +1,3 @@
+pub mod Goals
 pub mod Packings
 pub mod Words

@@ -1,5 +1,5 @@
 //! The numbers of the goals.
-ghost use Rattle.std.specs.Prelude.{◌≡◌, ◌<◌, IfSome, IfNone};
+ghost use Rattle.std.specs.Prelude.{◌≡◌, ◌≤◌};
 ghost use Rattle.rbg_game.specs.Goals.{points_of};
 ghost use Rattle.rbg_game.specs.declared.limits.TheConstants.{MAX_POINTS};
 ghost use Rattle.root_slot.specs.Fields.{goal_numbered, number_of_goal};
@@ -10,6 +10,7 @@ use rbg_game::goal::Goal;
 pub fn number_of_goal(goal: Option<Goal>) -> u32
     ensures is { result ≡ number_of_goal (points_of goal) }
     ensures back { goal_numbered result ≡ points_of goal }
+    ensures few { result ≤ MAX_POINTS }
 {
     match goal {
         None => 0,
@@ -17,16 +18,10 @@ pub fn number_of_goal(goal: Option<Goal>) -> u32
     }
 }
 
-/// The goal with this number, 0 for none of them; nothing where the number is greater than any goal.
-pub fn goal_numbered(number: u32) -> Option<Option<Goal>>
-    ensures some { IfSome result (λ goal. points_of goal ≡ goal_numbered number) }
-    ensures none { IfNone result (MAX_POINTS < number) }
+/// The goal with this number, none for 0.
+pub fn goal_numbered(number: u32) -> Option<Goal>
+    requires few { number ≤ MAX_POINTS }
+    ensures is { points_of result ≡ goal_numbered number }
 {
-    if number == 0 {
-        return Some(None);
-    }
-    match Goal::new(number) {
-        Some(goal) => Some(Some(goal)),
-        None => None,
-    }
+    Goal::new(number)
 }

@@ -47,7 +47,7 @@ bare_root packed Edges capacity bytes some few = bare_tree packed Edges capacity
 bare_root packed Order capacity bytes some few = bare_tree packed Order capacity bytes some few
 
 -- the entries of no table
-bare_spelled : (packed long : ℕ) → AreEntriesOf (text_slot Bytes 0 long packed).sizes (λ t. []) nothing
+bare_spelled : (packed long : ℕ) → AreEntriesOf (text_slot Bytes 0 0 long packed).sizes (λ t. []) nothing
 bare_spelled packed long = record {
   known = refl;
   recorded = refl;
@@ -60,10 +60,10 @@ bare_spelled packed long = record {
 }
 
 -- a text on pages in use, and no position
-pub text_holds : (kind : PackingKind) (first long packed : ℕ) (text text_pages : List ℕ) (store : Store) → 1 ≤ packed → packed ≤ 240
+pub text_holds : (kind : PackingKind) (goal first long packed : ℕ) (text text_pages : List ℕ) (store : Store) → 1 ≤ packed → packed ≤ 240
     → IsChain (length store.marks) first text_pages text (reads store) → AreHeld store.marks text_pages
-    → HoldsTable (text_slot kind first long packed) text nothing store
-text_holds kind first long packed text text_pages store some few chain held = record {
+    → HoldsTable (text_slot kind goal first long packed) text nothing store
+text_holds kind goal first long packed text text_pages store some few chain held = record {
   entries = λ t. [];
   forest = record {
     text_pages = text_pages;
@@ -83,7 +83,7 @@ text_holds kind first long packed text text_pages store some few chain held = re
 
 pub bare_holds : (packed : ℕ) (store : Store) → 1 ≤ packed → packed ≤ 240 → HoldsTable (bare_slot packed) [] nothing store
 bare_holds packed store some few =
-    text_holds Bytes 0 0 packed [] [] store some few (record {
+    text_holds Bytes 0 0 0 packed [] [] store some few (record {
       leads = refl;
       within = λ p here. absurd (none_contained p here);
       once = λ i j p one two. absurd (cc);

@@ -168,7 +168,7 @@ committed_stands root slot text table old new done pages h =
 
 -- lengths of the slot of a game, or of the one that names no page
 pub sized_slot : (game : Option TreeSlot) → AreSized game → IsSizedSlot (slot_or_bare game)
-sized_slot None sized = record { some = omega arith; short = omega arith; few = omega arith }
+sized_slot None sized = record { some = omega arith; short = omega arith; few = omega arith; points = omega arith }
 sized_slot (Some slot) sized = sized
 
 -- between commands pages hold what stands

@@ -42,8 +42,10 @@ module _ (a b : Work) (now : Stored (List ℕ)) (few : b.slot.sizes.counts.known
   pub now_stored : (IsHonestWork a → ∥ HoldsWork a ∥₁) → IsHonestWork a → table_now b ≡ now
   now_stored holds honest = ∥∥₁_elim (holds honest) (stored_prop (table_now b) now) (λ (h : HoldsWork a). table_is b.slot b.text now b.store few (changed honest h))
 
-  pub now_goes_on : b.store.closed ≡ a.store.closed → b.slot.sizes.text ≡ a.slot.sizes.text → b.slot.packing ≡ a.slot.packing → WorkGoesOn a b
-  now_goes_on still long packing = record { works = works; still = still; text = text; torn = torn; long = long; packing = packing; holds = now_holds }
+  pub now_goes_on : b.store.closed ≡ a.store.closed → b.slot.sizes.text ≡ a.slot.sizes.text → b.slot.packing ≡ a.slot.packing → b.slot.goal ≡ a.slot.goal
+      → WorkGoesOn a b
+  now_goes_on still long packing goal =
+      record { works = works; still = still; text = text; torn = torn; long = long; packing = packing; goal = goal; holds = now_holds }
 
 -- a call that reads
 pub still_held : (a b : Work) → WorkStays a b → (IsHonestWork a → ∥ HoldsWork a ∥₁) → IsHonestWork b → ∥ HoldsWork b ∥₁

@@ -1,5 +1,5 @@
 -- The first table of a game.
-use Rattle.std.proofs.Common.{◌≡◌, ℕ, ◌+◌, ◌*◌, ◌<◌, ◌≤◌, List, length, Option, None, Some, Result, Ok, Err, IsTrue, refl, sym, ◌∙◌, arith}
+use Rattle.std.proofs.Common.{◌≡◌, ℕ, ◌+◌, ◌*◌, ◌<◌, ◌≤◌, List, length, Option, None, Some, Result, Ok, Err, IsTrue, refl, sym, ◌∙◌, subst, arith}
 use Rattle.std.specs.Prelude.{OnErr, IfErr}
 use Rattle.sector_disk.specs.aid.Moments.{leaves_more, still_honest}
 use Rattle.page_store.specs.Causes.{StoreCommitCause}
@@ -20,6 +20,7 @@ use Rattle.position_pack.specs.declared.kind.PackingKind.{PackingKind}
 use Rattle.game_file.specs.Kept.{Kept, kept_as}
 use Rattle.game_file.specs.aid.Loading.{loaded_is_table}
 use Rattle.game_file.specs.Stops.{LeavesTable}
+use Rattle.root_slot.specs.Fields.{layout_in, goal_numbered, number_of_goal, HasPlaceFor, SaysPages}
 use Rattle.tree_table.specs.declared.slot.TreeSlot.{TreeSlot}
 use Rattle.tree_table.specs.Held.{StoresTrees}
 use Rattle.tree_table.specs.Keeping.{IsKeptInTrees, IsSizedSlot, IsVacant, IsWorkedOn}
@@ -28,9 +29,10 @@ use Rattle.tree_table.specs.aid.Keeping.{kept_stands, spells_stores_trees}
 
 -- a call that commits nothing leaves what is kept, all the time
 pub works_leave : (old new : Store) (was : Option Kept) → IsTrue old.disk.honest → (_ : StoreWorks old new) → (safe : IsSafe old) → IsKeptInTrees old was
-    → 16 ≤ length old.marks → length old.marks ≤ 1048576 → LeavesTable StoresTrees old.disk new.disk was
-works_leave old new was honest works safe it enough few =
-    leaves_more (λ picture saved. spells_stores_trees old.root (length old.marks) was picture enough few (saved_spells old (kept_stands old was it) picture saved))
+    → SaysPages old.root (length old.marks) → 16 ≤ length old.marks → length old.marks ≤ 1048576
+    → LeavesTable (StoresTrees (layout_in old.root) (length old.marks)) old.disk new.disk was
+works_leave old new was honest works safe it says enough few =
+    leaves_more (λ picture saved. spells_stores_trees old.root (layout_in old.root) (length old.marks) was picture refl says enough few (saved_spells old (kept_stands old was it) picture saved))
     (works.leaves honest safe)
 
 -- why the first table is not put
@@ -70,16 +72,22 @@ any_error P (Ok x) is = tt
 any_error P (Err e) is = is
 
 -- a text and a start are put where no game was
-pub worked_on : (slot : TreeSlot) (text : List ℕ) (kind : PackingKind) (x : List ℕ) (old mid : Store) → IsVacant old → StoreWorks old mid → HoldsTable slot text (loaded x) mid
-    → slot.packing ≡ kind → slot.sizes.text ≡ length text → IsSizedSlot slot → length text ≤ 65536 → IsWorkedOn slot old mid None (kept_as text kind (loaded x))
-worked_on slot text kind x old mid vacant works holds packing long sized short = record {
+pub worked_on : (slot : TreeSlot) (text : List ℕ) (kind : PackingKind) (goal : Option ℕ) (x : List ℕ) (old mid : Store) → IsVacant old → StoreWorks old mid → HoldsTable slot text (loaded x) mid
+    → slot.packing ≡ kind → slot.goal ≡ number_of_goal goal → goal_numbered slot.goal ≡ goal → HasPlaceFor (layout_in old.root) (number_of_goal goal)
+    → slot.sizes.text ≡ length text → IsSizedSlot slot → length text ≤ 65536
+    → IsWorkedOn slot old mid None (kept_as text kind goal (loaded x))
+worked_on slot text kind goal x old mid vacant works holds packing number back place long sized short = record {
   honest = vacant.honest;
   safe = vacant.safe;
   kept = vacant.kept;
+  says = vacant.says;
   enough = vacant.enough;
   works = works;
   holds = holds;
   packing = sym packing;
+  goal = sym back;
+  place = subst (λ (n : ℕ). HasPlaceFor (layout_in old.root) n) (sym number) place;
+  points = sized.points;
   text = sym long;
   table = loaded_is_table x;
   short = omega (arith, short, long);
@@ -89,5 +97,5 @@ worked_on slot text kind x old mid vacant works holds packing long sized short =
 }
 
 -- no game is loaded still
-pub vacant_leaves : (old new : Store) → length old.marks ≤ 1048576 → IsVacant old → StoreWorks old new → LeavesTable StoresTrees old.disk new.disk None
-vacant_leaves old new few vacant works = works_leave old new None vacant.honest works vacant.safe vacant.kept vacant.enough few
+pub vacant_leaves : (old new : Store) → length old.marks ≤ 1048576 → IsVacant old → StoreWorks old new → LeavesTable (StoresTrees (layout_in old.root) (length old.marks)) old.disk new.disk None
+vacant_leaves old new few vacant works = works_leave old new None vacant.honest works vacant.safe vacant.kept vacant.says vacant.enough few

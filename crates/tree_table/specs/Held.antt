@@ -1,25 +1,25 @@
--- The table that a picture of the disk holds in layout 2, as far as that can be told without the game's rules.
-use Rattle.std.specs.Prelude.{◌≡◌, ℕ, ◌≤◌, List, length, Option, None, Some}
+-- The table on trees that a picture of the disk holds, as far as that can be told without the game's rules.
+use Rattle.std.specs.Prelude.{◌≡◌, ℕ, ◌*◌, ◌≤◌, List, length, Option, None, Some}
 use Rattle.sector_disk.specs.Disk.{Picture}
 use Rattle.root_pair.specs.Root.{HoldsRoot}
 use Rattle.page_store.specs.Page.{page}
 use Rattle.retrograde.specs.Stored.{IsTable}
 use Rattle.retrograde.specs.Changes.{counts_of}
-use Rattle.root_slot.specs.Fields.{capacity_of, first_in, sizes_in}
+use Rattle.root_slot.specs.Fields.{layout_in, first_in, sizes_in, SaysPages}
 use Rattle.game_file.specs.Kept.{Kept}
 use Rattle.tree_page.specs.Page.{Item}
 use Rattle.tree_table.specs.declared.tree.Tree.{Tree}
 use Rattle.tree_table.specs.Entries.{AreEntriesOf}
 use Rattle.tree_table.specs.Forest.{IsForest}
 use Rattle.tree_table.specs.Slot.{roots_in, IsEmptyTreeSlot, IsGameTreeSlot}
-use Rattle.page_store.specs.declared.limits.TheConstants.{MIN_PAGES}
+use Rattle.page_store.specs.declared.limits.TheConstants.{MIN_PAGES, MAX_PAGES}
 
--- the slot is that of a table with a game of this packing, and these pages, which it names, each of them below the capacity and named
+-- the slot is that of a table with a game of this packing and goal, and these pages, which it names, each of them below the capacity and named
 -- once, hold this text as a chain and four trees whose entries are those of this table. The table's parts fit together, and the slot
 -- counts them right
 pub record KeepsOnPages (root : List ℕ) (capacity : ℕ) (kept : Kept) (text_pages : List ℕ) (pages : Tree → List ℕ) (bytes : ℕ → List ℕ)
     : Type 0 where
-  pub slot : IsGameTreeSlot root kept.packing
+  pub slot : IsGameTreeSlot root kept.packing kept.goal
   pub entries : Tree → List Item
   pub forest : IsForest (sizes_in root).packed capacity (first_in root) (roots_in root) kept.text text_pages pages entries bytes
   pub text : length kept.text ≡ (sizes_in root).text
@@ -38,10 +38,15 @@ abbrev pub KeepsTrees : List ℕ → ℕ → Option Kept → (ℕ → List ℕ) 
 KeepsTrees root capacity None bytes = IsEmptyTreeSlot root
 KeepsTrees root capacity (Some kept) bytes = KeepsGameTrees root capacity kept bytes
 
--- the picture is a table of 16 pages or more: it begins as each does, its gate picks a slot, and what that slot and the pages
--- named from it spell is this
-pub record StoresTrees (picture : Picture) (kept : Option Kept) : Type 0 where
+-- the picture is a table of this layout in so many pages, which are 16 to 1,048,576: it begins as each does and has room for them, its gate
+-- picks a slot of this layout, which says that there are so many if the layout says so at all, and what that slot and the pages named from
+-- it spell is this
+pub record StoresTrees (layout pages : ℕ) (picture : Picture) (kept : Option Kept) : Type 0 where
   pub root : List ℕ
   pub holds : HoldsRoot root picture
-  pub room : MIN_PAGES ≤ capacity_of picture
-  pub keeps : KeepsTrees root (capacity_of picture) kept (page picture)
+  pub same_layout : layout_in root ≡ layout
+  pub says : SaysPages root pages
+  pub enough : MIN_PAGES ≤ pages
+  pub few : pages ≤ MAX_PAGES
+  pub room : 8 * pages ≤ length picture
+  pub keeps : KeepsTrees root pages kept (page picture)

@@ -1,4 +1,4 @@
--- What the committed root of a store keeps in layout 2.
+-- What the committed root of a store keeps on trees.
 use Rattle.std.specs.Prelude.{◌≡◌, ◌⊎◌, ℕ, ◌≤◌, ◌^◌, List, [], length, Option, None, Some, Contains, IsTrue}
 use Rattle.sector_disk.specs.Disk.{GoesOn}
 use Rattle.page_store.specs.declared.marks.Mark.TheVariants.{Waiting}
@@ -15,8 +15,9 @@ use Rattle.tree_table.specs.Forest.{IsForest}
 use Rattle.tree_table.specs.Held.{KeepsOnPages}
 use Rattle.tree_table.specs.Slot.{IsEmptyTreeSlot}
 use Rattle.tree_table.specs.Working.{HoldsTable, bare_slot}
+use Rattle.root_slot.specs.Fields.{layout_in, goal_numbered, HasPlaceFor, SaysPages}
 use Rattle.position_pack.specs.declared.limits.TheConstants.{MAX_PACKED}
-use Rattle.rbg_game.specs.declared.limits.TheConstants.{MAX_TEXT_BYTES}
+use Rattle.rbg_game.specs.declared.limits.TheConstants.{MAX_POINTS, MAX_TEXT_BYTES}
 use Rattle.page_store.specs.declared.limits.TheConstants.{MIN_PAGES}
 
 -- it is a page of the text, or of one of the trees
@@ -36,15 +37,20 @@ pub record IsKeptInTrees (store : Store) (kept : Option Kept) : Type 0 where
   pub needed : (p : ℕ) → IsOneOf text_pages pages p → IsNeeded store.marks p
 
 -- as the store was begun with, its root kept the one, on an honest disk; since then nothing was committed, and now its pages hold
--- the other, which this slot names and counts, with its packing, whose parts fit together, and which is no larger than a table may be
+-- the other, which this slot names and counts, with its packing and goal, whose parts fit together, and which is no larger than a table may
+-- be. The layout of the root has a place for the goal, and the root says how many pages there are if its layout says so at all
 pub record IsWorkedOn (slot : TreeSlot) (begun now : Store) (was : Option Kept) (is : Kept) : Type 0 where
   pub honest : IsTrue begun.disk.honest
   pub safe : IsSafe begun
   pub kept : IsKeptInTrees begun was
+  pub says : SaysPages begun.root (length begun.marks)
   pub enough : MIN_PAGES ≤ length begun.marks
   pub works : StoreWorks begun now
   pub holds : HoldsTable slot is.text is.table now
   pub packing : is.packing ≡ slot.packing
+  pub goal : is.goal ≡ goal_numbered slot.goal
+  pub place : HasPlaceFor (layout_in begun.root) slot.goal
+  pub points : slot.goal ≤ MAX_POINTS
   pub text : length is.text ≡ slot.sizes.text
   pub table : IsTable is.table
   pub short : slot.sizes.text ≤ MAX_TEXT_BYTES
@@ -78,11 +84,12 @@ abbrev pub StandsFor : Option TreeSlot → List ℕ → Store → Type 0
 StandsFor None text store = text ≡ []
 StandsFor (Some slot) text store = StandsInTrees slot text store
 
--- lengths and counts that a table may have
+-- lengths, counts and a goal that a table may have
 pub record IsSizedSlot (slot : TreeSlot) : Type 0 where
   pub some : 1 ≤ slot.sizes.packed
   pub short : slot.sizes.packed ≤ MAX_PACKED
   pub few : slot.sizes.counts.known ≤ 2 ^ 24
+  pub points : slot.goal ≤ MAX_POINTS
 
 -- so of the game that is loaded, if one is
 abbrev pub AreSized : Option TreeSlot → Type 0
@@ -94,9 +101,11 @@ abbrev pub slot_or_bare : Option TreeSlot → TreeSlot
 slot_or_bare None = bare_slot 1
 slot_or_bare (Some slot) = slot
 
--- no game is loaded, and one can be: the disk is honest, a stop leaves what is there, and there are 16 pages or more
+-- no game is loaded, and one can be: the disk is honest, a stop leaves what is there, and there are 16 pages or more, as the root says if
+-- its layout says so at all
 pub record IsVacant (store : Store) : Type 0 where
   pub honest : IsTrue store.disk.honest
   pub safe : IsSafe store
   pub kept : IsKeptInTrees store None
+  pub says : SaysPages store.root (length store.marks)
   pub enough : MIN_PAGES ≤ length store.marks

@@ -1,7 +1,8 @@
--- What a root slot of layout 2 says.
+-- What a root slot says of a table on trees. A slot of layout 3 also says how many pages there are, and may name a goal.
 use Rattle.std.specs.Prelude.{◌≡◌, ◌≤◌, List, ℕ, Option, None, Some}
 use Rattle.position_pack.specs.declared.kind.PackingKind.{PackingKind}
-use Rattle.root_slot.specs.Fields.{word_at, layout_in, packing_in, number_of_packing, kind_in, first_in, sizes_in, AreZero}
+use Rattle.rbg_game.specs.declared.limits.TheConstants.{MAX_POINTS}
+use Rattle.root_slot.specs.Fields.{word_at, packing_in, number_of_packing, kind_in, first_in, sizes_in, goal_number_in, goal_numbered, AreZero}
 use Rattle.record_bytes.specs.Numbers.{AreWithinLimits}
 use Rattle.tree_table.specs.declared.slot.TreeSlot.{TreeSlot}
 use Rattle.tree_table.specs.declared.tree.Roots.{Roots}
@@ -10,29 +11,36 @@ use Rattle.tree_table.specs.declared.tree.Roots.{Roots}
 abbrev pub roots_in : List ℕ → Roots
 roots_in root = record { positions = word_at root 44; records = word_at root 48; edges = word_at root 52; order = word_at root 56 }
 
--- the packing and the pages that it names, and how much there is of each
+-- the packing, the goal and the pages that it names, and how much there is of each
 abbrev pub slot_in : List ℕ → TreeSlot
-slot_in root = record { packing = kind_in root; first = first_in root; sizes = sizes_in root; roots = roots_in root }
+slot_in root = record {
+  packing = kind_in root;
+  goal = goal_number_in root;
+  first = first_in root;
+  sizes = sizes_in root;
+  roots = roots_in root;
+}
 
--- no game: the packing is 0, and so is each field of the layout; later fields are ignored
+-- no game: the packing is 0, and so are each field that stands before the capacity, and the goal
 pub record IsEmptyTreeSlot (root : List ℕ) : Type 0 where
-  pub layout : layout_in root ≡ 2
   pub packing : packing_in root ≡ 0
   pub fields : AreZero 16 68 root
+  pub goal : goal_number_in root ≡ 0
 
--- a game of this packing: the slot has its number, and the other numbers are in order and within their limits
-pub record IsGameTreeSlot (root : List ℕ) (kind : PackingKind) : Type 0 where
-  pub layout : layout_in root ≡ 2
+-- a game of this packing and goal: the slot has their numbers, and the other numbers are in order and within their limits
+pub record IsGameTreeSlot (root : List ℕ) (kind : PackingKind) (named : Option ℕ) : Type 0 where
   pub packing : packing_in root ≡ number_of_packing kind
+  pub goal : goal_numbered (goal_number_in root) ≡ named
+  pub points : goal_number_in root ≤ MAX_POINTS
   pub limits : AreWithinLimits (sizes_in root)
   pub some : 1 ≤ (sizes_in root).packed
 
 -- the slot says this of a table with a game, or that none is loaded
 abbrev pub SaysTrees : List ℕ → Option TreeSlot → Type 0
 SaysTrees root None = IsEmptyTreeSlot root
-SaysTrees root (Some slot) = IsGameTreeSlot root slot.packing × (slot ≡ slot_in root)
+SaysTrees root (Some slot) = IsGameTreeSlot root slot.packing (goal_numbered slot.goal) × (slot ≡ slot_in root)
 
 -- the slot is neither that of an empty table nor that of a table with a game
 pub record IsNoTreeSlot (root : List ℕ) : Type 0 where
   pub not_empty : ¬ IsEmptyTreeSlot root
-  pub no_game : (kind : PackingKind) → ¬ IsGameTreeSlot root kind
+  pub no_game : (kind : PackingKind) (goal : Option ℕ) → ¬ IsGameTreeSlot root kind goal

@@ -98,7 +98,7 @@ pub record WorkStays (old new : Work) : Type 0 where
   pub torn : new.torn ≡ old.torn
 
 -- after calls that were answered: nothing is committed, the store is as open as it was, the text is the same and as long as the slot
--- says, so is the packing, and pages that held the table hold what it has come to
+-- says, so are the packing and the goal, and pages that held the table hold what it has come to
 pub record WorkGoesOn (old new : Work) : Type 0 where
   pub works : StoreWorks old.store new.store
   pub still : new.store.closed ≡ old.store.closed
@@ -106,6 +106,7 @@ pub record WorkGoesOn (old new : Work) : Type 0 where
   pub torn : new.torn ≡ old.torn
   pub long : new.slot.sizes.text ≡ old.slot.sizes.text
   pub packing : new.slot.packing ≡ old.slot.packing
+  pub goal : new.slot.goal ≡ old.slot.goal
   pub holds : IsHonestWork old → HoldsWork old → HoldsWork new
 
 -- why a call gives no answer: the disk failed; what was there is no honest table; no page is free; memory is short, or a
@@ -124,10 +125,12 @@ pub record WorkFails (old new : Work) (fault : TableFault) : Type 0 where
   pub text : new.text ≡ old.text
   pub cause : NoAnswerCause old new fault
 
--- the slot of a text of so many bytes, from this page on, and of no position; positions have this packing and so many bytes
-abbrev pub text_slot : PackingKind → ℕ → ℕ → ℕ → TreeSlot
-text_slot kind first text n = record {
+-- the slot of a text of so many bytes, from this page on, and of no position; positions have this packing and so many bytes, and the goal
+-- this number
+abbrev pub text_slot : PackingKind → ℕ → ℕ → ℕ → ℕ → TreeSlot
+text_slot kind goal first text n = record {
   packing = kind;
+  goal = goal;
   first = first;
   sizes = record { text = text; packed = n; counts = record { known = 0; expanded = 0; settled = 0; processed = 0 }; edges = 0 };
   roots = record { positions = 0; records = 0; edges = 0; order = 0 };
@@ -135,4 +138,4 @@ text_slot kind first text n = record {
 
 -- the slot that names no page, for positions of so many bytes
 abbrev pub bare_slot : ℕ → TreeSlot
-bare_slot n = text_slot Bytes 0 0 n
+bare_slot n = text_slot Bytes 0 0 0 n

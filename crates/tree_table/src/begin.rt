@@ -9,7 +9,7 @@ ghost use Rattle.retrograde.specs.Stored.{loaded};
 ghost use Rattle.table.specs.declared.fault.TableFault.TheVariants.{Disk};
 ghost use Rattle.game_file.specs.Kept.{kept_as};
 ghost use Rattle.game_file.specs.Stops.{LeavesEither, LeavesTable};
-ghost use Rattle.root_slot.specs.Fields.{commits_in};
+ghost use Rattle.root_slot.specs.Fields.{commits_in, layout_in, number_of_goal as goal_number, goal_numbered, HasPlaceFor, SaysPages};
 ghost use Rattle.tree_table.specs.Causes.{StartCause};
 ghost use Rattle.tree_table.specs.Held.{StoresTrees};
 ghost use Rattle.tree_table.specs.Keeping.{IsKeptInTrees, IsSizedSlot, IsStill, IsVacant, StandsInTrees};
@@ -17,6 +17,7 @@ ghost use Rattle.tree_table.specs.Slot.{slot_in};
 ghost use Rattle.tree_table.specs.Working.{HoldsTable, text_slot};
 ghost use Rattle.tree_table.specs.Versions.{KeepsHolds};
 ghost use Rattle.page_chain.specs.Chain.{first_of};
+ghost use Rattle.rbg_game.specs.Goals.{points_of};
 ghost use Rattle.rbg_game.specs.declared.limits.TheConstants.{MAX_TEXT_BYTES};
 
 use crate::change::add_position;
@@ -27,15 +28,18 @@ use crate::slot::TreeSlot;
 use page_chain::write_chain;
 use page_store::Pages;
 use position_pack::{Packed, PackingKind};
+use rbg_game::goal::Goal;
+use root_slot::number_of_goal;
 use std::alloc::Global;
 use table::TableFault;
 
 /// The slot of a text of so many bytes, from this page on, and of no position.
-fn text_slot(packing: PackingKind, first: u32, text: u32, packed: u32) -> TreeSlot
-    ensures { result ≡ text_slot packing first text packed }
+fn text_slot(packing: PackingKind, goal: u32, first: u32, text: u32, packed: u32) -> TreeSlot
+    ensures { result ≡ text_slot packing goal first text packed }
 {
     let mut slot = bare_slot(packed);
     slot.packing = packing;
+    slot.goal = goal;
     slot.first = first;
     slot.sizes.text = text;
     slot
@@ -54,6 +58,7 @@ fn first_table<P: Pages>(
     store: &mut P,
     text: &[u8],
     packing: PackingKind,
+    goal: Option<Goal>,
     start: &Packed,
 ) -> Result<TreeSlot, TableFault>
     requires some { 1 ≤ length start.now.items }
@@ -62,6 +67,8 @@ fn first_table<P: Pages>(
         → IfOk result (λ slot. HoldsTable slot text.now (loaded start.now.items) (P.store store.new)) }
     ensures long { IfOk result (λ slot. slot.sizes.text ≡ length text.now) }
     ensures packing { IfOk result (λ slot. slot.packing ≡ packing) }
+    ensures number { IfOk result (λ slot. slot.goal ≡ goal_number (points_of goal)) }
+    ensures goal { IfOk result (λ slot. goal_numbered slot.goal ≡ points_of goal) }
     ensures sized { IfOk result IsSizedSlot }
     ensures works { StoreWorks (P.store store.old) (P.store store.new) }
     ensures open { OnOk result ((P.store store.new).closed ≡ (P.store store.old).closed) }
@@ -74,6 +81,7 @@ fn first_table<P: Pages>(
     };
     let slot = text_slot(
         packing,
+        number_of_goal(goal),
         first_page(&pages),
         text.len() as u32,
         start.len() as u32,
@@ -81,8 +89,8 @@ fn first_table<P: Pages>(
     add_position(store, slot, start)
 }
 
-/// Puts a game with this text, packing and start into a store that has none, and commits: the new root tells this count of commits. A
-/// stop of the power leaves no game or this one; after `Ok` this one is kept, and after a refusal that leaves the store open
+/// Puts a game with this text, packing, goal and start into a store that has none, and commits: the new root has the layout of the old
+/// one, and tells this count of commits. A stop of the power leaves no game or this one; after `Ok` this one is kept, and after a refusal that leaves the store open
 /// none.
 pub fn load<P: Pages>(
     alloc: Global,
@@ -90,20 +98,26 @@ pub fn load<P: Pages>(
     commits: u64,
     text: &[u8],
     packing: PackingKind,
+    goal: Option<Goal>,
     start: &Packed,
 ) -> Result<TreeSlot, TableFault>
     requires some { 1 ≤ length start.now.items }
     requires text { length text.now ≤ MAX_TEXT_BYTES }
+    requires place { HasPlaceFor (layout_in (P.store store.old).root) (goal_number (points_of goal)) }
     ensures commits { OnOk result (commits_in (P.store store.new).root ≡ commits) }
+    ensures layout { OnOk result (layout_in (P.store store.new).root ≡ layout_in (P.store store.old).root) }
+    ensures pages { OnOk result (SaysPages (P.store store.new).root (length (P.store store.new).marks)) }
     ensures root { IfOk result (λ slot. slot_in (P.store store.new).root ≡ slot) }
     ensures packing { IfOk result (λ slot. slot.packing ≡ packing) }
+    ensures goal { IfOk result (λ slot. goal_numbered slot.goal ≡ points_of goal) }
     ensures sized { IfOk result IsSizedSlot }
-    ensures stop { IsVacant (P.store store.old) → LeavesEither StoresTrees (P.store store.old).disk (P.store store.new).disk None
-        (Some (kept_as text.now packing (loaded start.now.items))) }
+    ensures stop { IsVacant (P.store store.old) → LeavesEither (StoresTrees (layout_in (P.store store.old).root) (length (P.store store.old).marks))
+        (P.store store.old).disk (P.store store.new).disk None
+        (Some (kept_as text.now packing (points_of goal) (loaded start.now.items))) }
     ensures done { IsVacant (P.store store.old)
-        → OnOk result (IsKeptInTrees (P.store store.new) (Some (kept_as text.now packing (loaded start.now.items)))) }
+        → OnOk result (IsKeptInTrees (P.store store.new) (Some (kept_as text.now packing (points_of goal) (loaded start.now.items)))) }
     ensures kept_stop { IsVacant (P.store store.old) → OnErr result ((P.store store.new).closed ≡ false
-        → LeavesTable StoresTrees (P.store store.old).disk (P.store store.new).disk None) }
+        → LeavesTable (StoresTrees (layout_in (P.store store.old).root) (length (P.store store.old).marks)) (P.store store.old).disk (P.store store.new).disk None) }
     ensures stands { IsTrue (P.store store.old).disk.honest
         → IfOk result (λ slot. StandsInTrees slot text.now (P.store store.new)) }
     ensures holds { IsTrue (P.store store.old).disk.honest
@@ -121,7 +135,7 @@ pub fn load<P: Pages>(
     ensures closes { StoreCloses (P.store store.old) (P.store store.new) }
     ensures cause { IfErr result (StartCause (length text.now) (P.store store.old) (P.store store.new)) }
 {
-    let slot = first_table(alloc, store, text, packing, start)?;
+    let slot = first_table(alloc, store, text, packing, goal, start)?;
     match commit(store, commits, &slot) {
         Ok(()) => Ok(slot),
         Err(fault) => Err(table_fault(fault)),

@@ -53,6 +53,7 @@ fn put_in<P: Pages>(
     match put(store, widths, slot.roots.root(tree), key, value) {
         Ok(root) => Ok(TreeSlot {
             packing: slot.packing,
+            goal: slot.goal,
             first: slot.first,
             sizes: slot.sizes,
             roots: slot.roots.with(tree, root),

@@ -10,7 +10,7 @@ ghost use Rattle.retrograde.specs.Stored.{loaded};
 ghost use Rattle.table.specs.declared.fault.TableFault.TheVariants.{Disk};
 ghost use Rattle.game_file.specs.Kept.{Kept, kept_as};
 ghost use Rattle.game_file.specs.Stops.{LeavesEither, LeavesTable};
-ghost use Rattle.root_slot.specs.Fields.{commits_in};
+ghost use Rattle.root_slot.specs.Fields.{commits_in, layout_in, goal_numbered, number_of_goal, HasPlaceFor, SaysPages};
 ghost use Rattle.tree_table.specs.Held.{StoresTrees};
 ghost use Rattle.tree_table.specs.Keeping.{IsKeptInTrees, IsStill, IsVacant, IsWorkedOn, StandsInTrees, StandsFor, AreSized};
 ghost use Rattle.tree_table.specs.Causes.{StartCause};
@@ -18,6 +18,7 @@ ghost use Rattle.tree_table.specs.Slot.{slot_in};
 ghost use Rattle.tree_table.specs.Keeping.{slot_or_bare as slot_of};
 ghost use Rattle.tree_table.specs.Working.{bare_slot as bare, work_of};
 ghost use Rattle.tree_table.specs.Versions.{KeepsHolds};
+ghost use Rattle.rbg_game.specs.Goals.{points_of};
 ghost use Rattle.rbg_game.specs.declared.limits.TheConstants.{MAX_TEXT_BYTES};
 
 use crate::begin::load;
@@ -27,6 +28,7 @@ use crate::tree::Roots;
 use crate::working::TreeTable;
 use page_store::{PageFault, Pages};
 use position_pack::{Packed, PackingKind};
+use rbg_game::goal::Goal;
 use record_bytes::Sizes;
 use retrograde::Counts;
 use std::alloc::Global;
@@ -56,6 +58,7 @@ pub fn bare_slot(packed: u32) -> TreeSlot
     };
     TreeSlot {
         packing: PackingKind::Bytes,
+        goal: 0,
         first: 0,
         sizes,
         roots,
@@ -112,23 +115,27 @@ impl<P: Pages> TreeTable<P> {
         self.torn = false;
     }
 
-    /// Commits the table that a command has come to, as `commit` does. The new root tells this count of commits.
+    /// Commits the table that a command has come to, as `commit` does. The new root has the layout of the old one, and tells this count of
+    /// commits.
     pub fn save(&mut self, commits: u64) -> Result<(), PageFault>
         ensures slot { (work_in self.new).slot ≡ (work_in self.old).slot }
         ensures text { (work_in self.new).text ≡ (work_in self.old).text }
         ensures torn { (work_in self.new).torn ≡ (work_in self.old).torn }
         ensures commits { OnOk result (commits_in (work_in self.new).store.root ≡ commits) }
-        ensures root { OnOk result (slot_in (work_in self.new).store.root ≡ (work_in self.old).slot) }
+        ensures layout { OnOk result (layout_in (work_in self.new).store.root ≡ layout_in (work_in self.old).store.root) }
+        ensures pages { OnOk result (SaysPages (work_in self.new).store.root (length (work_in self.new).store.marks)) }
+        ensures root { HasPlaceFor (layout_in (work_in self.old).store.root) (work_in self.old).slot.goal
+            → OnOk result (slot_in (work_in self.new).store.root ≡ (work_in self.old).slot) }
         ensures stop { (begun : Store) (was : Option Kept) (is : Kept)
             → IsWorkedOn (work_in self.old).slot begun (work_in self.old).store was is
-            → LeavesEither StoresTrees begun.disk (work_in self.new).store.disk was (Some is) }
+            → LeavesEither (StoresTrees (layout_in begun.root) (length begun.marks)) begun.disk (work_in self.new).store.disk was (Some is) }
         ensures done { (begun : Store) (was : Option Kept) (is : Kept)
             → IsWorkedOn (work_in self.old).slot begun (work_in self.old).store was is
             → OnOk result (IsKeptInTrees (work_in self.new).store (Some is)) }
         ensures kept_stop { (begun : Store) (was : Option Kept) (is : Kept)
             → IsWorkedOn (work_in self.old).slot begun (work_in self.old).store was is
             → OnErr result ((work_in self.new).store.closed ≡ false
-            → LeavesTable StoresTrees begun.disk (work_in self.new).store.disk was) }
+            → LeavesTable (StoresTrees (layout_in begun.root) (length begun.marks)) begun.disk (work_in self.new).store.disk was) }
         ensures stands { (work_in self.old).torn ≡ false → IsTrue (work_in self.old).store.disk.honest
             → OnOk result (∥ StandsInTrees (work_in self.old).slot (work_in self.old).text (work_in self.new).store ∥₁) }
         ensures calm { ((p : ℕ) → mark_of (work_in self.old).store.marks p ≡ Waiting → ⊥) → OnOk result (IsCalm (work_in self.new).store) }
@@ -152,7 +159,7 @@ impl<P: Pages> TreeTable<P> {
         result
     }
 
-    /// Puts a game with this text, packing and start in the place of none, and commits, as `load` does. After a refusal the table has
+    /// Puts a game with this text, packing, goal and start in the place of none, and commits, as `load` does. After a refusal the table has
     /// stopped half way, and goes back by `restore`.
     pub fn start(
         &mut self,
@@ -160,23 +167,30 @@ impl<P: Pages> TreeTable<P> {
         commits: u64,
         text: Vec<u8>,
         packing: PackingKind,
+        goal: Option<Goal>,
         start: &Packed,
     ) -> Result<(), TableFault>
         requires some { 1 ≤ length start.now.items }
         requires text { length text.items ≤ MAX_TEXT_BYTES }
+        requires place { HasPlaceFor (layout_in (work_in self.old).store.root) (number_of_goal (points_of goal)) }
         ensures text { OnOk result ((work_in self.new).text ≡ text.items) }
         ensures packing { OnOk result ((work_in self.new).slot.packing ≡ packing) }
+        ensures goal { OnOk result (goal_numbered (work_in self.new).slot.goal ≡ points_of goal) }
+        ensures layout { OnOk result (layout_in (work_in self.new).store.root ≡ layout_in (work_in self.old).store.root) }
+        ensures pages { OnOk result (SaysPages (work_in self.new).store.root (length (work_in self.new).store.marks)) }
         ensures kept_text { OnErr result ((work_in self.new).text ≡ (work_in self.old).text) }
         ensures torn { OnOk result ((work_in self.new).torn ≡ false) }
         ensures commits { OnOk result (commits_in (work_in self.new).store.root ≡ commits) }
         ensures root { OnOk result (slot_in (work_in self.new).store.root ≡ (work_in self.new).slot) }
         ensures stop { IsVacant (work_in self.old).store
-            → LeavesEither StoresTrees (work_in self.old).store.disk (work_in self.new).store.disk None
-            (Some (kept_as text.items packing (loaded start.now.items))) }
+            → LeavesEither (StoresTrees (layout_in (work_in self.old).store.root) (length (work_in self.old).store.marks))
+            (work_in self.old).store.disk (work_in self.new).store.disk None
+            (Some (kept_as text.items packing (points_of goal) (loaded start.now.items))) }
         ensures done { IsVacant (work_in self.old).store
-            → OnOk result (IsKeptInTrees (work_in self.new).store (Some (kept_as text.items packing (loaded start.now.items)))) }
+            → OnOk result (IsKeptInTrees (work_in self.new).store (Some (kept_as text.items packing (points_of goal) (loaded start.now.items)))) }
         ensures kept_stop { IsVacant (work_in self.old).store → OnErr result ((work_in self.new).store.closed ≡ false
-            → LeavesTable StoresTrees (work_in self.old).store.disk (work_in self.new).store.disk None) }
+            → LeavesTable (StoresTrees (layout_in (work_in self.old).store.root) (length (work_in self.old).store.marks))
+            (work_in self.old).store.disk (work_in self.new).store.disk None) }
         ensures stands { IsTrue (work_in self.old).store.disk.honest
             → OnOk result (StandsInTrees (work_in self.new).slot text.items (work_in self.new).store) }
         ensures calm { ((p : ℕ) → mark_of (work_in self.old).store.marks p ≡ Waiting → ⊥) → OnOk result (IsCalm (work_in self.new).store) }
@@ -194,7 +208,7 @@ impl<P: Pages> TreeTable<P> {
         ensures cause { IfErr result (StartCause (length text.items) (work_in self.old).store (work_in self.new).store) }
     {
         self.torn = true;
-        let slot = load(alloc, &mut self.store, commits, &text, packing, start)?;
+        let slot = load(alloc, &mut self.store, commits, &text, packing, goal, start)?;
         self.slot = slot;
         self.text = text;
         self.torn = false;

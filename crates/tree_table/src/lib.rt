@@ -20,6 +20,6 @@ pub use bytes::{Cell, cell_in, number_in, number_key};
 pub use keeping::bare_slot;
 pub use read::value_at;
 pub use saving::{commit, discard};
-pub use slot::{Slot, TreeSlot, empty_slot, game_slot, read_slot};
+pub use slot::{FIRST_WITH_GOALS, Slot, TreeSlot, empty_slot, game_slot, read_slot};
 pub use tree::{Roots, Tree, widths_of};
 pub use working::TreeTable;

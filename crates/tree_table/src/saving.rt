@@ -6,7 +6,7 @@ ghost use Rattle.page_store.specs.Spelling.{IsCalm};
 ghost use Rattle.page_store.specs.Store.{Store, StoreWorks, StoreCloses, IsCommitted, reads};
 ghost use Rattle.game_file.specs.Kept.{Kept};
 ghost use Rattle.game_file.specs.Stops.{LeavesEither, LeavesTable};
-ghost use Rattle.root_slot.specs.Fields.{commits_in};
+ghost use Rattle.root_slot.specs.Fields.{commits_in, layout_in, HasPlaceFor, SaysPages};
 ghost use Rattle.tree_table.specs.Held.{StoresTrees};
 ghost use Rattle.tree_table.specs.Keeping.{IsKeptInTrees, IsStill, IsWorkedOn};
 ghost use Rattle.tree_table.specs.Slot.{slot_in, IsNoTreeSlot, SaysTrees};
@@ -15,22 +15,25 @@ ghost use Rattle.tree_table.specs.Working.{HoldsTable};
 
 use crate::slot::{Slot, TreeSlot, game_slot, read_slot};
 use page_store::{PageFault, Pages};
+use root_slot::word_at;
 
-/// Commits the table that this slot names in the place of the one that the committed root names. The new root tells this
-/// count of commits. A stop of the power since the work began leaves the old table or the new one; after `Ok` the new is
+/// Commits the table that this slot names in the place of the one that the committed root names. The new root has the layout of the
+/// old one, and tells this count of commits. A stop of the power since the work began leaves the old table or the new one; after `Ok` the new is
 /// kept, and after a refusal that leaves the store open the old.
 pub fn commit<P: Pages>(store: &mut P, commits: u64, slot: &TreeSlot) -> Result<(), PageFault>
     ensures commits { OnOk result (commits_in (P.store store.new).root ≡ commits) }
-    ensures slot { OnOk result (slot_in (P.store store.new).root ≡ slot.now) }
+    ensures layout { OnOk result (layout_in (P.store store.new).root ≡ layout_in (P.store store.old).root) }
+    ensures pages { OnOk result (SaysPages (P.store store.new).root (length (P.store store.new).marks)) }
+    ensures slot { HasPlaceFor (layout_in (P.store store.old).root) slot.now.goal → OnOk result (slot_in (P.store store.new).root ≡ slot.now) }
     ensures stop { (begun : Store) (was : Option Kept) (is : Kept) → IsWorkedOn slot.now begun (P.store store.old) was is
-        → LeavesEither StoresTrees begun.disk (P.store store.new).disk was (Some is) }
+        → LeavesEither (StoresTrees (layout_in begun.root) (length begun.marks)) begun.disk (P.store store.new).disk was (Some is) }
     ensures done { (begun : Store) (was : Option Kept) (is : Kept) → IsWorkedOn slot.now begun (P.store store.old) was is
         → OnOk result (IsKeptInTrees (P.store store.new) (Some is)) }
     ensures kept { (begun : Store) (was : Option Kept) (is : Kept) → IsWorkedOn slot.now begun (P.store store.old) was is
         → OnErr result ((P.store store.new).closed ≡ false → IsKeptInTrees (P.store store.new) was) }
     ensures kept_stop { (begun : Store) (was : Option Kept) (is : Kept) → IsWorkedOn slot.now begun (P.store store.old) was is
         → OnErr result ((P.store store.new).closed ≡ false
-        → LeavesTable StoresTrees begun.disk (P.store store.new).disk was) }
+        → LeavesTable (StoresTrees (layout_in begun.root) (length begun.marks)) begun.disk (P.store store.new).disk was) }
     ensures open { OnOk result ((P.store store.new).closed ≡ false) }
     ensures committed { OnOk result ((root : List ℕ) × IsCommitted root (P.store store.old) (P.store store.new)) }
     ensures kept_marks { OnErr result ((P.store store.new).marks ≡ (P.store store.old).marks) }
@@ -47,7 +50,8 @@ pub fn commit<P: Pages>(store: &mut P, commits: u64, slot: &TreeSlot) -> Result<
     ensures closes { StoreCloses (P.store store.old) (P.store store.new) }
     ensures cause { IfErr result (StoreCommitCause (P.store store.old) (P.store store.new)) }
 {
-    let root = game_slot(commits, slot);
+    let layout = word_at(&store.root().bytes, 0);
+    let root = game_slot(layout, store.capacity(), commits, slot);
     store.commit(&root)
 }
 

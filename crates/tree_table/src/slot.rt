@@ -1,24 +1,30 @@
-//! The root slot of layout 2: what its 512 bytes say.
-ghost use Rattle.std.specs.Prelude.{◌≡◌, ◌+◌, ◌≤◌, ◌<◌, ℕ, slice_index, IfSome, IfNone};
-ghost use Rattle.root_slot.specs.Fields.{word_at as word_in, layout_in, packing_in, commits_in, number_of_packing as number_of, AreZero};
-ghost use Rattle.tree_table.specs.Slot.{roots_in, slot_in, IsEmptyTreeSlot, IsNoTreeSlot, SaysTrees};
+//! The root slot of a table on trees: what its 512 bytes say.
+ghost use Rattle.std.specs.Prelude.{◌≡◌, ◌+◌, ◌≤◌, ◌<◌, ℕ, Option, Some, slice_index, IfSome, IfNone};
+ghost use Rattle.position_pack.specs.declared.kind.PackingKind.{PackingKind};
+ghost use Rattle.rbg_game.specs.declared.limits.TheConstants.{MAX_POINTS};
+ghost use Rattle.root_slot.specs.Fields.{word_at as word_in, layout_in, packing_in, commits_in, capacity_in, goal_number_in};
+ghost use Rattle.root_slot.specs.Fields.{number_of_packing as number_of, AreZero, HasPlaceFor, SaysPages};
+ghost use Rattle.tree_table.specs.Slot.{roots_in, slot_in, IsEmptyTreeSlot, IsGameTreeSlot, IsNoTreeSlot, SaysTrees};
 
 use crate::tree::Roots;
 use position_pack::PackingKind;
+use rbg_game::limits::MAX_POINTS;
 use record_bytes::Sizes;
 use root_slot::{
     are_within_limits, are_zero, long_at, number_of_packing, packing_numbered, put_long, put_word,
     sizes_in, word_at,
 };
 
-/// The number of this layout.
-const LAYOUT: u32 = 2;
+/// The first layout whose slot says how many pages there are, and may name a goal.
+pub const FIRST_WITH_GOALS: u32 = 3;
 
 /// What a slot says of a table with a game; of one without, all is 0.
 #[derive(Clone, Copy, PartialEq, Eq, Debug, Drop)]
 pub struct TreeSlot {
     /// How its positions are packed.
     pub packing: PackingKind,
+    /// The points of its goal, 0 for none.
+    pub goal: u32,
     /// The first page of the chain of the text.
     pub first: u32,
     pub sizes: Sizes,
@@ -30,6 +36,8 @@ pub struct TreeSlot {
 pub struct Slot {
     /// Commits since the file was made; 0 follows the greatest number.
     pub commits: u64,
+    /// How many pages there are, in layouts from 3 on.
+    pub capacity: u32,
     /// The table, where a game is loaded.
     pub game: Option<TreeSlot>,
 }
@@ -46,49 +54,86 @@ fn roots_in(root: &[u8; 512]) -> Roots
     }
 }
 
-/// What the slot says; none where that is no table of this layout.
-pub fn read_slot(root: &[u8; 512]) -> Option<Slot>
-    ensures says { IfSome result (λ slot. SaysTrees root.now slot.game) }
-    ensures commits { IfSome result (λ slot. slot.commits ≡ commits_in root.now) }
-    ensures none { IfNone result (IsNoTreeSlot root.now) }
+/// The number of the goal, 0 in layouts that have none.
+fn goal_number(root: &[u8; 512]) -> u32
+    ensures { result ≡ goal_number_in root.now }
 {
-    if word_at(root, 0) != LAYOUT {
-        return None;
+    if word_at(root, 0) < FIRST_WITH_GOALS {
+        0
+    } else {
+        word_at(root, 72)
     }
-    let commits = long_at(root, 8);
-    let number = word_at(root, 4);
-    if number == 0 && are_zero(root, 16, 68) {
-        return Some(Slot {
-            commits,
-            game: None,
-        });
-    }
+}
+
+/// What the slot of a table with a game says, in which the packing has this number; none where that is no table.
+fn read_game(root: &[u8; 512], number: u32) -> Option<TreeSlot>
+    requires number { number ≡ packing_in root.now }
+    ensures says { IfSome result (λ slot. SaysTrees root.now (Some slot)) }
+    ensures none { IfNone result ((kind : PackingKind) (goal : Option ℕ) → ¬ IsGameTreeSlot root.now kind goal) }
+{
     let packing = packing_numbered(number)?;
+    let goal = goal_number(root);
     let sizes = sizes_in(root);
-    if !are_within_limits(&sizes) || sizes.packed == 0 {
+    if goal > MAX_POINTS || !are_within_limits(&sizes) || sizes.packed == 0 {
         return None;
     }
     let first = word_at(root, 16);
     let roots = roots_in(root);
-    Some(Slot {
-        commits,
-        game: Some(TreeSlot {
-            packing,
-            first,
-            sizes,
-            roots,
-        }),
+    Some(TreeSlot {
+        packing,
+        goal,
+        first,
+        sizes,
+        roots,
     })
 }
 
-/// The slot of a table in which no game is loaded, after no commit.
-pub fn empty_slot() -> [u8; 512]
+/// What the slot says; none where that is no table on trees.
+pub fn read_slot(root: &[u8; 512]) -> Option<Slot>
+    ensures says { IfSome result (λ slot. SaysTrees root.now slot.game) }
+    ensures commits { IfSome result (λ slot. slot.commits ≡ commits_in root.now) }
+    ensures capacity { IfSome result (λ slot. slot.capacity ≡ capacity_in root.now) }
+    ensures none { IfNone result (IsNoTreeSlot root.now) }
+{
+    let commits = long_at(root, 8);
+    let capacity = word_at(root, 68);
+    let number = word_at(root, 4);
+    if number == 0 && are_zero(root, 16, 68) && goal_number(root) == 0 {
+        return Some(Slot {
+            commits,
+            capacity,
+            game: None,
+        });
+    }
+    let game = read_game(root, number)?;
+    Some(Slot {
+        commits,
+        capacity,
+        game: Some(game),
+    })
+}
+
+/// What a slot of this layout has for so many pages: 0 where the layout does not say how many there are.
+fn number_of_pages(layout: u32, pages: u32) -> u32
+    ensures said { 3 ≤ layout → result ≡ pages }
+    ensures unsaid { layout < 3 → result ≡ 0 }
+{
+    if layout < FIRST_WITH_GOALS { 0 } else { pages }
+}
+
+/// The slot of a table of this layout and so many pages in which no game is loaded, after no commit.
+pub fn empty_slot(layout: u32, pages: u32) -> [u8; 512]
+    ensures layout { layout_in result ≡ layout }
+    ensures pages { SaysPages result pages }
     ensures empty { IsEmptyTreeSlot result }
     ensures commits { commits_in result ≡ 0 }
-    ensures zero { (k : ℕ) → 4 ≤ k → slice_index result k ≡ 0 }
+    ensures fields { AreZero 4 68 result }
+    ensures behind { AreZero 72 512 result }
+    ensures unsaid { layout < 3 → capacity_in result ≡ 0 }
 {
     let mut root = [0; 512];
-    put_word(&mut root, 0, LAYOUT);
+    put_word(&mut root, 0, layout);
+    put_word(&mut root, 68, number_of_pages(layout, pages));
     root
 }
 
@@ -105,21 +150,25 @@ fn put_roots(root: &mut [u8; 512], roots: Roots)
     put_word(root, 56, roots.order);
 }
 
-/// The slot of a table with a game, after so many commits. All bytes without a field are zero.
-pub fn game_slot(commits: u64, slot: &TreeSlot) -> [u8; 512]
-    ensures layout { layout_in result ≡ 2 }
+/// The slot of a table of this layout and so many pages with a game, after so many commits. It names the goal where the layout has a
+/// place for it. All bytes without a field are zero.
+pub fn game_slot(layout: u32, pages: u32, commits: u64, slot: &TreeSlot) -> [u8; 512]
+    ensures layout { layout_in result ≡ layout }
+    ensures pages { SaysPages result pages }
     ensures packing { packing_in result ≡ number_of slot.now.packing }
     ensures commits { commits_in result ≡ commits }
-    ensures slot { slot_in result ≡ slot.now }
-    ensures behind { AreZero 68 512 result }
+    ensures slot { HasPlaceFor layout slot.now.goal → slot_in result ≡ slot.now }
+    ensures behind { AreZero 76 512 result }
+    ensures unsaid { layout < 3 → capacity_in result ≡ 0 }
 {
-    let mut root = empty_slot();
+    let mut root = empty_slot(layout, pages);
     put_word(&mut root, 4, number_of_packing(slot.packing));
     put_long(&mut root, 8, commits);
     put_word(&mut root, 16, slot.first);
     put_sizes(&mut root, &slot.sizes);
     put_roots(&mut root, slot.roots);
     put_long(&mut root, 60, slot.sizes.edges);
+    put_word(&mut root, 72, slot.goal);
     root
 }
 

@@ -5,6 +5,7 @@ ghost use Rattle.table.specs.Records.{nothing};
 ghost use Rattle.tree_table.specs.Working as work;
 ghost use Rattle.tree_table.specs.aid.Frames as frames;
 ghost use Rattle.position_pack.specs.declared.limits.TheConstants.{MAX_PACKED};
+ghost use Rattle.rbg_game.specs.declared.limits.TheConstants.{MAX_POINTS};
 
 use crate::change::{add_edge, add_position, push_settled, set_record};
 use crate::keeping::bare_slot;
@@ -30,6 +31,7 @@ pub struct TreeTable<P: Pages> {
     ghost some: { 1 ≤ slot.sizes.packed },
     ghost short: { slot.sizes.packed ≤ MAX_PACKED },
     ghost few: { slot.sizes.counts.known ≤ 2 ^ 24 },
+    ghost points: { slot.goal ≤ MAX_POINTS },
     ghost holds: { IsHonestWork (work_of slot text.items torn (P.store store))
         → ∥ HoldsWork (work_of slot text.items torn (P.store store)) ∥₁ },
 }

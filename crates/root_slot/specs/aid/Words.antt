@@ -47,6 +47,14 @@ long_same old new at same =
       each 7 (omega arith),
     ) refl
 
+-- so are four
+pub word_same : (old new : List ℕ) (at : ℕ) → ((k : ℕ) → at ≤ k → k < at + 4 → slice_index new k ≡ slice_index old k)
+    → big_number 4 (drop at new) ≡ big_number 4 (drop at old)
+word_same old new at same =
+    let each : (i : ℕ) → i < 4 → slice_index (drop at new) i ≡ slice_index (drop at old) i =
+    λ (i : ℕ) low. get_or-drop at new i 0 ∙ same (at + i) (omega arith) (omega (arith, low)) ∙ sym (get_or-drop at old i 0) in
+    rw (each 0 (omega arith), each 1 (omega arith), each 2 (omega arith), each 3 (omega arith)) refl
+
 -- eight zero bytes are the number zero
 pub long_zero : (root : List ℕ) (at : ℕ) → ((k : ℕ) → at ≤ k → slice_index root k ≡ 0) → big_number 8 (drop at root) ≡ 0
 long_zero root at zero =

@@ -102,6 +102,7 @@ stays_goes_on {a} {b} it = record {
   torn = it.torn;
   long = ap (λ (s : TreeSlot). s.sizes.text) it.slot;
   packing = ap (λ (s : TreeSlot). s.packing) it.slot;
+  goal = ap (λ (s : TreeSlot). s.goal) it.slot;
   holds = λ honest h.
       holds_still a b it honest.disk h;
 }
@@ -114,6 +115,7 @@ goes_on_then first second = record {
   torn = second.torn ∙ first.torn;
   long = second.long ∙ first.long;
   packing = second.packing ∙ first.packing;
+  goal = second.goal ∙ first.goal;
   holds = λ honest h. second.holds (honest_on first.works first.torn honest) (first.holds honest h);
 }
 

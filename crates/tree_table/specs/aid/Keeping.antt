@@ -1,7 +1,6 @@
 -- What pages hold they hold wherever their bytes are the same, below each greater capacity, and after a commit.
 use Rattle.std.specs.Prelude.{◌≡◌, ◌⊎◌, ℕ, ◌*◌, ◌≤◌, true, false, List, length, Option, None, Some, IsTrue}
 use Rattle.std.proofs.Common.{inl, inr, refl, sym, ◌∙◌, ap, subst, arith}
-use Rattle.std.proofs.Math.Nat.{le-min, le-div_iff_mul-le}
 use Rattle.sector_disk.specs.Disk.{Picture}
 use Rattle.sector_disk.specs.aid.Moments.{leaves_more}
 use Rattle.page_store.specs.Page.{page}
@@ -17,7 +16,7 @@ use Rattle.tree_map.specs.aid.Unchanged.{unchanged_reads}
 use Rattle.page_chain.specs.aid.Resting.{a_chain_rests_on_its_pages, a_chain_fits_more}
 use Rattle.position_pack.specs.declared.kind.PackingKind.{PackingKind}
 use Rattle.retrograde.specs.Stored.{Stored, IsTable}
-use Rattle.root_slot.specs.Fields.{capacity_of, first_in, sizes_in}
+use Rattle.root_slot.specs.Fields.{layout_in, first_in, sizes_in, SaysPages}
 use Rattle.game_file.specs.Kept.{Kept, kept_as}
 use Rattle.game_file.specs.Stops.{LeavesEither, LeavesNow, LeavesTable}
 use Rattle.tree_page.specs.Page.{Item}
@@ -111,21 +110,19 @@ keeps_in_more_trees root fewer more (Some kept) bytes le it =
       };
     }
 
--- so many pages are within what a picture with room for them has
-within_capacity : (picture : Picture) (c : ℕ) → 8 * c ≤ length picture → c ≤ 1048576 → c ≤ capacity_of picture
-within_capacity picture c room few = le-min ((le-div_iff_mul-le (omega arith)).1 (omega (arith, room))) few
-
 -- a picture with this root whose pages spell this stores it
-pub spells_stores_trees : (root : List ℕ) (c : ℕ) (kept : Option Kept) (picture : Picture) → 16 ≤ c → c ≤ 1048576
-    → Spells root c (KeepsTrees root c kept) picture → StoresTrees picture kept
-spells_stores_trees root c kept picture enough few it =
-    let fits = within_capacity picture c it.room few in
-    record {
-      root = root;
-      holds = it.holds;
-      room = omega (arith, enough, fits);
-      keeps = keeps_in_more_trees root c (capacity_of picture) kept (page picture) fits it.spelt;
-    }
+pub spells_stores_trees : (root : List ℕ) (layout c : ℕ) (kept : Option Kept) (picture : Picture) → layout_in root ≡ layout → SaysPages root c
+    → 16 ≤ c → c ≤ 1048576 → Spells root c (KeepsTrees root c kept) picture → StoresTrees layout c picture kept
+spells_stores_trees root layout c kept picture same says enough few it = record {
+  root = root;
+  holds = it.holds;
+  same_layout = same;
+  says = says;
+  enough = enough;
+  few = few;
+  room = it.room;
+  keeps = it.spelt;
+}
 
 kept_mark : (m : Mark) → (m ≡ Committed) ⊎ (m ≡ Fresh) → keeps m ≡ true
 kept_mark m (inl is) = ap keeps is
@@ -186,10 +183,11 @@ works_keeps old new kept honest works it = record {
 }
 
 -- and a stop leaves it
-pub kept_stays : (store : Store) (kept : Option Kept) → 16 ≤ length store.marks → length store.marks ≤ 1048576 → IsKeptInTrees store kept
-    → IsSafe store → LeavesNow StoresTrees store.disk kept
-kept_stays store kept enough few it safe picture left =
-    spells_stores_trees store.root (length store.marks) kept picture enough few
+pub kept_stays : (store : Store) (kept : Option Kept) → SaysPages store.root (length store.marks) → 16 ≤ length store.marks
+    → length store.marks ≤ 1048576 → IsKeptInTrees store kept → IsSafe store
+    → LeavesNow (StoresTrees (layout_in store.root) (length store.marks)) store.disk kept
+kept_stays store kept says enough few it safe picture left =
+    spells_stores_trees store.root (layout_in store.root) (length store.marks) kept picture refl says enough few
     (stop_leaves store (kept_stands store kept it) safe picture left)
 
 calm_held : (m : Mark) → IsTrue (rests m) → needs m ≡ true → m ≡ Committed
@@ -217,10 +215,10 @@ kept_is_held store kept calm it = record {
 }
 
 -- a slot of these bytes, where the pages hold a table, is prepared for the next commit
-module _ (root : List ℕ) (slot : TreeSlot) (text : List ℕ) (kind : PackingKind) (table : Stored (List ℕ)) (store : Store)
-    (is_game : IsGameTreeSlot root kind) (is : slot_in root ≡ slot) (long : length text ≡ slot.sizes.text) (whole : IsTable table)
+module _ (root : List ℕ) (slot : TreeSlot) (text : List ℕ) (kind : PackingKind) (goal : Option ℕ) (table : Stored (List ℕ))
+    (store : Store) (is_game : IsGameTreeSlot root kind goal) (is : slot_in root ≡ slot) (long : length text ≡ slot.sizes.text) (whole : IsTable table)
     (h : HoldsTable slot text table store) where
-  held_keeps : KeepsOnPages root (length store.marks) (kept_as text kind table) h.forest.text_pages h.forest.pages (reads store)
+  held_keeps : KeepsOnPages root (length store.marks) (kept_as text kind goal table) h.forest.text_pages h.forest.pages (reads store)
   held_keeps =
       let back : slot ≡ slot_in root = sym is in
       record {
@@ -246,13 +244,13 @@ module _ (root : List ℕ) (slot : TreeSlot) (text : List ℕ) (kind : PackingKi
       (h.forest.held t)).kept p here
 
   pub table_is_prepared : (capacity : ℕ) → capacity ≡ length store.marks
-      → IsPrepared (IsOneOf h.forest.text_pages h.forest.pages) (KeepsTrees root capacity (Some (kept_as text kind table))) store
+      → IsPrepared (IsOneOf h.forest.text_pages h.forest.pages) (KeepsTrees root capacity (Some (kept_as text kind goal table))) store
   table_is_prepared capacity same = record {
     spelled = record {
-      anywhere = λ other agree. subst (λ (n : ℕ). KeepsTrees root n (Some (kept_as text kind table)) other) (sym same) (record {
+      anywhere = λ other agree. subst (λ (n : ℕ). KeepsTrees root n (Some (kept_as text kind goal table)) other) (sym same) (record {
         text_pages = h.forest.text_pages;
         pages = h.forest.pages;
-        keeps = keeps_rests h.forest.text_pages h.forest.pages root (length store.marks) (Some (kept_as text kind table)) (reads store)
+        keeps = keeps_rests h.forest.text_pages h.forest.pages root (length store.marks) (Some (kept_as text kind goal table)) (reads store)
             other agree held_keeps;
       });
     };
@@ -262,28 +260,30 @@ module _ (root : List ℕ) (slot : TreeSlot) (text : List ℕ) (kind : PackingKi
   -- work and then a commit of it: a stop leaves what was kept, or this
   module _ (begun new : Store) (was : Option Kept) (honest : IsTrue begun.disk.honest) (safe : IsSafe begun) (kept : IsKeptInTrees begun
       was)
-      (works : StoreWorks begun store) (commits : Commits root store new) (enough : 16 ≤ length begun.marks)
+      (same : layout_in root ≡ layout_in begun.root) (said : SaysPages begun.root (length begun.marks))
+      (says : SaysPages root (length begun.marks)) (works : StoreWorks begun store) (commits : Commits root store new) (enough : 16 ≤ length begun.marks)
       (few : length begun.marks ≤ 1048576) where
     carried : IsCarried root (IsOneOf kept.text_pages kept.pages) (KeepsTrees begun.root (length begun.marks) was)
-        (IsOneOf h.forest.text_pages h.forest.pages) (KeepsTrees root (length begun.marks) (Some (kept_as text kind table))) begun store new
+        (IsOneOf h.forest.text_pages h.forest.pages) (KeepsTrees root (length begun.marks) (Some (kept_as text kind goal table))) begun store new
     carried =
         commit_carries root begun store new honest safe (kept_stands begun was kept) works
         (table_is_prepared (length begun.marks) (sym works.same_pages)) commits
 
-    pub stop_stores : LeavesEither StoresTrees begun.disk new.disk was (Some (kept_as text kind table))
+    pub stop_stores : LeavesEither (StoresTrees (layout_in begun.root) (length begun.marks)) begun.disk new.disk was (Some (kept_as text kind goal table))
     stop_stores =
         leaves_more (λ picture left. elim left [
-          | inl old ↦ inl (spells_stores_trees begun.root (length begun.marks) was picture enough few old)
-          | inr now ↦ inr (spells_stores_trees root (length begun.marks) (Some (kept_as text kind table)) picture enough few now)
+          | inl old ↦ inl (spells_stores_trees begun.root (layout_in begun.root) (length begun.marks) was picture refl said enough few old)
+          | inr now ↦ inr (spells_stores_trees root (layout_in begun.root) (length begun.marks) (Some (kept_as text kind goal table)) picture same
+              says enough few now)
         ]) carried.stop
 
-    pub committed_keeps : IsCommitted root store new → IsKeptInTrees new (Some (kept_as text kind table))
+    pub committed_keeps : IsCommitted root store new → IsKeptInTrees new (Some (kept_as text kind goal table))
     committed_keeps committed = record {
       text_pages = h.forest.text_pages;
       pages = h.forest.pages;
       keeps = keeps_as h.forest.text_pages h.forest.pages root new.root (length store.marks) (length new.marks)
-          (Some (kept_as text kind table)) (reads new) (sym committed.is) (sym committed.marks.same_length)
-          (keeps_rests h.forest.text_pages h.forest.pages root (length store.marks) (Some (kept_as text kind table)) (reads store)
+          (Some (kept_as text kind goal table)) (reads new) (sym committed.is) (sym committed.marks.same_length)
+          (keeps_rests h.forest.text_pages h.forest.pages root (length store.marks) (Some (kept_as text kind goal table)) (reads store)
           (reads new)
           (λ p here. committed.reads (still_honest works.goes_on honest) p (named_kept p here).0) held_keeps);
       needed = λ p here. (carried.done committed).needed p here;
@@ -304,7 +304,7 @@ module _ (root : List ℕ) (slot : TreeSlot) (text : List ℕ) (kind : PackingKi
           needed = λ p here. subst (λ (ms : List Mark). IsNeeded ms p) (sym unchanged.marks) (mid.needed p here);
         }
 
-    pub unchanged_stop : IsUnchanged store new → LeavesTable StoresTrees begun.disk new.disk was
+    pub unchanged_stop : IsUnchanged store new → LeavesTable (StoresTrees (layout_in begun.root) (length begun.marks)) begun.disk new.disk was
     unchanged_stop unchanged =
-        leaves_more (λ picture left. spells_stores_trees begun.root (length begun.marks) was picture enough few left)
+        leaves_more (λ picture left. spells_stores_trees begun.root (layout_in begun.root) (length begun.marks) was picture refl said enough few left)
         (carried.left_stop unchanged)

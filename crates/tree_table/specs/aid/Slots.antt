@@ -8,12 +8,14 @@ use Rattle.tree_table.specs.declared.slot.TreeSlot.{TreeSlot}
 -- only roots differ
 pub record IsSameButRoots (old new : TreeSlot) : Type 0 where
   pub packing : new.packing ≡ old.packing
+  pub goal : new.goal ≡ old.goal
   pub first : new.first ≡ old.first
   pub sizes : new.sizes ≡ old.sizes
 
--- the text is the same, and so is how positions are packed and how many bytes one has
+-- the text is the same, and so are how positions are packed, the goal, and how many bytes a position has
 pub record IsSameFrame (old new : TreeSlot) : Type 0 where
   pub packing : new.packing ≡ old.packing
+  pub goal : new.goal ≡ old.goal
   pub first : new.first ≡ old.first
   pub text : new.sizes.text ≡ old.sizes.text
   pub packed : new.sizes.packed ≡ old.sizes.packed

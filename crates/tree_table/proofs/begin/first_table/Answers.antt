@@ -25,10 +25,10 @@ chain_held g c honest =
     let pages = c.in-Ok.pages.items in
     let first_is : first_of pages ≡ c.first_page.result = sym (c.first_page.ensures ∙ ap first_of c.deref.ensures.value) in
     let long_is : length c.args.start.now.items ≡ c.len.result = sym c.len.ensures.value in
-    let is : text_slot c.args.packing (first_of pages) (length text) (length c.args.start.now.items) ≡ c.text_slot-slot.result =
-    (λ i. text_slot c.args.packing (first_is i) (length text) (long_is i)) ∙ sym c.text_slot-slot.ensures in
+    let is : text_slot c.args.packing c.number_of_goal.result (first_of pages) (length text) (length c.args.start.now.items) ≡ c.text_slot-slot.result =
+    (λ i. text_slot c.args.packing c.number_of_goal.result (first_is i) (length text) (long_is i)) ∙ sym c.text_slot-slot.ensures in
     subst (λ (s : TreeSlot). HoldsTable s text nothing mid) is
-    (text_holds c.args.packing (first_of pages) (length text) (length c.args.start.now.items) text pages mid c.requires.some (omega (arith, c.len.ensures.fits, c.len.ensures.value))
+    (text_holds c.args.packing c.number_of_goal.result (first_of pages) (length text) (length c.args.start.now.items) text pages mid c.requires.some (omega (arith, c.len.ensures.fits, c.len.ensures.value))
     (subst (λ (n : ℕ). IsChain n (first_of pages) pages text (reads mid)) (sym c.write_chain.ensures.works.same_pages) (told.chain honest))
     (λ p here. inr (told.fresh p here)))
 

@@ -1,6 +1,8 @@
-use Rattle.std.proofs.Common.{◌≡◌, inl, false, None}
+use Rattle.std.proofs.Common.{◌≡◌, inl, false, length, None}
 use Rattle.sector_disk.specs.aid.Moments.{leaves_more, goes_on_trans, still_honest}
 use Rattle.retrograde.specs.Stored.{loaded}
+use Rattle.rbg_game.specs.Goals.{points_of}
+use Rattle.root_slot.specs.Fields.{layout_in}
 use Rattle.game_file.specs.Kept.{kept_as}
 use Rattle.game_file.specs.Stops.{LeavesTable}
 use Rattle.page_store.specs.aid.Works.{closes_then}
@@ -14,7 +16,7 @@ pub returns-in_err-slot-clause-kept_stop : goal.returns-in_err-slot-clause-kept_
 returns-in_err-slot-clause-kept_stop g c = λ vacant.
     let old = g.P.Pages.store c.args.store.now in
     let new = g.P.Pages.store c.first_table.new.store in
-    any_error (new.closed ≡ false → LeavesTable StoresTrees old.disk new.disk None) c.from_residual.result
+    any_error (new.closed ≡ false → LeavesTable (StoresTrees (layout_in old.root) (length old.marks)) old.disk new.disk None) c.from_residual.result
     (λ is_open. vacant_leaves old new (g.met.P.Pages.sound c.args.store.now).few vacant c.first_table.ensures.works)
 
 pub returns-in_err-slot-clause-stop : goal.returns-in_err-slot-clause-stop
@@ -28,16 +30,16 @@ returns-in-Ok-clause-stop g c = λ vacant.
     let old = g.P.Pages.store c.args.store.now in
     let mid = g.P.Pages.store c.first_table.new.store in
     let told = c.in_ok-slot.ensures in
-    c.commit.ensures.stop old None (kept_as c.args.text.now c.args.packing (loaded c.args.start.now.items))
-    (worked_on c.in_ok-slot.slot c.args.text.now c.args.packing c.args.start.now.items old mid vacant told.works (told.table vacant.honest) told.packing told.long told.sized c.requires.text)
+    c.commit.ensures.stop old None (kept_as c.args.text.now c.args.packing (points_of c.args.goal) (loaded c.args.start.now.items))
+    (worked_on c.in_ok-slot.slot c.args.text.now c.args.packing (points_of c.args.goal) c.args.start.now.items old mid vacant told.works (told.table vacant.honest) told.packing told.number told.goal c.requires.place told.long told.sized c.requires.text)
 
 pub returns-in-Ok-clause-done : goal.returns-in-Ok-clause-done
 returns-in-Ok-clause-done g c = λ vacant.
     let old = g.P.Pages.store c.args.store.now in
     let mid = g.P.Pages.store c.first_table.new.store in
     let told = c.in_ok-slot.ensures in
-    c.in-Ok.ensures.done old None (kept_as c.args.text.now c.args.packing (loaded c.args.start.now.items))
-    (worked_on c.in_ok-slot.slot c.args.text.now c.args.packing c.args.start.now.items old mid vacant told.works (told.table vacant.honest) told.packing told.long told.sized c.requires.text)
+    c.in-Ok.ensures.done old None (kept_as c.args.text.now c.args.packing (points_of c.args.goal) (loaded c.args.start.now.items))
+    (worked_on c.in_ok-slot.slot c.args.text.now c.args.packing (points_of c.args.goal) c.args.start.now.items old mid vacant told.works (told.table vacant.honest) told.packing told.number told.goal c.requires.place told.long told.sized c.requires.text)
 
 pub returns-in-Ok-clause-stands : goal.returns-in-Ok-clause-stands
 returns-in-Ok-clause-stands g c = λ honest.
@@ -70,16 +72,16 @@ returns-in-Err-clause-stop g c = λ vacant.
     let old = g.P.Pages.store c.args.store.now in
     let mid = g.P.Pages.store c.first_table.new.store in
     let told = c.in_ok-slot.ensures in
-    c.commit.ensures.stop old None (kept_as c.args.text.now c.args.packing (loaded c.args.start.now.items))
-    (worked_on c.in_ok-slot.slot c.args.text.now c.args.packing c.args.start.now.items old mid vacant told.works (told.table vacant.honest) told.packing told.long told.sized c.requires.text)
+    c.commit.ensures.stop old None (kept_as c.args.text.now c.args.packing (points_of c.args.goal) (loaded c.args.start.now.items))
+    (worked_on c.in_ok-slot.slot c.args.text.now c.args.packing (points_of c.args.goal) c.args.start.now.items old mid vacant told.works (told.table vacant.honest) told.packing told.number told.goal c.requires.place told.long told.sized c.requires.text)
 
 pub returns-in-Err-clause-kept_stop : goal.returns-in-Err-clause-kept_stop
 returns-in-Err-clause-kept_stop g c = λ vacant.
     let old = g.P.Pages.store c.args.store.now in
     let mid = g.P.Pages.store c.first_table.new.store in
     let told = c.in_ok-slot.ensures in
-    c.in-Err.ensures.kept_stop old None (kept_as c.args.text.now c.args.packing (loaded c.args.start.now.items))
-    (worked_on c.in_ok-slot.slot c.args.text.now c.args.packing c.args.start.now.items old mid vacant told.works (told.table vacant.honest) told.packing told.long told.sized c.requires.text)
+    c.in-Err.ensures.kept_stop old None (kept_as c.args.text.now c.args.packing (points_of c.args.goal) (loaded c.args.start.now.items))
+    (worked_on c.in_ok-slot.slot c.args.text.now c.args.packing (points_of c.args.goal) c.args.start.now.items old mid vacant told.works (told.table vacant.honest) told.packing told.number told.goal c.requires.place told.long told.sized c.requires.text)
 
 pub returns-in-Ok-clause-held : goal.returns-in-Ok-clause-held
 returns-in-Ok-clause-held g c =

@@ -25,7 +25,7 @@ returns-in-Ok-clause-map g c = λ honest text entries h.
     let put = c.in-Ok.ensures.map honest (h.pages c.args.tree) (entries c.args.tree)
     (map_in c.args.slot text entries old c.widths_of-widths.result c.args.tree c.root.result c.widths_of-widths.ensures.keys c.widths_of-widths.ensures.values c.root.ensures (forest_there c.args.slot text entries old h))
     (h.held c.args.tree) in
-    subst (λ (r : Roots). HoldsForest (record { packing = c.args.slot.packing; first = c.args.slot.first; sizes = c.args.slot.sizes; roots = r }) text (with_entry entries c.args.tree c.args.key.now c.args.value.now) new) (sym c.with.ensures)
+    subst (λ (r : Roots). HoldsForest (record { packing = c.args.slot.packing; goal = c.args.slot.goal; first = c.args.slot.first; sizes = c.args.slot.sizes; roots = r }) text (with_entry entries c.args.tree c.args.key.now c.args.value.now) new) (sym c.with.ensures)
     (put_holds c.args.slot text entries old new honest c.in-Ok.ensures.works h c.args.tree c.in-Ok.root c.widths_of-widths.result c.widths_of-widths.ensures.keys c.widths_of-widths.ensures.values
     put.0 (put_entry (entries c.args.tree) c.args.key.now c.args.value.now) put.1 put.2)
 

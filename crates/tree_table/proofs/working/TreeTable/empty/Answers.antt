@@ -13,11 +13,13 @@ pub invariant_of-result : goal.invariant_of-result
 invariant_of-result g c =
     let store = g.P.Pages.store c.args.store in
     let few : 0 ≤ 2 ^ 24 = omega arith in
+    let none : 0 ≤ 1000000 = omega arith in
     let is : bare_slot c.args.packed ≡ c.bare_slot.result = sym c.bare_slot.ensures in
     record {
       some = subst (λ (s : TreeSlot). 1 ≤ s.sizes.packed) is c.requires.some;
       short = subst (λ (s : TreeSlot). s.sizes.packed ≤ 240) is c.requires.short;
       few = subst (λ (s : TreeSlot). s.sizes.counts.known ≤ 2 ^ 24) is few;
+      points = subst (λ (s : TreeSlot). s.goal ≤ 1000000) is none;
       holds = λ honest.
           ∣ holds_itself c.bare_slot.result c.new.result.items nothing store (subst (λ (s : TreeSlot). s.sizes.counts.known ≤ 2 ^ 24) is few)
           (subst (λ (s : TreeSlot). HoldsTable s c.new.result.items nothing store) is

@@ -22,6 +22,7 @@ invariant_of-self g c =
       some = sized.some;
       short = sized.short;
       few = sized.few;
+      points = sized.points;
       holds = λ honest.
           let was = was_honest still.goes_on honest.disk in
           ∥∥₁_elim (c.requires.stands was) ∥∥₁_prop (λ (stands : StandsFor game text old).

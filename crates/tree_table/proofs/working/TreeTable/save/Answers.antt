@@ -18,6 +18,7 @@ invariant_of-self g c =
       some = self.some;
       short = self.short;
       few = self.few;
+      points = self.points;
       holds = λ honest.
           let was = was_honest told.time honest.disk in
           ∥∥₁_elim (self.holds (record { disk = was; whole = honest.whole })) ∥∥₁_prop (λ (h : HoldsWork (work_of self.slot self.text.items self.torn old)).

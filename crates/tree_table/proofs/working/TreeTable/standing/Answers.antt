@@ -17,6 +17,7 @@ invariant_of-result g c =
       some = sized.some;
       short = sized.short;
       few = sized.few;
+      points = sized.points;
       holds = λ honest.
           ∥∥₁_elim (c.requires.stands honest.disk) ∥∥₁_prop (λ (stands : StandsFor game text store).
           ∣ subst (λ (s : TreeSlot). HoldsWork (work_of s text false store)) is (stands_holds game text store c.requires.sized c.requires.calm stands) ∣₁);

@@ -1,4 +1,6 @@
-use Rattle.std.proofs.Common.{ℕ, List, None, Some, subst}
+use Rattle.std.proofs.Common.{ℕ, List, length, None, Some, subst}
+use Rattle.rbg_game.specs.Goals.{points_of}
+use Rattle.root_slot.specs.Fields.{layout_in}
 use Rattle.retrograde.specs.Stored.{loaded}
 use Rattle.game_file.specs.Kept.{kept_as}
 use Rattle.game_file.specs.Stops.{LeavesEither}
@@ -18,6 +20,7 @@ invariant_of-self-2 g c =
       some = told.sized.some;
       short = told.sized.short;
       few = told.sized.few;
+      points = told.sized.points;
       holds = λ honest.
           ∣ holds_itself slot c.args.text.items (loaded c.args.start.now.items) new told.sized.few
           (subst (λ (x : List ℕ). HoldsTable slot x (loaded c.args.start.now.items) new) c.deref.ensures.value (told.holds (was_honest c.load.ensures.time honest.disk))) ∣₁;
@@ -25,12 +28,12 @@ invariant_of-self-2 g c =
 
 pub returns-clause-stop : goal.returns-clause-stop
 returns-clause-stop g c = λ vacant.
-    subst (λ (x : List ℕ). LeavesEither StoresTrees (g.P.Pages.store c.args.self.now.store).disk (g.P.Pages.store c.load.new.store).disk None (Some (kept_as x c.args.packing (loaded c.args.start.now.items))))
+    subst (λ (x : List ℕ). LeavesEither (StoresTrees (layout_in (g.P.Pages.store c.args.self.now.store).root) (length (g.P.Pages.store c.args.self.now.store).marks)) (g.P.Pages.store c.args.self.now.store).disk (g.P.Pages.store c.load.new.store).disk None (Some (kept_as x c.args.packing (points_of c.args.goal) (loaded c.args.start.now.items))))
     c.deref.ensures.value (c.load.ensures.stop vacant)
 
 pub returns-clause-done : goal.returns-clause-done
 returns-clause-done g c = λ vacant.
-    subst (λ (x : List ℕ). IsKeptInTrees (g.P.Pages.store c.load.new.store) (Some (kept_as x c.args.packing (loaded c.args.start.now.items)))) c.deref.ensures.value (c.in_ok-slot.ensures.done vacant)
+    subst (λ (x : List ℕ). IsKeptInTrees (g.P.Pages.store c.load.new.store) (Some (kept_as x c.args.packing (points_of c.args.goal) (loaded c.args.start.now.items)))) c.deref.ensures.value (c.in_ok-slot.ensures.done vacant)
 
 pub returns-clause-stands : goal.returns-clause-stands
 returns-clause-stands g c = λ honest.

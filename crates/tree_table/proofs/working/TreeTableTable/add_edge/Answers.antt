@@ -20,6 +20,7 @@ invariant_of-self-2 g c =
       some = omega (arith, self.some, done.slot.packed);
       short = omega (arith, self.short, done.slot.packed);
       few = few;
+      points = omega (arith, self.points, done.slot.goal);
       holds = now_held old new now few done.works refl refl changed self.holds;
     }
 
@@ -47,4 +48,4 @@ returns-clause-ahead g c =
     let few : c.in_ok-self.field-0.sizes.counts.known ≤ 2 ^ 24 = subst (λ (k : Counts). k.known ≤ 2 ^ 24) (sym done.counts) self.few in
     let changed : IsHonestWork old → HoldsWork old → HoldsTable c.in_ok-self.field-0 text now (g.P.Pages.store c.add_edge.new.store) =
     λ honest h. done.table honest.disk text (table_now old) h in
-    now_goes_on old new now few done.works refl refl changed done.open done.slot.text done.slot.packing
+    now_goes_on old new now few done.works refl refl changed done.open done.slot.text done.slot.packing done.slot.goal

@@ -14,6 +14,7 @@ invariant_of-self g c =
       some = self.some;
       short = self.short;
       few = self.few;
+      points = self.points;
       holds = still_held (work_of self.slot self.text.items self.torn old) (work_of self.slot self.text.items self.torn new) stays self.holds;
     }
 

@@ -3,14 +3,13 @@ use Rattle.root_slot.specs.Fields.{number_of_packing, packing_in}
 use Rattle.root_slot.specs.aid.Packings.{kind_is}
 use Rattle.record_bytes.specs.Numbers.{AreWithinLimits}
 use Rattle.record_bytes.specs.declared.sizes.Sizes.{Sizes}
-use Rattle.tree_table.proofs.slot.read_slot.Goals as goal
+use Rattle.tree_table.proofs.slot.read_game.Goals as goal
 
 pub returns-clause-says : goal.returns-clause-says
 returns-clause-says c =
     let numbered : packing_in c.args.root.now ≡ number_of_packing c.in_ok-packing.packing = sym c.word_at-number.ensures ∙ c.in_ok-packing.ensures.some in
     let packing = sym (kind_is c.args.root.now c.in_ok-packing.packing numbered) in (
       record {
-        layout = sym c.word_at.ensures ∙ c.if-word_at-ne-LAYOUT.false;
         packing = numbered;
         limits = subst (λ (s : Sizes). AreWithinLimits s) c.sizes_in-sizes.ensures (c.are_within_limits.ensures.0 c.if-not-are_within_limits.false);
         some = omega (arith, c.if-sizes-eq0.false, ap (λ (s : Sizes). s.packed) c.sizes_in-sizes.ensures);
