@@ -158,9 +158,9 @@ pub trait GameFile: Table {
         ensures disk { Self.Device.disk result ≡ (state self).disk }
         ensures failures { Self.Device.failures result ≡ (state self).failures };
 
-    /// A picture stores one table at most, in one number of pages.
+    /// A picture stores one table at most, in whatever number of pages.
     ghost stores_one: { (m n : ℕ) (picture : Picture) (one other : Option Kept) → stores m picture one → stores n picture other
-        → (m ≡ n) × (one ≡ other) };
+        → one ≡ other };
 
     /// A picture that holds a table of an earlier layout stores none.
     ghost older_stores_none: { (pages : ℕ) (picture : Picture) (kept : Option Kept) → is_older picture → stores pages picture kept → ⊥ };
