@@ -15,6 +15,7 @@ use Rattle.retrograde.specs.Changes.{counts_of}
 use Rattle.retrograde.specs.Stored.{Stored, IsTable}
 use Rattle.table.specs.declared.fault.TableFault.{TableFault}
 use Rattle.table.specs.declared.fault.TableFault.TheVariants as table
+use Rattle.root_slot.specs.Fields.{goal_numbered}
 use Rattle.root_slot.specs.aid.Packings.{some_number}
 use Rattle.game_file.specs.Faults.{of_pages, of_table}
 use Rattle.game_file.specs.Kept.{Kept, kept_as}
@@ -205,7 +206,7 @@ module _ (old : Store) (slot : TreeSlot) (says : SaysTrees old.root (Some slot))
         pub game_read : (new : Store) → new.marks ≡ far.marks → IsTrue old.disk.honest → (stored : Stored (List ℕ)) → SpellTable slot.sizes entries stored
             → IsReadGame content old new
         game_read new same honest stored spell = record {
-          kept = kept_as content slot.packing stored;
+          kept = kept_as content slot.packing (goal_numbered slot.goal) stored;
           text_is = refl;
           text_pages = text_pages;
           pages = pages;

@@ -1,7 +1,11 @@
 -- A game is loaded into a file without one.
-use Rattle.std.proofs.Common.{◌≡◌, ◌≤◌, inl, ℕ, false, List, Option, None, Some, Result, Ok, Err, IsTrue, refl, sym, ap, subst, arith}
+use Rattle.std.proofs.Common.{◌≡◌, ◌≤◌, ◌<◌, inl, inr, ℕ, false, List, Option, None, Some, Result, Ok, Err, IsTrue, refl, sym, ap, subst, arith}
 use Rattle.std.specs.Prelude.{OnErr}
 use Rattle.std.specs.Option.{is_some}
+use Rattle.std.proofs.lemmas.Bool.{cases_lt}
+use Rattle.rbg_game.specs.Goals.{points_of}
+use Rattle.rbg_game.specs.declared.goal.Goal.{Goal}
+use Rattle.root_slot.specs.Fields.{number_of_goal, HasPlaceFor}
 use Rattle.sector_disk.specs.Disk.{Grew}
 use Rattle.sector_disk.specs.aid.Moments.{leaves_more, leaves_now}
 use Rattle.page_store.specs.Store.{Store, IsRemarked, reads}
@@ -22,11 +26,11 @@ use Rattle.tree_file.specs.aid.Whole.{no_game_is_free, whole_leaves}
 use Rattle.tree_file.proofs.Saving.{not_put}
 
 -- nothing is done
-pub nothing_put : (was : File) (is : Kept) → IsWholeFile was → IsNotPut StoresTrees is (state_of was) (state_of was)
-nothing_put was is whole =
+pub nothing_put : {layout : ℕ} (was : File) (is : Kept) → IsWholeFile layout was → IsNotPut (StoresTrees layout) is (state_of was) (state_of was)
+nothing_put {layout} was is whole =
     not_put was was is whole (works_still (works_refl was.work.store)) refl refl whole.calm
-    (λ honest is_open. leaves_now was.work.store.disk (whole_leaves was whole honest is_open))
-    (λ honest is_open. leaves_more (λ picture stored. inl stored) (leaves_now was.work.store.disk (whole_leaves was whole honest is_open)))
+    (λ honest is_open. leaves_now was.work.store.disk (whole_leaves layout was whole honest is_open))
+    (λ honest is_open. leaves_more (λ picture stored. inl stored) (leaves_now was.work.store.disk (whole_leaves layout was whole honest is_open)))
 
 pub so_refused : {X E P : Type 0} (r : Result X E) → P → OnErr r P
 so_refused (Ok x) so = tt
@@ -40,16 +44,22 @@ no_game (Some s) is = absurd (cc)
 pub none_kept : (was : File) → was.game ≡ None → kept_of was ≡ None
 none_kept was none = ap (λ (g : Option TreeSlot). kept_with g was.work.text (reads was.work.store)) none
 
-pub vacant : (was : File) → IsWholeFile was → was.game ≡ None → IsTrue was.work.store.disk.honest → was.work.store.closed ≡ false → IsVacant was.work.store
+pub vacant : {layout : ℕ} (was : File) → IsWholeFile layout was → was.game ≡ None → IsTrue was.work.store.disk.honest → was.work.store.closed ≡ false → IsVacant was.work.store
 vacant was whole none honest is_open = record {
   honest = honest;
   safe = whole.sound.safe honest is_open;
   kept = subst (λ (k : Option Kept). IsKeptInTrees was.work.store k) (none_kept was none) (whole.kept honest);
+  says = whole.says;
   enough = whole.room;
 }
 
+-- a layout that is asked for no goal, or has a place for one, has a place for this
+pub has_place : (layout : ℕ) (goal : Option Goal) → ((layout < 3) × IsTrue (is_some goal) → ⊥) → HasPlaceFor layout (number_of_goal (points_of goal))
+has_place layout None not = inr refl
+has_place layout (Some goal) not = elim (cases_lt layout 3) [ inl early ↦ absurd (not (early, refl)) | inr late ↦ inl late ]
+
 -- why none is loaded: 24 pages are never too few, since all but the system page are free
-pub why_not_loaded : (start : List ℕ) (long : ℕ) (was new : File) (left : Store) (fault : TableFault) → IsWholeFile was → was.game ≡ None
+pub why_not_loaded : {layout : ℕ} (start : List ℕ) (long : ℕ) (was new : File) (left : Store) (fault : TableFault) → IsWholeFile layout was → was.game ≡ None
     → long ≤ 65536 → IsRemarked left new.work.store → StartCause long was.work.store left fault
     → FileLoadCause start (state_of was) (state_of new) (of_table fault)
 why_not_loaded start long was new left table.Disk whole none short others cause = subst (λ (n : ℕ). Grew was.work.store.failures n) (sym others.failures) cause

@@ -1,26 +1,32 @@
 -- What is read of a disk is what it stores.
-use Rattle.std.proofs.Common.{◌≡◌, ◌≤◌, ℕ, Bool, false, true, List, length, Option, IsTrue, refl, sym, ◌∙◌, ap, subst, arith}
-use Rattle.sector_disk.specs.Disk.{Picture, Shown, Disk, size, GoesOn, LeavesOnly, MayLeave}
+use Rattle.std.proofs.Common.{◌≡◌, inl, inr, ◌≤◌, ◌<◌, ◌*◌, ◌/◌, ℕ, Bool, false, true, List, length, Option, IsTrue, refl, sym, ◌∙◌, ap, subst, arith}
+use Rattle.std.specs.Prelude.{min}
+use Rattle.std.proofs.Math.Nat.{le-min, le-div_iff_mul-le}
+use Rattle.std.proofs.lemmas.Bool.{cases_lt}
+use Rattle.sector_disk.specs.Disk.{Picture, Shown, Disk, size, GoesOn, LeavesOnly, MayLeave, SyncedMore}
 use Rattle.sector_disk.specs.aid.Moments.{goes_on_trans, leaves_then, leaves_more, still_honest}
 use Rattle.root_pair.specs.Root.{HoldsRoot}
 use Rattle.page_store.specs.Page.{page as bytes_of}
 use Rattle.page_store.specs.Store.{Store, IsOpened as IsOpenedStore, IsSoundStore, reads}
-use Rattle.root_slot.specs.Fields.{capacity_of, layout_in}
+use Rattle.root_slot.specs.Fields.{capacity_in, layout_in, SaysPages}
 use Rattle.game_file.specs.declared.fault.FileFault.{FileFault}
 use Rattle.game_file.specs.declared.fault.FileFault.TheVariants.{Disk as DiskFailed, NotATable, AlreadyATable, Damaged, OldLayout, TooSmall}
 use Rattle.game_file.specs.declared.fault.FileFault.TheVariants.{TableFull, OutOfMemory, Closed, Inconsistent}
 use Rattle.game_file.specs.Calls.{IsNotOpened, IsOpenedFile}
 use Rattle.game_file.specs.Causes.{FileOpenCause}
-use Rattle.game_file.specs.Kept.{Kept}
+use Rattle.game_file.specs.Kept.{Kept, in_any}
 use Rattle.game_file.specs.State.{GoesFrom}
+use Rattle.page_store.specs.Pages.{AllWait}
+use Rattle.tree_table.specs.declared.slot.Slot.{Slot}
 use Rattle.tree_table.specs.declared.slot.TreeSlot.{TreeSlot}
 use Rattle.tree_table.specs.Held.{KeepsTrees, StoresTrees}
 use Rattle.tree_table.specs.Keeping.{slot_or_bare}
 use Rattle.tree_table.specs.Working.{work_of}
-use Rattle.tree_table.specs.aid.Keeping.{kept_stands}
+use Rattle.tree_table.specs.aid.Keeping.{keeps_in_more_trees, kept_stands}
 use Rattle.tree_file.specs.File.{IsWholeFile, UsesNoOther, file_of, kept_with, state_of}
-use Rattle.tree_file.specs.Older.{IsOlderTable}
-use Rattle.tree_file.specs.Opening.{IsFoundInFile, TreesReadCause}
+use Rattle.tree_file.specs.Older.{IsOlderRoot, IsOlderTable}
+use Rattle.tree_file.specs.Opening.{IsFoundInFile, IsRootRead, RootCause}
+use Rattle.tree_file.specs.aid.Reading.{NoGameReadCause}
 use Rattle.tree_file.specs.aid.Backed.{IsBackedFile}
 use Rattle.tree_file.proofs.Creating.{grew_from, left_before}
 use Rattle.tree_file.proofs.Saving.{calm_sealed}
@@ -37,7 +43,47 @@ pub record IsReadOn (found now : Store) : Type 0 where
   pub leaves : IsTrue found.disk.honest → LeavesOnly found.disk now.disk (MayLeave found.disk.now)
   pub closed : now.closed ≡ found.closed
 
-module _ (disk : Disk) (count : ℕ) (found now : Store) (at_first : IsOpenedStore disk count found) (read : IsReadOn found now) where
+-- so many pages are within what a disk of so many sectors has room for
+within_room : (pages sectors : ℕ) → 8 * pages ≤ sectors → pages ≤ 1048576 → pages ≤ min (sectors / 8) 1048576
+within_room pages sectors room few = le-min ((le-div_iff_mul-le (omega arith)).1 (omega (arith, room))) few
+
+-- a store whose root was read, as far as it goes by the disk
+pub record IsCutStore (layout : ℕ) (disk : Disk) (count : ℕ) (cut : Store) : Type 0 where
+  pub goes_on : GoesOn disk cut.disk
+  pub failures : count ≤ cut.failures
+  pub same_size : size cut.disk ≡ size disk
+  pub closed : cut.closed ≡ false
+  pub root : IsTrue disk.honest → HoldsRoot cut.root disk.now.contents
+  pub same : IsTrue disk.honest → SyncedMore disk.now cut.disk.now
+  pub leaves : IsTrue disk.honest → LeavesOnly disk cut.disk (MayLeave disk.now)
+  pub of_layout : layout_in cut.root ≡ layout
+  pub says : SaysPages cut.root (length cut.marks)
+  pub few : length cut.marks ≤ 1048576
+  pub room : 8 * length cut.marks ≤ size disk
+  pub all : layout < 3 → length cut.marks ≡ min (size disk / 8) 1048576
+  pub waits : AllWait cut
+
+pub cut_store : (layout : ℕ) (slot : Slot) (disk : Disk) (count : ℕ) (found cut : Store) → IsOpenedStore disk count found → IsSoundStore found
+    → IsRootRead layout slot found cut → IsCutStore layout disk count cut
+cut_store layout slot disk count found cut at_first sound read =
+    let same : found.disk ≡ cut.disk = sym read.cut.disk in
+    record {
+      goes_on = subst (λ (d : Disk). GoesOn disk d) same at_first.goes_on;
+      failures = omega (arith, at_first.failures, read.cut.failures);
+      same_size = ap size read.cut.disk ∙ at_first.same_size;
+      closed = read.cut.closed ∙ at_first.closed;
+      root = λ honest. subst (λ (r : List ℕ). HoldsRoot r disk.now.contents) (sym read.cut.root) (at_first.root honest);
+      same = λ honest. subst (λ (d : Disk). SyncedMore disk.now d.now) same (at_first.same honest);
+      leaves = λ honest. subst (λ (d : Disk). LeavesOnly disk d (MayLeave disk.now)) same (at_first.leaves honest);
+      of_layout = read.of_layout;
+      says = read.says;
+      few = omega (arith, sound.few, read.fewer);
+      room = omega (arith, sound.fits, read.fewer, at_first.same_size);
+      all = λ early. read.all early ∙ at_first.capacity;
+      waits = read.waits;
+    }
+
+module _ (layout : ℕ) (disk : Disk) (count : ℕ) (cut now : Store) (at_first : IsCutStore layout disk count cut) (read : IsReadOn cut now) where
   pub read_from : GoesFrom disk count now.disk now.failures
   read_from = record {
     goes_on = goes_on_trans at_first.goes_on read.goes_on;
@@ -50,61 +96,76 @@ module _ (disk : Disk) (count : ℕ) (found now : Store) (at_first : IsOpenedSto
       leaves_then read.goes_on (at_first.leaves honest)
       (leaves_more (left_before (at_first.same honest)) (read.leaves (still_honest at_first.goes_on honest)))
 
+  now_layout : layout_in now.root ≡ layout
+  now_layout = ap layout_in read.root ∙ at_first.of_layout
+
+  now_says : SaysPages now.root (length now.marks)
+  now_says =
+      subst (λ (n : ℕ). SaysPages now.root n) (sym read.same_pages)
+      (subst (λ (r : List ℕ). SaysPages r (length cut.marks)) (sym read.root) at_first.says)
+
   -- what is found is what the disk stores
   found_stored : (commits : ℕ) (game : Option TreeSlot) (text : List ℕ) → IsFoundInFile commits game text now → IsTrue disk.honest
-      → StoresTrees disk.now.contents (kept_with game text (reads now))
+      → StoresTrees layout (length now.marks) disk.now.contents (kept_with game text (reads now))
   found_stored commits game text it honest =
       let here = still_honest at_first.goes_on honest in
       let same : now.disk.now.contents ≡ disk.now.contents = ap (λ (s : Shown). s.contents) (read.shown here) ∙ (at_first.same honest).contents in
-      let capacity : length now.marks ≡ capacity_of disk.now.contents = read.same_pages ∙ at_first.capacity in
       let kept = kept_with game text (reads now) in
       let stands = kept_stands now kept (it.kept (still_honest read.goes_on here)) in
       record {
         root = now.root;
         holds = subst (λ (root : List ℕ). HoldsRoot root disk.now.contents) (sym read.root) (at_first.root honest);
-        room = omega (arith, capacity, it.room);
-        keeps = subst (λ (n : ℕ). KeepsTrees now.root n kept (bytes_of disk.now.contents)) capacity
-            (stands.spelled.anywhere (bytes_of disk.now.contents) (λ p here. ap (λ (picture : Picture). bytes_of picture p) (sym same)));
+        same_layout = now_layout;
+        says = now_says;
+        enough = it.room;
+        few = omega (arith, at_first.few, read.same_pages);
+        room = omega (arith, at_first.room, read.same_pages);
+        keeps = stands.spelled.anywhere (bytes_of disk.now.contents) (λ p here. ap (λ (picture : Picture). bytes_of picture p) (sym same));
       }
 
   pub found_opened : (commits : ℕ) (game : Option TreeSlot) (text : List ℕ) → IsFoundInFile commits game text now
-      → IsOpenedFile StoresTrees disk count (state_of (file_of (work_of (slot_or_bare game) text false now) game))
+      → IsOpenedFile (StoresTrees layout) disk count (state_of (file_of (work_of (slot_or_bare game) text false now) game))
   found_opened commits game text it = record {
     from = read_from;
-    capacity = read.same_pages ∙ at_first.capacity;
     is_open = read.closed ∙ at_first.closed;
     stored = found_stored commits game text it;
     leaves = read_leaves;
   }
 
   -- what the disk stores is what its slot and pages keep
-  kept_there : (kept : Option Kept) → IsTrue disk.honest → StoresTrees disk.now.contents kept → KeepsTrees found.root (length found.marks) kept (reads found)
-  kept_there kept honest stores =
-      let same_root : stores.root ≡ found.root = sym stores.holds.is ∙ (at_first.root honest).is in
-      let same : disk.now.contents ≡ found.disk.now.contents = sym (at_first.same honest).contents in
-      subst (λ (picture : Picture). KeepsTrees found.root (length found.marks) kept (bytes_of picture)) same
-      (subst (λ (n : ℕ). KeepsTrees found.root n kept (bytes_of disk.now.contents)) (sym at_first.capacity)
-      (subst (λ (root : List ℕ). KeepsTrees root (capacity_of disk.now.contents) kept (bytes_of disk.now.contents)) same_root stores.keeps))
+  kept_there : (pages : ℕ) (kept : Option Kept) → IsTrue disk.honest → StoresTrees layout pages disk.now.contents kept
+      → KeepsTrees cut.root (length cut.marks) kept (reads cut)
+  kept_there pages kept honest stores =
+      let same_root : stores.root ≡ cut.root = sym stores.holds.is ∙ (at_first.root honest).is in
+      let same : disk.now.contents ≡ cut.disk.now.contents = sym (at_first.same honest).contents in
+      subst (λ (picture : Picture). KeepsTrees cut.root (length cut.marks) kept (bytes_of picture)) same
+      (subst (λ (root : List ℕ). KeepsTrees root (length cut.marks) kept (bytes_of disk.now.contents)) same_root
+      (keeps_in_more_trees stores.root pages (length cut.marks) kept (bytes_of disk.now.contents) (elim (cases_lt layout 3) [
+        | inl early ↦ let most = within_room pages (size disk) stores.room stores.few in omega (arith, most, at_first.all early)
+        | inr late ↦
+            let one = stores.says (omega (arith, late, stores.same_layout)) in
+            let other = at_first.says (omega (arith, late, at_first.of_layout)) in
+            omega (arith, one, other, ap capacity_in same_root)
+      ]) stores.keeps))
 
   -- why it is not opened
-  pub read_cause : (fault : FileFault) → TreesReadCause found now fault → FileOpenCause StoresTrees IsOlderTable disk count now.failures fault
+  pub read_cause : (fault : FileFault) → NoGameReadCause cut now fault
+      → FileOpenCause (in_any (StoresTrees layout)) (IsOlderTable layout) disk count now.failures fault
   read_cause DiskFailed cause = grew_from at_first.failures cause
   read_cause NotATable cause = absurd cause
   read_cause AlreadyATable cause = absurd cause
   read_cause Damaged cause = λ honest. (
     (at_first.root honest).table,
-    λ kept stores.
-        let less = cause.0 (still_honest at_first.goes_on honest) at_first.marks kept (kept_there kept honest stores) in
-        omega (arith, less, stores.room, at_first.capacity),
+    λ kept stores. cause (still_honest at_first.goes_on honest) at_first.waits kept (kept_there stores.0 kept honest stores.1),
     λ older.
-        let same_root : older.root ≡ found.root = sym older.holds.is ∙ (at_first.root honest).is in
-        cause.1 (sym (ap layout_in same_root) ∙ older.layout),
+        let same_root : older.root ≡ cut.root = sym older.holds.is ∙ (at_first.root honest).is in
+        omega (arith, older.older.1, ap layout_in same_root, at_first.of_layout),
   )
-  read_cause OldLayout cause = λ honest. record { root = found.root; holds = at_first.root honest; layout = cause }
+  read_cause OldLayout cause = absurd cause
   read_cause TooSmall cause = absurd cause
   read_cause TableFull cause = absurd cause
   read_cause OutOfMemory cause = tt
-  read_cause Closed cause = absurd (apart found.closed at_first.closed cause)
+  read_cause Closed cause = absurd (apart cut.closed at_first.closed cause)
     where
       apart : (b : Bool) → b ≡ false → b ≡ true → ⊥
       apart b one other = cc
@@ -115,31 +176,60 @@ module _ (disk : Disk) (count : ℕ) (found now : Store) (at_first : IsOpenedSto
       subst (λ (d : Disk). IsNotOpened disk count d failures) (sym same)
       (subst (λ (n : ℕ). IsNotOpened disk count now.disk n) (sym many) (record { from = read_from; leaves = read_leaves }))
 
--- a file in which this is found is whole
-pub found_whole : (commits : ℕ) (game : Option TreeSlot) (text : List ℕ) (now : Store) → IsFoundInFile commits game text now → IsSoundStore now
-    → IsWholeFile (file_of (work_of (slot_or_bare game) text false now) game)
-found_whole commits game text now it sound = record {
-  sound = sound;
-  room = it.room;
-  whole = refl;
-  slot = refl;
-  names = it.names;
-  calm = it.calm;
-  free = it.free;
-  kept = it.kept;
-}
+  -- a file in which this is found is whole
+  pub found_whole : (commits : ℕ) (game : Option TreeSlot) (text : List ℕ) → IsFoundInFile commits game text now → IsSoundStore now
+      → IsWholeFile layout (file_of (work_of (slot_or_bare game) text false now) game)
+  found_whole commits game text it sound = record {
+    sound = sound;
+    of_layout = now_layout;
+    says = now_says;
+    room = it.room;
+    whole = refl;
+    slot = refl;
+    names = it.names;
+    calm = it.calm;
+    free = it.free;
+    kept = it.kept;
+  }
 
--- and uses no page that its root does not name
+  -- what is found stands behind its file
+  pub found_backed : (commits : ℕ) (game : Option TreeSlot) (text : List ℕ) → IsFoundInFile commits game text now
+      → IsBackedFile layout commits (file_of (work_of (slot_or_bare game) text false now) game)
+  found_backed commits game text it = record {
+    of_layout = now_layout;
+    counted = it.counted;
+    sized = it.sized;
+    sealed = calm_sealed now it.calm;
+    stands = λ honest. ∣ found_stands commits game text now it honest ∣₁;
+  }
+
+-- why a root is no root of a table of this layout is why the file is not opened
+pub root_cause : (layout : ℕ) (disk : Disk) (count : ℕ) (found : Store) (now : ℕ) (fault : FileFault) → IsOpenedStore disk count found
+    → RootCause layout found fault → FileOpenCause (in_any (StoresTrees layout)) (IsOlderTable layout) disk count now fault
+root_cause layout disk count found now DiskFailed at_first cause = absurd cause
+root_cause layout disk count found now NotATable at_first cause = absurd cause
+root_cause layout disk count found now AlreadyATable at_first cause = absurd cause
+root_cause layout disk count found now Damaged at_first cause = λ honest. (
+  (at_first.root honest).table,
+  λ kept stores.
+      let (pages, it) = stores in
+      let same_root : it.root ≡ found.root = sym it.holds.is ∙ (at_first.root honest).is in
+      let most = within_room pages (size disk) it.room it.few in
+      cause.1 pages kept (bytes_of disk.now.contents) (ap layout_in (sym same_root) ∙ it.same_layout)
+      (subst (λ (r : List ℕ). SaysPages r pages) same_root it.says) it.enough (omega (arith, most, at_first.capacity))
+      (subst (λ (r : List ℕ). KeepsTrees r pages kept (bytes_of disk.now.contents)) same_root it.keeps),
+  λ older.
+      let same_root : older.root ≡ found.root = sym older.holds.is ∙ (at_first.root honest).is in
+      cause.0 (subst (λ (r : List ℕ). IsOlderRoot layout r) same_root older.older),
+)
+root_cause layout disk count found now OldLayout at_first cause = λ honest. record { root = found.root; holds = at_first.root honest; older = cause }
+root_cause layout disk count found now TooSmall at_first cause = absurd cause
+root_cause layout disk count found now TableFull at_first cause = absurd cause
+root_cause layout disk count found now OutOfMemory at_first cause = absurd cause
+root_cause layout disk count found now Closed at_first cause = absurd cause
+root_cause layout disk count found now Inconsistent at_first cause = absurd cause
+
+-- a file in which this is found uses no page that its root does not name
 pub found_alone : (commits : ℕ) (game : Option TreeSlot) (text : List ℕ) (now : Store) → IsFoundInFile commits game text now
     → UsesNoOther (file_of (work_of (slot_or_bare game) text false now) game)
 found_alone commits game text now it = record { kept = it.kept; alone = it.alone }
-
--- what is found stands behind its file
-pub found_backed : (commits : ℕ) (game : Option TreeSlot) (text : List ℕ) (now : Store) → IsFoundInFile commits game text now
-    → IsBackedFile commits (file_of (work_of (slot_or_bare game) text false now) game)
-found_backed commits game text now it = record {
-  counted = it.counted;
-  sized = it.sized;
-  sealed = calm_sealed now it.calm;
-  stands = λ honest. ∣ found_stands commits game text now it honest ∣₁;
-}

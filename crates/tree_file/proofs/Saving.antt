@@ -17,9 +17,10 @@ use Rattle.page_store.specs.Spelling.{IsCalm}
 use Rattle.page_store.specs.aid.Works.{closes_same, closes_then}
 use Rattle.page_store.specs.Store.{Store, IsSoundStore, StoreWorks, StoreCloses, IsRemarked, reads}
 use Rattle.retrograde.specs.Stored.{Stored, IsTable}
-use Rattle.root_slot.specs.Fields.{commits_in}
+use Rattle.root_slot.specs.Fields.{commits_in, goal_numbered, layout_in, HasPlaceFor, SaysPages}
+use Rattle.root_slot.specs.aid.Goals.{goal_has_place}
 use Rattle.game_file.specs.Calls.{IsPut, IsNotPut, IsNothingPut}
-use Rattle.game_file.specs.Kept.{Kept, kept_as, packing_kept, text_kept}
+use Rattle.game_file.specs.Kept.{Kept, goal_kept, kept_as, packing_kept, text_kept}
 use Rattle.game_file.specs.State.{GoesAhead, count_behind}
 use Rattle.game_file.specs.Stops.{LeavesEither, LeavesTable}
 use Rattle.tree_table.specs.declared.slot.TreeSlot.{TreeSlot}
@@ -32,14 +33,14 @@ use Rattle.tree_table.specs.aid.Keeping.{kept_is_held}
 use Rattle.tree_table.specs.aid.Standing.{still_then, was_honest, works_still}
 use Rattle.tree_file.specs.Calls.{FileGoesOn}
 use Rattle.tree_file.specs.File.{File, NamesSlot, IsWholeFile, kept_of, kept_with, counts_told, state_of}
-use Rattle.tree_file.specs.aid.Whole.{again_kept, again_packing, again_text, again_whole, kept_spells, works_leaves}
+use Rattle.tree_file.specs.aid.Whole.{again_goal, again_kept, again_packing, again_text, again_whole, kept_spells, works_leaves}
 
 -- the disk of a later state is that of another
 pub same_disk : (old : Disk) (mid new : Disk) (Such : List (List ℕ) → Type 0) → new ≡ mid → LeavesOnly old mid Such → LeavesOnly old new Such
 same_disk old mid new Such same leaves = subst (λ (d : Disk). LeavesOnly old d Such) (sym same) leaves
 
 -- the work since a file was whole is given up
-module _ (was mid new : File) (whole : IsWholeFile was) (works : StoreWorks was.work.store mid.work.store) (text : mid.work.text ≡ was.work.text)
+module _ {layout : ℕ} (was mid new : File) (whole : IsWholeFile layout was) (works : StoreWorks was.work.store mid.work.store) (text : mid.work.text ≡ was.work.text)
     (game : mid.game ≡ was.game)
     (still : IsStill mid.work.store new.work.store) (others : IsRemarked mid.work.store new.work.store) (new_text : new.work.text ≡ mid.work.text)
     (new_game : new.game ≡ mid.game)
@@ -47,7 +48,7 @@ module _ (was mid new : File) (whole : IsWholeFile was) (works : StoreWorks was.
   all_still : IsStill was.work.store new.work.store
   all_still = still_then (works_still works) still
 
-  pub given_up_whole : IsWholeFile new
+  pub given_up_whole : IsWholeFile layout new
   given_up_whole = again_whole was new whole all_still (new_game ∙ game) (new_text ∙ text) calm sound torn slot
 
   same : new.work.store.disk.failed_writes ≡ mid.work.store.disk.failed_writes
@@ -62,27 +63,28 @@ module _ (was mid new : File) (whole : IsWholeFile was) (works : StoreWorks was.
     closes = closes_then works.goes_on.failed_writes (omega (arith, same)) works.closes (closes_same others.closed same);
   }
 
-  pub given_up_kept : IsNothingPut StoresTrees (state_of was) (state_of new)
+  pub given_up_kept : IsNothingPut (StoresTrees layout) (state_of was) (state_of new)
   given_up_kept = record {
     ahead = given_up_ahead;
     commits = ap commits_in all_still.root;
     counts = ap counts_told (new_game ∙ game);
     text = again_text was new whole all_still (new_game ∙ game) (new_text ∙ text) calm;
     packing = again_packing was new whole all_still (new_game ∙ game) (new_text ∙ text) calm;
+    goal = again_goal was new whole all_still (new_game ∙ game) (new_text ∙ text) calm;
     kept = again_kept was new whole all_still (new_game ∙ game) (new_text ∙ text) calm;
     leaves = λ honest is_open.
-        same_disk was.work.store.disk mid.work.store.disk new.work.store.disk (λ picture. StoresTrees picture (kept_of was)) others.disk
+        same_disk was.work.store.disk mid.work.store.disk new.work.store.disk (λ picture. StoresTrees layout (length was.work.store.marks) picture (kept_of was)) others.disk
         (works_leaves was mid.work.store whole works honest is_open);
   }
 
 -- what a whole file with a game keeps, in words of its table
-module _ (was : File) (kept : Kept) (whole : IsWholeFile was) (is : kept_of was ≡ Some kept) where
+module _ {layout : ℕ} (was : File) (kept : Kept) (whole : IsWholeFile layout was) (is : kept_of was ≡ Some kept) where
   pub kept_text_is : kept.text ≡ was.work.text
   kept_text_is = by_game was.game is
     where
       by_game : (game : Option TreeSlot) → kept_with game was.work.text (reads was.work.store) ≡ Some kept → kept.text ≡ was.work.text
       by_game None none = absurd (cc)
-      by_game (Some s) some = ap (λ (k : Kept). k.text) (sym (same_Some (kept_as was.work.text s.packing (table_in s (reads was.work.store))) kept some))
+      by_game (Some s) some = ap (λ (k : Kept). k.text) (sym (same_Some (kept_as was.work.text s.packing (goal_numbered s.goal) (table_in s (reads was.work.store))) kept some))
 
   pub kept_packing_is : kept.packing ≡ was.work.slot.packing
   kept_packing_is = by_game was.game whole.slot is
@@ -91,8 +93,18 @@ module _ (was : File) (kept : Kept) (whole : IsWholeFile was) (is : kept_of was 
           → kept.packing ≡ was.work.slot.packing
       by_game None slot none = absurd (cc)
       by_game (Some s) slot some =
-          ap (λ (k : Kept). k.packing) (sym (same_Some (kept_as was.work.text s.packing (table_in s (reads was.work.store))) kept some))
+          ap (λ (k : Kept). k.packing) (sym (same_Some (kept_as was.work.text s.packing (goal_numbered s.goal) (table_in s (reads was.work.store))) kept some))
           ∙ ap (λ (t : TreeSlot). t.packing) (sym slot)
+
+  pub kept_goal_is : kept.goal ≡ goal_numbered was.work.slot.goal
+  kept_goal_is = by_game was.game whole.slot is
+    where
+      by_game : (game : Option TreeSlot) → was.work.slot ≡ slot_or_bare game → kept_with game was.work.text (reads was.work.store) ≡ Some kept
+          → kept.goal ≡ goal_numbered was.work.slot.goal
+      by_game None slot none = absurd (cc)
+      by_game (Some s) slot some =
+          ap (λ (k : Kept). k.goal) (sym (same_Some (kept_as was.work.text s.packing (goal_numbered s.goal) (table_in s (reads was.work.store))) kept some))
+          ∙ ap (λ (t : TreeSlot). goal_numbered t.goal) (sym slot)
 
   its_slot : was.work.slot ≡ slot_in was.work.store.root
   its_slot = by_game was.game whole.slot whole.names is
@@ -115,11 +127,17 @@ module _ (was : File) (kept : Kept) (whole : IsWholeFile was) (is : kept_of was 
       (subst (λ (s : TreeSlot). HoldsTable s was.work.text kept.table was.work.store) (sym its_slot)
       (subst (λ (x : List ℕ). HoldsTable (slot_in was.work.store.root) x kept.table was.work.store) kept_text_is h))
 
+  -- the root has a place for the goal
+  pub its_place : (mid : File) → FileGoesOn was mid → HasPlaceFor (layout_in was.work.store.root) mid.work.slot.goal
+  its_place mid ahead =
+      subst (λ (n : ℕ). HasPlaceFor (layout_in was.work.store.root) n) (ap (λ (s : TreeSlot). s.goal) (sym its_slot) ∙ sym ahead.work.goal)
+      (goal_has_place was.work.store.root)
+
   -- the table that a command has come to can be committed
   module _ (mid : File) (ahead : FileGoesOn was mid) (sized : IsSizedSlot mid.work.slot) (fits : IsTrue was.work.store.disk.honest
       → IsTable (table_now mid.work)) where
     pub worked : IsTrue was.work.store.disk.honest → was.work.store.closed ≡ false
-        → IsWorkedOn mid.work.slot was.work.store mid.work.store (kept_of was) (kept_as kept.text kept.packing (table_now mid.work))
+        → IsWorkedOn mid.work.slot was.work.store mid.work.store (kept_of was) (kept_as kept.text kept.packing kept.goal (table_now mid.work))
     worked honest is_open =
         let it = kept_now honest in
         let slot_text : length kept.text ≡ was.work.slot.sizes.text = it.keeps.text ∙ ap (λ (s : TreeSlot). s.sizes.text) (sym its_slot) in
@@ -129,10 +147,14 @@ module _ (was : File) (kept : Kept) (whole : IsWholeFile was) (is : kept_of was 
           honest = honest;
           safe = whole.sound.safe honest is_open;
           kept = whole.kept honest;
+          says = whole.says;
           enough = whole.room;
           works = ahead.work.works;
           holds = subst (λ (x : List ℕ). HoldsTable mid.work.slot x (table_now mid.work) mid.work.store) (ahead.work.text ∙ sym kept_text_is) holds;
           packing = kept_packing_is ∙ sym ahead.work.packing;
+          goal = kept_goal_is ∙ ap goal_numbered (sym ahead.work.goal);
+          place = its_place mid ahead;
+          points = sized.points;
           text = slot_text ∙ sym ahead.work.long;
           table = fits honest;
           short = omega (arith, limit, ahead.work.long);
@@ -142,15 +164,16 @@ module _ (was : File) (kept : Kept) (whole : IsWholeFile was) (is : kept_of was 
         }
 
 -- a table is put: this text, packing and table are kept, by one commit more
-module _ (was new : File) (next : TreeSlot) (is : Kept) (game : new.game ≡ Some next) (slot : new.work.slot ≡ next)
+module _ {layout : ℕ} (was new : File) (next : TreeSlot) (is : Kept) (of_layout : layout_in new.work.store.root ≡ layout)
+    (says : SaysPages new.work.store.root (length new.work.store.marks)) (game : new.game ≡ Some next) (slot : new.work.slot ≡ next)
     (root : slot_in new.work.store.root ≡ next) (text : new.work.text ≡ is.text) (packing : next.packing ≡ is.packing)
-    (calm : IsCalm new.work.store) (goes_on : GoesOn was.work.store.disk new.work.store.disk)
+    (goal : goal_numbered next.goal ≡ is.goal) (calm : IsCalm new.work.store) (goes_on : GoesOn was.work.store.disk new.work.store.disk)
     (done : IsTrue was.work.store.disk.honest → IsKeptInTrees new.work.store (Some is)) where
   pub put_kept : IsTrue was.work.store.disk.honest → kept_of new ≡ Some is
   put_kept honest =
       let table : table_in next (reads new.work.store) ≡ is.table =
       ap (λ (s : TreeSlot). table_in s (reads new.work.store)) (sym root) ∙ kept_spells new.work.store is calm (done honest) in
-      (λ i. kept_with (game i) (text i) (reads new.work.store)) ∙ (λ i. Some (kept_as is.text (packing i) (table i)))
+      (λ i. kept_with (game i) (text i) (reads new.work.store)) ∙ (λ i. Some (kept_as is.text (packing i) (goal i) (table i)))
 
   pub put_text : text_kept (kept_of new) ≡ Some is.text
   put_text = ap text_kept (λ i. kept_with (game i) (text i) (reads new.work.store))
@@ -158,9 +181,14 @@ module _ (was new : File) (next : TreeSlot) (is : Kept) (game : new.game ≡ Som
   pub put_packing : packing_kept (kept_of new) ≡ Some is.packing
   put_packing = ap packing_kept (λ i. kept_with (game i) (text i) (reads new.work.store)) ∙ ap Some packing
 
-  pub put_whole : IsSoundStore new.work.store → 16 ≤ length new.work.store.marks → new.work.torn ≡ false → IsWholeFile new
+  pub put_goal : goal_kept (kept_of new) ≡ is.goal
+  put_goal = ap goal_kept (λ i. kept_with (game i) (text i) (reads new.work.store)) ∙ goal
+
+  pub put_whole : IsSoundStore new.work.store → 16 ≤ length new.work.store.marks → new.work.torn ≡ false → IsWholeFile layout new
   put_whole sound room torn = record {
     sound = sound;
+    of_layout = of_layout;
+    says = says;
     room = room;
     whole = torn;
     slot = slot ∙ ap slot_or_bare (sym game);
@@ -176,24 +204,25 @@ module _ (was new : File) (next : TreeSlot) (is : Kept) (game : new.game ≡ Som
       no_game g some none = cc
 
   pub put_now : commits_in new.work.store.root ≡ count_behind (commits_in was.work.store.root) → new.work.store.closed ≡ false
-      → (IsTrue was.work.store.disk.honest → LeavesEither StoresTrees was.work.store.disk new.work.store.disk (kept_of was) (Some is))
-      → IsPut StoresTrees is (state_of was) (state_of new)
-  put_now commits is_open leaves = record { commits = commits; text = put_text; packing = put_packing; kept = put_kept; is_open = is_open; leaves = leaves }
+      → (IsTrue was.work.store.disk.honest → LeavesEither (StoresTrees layout (length was.work.store.marks)) was.work.store.disk new.work.store.disk (kept_of was) (Some is))
+      → IsPut (StoresTrees layout) is (state_of was) (state_of new)
+  put_now commits is_open leaves = record { commits = commits; text = put_text; packing = put_packing; goal = put_goal; kept = put_kept; is_open = is_open; leaves = leaves }
 
 -- a table is not put: what was kept still is
-module _ (was new : File) (is : Kept) (whole : IsWholeFile was) (still : IsStill was.work.store new.work.store) (text : new.work.text ≡ was.work.text)
+module _ {layout : ℕ} (was new : File) (is : Kept) (whole : IsWholeFile layout was) (still : IsStill was.work.store new.work.store) (text : new.work.text ≡ was.work.text)
     (game : new.game ≡ was.game)
     (calm : IsCalm new.work.store) where
   pub not_put : (IsTrue was.work.store.disk.honest → new.work.store.closed ≡ false
-      → LeavesTable StoresTrees was.work.store.disk new.work.store.disk (kept_of was))
+      → LeavesTable (StoresTrees layout (length was.work.store.marks)) was.work.store.disk new.work.store.disk (kept_of was))
       → (IsTrue was.work.store.disk.honest → was.work.store.closed ≡ false
-      → LeavesEither StoresTrees was.work.store.disk new.work.store.disk (kept_of was) (Some is))
-      → IsNotPut StoresTrees is (state_of was) (state_of new)
+      → LeavesEither (StoresTrees layout (length was.work.store.marks)) was.work.store.disk new.work.store.disk (kept_of was) (Some is))
+      → IsNotPut (StoresTrees layout) is (state_of was) (state_of new)
   not_put leaves either = record {
     commits = ap commits_in still.root;
     counts = ap counts_told game;
     text = again_text was new whole still game text calm;
     packing = again_packing was new whole still game text calm;
+    goal = again_goal was new whole still game text calm;
     kept = again_kept was new whole still game text calm;
     leaves = leaves;
     either = either;

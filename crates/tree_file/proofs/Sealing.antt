@@ -10,11 +10,8 @@ use Rattle.page_store.specs.Page.{page}
 use Rattle.page_store.specs.Spelling.{IsCalm}
 use Rattle.page_store.specs.Store.{Store, IsSoundStore, IsRemarked, reads}
 use Rattle.page_store.specs.aid.Marking.{OnlyMarks}
-use Rattle.root_slot.specs.Fields.{commits_in, layout_in}
+use Rattle.root_slot.specs.Fields.{commits_in, goal_numbered}
 use Rattle.root_slot.specs.aid.Packings.{one_packing}
-use Rattle.game_file.specs.declared.fault.FileFault.{FileFault}
-use Rattle.game_file.specs.declared.fault.FileFault.TheVariants.{Disk as DiskFailed, NotATable, AlreadyATable, Damaged, OldLayout, TooSmall}
-use Rattle.game_file.specs.declared.fault.FileFault.TheVariants.{TableFull, OutOfMemory, Closed, Inconsistent}
 use Rattle.game_file.specs.Kept.{Kept, kept_as}
 use Rattle.tree_map.specs.aid.Laws.{none_contained}
 use Rattle.tree_table.specs.declared.slot.TreeSlot.{TreeSlot}
@@ -29,9 +26,9 @@ use Rattle.tree_table.specs.Trees.{root_of}
 use Rattle.tree_table.specs.aid.Keeping.{keeps_as}
 use Rattle.tree_table.specs.aid.Spelling.{forest_spells}
 use Rattle.tree_file.specs.File.{NamesSlot, kept_with}
-use Rattle.tree_file.specs.Opening.{IsFoundInFile, TreesReadCause}
+use Rattle.tree_file.specs.Opening.{IsFoundInFile}
 use Rattle.page_store.specs.Pages.{AllWait}
-use Rattle.tree_file.specs.aid.Reading.{NoGameReadCause, IsReadFor, IsReadGame}
+use Rattle.tree_file.specs.aid.Reading.{IsReadFor, IsReadGame}
 use Rattle.tree_file.proofs.Finding.{map_within}
 
 -- the slot that a root tells is of a size that a table may have
@@ -39,7 +36,7 @@ pub said_sized : (root : List ℕ) (game : Option TreeSlot) → SaysTrees root g
 said_sized root None says = tt
 said_sized root (Some slot) says =
     let named = says.0 in
-    subst (λ (s : TreeSlot). AreSized (Some s)) (sym says.1) (record { some = named.some; short = named.limits.packed; few = named.limits.known })
+    subst (λ (s : TreeSlot). AreSized (Some s)) (sym says.1) (record { some = named.some; short = named.limits.packed; few = named.limits.known; points = named.points })
 
 said_names : (root : List ℕ) (game : Option TreeSlot) → SaysTrees root game → NamesSlot root game
 said_names root None says = says
@@ -101,7 +98,7 @@ module _ (old mid new : Store) (only : OnlyMarks old mid) (sealed : AreSealed mi
 
     -- a game that was read is kept
     game_kept : (slot : TreeSlot) (text : List ℕ) → SaysTrees old.root (Some slot) → IsTrue old.disk.honest → IsReadGame text old mid
-        → IsKeptInTrees new (Some (kept_as text slot.packing (table_in slot (reads new))))
+        → IsKeptInTrees new (Some (kept_as text slot.packing (goal_numbered slot.goal) (table_in slot (reads new))))
     game_kept slot text says honest it =
         let spells : table_in (slot_in old.root) (reads old) ≡ it.kept.table =
         forest_spells (slot_in old.root) (length old.marks) it.pages it.keeps.entries (reads old) it.kept.table says.0.limits.known it.keeps.forest.trees
@@ -110,7 +107,9 @@ module _ (old mid new : Store) (only : OnlyMarks old mid) (sealed : AreSealed mi
         ap (λ (s : TreeSlot). table_in s (reads new)) says.1 ∙ ap (λ (bytes : ℕ → List ℕ). table_in (slot_in old.root) bytes) (sealed_reads honest) ∙ spells in
         let text_back : text ≡ it.kept.text = sym it.text_is in
         let packing : slot.packing ≡ it.kept.packing = one_packing old.root slot.packing it.kept.packing says.0.packing it.keeps.slot.packing in
-        let same : Some (kept_as text slot.packing (table_in slot (reads new))) ≡ Some it.kept = λ i. Some (kept_as (text_back i) (packing i) (table i)) in
+        let goal : goal_numbered slot.goal ≡ it.kept.goal = sym says.0.goal ∙ it.keeps.slot.goal in
+        let same : Some (kept_as text slot.packing (goal_numbered slot.goal) (table_in slot (reads new))) ≡ Some it.kept =
+        λ i. Some (kept_as (text_back i) (packing i) (goal i) (table i)) in
         record {
           text_pages = it.text_pages;
           pages = it.pages;
@@ -190,22 +189,3 @@ found_stands commits (Some slot) text store found honest =
       counts = it.keeps.counts ∙ ap (λ (s : TreeSlot). s.sizes.counts) (sym found.names);
       needed = it.needed;
     }
-
--- why a game is not read is why the file is not
-pub game_cause : (old new : Store) (game : Option TreeSlot) (fault : FileFault) → SaysTrees old.root game → NoGameReadCause old new fault
-    → TreesReadCause old new fault
-game_cause old new game DiskFailed says cause = cause
-game_cause old new game NotATable says cause = cause
-game_cause old new game AlreadyATable says cause = cause
-game_cause old new game Damaged says cause
-    = (λ honest wait kept keeps. absurd (cause honest wait kept keeps), λ one. let two = said_layout game says in omega (arith, one, two))
-  where
-    said_layout : (game : Option TreeSlot) → SaysTrees old.root game → layout_in old.root ≡ 2
-    said_layout None says = says.layout
-    said_layout (Some slot) says = says.0.layout
-game_cause old new game OldLayout says cause = absurd cause
-game_cause old new game TooSmall says cause = cause
-game_cause old new game TableFull says cause = cause
-game_cause old new game OutOfMemory says cause = cause
-game_cause old new game Closed says cause = cause
-game_cause old new game Inconsistent says cause = cause

@@ -11,7 +11,7 @@ use Rattle.page_store.specs.aid.Carrying.{let_go_calm}
 use Rattle.page_store.specs.Spelling.{IsCalm}
 use Rattle.retrograde.specs.Stored.{Stored}
 use Rattle.root_slot.specs.Fields.{commits_in}
-use Rattle.game_file.specs.Kept.{Kept as KeptTable, packing_kept, text_kept}
+use Rattle.game_file.specs.Kept.{Kept as KeptTable, goal_kept, packing_kept, text_kept}
 use Rattle.tree_table.specs.declared.slot.TreeSlot.{TreeSlot}
 use Rattle.tree_table.specs.Keeping.{IsKeptInTrees, IsStill, StandsInTrees, slot_or_bare}
 use Rattle.tree_table.specs.Slot.{slot_in}
@@ -26,14 +26,14 @@ use Rattle.tree_table.specs.aid.Standing.{taken_still, let_go_still, works_still
 use Rattle.tree_table.specs.aid.Versions.{version_taken}
 use Rattle.tree_file.specs.File.{File, IsWholeFile, NamesSlot, kept_of, counts_told, state_of}
 use Rattle.game_file.specs.Causes.{FileVersionCause}
-use Rattle.tree_file.specs.aid.Whole.{again_kept, again_packing, again_text, again_whole}
+use Rattle.tree_file.specs.aid.Whole.{again_goal, again_kept, again_packing, again_text, again_whole}
 use Rattle.tree_file.proofs.Saving.{calm_sealed}
 
 -- a file beside which a hold was taken or let go
-module _ (was new : File) (whole : IsWholeFile was) (still : IsStill was.work.store new.work.store) (calm : IsCalm new.work.store)
+module _ {layout : ℕ} (was new : File) (whole : IsWholeFile layout was) (still : IsStill was.work.store new.work.store) (calm : IsCalm new.work.store)
     (sound : IsSoundStore new.work.store) (slot : new.work.slot ≡ was.work.slot) (text : new.work.text ≡ was.work.text)
     (torn : new.work.torn ≡ was.work.torn) (game : new.game ≡ was.game) where
-  pub beside_whole : IsWholeFile new
+  pub beside_whole : IsWholeFile layout new
   beside_whole = again_whole was new whole still game text calm sound (torn ∙ whole.whole)
       (slot ∙ whole.slot ∙ ap slot_or_bare (sym game))
 
@@ -42,6 +42,9 @@ module _ (was new : File) (whole : IsWholeFile was) (still : IsStill was.work.st
 
   pub beside_packing : packing_kept (kept_of new) ≡ packing_kept (kept_of was)
   beside_packing = again_packing was new whole still game text calm
+
+  pub beside_goal : goal_kept (kept_of new) ≡ goal_kept (kept_of was)
+  beside_goal = again_goal was new whole still game text calm
 
   pub beside_state : IsTrue was.work.store.disk.honest → new.work.store.disk ≡ was.work.store.disk
       → new.work.store.failures ≡ was.work.store.failures → new.work.store.closed ≡ was.work.store.closed → state_of new ≡ state_of was
@@ -63,7 +66,7 @@ taken_calm place old new taken calm = record {
 }
 
 -- a hold is taken
-module _ (place : HoldPlace) (was new : File) (whole : IsWholeFile was) (taken : IsHoldTaken place was.work.store new.work.store)
+module _ {layout : ℕ} (place : HoldPlace) (was new : File) (whole : IsWholeFile layout was) (taken : IsHoldTaken place was.work.store new.work.store)
     (sound : IsSoundStore new.work.store) (slot : new.work.slot ≡ was.work.slot) (text : new.work.text ≡ was.work.text)
     (torn : new.work.torn ≡ was.work.torn) (game : new.game ≡ was.game) where
   still : IsStill was.work.store new.work.store
@@ -72,7 +75,7 @@ module _ (place : HoldPlace) (was new : File) (whole : IsWholeFile was) (taken :
   calm : IsCalm new.work.store
   calm = taken_calm place was.work.store new.work.store taken whole.calm
 
-  pub taken_whole : IsWholeFile new
+  pub taken_whole : IsWholeFile layout new
   taken_whole = beside_whole was new whole still calm sound slot text torn game
 
   pub taken_text : text_kept (kept_of new) ≡ text_kept (kept_of was)
@@ -80,6 +83,9 @@ module _ (place : HoldPlace) (was new : File) (whole : IsWholeFile was) (taken :
 
   pub taken_packing : packing_kept (kept_of new) ≡ packing_kept (kept_of was)
   taken_packing = beside_packing was new whole still calm sound slot text torn game
+
+  pub taken_goal : goal_kept (kept_of new) ≡ goal_kept (kept_of was)
+  taken_goal = beside_goal was new whole still calm sound slot text torn game
 
   pub taken_state : IsTrue was.work.store.disk.honest → state_of new ≡ state_of was
   taken_state honest = beside_state was new whole still calm sound slot text torn game honest taken.disk taken.failures taken.closed
@@ -114,10 +120,10 @@ module _ (place : HoldPlace) (was new : File) (whole : IsWholeFile was) (taken :
       (version_taken place its kept.text was.work.store new.work.store (calm_sealed was.work.store whole.calm) taken st)
 
 -- a hold is let go
-module _ (place : HoldPlace) (was new : File) (whole : IsWholeFile was) (gone : IsLetGo place was.work.store new.work.store)
+module _ {layout : ℕ} (place : HoldPlace) (was new : File) (whole : IsWholeFile layout was) (gone : IsLetGo place was.work.store new.work.store)
     (sound : IsSoundStore new.work.store) (slot : new.work.slot ≡ was.work.slot) (text : new.work.text ≡ was.work.text)
     (torn : new.work.torn ≡ was.work.torn) (game : new.game ≡ was.game) where
-  pub let_go_whole : IsWholeFile new
+  pub let_go_whole : IsWholeFile layout new
   let_go_whole = beside_whole was new whole (let_go_still place was.work.store new.work.store gone)
       (let_go_calm place was.work.store new.work.store gone whole.calm) sound slot text torn game
 
@@ -127,6 +133,10 @@ module _ (place : HoldPlace) (was new : File) (whole : IsWholeFile was) (gone : 
 
   pub let_go_packing : packing_kept (kept_of new) ≡ packing_kept (kept_of was)
   let_go_packing = beside_packing was new whole (let_go_still place was.work.store new.work.store gone)
+      (let_go_calm place was.work.store new.work.store gone whole.calm) sound slot text torn game
+
+  pub let_go_goal : goal_kept (kept_of new) ≡ goal_kept (kept_of was)
+  let_go_goal = beside_goal was new whole (let_go_still place was.work.store new.work.store gone)
       (let_go_calm place was.work.store new.work.store gone whole.calm) sound slot text torn game
 
   pub let_go_state : IsTrue was.work.store.disk.honest → state_of new ≡ state_of was

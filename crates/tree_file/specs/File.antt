@@ -1,10 +1,10 @@
--- What is stated of a table's file of layout 2.
+-- What is stated of a table's file on trees.
 use Rattle.std.specs.Prelude.{◌≡◌, ℕ, ◌≤◌, ◌<◌, false, List, length, Option, None, Some, IsTrue}
 use Rattle.page_store.specs.declared.marks.Mark.TheVariants.{Free}
 use Rattle.page_store.specs.Marks.{mark}
 use Rattle.page_store.specs.Spelling.{IsCalm}
 use Rattle.page_store.specs.Store.{IsSoundStore, reads}
-use Rattle.root_slot.specs.Fields.{commits_in}
+use Rattle.root_slot.specs.Fields.{commits_in, goal_numbered, layout_in, SaysPages}
 use Rattle.retrograde.specs.declared.records.Counts.{Counts}
 use Rattle.game_file.specs.Kept.{Kept, kept_as}
 use Rattle.game_file.specs.State.{State}
@@ -24,12 +24,12 @@ pub record File : Type 0 where
 abbrev pub file_of : Work → Option TreeSlot → File
 file_of w g = record { work = w; game = g }
 
--- this text, the packing that this slot names, and the table that it and these pages spell, if a game is loaded
+-- this text, the packing and the goal that this slot names, and the table that it and these pages spell, if a game is loaded
 abbrev pub kept_with : Option TreeSlot → List ℕ → (ℕ → List ℕ) → Option Kept
 kept_with None text bytes = None
-kept_with (Some slot) text bytes = Some (kept_as text slot.packing (table_in slot bytes))
+kept_with (Some slot) text bytes = Some (kept_as text slot.packing (goal_numbered slot.goal) (table_in slot bytes))
 
--- the text, the packing and the table of the last commit, if a game is loaded
+-- the text, the packing, the goal and the table of the last commit, if a game is loaded
 abbrev pub kept_of : File → Option Kept
 kept_of file = kept_with file.game file.work.text (reads file.work.store)
 
@@ -55,10 +55,13 @@ abbrev pub NamesSlot : List ℕ → Option TreeSlot → Type 0
 NamesSlot root None = IsEmptyTreeSlot root
 NamesSlot root (Some slot) = slot ≡ slot_in root
 
--- between commands: the table at work is that of the last commit, nothing is handed out or released, a file without a game uses no
--- page, and the committed root and its pages spell what is kept
-pub record IsWholeFile (file : File) : Type 0 where
+-- between commands: the committed root is of this layout, and says how many pages there are if the layout says so at all; the table at work
+-- is that of the last commit, nothing is handed out or released, a file without a game uses no page, and the committed root and its pages
+-- spell what is kept
+pub record IsWholeFile (layout : ℕ) (file : File) : Type 0 where
   pub sound : IsSoundStore file.work.store
+  pub of_layout : layout_in file.work.store.root ≡ layout
+  pub says : SaysPages file.work.store.root (length file.work.store.marks)
   pub room : MIN_PAGES ≤ length file.work.store.marks
   pub whole : file.work.torn ≡ false
   pub slot : file.work.slot ≡ slot_or_bare file.game

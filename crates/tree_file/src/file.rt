@@ -1,7 +1,9 @@
-//! A table in a file of layout 2.
-ghost use Rattle.std.specs.Prelude.{◌≡◌, ◌≤◌, ℕ, IfOk, IfErr, IsTrue};
+//! A table on trees in a file of one layout.
+ghost use Rattle.std.specs.Prelude.{◌≡◌, ◌≤◌, ◌/◌, ℕ, min, IfOk, IfErr, IsTrue};
+ghost use Rattle.page_store.specs.declared.limits.TheConstants.{MAX_PAGES};
+ghost use Rattle.game_file.specs.Kept.{in_any};
 ghost use Rattle.root_pair.specs.Root.{HoldsRoot};
-ghost use Rattle.root_slot.specs.Fields.{commits_in};
+ghost use Rattle.root_slot.specs.Fields.{commits_in, layout_in};
 ghost use Rattle.game_file.specs.Calls.{IsOpenedFile, IsNotOpened};
 ghost use Rattle.game_file.specs.Causes.{FileOpenCause};
 ghost use Rattle.tree_table.specs.Held.{StoresTrees};
@@ -18,17 +20,28 @@ ghost use Rattle.tree_table.specs.aid.Versions.{keeps_holds_then, works_keep_hol
 ghost use Rattle.tree_file.specs.aid.Whole.{whole_counts, whole_leaves, whole_stored, whole_stays, works_ahead, fails_for, older_none};
 
 use crate::on_disk::PagesOnDisk;
-use crate::open::{Opened, read_all};
+use crate::open::{read_all, read_root};
 use game_file::{FileFault, GameFile, Refused};
+use page_store::{MAX_PAGES, MOST_CACHED};
 use position_pack::{Packed, PackingKind};
+use rbg_game::goal::Goal;
 use root_pair::create;
+use root_slot::goal_numbered;
+use sector_disk::SectorDisk;
 use std::alloc::Global;
-use tree_table::{TreeSlot, TreeTable, empty_slot};
+use tree_table::{FIRST_WITH_GOALS, TreeSlot, TreeTable, empty_slot};
 
-/// A game's table in a file. A command works on the trees themselves: it writes pages that the last commit does not need, and to
+/// As many pages as so many sectors have room for, 1,048,576 at most.
+fn room_for(sectors: u64) -> u32
+    ensures { result ≡ min (sectors / 8) MAX_PAGES }
+{
+    (sectors / 8).min(u64::from(MAX_PAGES)) as u32
+}
+
+/// A game's table in a file of this layout: 3, which the program writes, or 2, the one before. A command works on the trees themselves: it writes pages that the last commit does not need, and to
 /// give the command up these pages are free again.
 #[derive(Drop)]
-pub struct TreeFile<P: PagesOnDisk> {
+pub struct TreeFile<P: PagesOnDisk, const LAYOUT: u32> {
     pub(crate) alloc: Global,
     /// The table that a command has come to.
     pub(crate) table: TreeTable<P>,
@@ -39,23 +52,24 @@ pub struct TreeFile<P: PagesOnDisk> {
     ghost counted: { commits ≡ commits_in (work_in table).store.root },
     ghost sized: { AreSized game } by { are_sized_prop game },
     ghost sealed: { (p : ℕ) → mark (work_in table).store.marks p ≡ Waiting → ⊥ },
+    ghost of_layout: { layout_in (work_in table).store.root ≡ LAYOUT },
     ghost stands: { IsTrue (work_in table).store.disk.honest → ∥ StandsFor game (work_in table).text (work_in table).store ∥₁ },
 }
 
-impl<P: PagesOnDisk> TreeFile<P> {
+impl<P: PagesOnDisk, const LAYOUT: u32> TreeFile<P, LAYOUT> {
     ghost use Rattle.tree_file.specs.InFile.{file_in};
 
     /// Opens the table that this disk stores, after a sync, with so many pages in memory: E1, E2, E4, E5, E8.
     fn read(alloc: Global, disk: P::Device, pages: usize) -> Result<Self, Refused<P::Device>>
         requires { pages ≤ 64 }
-        ensures whole { IfOk result (λ t. IsWholeFile (file_in t)) }
-        ensures ok { IfOk result (λ t. IsOpenedFile StoresTrees (P.Device.disk disk) (P.Device.failures disk) (state_of (file_in t))) }
+        ensures whole { IfOk result (λ t. IsWholeFile LAYOUT (file_in t)) }
+        ensures ok { IfOk result (λ t. IsOpenedFile (StoresTrees LAYOUT) (P.Device.disk disk) (P.Device.failures disk) (state_of (file_in t))) }
         ensures root { IfOk result (λ t. IsTrue (P.Device.disk disk).honest
             → HoldsRoot (file_in t).work.store.root (P.Device.disk disk).now.contents) }
         ensures alone { IfOk result (λ t. UsesNoOther (file_in t)) }
         ensures refused { IfErr result (λ back. IsNotOpened (P.Device.disk disk) (P.Device.failures disk)
             (P.Device.disk back.disk) (P.Device.failures back.disk)) }
-        ensures cause { IfErr result (λ back. FileOpenCause StoresTrees IsOlderTable (P.Device.disk disk) (P.Device.failures disk)
+        ensures cause { IfErr result (λ back. FileOpenCause (in_any (StoresTrees LAYOUT)) (IsOlderTable LAYOUT) (P.Device.disk disk) (P.Device.failures disk)
             (P.Device.failures back.disk) back.fault) }
     {
         let mut store = match P::find(alloc, disk, pages) {
@@ -67,18 +81,21 @@ impl<P: PagesOnDisk> TreeFile<P> {
                 });
             }
         };
-        match read_all(alloc, &mut store) {
-            Ok(
-                Opened {
-                    commits,
-                    game,
-                    text,
-                },
-            ) => Ok(TreeFile {
+        let slot = match read_root(&mut store, LAYOUT) {
+            Ok(slot) => slot,
+            Err(fault) => {
+                return Err(Refused {
+                    disk: store.give_back(),
+                    fault,
+                });
+            }
+        };
+        match read_all(alloc, &mut store, &slot) {
+            Ok(text) => Ok(TreeFile {
                 alloc,
-                table: TreeTable::standing(store, &game, text),
-                commits,
-                game,
+                table: TreeTable::standing(store, &slot.game, text),
+                commits: slot.commits,
+                game: slot.game,
             }),
             Err(fault) => Err(Refused {
                 disk: store.give_back(),
@@ -88,38 +105,39 @@ impl<P: PagesOnDisk> TreeFile<P> {
     }
 }
 
-impl<P: PagesOnDisk> GameFile for TreeFile<P> {
+impl<P: PagesOnDisk, const LAYOUT: u32> GameFile for TreeFile<P, LAYOUT> {
     ghost use Rattle.tree_file.specs.InFile.{file_in};
 
     type Device = P::Device;
 
-    ghost stores = { StoresTrees };
+    ghost stores = { StoresTrees LAYOUT };
 
-    ghost is_older = { IsOlderTable };
+    ghost is_older = { IsOlderTable LAYOUT };
 
     ghost state = { λ t. state_of (file_in t) };
 
-    ghost is_whole = { λ t. IsWholeFile (file_in t) };
+    ghost is_whole = { λ t. IsWholeFile LAYOUT (file_in t) };
 
-    ghost stores_one = { λ picture one other first second. a_picture_stores_one_tree_table picture one other first second };
+    ghost stores_one = { λ m n picture one other first second.
+        (a_picture_stores_one_tree_table LAYOUT LAYOUT m n picture one other first second).1 };
 
-    ghost older_stores_none = { λ picture kept older it. older_none picture kept older it };
+    ghost older_stores_none = { λ pages picture kept older it. older_none LAYOUT pages picture kept older it };
 
-    ghost stores_begins = { λ picture kept it. it.holds.table };
+    ghost stores_begins = { λ pages picture kept it. it.holds.table };
 
-    ghost whole_leaves = { λ t whole honest is_open. whole_leaves (file_in t) whole honest is_open };
+    ghost whole_leaves = { λ t whole honest is_open. whole_leaves LAYOUT (file_in t) whole honest is_open };
 
-    ghost whole_stored = { λ t kept whole honest is. whole_stored (file_in t) kept whole honest is };
+    ghost whole_stored = { λ t kept whole honest is. whole_stored LAYOUT (file_in t) kept whole honest is };
 
-    ghost whole_counts = { λ t whole. whole_counts (file_in t) whole };
+    ghost whole_counts = { λ t whole. whole_counts LAYOUT (file_in t) whole };
 
-    ghost whole_stays = { λ old new whole stays. whole_stays (file_in old) (file_in new) (P.sound new.table.store) whole stays };
+    ghost whole_stays = { λ old new whole stays. whole_stays LAYOUT (file_in old) (file_in new) (P.sound new.table.store) whole stays };
 
     ghost goes_ahead = { λ old new goes_on. works_ahead (file_in old) (file_in new) goes_on.work.works };
 
     ghost fails_ahead = { λ old new fault cause. works_ahead (file_in old) (file_in new) cause.work.works };
 
-    ghost fails_for = { λ old new fault whole cause. fails_for (file_in old) (file_in new) fault old.table.holds whole cause };
+    ghost fails_for = { λ old new fault whole cause. fails_for LAYOUT (file_in old) (file_in new) fault old.table.holds whole cause };
 
     ghost lasts = { λ old new. KeepsHolds (file_in old).work.store (file_in new).work.store };
 
@@ -133,8 +151,9 @@ impl<P: PagesOnDisk> GameFile for TreeFile<P> {
 
     fn create(alloc: Global, disk: P::Device) -> Result<Self, Refused<P::Device>> {
         let mut disk = disk;
-        match create(&mut disk, &empty_slot()) {
-            Ok(()) => TreeFile::begin(alloc, disk),
+        let pages = room_for(disk.sectors());
+        match create(&mut disk, &empty_slot(LAYOUT, pages)) {
+            Ok(()) => TreeFile::read(alloc, disk, MOST_CACHED),
             Err(fault) => Err(Refused {
                 disk,
                 fault: fault.into(),
@@ -149,12 +168,12 @@ impl<P: PagesOnDisk> GameFile for TreeFile<P> {
         pages: usize,
     ) -> Result<Self, Refused<P::Device>>
         requires { pages ≤ 64 }
-        ensures whole { IfOk result (λ t. IsWholeFile (file_in t)) }
-        ensures ok { IfOk result (λ t. IsOpenedFile StoresTrees (P.Device.disk disk) (P.Device.failures disk) (state_of (file_in t))) }
+        ensures whole { IfOk result (λ t. IsWholeFile LAYOUT (file_in t)) }
+        ensures ok { IfOk result (λ t. IsOpenedFile (StoresTrees LAYOUT) (P.Device.disk disk) (P.Device.failures disk) (state_of (file_in t))) }
         ensures alone { IfOk result (λ t. UsesNoOther (file_in t)) }
         ensures refused { IfErr result (λ back. IsNotOpened (P.Device.disk disk) (P.Device.failures disk)
             (P.Device.disk back.disk) (P.Device.failures back.disk)) }
-        ensures cause { IfErr result (λ back. FileOpenCause StoresTrees IsOlderTable (P.Device.disk disk) (P.Device.failures disk)
+        ensures cause { IfErr result (λ back. FileOpenCause (in_any (StoresTrees LAYOUT)) (IsOlderTable LAYOUT) (P.Device.disk disk) (P.Device.failures disk)
             (P.Device.failures back.disk) back.fault) }
     {
         TreeFile::read(alloc, disk, pages)
@@ -174,20 +193,37 @@ impl<P: PagesOnDisk> GameFile for TreeFile<P> {
         }
     }
 
+    fn goal(&self) -> Option<Goal> {
+        match &self.game {
+            Some(slot) => goal_numbered(slot.goal),
+            None => None,
+        }
+    }
+
     fn is_closed(&self) -> bool {
         self.table.store.is_closed()
     }
 
-    fn load(&mut self, text: &[u8], packing: PackingKind, start: &Packed) -> Result<(), FileFault> {
+    fn load(
+        &mut self,
+        text: &[u8],
+        packing: PackingKind,
+        goal: Option<Goal>,
+        start: &Packed,
+    ) -> Result<(), FileFault> {
         if self.game.is_some() {
             return Err(FileFault::Inconsistent);
         }
         if start.is_empty() {
             return Err(FileFault::Inconsistent);
         }
+        // a slot of an earlier layout has no place for a goal
+        if LAYOUT < FIRST_WITH_GOALS && goal.is_some() {
+            return Err(FileFault::OutOfMemory);
+        }
         let text = text.to_vec(self.alloc)?;
         let commits = self.commits.wrapping_add(1);
-        match self.table.start(self.alloc, commits, text, packing, start) {
+        match self.table.start(self.alloc, commits, text, packing, goal, start) {
             Ok(()) => {
                 self.commits = commits;
                 self.game = Some(self.table.slot);

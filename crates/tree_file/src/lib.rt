@@ -1,7 +1,6 @@
-//! A game's table in a file of layout 2: its text on a chain of pages, and four trees, of which a command writes what it changes.
+//! A game's table in a file of one layout: its text on a chain of pages, and four trees, of which a command writes what it changes.
 #![tactic(auto)]
 
-mod begin;
 mod file;
 mod kept;
 pub mod laws;

@@ -1,10 +1,12 @@
 //! All that the root of a file names is read and looked at.
-ghost use Rattle.std.specs.Prelude.{◌≡◌, ◌≤◌, false, Some, length, IfOk, IfErr, IsTrue};
+ghost use Rattle.std.specs.Prelude.{◌≡◌, ◌≤◌, ◌<◌, Some, length, OnErr, IfOk, IfErr, IsTrue};
 ghost use Rattle.sector_disk.specs.Disk.{size, GoesOn, LeavesOnly, MayLeave};
 ghost use Rattle.page_store.specs.Store.{StoreWorks};
 ghost use Rattle.page_store.specs.aid.Marking.{OnlyMarks};
 ghost use Rattle.tree_table.specs.Slot.{SaysTrees};
-ghost use Rattle.tree_file.specs.Opening.{IsFoundInFile, TreesReadCause};
+ghost use Rattle.root_slot.specs.Fields.{commits_in};
+ghost use Rattle.page_store.specs.declared.limits.TheConstants.{MIN_PAGES};
+ghost use Rattle.tree_file.specs.Opening.{IsFoundInFile, IsRootRead, RootCause};
 ghost use Rattle.page_store.specs.Pages.{AllWait};
 ghost use Rattle.tree_file.specs.aid.Reading.{IsReadFor, NoGameReadCause};
 
@@ -15,28 +17,53 @@ use root_slot::word_at;
 use std::alloc::Global;
 use tree_check::check_entries;
 use tree_forest::walk_trees;
-use tree_table::{Slot, TreeSlot, read_slot};
+use tree_table::{FIRST_WITH_GOALS, Slot, TreeSlot, read_slot};
 
-/// The number of the layout before this one.
-const OLD_LAYOUT: u32 = 1;
-
-/// What is read of a file.
-#[derive(Drop)]
-pub struct Opened {
-    /// Commits since the file was made.
-    pub commits: u64,
-    /// The slot of the committed root, where a game is loaded.
-    pub game: Option<TreeSlot>,
-    /// The text of the game; empty where none is loaded.
-    pub text: Vec<u8>,
+/// How many pages a store has: so many as the slot says, or as there is room for where its layout does not say so.
+fn pages_said(layout: u32, said: u32, room: u32) -> u32
+    ensures said { 3 ≤ layout → result ≡ said }
+    ensures unsaid { layout < 3 → result ≡ room }
+{
+    if layout < FIRST_WITH_GOALS { room } else { said }
 }
 
-/// Reads and looks at all that the root of a store that was just opened names, marks its pages, and seals the store.
-/// `OldLayout` where the root names layout 1, `Damaged` where else slot and pages spell no table whose parts fit together. A stop
-/// meanwhile leaves what it could leave before.
-pub fn read_all<P: Pages>(alloc: Global, store: &mut P) -> Result<Opened, FileFault>
-    ensures found { (P.store store.old).closed ≡ false → AllWait (P.store store.old)
-        → IfOk result (λ opened. IsFoundInFile opened.commits opened.game opened.text.items (P.store store.new)) }
+/// What the root of a store that was just opened says, of a table of this layout; the store has as many pages then as the root says.
+/// `OldLayout` where the root names an earlier layout, `Damaged` where it is else no root of a table of this layout.
+pub fn read_root<P: Pages>(store: &mut P, layout: u32) -> Result<Slot, FileFault>
+    requires { AllWait (P.store store.old) }
+    ensures read { IfOk result (λ slot. IsRootRead layout slot (P.store store.old) (P.store store.new)) }
+    ensures kept { OnErr result (P.store store.new ≡ P.store store.old) }
+    ensures cause { IfErr result (RootCause layout (P.store store.old)) }
+{
+    let root = store.root();
+    let named = word_at(&root.bytes, 0);
+    if 1 <= named && named < layout {
+        return Err(FileFault::OldLayout);
+    }
+    if named != layout {
+        return Err(FileFault::Damaged);
+    }
+    let Some(slot) = read_slot(&root.bytes) else {
+        return Err(FileFault::Damaged);
+    };
+    let room = store.capacity();
+    let pages = pages_said(layout, slot.capacity, room);
+    if pages < MIN_PAGES || pages > room {
+        return Err(FileFault::Damaged);
+    }
+    store.set_capacity(pages);
+    Ok(slot)
+}
+
+/// Reads and looks at all that the root of a store names, of which no page is marked yet, marks its pages, and seals the store. It answers
+/// the text of the game. `Damaged` where slot and pages spell no table whose parts fit together. A stop meanwhile leaves what it could
+/// leave before.
+pub fn read_all<P: Pages>(alloc: Global, store: &mut P, slot: &Slot) -> Result<Vec<u8>, FileFault>
+    requires says { SaysTrees (P.store store.old).root slot.now.game }
+    requires commits { slot.now.commits ≡ commits_in (P.store store.old).root }
+    requires enough { MIN_PAGES ≤ length (P.store store.old).marks }
+    requires waits { AllWait (P.store store.old) }
+    ensures found { IfOk result (λ text. IsFoundInFile slot.now.commits slot.now.game text.items (P.store store.new)) }
     ensures goes_on { GoesOn (P.store store.old).disk (P.store store.new).disk }
     ensures same_size { size (P.store store.new).disk ≡ size (P.store store.old).disk }
     ensures failures { (P.store store.old).failures ≤ (P.store store.new).failures }
@@ -47,25 +74,11 @@ pub fn read_all<P: Pages>(alloc: Global, store: &mut P) -> Result<Opened, FileFa
         → LeavesOnly (P.store store.old).disk (P.store store.new).disk (MayLeave (P.store store.old).disk.now) }
     ensures closed { (P.store store.new).closed ≡ (P.store store.old).closed }
     ensures works { IfErr result (λ _. StoreWorks (P.store store.old) (P.store store.new)) }
-    ensures cause { IfErr result (TreesReadCause (P.store store.old) (P.store store.new)) }
+    ensures cause { IfErr result (NoGameReadCause (P.store store.old) (P.store store.new)) }
 {
-    let root = store.root();
-    if word_at(&root.bytes, 0) == OLD_LAYOUT {
-        return Err(FileFault::OldLayout);
-    }
-    if store.capacity() < MIN_PAGES {
-        return Err(FileFault::Damaged);
-    }
-    let Some(Slot { commits, game }) = read_slot(&root.bytes) else {
-        return Err(FileFault::Damaged);
-    };
-    let text = read_named(alloc, store, &game)?;
+    let text = read_named(alloc, store, &slot.game)?;
     store.seal();
-    Ok(Opened {
-        commits,
-        game,
-        text,
-    })
+    Ok(text)
 }
 
 /// Reads the game that the slot names, if one, and answers its text.

@@ -12,7 +12,7 @@ use game_file::Versions;
 use retrograde::{Counts, Record};
 use table::TableFault;
 
-impl<P: PagesOnDisk> Versions for TreeFile<P> {
+impl<P: PagesOnDisk, const LAYOUT: u32> Versions for TreeFile<P, LAYOUT> {
     ghost use Rattle.std.specs.Prelude.{◌≡◌};
     ghost use Rattle.tree_file.specs.InFile.{file_in};
 

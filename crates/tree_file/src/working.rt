@@ -12,7 +12,7 @@ use position_pack::Packed;
 use retrograde::{Counts, Record};
 use table::{Table, TableFault};
 
-impl<P: PagesOnDisk> Table for TreeFile<P> {
+impl<P: PagesOnDisk, const LAYOUT: u32> Table for TreeFile<P, LAYOUT> {
     ghost stored = { λ t. table_now (file_in t).work };
 
     ghost is_honest = { λ t. IsHonestWork (file_in t).work };

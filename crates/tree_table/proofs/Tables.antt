@@ -25,9 +25,9 @@ use Rattle.tree_table.specs.aid.Lists.{push_long, zip_push, zip_long, zip_set, c
 use Rattle.tree_table.specs.aid.Numbers.{key_number}
 use Rattle.tree_table.proofs.Puts.{one_more}
 
--- the slot with this packing, these roots and sizes
-abbrev pub slot_of : PackingKind → ℕ → Sizes → Roots → TreeSlot
-slot_of p f s r = record { packing = p; first = f; sizes = s; roots = r }
+-- the slot with this packing, goal, roots and sizes
+abbrev pub slot_of : PackingKind → ℕ → ℕ → Sizes → Roots → TreeSlot
+slot_of p g f s r = record { packing = p; goal = g; first = f; sizes = s; roots = r }
 
 -- so many positions are known
 abbrev pub known_as : Sizes → ℕ → Sizes
@@ -54,9 +54,9 @@ pub plain_long : (packed : ℕ) (bytes : List ℕ) (cell : List ℕ × Record) �
 plain_long packed bytes cell plain = omega (arith, ap length plain.is, length-append cell.0 plain.behind, plain.long, plain.is_record.is.long)
 
 -- pages tell nothing of counts
-pub forest_as : (kind : PackingKind) (first : ℕ) (sizes others : Sizes) (roots : Roots) (text : List ℕ) (entries : Tree → List Item) (store : Store) → others.packed ≡ sizes.packed
-    → HoldsForest (slot_of kind first sizes roots) text entries store → HoldsForest (slot_of kind first others roots) text entries store
-forest_as kind first sizes others roots text entries store packed h = record {
+pub forest_as : (kind : PackingKind) (goal first : ℕ) (sizes others : Sizes) (roots : Roots) (text : List ℕ) (entries : Tree → List Item) (store : Store) → others.packed ≡ sizes.packed
+    → HoldsForest (slot_of kind goal first sizes roots) text entries store → HoldsForest (slot_of kind goal first others roots) text entries store
+forest_as kind goal first sizes others roots text entries store packed h = record {
   text_pages = h.text_pages;
   pages = h.pages;
   forest = subst (λ (n : ℕ). IsForest n (length store.marks) first roots text h.text_pages h.pages entries (reads store)) (sym packed) h.forest;
@@ -73,11 +73,11 @@ module _ (slot : TreeSlot) (text : List ℕ) (table : Stored (List ℕ)) (old : 
   cells_long = zip_long table.positions table.records as_many ∙ h.spelled.known
 
   -- a position is added
-  pub position_added : (kind : PackingKind) (first : ℕ) (roots : Roots) (x cell : List ℕ) (new : Store) → slot.sizes.counts.known < 2 ^ 24 → ((i : ℕ) → slice_get table.positions i ≡ Some x → ⊥)
+  pub position_added : (kind : PackingKind) (goal first : ℕ) (roots : Roots) (x cell : List ℕ) (new : Store) → slot.sizes.counts.known < 2 ^ 24 → ((i : ℕ) → slice_get table.positions i ≡ Some x → ⊥)
       → IsCell slot.sizes.packed cell (x, fresh_record)
-      → HoldsForest (slot_of kind first slot.sizes roots) text (with_entry (with_entry h.entries Positions x (number_key slot.sizes.counts.known)) Records (number_key slot.sizes.counts.known) cell) new
-      → HoldsTable (slot_of kind first (known_as slot.sizes (slot.sizes.counts.known + 1)) roots) text (with_position table x) new
-  position_added kind first roots x cell new room unknown is forest =
+      → HoldsForest (slot_of kind goal first slot.sizes roots) text (with_entry (with_entry h.entries Positions x (number_key slot.sizes.counts.known)) Records (number_key slot.sizes.counts.known) cell) new
+      → HoldsTable (slot_of kind goal first (known_as slot.sizes (slot.sizes.counts.known + 1)) roots) text (with_position table x) new
+  position_added kind goal first roots x cell new room unknown is forest =
       let sizes_now = known_as slot.sizes (slot.sizes.counts.known + 1) in
       let key = number_key slot.sizes.counts.known in
       let entries = with_entry (with_entry h.entries Positions x key) Records key cell in
@@ -85,7 +85,7 @@ module _ (slot : TreeSlot) (text : List ℕ) (table : Stored (List ℕ)) (old : 
       let small : slot.sizes.counts.known < 2 ^ 32 = omega (arith, room) in
       record {
         entries = entries;
-        forest = forest_as kind first slot.sizes sizes_now roots text entries new refl forest;
+        forest = forest_as kind goal first slot.sizes sizes_now roots text entries new refl forest;
         spelled = record {
           known = more;
           recorded = push_long table.records fresh_record ∙ ap (λ (m : ℕ). m + 1) h.spelled.recorded;
@@ -111,17 +111,17 @@ module _ (slot : TreeSlot) (text : List ℕ) (table : Stored (List ℕ)) (old : 
       }
 
   -- a record is written
-  pub record_set : (kind : PackingKind) (first : ℕ) (roots : Roots) (i : ℕ) (x cell : List ℕ) (was kept : Record) (new : Store) → i < slot.sizes.counts.known → slice_get table.positions i ≡ Some x → HasRecord table i was
+  pub record_set : (kind : PackingKind) (goal first : ℕ) (roots : Roots) (i : ℕ) (x cell : List ℕ) (was kept : Record) (new : Store) → i < slot.sizes.counts.known → slice_get table.positions i ≡ Some x → HasRecord table i was
       → IsCell slot.sizes.packed cell (x, kept)
-      → HoldsForest (slot_of kind first slot.sizes roots) text (with_entry h.entries Records (number_key i) cell) new
-      → HoldsTable (slot_of kind first (counted_as slot.sizes (counts_with slot.sizes.counts was.state kept.state)) roots) text (with_record table i kept) new
-  record_set kind first roots i x cell was kept new low at had is forest =
+      → HoldsForest (slot_of kind goal first slot.sizes roots) text (with_entry h.entries Records (number_key i) cell) new
+      → HoldsTable (slot_of kind goal first (counted_as slot.sizes (counts_with slot.sizes.counts was.state kept.state)) roots) text (with_record table i kept) new
+  record_set kind goal first roots i x cell was kept new low at had is forest =
       let sizes_now = counted_as slot.sizes (counts_with slot.sizes.counts was.state kept.state) in
       let entries = with_entry h.entries Records (number_key i) cell in
       let long : length table.records ≤ 2 ^ 24 = omega (arith, h.spelled.recorded, few) in
       record {
         entries = entries;
-        forest = forest_as kind first slot.sizes sizes_now roots text entries new refl forest;
+        forest = forest_as kind goal first slot.sizes sizes_now roots text entries new refl forest;
         spelled = record {
           known = h.spelled.known;
           recorded = length-set table.records i kept ∙ h.spelled.recorded;
@@ -146,14 +146,14 @@ module _ (slot : TreeSlot) (text : List ℕ) (table : Stored (List ℕ)) (old : 
       }
 
   -- an edge is added
-  pub edge_put : (kind : PackingKind) (first : ℕ) (roots : Roots) (i p : ℕ) (new : Store) → i < slot.sizes.counts.known → p < slot.sizes.counts.known → find_entry (h.entries Edges) (edge_key i p) ≡ None
-      → HoldsForest (slot_of kind first slot.sizes roots) text (with_entry h.entries Edges (edge_key i p) []) new
-      → HoldsTable (slot_of kind first (edges_as slot.sizes (slot.sizes.edges + 1)) roots) text (with_edge table i p) new
-  edge_put kind first roots i p new to from none forest =
+  pub edge_put : (kind : PackingKind) (goal first : ℕ) (roots : Roots) (i p : ℕ) (new : Store) → i < slot.sizes.counts.known → p < slot.sizes.counts.known → find_entry (h.entries Edges) (edge_key i p) ≡ None
+      → HoldsForest (slot_of kind goal first slot.sizes roots) text (with_entry h.entries Edges (edge_key i p) []) new
+      → HoldsTable (slot_of kind goal first (edges_as slot.sizes (slot.sizes.edges + 1)) roots) text (with_edge table i p) new
+  edge_put kind goal first roots i p new to from none forest =
       let entries = with_entry h.entries Edges (edge_key i p) [] in
       record {
         entries = entries;
-        forest = forest_as kind first slot.sizes (edges_as slot.sizes (slot.sizes.edges + 1)) roots text entries new refl forest;
+        forest = forest_as kind goal first slot.sizes (edges_as slot.sizes (slot.sizes.edges + 1)) roots text entries new refl forest;
         spelled = record {
           known = h.spelled.known;
           recorded = h.spelled.recorded;
@@ -187,15 +187,15 @@ module _ (slot : TreeSlot) (text : List ℕ) (table : Stored (List ℕ)) (old : 
   }
 
   -- a number is settled
-  pub number_settled : (kind : PackingKind) (first : ℕ) (roots : Roots) (i : ℕ) (new : Store) → slot.sizes.counts.settled < slot.sizes.counts.known → i < 2 ^ 32
-      → HoldsForest (slot_of kind first slot.sizes roots) text (with_entry h.entries Order (number_key slot.sizes.counts.settled) (number_key i)) new
-      → HoldsTable (slot_of kind first (settled_as slot.sizes (slot.sizes.counts.settled + 1)) roots) text (with_settled table i) new
-  number_settled kind first roots i new low small forest =
+  pub number_settled : (kind : PackingKind) (goal first : ℕ) (roots : Roots) (i : ℕ) (new : Store) → slot.sizes.counts.settled < slot.sizes.counts.known → i < 2 ^ 32
+      → HoldsForest (slot_of kind goal first slot.sizes roots) text (with_entry h.entries Order (number_key slot.sizes.counts.settled) (number_key i)) new
+      → HoldsTable (slot_of kind goal first (settled_as slot.sizes (slot.sizes.counts.settled + 1)) roots) text (with_settled table i) new
+  number_settled kind goal first roots i new low small forest =
       let entries = with_entry h.entries Order (number_key slot.sizes.counts.settled) (number_key i) in
       let more : length (table.order ++ i ∷ []) ≡ slot.sizes.counts.settled + 1 = push_long table.order i ∙ ap (λ (m : ℕ). m + 1) h.spelled.settled in
       record {
         entries = entries;
-        forest = forest_as kind first slot.sizes (settled_as slot.sizes (slot.sizes.counts.settled + 1)) roots text entries new refl forest;
+        forest = forest_as kind goal first slot.sizes (settled_as slot.sizes (slot.sizes.counts.settled + 1)) roots text entries new refl forest;
         spelled = record {
           known = h.spelled.known;
           recorded = h.spelled.recorded;

@@ -67,7 +67,7 @@ fn goal_number(root: &[u8; 512]) -> u32
 
 /// What the slot of a table with a game says, in which the packing has this number; none where that is no table.
 fn read_game(root: &[u8; 512], number: u32) -> Option<TreeSlot>
-    requires number { number ≡ packing_in root.now }
+    requires { number ≡ packing_in root.now }
     ensures says { IfSome result (λ slot. SaysTrees root.now (Some slot)) }
     ensures none { IfNone result ((kind : PackingKind) (goal : Option ℕ) → ¬ IsGameTreeSlot root.now kind goal) }
 {

@@ -6,7 +6,7 @@ use mathlib.Core.HLevel.{Unit-prop}
 use denote.Struct.Props.{props}
 use Rattle.page_store.specs.declared.marks.Mark.TheVariants.{Waiting}
 use Rattle.page_store.specs.Marks.{mark}
-use Rattle.root_slot.specs.Fields.{commits_in}
+use Rattle.root_slot.specs.Fields.{commits_in, layout_in}
 use Rattle.tree_table.specs.declared.slot.TreeSlot.{TreeSlot}
 use Rattle.tree_table.specs.Keeping.{IsStill, IsSizedSlot, StandsFor, AreSized}
 use Rattle.tree_table.specs.aid.Standing.{still_stands_for, was_honest}
@@ -19,19 +19,21 @@ pub are_sized_prop : (game : Option TreeSlot) → IsProp (AreSized game)
 are_sized_prop None = Unit-prop
 are_sized_prop (Some slot) = sized_prop slot
 
--- the committed root tells this count of commits; the slot has lengths that a table may have; no page waits to be marked; and on an
+-- the committed root is of this layout and tells this count of commits; the slot has lengths that a table may have; no page waits to be marked; and on an
 -- honest disk the pages that the slot names hold the text and a table
-pub record IsBackedFile (commits : ℕ) (file : File) : Type 0 where
+pub record IsBackedFile (layout commits : ℕ) (file : File) : Type 0 where
+  pub of_layout : layout_in file.work.store.root ≡ layout
   pub counted : commits ≡ commits_in file.work.store.root
   pub sized : AreSized file.game
   pub sealed : (p : ℕ) → mark file.work.store.marks p ≡ Waiting → ⊥
   pub stands : IsTrue file.work.store.disk.honest → ∥ StandsFor file.game file.work.text file.work.store ∥₁
 
 -- so it is still, where the root and the pages that it needs are as they were
-pub backed_still : (commits : ℕ) (old new : File) → IsBackedFile commits old → IsStill old.work.store new.work.store
+pub backed_still : (layout commits : ℕ) (old new : File) → IsBackedFile layout commits old → IsStill old.work.store new.work.store
     → new.work.text ≡ old.work.text
-    → new.game ≡ old.game → IsBackedFile commits new
-backed_still commits old new it still text game = record {
+    → new.game ≡ old.game → IsBackedFile layout commits new
+backed_still layout commits old new it still text game = record {
+  of_layout = ap layout_in still.root ∙ it.of_layout;
   counted = it.counted ∙ ap commits_in (sym still.root);
   sized = subst AreSized (sym game) it.sized;
   sealed = λ p is. it.sealed p (still.waiting p is);

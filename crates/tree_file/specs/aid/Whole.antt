@@ -15,16 +15,16 @@ use Rattle.page_store.specs.aid.Carrying.{saved_spells}
 use Rattle.page_store.specs.aid.Counting.{rest_free}
 use Rattle.retrograde.specs.Stored.{Stored, IsTable}
 use Rattle.page_store.specs.Page.{page}
-use Rattle.root_slot.specs.Fields.{capacity_of, commits_in, layout_in}
+use Rattle.root_slot.specs.Fields.{commits_in, layout_in, goal_numbered, SaysPages}
 use Rattle.table.specs.declared.fault.TableFault.{TableFault}
 use Rattle.table.specs.declared.fault.TableFault.TheVariants.{Disk as DiskFailed, Damaged, TableFull, OutOfMemory, Closed}
 use Rattle.game_file.specs.Calls.{IsAsked}
 use Rattle.game_file.specs.Causes.{FileTableCause}
-use Rattle.game_file.specs.Kept.{Kept, kept_as, packing_kept, text_kept}
+use Rattle.game_file.specs.Kept.{Kept, goal_kept, kept_as, packing_kept, text_kept}
 use Rattle.game_file.specs.State.{GoesAhead}
 use Rattle.game_file.specs.Stops.{LeavesNow, LeavesTable}
 use Rattle.tree_table.specs.declared.slot.TreeSlot.{TreeSlot}
-use Rattle.tree_table.specs.Held.{KeepsTrees, StoresTrees}
+use Rattle.tree_table.specs.Held.{StoresTrees}
 use Rattle.tree_table.specs.Keeping.{IsKeptInTrees, IsStill, slot_or_bare}
 use Rattle.tree_table.specs.Slot.{slot_in}
 use Rattle.tree_table.specs.Spelled.{table_in}
@@ -37,13 +37,15 @@ use Rattle.tree_file.specs.Older.{IsOlderTable}
 use Rattle.tree_file.specs.File.{File, NamesSlot, IsWholeFile, kept_of, kept_with, counts_told, state_of}
 
 -- between commands a stop leaves what is kept
-pub whole_leaves : (file : File) → IsWholeFile file → IsTrue file.work.store.disk.honest → file.work.store.closed ≡ false
-    → LeavesNow StoresTrees file.work.store.disk (kept_of file)
-whole_leaves file whole honest is_open =
-    kept_stays file.work.store (kept_of file) whole.room whole.sound.few (whole.kept honest) (whole.sound.safe honest is_open)
+pub whole_leaves : (layout : ℕ) (file : File) → IsWholeFile layout file → IsTrue file.work.store.disk.honest → file.work.store.closed ≡ false
+    → LeavesNow (StoresTrees layout (length file.work.store.marks)) file.work.store.disk (kept_of file)
+whole_leaves layout file whole honest is_open =
+    let store = file.work.store in
+    subst (λ (l : ℕ). LeavesNow (StoresTrees l (length store.marks)) store.disk (kept_of file)) whole.of_layout
+    (kept_stays store (kept_of file) whole.says whole.room whole.sound.few (whole.kept honest) (whole.sound.safe honest is_open))
 
 -- where no game is loaded all pages but the system page are free
-pub no_game_is_free : (file : File) → IsWholeFile file → file.game ≡ None → length file.work.store.marks ≤ free_count file.work.store.marks + 1
+pub no_game_is_free : {layout : ℕ} (file : File) → IsWholeFile layout file → file.game ≡ None → length file.work.store.marks ≤ free_count file.work.store.marks + 1
 no_game_is_free file whole none = rest_free file.work.store.marks (whole.free none)
 
 -- what is kept is what the committed root and its pages spell
@@ -58,12 +60,12 @@ kept_same : (game : Option TreeSlot) (text : List ℕ) (old new : Store) → IsT
     → IsKeptInTrees old (kept_with game text (reads old)) → kept_with game text (reads new) ≡ kept_with game text (reads old)
 kept_same None text old new honest still calm names it = refl
 kept_same (Some slot) text old new honest still calm names it =
-    let kept = kept_as text slot.packing (table_in slot (reads old)) in
+    let kept = kept_as text slot.packing (goal_numbered slot.goal) (table_in slot (reads old)) in
     let now = still_keeps old new (Some kept) honest still it in
     let root : slot ≡ slot_in new.root = names ∙ ap slot_in (sym still.root) in
     let table : table_in slot (reads new) ≡ table_in slot (reads old) = ap (λ (s : TreeSlot). table_in s (reads new)) root
     ∙ kept_spells new kept calm now in
-    ap (λ (t : Stored (List ℕ)). Some (kept_as text slot.packing t)) table
+    ap (λ (t : Stored (List ℕ)). Some (kept_as text slot.packing (goal_numbered slot.goal) t)) table
 
 -- a page that the root does not need is free between commands
 free_still : (m n : Mark) → IsTrue (rests n) → needs n ≡ needs m → (IsTrue (is_past n) → IsTrue (is_past m)) → m ≡ Free → n ≡ Free
@@ -89,8 +91,13 @@ packing_same : (game : Option TreeSlot) (text : List ℕ) (bytes other : ℕ →
 packing_same None text bytes other = refl
 packing_same (Some slot) text bytes other = refl
 
+goal_same : (game : Option TreeSlot) (text : List ℕ) (bytes other : ℕ → List ℕ)
+    → goal_kept (kept_with game text bytes) ≡ goal_kept (kept_with game text other)
+goal_same None text bytes other = refl
+goal_same (Some slot) text bytes other = refl
+
 -- a later state of a whole file, whose root and its pages are as they were
-module _ (was new : File) (whole : IsWholeFile was) (still : IsStill was.work.store new.work.store) (game : new.game ≡ was.game)
+module _ {layout : ℕ} (was new : File) (whole : IsWholeFile layout was) (still : IsStill was.work.store new.work.store) (game : new.game ≡ was.game)
     (text : new.work.text ≡ was.work.text)
     (calm : IsCalm new.work.store) where
   pub again_kept : IsTrue was.work.store.disk.honest → kept_of new ≡ kept_of was
@@ -106,9 +113,17 @@ module _ (was new : File) (whole : IsWholeFile was) (still : IsStill was.work.st
       ap packing_kept (as_kept was new game text)
       ∙ packing_same was.game was.work.text (reads new.work.store) (reads was.work.store)
 
-  pub again_whole : IsSoundStore new.work.store → new.work.torn ≡ false → new.work.slot ≡ slot_or_bare new.game → IsWholeFile new
+  pub again_goal : goal_kept (kept_of new) ≡ goal_kept (kept_of was)
+  again_goal =
+      ap goal_kept (as_kept was new game text)
+      ∙ goal_same was.game was.work.text (reads new.work.store) (reads was.work.store)
+
+  pub again_whole : IsSoundStore new.work.store → new.work.torn ≡ false → new.work.slot ≡ slot_or_bare new.game → IsWholeFile layout new
   again_whole sound torn slot = record {
     sound = sound;
+    of_layout = ap layout_in still.root ∙ whole.of_layout;
+    says = subst (λ (n : ℕ). SaysPages new.work.store.root n) (sym still.same_pages)
+        (subst (λ (r : List ℕ). SaysPages r (length was.work.store.marks)) (sym still.root) whole.says);
     room = omega (arith, whole.room, still.same_pages);
     whole = torn;
     slot = slot;
@@ -125,11 +140,13 @@ module _ (was new : File) (whole : IsWholeFile was) (still : IsStill was.work.st
   }
 
 -- a call that commits nothing leaves what is kept, all the time
-pub works_leaves : (was : File) (now : Store) → IsWholeFile was → StoreWorks was.work.store now → IsTrue was.work.store.disk.honest
-    → was.work.store.closed ≡ false → LeavesTable StoresTrees was.work.store.disk now.disk (kept_of was)
-works_leaves was now whole works honest is_open =
+pub works_leaves : {layout : ℕ} (was : File) (now : Store) → IsWholeFile layout was → StoreWorks was.work.store now
+    → IsTrue was.work.store.disk.honest → was.work.store.closed ≡ false
+    → LeavesTable (StoresTrees layout (length was.work.store.marks)) was.work.store.disk now.disk (kept_of was)
+works_leaves {layout} was now whole works honest is_open =
     let store = was.work.store in
-    leaves_more (λ picture saved. spells_stores_trees store.root (length store.marks) (kept_of was) picture whole.room whole.sound.few
+    leaves_more (λ picture saved. spells_stores_trees store.root layout (length store.marks) (kept_of was) picture whole.of_layout whole.says
+    whole.room whole.sound.few
     (saved_spells store (kept_stands store (kept_of was) (whole.kept honest)) picture saved)) (works.leaves honest
     (whole.sound.safe honest is_open))
 
@@ -144,9 +161,9 @@ works_ahead old new works = record {
 }
 
 -- the table of a whole file is what it keeps
-pub whole_stored : (file : File) (kept : Kept) → IsWholeFile file → IsTrue file.work.store.disk.honest → kept_of file ≡ Some kept
+pub whole_stored : (layout : ℕ) (file : File) (kept : Kept) → IsWholeFile layout file → IsTrue file.work.store.disk.honest → kept_of file ≡ Some kept
     → IsHonestWork file.work × (table_now file.work ≡ kept.table) × IsTable kept.table
-whole_stored file kept whole honest is =
+whole_stored layout file kept whole honest is =
     let both = of_game file.game whole.slot is in
     let it : IsKeptInTrees file.work.store (Some kept) = subst (λ (k : Option Kept). IsKeptInTrees file.work.store k) is
     (whole.kept honest) in
@@ -158,12 +175,12 @@ whole_stored file kept whole honest is =
     of_game None slot none = absurd (cc)
     of_game (Some s) slot some =
         ap (λ (x : TreeSlot). table_in x (reads file.work.store)) slot
-        ∙ ap (λ (k : Kept). k.table) (same_Some (kept_as file.work.text s.packing (table_in s (reads file.work.store))) kept some)
+        ∙ ap (λ (k : Kept). k.table) (same_Some (kept_as file.work.text s.packing (goal_numbered s.goal) (table_in s (reads file.work.store))) kept some)
 
 -- the counts that the slot tells are those of the table at work
-pub whole_counts : (file : File) → IsWholeFile file
+pub whole_counts : (layout : ℕ) (file : File) → IsWholeFile layout file
     → counts_told file.game ≡ option_map (λ (k : Kept). file.work.slot.sizes.counts) (kept_of file)
-whole_counts file whole = of_game file.game whole.slot
+whole_counts layout file whole = of_game file.game whole.slot
   where
     of_game : (game : Option TreeSlot) → file.work.slot ≡ slot_or_bare game
         → counts_told game ≡ option_map (λ (k : Kept). file.work.slot.sizes.counts) (kept_with game file.work.text (reads file.work.store))
@@ -171,9 +188,9 @@ whole_counts file whole = of_game file.game whole.slot
     of_game (Some s) slot = ap (λ (x : TreeSlot). Some x.sizes.counts) (sym slot)
 
 -- a question leaves it whole
-pub whole_stays : (old new : File) → IsSoundStore new.work.store → IsWholeFile old → FileStays old new
-    → IsWholeFile new × IsAsked StoresTrees (state_of old) (state_of new)
-whole_stays old new sound whole stays =
+pub whole_stays : (layout : ℕ) (old new : File) → IsSoundStore new.work.store → IsWholeFile layout old → FileStays old new
+    → IsWholeFile layout new × IsAsked (StoresTrees layout) (state_of old) (state_of new)
+whole_stays layout old new sound whole stays =
     let unchanged = stays.work.unchanged in
     let calm : IsCalm new.work.store = record {
       each = λ p. subst (λ (ms : List Mark). IsTrue (rests (mark ms p))) (sym unchanged.marks) (whole.calm.each p);
@@ -188,15 +205,17 @@ whole_stays old new sound whole stays =
         counts = ap counts_told stays.game;
         text = again_text old new whole still stays.game stays.work.text calm;
         packing = again_packing old new whole still stays.game stays.work.text calm;
+        goal = again_goal old new whole still stays.game stays.work.text calm;
         kept = again_kept old new whole still stays.game stays.work.text calm;
         closed = unchanged.closed;
         leaves = unchanged.leaves;
         since = λ honest is_open. works_leaves old new.work.store whole stays.work.works honest is_open;
         now = λ honest is_open.
             let later = still_honest stays.work.works.goes_on honest in
-            subst (λ (k : Option Kept). LeavesNow StoresTrees new.work.store.disk k)
+            subst (λ (n : ℕ). LeavesNow (StoresTrees layout n) new.work.store.disk (kept_of old)) stays.work.works.same_pages
+            (subst (λ (k : Option Kept). LeavesNow (StoresTrees layout (length new.work.store.marks)) new.work.store.disk k)
             (again_kept old new whole still stays.game stays.work.text calm honest)
-            (whole_leaves new is_whole later (unchanged.closed ∙ is_open));
+            (whole_leaves layout new is_whole later (unchanged.closed ∙ is_open)));
       },
     )
 
@@ -204,10 +223,10 @@ never_prop : IsProp ⊥
 never_prop = hlevel props
 
 -- a fault of its table has its cause
-pub fails_for : (old new : File) (fault : TableFault) → (IsHonestWork old.work → ∥ HoldsWork old.work ∥₁) → IsWholeFile old
+pub fails_for : (layout : ℕ) (old new : File) (fault : TableFault) → (IsHonestWork old.work → ∥ HoldsWork old.work ∥₁) → IsWholeFile layout old
     → FileFails old new fault
     → FileTableCause (state_of old) (state_of new) fault
-fails_for old new fault holds whole fails = so fault fails.work.cause
+fails_for layout old new fault holds whole fails = so fault fails.work.cause
   where
     so : (f : TableFault) → NoAnswerCause old.work new.work f → FileTableCause (state_of old) (state_of new) f
     so DiskFailed grew = grew
@@ -219,12 +238,12 @@ fails_for old new fault holds whole fails = so fault fails.work.cause
     so Closed shut = shut
 
 -- so it has after the command was given up
-pub fails_for_later : (old mid new : File) (fault : TableFault) → (IsHonestWork old.work → ∥ HoldsWork old.work ∥₁)
-    → IsWholeFile old → FileFails old mid fault
+pub fails_for_later : (layout : ℕ) (old mid new : File) (fault : TableFault) → (IsHonestWork old.work → ∥ HoldsWork old.work ∥₁)
+    → IsWholeFile layout old → FileFails old mid fault
     → new.work.store.failures ≡ mid.work.store.failures → FileTableCause (state_of old) (state_of new) fault
-fails_for_later old mid new fault holds whole fails same =
+fails_for_later layout old mid new fault holds whole fails same =
     subst (λ (n : ℕ). FileTableCause (state_of old) (record (state_of new) { failures = n }) fault) (sym same)
-    (as_cause fault (fails_for old mid fault holds whole fails))
+    (as_cause fault (fails_for layout old mid fault holds whole fails))
   where
     as_cause : (f : TableFault) → FileTableCause (state_of old) (state_of mid) f
         → FileTableCause (state_of old) (record (state_of new) { failures = mid.work.store.failures }) f
@@ -235,12 +254,8 @@ fails_for_later old mid new fault holds whole fails same =
     as_cause Closed cause = cause
 
 -- a picture of an earlier layout stores no table of this one
-pub older_none : (picture : Picture) (kept : Option Kept) → IsOlderTable picture → StoresTrees picture kept → ⊥
-older_none picture kept older stores = by_kept kept stores.keeps
-  where
-    same : older.root ≡ stores.root
-    same = sym older.holds.is ∙ stores.holds.is
-
-    by_kept : (kept : Option Kept) → KeepsTrees stores.root (capacity_of picture) kept (page picture) → ⊥
-    by_kept None it = absurd (omega (arith, older.layout, ap layout_in same, it.layout))
-    by_kept (Some k) it = absurd (omega (arith, older.layout, ap layout_in same, it.keeps.slot.layout))
+pub older_none : (layout pages : ℕ) (picture : Picture) (kept : Option Kept) → IsOlderTable layout picture → StoresTrees layout pages picture kept
+    → ⊥
+older_none layout pages picture kept older stores =
+    let same : older.root ≡ stores.root = sym older.holds.is ∙ stores.holds.is in
+    omega (arith, older.older.1, ap layout_in same, stores.same_layout)

@@ -1,8 +1,8 @@
-use Rattle.std.proofs.Common.{◌≡◌, inl, false, length, None}
+use Rattle.std.proofs.Common.{◌≡◌, inl, ℕ, false, List, length, None, sym, subst}
 use Rattle.sector_disk.specs.aid.Moments.{leaves_more, goes_on_trans, still_honest}
 use Rattle.retrograde.specs.Stored.{loaded}
 use Rattle.rbg_game.specs.Goals.{points_of}
-use Rattle.root_slot.specs.Fields.{layout_in}
+use Rattle.root_slot.specs.Fields.{layout_in, number_of_goal, HasPlaceFor}
 use Rattle.game_file.specs.Kept.{kept_as}
 use Rattle.game_file.specs.Stops.{LeavesTable}
 use Rattle.page_store.specs.aid.Works.{closes_then}
@@ -40,6 +40,13 @@ returns-in-Ok-clause-done g c = λ vacant.
     let told = c.in_ok-slot.ensures in
     c.in-Ok.ensures.done old None (kept_as c.args.text.now c.args.packing (points_of c.args.goal) (loaded c.args.start.now.items))
     (worked_on c.in_ok-slot.slot c.args.text.now c.args.packing (points_of c.args.goal) c.args.start.now.items old mid vacant told.works (told.table vacant.honest) told.packing told.number told.goal c.requires.place told.long told.sized c.requires.text)
+
+pub returns-in-Ok-clause-root : goal.returns-in-Ok-clause-root
+returns-in-Ok-clause-root g c =
+    let mid = g.P.Pages.store c.first_table.new.store in
+    let told = c.in_ok-slot.ensures in
+    c.in-Ok.ensures.slot (subst (λ (n : ℕ). HasPlaceFor (layout_in mid.root) n) (sym told.number)
+    (subst (λ (r : List ℕ). HasPlaceFor (layout_in r) (number_of_goal (points_of c.args.goal))) (sym c.first_table.ensures.works.root) c.requires.place))
 
 pub returns-in-Ok-clause-stands : goal.returns-in-Ok-clause-stands
 returns-in-Ok-clause-stands g c = λ honest.

@@ -72,10 +72,10 @@ returns-clause-table g c = λ honest text table h.
     map_few tree.widths (length old.marks) (root_of slot.roots Edges) (h.forest.pages Edges) (h.entries Edges) (reads old) (g.met.P.Pages.sound c.args.store.now).few tree.map in
     let more : slot.sizes.edges + 1 ≡ c.saturating_add-slot.result =
     omega (arith, c.saturating_add-slot.ensures, few, h.spelled.edge_count, ap (λ (s : Sizes). s.edges) sizes) in
-    let forest : HoldsForest (slot_of last.packing last.first slot.sizes last.roots) text (with_entry h.entries Edges (edge_key c.args.successor c.args.predecessor) []) new =
-    subst (λ (X : Type 0). X) (λ i. HoldsForest (slot_of last.packing last.first (sizes i) last.roots) text (with_entry h.entries Edges (key_two i) []) new)
+    let forest : HoldsForest (slot_of last.packing last.goal last.first slot.sizes last.roots) text (with_entry h.entries Edges (edge_key c.args.successor c.args.predecessor) []) new =
+    subst (λ (X : Type 0). X) (λ i. HoldsForest (slot_of last.packing last.goal last.first (sizes i) last.roots) text (with_entry h.entries Edges (key_two i) []) new)
     (c.in_ok-slot.ensures.map (still_honest read.works.goes_on honest) text h.entries
     (forest_still slot text h.entries old mid read.unchanged.marks (unchanged_reads old mid honest read.unchanged) h.forest)) in
-    subst (λ (X : Type 0). X) (λ i. HoldsTable (slot_of last.packing last.first (edges_as (back i) (more i)) last.roots) text (with_edge table c.args.successor c.args.predecessor) new)
-    (edge_put slot text table old (omega (arith, c.requires.few)) h last.packing last.first last.roots c.args.successor c.args.predecessor new c.requires.successor c.requires.predecessor
+    subst (λ (X : Type 0). X) (λ i. HoldsTable (slot_of last.packing last.goal last.first (edges_as (back i) (more i)) last.roots) text (with_edge table c.args.successor c.args.predecessor) new)
+    (edge_put slot text table old (omega (arith, c.requires.few)) h last.packing last.goal last.first last.roots c.args.successor c.args.predecessor new c.requires.successor c.requires.predecessor
     (ap (find_entry (h.entries Edges)) (sym key) ∙ none) forest)

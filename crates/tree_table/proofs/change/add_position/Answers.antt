@@ -60,11 +60,11 @@ returns-clause-table g c = λ honest text table h unknown.
     let is : IsCell slot.sizes.packed c.cell_bytes-cell.result.items (x, fresh_record) =
     subst (λ (X : Type 0). X) (λ i. IsCell (long i) c.cell_bytes-cell.result.items (x, c.fresh.ensures i))
     (plain_cell (length x) c.cell_bytes-cell.result.items (x, c.fresh.result) c.cell_bytes-cell.ensures) in
-    let forest : HoldsForest (slot_of last.packing last.first slot.sizes last.roots) text
+    let forest : HoldsForest (slot_of last.packing last.goal last.first slot.sizes last.roots) text
     (with_entry (with_entry h.entries Positions x (number_key slot.sizes.counts.known)) Records (number_key slot.sizes.counts.known) c.cell_bytes-cell.result.items) new =
     subst (λ (X : Type 0). X)
-    (λ i. HoldsForest (slot_of last.packing last.first (sizes i) last.roots) text (with_entry (with_entry h.entries Positions (position i) (key i)) Records (key i) (cell i)) new)
+    (λ i. HoldsForest (slot_of last.packing last.goal last.first (sizes i) last.roots) text (with_entry (with_entry h.entries Positions (position i) (key i)) Records (key i) (cell i)) new)
     (two.map (still_honest one.works.goes_on honest) text (with_entry h.entries Positions c.deref.result.now c.number_key-key.result) (one.map honest text h.entries h.forest)) in
-    subst (λ (X : Type 0). X) (λ i. HoldsTable (slot_of last.packing last.first (known_as (back i) (slot.sizes.counts.known + 1)) last.roots) text (with_position table x) new)
-    (position_added slot text table (g.P.Pages.store c.args.store.now) (omega (arith, c.requires.room)) h last.packing last.first last.roots x c.cell_bytes-cell.result.items new
+    subst (λ (X : Type 0). X) (λ i. HoldsTable (slot_of last.packing last.goal last.first (known_as (back i) (slot.sizes.counts.known + 1)) last.roots) text (with_position table x) new)
+    (position_added slot text table (g.P.Pages.store c.args.store.now) (omega (arith, c.requires.room)) h last.packing last.goal last.first last.roots x c.cell_bytes-cell.result.items new
     (omega (arith, c.requires.room)) unknown is forest)

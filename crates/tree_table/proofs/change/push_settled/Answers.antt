@@ -24,8 +24,8 @@ returns-clause-table g c = λ honest text table h.
     let key : c.number_key-key.result ≡ number_key slot.sizes.counts.settled = c.number_key-key.ensures in
     let value : c.number_key-value.result ≡ number_key c.args.number = c.number_key-value.ensures in
     let small : c.args.number < 2 ^ 32 = omega (arith, c.ranges.number) in
-    let forest : HoldsForest (slot_of last.packing last.first slot.sizes last.roots) text (with_entry h.entries Order (number_key slot.sizes.counts.settled) (number_key c.args.number)) new =
-    subst (λ (X : Type 0). X) (λ i. HoldsForest (slot_of last.packing last.first (sizes i) last.roots) text (with_entry h.entries Order (key i) (value i)) new)
+    let forest : HoldsForest (slot_of last.packing last.goal last.first slot.sizes last.roots) text (with_entry h.entries Order (number_key slot.sizes.counts.settled) (number_key c.args.number)) new =
+    subst (λ (X : Type 0). X) (λ i. HoldsForest (slot_of last.packing last.goal last.first (sizes i) last.roots) text (with_entry h.entries Order (key i) (value i)) new)
     (c.in_ok-slot.ensures.map honest text h.entries h.forest) in
-    subst (λ (X : Type 0). X) (λ i. HoldsTable (slot_of last.packing last.first (settled_as (back i) (slot.sizes.counts.settled + 1)) last.roots) text (with_settled table c.args.number) new)
-    (number_settled slot text table (g.P.Pages.store c.args.store.now) (omega (arith, c.requires.few)) h last.packing last.first last.roots c.args.number new c.requires.settled small forest)
+    subst (λ (X : Type 0). X) (λ i. HoldsTable (slot_of last.packing last.goal last.first (settled_as (back i) (slot.sizes.counts.settled + 1)) last.roots) text (with_settled table c.args.number) new)
+    (number_settled slot text table (g.P.Pages.store c.args.store.now) (omega (arith, c.requires.few)) h last.packing last.goal last.first last.roots c.args.number new c.requires.settled small forest)

@@ -63,12 +63,12 @@ returns-clause-table g c = λ honest text table h.
     let is : IsCell slot.sizes.packed c.cell_bytes-cell.result.items (x, c.args.kept) =
     subst (λ (X : Type 0). X) (λ i. IsCell (long i) c.cell_bytes-cell.result.items (x, c.args.kept))
     (plain_cell (length x) c.cell_bytes-cell.result.items (x, c.args.kept) c.cell_bytes-cell.ensures) in
-    let forest : HoldsForest (slot_of last.packing last.first slot.sizes last.roots) text (with_entry h.entries Records (number_key c.args.number) c.cell_bytes-cell.result.items) new =
-    subst (λ (X : Type 0). X) (λ i. HoldsForest (slot_of last.packing last.first (sizes i) last.roots) text (with_entry h.entries Records (key i) (cell i)) new)
+    let forest : HoldsForest (slot_of last.packing last.goal last.first slot.sizes last.roots) text (with_entry h.entries Records (number_key c.args.number) c.cell_bytes-cell.result.items) new =
+    subst (λ (X : Type 0). X) (λ i. HoldsForest (slot_of last.packing last.goal last.first (sizes i) last.roots) text (with_entry h.entries Records (key i) (cell i)) new)
     (c.in_ok-slot.ensures.map (still_honest read.works.goes_on honest) text h.entries
     (forest_still slot text h.entries old mid read.unchanged.marks (unchanged_reads old mid honest read.unchanged) h.forest)) in
     let counts : counts_with slot.sizes.counts was.kept.state c.args.kept.state ≡ c.counts_with-slot.result =
     sym (c.counts_with-slot.ensures ∙ (λ i. counts_with (sizes i).counts was.kept.state c.args.kept.state)) in
-    subst (λ (X : Type 0). X) (λ i. HoldsTable (slot_of last.packing last.first (counted_as (back i) (counts i)) last.roots) text (with_record table c.args.number c.args.kept) new)
-    (record_set slot text table old (omega (arith, c.requires.few)) h last.packing last.first last.roots c.args.number x c.cell_bytes-cell.result.items was.kept c.args.kept new c.requires.known
+    subst (λ (X : Type 0). X) (λ i. HoldsTable (slot_of last.packing last.goal last.first (counted_as (back i) (counts i)) last.roots) text (with_record table c.args.number c.args.kept) new)
+    (record_set slot text table old (omega (arith, c.requires.few)) h last.packing last.goal last.first last.roots c.args.number x c.cell_bytes-cell.result.items was.kept c.args.kept new c.requires.known
     (read.position honest text table (table_there slot text table old h)) (read.kept honest text table (table_there slot text table old h)) is forest)

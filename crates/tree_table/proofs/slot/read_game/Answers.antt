@@ -1,5 +1,5 @@
 use Rattle.std.proofs.Common.{◌≡◌, ◌∙◌, sym, ap, subst, arith}
-use Rattle.root_slot.specs.Fields.{number_of_packing, packing_in}
+use Rattle.root_slot.specs.Fields.{goal_numbered, number_of_packing, packing_in}
 use Rattle.root_slot.specs.aid.Packings.{kind_is}
 use Rattle.record_bytes.specs.Numbers.{AreWithinLimits}
 use Rattle.record_bytes.specs.declared.sizes.Sizes.{Sizes}
@@ -7,12 +7,14 @@ use Rattle.tree_table.proofs.slot.read_game.Goals as goal
 
 pub returns-clause-says : goal.returns-clause-says
 returns-clause-says c =
-    let numbered : packing_in c.args.root.now ≡ number_of_packing c.in_ok-packing.packing = sym c.word_at-number.ensures ∙ c.in_ok-packing.ensures.some in
+    let numbered : packing_in c.args.root.now ≡ number_of_packing c.in_ok-packing.packing = sym c.requires ∙ c.in_ok-packing.ensures.some in
     let packing = sym (kind_is c.args.root.now c.in_ok-packing.packing numbered) in (
       record {
         packing = numbered;
+        goal = ap goal_numbered (sym c.goal_number-goal.ensures);
+        points = omega (arith, c.if-goal-gt-MAX_POINTS.false, c.goal_number-goal.ensures);
         limits = subst (λ (s : Sizes). AreWithinLimits s) c.sizes_in-sizes.ensures (c.are_within_limits.ensures.0 c.if-not-are_within_limits.false);
         some = omega (arith, c.if-sizes-eq0.false, ap (λ (s : Sizes). s.packed) c.sizes_in-sizes.ensures);
       },
-      λ i. record { packing = packing i; first = c.word_at-first.ensures i; sizes = c.sizes_in-sizes.ensures i; roots = c.roots_in-roots.ensures i },
+      λ i. record { packing = packing i; goal = c.goal_number-goal.ensures i; first = c.word_at-first.ensures i; sizes = c.sizes_in-sizes.ensures i; roots = c.roots_in-roots.ensures i },
     )

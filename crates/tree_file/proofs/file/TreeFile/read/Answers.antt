@@ -17,9 +17,9 @@ pub invariant_of-result : goal.invariant_of-result
 invariant_of-result g c =
     let read = c.in-Ok-read_all.ensures in
     let found = read.found c.in-Ok.ensures.ok.closed c.in-Ok.ensures.ok.marks in
-    let is = subst (λ (w : Work). IsBackedFile c.in-Ok-read_all.field-0.commits (file_of w c.in-Ok-read_all.field-0.game)) (sym c.standing.ensures.work)
+    let is = subst (λ (w : Work). IsBackedFile g.row.LAYOUT c.in-Ok-read_all.field-0.commits (file_of w c.in-Ok-read_all.field-0.game)) (sym c.standing.ensures.work)
     (found_backed _ _ _ _ found) in
-    record { counted = is.counted; sized = is.sized; sealed = is.sealed; stands = is.stands }
+    record { of_layout = is.of_layout; counted = is.counted; sized = is.sized; sealed = is.sealed; stands = is.stands }
 
 pub returns-in-Ok-read_all-clause-whole : goal.returns-in-Ok-read_all-clause-whole
 returns-in-Ok-read_all-clause-whole g c =

@@ -1,11 +1,12 @@
-use Rattle.std.proofs.Common.{◌≡◌, ℕ, List, false, Some, IsTrue, refl, sym, ◌∙◌, ap, subst, arith}
+use Rattle.std.proofs.Common.{◌≡◌, ℕ, List, length, false, Some, IsTrue, refl, sym, ◌∙◌, ap, subst, arith}
 use mathlib.Core.Logic.{∥∥₁_elim, ∥∥₁_prop}
 use Rattle.sector_disk.specs.aid.Moments.{goes_on_trans}
-use Rattle.root_slot.specs.Fields.{commits_in}
+use Rattle.root_slot.specs.Fields.{commits_in, goal_numbered, layout_in, HasPlaceFor}
 use Rattle.game_file.specs.declared.fault.FileFault.{FileFault}
 use Rattle.game_file.specs.Causes.{FileCommitCause}
 use Rattle.game_file.specs.Kept.{kept_as}
 use Rattle.game_file.specs.State.{count_behind}
+use Rattle.game_file.specs.Stops.{LeavesEither, LeavesTable}
 use Rattle.tree_table.specs.declared.slot.TreeSlot.{TreeSlot}
 use Rattle.tree_table.specs.Held.{StoresTrees}
 use Rattle.tree_table.specs.InTrees.{work_in}
@@ -16,7 +17,7 @@ use Rattle.tree_file.specs.File.{file_of, kept_of, state_of}
 use Rattle.tree_file.specs.InFile.{file_in}
 use Rattle.tree_file.specs.aid.Backed.{IsBackedFile, backed_still}
 use Rattle.tree_file.specs.aid.Whole.{again_whole}
-use Rattle.tree_file.proofs.Saving.{calm_sealed, kept_packing_is, kept_text_is, not_put, put_now, put_whole, refused_ahead, same_disk, why_not, worked}
+use Rattle.tree_file.proofs.Saving.{calm_sealed, its_place, kept_goal_is, kept_packing_is, kept_text_is, not_put, put_now, put_whole, refused_ahead, same_disk, why_not, worked}
 use Rattle.tree_file.proofs.file.TreeFileGameFile.commit.Goals as goal
 
 pub invariant_of-self : goal.invariant_of-self
@@ -26,8 +27,9 @@ invariant_of-self g c =
     let told = c.in-Ok.ensures in
     let new = (work_in next).store in
     record {
+      of_layout = told.layout ∙ self.of_layout;
       counted = sym told.commits;
-      sized = record { some = next.some; short = next.short; few = next.few };
+      sized = record { some = next.some; short = next.short; few = next.few; points = next.points };
       sealed = calm_sealed new (told.calm self.sealed);
       stands = λ honest.
           ∥∥₁_elim (told.stands c.if-self.false (was_honest c.save.ensures.time honest)) ∥∥₁_prop
@@ -39,19 +41,19 @@ invariant_of-self g c =
 pub restore-requires-clause-stands : goal.restore-requires-clause-stands
 restore-requires-clause-stands g c =
     let self = c.args.self.now in
-    let was : IsBackedFile self.commits (file_of (work_in self.table) self.game) = record
-    { counted = self.counted; sized = self.sized; sealed = self.sealed; stands = self.stands } in
-    (backed_still self.commits (file_of (work_in self.table) self.game) (file_of (work_in c.save.new.self) self.game) was c.in-Err.ensures.left
+    let was : IsBackedFile g.row.LAYOUT self.commits (file_of (work_in self.table) self.game) = record
+    { of_layout = self.of_layout; counted = self.counted; sized = self.sized; sealed = self.sealed; stands = self.stands } in
+    (backed_still g.row.LAYOUT self.commits (file_of (work_in self.table) self.game) (file_of (work_in c.save.new.self) self.game) was c.in-Err.ensures.left
     c.save.ensures.text refl).stands
 
 pub invariant_of-self-in-Err : goal.invariant_of-self-in-Err
 invariant_of-self-in-Err g c =
     let self = c.args.self.now in
-    let was : IsBackedFile self.commits (file_of (work_in self.table) self.game) = record
-    { counted = self.counted; sized = self.sized; sealed = self.sealed; stands = self.stands } in
-    let is = backed_still self.commits (file_of (work_in self.table) self.game) (file_of (work_in c.restore.new.self) self.game) was
+    let was : IsBackedFile g.row.LAYOUT self.commits (file_of (work_in self.table) self.game) = record
+    { of_layout = self.of_layout; counted = self.counted; sized = self.sized; sealed = self.sealed; stands = self.stands } in
+    let is = backed_still g.row.LAYOUT self.commits (file_of (work_in self.table) self.game) (file_of (work_in c.restore.new.self) self.game) was
     (still_then c.in-Err.ensures.left c.restore.ensures.still) (c.restore.ensures.text ∙ c.save.ensures.text) refl in
-    record { counted = is.counted; sized = is.sized; sealed = is.sealed; stands = is.stands }
+    record { of_layout = is.of_layout; counted = is.counted; sized = is.sized; sealed = is.sealed; stands = is.stands }
 
 pub returns-in-Ok-clause-ok : goal.returns-in-Ok-clause-ok
 returns-in-Ok-clause-ok g c = λ begun kept whole is ahead fits.
@@ -60,23 +62,29 @@ returns-in-Ok-clause-ok g c = λ begun kept whole is ahead fits.
     let next = c.save.new.self in
     let told = c.in-Ok.ensures in
     let new = file_of (work_in next) (Some next.slot) in
-    let now = kept_as kept.text kept.packing (table_now (work_in self.table)) in
-    let sized : IsSizedSlot self.table.slot = record { some = self.table.some; short = self.table.short; few = self.table.few } in
+    let now = kept_as kept.text kept.packing kept.goal (table_now (work_in self.table)) in
+    let sized : IsSizedSlot self.table.slot = record { some = self.table.some; short = self.table.short; few = self.table.few; points = self.table.points } in
     let is_open : was.work.store.closed ≡ false = ahead.work.works.closed (c.save.ensures.shut told.open) in
     let done : IsTrue was.work.store.disk.honest → IsKeptInTrees new.work.store (Some now) =
     λ honest. told.done was.work.store (kept_of was) now (worked was kept whole is (file_in self) ahead sized fits honest is_open) in
-    let root = told.root ∙ sym c.save.ensures.slot in
+    let place = subst (λ (r : List ℕ). HasPlaceFor (layout_in r) self.table.slot.goal) (sym ahead.work.works.root)
+    (its_place was kept whole is (file_in self) ahead) in
+    let root = told.root place ∙ sym c.save.ensures.slot in
+    let of_layout = told.layout ∙ self.of_layout in
     let text = c.save.ensures.text ∙ ahead.work.text ∙ sym (kept_text_is was kept whole is) in
     let packing = ap (λ (s : TreeSlot). s.packing) c.save.ensures.slot ∙ ahead.work.packing ∙ sym (kept_packing_is was kept whole is) in
+    let goal_is = ap (λ (s : TreeSlot). goal_numbered s.goal) c.save.ensures.slot ∙ ap goal_numbered ahead.work.goal ∙ sym (kept_goal_is was kept whole is) in
     let calm = told.calm self.sealed in
     let goes_on = goes_on_trans ahead.work.works.goes_on c.save.ensures.time in
     let sound = g.met.P.Pages.sound next.store in (
-      put_whole was new next.slot now refl refl root text packing calm goes_on done sound
+      put_whole was new next.slot now of_layout told.pages refl refl root text packing goal_is calm goes_on done sound
           (omega (arith, whole.room, ahead.work.works.same_pages, c.save.ensures.same_pages))
           (c.save.ensures.torn ∙ c.if-self.false),
-      put_now was new next.slot now refl refl root text packing calm goes_on done
+      put_now was new next.slot now of_layout told.pages refl refl root text packing goal_is calm goes_on done
           (told.commits ∙ ap count_behind (self.counted ∙ ap commits_in ahead.work.works.root)) told.open
-          (λ honest. c.save.ensures.stop was.work.store (kept_of was) now (worked was kept whole is (file_in self) ahead sized fits honest is_open)),
+          (λ honest. subst (λ (l : ℕ). LeavesEither (StoresTrees l (length was.work.store.marks)) was.work.store.disk new.work.store.disk (kept_of was) (Some now))
+          whole.of_layout
+          (c.save.ensures.stop was.work.store (kept_of was) now (worked was kept whole is (file_in self) ahead sized fits honest is_open))),
     )
 
 pub returns-in-Err-clause-err : goal.returns-in-Err-clause-err
@@ -86,8 +94,8 @@ returns-in-Err-clause-err g c = λ begun kept whole is ahead fits.
     let left = (work_in c.save.new.self).store in
     let told = c.restore.ensures in
     let new = file_of (work_in c.restore.new.self) self.game in
-    let now = kept_as kept.text kept.packing (table_now (work_in self.table)) in
-    let sized : IsSizedSlot self.table.slot = record { some = self.table.some; short = self.table.short; few = self.table.few } in
+    let now = kept_as kept.text kept.packing kept.goal (table_now (work_in self.table)) in
+    let sized : IsSizedSlot self.table.slot = record { some = self.table.some; short = self.table.short; few = self.table.few; points = self.table.points } in
     let still = still_then (works_still ahead.work.works) (still_then c.in-Err.ensures.left told.still) in
     let text = told.text ∙ c.save.ensures.text ∙ ahead.work.text in
     let sound = g.met.P.Pages.sound c.restore.new.self.store in (
@@ -95,12 +103,14 @@ returns-in-Err-clause-err g c = λ begun kept whole is ahead fits.
       not_put was new now whole still text ahead.game told.calm
           (λ honest is_open.
           let left_open : left.closed ≡ false = sym told.others.closed ∙ is_open in
-          same_disk was.work.store.disk left.disk new.work.store.disk (λ picture. StoresTrees picture (kept_of was)) told.others.disk
+          same_disk was.work.store.disk left.disk new.work.store.disk (λ picture. StoresTrees g.row.LAYOUT (length was.work.store.marks) picture (kept_of was)) told.others.disk
+          (subst (λ (l : ℕ). LeavesTable (StoresTrees l (length was.work.store.marks)) was.work.store.disk left.disk (kept_of was)) whole.of_layout
           (c.in-Err.ensures.kept_stop was.work.store (kept_of was) now
-          (worked was kept whole is (file_in self) ahead sized fits honest (ahead.work.works.closed (c.save.ensures.shut left_open))) left_open))
+          (worked was kept whole is (file_in self) ahead sized fits honest (ahead.work.works.closed (c.save.ensures.shut left_open))) left_open)))
           (λ honest is_open.
           same_disk was.work.store.disk left.disk new.work.store.disk _ told.others.disk
-          (c.save.ensures.stop was.work.store (kept_of was) now (worked was kept whole is (file_in self) ahead sized fits honest is_open))),
+          (subst (λ (l : ℕ). LeavesEither (StoresTrees l (length was.work.store.marks)) was.work.store.disk left.disk (kept_of was) (Some now)) whole.of_layout
+          (c.save.ensures.stop was.work.store (kept_of was) now (worked was kept whole is (file_in self) ahead sized fits honest is_open)))),
     )
 
 pub returns-in-Err-clause-cause : goal.returns-in-Err-clause-cause

@@ -10,11 +10,11 @@ use Rattle.tree_file.proofs.file.TreeFileGameFile.discard.Goals as goal
 pub invariant_of-self : goal.invariant_of-self
 invariant_of-self g c =
     let self = c.args.self.now in
-    let was : IsBackedFile self.commits (file_of (work_in self.table) self.game) = record
-    { counted = self.counted; sized = self.sized; sealed = self.sealed; stands = self.stands } in
-    let is = backed_still self.commits (file_of (work_in self.table) self.game) (file_of (work_in c.restore.new.self) self.game) was
+    let was : IsBackedFile g.row.LAYOUT self.commits (file_of (work_in self.table) self.game) = record
+    { of_layout = self.of_layout; counted = self.counted; sized = self.sized; sealed = self.sealed; stands = self.stands } in
+    let is = backed_still g.row.LAYOUT self.commits (file_of (work_in self.table) self.game) (file_of (work_in c.restore.new.self) self.game) was
     c.restore.ensures.still c.restore.ensures.text refl in
-    record { counted = is.counted; sized = is.sized; sealed = is.sealed; stands = is.stands }
+    record { of_layout = is.of_layout; counted = is.counted; sized = is.sized; sealed = is.sealed; stands = is.stands }
 
 pub returns-clause-back : goal.returns-clause-back
 returns-clause-back g c = λ begun whole goes_on.
@@ -40,6 +40,6 @@ returns-clause-failed g c = λ begun fault whole fails.
           told.still told.others told.text refl told.torn told.slot told.calm sound,
       given_up_kept was (file_in c.args.self.now) (file_of (work_in c.restore.new.self) c.args.self.now.game) whole fails.work.works fails.work.text fails.game
           told.still told.others told.text refl told.torn told.slot told.calm sound,
-      fails_for_later was (file_in c.args.self.now) (file_of (work_in c.restore.new.self) c.args.self.now.game) fault begun.table.holds whole fails
+      fails_for_later g.row.LAYOUT was (file_in c.args.self.now) (file_of (work_in c.restore.new.self) c.args.self.now.game) fault begun.table.holds whole fails
           told.others.failures,
     )

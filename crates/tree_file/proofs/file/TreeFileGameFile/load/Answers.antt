@@ -1,4 +1,6 @@
 use Rattle.std.proofs.Common.{◌≡◌, ◌⊎◌, ℕ, List, length, false, Option, None, Some, IsTrue, refl, sym, ◌∙◌, ap, subst, arith}
+use Rattle.rbg_game.specs.Goals.{points_of}
+use Rattle.root_slot.specs.Fields.{number_of_goal, HasPlaceFor}
 use Rattle.retrograde.specs.Stored.{loaded}
 use Rattle.game_file.specs.declared.fault.FileFault.{FileFault}
 use Rattle.game_file.specs.Calls.{IsPut, IsNotPut}
@@ -13,16 +15,23 @@ use Rattle.tree_table.specs.aid.Standing.{still_then, was_honest}
 use Rattle.tree_file.specs.File.{file_of, state_of}
 use Rattle.tree_file.specs.InFile.{file_in}
 use Rattle.tree_file.specs.aid.Whole.{again_whole}
-use Rattle.tree_file.proofs.Loading.{no_game, none_kept, nothing_put, so_refused, vacant, why_not_loaded}
+use Rattle.tree_file.proofs.Loading.{has_place, no_game, none_kept, nothing_put, so_refused, vacant, why_not_loaded}
 use Rattle.tree_file.proofs.Saving.{calm_sealed, not_put, put_now, put_whole, refused_ahead, same_disk}
 use Rattle.tree_file.proofs.file.TreeFileGameFile.load.Goals as goal
 
 pub returns-then-is_empty-clause-err : goal.returns-then-is_empty-clause-err
-returns-then-is_empty-clause-err g c = λ whole none. nothing_put (file_in c.args.self.now) (kept_as c.args.text.now c.args.packing (loaded c.args.start.now.items)) whole
+returns-then-is_empty-clause-err g c = λ whole none. nothing_put (file_in c.args.self.now) (kept_as c.args.text.now c.args.packing (points_of c.args.goal) (loaded c.args.start.now.items)) whole
 
 pub returns-in_err-text-clause-err : goal.returns-in_err-text-clause-err
 returns-in_err-text-clause-err g c = λ whole none.
-    so_refused c.from_residual.result (nothing_put (file_in c.args.self.now) (kept_as c.args.text.now c.args.packing (loaded c.args.start.now.items)) whole)
+    so_refused c.from_residual.result (nothing_put (file_in c.args.self.now) (kept_as c.args.text.now c.args.packing (points_of c.args.goal) (loaded c.args.start.now.items)) whole)
+
+pub returns-then-LAYOUT-clause-err : goal.returns-then-LAYOUT-clause-err
+returns-then-LAYOUT-clause-err g c = λ whole none.
+    nothing_put (file_in c.args.self.now) (kept_as c.args.text.now c.args.packing (points_of c.args.goal) (loaded c.args.start.now.items)) whole
+
+pub start-requires-clause-place : goal.start-requires-clause-place
+start-requires-clause-place g c = subst (λ (n : ℕ). HasPlaceFor n (number_of_goal (points_of c.args.goal))) (sym c.args.self.now.of_layout) (has_place g.row.LAYOUT c.args.goal c.if-LAYOUT.false)
 
 pub invariant_of-self : goal.invariant_of-self
 invariant_of-self g c =
@@ -31,8 +40,9 @@ invariant_of-self g c =
     let told = c.in-Ok.ensures in
     let new = (work_in next).store in
     record {
+      of_layout = told.layout ∙ self.of_layout;
       counted = sym told.commits;
-      sized = record { some = next.some; short = next.short; few = next.few };
+      sized = record { some = next.some; short = next.short; few = next.few; points = next.points };
       sealed = calm_sealed new (told.calm self.sealed);
       stands = λ honest.
           let stands : StandsInTrees next.slot c.in_ok-text.text.items new = told.stands (was_honest c.start.ensures.time honest) in
@@ -46,11 +56,11 @@ returns-in-Ok-clause-whole g c = λ whole.
     let next = c.start.new.self in
     let told = c.in-Ok.ensures in
     let new = file_of (work_in next) (Some next.slot) in
-    let now = kept_as c.in_ok-text.text.items c.args.packing (loaded c.args.start.now.items) in
+    let now = kept_as c.in_ok-text.text.items c.args.packing (points_of c.args.goal) (loaded c.args.start.now.items) in
     let none = no_game self.game (sym c.if-is_some.ensures) in
     let is_open : was.work.store.closed ≡ false = c.start.ensures.shut told.open in
     let done : IsTrue was.work.store.disk.honest → IsKeptInTrees new.work.store (Some now) = λ honest. told.done (vacant was whole none honest is_open) in
-    put_whole was new next.slot now refl refl told.root told.text told.packing (told.calm self.sealed) c.start.ensures.time done (g.met.P.Pages.sound next.store)
+    put_whole was new next.slot now (told.layout ∙ self.of_layout) told.pages refl refl told.root told.text told.packing told.goal (told.calm self.sealed) c.start.ensures.time done (g.met.P.Pages.sound next.store)
     (omega (arith, whole.room, c.start.ensures.same_pages)) told.torn
 
 pub returns-in-Ok-clause-ok : goal.returns-in-Ok-clause-ok
@@ -62,15 +72,16 @@ returns-in-Ok-clause-ok g c = λ whole unkept.
     let told = c.in-Ok.ensures in
     let new = file_of (work_in next) (Some next.slot) in
     let start = loaded c.args.start.now.items in
-    let now = kept_as c.in_ok-text.text.items c.args.packing start in
+    let now = kept_as c.in_ok-text.text.items c.args.packing (points_of c.args.goal) start in
     let none = no_game self.game (sym c.if-is_some.ensures) in
     let is_open : was.work.store.closed ≡ false = c.start.ensures.shut told.open in
     let done : IsTrue was.work.store.disk.honest → IsKeptInTrees new.work.store (Some now) = λ honest. told.done (vacant was whole none honest is_open) in
-    subst (λ (x : List ℕ). IsPut StoresTrees (kept_as x c.args.packing start) (state_of was) (state_of new)) same
-    (put_now was new next.slot now refl refl told.root told.text told.packing (told.calm self.sealed) c.start.ensures.time done
+    subst (λ (x : List ℕ). IsPut (StoresTrees g.row.LAYOUT) (kept_as x c.args.packing (points_of c.args.goal) start) (state_of was) (state_of new)) same
+    (put_now was new next.slot now (told.layout ∙ self.of_layout) told.pages refl refl told.root told.text told.packing told.goal (told.calm self.sealed) c.start.ensures.time done
     (told.commits ∙ ap count_behind self.counted) told.open
-    (λ honest. subst (λ (k : Option Kept). LeavesEither StoresTrees was.work.store.disk new.work.store.disk k (Some now)) (sym (none_kept was none))
-    (c.start.ensures.stop (vacant was whole none honest is_open))))
+    (λ honest. subst (λ (k : Option Kept). LeavesEither (StoresTrees g.row.LAYOUT (length was.work.store.marks)) was.work.store.disk new.work.store.disk k (Some now)) (sym (none_kept was none))
+    (subst (λ (l : ℕ). LeavesEither (StoresTrees l (length was.work.store.marks)) was.work.store.disk new.work.store.disk None (Some now)) whole.of_layout
+    (c.start.ensures.stop (vacant was whole none honest is_open)))))
 
 pub returns-in-Err-clause-whole : goal.returns-in-Err-clause-whole
 returns-in-Err-clause-whole g c = λ whole.
@@ -93,18 +104,21 @@ returns-in-Err-clause-err g c = λ whole unkept.
     let new = file_of (work_in c.restore.new.self) self.game in
     let start = loaded c.args.start.now.items in
     let none = no_game self.game (sym c.if-is_some.ensures) in
-    let now = kept_as c.in_ok-text.text.items c.args.packing start in
-    subst (λ (x : List ℕ). IsNotPut StoresTrees (kept_as x c.args.packing start) (state_of was) (state_of new)) same
+    let now = kept_as c.in_ok-text.text.items c.args.packing (points_of c.args.goal) start in
+    subst (λ (x : List ℕ). IsNotPut (StoresTrees g.row.LAYOUT) (kept_as x c.args.packing (points_of c.args.goal) start) (state_of was) (state_of new)) same
     (not_put was new now whole (still_then c.in-Err.ensures.left told.still) (told.text ∙ c.in-Err.ensures.kept_text) refl told.calm
     (λ honest is_open.
     let left_open : left.closed ≡ false = sym told.others.closed ∙ is_open in
-    subst (λ (k : Option Kept). LeavesTable StoresTrees was.work.store.disk new.work.store.disk k) (sym (none_kept was none))
-    (same_disk was.work.store.disk left.disk new.work.store.disk (λ picture. StoresTrees picture None) told.others.disk
-    (c.in-Err.ensures.kept_stop (vacant was whole none honest (c.start.ensures.shut left_open)) left_open)))
+    subst (λ (k : Option Kept). LeavesTable (StoresTrees g.row.LAYOUT (length was.work.store.marks)) was.work.store.disk new.work.store.disk k) (sym (none_kept was none))
+    (same_disk was.work.store.disk left.disk new.work.store.disk (λ picture. StoresTrees g.row.LAYOUT (length was.work.store.marks) picture None) told.others.disk
+    (subst (λ (l : ℕ). LeavesTable (StoresTrees l (length was.work.store.marks)) was.work.store.disk left.disk None) whole.of_layout
+    (c.in-Err.ensures.kept_stop (vacant was whole none honest (c.start.ensures.shut left_open)) left_open))))
     (λ honest is_open.
-    subst (λ (k : Option Kept). LeavesEither StoresTrees was.work.store.disk new.work.store.disk k (Some now)) (sym (none_kept was none))
-    (same_disk was.work.store.disk left.disk new.work.store.disk (λ picture. StoresTrees picture None ⊎ StoresTrees picture (Some now)) told.others.disk
-    (c.start.ensures.stop (vacant was whole none honest is_open)))))
+    subst (λ (k : Option Kept). LeavesEither (StoresTrees g.row.LAYOUT (length was.work.store.marks)) was.work.store.disk new.work.store.disk k (Some now)) (sym (none_kept was none))
+    (same_disk was.work.store.disk left.disk new.work.store.disk (λ picture. StoresTrees g.row.LAYOUT (length was.work.store.marks) picture None
+    ⊎ StoresTrees g.row.LAYOUT (length was.work.store.marks) picture (Some now)) told.others.disk
+    (subst (λ (l : ℕ). LeavesEither (StoresTrees l (length was.work.store.marks)) was.work.store.disk left.disk None (Some now)) whole.of_layout
+    (c.start.ensures.stop (vacant was whole none honest is_open))))))
 
 pub returns-in-Err-clause-cause : goal.returns-in-Err-clause-cause
 returns-in-Err-clause-cause g c = λ whole unkept is_open.

@@ -4,17 +4,17 @@ use Rattle.tree_table.specs.aid.Standing.{let_go_still}
 use Rattle.tree_table.specs.aid.Versions.{version_let_go}
 use Rattle.tree_file.specs.File.{file_of}
 use Rattle.tree_file.specs.aid.Backed.{IsBackedFile, backed_still}
-use Rattle.tree_file.proofs.Versions.{let_go_packing, let_go_state, let_go_text, let_go_whole}
+use Rattle.tree_file.proofs.Versions.{let_go_goal, let_go_packing, let_go_state, let_go_text, let_go_whole}
 use Rattle.tree_file.proofs.version.TreeFileVersions.give_back.Goals as goal
 
 pub invariant_of-self : goal.invariant_of-self
 invariant_of-self g c =
     let self = c.args.self.now in
-    let was : IsBackedFile self.commits (file_of (work_in self.table) self.game) = record
-    { counted = self.counted; sized = self.sized; sealed = self.sealed; stands = self.stands } in
-    let is = backed_still self.commits (file_of (work_in self.table) self.game) (file_of (work_in c.let_go.new.self) self.game) was
+    let was : IsBackedFile g.row.LAYOUT self.commits (file_of (work_in self.table) self.game) = record
+    { of_layout = self.of_layout; counted = self.counted; sized = self.sized; sealed = self.sealed; stands = self.stands } in
+    let is = backed_still g.row.LAYOUT self.commits (file_of (work_in self.table) self.game) (file_of (work_in c.let_go.new.self) self.game) was
     (let_go_still c.args.version.hold.place (g.P.Pages.store self.table.store) (g.P.Pages.store c.let_go.new.self.store) c.let_go.ensures.gone) c.let_go.ensures.text refl in
-    record { counted = is.counted; sized = is.sized; sealed = is.sealed; stands = is.stands }
+    record { of_layout = is.of_layout; counted = is.counted; sized = is.sized; sealed = is.sealed; stands = is.stands }
 
 pub returns-clause-whole : goal.returns-clause-whole
 returns-clause-whole g c = λ whole.
@@ -43,4 +43,10 @@ pub returns-clause-packing : goal.returns-clause-packing
 returns-clause-packing g c = λ whole.
     let self = c.args.self.now in
     let_go_packing c.args.version.hold.place (file_of (work_in self.table) self.game) (file_of (work_in c.let_go.new.self) self.game) whole c.let_go.ensures.gone
+    (g.met.P.Pages.sound c.let_go.new.self.store) c.let_go.ensures.slot c.let_go.ensures.text c.let_go.ensures.torn refl
+
+pub returns-clause-goal : goal.returns-clause-goal
+returns-clause-goal g c = λ whole.
+    let self = c.args.self.now in
+    let_go_goal c.args.version.hold.place (file_of (work_in self.table) self.game) (file_of (work_in c.let_go.new.self) self.game) whole c.let_go.ensures.gone
     (g.met.P.Pages.sound c.let_go.new.self.store) c.let_go.ensures.slot c.let_go.ensures.text c.let_go.ensures.torn refl

@@ -4,17 +4,17 @@ use Rattle.tree_table.specs.Working.{Work}
 use Rattle.tree_table.specs.aid.Versions.{version_taken_else}
 use Rattle.tree_file.specs.File.{file_of, state_of}
 use Rattle.tree_file.specs.aid.Backed.{IsBackedFile, backed_still}
-use Rattle.tree_file.proofs.Versions.{hold_still, place_apart, taken_packing, taken_state, taken_text, taken_version, taken_whole}
+use Rattle.tree_file.proofs.Versions.{hold_still, place_apart, taken_goal, taken_packing, taken_state, taken_text, taken_version, taken_whole}
 use Rattle.tree_file.proofs.version.TreeFileVersions.keep.Goals as goal
 
 pub invariant_of-self : goal.invariant_of-self
 invariant_of-self g c =
     let self = c.args.self.now in
-    let was : IsBackedFile self.commits (file_of (work_in self.table) self.game) = record
-    { counted = self.counted; sized = self.sized; sealed = self.sealed; stands = self.stands } in
-    let is = backed_still self.commits (file_of (work_in self.table) self.game) (file_of (work_in c.hold.new.self) self.game) was
+    let was : IsBackedFile g.row.LAYOUT self.commits (file_of (work_in self.table) self.game) = record
+    { of_layout = self.of_layout; counted = self.counted; sized = self.sized; sealed = self.sealed; stands = self.stands } in
+    let is = backed_still g.row.LAYOUT self.commits (file_of (work_in self.table) self.game) (file_of (work_in c.hold.new.self) self.game) was
     (hold_still (work_in self.table) (work_in c.hold.new.self) c.hold.result c.hold.ensures.some c.hold.ensures.none) c.hold.ensures.text refl in
-    record { counted = is.counted; sized = is.sized; sealed = is.sealed; stands = is.stands }
+    record { of_layout = is.of_layout; counted = is.counted; sized = is.sized; sealed = is.sealed; stands = is.stands }
 
 pub returns-in-Some-hold-clause-whole : goal.returns-in-Some-hold-clause-whole
 returns-in-Some-hold-clause-whole g c = λ whole.
@@ -61,4 +61,10 @@ pub returns-in-Some-hold-clause-packing : goal.returns-in-Some-hold-clause-packi
 returns-in-Some-hold-clause-packing g c = λ whole.
     let self = c.args.self.now in
     taken_packing c.in-Some-hold.hold.place (file_of (work_in self.table) self.game) (file_of (work_in c.hold.new.self) self.game) whole c.in-Some-hold.ensures.some
+    (g.met.P.Pages.sound c.hold.new.self.store) c.hold.ensures.slot c.hold.ensures.text c.hold.ensures.torn refl
+
+pub returns-in-Some-hold-clause-goal : goal.returns-in-Some-hold-clause-goal
+returns-in-Some-hold-clause-goal g c = λ whole.
+    let self = c.args.self.now in
+    taken_goal c.in-Some-hold.hold.place (file_of (work_in self.table) self.game) (file_of (work_in c.hold.new.self) self.game) whole c.in-Some-hold.ensures.some
     (g.met.P.Pages.sound c.hold.new.self.store) c.hold.ensures.slot c.hold.ensures.text c.hold.ensures.torn refl

@@ -14,11 +14,11 @@ returns-then-number-version-clause-stays g c = stays_here (file_in c.args.self.n
 pub invariant_of-self : goal.invariant_of-self
 invariant_of-self g c =
     let self = c.args.self.now in
-    let was : IsBackedFile self.commits (file_of (work_in self.table) self.game) = record
-    { counted = self.counted; sized = self.sized; sealed = self.sealed; stands = self.stands } in
-    let is = backed_still self.commits (file_of (work_in self.table) self.game) (file_of (work_in c.kept_record.new.self) self.game) was
+    let was : IsBackedFile g.row.LAYOUT self.commits (file_of (work_in self.table) self.game) = record
+    { of_layout = self.of_layout; counted = self.counted; sized = self.sized; sealed = self.sealed; stands = self.stands } in
+    let is = backed_still g.row.LAYOUT self.commits (file_of (work_in self.table) self.game) (file_of (work_in c.kept_record.new.self) self.game) was
     (works_still c.kept_record.ensures.stays.works) c.kept_record.ensures.stays.text refl in
-    record { counted = is.counted; sized = is.sized; sealed = is.sealed; stands = is.stands }
+    record { of_layout = is.of_layout; counted = is.counted; sized = is.sized; sealed = is.sealed; stands = is.stands }
 
 pub returns-clause-record : goal.returns-clause-record
 returns-clause-record g c = λ honest table it. c.kept_record.ensures.«record» honest c.args.version.now.hold.place table it

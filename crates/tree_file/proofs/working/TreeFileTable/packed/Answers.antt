@@ -8,8 +8,8 @@ use Rattle.tree_file.proofs.working.TreeFileTable.packed.Goals as goal
 pub invariant_of-self : goal.invariant_of-self
 invariant_of-self g c =
     let self = c.args.self.now in
-    let was : IsBackedFile self.commits (file_of (work_in self.table) self.game) = record
-    { counted = self.counted; sized = self.sized; sealed = self.sealed; stands = self.stands } in
-    let is = backed_still self.commits (file_of (work_in self.table) self.game) (file_of (work_in c.packed.new.self) self.game) was
+    let was : IsBackedFile g.row.LAYOUT self.commits (file_of (work_in self.table) self.game) = record
+    { of_layout = self.of_layout; counted = self.counted; sized = self.sized; sealed = self.sealed; stands = self.stands } in
+    let is = backed_still g.row.LAYOUT self.commits (file_of (work_in self.table) self.game) (file_of (work_in c.packed.new.self) self.game) was
     (works_still c.packed.ensures.stays.works) c.packed.ensures.stays.text refl in
-    record { counted = is.counted; sized = is.sized; sealed = is.sealed; stands = is.stands }
+    record { of_layout = is.of_layout; counted = is.counted; sized = is.sized; sealed = is.sealed; stands = is.stands }

@@ -13,10 +13,10 @@ invariant_of-self g c =
     let self = c.args.self.now in
     let old = work_in self.table in
     let new = work_in c.push_settled.new.self in
-    let was : IsBackedFile self.commits (file_of old self.game) = record
-    { counted = self.counted; sized = self.sized; sealed = self.sealed; stands = self.stands } in
+    let was : IsBackedFile g.row.LAYOUT self.commits (file_of old self.game) = record
+    { of_layout = self.of_layout; counted = self.counted; sized = self.sized; sealed = self.sealed; stands = self.stands } in
     let works = either_way {C = StoreWorks old.store new.store × (new.text ≡ old.text)} c.push_settled.result
     (λ (a : WorkGoesOn old new). (a.works, a.text)) (λ f (a : WorkFails old new f). (a.works, a.text)) c.push_settled.ensures.ahead
     c.push_settled.ensures.fault in
-    let is = backed_still self.commits (file_of old self.game) (file_of new self.game) was (works_still works.0) works.1 refl in
-    record { counted = is.counted; sized = is.sized; sealed = is.sealed; stands = is.stands }
+    let is = backed_still g.row.LAYOUT self.commits (file_of old self.game) (file_of new self.game) was (works_still works.0) works.1 refl in
+    record { of_layout = is.of_layout; counted = is.counted; sized = is.sized; sealed = is.sealed; stands = is.stands }
