@@ -1,12 +1,15 @@
 -- The empty table is made, and opened.
 use Rattle.std.specs.Prelude.{min, Result, Ok, Err}
 use Rattle.std.specs.Result.{IfOk, IfErr}
-use Rattle.std.proofs.Common.{◌≡◌, ◌⊎◌, inl, inr, ◌≤◌, ◌/◌, ℕ, false, true, List, length, None, IsTrue, sym, ◌∙◌, ap, subst, arith}
+use Rattle.std.proofs.Common.{◌≡◌, ◌⊎◌, inl, inr, ◌≤◌, ◌<◌, ◌/◌, ℕ, false, true, List, length, None, IsTrue, sym, ◌∙◌, ap, subst, arith}
 use Rattle.std.proofs.Math.Nat.{le-min, le-div_iff_mul-le, min-le_left, min-le_right}
+use Rattle.std.proofs.lemmas.Bool.{cases_lt}
 use Rattle.sector_disk.specs.Disk.{Picture, Shown, Disk, sector, size, Grew, GoesOn, LeavesOnly, MayLeave, AllSynced, SyncedMore}
 use Rattle.sector_disk.specs.aid.Moments.{goes_on_trans, leaves_then, leaves_more, still_honest}
 use Rattle.root_pair.specs.aid.Rest.{rest_leaves, synced_rests}
-use Rattle.root_pair.specs.Root.{Begins, HoldsRoot, IsMade, OldOrNoneOrNew}
+use Rattle.root_pair.specs.Root.{Begins, HoldsRoot, IsMade, IsUnwritten, OldOrNoneOrNew, RootCreateCause}
+use Rattle.root_pair.specs.declared.fault.RootFault.{RootFault}
+use Rattle.root_pair.specs.declared.fault.RootFault.TheVariants as root
 use Rattle.page_store.specs.Causes.{StoreOpenCause}
 use Rattle.page_store.specs.declared.fault.PageFault.{PageFault}
 use Rattle.page_store.specs.declared.fault.PageFault.TheVariants as page
@@ -16,14 +19,15 @@ use Rattle.game_file.specs.declared.fault.FileFault.{FileFault}
 use Rattle.game_file.specs.declared.fault.FileFault.TheVariants.{Disk as DiskFailed, NotATable, AlreadyATable, Damaged, OldLayout, TooSmall, TableFull, OutOfMemory, Closed, Inconsistent}
 use Rattle.game_file.specs.Calls.{IsOpenedFile, IsNotOpened, IsCreatedFile, IsNotCreated}
 use Rattle.game_file.specs.Causes.{FileCreateCause, FileOpenCause}
-use Rattle.game_file.specs.Faults.{of_pages}
+use Rattle.game_file.specs.Faults.{of_pages, of_root}
 use Rattle.game_file.specs.Kept.{Layout, Older, in_any}
 use Rattle.game_file.specs.State.{State, GoesFrom, pages_of}
 use Rattle.game_file.specs.Stops.{OldOrEmpty}
 use Rattle.tree_table.specs.Held.{StoresTrees}
 use Rattle.tree_table.specs.Slot.{IsEmptyTreeSlot}
-use Rattle.tree_table.specs.aid.OneTable.{a_picture_stores_one_tree_table}
+use Rattle.tree_table.specs.aid.OneTable.{a_picture_says_its_pages, a_picture_stores_one_tree_table}
 use Rattle.tree_file.specs.Older.{IsOlderTable}
+use Rattle.tree_file.specs.aid.Making.{of_new}
 use Rattle.tree_file.specs.aid.Whole.{older_none}
 
 -- what a stop leaves after a sync it could leave before
@@ -144,6 +148,22 @@ module _ (layout : ℕ) (disk : Disk) {root : List ℕ} (slot : IsEmptyRoot layo
         (leaves_through file.disk opened.from.goes_on opened.leaves honest);
   }
 
+  -- a file that was read of it has as many pages as were laid down
+  pub created_pages : (file : State) → IsOpenedFile (StoresTrees layout) mid middle file → (layout < 3 → file.capacity ≡ pages_of mid)
+      → IsTrue disk.honest → file.capacity ≡ pages_of disk
+  created_pages file opened all honest = elim (cases_lt layout 3) [
+    | inl early ↦ all early ∙ ap (λ (n : ℕ). min (n / 8) 1048576) laid.same_size
+    | inr late ↦ a_picture_says_its_pages layout file.capacity (pages_of disk) mid.now.contents file.kept None late
+        (opened.stored (still_honest laid.goes_on honest)) (stored_empty honest)
+  ]
+
+  -- the disk of such a file, given back
+  pub opened_back : (file : State) (back : Disk) (now : ℕ) → back ≡ file.disk → now ≡ file.failures → IsOpenedFile (StoresTrees layout) mid middle file
+      → IsNotOpened mid middle back now
+  opened_back file back now same failures opened =
+      subst (λ (d : Disk). IsNotOpened mid middle d now) (sym same)
+      (subst (λ (n : ℕ). IsNotOpened mid middle file.disk n) (sym failures) (record { from = opened.from; leaves = opened.leaves }))
+
   pub not_created : (back : Disk) (now : ℕ) → IsNotOpened mid middle back now → IsNotCreated (StoresTrees layout) disk count back now
   not_created back now refused = record {
     from = from_first back now refused.from;
@@ -152,7 +172,7 @@ module _ (layout : ℕ) (disk : Disk) {root : List ℕ} (slot : IsEmptyRoot layo
   }
 
   pub create_cause : (now : ℕ) (fault : FileFault) → FileOpenCause (in_any (StoresTrees layout)) (IsOlderTable layout) mid middle now fault
-      → FileCreateCause disk count now fault
+      → FileCreateCause disk count now (of_new fault)
   create_cause now DiskFailed cause = grew_from more cause
   create_cause now NotATable cause = λ honest. cause (still_honest laid.goes_on honest) (laid.holds honest).table
   create_cause now AlreadyATable cause = absurd cause
@@ -189,3 +209,20 @@ back_found disk count found back now at_first same failures =
       from = record { goes_on = at_first.goes_on; failures = omega (arith, at_first.failures, failures); same_size = at_first.same_size };
       leaves = at_first.leaves;
     })
+
+-- a disk that is asked to be made and is not: what the layer below left of it
+pub not_laid : (layout : ℕ) {root : List ℕ} (disk mid : Disk) (count now : ℕ) → IsEmptyRoot layout (pages_of disk) root → GoesOn disk mid
+    → size mid ≡ size disk → count ≤ now → (IsTrue disk.honest → LeavesOnly disk mid (OldOrNoneOrNew disk.now root))
+    → (IsTrue disk.honest → Begins disk.now.contents → IsUnwritten disk mid) → IsNotCreated (StoresTrees layout) disk count mid now
+not_laid layout disk mid count now slot goes_on same_size failures moments kept = record {
+  from = record { goes_on = goes_on; failures = failures; same_size = same_size };
+  leaves = λ honest. leaves_more (old_or_empty layout disk slot) (moments honest);
+  kept = λ honest begins. (kept honest begins).leaves;
+}
+
+pub why_not_laid : (disk : Disk) (count now : ℕ) (fault : RootFault) → RootCreateCause disk count now fault → FileCreateCause disk count now (of_root fault)
+why_not_laid disk count now root.Read cause = cause
+why_not_laid disk count now root.Write cause = cause
+why_not_laid disk count now root.NotATable cause = absurd cause
+why_not_laid disk count now root.AlreadyATable cause = cause
+why_not_laid disk count now root.TooSmall cause = cause

@@ -1,8 +1,7 @@
 -- A game is loaded into a file without one.
-use Rattle.std.proofs.Common.{◌≡◌, ◌≤◌, ◌<◌, inl, inr, ℕ, false, List, Option, None, Some, Result, Ok, Err, IsTrue, refl, sym, ap, subst, arith}
+use Rattle.std.proofs.Common.{◌≡◌, ◌⊎◌, ◌≤◌, inl, inr, ℕ, false, true, List, Option, None, Some, Result, Ok, Err, IsTrue, refl, sym, ap, subst, arith}
 use Rattle.std.specs.Prelude.{OnErr}
 use Rattle.std.specs.Option.{is_some}
-use Rattle.std.proofs.lemmas.Bool.{cases_lt}
 use Rattle.rbg_game.specs.Goals.{points_of}
 use Rattle.rbg_game.specs.declared.goal.Goal.{Goal}
 use Rattle.root_slot.specs.Fields.{number_of_goal, HasPlaceFor}
@@ -44,6 +43,13 @@ no_game (Some s) is = absurd (cc)
 pub none_kept : (was : File) → was.game ≡ None → kept_of was ≡ None
 none_kept was none = ap (λ (g : Option TreeSlot). kept_with g was.work.text (reads was.work.store)) none
 
+pub some_kept : (was : File) → is_some was.game ≡ true → kept_of was ≡ None → ⊥
+some_kept was is none = by_game was.game is none
+  where
+    by_game : (game : Option TreeSlot) → is_some game ≡ true → kept_with game was.work.text (reads was.work.store) ≡ None → ⊥
+    by_game None is none = absurd (cc)
+    by_game (Some s) is none = absurd (cc)
+
 pub vacant : {layout : ℕ} (was : File) → IsWholeFile layout was → was.game ≡ None → IsTrue was.work.store.disk.honest → was.work.store.closed ≡ false → IsVacant was.work.store
 vacant was whole none honest is_open = record {
   honest = honest;
@@ -53,10 +59,10 @@ vacant was whole none honest is_open = record {
   enough = whole.room;
 }
 
--- a layout that is asked for no goal, or has a place for one, has a place for this
-pub has_place : (layout : ℕ) (goal : Option Goal) → ((layout < 3) × IsTrue (is_some goal) → ⊥) → HasPlaceFor layout (number_of_goal (points_of goal))
-has_place layout None not = inr refl
-has_place layout (Some goal) not = elim (cases_lt layout 3) [ inl early ↦ absurd (not (early, refl)) | inr late ↦ inl late ]
+-- a layout that has a place for goals, or is asked for none, has a place for this
+pub has_place : (layout : ℕ) (goal : Option Goal) → (3 ≤ layout) ⊎ (goal ≡ None) → HasPlaceFor layout (number_of_goal (points_of goal))
+has_place layout goal (inl late) = inl late
+has_place layout goal (inr none) = inr (ap (λ (g : Option Goal). number_of_goal (points_of g)) none)
 
 -- why none is loaded: 24 pages are never too few, since all but the system page are free
 pub why_not_loaded : {layout : ℕ} (start : List ℕ) (long : ℕ) (was new : File) (left : Store) (fault : TableFault) → IsWholeFile layout was → was.game ≡ None

@@ -1,6 +1,7 @@
 -- What a command has come to is committed, or given up.
 use Rattle.std.proofs.Common.{◌≢◌, ◌≡◌, ℕ, ◌≤◌, false, true, List, length, Option, None, Some, IsTrue, sym, ◌∙◌, ap, subst, arith}
 use Rattle.std.proofs.lemmas.Option.{same_Some}
+use Rattle.std.specs.Option.{is_none}
 use Rattle.sector_disk.specs.Disk.{Disk, GoesOn, Grew, LeavesOnly, size}
 use Rattle.page_store.specs.Causes.{StoreCommitCause}
 use Rattle.page_store.specs.declared.fault.PageFault.{PageFault}
@@ -241,6 +242,24 @@ refused_ahead was left new goes_on same_size failures same_pages closes others s
       capacity = still.same_pages ∙ same_pages;
       closes = closes_then goes_on.failed_writes (omega (arith, same)) closes (closes_same others.closed same);
     }
+
+-- where no game is loaded none was kept when the command began
+pub none_kept_some : (was now : Option TreeSlot) (text : List ℕ) (bytes : ℕ → List ℕ) (kept : Kept) → now ≡ was → is_none now ≡ true
+    → kept_with was text bytes ≡ Some kept → ⊥
+none_kept_some None now text bytes kept same none is = absurd (cc)
+none_kept_some (Some s) now text bytes kept same none is =
+    let no : is_none (Some s) ≡ true = ap is_none (sym same) ∙ none in absurd (cc)
+
+-- only marks change
+pub again_ahead : (was new : File) → IsStill was.work.store new.work.store → IsRemarked was.work.store new.work.store
+    → GoesAhead (state_of was) (state_of new)
+again_ahead was new still others = record {
+  goes_on = still.goes_on;
+  same_size = ap size others.disk;
+  failures = omega (arith, others.failures);
+  capacity = still.same_pages;
+  closes = closes_same others.closed (ap (λ (d : Disk). d.failed_writes) others.disk);
+}
 
 -- why it is not committed
 pub why_not : (was mid new : File) (table now : Stored (List ℕ)) (left : Store) (fault : PageFault) → StoreWorks was.work.store mid.work.store

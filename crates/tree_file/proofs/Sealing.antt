@@ -10,7 +10,7 @@ use Rattle.page_store.specs.Page.{page}
 use Rattle.page_store.specs.Spelling.{IsCalm}
 use Rattle.page_store.specs.Store.{Store, IsSoundStore, IsRemarked, reads}
 use Rattle.page_store.specs.aid.Marking.{OnlyMarks}
-use Rattle.root_slot.specs.Fields.{commits_in, goal_numbered}
+use Rattle.root_slot.specs.Fields.{commits_in, goal_numbered, layout_in}
 use Rattle.root_slot.specs.aid.Packings.{one_packing}
 use Rattle.game_file.specs.Kept.{Kept, kept_as}
 use Rattle.tree_map.specs.aid.Laws.{none_contained}
@@ -18,15 +18,16 @@ use Rattle.tree_table.specs.declared.slot.TreeSlot.{TreeSlot}
 use Rattle.tree_table.specs.declared.tree.Tree.{Tree}
 use Rattle.tree_table.specs.Entries.{AreEntriesOf}
 use Rattle.tree_table.specs.Forest.{IsForest}
-use Rattle.tree_table.specs.Held.{KeepsOnPages}
+use Rattle.tree_table.specs.Held.{KeepsOnPages, KeepsTrees}
 use Rattle.tree_table.specs.Keeping.{AreSized, IsKeptInTrees, IsOneOf, KeepsOn, StandsFor}
-use Rattle.tree_table.specs.Slot.{slot_in, SaysTrees}
+use Rattle.tree_table.specs.Slot.{slot_in, IsEmptyTreeSlot, IsGameTreeSlot, IsNoTreeSlot, SaysTrees}
 use Rattle.tree_table.specs.Spelled.{table_in}
 use Rattle.tree_table.specs.Trees.{root_of}
 use Rattle.tree_table.specs.aid.Keeping.{keeps_as}
 use Rattle.tree_table.specs.aid.Spelling.{forest_spells}
 use Rattle.tree_file.specs.File.{NamesSlot, kept_with}
-use Rattle.tree_file.specs.Opening.{IsFoundInFile}
+use Rattle.tree_file.specs.Opening.{IsFoundInFile, RootCause}
+use Rattle.game_file.specs.declared.fault.FileFault.TheVariants.{Damaged}
 use Rattle.page_store.specs.Pages.{AllWait}
 use Rattle.tree_file.specs.aid.Reading.{IsReadFor, IsReadGame}
 use Rattle.tree_file.proofs.Finding.{map_within}
@@ -189,3 +190,16 @@ found_stands commits (Some slot) text store found honest =
       counts = it.keeps.counts ∙ ap (λ (s : TreeSlot). s.sizes.counts) (sym found.names);
       needed = it.needed;
     }
+
+-- a root of this layout whose slot says nothing is no root of a table
+pub no_root : (layout : ℕ) (old : Store) (root : List ℕ) → root ≡ old.root → IsNoTreeSlot root → layout_in old.root ≡ layout
+    → RootCause layout old Damaged
+no_root layout old root same none named = (
+  λ older. omega (arith, older.1, named),
+  λ pages kept bytes of_layout said enough room keeps. by_kept pages kept bytes keeps,
+)
+  where
+    by_kept : (pages : ℕ) (kept : Option Kept) (bytes : ℕ → List ℕ) → ¬ KeepsTrees old.root pages kept bytes
+    by_kept pages None bytes it = none.not_empty (subst IsEmptyTreeSlot (sym same) it)
+    by_kept pages (Some kept) bytes it =
+        none.no_game kept.packing kept.goal (subst (λ (r : List ℕ). IsGameTreeSlot r kept.packing kept.goal) (sym same) it.keeps.slot)

@@ -2,3 +2,4 @@ pub mod Backed
 pub mod Frames
 pub mod Whole
 pub mod Reading
+pub mod Making

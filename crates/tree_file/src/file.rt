@@ -1,7 +1,9 @@
 //! A table on trees in a file of one layout.
-ghost use Rattle.std.specs.Prelude.{◌≡◌, ◌≤◌, ◌/◌, ℕ, min, IfOk, IfErr, IsTrue};
+ghost use Rattle.std.specs.Prelude.{◌≡◌, ◌↔◌, ◌≢◌, ◌⊎◌, ◌≤◌, ◌<◌, ◌/◌, ℕ, true, None, min, IfOk, IfErr, IsTrue};
+ghost use Rattle.tree_file.specs.aid.Making.{of_new};
 ghost use Rattle.page_store.specs.declared.limits.TheConstants.{MAX_PAGES};
 ghost use Rattle.game_file.specs.Kept.{in_any};
+ghost use Rattle.game_file.specs.State.{pages_of};
 ghost use Rattle.root_pair.specs.Root.{HoldsRoot};
 ghost use Rattle.root_slot.specs.Fields.{commits_in, layout_in};
 ghost use Rattle.game_file.specs.Calls.{IsOpenedFile, IsNotOpened};
@@ -38,8 +40,25 @@ fn room_for(sectors: u64) -> u32
     (sectors / 8).min(u64::from(MAX_PAGES)) as u32
 }
 
-/// A game's table in a file of this layout: 3, which the program writes, or 2, the one before. A command works on the trees themselves: it writes pages that the last commit does not need, and to
-/// give the command up these pages are free again.
+/// Whether the slot of a layout has a place for this goal: those of earlier layouts have none for any.
+fn has_place(layout: u32, goal: Option<Goal>) -> bool
+    ensures { (result ≡ true) ↔ ((3 ≤ layout) ⊎ (goal ≡ None)) }
+{
+    layout >= FIRST_WITH_GOALS || goal.is_none()
+}
+
+/// What a fault in opening a table that was just made is told as: a disk that gives another layout than was written is damaged.
+fn of_new(fault: FileFault) -> FileFault
+    ensures { result ≡ of_new fault }
+{
+    match fault {
+        FileFault::OldLayout => FileFault::Damaged,
+        other => other,
+    }
+}
+
+/// A game's table in a file of this layout: 3, which the program writes, or 2, the one before. A command works on the trees themselves:
+/// it writes pages that the last commit does not need, and to give the command up these pages are free again.
 #[derive(Drop)]
 pub struct TreeFile<P: PagesOnDisk, const LAYOUT: u32> {
     pub(crate) alloc: Global,
@@ -59,6 +78,24 @@ pub struct TreeFile<P: PagesOnDisk, const LAYOUT: u32> {
 impl<P: PagesOnDisk, const LAYOUT: u32> TreeFile<P, LAYOUT> {
     ghost use Rattle.tree_file.specs.InFile.{file_in};
 
+    /// The file, if it has so many pages, as it was made: a disk that gives another count than was written is damaged.
+    fn with_pages(self, pages: u32) -> Result<Self, Refused<P::Device>>
+        ensures file { IfOk result (λ t. file_in t ≡ file_in self) }
+        ensures pages { IfOk result (λ t. (state_of (file_in t)).capacity ≡ pages) }
+        ensures disk { IfErr result (λ back. P.Device.disk back.disk ≡ (state_of (file_in self)).disk) }
+        ensures failures { IfErr result (λ back. P.Device.failures back.disk ≡ (state_of (file_in self)).failures) }
+        ensures fault { IfErr result (λ back. back.fault ≡ FileFault.Damaged) }
+        ensures cause { IfErr result (λ _. (state_of (file_in self)).capacity ≢ pages) }
+    {
+        if self.table.store.capacity() == pages {
+            return Ok(self);
+        }
+        Err(Refused {
+            disk: self.table.store.give_back(),
+            fault: FileFault::Damaged,
+        })
+    }
+
     /// Opens the table that this disk stores, after a sync, with so many pages in memory: E1, E2, E4, E5, E8.
     fn read(alloc: Global, disk: P::Device, pages: usize) -> Result<Self, Refused<P::Device>>
         requires { pages ≤ 64 }
@@ -66,6 +103,7 @@ impl<P: PagesOnDisk, const LAYOUT: u32> TreeFile<P, LAYOUT> {
         ensures ok { IfOk result (λ t. IsOpenedFile (StoresTrees LAYOUT) (P.Device.disk disk) (P.Device.failures disk) (state_of (file_in t))) }
         ensures root { IfOk result (λ t. IsTrue (P.Device.disk disk).honest
             → HoldsRoot (file_in t).work.store.root (P.Device.disk disk).now.contents) }
+        ensures all { LAYOUT < 3 → IfOk result (λ t. (state_of (file_in t)).capacity ≡ pages_of (P.Device.disk disk)) }
         ensures alone { IfOk result (λ t. UsesNoOther (file_in t)) }
         ensures refused { IfErr result (λ back. IsNotOpened (P.Device.disk disk) (P.Device.failures disk)
             (P.Device.disk back.disk) (P.Device.failures back.disk)) }
@@ -153,7 +191,13 @@ impl<P: PagesOnDisk, const LAYOUT: u32> GameFile for TreeFile<P, LAYOUT> {
         let mut disk = disk;
         let pages = room_for(disk.sectors());
         match create(&mut disk, &empty_slot(LAYOUT, pages)) {
-            Ok(()) => TreeFile::read(alloc, disk, MOST_CACHED),
+            Ok(()) => match TreeFile::read(alloc, disk, MOST_CACHED) {
+                Ok(file) => file.with_pages(pages),
+                Err(refused) => Err(Refused {
+                    disk: refused.disk,
+                    fault: of_new(refused.fault),
+                }),
+            },
             Err(fault) => Err(Refused {
                 disk,
                 fault: fault.into(),
@@ -217,8 +261,7 @@ impl<P: PagesOnDisk, const LAYOUT: u32> GameFile for TreeFile<P, LAYOUT> {
         if start.is_empty() {
             return Err(FileFault::Inconsistent);
         }
-        // a slot of an earlier layout has no place for a goal
-        if LAYOUT < FIRST_WITH_GOALS && goal.is_some() {
+        if !has_place(LAYOUT, goal) {
             return Err(FileFault::OutOfMemory);
         }
         let text = text.to_vec(self.alloc)?;

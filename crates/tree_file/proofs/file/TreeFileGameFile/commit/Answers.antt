@@ -17,7 +17,9 @@ use Rattle.tree_file.specs.File.{file_of, kept_of, state_of}
 use Rattle.tree_file.specs.InFile.{file_in}
 use Rattle.tree_file.specs.aid.Backed.{IsBackedFile, backed_still}
 use Rattle.tree_file.specs.aid.Whole.{again_whole}
-use Rattle.tree_file.proofs.Saving.{calm_sealed, its_place, kept_goal_is, kept_packing_is, kept_text_is, not_put, put_now, put_whole, refused_ahead, same_disk, why_not, worked}
+use Rattle.tree_table.specs.aid.Versions.{keeps_holds_then}
+use Rattle.game_file.specs.Faults.{of_pages}
+use Rattle.tree_file.proofs.Saving.{calm_sealed, its_place, none_kept_some, kept_goal_is, kept_packing_is, kept_text_is, not_put, put_now, put_whole, refused_ahead, same_disk, why_not, worked}
 use Rattle.tree_file.proofs.file.TreeFileGameFile.commit.Goals as goal
 
 pub invariant_of-self : goal.invariant_of-self
@@ -136,3 +138,21 @@ pub returns-in-Err-clause-ahead : goal.returns-in-Err-clause-ahead
 returns-in-Err-clause-ahead g c =
     refused_ahead (file_in c.args.self.now) (work_in c.save.new.self).store (file_of (work_in c.restore.new.self) c.args.self.now.game) c.save.ensures.time c.save.ensures.same_size
     c.save.ensures.failures c.save.ensures.same_pages c.save.ensures.closes c.restore.ensures.others c.restore.ensures.still
+
+pub returns-then-is_none-clause-err : goal.returns-then-is_none-clause-err
+returns-then-is_none-clause-err g c = λ begun kept whole is ahead fits. absurd (none_kept_some begun.game c.args.self.now.game _ _ kept ahead.game (sym c.if-is_none.ensures) is)
+
+pub returns-then-is_none-clause-cause : goal.returns-then-is_none-clause-cause
+returns-then-is_none-clause-cause g c = λ begun kept whole is ahead. absurd (none_kept_some begun.game c.args.self.now.game _ _ kept ahead.game (sym c.if-is_none.ensures) is)
+
+pub restore-requires-clause-sealed : goal.restore-requires-clause-sealed
+restore-requires-clause-sealed g c = λ p is. c.args.self.now.sealed p (c.in-Err.ensures.left.waiting p is)
+
+pub returns-in-Err-clause-lasts : goal.returns-in-Err-clause-lasts
+returns-in-Err-clause-lasts g c =
+    keeps_holds_then (g.P.Pages.store c.args.self.now.table.store) (work_in c.save.new.self).store (work_in c.restore.new.self).store c.save.ensures.held
+    c.restore.ensures.held
+
+pub returns-in-Err-clause-still : goal.returns-in-Err-clause-still
+returns-in-Err-clause-still g c = λ begun ahead other.
+    c.restore.ensures.others.closed ∙ c.in-Err.ensures.still (λ disk. other (c.into.ensures ∙ ap of_pages disk)) ∙ ahead.work.still

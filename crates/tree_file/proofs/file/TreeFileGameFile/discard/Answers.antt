@@ -4,7 +4,7 @@ use Rattle.tree_file.specs.File.{file_of}
 use Rattle.tree_file.specs.aid.Backed.{IsBackedFile, backed_still}
 use Rattle.tree_file.specs.aid.Whole.{fails_for_later}
 use Rattle.tree_file.specs.InFile.{file_in}
-use Rattle.tree_file.proofs.Saving.{given_up_kept, given_up_whole}
+use Rattle.tree_file.proofs.Saving.{again_ahead, given_up_kept, given_up_whole}
 use Rattle.tree_file.proofs.file.TreeFileGameFile.discard.Goals as goal
 
 pub invariant_of-self : goal.invariant_of-self
@@ -43,3 +43,11 @@ returns-clause-failed g c = λ begun fault whole fails.
       fails_for_later g.row.LAYOUT was (file_in c.args.self.now) (file_of (work_in c.restore.new.self) c.args.self.now.game) fault begun.table.holds whole fails
           told.others.failures,
     )
+
+pub returns-clause-ahead : goal.returns-clause-ahead
+returns-clause-ahead g c =
+    let self = c.args.self.now in
+    again_ahead (file_of (work_in self.table) self.game) (file_of (work_in c.restore.new.self) self.game) c.restore.ensures.still c.restore.ensures.others
+
+pub returns-clause-still : goal.returns-clause-still
+returns-clause-still g c = λ begun fault whole fails other. c.restore.ensures.others.closed ∙ fails.work.still other

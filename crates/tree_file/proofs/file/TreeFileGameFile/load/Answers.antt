@@ -14,8 +14,11 @@ use Rattle.tree_table.specs.Keeping.{IsKeptInTrees, StandsInTrees, slot_or_bare}
 use Rattle.tree_table.specs.aid.Standing.{still_then, was_honest}
 use Rattle.tree_file.specs.File.{file_of, state_of}
 use Rattle.tree_file.specs.InFile.{file_in}
+use Rattle.tree_file.specs.aid.Backed.{IsBackedFile, backed_still}
 use Rattle.tree_file.specs.aid.Whole.{again_whole}
-use Rattle.tree_file.proofs.Loading.{has_place, no_game, none_kept, nothing_put, so_refused, vacant, why_not_loaded}
+use Rattle.tree_table.specs.aid.Versions.{keeps_holds_then}
+use Rattle.game_file.specs.Faults.{of_table}
+use Rattle.tree_file.proofs.Loading.{has_place, no_game, none_kept, nothing_put, so_refused, some_kept, vacant, why_not_loaded}
 use Rattle.tree_file.proofs.Saving.{calm_sealed, not_put, put_now, put_whole, refused_ahead, same_disk}
 use Rattle.tree_file.proofs.file.TreeFileGameFile.load.Goals as goal
 
@@ -26,12 +29,12 @@ pub returns-in_err-text-clause-err : goal.returns-in_err-text-clause-err
 returns-in_err-text-clause-err g c = λ whole none.
     so_refused c.from_residual.result (nothing_put (file_in c.args.self.now) (kept_as c.args.text.now c.args.packing (points_of c.args.goal) (loaded c.args.start.now.items)) whole)
 
-pub returns-then-LAYOUT-clause-err : goal.returns-then-LAYOUT-clause-err
-returns-then-LAYOUT-clause-err g c = λ whole none.
+pub returns-then-not-has_place-clause-err : goal.returns-then-not-has_place-clause-err
+returns-then-not-has_place-clause-err g c = λ whole none.
     nothing_put (file_in c.args.self.now) (kept_as c.args.text.now c.args.packing (points_of c.args.goal) (loaded c.args.start.now.items)) whole
 
 pub start-requires-clause-place : goal.start-requires-clause-place
-start-requires-clause-place g c = subst (λ (n : ℕ). HasPlaceFor n (number_of_goal (points_of c.args.goal))) (sym c.args.self.now.of_layout) (has_place g.row.LAYOUT c.args.goal c.if-LAYOUT.false)
+start-requires-clause-place g c = subst (λ (n : ℕ). HasPlaceFor n (number_of_goal (points_of c.args.goal))) (sym c.args.self.now.of_layout) (has_place g.row.LAYOUT c.args.goal (c.has_place.ensures.0 c.if-not-has_place.false))
 
 pub invariant_of-self : goal.invariant_of-self
 invariant_of-self g c =
@@ -145,3 +148,38 @@ pub returns-in-Err-clause-ahead : goal.returns-in-Err-clause-ahead
 returns-in-Err-clause-ahead g c =
     refused_ahead (file_in c.args.self.now) (work_in c.start.new.self).store (file_of (work_in c.restore.new.self) c.args.self.now.game) c.start.ensures.time c.start.ensures.same_size
     c.start.ensures.failures c.start.ensures.same_pages c.start.ensures.closes c.restore.ensures.others c.restore.ensures.still
+
+pub returns-then-is_some-clause-err : goal.returns-then-is_some-clause-err
+returns-then-is_some-clause-err g c = λ whole none.
+    nothing_put (file_in c.args.self.now) (kept_as c.args.text.now c.args.packing (points_of c.args.goal) (loaded c.args.start.now.items)) whole
+
+pub returns-then-is_some-clause-cause : goal.returns-then-is_some-clause-cause
+returns-then-is_some-clause-cause g c = λ whole none is_open. absurd (some_kept (file_in c.args.self.now) (sym c.if-is_some.ensures) none)
+
+pub restore-requires-clause-sealed : goal.restore-requires-clause-sealed
+restore-requires-clause-sealed g c = λ p is. c.args.self.now.sealed p (c.in-Err.ensures.left.waiting p is)
+
+pub restore-requires-clause-stands : goal.restore-requires-clause-stands
+restore-requires-clause-stands g c =
+    let self = c.args.self.now in
+    let was : IsBackedFile g.row.LAYOUT self.commits (file_of (work_in self.table) self.game) = record
+    { of_layout = self.of_layout; counted = self.counted; sized = self.sized; sealed = self.sealed; stands = self.stands } in
+    (backed_still g.row.LAYOUT self.commits (file_of (work_in self.table) self.game) (file_of (work_in c.start.new.self) self.game) was c.in-Err.ensures.left
+    c.in-Err.ensures.kept_text refl).stands
+
+pub invariant_of-self-in-Err : goal.invariant_of-self-in-Err
+invariant_of-self-in-Err g c =
+    let self = c.args.self.now in
+    let was : IsBackedFile g.row.LAYOUT self.commits (file_of (work_in self.table) self.game) = record
+    { of_layout = self.of_layout; counted = self.counted; sized = self.sized; sealed = self.sealed; stands = self.stands } in
+    let is = backed_still g.row.LAYOUT self.commits (file_of (work_in self.table) self.game) (file_of (work_in c.restore.new.self) self.game) was
+    (still_then c.in-Err.ensures.left c.restore.ensures.still) (c.restore.ensures.text ∙ c.in-Err.ensures.kept_text) refl in
+    record { counted = is.counted; sized = is.sized; sealed = is.sealed; of_layout = is.of_layout; stands = is.stands }
+
+pub returns-in-Err-clause-lasts : goal.returns-in-Err-clause-lasts
+returns-in-Err-clause-lasts g c =
+    keeps_holds_then (g.P.Pages.store c.args.self.now.table.store) (work_in c.start.new.self).store (work_in c.restore.new.self).store c.start.ensures.held
+    c.restore.ensures.held
+
+pub returns-in-Err-clause-still : goal.returns-in-Err-clause-still
+returns-in-Err-clause-still g c = λ other. c.restore.ensures.others.closed ∙ c.in-Err.ensures.still (λ disk. other (c.into.ensures ∙ ap of_table disk))

@@ -3,6 +3,7 @@ use Rattle.tree_file.specs.File.{file_of}
 use Rattle.tree_table.specs.InTrees.{work_in}
 use Rattle.tree_file.specs.aid.Backed.{IsBackedFile, backed_still}
 use Rattle.tree_table.specs.aid.Standing.{works_still}
+use Rattle.tree_file.proofs.Passing.{files_fail}
 use Rattle.tree_file.proofs.working.TreeFileTable.record.Goals as goal
 
 pub invariant_of-self : goal.invariant_of-self
@@ -13,3 +14,6 @@ invariant_of-self g c =
     let is = backed_still g.row.LAYOUT self.commits (file_of (work_in self.table) self.game) (file_of (work_in c.record.new.self) self.game) was
     (works_still c.record.ensures.stays.works) c.record.ensures.stays.text refl in
     record { of_layout = is.of_layout; counted = is.counted; sized = is.sized; sealed = is.sealed; stands = is.stands }
+
+pub returns-clause-fault : goal.returns-clause-fault
+returns-clause-fault g c = files_fail c.«record».result (work_in c.args.self.now.table) (work_in c.«record».new.self) c.args.self.now.game c.«record».ensures.fault
