@@ -2,6 +2,7 @@
 ghost use Rattle.std.specs.Prelude.{◌≤◌, IfErr, IfOk};
 ghost use Rattle.game_file.specs.Calls.{IsCreatedFile, IsOpenedFile};
 ghost use Rattle.game_file.specs.Causes.{FileCreateCause, FileOpenCause};
+ghost use Rattle.game_file.specs.Kept.{in_any};
 
 use game_file::{FileFault, GameFile, Refused};
 use sector_disk::SectorDisk;
@@ -40,7 +41,7 @@ pub fn refused_opening<F: GameFile>(
     pages: usize,
 ) -> Result<F, Refused<F::Device>>
     requires { pages ≤ 64 }
-    ensures { IfErr result (λ back. FileOpenCause F.stores F.is_older (F.Device.disk from) (F.Device.failures from)
+    ensures { IfErr result (λ back. FileOpenCause (in_any F.stores) F.is_older (F.Device.disk from) (F.Device.failures from)
         (F.Device.failures back.disk) back.fault) }
 {
     F::open_with_cache(alloc, from, pages)
