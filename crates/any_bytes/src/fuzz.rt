@@ -152,7 +152,7 @@ where
 {
     match FileSolver::<F>::create(alloc, disk) {
         Ok(mut solver) => {
-            let is_loaded = solver.load(text).is_ok();
+            let is_loaded = solver.load(text, None).is_ok();
             let _ = solver.close();
             Ok(is_loaded)
         }

@@ -189,7 +189,7 @@ fn answer_to<F: GameFile>(
 ) -> Result<(), SolverFault> {
     let rows = units(256)?;
     let told = match step {
-        Step::Load => solver.load(text).map(|()| println!(rt; "loaded")),
+        Step::Load => solver.load(text, None).map(|()| println!(rt; "loaded")),
         Step::Work(count) => {
             let worked = solver.work(units(count)?)?;
             Ok(println!(rt; "{worked:?}"))

@@ -38,7 +38,7 @@ fn load_and_work<F: GameFile>(
     text: &[u8],
     times: u64,
 ) -> Result<(), SolverFault> {
-    solver.load(text)?;
+    solver.load(text, None)?;
     for _ in 0..times {
         if let Some(units) = Units::new(256) {
             solver.work(units)?;

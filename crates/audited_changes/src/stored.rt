@@ -13,7 +13,7 @@ use table_work::MAX_POSITIONS;
 use tree_file::TreeFile;
 
 /// A table in a file on a disk in memory.
-type File = TreeFile<PageStore<MemDisk>>;
+type File = TreeFile<PageStore<MemDisk>, 3>;
 
 /// The sectors of a disk that holds a small table.
 const SECTORS: u64 = 2048;
@@ -90,7 +90,7 @@ fn disk_of(alloc: Global, text: &[u8], parts: &Parts) -> anyhow::Result<Option<M
     if text.len() > 65_536 {
         return Ok(None);
     }
-    file.load(text, PackingKind::Bits, start)?;
+    file.load(text, PackingKind::Bits, None, start)?;
     put_records(&mut file, parts)?;
     put_edges(&mut file, parts)?;
     match file.commit() {

@@ -61,30 +61,30 @@ its_game (Some was) kept some = (was, refl, same_Some (kept_in was) kept some)
 module _ (was mid new : FlatFile) (kept : Kept) (now : Stored (List ℕ)) (whole : IsFile was) (is : kept_of was.game ≡ Some kept) (same : IsUnwrittenFile was mid) where
   -- the draft is put in the place of what was kept
   pub committed : {X E None_left : Type 0} (r : Result X E) → None_left → OnOk r (commits_in new.store.root ≡ count_behind (commits_in mid.store.root))
-      → ((g : Game) → mid.game ≡ Some g → IsFile mid → OnOk r (IsPutInFile (kept_as g.text.items g.packing now) mid new))
-      → OnOk r ((IsFile new × None_left) × IsPut Stores (kept_as kept.text kept.packing now) (state_of was) (state_of new))
+      → ((g : Game) → mid.game ≡ Some g → IsFile mid → OnOk r (IsPutInFile (kept_as g.text.items g.packing None now) mid new))
+      → OnOk r ((IsFile new × None_left) × IsPut Stores (kept_as kept.text kept.packing kept.goal now) (state_of was) (state_of new))
   committed r none counts put =
       let (g, has, keeps) = its_game mid.game kept (same.kept ∙ is) in
-      let same_kept : kept_as g.text.items g.packing now ≡ kept_as kept.text kept.packing now = ap (λ (k : Kept). kept_as k.text k.packing now) keeps in
+      let same_kept : kept_as g.text.items g.packing None now ≡ kept_as kept.text kept.packing kept.goal now = ap (λ (k : Kept). kept_as k.text k.packing k.goal now) keeps in
       both_ok r
       (λ count it. (
         (it.stands, none),
-        subst (λ (s : State). IsPut Stores (kept_as kept.text kept.packing now) s (state_of new)) (same_state was mid same)
+        subst (λ (s : State). IsPut Stores (kept_as kept.text kept.packing kept.goal now) s (state_of new)) (same_state was mid same)
             (subst (λ (k : Kept). IsPut Stores k (state_of mid) (state_of new)) same_kept (put_whole _ mid new count it)),
       ))
       counts (put g has (same.stands whole))
 
   -- or it is not
   pub not_committed : {X E None_left : Type 0} (r : Result X E) → None_left → OnErr r (new.store.root ≡ mid.store.root)
-      → ((g : Game) → mid.game ≡ Some g → IsFile mid → OnErr r (IsNotPutInFile (kept_as g.text.items g.packing now) mid new))
-      → OnErr r ((IsFile new × None_left) × IsNotPut Stores (kept_as kept.text kept.packing now) (state_of was) (state_of new))
+      → ((g : Game) → mid.game ≡ Some g → IsFile mid → OnErr r (IsNotPutInFile (kept_as g.text.items g.packing None now) mid new))
+      → OnErr r ((IsFile new × None_left) × IsNotPut Stores (kept_as kept.text kept.packing kept.goal now) (state_of was) (state_of new))
   not_committed r none roots left =
       let (g, has, keeps) = its_game mid.game kept (same.kept ∙ is) in
-      let same_kept : kept_as g.text.items g.packing now ≡ kept_as kept.text kept.packing now = ap (λ (k : Kept). kept_as k.text k.packing now) keeps in
+      let same_kept : kept_as g.text.items g.packing None now ≡ kept_as kept.text kept.packing kept.goal now = ap (λ (k : Kept). kept_as k.text k.packing k.goal now) keeps in
       both_err r
       (λ root it. (
         (it.stands, none),
-        subst (λ (s : State). IsNotPut Stores (kept_as kept.text kept.packing now) s (state_of new)) (same_state was mid same)
+        subst (λ (s : State). IsNotPut Stores (kept_as kept.text kept.packing kept.goal now) s (state_of new)) (same_state was mid same)
             (subst (λ (k : Kept). IsNotPut Stores k (state_of mid) (state_of new)) same_kept (not_put_whole _ mid new root it)),
       ))
       roots (left g has (same.stands whole))
@@ -101,7 +101,7 @@ module _ (was mid new : FlatFile) (kept : Kept) (now : Stored (List ℕ)) (whole
       fits_of (Some h) games some = subst (λ (x : Game). FitsTogether x.packed (kept_in x).table) (same_Some h g some) games.fits
 
   commit_cause : (g : Game) → IsFile mid → mid.game ≡ Some g → kept_in g ≡ kept → (fault : FileFault)
-      → PutCause (kept_as g.text.items g.packing now) g.packed mid.store new.store fault → FileCommitCause kept.table now (state_of mid) (state_of new) fault
+      → PutCause (kept_as g.text.items g.packing None now) g.packed mid.store new.store fault → FileCommitCause kept.table now (state_of mid) (state_of new) fault
   commit_cause g it has keeps Disk cause = cause
   commit_cause g it has keeps NotATable cause = cause
   commit_cause g it has keeps AlreadyATable cause = cause
@@ -114,7 +114,7 @@ module _ (was mid new : FlatFile) (kept : Kept) (now : Stored (List ℕ)) (whole
   commit_cause g it has keeps Inconsistent cause = λ honest. unfit g it has keeps cause
 
   pub why_not_committed : {X : Type 0} (r : Result X FileFault)
-      → ((g : Game) → mid.game ≡ Some g → IsFile mid → IfErr r (PutCause (kept_as g.text.items g.packing now) g.packed mid.store new.store))
+      → ((g : Game) → mid.game ≡ Some g → IsFile mid → IfErr r (PutCause (kept_as g.text.items g.packing None now) g.packed mid.store new.store))
       → IfErr r (FileCommitCause kept.table now (state_of was) (state_of new))
   why_not_committed r why =
       let (g, has, keeps) = its_game mid.game kept (same.kept ∙ is) in
@@ -125,15 +125,15 @@ module _ (was mid new : FlatFile) (kept : Kept) (now : Stored (List ℕ)) (whole
 
 -- nothing is put where a draft could not be made
 pub not_begun : {X E None_left : Type 0} (r : Result X E) (was mid : FlatFile) (kept : Kept) (now : Stored (List ℕ)) → IsFile was → IsUnwrittenFile was mid → None_left
-    → OnErr r ((IsFile mid × None_left) × IsNotPut Stores (kept_as kept.text kept.packing now) (state_of was) (state_of mid))
+    → OnErr r ((IsFile mid × None_left) × IsNotPut Stores (kept_as kept.text kept.packing kept.goal now) (state_of was) (state_of mid))
 not_begun r was mid kept now whole same none =
     let it = same.stands whole in
     so_refused r
-    ((it, none), subst (λ (s : State). IsNotPut Stores (kept_as kept.text kept.packing now) s (state_of mid)) (same_state was mid same) (not_put_whole _ mid mid refl (nothing_put _ mid it)))
+    ((it, none), subst (λ (s : State). IsNotPut Stores (kept_as kept.text kept.packing kept.goal now) s (state_of mid)) (same_state was mid same) (not_put_whole _ mid mid refl (nothing_put _ mid it)))
 
 -- a first table is not loaded
 pub load_cause : (text : List ℕ) (kind : PackingKind) (start : List ℕ) (old new : FlatFile) → IsFile old → kept_of old.game ≡ None → old.store.closed ≡ false → (fault : FileFault)
-    → PutCause (kept_as text kind (loaded start)) (length start) old.store new.store fault → FileLoadCause start (state_of old) (state_of new) fault
+    → PutCause (kept_as text kind None (loaded start)) (length start) old.store new.store fault → FileLoadCause start (state_of old) (state_of new) fault
 load_cause text kind start old new it none is_open Disk cause = cause
 load_cause text kind start old new it none is_open NotATable cause = cause
 load_cause text kind start old new it none is_open AlreadyATable cause = cause

@@ -69,10 +69,10 @@ works_ahead old new works = record { goes_on = works.goes_on; same_size = works.
 
 -- a stop within work leaves the table that was there
 pub works_leaves : (pages : List ℕ) (old new : Store) (was : Option Kept) → IsSoundStore old → IsBacked old pages was → IsTrue old.disk.honest → old.closed ≡ false → StoreWorks old new
-    → LeavesTable Stores old.disk new.disk was
+    → LeavesTable (Stores (length old.marks)) old.disk new.disk was
 works_leaves pages old new was sound backed honest was_open works = leaves_more stores (works.leaves honest (sound.safe honest was_open))
   where
-    stores : (picture : Picture) → Saved old picture → Stores picture was
+    stores : (picture : Picture) → Saved old picture → Stores (length old.marks) picture was
     stores picture saved = spells_stores old.root (length old.marks) was picture backed.room sound.few (saved_spells old (backed.stands honest was_open) picture saved)
 
 -- why the chain is not written is why the table is not saved
@@ -172,7 +172,7 @@ module _ (pages : List ℕ) (kind : PackingKind) (sizes : Sizes) (bytes : List �
     | inr closed ↦ backed_closed pages old new was backed (works.same_pages ∙ left.ahead.same_pages) (others.closed ∙ closed)
   ]
 
-  pub left_kept : IsSoundStore old → (was : Option Kept) → IsBacked old pages was → IsTrue old.disk.honest → new.closed ≡ false → LeavesTable Stores old.disk new.disk was
+  pub left_kept : IsSoundStore old → (was : Option Kept) → IsBacked old pages was → IsTrue old.disk.honest → new.closed ≡ false → LeavesTable (Stores (length old.marks)) old.disk new.disk was
   left_kept sound was backed honest open_ = elim left.left [
     | inl did ↦ works_leaves pages old new was sound backed honest (left.ahead.closed (works.closed open_)) (works_then did works)
     | inr closed ↦ absurd (both _ open_ (others.closed ∙ closed))

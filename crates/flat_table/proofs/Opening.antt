@@ -10,7 +10,8 @@ use Rattle.page_store.specs.Store.{Store, IsOpened as IsFound, reads}
 use Rattle.flat_table.specs.declared.game.Game.{Game}
 use Rattle.flat_table.specs.File.{IsBacked, kept_of, pages_of}
 use Rattle.flat_table.specs.Held.{KeepsTable, capacity_of, Stores, IsOlder}
-use Rattle.game_file.specs.Kept.{Kept}
+use Rattle.flat_table.specs.aid.StoredLaws.{keeps_in_more}
+use Rattle.game_file.specs.Kept.{Kept, in_any}
 use Rattle.flat_table.specs.ReadCauses.{GameReadCause}
 use Rattle.game_file.specs.Calls.{IsOpenedFile}
 use Rattle.game_file.specs.Causes.{FileOpenCause}
@@ -56,7 +57,7 @@ module _ (disk : Disk) (count : ℕ) (found now : Store) (at_first : IsFound dis
       (leaves_more (left_before (at_first.same honest)) (read.leaves (still_honest at_first.goes_on honest)))
 
   -- what is in memory is what the disk stores
-  stored : (game : Option Game) → IsBacked now (pages_of game) (kept_of game) → IsTrue disk.honest → Stores disk.now.contents (kept_of game)
+  stored : (game : Option Game) → IsBacked now (pages_of game) (kept_of game) → IsTrue disk.honest → Stores (length now.marks) disk.now.contents (kept_of game)
   stored game backed honest =
       let here = still_honest at_first.goes_on honest in
       let same : now.disk.now.contents ≡ disk.now.contents = ap (λ (s : Shown). s.contents) (read.shown here) ∙ (at_first.same honest).contents in
@@ -65,38 +66,38 @@ module _ (disk : Disk) (count : ℕ) (found now : Store) (at_first : IsFound dis
       record {
         root = now.root;
         holds = subst (λ (root : List ℕ). HoldsRoot root disk.now.contents) (sym read.root) (at_first.root honest);
-        room = omega (arith, capacity, backed.room);
-        keeps = subst (λ (n : ℕ). KeepsTable now.root n (kept_of game) (bytes_of disk.now.contents)) capacity
-            (stands.spelled.anywhere (bytes_of disk.now.contents) (λ p here. ap (λ (picture : Picture). bytes_of picture p) (sym same)));
+        least = backed.room;
+        room = omega (arith, capacity);
+        keeps = stands.spelled.anywhere (bytes_of disk.now.contents) (λ p here. ap (λ (picture : Picture). bytes_of picture p) (sym same));
       }
 
   pub opened : (game : Option Game) → IsBacked now (pages_of game) (kept_of game) → IsOpenedFile Stores disk count (state_of (file_of now game))
   opened game backed = record {
     from = from;
-    capacity = read.same_pages ∙ at_first.capacity;
     is_open = read.closed ∙ at_first.closed;
     stored = stored game backed;
     leaves = leaves;
   }
 
   -- what the disk stores is what its slot and pages keep
-  kept_there : (kept : Option Kept) → IsTrue disk.honest → Stores disk.now.contents kept → KeepsTable found.root (length found.marks) kept (reads found)
-  kept_there kept honest stores =
+  kept_there : (pages : ℕ) (kept : Option Kept) → IsTrue disk.honest → Stores pages disk.now.contents kept → KeepsTable found.root (length found.marks) kept (reads found)
+  kept_there pages kept honest stores =
       let same_root : stores.root ≡ found.root = sym stores.holds.is ∙ (at_first.root honest).is in
       let same : disk.now.contents ≡ found.disk.now.contents = sym (at_first.same honest).contents in
       subst (λ (picture : Picture). KeepsTable found.root (length found.marks) kept (bytes_of picture)) same
       (subst (λ (n : ℕ). KeepsTable found.root n kept (bytes_of disk.now.contents)) (sym at_first.capacity)
-      (subst (λ (root : List ℕ). KeepsTable root (capacity_of disk.now.contents) kept (bytes_of disk.now.contents)) same_root stores.keeps))
+      (subst (λ (root : List ℕ). KeepsTable root (capacity_of disk.now.contents) kept (bytes_of disk.now.contents)) same_root
+      (keeps_in_more stores.root pages (capacity_of disk.now.contents) kept (bytes_of disk.now.contents) stores.room stores.keeps)))
 
   -- why it is not opened
-  pub open_cause : (fault : PageFault) → GameReadCause found now fault → FileOpenCause Stores IsOlder disk count now.failures (of_pages fault)
+  pub open_cause : (fault : PageFault) → GameReadCause found now fault → FileOpenCause (in_any Stores) IsOlder disk count now.failures (of_pages fault)
   open_cause page.Disk cause = grew_from at_first.failures cause
   open_cause page.NotATable cause = absurd cause
   open_cause page.Damaged cause = λ honest. (
     (at_first.root honest).table,
-    λ kept stores.
-        let less = cause (still_honest at_first.goes_on honest) at_first.marks kept (kept_there kept honest stores) in
-        omega (arith, less, stores.room, at_first.capacity),
+    λ kept (pages, stores).
+        let less = cause (still_honest at_first.goes_on honest) at_first.marks kept (kept_there pages kept honest stores) in
+        omega (arith, less, stores.least, stores.room, at_first.capacity),
     λ older. older,
   )
   open_cause page.TableFull cause = absurd cause

@@ -67,6 +67,7 @@ abbrev pub keeps_game : (root : List ℕ) (capacity : ℕ) (pages bytes : List �
 keeps_game root capacity pages bytes kind sizes kept read slot it chain = record {
   layout = slot.layout;
   packing = slot.packing ∙ ap number_of_packing (sym it.packing);
+  no_goal = it.no_goal;
   limits = subst (λ (s : Sizes). AreWithinLimits s) (sym slot.sizes) it.limits;
   pages = pages;
   content = bytes;
@@ -94,11 +95,11 @@ module _ (was_pages pages bytes root : List ℕ) (kind : PackingKind) (sizes : S
   }
 
   stores_one : (picture : Picture) → Spells old.root (length old.marks) (KeepsTable old.root (length old.marks) was) picture ⊎ Spells root (length old.marks) (KeepsTable root (length old.marks) (Some is)) picture
-      → Stores picture was ⊎ Stores picture (Some is)
+      → Stores (length old.marks) picture was ⊎ Stores (length old.marks) picture (Some is)
   stores_one picture (inl spells) = inl (spells_stores old.root (length old.marks) was picture backed.room sound.few spells)
   stores_one picture (inr spells) = inr (spells_stores root (length old.marks) (Some is) picture backed.room sound.few spells)
 
-  pub commit_leaves : Commits root mid new → IsTrue old.disk.honest → LeavesEither Stores old.disk new.disk was (Some is)
+  pub commit_leaves : Commits root mid new → IsTrue old.disk.honest → LeavesEither (Stores (length old.marks)) old.disk new.disk was (Some is)
   commit_leaves commits honest =
       leaves_more stores_one (commit_carries root old mid new honest (sound.safe honest was_open) (old_stands honest) exchanged.works (prepared honest) commits).stop
 

@@ -1,5 +1,5 @@
 -- A text and a table in the place of others, or not.
-use Rattle.std.proofs.Common.{◌≡◌, ◌⊎◌, inl, inr, false, Option, Some, IsTrue, refl, sym, ap, subst}
+use Rattle.std.proofs.Common.{◌≡◌, ◌⊎◌, inl, inr, false, Option, Some, IsTrue, length, refl, sym, ap, subst}
 use Rattle.sector_disk.specs.aid.Moments.{leaves_now}
 use Rattle.page_store.specs.Store.{Store, IsSoundStore}
 use Rattle.flat_table.specs.declared.game.Game.{Game}
@@ -8,7 +8,7 @@ use Rattle.flat_table.specs.File.{FlatFile, IsFile, IsGame, IsBacked, kept_in, k
 use Rattle.game_file.specs.Kept.{Kept}
 use Rattle.flat_table.specs.aid.StoredLaws.{a_file_is_kept}
 use Rattle.game_file.specs.Calls.{IsPut, IsNotPut}
-use Rattle.game_file.specs.Kept.{counts_kept, packing_kept, text_kept}
+use Rattle.game_file.specs.Kept.{counts_kept, goal_kept, packing_kept, text_kept}
 use Rattle.game_file.specs.State.{count_behind}
 use Rattle.flat_table.specs.Slot.{commits_in}
 use Rattle.game_file.specs.Stops.{LeavesEither, LeavesTable}
@@ -27,8 +27,8 @@ nothing_put is file it = record {
 
 -- a refused save keeps it
 pub left_in_place : (is : Kept) (old new : Store) (game : Option Game) → IsFile (file_of old game) → IsSoundStore new → IsBacked new (pages_of game) (kept_of game)
-    → (IsTrue old.disk.honest → new.closed ≡ false → LeavesTable Stores old.disk new.disk (kept_of game))
-    → (IsTrue old.disk.honest → old.closed ≡ false → LeavesEither Stores old.disk new.disk (kept_of game) (Some is))
+    → (IsTrue old.disk.honest → new.closed ≡ false → LeavesTable (Stores (length old.marks)) old.disk new.disk (kept_of game))
+    → (IsTrue old.disk.honest → old.closed ≡ false → LeavesEither (Stores (length old.marks)) old.disk new.disk (kept_of game) (Some is))
     → (old.closed ≡ false) ⊎ (new.disk ≡ old.disk) → IsNotPutInFile is (file_of old game) (file_of new game)
 left_in_place is old new game it sound backed kept either untouched = record {
   stands = record { sound = sound; games = it.games; backed = backed };
@@ -40,7 +40,7 @@ left_in_place is old new game it sound backed kept either untouched = record {
 
 -- a save that is done puts the other there
 pub put_in_place : (is : Kept) (old new : Store) (game : Option Game) (now : Game) → IsSoundStore new → kept_in now ≡ is → IsGame now → IsBacked new now.pages.items (Some is)
-    → new.closed ≡ false → (IsTrue old.disk.honest → LeavesEither Stores old.disk new.disk (kept_of game) (Some is)) → IsPutInFile is (file_of old game) (file_of new (Some now))
+    → new.closed ≡ false → (IsTrue old.disk.honest → LeavesEither (Stores (length old.marks)) old.disk new.disk (kept_of game) (Some is)) → IsPutInFile is (file_of old game) (file_of new (Some now))
 put_in_place is old new game now sound same fits backed is_open either = record {
   stands = record {
     sound = sound;
@@ -59,6 +59,7 @@ put_whole is old new commits put = record {
   commits = commits;
   text = ap text_kept put.kept;
   packing = ap packing_kept put.kept;
+  goal = ap goal_kept put.kept;
   kept = λ honest. put.kept;
   is_open = put.is_open;
   leaves = put.leaves;
@@ -70,6 +71,7 @@ not_put_whole is old new root left = record {
   counts = ap (λ (game : Option Game). counts_kept (kept_of game)) left.game;
   text = ap (λ (game : Option Game). text_kept (kept_of game)) left.game;
   packing = ap (λ (game : Option Game). packing_kept (kept_of game)) left.game;
+  goal = ap (λ (game : Option Game). goal_kept (kept_of game)) left.game;
   kept = λ honest. ap kept_of left.game;
   leaves = left.leaves;
   either = left.either;

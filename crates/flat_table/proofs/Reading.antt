@@ -1,5 +1,5 @@
 -- What a chain that the slot names gives, and why it gives nothing.
-use Rattle.std.proofs.Common.{◌≡◌, ℕ, ◌≤◌, List, Option, None, Some, length, Contains, IsTrue, sym, ◌∙◌, ap, subst, arith}
+use Rattle.std.proofs.Common.{◌≡◌, ℕ, ◌≤◌, List, Option, None, Some, length, Contains, IsTrue, refl, sym, ◌∙◌, ap, subst, arith}
 use Rattle.page_store.specs.declared.fault.PageFault.{PageFault}
 use Rattle.page_store.specs.declared.fault.PageFault.TheVariants.{Disk, NotATable, Damaged, TableFull, OutOfMemory, Closed}
 use Rattle.page_store.specs.declared.marks.Mark.TheVariants.{Committed, Waiting}
@@ -79,6 +79,7 @@ module _ (old : Store) (slot : GameSlot) (says : SaysGame old.root slot) where
     keeps_read game is honest = record {
       layout = says.layout;
       packing = says.packing ∙ ap number_of_packing (sym is.packing);
+      no_goal = refl;
       limits = says.limits;
       pages = pages;
       content = content;

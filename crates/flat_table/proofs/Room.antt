@@ -1,5 +1,5 @@
 -- How much room a game that is loaded takes.
-use Rattle.std.proofs.Common.{◌≡◌, ◌+◌, ◌*◌, ◌<◌, ◌≤◌, ℕ, false, true, List, [], ◌∷◌, length, Contains, refl, sym, ◌∙◌, ap, arith}
+use Rattle.std.proofs.Common.{◌≡◌, ◌+◌, ◌*◌, ◌<◌, ◌≤◌, ℕ, false, true, List, [], ◌∷◌, length, None, Contains, refl, sym, ◌∙◌, ap, arith}
 use Rattle.page_store.specs.declared.marks.Mark.{Mark}
 use Rattle.page_store.specs.declared.marks.Mark.TheVariants.{Free}
 use Rattle.page_store.specs.Marks.{mark}
@@ -15,7 +15,7 @@ no_edges [] only = refl
 no_edges ((i, p) ∷ edges) only = absurd (let is = only i p (0, omega arith, refl) in cc)
 
 -- a game that was just loaded is too long for fewer than 24 pages alone
-pub loading_room : (text : List ℕ) (kind : PackingKind) (start : List ℕ) (marks : List Mark) → ((p : ℕ) → 1 ≤ p → p < length marks → mark marks p ≡ Free) → IsTooLong (kept_as text kind (loaded start)) marks → length marks < 24
+pub loading_room : (text : List ℕ) (kind : PackingKind) (start : List ℕ) (marks : List Mark) → ((p : ℕ) → 1 ≤ p → p < length marks → mark marks p ≡ Free) → IsTooLong (kept_as text kind None (loaded start)) marks → length marks < 24
 loading_room text kind start marks free it =
     let spells = it.spells in
     let known : it.sizes.counts.known ≡ 1 = sym spells.known in

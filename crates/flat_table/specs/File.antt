@@ -18,9 +18,9 @@ pub record FlatFile : Type 0 where
   pub store : Store
   pub game : Option Game
 
--- the text, the packing and the table that are in memory
+-- the text, the packing and the table that are in memory, and no goal
 abbrev pub kept_in : Game → Kept
-kept_in game = record { text = game.text.items; packing = game.packing; table = stored_in game.table }
+kept_in game = record { text = game.text.items; packing = game.packing; goal = None; table = stored_in game.table }
 
 -- the text, the packing and the table, if a game is loaded
 abbrev pub kept_of : Option Game → Option Kept

@@ -13,11 +13,12 @@ pub use Rattle.root_slot.specs.Fields.{capacity_of}
 use Rattle.flat_table.specs.Slot.{layout_in, packing_in, number_of_packing, first_in, sizes_in, IsEmptySlot}
 use Rattle.page_store.specs.declared.limits.TheConstants.{MIN_PAGES}
 
--- the slot names the packing, and the chain of pages that it names spells the text and a table whose parts fit together, and the slot
--- counts it right
+-- the slot names the packing, there is no goal, since this layout has no place for one, and the chain of pages that the slot names spells
+-- the text and a table whose parts fit together, which the slot counts right
 pub record KeepsGame (root : List ℕ) (capacity : ℕ) (kept : Kept) (bytes : ℕ → List ℕ) : Type 0 where
   pub layout : layout_in root ≡ 1
   pub packing : packing_in root ≡ number_of_packing kept.packing
+  pub no_goal : kept.goal ≡ None
   pub limits : AreWithinLimits (sizes_in root)
   pub pages : List ℕ
   pub content : List ℕ
@@ -31,13 +32,14 @@ abbrev pub KeepsTable : List ℕ → ℕ → Option Kept → (ℕ → List ℕ) 
 KeepsTable root capacity None bytes = IsEmptySlot root
 KeepsTable root capacity (Some kept) bytes = KeepsGame root capacity kept bytes
 
--- the picture is a table of 16 pages or more: it begins as each does, its gate picks a slot, and what that slot and
--- the pages named from it spell is this
-pub record Stores (picture : Picture) (kept : Option Kept) : Type 0 where
+-- the picture is a table in so many pages, 16 or more, for which it has room: it begins as each does, its gate picks a slot, and what that
+-- slot and the pages named from it spell is this. A slot of this layout does not say how many pages there are
+pub record Stores (pages : ℕ) (picture : Picture) (kept : Option Kept) : Type 0 where
   pub root : List ℕ
   pub holds : HoldsRoot root picture
-  pub room : MIN_PAGES ≤ capacity_of picture
-  pub keeps : KeepsTable root (capacity_of picture) kept (page picture)
+  pub least : MIN_PAGES ≤ pages
+  pub room : pages ≤ capacity_of picture
+  pub keeps : KeepsTable root pages kept (page picture)
 
 -- no picture holds a table of an earlier layout: this one is the first
 abbrev pub IsOlder : Older

@@ -1,5 +1,5 @@
 -- What it is to put a table in the place of another.
-use Rattle.std.specs.Prelude.{◌≡◌, ℕ, ◌≤◌, false, List, length}
+use Rattle.std.specs.Prelude.{◌≡◌, ℕ, ◌≤◌, false, List, length, None}
 use Rattle.sector_disk.specs.Disk.{GoesOn, size}
 use Rattle.page_store.specs.Store.{Store, StoreCloses}
 use Rattle.position_pack.specs.declared.kind.PackingKind.{PackingKind}
@@ -10,9 +10,10 @@ use Rattle.record_bytes.specs.Numbers.{AreWithinLimits}
 use Rattle.table_bytes.specs.Spelled.{SpellsTable}
 use Rattle.game_file.specs.Kept.{Kept}
 
--- this packing, these sizes and these bytes are those of what is kept, whose parts fit together, and are within the limits
+-- this packing, these sizes and these bytes are those of what is kept, which has no goal, whose parts fit together, and are within the limits
 pub record AreBytesOf (kept : Kept) (kind : PackingKind) (sizes : Sizes) (bytes : List ℕ) : Type 0 where
   pub packing : kept.packing ≡ kind
+  pub no_goal : kept.goal ≡ None
   pub limits : AreWithinLimits sizes
   pub spells : SpellsTable sizes bytes kept.text kept.table
   pub table : IsTable kept.table

@@ -5,8 +5,8 @@ ghost use Rattle.root_pair.specs.Root.{HoldsRoot};
 ghost use Rattle.flat_table.specs.Slot.{commits_in};
 ghost use Rattle.game_file.specs.Calls.{IsOpenedFile, IsNotOpened};
 ghost use Rattle.game_file.specs.Causes.{FileOpenCause};
-ghost use Rattle.game_file.specs.Kept.{kept_as};
-ghost use Rattle.game_file.specs.State.{count_behind};
+ghost use Rattle.game_file.specs.Kept.{in_any, kept_as};
+ghost use Rattle.game_file.specs.State.{count_behind, pages_of as room_of};
 ghost use Rattle.flat_table.specs.declared.game.Game.{Game as Loaded};
 ghost use Rattle.flat_table.specs.File.{IsFile, kept_of, pages_of};
 ghost use Rattle.flat_table.specs.Held.{Stores, IsOlder};
@@ -29,6 +29,7 @@ use crate::slot::empty_slot;
 use game_file::{FileFault, GameFile, Refused};
 use page_store::{MOST_CACHED, PageStore, Pages};
 use position_pack::{Packed, PackingKind};
+use rbg_game::goal::Goal;
 use root_pair::create;
 use sector_disk::SectorDisk;
 use std::alloc::Global;
@@ -58,10 +59,11 @@ impl<D: SectorDisk> FlatTable<D> {
         requires { pages ≤ 64 }
         ensures whole { IfOk result (λ t. IsFile (file_in t) × (t.draft ≡ None)) }
         ensures ok { IfOk result (λ t. IsOpenedFile Stores (D.disk disk) (D.failures disk) (state_of (file_in t))) }
+        ensures capacity { IfOk result (λ t. (state_of (file_in t)).capacity ≡ room_of (D.disk disk)) }
         ensures root { IfOk result (λ t. IsTrue (D.disk disk).honest
             → HoldsRoot (file_in t).store.root (D.disk disk).now.contents) }
         ensures refused { IfErr result (λ back. IsNotOpened (D.disk disk) (D.failures disk) (D.disk back.disk) (D.failures back.disk)) }
-        ensures cause { IfErr result (λ back. FileOpenCause Stores IsOlder (D.disk disk) (D.failures disk)
+        ensures cause { IfErr result (λ back. FileOpenCause (in_any Stores) IsOlder (D.disk disk) (D.failures disk)
             (D.failures back.disk) back.fault) }
         ensures first { IfErr result (λ back. back.fault ≢ FileFault.OldLayout) }
     {
@@ -98,11 +100,11 @@ impl<D: SectorDisk> FlatTable<D> {
             ≡ count_behind (commits_in (file_in self.old).store.root)) }
         ensures root { OnErr result ((file_in self.new).store.root ≡ (file_in self.old).store.root) }
         ensures ok { (was : Loaded) → (file_in self.old).game ≡ Some was → IsFile (file_in self.old)
-            → OnOk result (IsPutInFile (kept_as was.text.items was.packing (stored_in table)) (file_in self.old) (file_in self.new)) }
+            → OnOk result (IsPutInFile (kept_as was.text.items was.packing None (stored_in table)) (file_in self.old) (file_in self.new)) }
         ensures err { (was : Loaded) → (file_in self.old).game ≡ Some was → IsFile (file_in self.old)
-            → OnErr result (IsNotPutInFile (kept_as was.text.items was.packing (stored_in table)) (file_in self.old) (file_in self.new)) }
+            → OnErr result (IsNotPutInFile (kept_as was.text.items was.packing None (stored_in table)) (file_in self.old) (file_in self.new)) }
         ensures cause { (was : Loaded) → (file_in self.old).game ≡ Some was → IsFile (file_in self.old)
-            → IfErr result (PutCause (kept_as was.text.items was.packing (stored_in table)) was.packed
+            → IfErr result (PutCause (kept_as was.text.items was.packing None (stored_in table)) was.packed
             (file_in self.old).store (file_in self.new).store) }
         ensures still { IfErr result (λ fault. fault ≢ FileFault.Disk
             → (file_in self.new).store.closed ≡ (file_in self.old).store.closed) }
@@ -133,11 +135,11 @@ impl<D: SectorDisk> FlatTable<D> {
             ≡ count_behind (commits_in (file_in self.old).store.root)) }
         ensures root { OnErr result ((file_in self.new).store.root ≡ (file_in self.old).store.root) }
         ensures ok { IsFile (file_in self.old)
-            → OnOk result (IsPutInFile (kept_as text.items packing (stored_in table)) (file_in self.old) (file_in self.new)) }
+            → OnOk result (IsPutInFile (kept_as text.items packing None (stored_in table)) (file_in self.old) (file_in self.new)) }
         ensures err { IsFile (file_in self.old)
-            → OnErr result (IsNotPutInFile (kept_as text.items packing (stored_in table)) (file_in self.old) (file_in self.new)) }
+            → OnErr result (IsNotPutInFile (kept_as text.items packing None (stored_in table)) (file_in self.old) (file_in self.new)) }
         ensures cause { IsFile (file_in self.old)
-            → IfErr result (PutCause (kept_as text.items packing (stored_in table)) packed (file_in self.old).store
+            → IfErr result (PutCause (kept_as text.items packing None (stored_in table)) packed (file_in self.old).store
             (file_in self.new).store) }
         ensures still { IfErr result (λ fault. fault ≢ FileFault.Disk
             → (file_in self.new).store.closed ≡ (file_in self.old).store.closed) }
@@ -173,11 +175,11 @@ impl<D: SectorDisk> GameFile for FlatTable<D> {
 
     ghost is_whole = { λ t. IsFile (file_in t) × (t.draft ≡ None) };
 
-    ghost stores_one = { λ picture one other first second. a_picture_stores_one_table picture one other first second };
+    ghost stores_one = { λ m n picture one other first second. a_picture_stores_one_table m n picture one other first second };
 
-    ghost older_stores_none = { λ picture kept older it. older };
+    ghost older_stores_none = { λ pages picture kept older it. older };
 
-    ghost stores_begins = { λ picture kept it. it.holds.table };
+    ghost stores_begins = { λ pages picture kept it. it.holds.table };
 
     ghost whole_leaves = { λ t whole honest is_open. a_file_is_kept (file_in t) whole.0 honest is_open };
 
@@ -238,11 +240,24 @@ impl<D: SectorDisk> GameFile for FlatTable<D> {
         }
     }
 
+    fn goal(&self) -> Option<Goal> {
+        None
+    }
+
     fn is_closed(&self) -> bool {
         self.store.is_closed()
     }
 
-    fn load(&mut self, text: &[u8], packing: PackingKind, start: &Packed) -> Result<(), FileFault> {
+    fn load(
+        &mut self,
+        text: &[u8],
+        packing: PackingKind,
+        goal: Option<Goal>,
+        start: &Packed,
+    ) -> Result<(), FileFault> {
+        if goal.is_some() {
+            return Err(FileFault::OutOfMemory);
+        }
         let table = MemTable::new(self.alloc, start)?;
         let text = text.to_vec(self.alloc)?;
         self.replace(text, packing, start.len() as u32, table)

@@ -1,5 +1,5 @@
 //! A text and a table in the place of others.
-ghost use Rattle.std.specs.Prelude.{◌≡◌, ◌≢◌, ◌≤◌, ◌^◌, Some, length, IfOk, IfErr, OnOk, OnErr};
+ghost use Rattle.std.specs.Prelude.{◌≡◌, ◌≢◌, ◌≤◌, ◌^◌, None, Some, length, IfOk, IfErr, OnOk, OnErr};
 ghost use Rattle.position_pack.specs.declared.kind.PackingKind.{PackingKind as Kind};
 ghost use Rattle.table.specs.Fitting.{FitsTogether};
 ghost use Rattle.table.specs.InMemory.{stored_in, counted_in};
@@ -46,13 +46,13 @@ pub fn put<P: Pages>(
     ensures commits { OnOk result (commits_in (P.store store.new).root ≡ commits) }
     ensures root { OnErr result ((P.store store.new).root ≡ (P.store store.old).root) }
     ensures ok { IsFile (file_of (P.store store.old) old.now)
-        → IfOk result (λ game. IsPutInFile (kept_as text.items packing (stored_in table)) (file_of (P.store store.old) old.now)
+        → IfOk result (λ game. IsPutInFile (kept_as text.items packing None (stored_in table)) (file_of (P.store store.old) old.now)
         (file_of (P.store store.new) (Some game))) }
     ensures err { IsFile (file_of (P.store store.old) old.now)
-        → IfErr result (λ _. IsNotPutInFile (kept_as text.items packing (stored_in table)) (file_of (P.store store.old) old.now)
+        → IfErr result (λ _. IsNotPutInFile (kept_as text.items packing None (stored_in table)) (file_of (P.store store.old) old.now)
         (file_of (P.store store.new) old.now)) }
     ensures cause { IsFile (file_of (P.store store.old) old.now)
-        → IfErr result (PutCause (kept_as text.items packing (stored_in table)) packed (P.store store.old) (P.store store.new)) }
+        → IfErr result (PutCause (kept_as text.items packing None (stored_in table)) packed (P.store store.old) (P.store store.new)) }
     ensures still { IfErr result (λ fault. fault ≢ FileFault.Disk → (P.store store.new).closed ≡ (P.store store.old).closed) }
 {
     let mut table = table;
@@ -91,8 +91,8 @@ fn bytes_of(
     ensures same { OnOk result (stored_in table.new ≡ stored_in table.old) }
     ensures fits { OnOk result (FitsTogether packed (stored_in table.new)) }
     ensures bytes { (kind : Kind)
-        → IfOk result (λ written. AreBytesOf (kept_as text.now kind (stored_in table.old)) kind written.sizes written.bytes.items) }
-    ensures cause { (kind : Kind) → IfErr result (BytesCause (kept_as text.now kind (stored_in table.old)) packed) }
+        → IfOk result (λ written. AreBytesOf (kept_as text.now kind None (stored_in table.old)) kind written.sizes written.bytes.items) }
+    ensures cause { (kind : Kind) → IfErr result (BytesCause (kept_as text.now kind None (stored_in table.old)) packed) }
 {
     if !table.fits(alloc, packed)? {
         return Err(FileFault::Inconsistent);

@@ -43,7 +43,7 @@ pub fn save<P: Pages>(
     ensures stop { (was : Option Kept) (is : Kept) → IsBacked (P.store store.old) old.now was
         → AreBytesOf is packing written.now.sizes written.now.bytes.items
         → IsTrue (P.store store.old).disk.honest → (P.store store.old).closed ≡ false
-        → LeavesEither Stores (P.store store.old).disk (P.store store.new).disk was (Some is) }
+        → LeavesEither (Stores (length (P.store store.old).marks)) (P.store store.old).disk (P.store store.new).disk was (Some is) }
     ensures done { (was : Option Kept) (is : Kept) → IsBacked (P.store store.old) old.now was
         → AreBytesOf is packing written.now.sizes written.now.bytes.items
         → IfOk result (λ pages. IsBacked (P.store store.new) pages.items (Some is)) }
@@ -55,7 +55,7 @@ pub fn save<P: Pages>(
         → OnErr result (IsBacked (P.store store.new) old.now was) }
     ensures kept { (was : Option Kept) → IsBacked (P.store store.old) old.now was
         → IsTrue (P.store store.old).disk.honest → OnErr result ((P.store store.new).closed ≡ false
-        → LeavesTable Stores (P.store store.old).disk (P.store store.new).disk was) }
+        → LeavesTable (Stores (length (P.store store.old).marks)) (P.store store.old).disk (P.store store.new).disk was) }
     ensures untouched { (P.store store.old).closed ≡ false ⊎ ((P.store store.new).disk ≡ (P.store store.old).disk) }
     ensures still { IfErr result (λ fault. fault ≢ PageFault.Disk → (P.store store.new).closed ≡ (P.store store.old).closed) }
     ensures cause { IfErr result (SaveCause (length written.now.bytes.items) (P.store store.old) (P.store store.new)) }

@@ -1,6 +1,6 @@
-//! What tables of both layouts say of one game, compared.
+//! What tables of all layouts say of one game, compared.
 
-use crate::layout::{Flat, SECTORS, Trees};
+use crate::layout::{Flat, SECTORS, Second, Third};
 use crate::sitting::{Told, told_of};
 use page_store::MOST_CACHED;
 use sector_disk::{MemDisk, SectorDisk};
@@ -17,15 +17,16 @@ pub enum Outcome {
     /// All answers were equal, and so many positions are known.
     Equal(u32),
     Differs(Difference),
-    /// All answers were equal, but not the files.
+    /// All answers were equal, but not what the files of layout 2 and 3 hold.
     OtherFiles,
     /// All answers were equal, but the audit says of a table that it is wrong.
     NotRight,
 }
 
-/// Where two tables begin to say different things.
+/// Where a table of this layout begins to say other things than one of layout 1.
 #[derive(Drop)]
 pub struct Difference {
+    layout: u32,
     flat: Vec<u8>,
     trees: Vec<u8>,
 }
@@ -34,36 +35,42 @@ impl Display for Difference {
     fn fmt<W: Write>(&self, f: &mut Formatter<W>) -> fmt::Result {
         let flat = from_utf8(&self.flat).unwrap_or("?");
         let trees = from_utf8(&self.trees).unwrap_or("?");
-        write!(f, "layout 1 says\n{flat}\nlayout 2 says\n{trees}")
+        let layout = self.layout;
+        write!(f, "layout 1 says\n{flat}\nlayout {layout} says\n{trees}")
     }
 }
 
-/// Loads the game of this text into a table of layout 1, and into two of layout 2 of which one keeps so many pages in memory, two at
-/// most; does up to so many units of work in each, and compares all that they say.
+/// Loads the game of this text into a table of layout 1, one of layout 2, and two of layout 3 of which one keeps so many pages in memory,
+/// two at most; does up to so many units of work in each, and compares all that they say, and what the files with trees hold.
 pub fn compare(alloc: Global, text: &[u8], most: u32, pages: usize) -> anyhow::Result<Outcome> {
     let flat = told_of::<Flat>(alloc, text, most, MOST_CACHED)?;
-    let trees = told_of::<Trees>(alloc, text, most, MOST_CACHED)?;
-    if let Some(difference) = first_difference(alloc, &flat.said, &trees.said)? {
+    let second = told_of::<Second>(alloc, text, most, MOST_CACHED)?;
+    if let Some(difference) = first_difference(alloc, 2, &flat.said, &second.said)? {
         return Ok(Outcome::Differs(difference));
     }
-    let spare = told_of::<Trees>(alloc, text, most, pages.min(2))?;
-    if let Some(difference) = first_difference(alloc, &flat.said, &spare.said)? {
+    let third = told_of::<Third>(alloc, text, most, MOST_CACHED)?;
+    if let Some(difference) = first_difference(alloc, 3, &flat.said, &third.said)? {
         return Ok(Outcome::Differs(difference));
     }
-    if !(flat.is_right && trees.is_right && spare.is_right) {
+    let spare = told_of::<Third>(alloc, text, most, pages.min(2))?;
+    if let Some(difference) = first_difference(alloc, 3, &flat.said, &spare.said)? {
+        return Ok(Outcome::Differs(difference));
+    }
+    if !(flat.is_right && second.is_right && third.is_right && spare.is_right) {
         return Ok(Outcome::NotRight);
     }
-    let Told { disk, known, .. } = trees;
-    if have_equal_sectors(disk, spare.disk)? {
+    let known = third.known;
+    if hold_the_same(second.disk, third.disk, spare.disk)? {
         Ok(Outcome::Equal(known))
     } else {
         Ok(Outcome::OtherFiles)
     }
 }
 
-/// What the two say from the first byte on that differs, if one does.
+/// What the two say from the first byte on that differs, if one does; the second has this layout.
 fn first_difference(
     alloc: Global,
+    layout: u32,
     flat: &[u8],
     trees: &[u8],
 ) -> anyhow::Result<Option<Difference>> {
@@ -76,6 +83,7 @@ fn first_difference(
         .take_while(|(one, other)| one == other)
         .count();
     Ok(Some(Difference {
+        layout,
         flat: shown(alloc, flat, same)?,
         trees: shown(alloc, trees, same)?,
     }))
@@ -91,11 +99,13 @@ fn shown(alloc: Global, said: &[u8], at: usize) -> anyhow::Result<Vec<u8>> {
     Ok(bytes)
 }
 
-/// Whether two files are the same, byte for byte.
-fn have_equal_sectors(one: MemDisk, other: MemDisk) -> anyhow::Result<bool> {
-    let (mut one, mut other) = (one, other);
+/// Whether the two files of layout 3 are the same, byte for byte, and the one of layout 2 is in all but its root slots.
+fn hold_the_same(second: MemDisk, third: MemDisk, spare: MemDisk) -> anyhow::Result<bool> {
+    let (mut second, mut third, mut spare) = (second, third, spare);
     for at in 0..SECTORS {
-        if sector(&mut one, at)? != sector(&mut other, at)? {
+        let bytes = sector(&mut third, at)?;
+        let is_slot = at == 2 || at == 3;
+        if sector(&mut spare, at)? != bytes || !is_slot && sector(&mut second, at)? != bytes {
             return Ok(false);
         }
     }

@@ -1,4 +1,4 @@
-//! The two layouts of a file, each on a disk in memory.
+//! The three layouts of a file, each on a disk in memory.
 
 use flat_table::FlatTable;
 use game_file::GameFile;
@@ -14,7 +14,10 @@ pub const SECTORS: u64 = 32_768;
 pub type Flat = FlatTable<MemDisk>;
 
 /// A file of layout 2 on a disk in memory.
-pub type Trees = TreeFile<PageStore<MemDisk>>;
+pub type Second = TreeFile<PageStore<MemDisk>, 2>;
+
+/// A file of layout 3 on a disk in memory.
+pub type Third = TreeFile<PageStore<MemDisk>, 3>;
 
 /// A file on a disk that can be made, and that can lose its power.
 pub trait Layout: GameFile {
@@ -35,7 +38,7 @@ impl Layout for FlatTable<MemDisk> {
     }
 }
 
-impl Layout for TreeFile<PageStore<MemDisk>> {
+impl<const LAYOUT: u32> Layout for TreeFile<PageStore<MemDisk>, LAYOUT> {
     fn new_disk(alloc: Global) -> anyhow::Result<MemDisk> {
         Ok(MemDisk::new(alloc, SECTORS)?)
     }

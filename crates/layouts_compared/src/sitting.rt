@@ -56,7 +56,7 @@ where
     F::Device: Drop,
 {
     let mut solver = begun::<F>(alloc, pages)?;
-    solver.load(text)?;
+    solver.load(text, None)?;
     Ok(solver)
 }
 

@@ -114,7 +114,7 @@ fn refused_by(fault: SolverFault, done: usize) -> Progress {
 fn commands_of(given: Given<'_>, deed: Deed) -> anyhow::Result<Vec<Command>> {
     let mut commands = Vec::new(given.alloc);
     if deed != Deed::Work {
-        commands.push(Command::Load(given.text.to_vec(given.alloc)?))?;
+        commands.push(Command::Load(given.text.to_vec(given.alloc)?, None))?;
     }
     if deed != Deed::Load {
         if let Some(seven) = Units::new(7) {

@@ -291,7 +291,7 @@ fn obey<F: GameFile>(
     order: Order,
 ) -> Result<(), SolverFault> {
     match order {
-        Order::Load => solver.load(text),
+        Order::Load => solver.load(text, None),
         Order::Work(units) => solver.work(units).map(|_| ()),
     }
 }

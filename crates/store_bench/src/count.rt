@@ -12,7 +12,7 @@ use table::Table;
 use tree_file::TreeFile;
 
 /// A table in a file.
-pub type Count<D> = TreeFile<PageStore<D>>;
+pub type Count<D> = TreeFile<PageStore<D>, 3>;
 
 /// So many units are worked between two commits.
 const UNITS: u32 = 256;
@@ -39,7 +39,7 @@ pub fn begun<D: SectorDisk + Drop>(
         Ok(table) => table,
         Err(refused) => return Err(refused.fault.into()),
     };
-    table.load(b"count", PackingKind::Bytes, &position(0))?;
+    table.load(b"count", PackingKind::Bytes, None, &position(0))?;
     Ok(table)
 }
 

@@ -18,7 +18,7 @@ const ORDER: [u32; 7] = [4, 6, 2, 3, 5, 1, 0];
 /// A store of 64 pages, all free, on a disk with an empty table.
 fn free_store(alloc: Global) -> Result<PageStore<MemDisk>, Fail> {
     let mut disk = MemDisk::new(alloc, 512)?;
-    create(&mut disk, &empty_slot())?;
+    create(&mut disk, &empty_slot(3, 64))?;
     match PageStore::open(alloc, disk) {
         Ok(store) => {
             let mut store = store;

@@ -9,6 +9,7 @@ use Rattle.table_bytes.specs.aid.Laws.{tables_have_their_length, bytes_spell_one
 use Rattle.root_slot.specs.aid.Packings.{one_packing, some_number}
 use Rattle.flat_table.specs.Slot.{first_in, sizes_in}
 use Rattle.flat_table.specs.Held.{KeepsTable, capacity_of, Stores}
+use Rattle.flat_table.specs.aid.StoredLaws.{keeps_in_more}
 use Rattle.game_file.specs.Kept.{Kept}
 
 -- slot and pages spell one table at most
@@ -27,11 +28,15 @@ a_root_keeps_one_table root capacity (Some k) (Some l) bytes a b =
     bytes_spell_one_table (sizes_in root) b.content k.text l.text k.table l.table
     (subst (λ (content : List ℕ). SpellsTable (sizes_in root) content k.text k.table) same a.spells) b.spells in
     let packings = one_packing root k.packing l.packing a.packing b.packing in
-    λ i. Some (record { text = texts i; packing = packings i; table = tables i })
+    let goals : k.goal ≡ l.goal = a.no_goal ∙ sym b.no_goal in
+    λ i. Some (record { text = texts i; packing = packings i; goal = goals i; table = tables i })
 
--- a picture of the disk stores one table at most
-pub a_picture_stores_one_table : (picture : Picture) (one other : Option Kept) → Stores picture one → Stores picture other → one ≡ other
-a_picture_stores_one_table picture one other a b =
+-- a picture of the disk stores one table at most, in whatever number of pages
+pub a_picture_stores_one_table : (m n : ℕ) (picture : Picture) (one other : Option Kept) → Stores m picture one → Stores n picture other
+    → one ≡ other
+a_picture_stores_one_table m n picture one other a b =
     let same : b.root ≡ a.root = sym b.holds.is ∙ a.holds.is in
-    a_root_keeps_one_table a.root (capacity_of picture) one other (page picture) a.keeps
-    (subst (λ (root : List ℕ). KeepsTable root (capacity_of picture) other (page picture)) same b.keeps)
+    a_root_keeps_one_table a.root (capacity_of picture) one other (page picture)
+    (keeps_in_more a.root m (capacity_of picture) one (page picture) a.room a.keeps)
+    (subst (λ (root : List ℕ). KeepsTable root (capacity_of picture) other (page picture)) same
+    (keeps_in_more b.root n (capacity_of picture) other (page picture) b.room b.keeps))

@@ -55,7 +55,7 @@ pub record IsSlotOf (from : ℕ) (kind : PackingKind) (numbers : Sizes) (root : 
 abbrev pub LeavesOne : List ℕ → PackingKind → Sizes → List ℕ → Store → Store → Type 0
 LeavesOne pages kind sizes bytes old new =
     (was : Option Kept) (is : Kept) → IsBacked old pages was → AreBytesOf is kind sizes bytes
-    → IsTrue old.disk.honest → old.closed ≡ false → LeavesEither Stores old.disk new.disk was (Some is)
+    → IsTrue old.disk.honest → old.closed ≡ false → LeavesEither (Stores (length old.marks)) old.disk new.disk was (Some is)
 
 -- the table that has these bytes is in the place of the one of the old pages
 pub record IsReplaced (was_pages pages : List ℕ) (kind : PackingKind) (sizes : Sizes) (bytes : List ℕ) (old new : Store) : Type 0 where

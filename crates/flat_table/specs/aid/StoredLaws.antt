@@ -21,6 +21,7 @@ game_rests_on_its_pages root capacity kept bytes it = record {
   anywhere = λ other same. record {
     layout = it.layout;
     packing = it.packing;
+    no_goal = it.no_goal;
     limits = it.limits;
     pages = it.pages;
     content = it.content;
@@ -51,6 +52,7 @@ keeps_in_more root fewer more None bytes le it = it
 keeps_in_more root fewer more (Some kept) bytes le it = record {
   layout = it.layout;
   packing = it.packing;
+  no_goal = it.no_goal;
   limits = it.limits;
   pages = it.pages;
   content = it.content;
@@ -64,21 +66,15 @@ keeps_in_more root fewer more (Some kept) bytes le it = record {
 within_capacity : (picture : Picture) (c : ℕ) → 8 * c ≤ length picture → c ≤ 1048576 → c ≤ capacity_of picture
 within_capacity picture c room few = le-min ((le-div_iff_mul-le (omega arith)).1 (omega (arith, room))) few
 
--- a picture with this root whose pages spell this stores it
+-- a picture with this root whose pages spell this stores it in so many
 pub spells_stores : (root : List ℕ) (c : ℕ) (kept : Option Kept) (picture : Picture) → 16 ≤ c → c ≤ 1048576
-    → Spells root c (KeepsTable root c kept) picture → Stores picture kept
+    → Spells root c (KeepsTable root c kept) picture → Stores c picture kept
 spells_stores root c kept picture enough few it =
-    let fits = within_capacity picture c it.room few in
-    record {
-      root = root;
-      holds = it.holds;
-      room = omega (arith, enough, fits);
-      keeps = keeps_in_more root c (capacity_of picture) kept (page picture) fits it.spelt;
-    }
+    record { root = root; holds = it.holds; least = enough; room = within_capacity picture c it.room few; keeps = it.spelt }
 
 -- between commands a stop leaves what is kept
 pub a_file_is_kept : (file : FlatFile) → IsFile file → IsTrue file.store.disk.honest → file.store.closed ≡ false
-    → StopLeaves file.store (λ picture. Stores picture (kept_of file.game))
+    → StopLeaves file.store (λ picture. Stores (length file.store.marks) picture (kept_of file.game))
 a_file_is_kept file it honest is_open picture left =
     spells_stores file.store.root (length file.store.marks) (kept_of file.game) picture it.backed.room it.sound.few
     (stop_leaves file.store (it.backed.stands honest is_open) (it.sound.safe honest is_open) picture left)

@@ -11,7 +11,7 @@ use Rattle.table.specs.declared.fault.TableFault.TheVariants.{OutOfMemory}
 use Rattle.game_file.specs.Calls.{IsAsked, IsNothingPut}
 use Rattle.game_file.specs.Causes.{FileTableCause}
 use Rattle.retrograde.specs.Changes.{counts_of}
-use Rattle.game_file.specs.Kept.{Kept, counts_kept, packing_kept, text_kept}
+use Rattle.game_file.specs.Kept.{Kept, counts_kept, goal_kept, packing_kept, text_kept}
 use Rattle.game_file.specs.State.{State, GoesAhead}
 use Rattle.page_store.specs.aid.Works.{closes_same}
 use Rattle.flat_table.specs.declared.game.Game.{Game}
@@ -39,6 +39,7 @@ same_pages s was is stands same = record {
   counts = ap counts_kept same;
   text = ap text_kept same;
   packing = ap packing_kept same;
+  goal = ap goal_kept same;
   kept = λ honest. same;
   closed = refl;
   leaves = λ honest. leaves_now s.disk (λ picture left. left);
@@ -67,6 +68,7 @@ unwritten_kept old new it same =
       counts = asked.counts;
       text = asked.text;
       packing = asked.packing;
+      goal = asked.goal;
       kept = asked.kept;
       leaves = asked.since;
     }

@@ -1,4 +1,4 @@
-use Rattle.std.proofs.Common.{◌≡◌, ◌≢◌, ◌≤◌, ◌^◌, ℕ, List, length, sym, ap, subst}
+use Rattle.std.proofs.Common.{◌≡◌, ◌≢◌, ◌≤◌, ◌^◌, ℕ, List, length, sym, ap, subst, None}
 use Rattle.page_store.specs.Store.{Store}
 use Rattle.retrograde.specs.Stored.{Stored}
 use Rattle.table.specs.InMemory.{stored_in}
@@ -19,7 +19,7 @@ returns-in_err-written-clause-err g c = λ it. so_refused_for c.from_residual.re
 
 pub returns-in_err-written-clause-cause : goal.returns-in_err-written-clause-cause
 returns-in_err-written-clause-cause g c = λ it.
-    let cause = subst (λ (text : List ℕ). BytesCause (kept_as text c.args.packing (stored_in c.args.table)) c.args.packed c.in_err-written.field-0.0) c.deref.ensures.value (c.in_err-written.ensures.cause c.args.packing) in
+    let cause = subst (λ (text : List ℕ). BytesCause (kept_as text c.args.packing None (stored_in c.args.table)) c.args.packed c.in_err-written.field-0.0) c.deref.ensures.value (c.in_err-written.ensures.cause c.args.packing) in
     passed_on _ c.from_residual.result _ c.from_residual.ensures (bytes_cause _ _ (g.P.Pages.store c.args.store.now) _ cause)
 
 pub save-requires : goal.save-requires
@@ -31,7 +31,7 @@ returns-in_err-pages-clause-err g c = λ it.
     let store : Store = g.P.Pages.store c.args.store.now in
     let now : Store = g.P.Pages.store c.save.new.store in
     let backed = subst (λ (pages : List ℕ). IsBacked store pages (kept_of c.args.old.now)) (sym c.pages_in.ensures) it.backed in
-    let bytes = subst (λ (text : List ℕ). AreBytesOf (kept_as text c.args.packing (stored_in c.args.table)) c.args.packing c.in_ok-written.written.sizes c.in_ok-written.written.bytes.items) c.deref.ensures.value (c.in_ok-written.ensures.bytes c.args.packing) in
+    let bytes = subst (λ (text : List ℕ). AreBytesOf (kept_as text c.args.packing None (stored_in c.args.table)) c.args.packing c.in_ok-written.written.sizes c.in_ok-written.written.bytes.items) c.deref.ensures.value (c.in_ok-written.ensures.bytes c.args.packing) in
     so_refused_for c.from_residual-in_err-pages.result
     (left_in_place _ store now c.args.old.now it (g.met.P.Pages.sound c.save.new.store)
     (subst (λ (pages : List ℕ). IsBacked now pages (kept_of c.args.old.now)) c.pages_in.ensures (saved.back _ backed))
@@ -39,7 +39,7 @@ returns-in_err-pages-clause-err g c = λ it.
 
 pub returns-in_err-pages-clause-cause : goal.returns-in_err-pages-clause-cause
 returns-in_err-pages-clause-cause g c = λ it.
-    let bytes = subst (λ (text : List ℕ). AreBytesOf (kept_as text c.args.packing (stored_in c.args.table)) c.args.packing c.in_ok-written.written.sizes c.in_ok-written.written.bytes.items) c.deref.ensures.value (c.in_ok-written.ensures.bytes c.args.packing) in
+    let bytes = subst (λ (text : List ℕ). AreBytesOf (kept_as text c.args.packing None (stored_in c.args.table)) c.args.packing c.in_ok-written.written.sizes c.in_ok-written.written.bytes.items) c.deref.ensures.value (c.in_ok-written.ensures.bytes c.args.packing) in
     passed_on _ c.from_residual-in_err-pages.result _ c.from_residual-in_err-pages.ensures
     (save_cause _ _ _ _ _ (g.P.Pages.store c.args.store.now) (g.P.Pages.store c.save.new.store) _ bytes c.in_err-pages.ensures.cause)
 
@@ -53,9 +53,9 @@ returns-clause-ok g c = λ it.
     let saved = c.in_ok-pages.ensures in
     let store : Store = g.P.Pages.store c.args.store.now in
     let backed = subst (λ (pages : List ℕ). IsBacked store pages (kept_of c.args.old.now)) (sym c.pages_in.ensures) it.backed in
-    let bytes = subst (λ (text : List ℕ). AreBytesOf (kept_as text c.args.packing (stored_in c.args.table)) c.args.packing c.in_ok-written.written.sizes c.in_ok-written.written.bytes.items) c.deref.ensures.value (c.in_ok-written.ensures.bytes c.args.packing) in
+    let bytes = subst (λ (text : List ℕ). AreBytesOf (kept_as text c.args.packing None (stored_in c.args.table)) c.args.packing c.in_ok-written.written.sizes c.in_ok-written.written.bytes.items) c.deref.ensures.value (c.in_ok-written.ensures.bytes c.args.packing) in
     let same = c.in_ok-written.ensures.same in
-    put_in_place _ _ _ _ _ (g.met.P.Pages.sound c.save.new.store) (ap (λ (s : Stored (List ℕ)). kept_as c.args.text.items c.args.packing s) same)
+    put_in_place _ _ _ _ _ (g.met.P.Pages.sound c.save.new.store) (ap (λ (s : Stored (List ℕ)). kept_as c.args.text.items c.args.packing None s) same)
     (record {
       fits = c.in_ok-written.ensures.fits;
       known = subst (λ (s : Stored (List ℕ)). length s.positions ≤ 2 ^ 24) (sym same) c.requires.known;

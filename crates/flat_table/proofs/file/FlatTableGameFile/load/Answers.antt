@@ -17,3 +17,6 @@ returns-clause-cause g c = λ whole none is_open.
     let text : c.in_ok-text.text.items ≡ c.args.text.now = search rules in
     let cause = rw (c.len.ensures.value, text, c.in_ok-table.ensures.loaded) at c.replace.ensures.cause whole.0 in
     IfErr-weaker c.replace.result _ _ (λ fault cause. load_cause _ _ _ (file_in c.args.self.now) (file_in c.replace.new.self) whole.0 none is_open fault cause) cause
+
+pub returns-then-is_some-clause-err : goal.returns-then-is_some-clause-err
+returns-then-is_some-clause-err g c = λ whole none. not_put_whole _ _ _ refl (nothing_put _ _ whole.0)
