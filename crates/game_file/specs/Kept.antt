@@ -1,5 +1,5 @@
 -- What a file keeps of a game, and which pictures of a disk store it.
-use Rattle.std.specs.Prelude.{◌×◌, ℕ, List, Option, None, Some}
+use Rattle.std.specs.Prelude.{ℕ, List, Option, None, Some}
 use Rattle.sector_disk.specs.Disk.{Picture}
 use Rattle.retrograde.specs.Changes.{counts_of}
 use Rattle.retrograde.specs.Stored.{Stored}
