@@ -49,8 +49,8 @@ does_sound (Worked done counts) (work units) old new works sound =
       game,
       subst (λ (text : List ℕ). Reads text game) (sym works.same_text) is_read,
       subst (λ (packing : PackingKind). IsLocallySound (graph_of packing works.is.goal game) (IsWideAt packing game) works.is.table) (sym works.same_packing)
-      (subst (λ (goal : Option ℕ). IsLocallySound (graph_of works.was.packing goal game) (IsWideAt works.was.packing game) works.is.table) (sym works.same_goal)
-      (works.work game is_read here).sound),
+          (subst (λ (goal : Option ℕ). IsLocallySound (graph_of works.was.packing goal game) (IsWideAt works.was.packing game) works.is.table) (sym works.same_goal)
+          (works.work game is_read here).sound),
     )
 does_sound (Refused fault) command old new same sound = subst (λ (k : Option Kept). IsSound k) (sym same) sound
 

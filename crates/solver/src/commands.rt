@@ -148,7 +148,8 @@ impl<F: GameFile> FileSolver<F> {
     {
         self.needs_no_game()?;
         let source = Source::read(self.alloc, text, PackingKind::Bits, goal)?;
-        self.file.load(text, PackingKind::Bits, goal, &source.start())?;
+        self.file
+            .load(text, PackingKind::Bits, goal, &source.start())?;
         self.source = Some(source);
         Ok(())
     }
