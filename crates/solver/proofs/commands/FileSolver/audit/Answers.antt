@@ -1,4 +1,4 @@
-use Rattle.std.proofs.Common.{ap, subst, Option, Err, rules, refl, sym}
+use Rattle.std.proofs.Common.{ap, subst, Option, Err, rules, refl}
 use Rattle.legal_moves.specs.declared.compiled.Compiled.{Compiled}
 use Rattle.audit.specs.declared.fault.AuditFault.{AuditFault}
 use Rattle.solver.specs.State.{IsSourceOf}

@@ -1,4 +1,4 @@
-use Rattle.std.proofs.Common.{subst, Option, rules, refl}
+use Rattle.std.proofs.Common.{subst, Option, refl}
 use Rattle.legal_moves.specs.declared.compiled.Compiled.{Compiled}
 use Rattle.solver.specs.State.{IsSourceOf}
 use Rattle.solver.proofs.Asking.{text_found, text_unknown, text_of_some, text_of_none, find_cause, find_asked}

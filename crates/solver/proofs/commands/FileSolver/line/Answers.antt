@@ -1,4 +1,4 @@
-use Rattle.std.proofs.Common.{ap, subst, Option, Err, rules, refl}
+use Rattle.std.proofs.Common.{subst, Option, refl}
 use Rattle.legal_moves.specs.declared.compiled.Compiled.{Compiled}
 use Rattle.solver.specs.State.{IsSourceOf}
 use Rattle.retrograde.specs.Stored.{view_of}

@@ -1,4 +1,4 @@
-use Rattle.std.proofs.Common.{subst, Option, rules, refl}
+use Rattle.std.proofs.Common.{subst, Option, refl}
 use Rattle.legal_moves.specs.declared.compiled.Compiled.{Compiled}
 use Rattle.solver.specs.State.{IsSourceOf}
 use Rattle.solver.proofs.Asking.{text_found, no_text, show_cause, show_numbered}

@@ -1,4 +1,4 @@
-use Rattle.std.proofs.Common.{◌≡◌, ℕ, ◌<◌, ◌≤◌, refl, ◌∙◌, ap, subst, arith, Option, Err, rules}
+use Rattle.std.proofs.Common.{◌≡◌, ℕ, ◌<◌, ◌≤◌, refl, ◌∙◌, ap, subst, arith, Option, Err}
 use Rattle.frontier.specs.declared.fault.StepFault.{StepFault}
 use Rattle.legal_moves.specs.declared.compiled.Compiled.{Compiled}
 use Rattle.solver.specs.State.{IsSourceOf}
