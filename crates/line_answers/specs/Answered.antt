@@ -98,7 +98,7 @@ pub record SaysStatus (state : State) (line : List ℕ) : Type 0 where
   pub are : IsTrue state.disk.honest → counts ≡ option_map (λ kept. counts_of kept.table) state.kept
   pub line_is : IsStatusLine counts line
 
-module _ (Stores : Layout) where
+module _ (Stores : ℕ → Layout) where
   -- so many units are asked for: their reply as a line, and what was done is the turn of that command; or there is no room for the
   -- reply, and nothing was done
   pub record IsWorkReplied (units : ℕ) (old new : State) (status : ℕ) (line : List ℕ) : Type 0 where

@@ -12,8 +12,8 @@ use solver::laws::the_headline;
 /// The headline of the tables that this program makes, with what a picture of their file holds: the gate's bit, the slot, the text's
 /// chain and the trees.
 pub fn the_headline_of_our_tables<D: SectorDisk>()
-    ensures { (sittings : List Sitting) (left : Shown) (picture : Picture) → History StoresTrees sittings left → MayLeave left picture
-        → Headline StoresTrees sittings picture }
+    ensures { (sittings : List Sitting) (left : Shown) (picture : Picture) → History (StoresTrees 3) sittings left → MayLeave left picture
+        → Headline (StoresTrees 3) sittings picture }
 {
     the_headline::<TableFile<D>>()
 }

@@ -7,7 +7,7 @@ pub mod laws;
 pub use solver::{Command, FileSolver, Listing, Refused, Reply, SolverFault, Units, Worked};
 
 /// The file of today's layout, on a disk.
-pub type TableFile<D> = tree_file::TreeFile<page_store::PageStore<D>>;
+pub type TableFile<D> = tree_file::TreeFile<page_store::PageStore<D>, 3>;
 
 /// A solver over such a file.
 pub type Solver<D> = FileSolver<TableFile<D>>;

@@ -7,7 +7,7 @@ use Rattle.game_file.specs.State.{State}
 use Rattle.solver.specs.Opening.{IsOpened}
 use Rattle.session.specs.Commands.{Came, made, refused, replied, audited, GivesBack, IsAudit, IsAudited}
 
-pub audit_done : (Stores : Layout) (disk : Disk) (count : ℕ) (was is : State) (back : Disk) (now : ℕ) → IsOpened Stores disk count was → IsAsked Stores was is
+pub audit_done : (Stores : ℕ → Layout) (disk : Disk) (count : ℕ) (was is : State) (back : Disk) (now : ℕ) → IsOpened Stores disk count was → IsAsked Stores was is
     → GivesBack is back now → (came : Came) → IsAudited was is came → IsAudit Stores disk count came back now
 audit_done Stores disk count was is back now opened asked gives made it = absurd it
 audit_done Stores disk count was is back now opened asked gives (refused why) it = inl (was, is, opened, asked, gives, it)

@@ -1,6 +1,7 @@
 -- What a command on a table's file does, prints and answers.
 use Rattle.std.specs.Prelude.{◌≡◌, ◌⊎◌, ℕ, List, [], ◌∷◌, ◌++◌, codes, Option, None, Some}
 use Rattle.sector_disk.specs.Disk.{Disk}
+use Rattle.rbg_game.specs.Goals.{points_of}
 use Rattle.retrograde.specs.declared.records.Counts.{Counts}
 use Rattle.audit.specs.declared.verdict.Verdict.{Verdict}
 use Rattle.audit.specs.declared.verdict.Verdict.TheVariants.{Right, Wrong}
@@ -61,9 +62,9 @@ refusal_of (replied said) = refusal_in said
 refusal_of (audited verdict counts) = None
 
 -- it is told with this status: its line is printed and the status is its own, or the output failed and the status is 4
-pub data IsTold (Prints : List ℕ → Type 0) (came : Came) (status : ℕ) : Type 0 where
-  told : (line : List ℕ) → IsLineOf came line → Prints line → status ≡ status_of_came came → IsTold Prints came status
-  untold : status ≡ 4 → IsTold Prints came status
+pub data IsPrinted (Prints : List ℕ → Type 0) (came : Came) (status : ℕ) : Type 0 where
+  told : (line : List ℕ) → IsLineOf came line → Prints line → status ≡ status_of_came came → IsPrinted Prints came status
+  untold : status ≡ 4 → IsPrinted Prints came status
 
 -- the disk that is given back is that of the table in this state
 pub record GivesBack (state : State) (back : Disk) (now : ℕ) : Type 0 where
@@ -76,7 +77,7 @@ pub record HasCome (was : State) (verdict : Verdict) (counts : Counts) : Type 0 
   pub has : Tells (HasVerdict verdict) was
   pub so : verdict ≡ Right → Tells IsSoInGame was
 
-module _ (Stores : Layout) where
+module _ (Stores : ℕ → Layout) where
   -- the empty table was made, or none was
   abbrev pub IsCreate : Disk → ℕ → Came → Disk → ℕ → Type 0
   IsCreate disk count made back now = (state : State) × IsCreated Stores disk count state × GivesBack state back now
@@ -87,13 +88,13 @@ module _ (Stores : Layout) where
   abbrev pub IsUnopened : Disk → ℕ → SolverFault → Disk → ℕ → Type 0
   IsUnopened disk count why back now = IsNotOpened disk count back now × OpenCause Stores disk count now why
 
-  -- the table was opened, and the game loaded in one turn or refused; or there was no memory for the reply, and nothing was done
-  abbrev pub IsLoad : List ℕ → Disk → ℕ → Came → Disk → ℕ → Type 0
-  IsLoad text disk count (replied said) back now =
+  -- the table was opened, and the game loaded in one turn with this goal, if there is one, or refused; or there was no memory for the reply, and nothing was done
+  abbrev pub IsLoad : List ℕ → Option ℕ → Disk → ℕ → Came → Disk → ℕ → Type 0
+  IsLoad text goal disk count (replied said) back now =
       (was : State) × (is : State) × IsOpened Stores disk count was × GivesBack is back now
-      × (IsTurnWithCause Stores (load text) said was is ⊎ ((said ≡ reply.Refused fault.OutOfMemory) × (is ≡ was)))
-  IsLoad text disk count (refused why) back now = IsUnopened disk count why back now
-  IsLoad text disk count _ back now = ⊥
+      × (IsTurnWithCause Stores (load text goal) said was is ⊎ ((said ≡ reply.Refused fault.OutOfMemory) × (is ≡ was)))
+  IsLoad text goal disk count (refused why) back now = IsUnopened disk count why back now
+  IsLoad text goal disk count _ back now = ⊥
 
   -- the table was opened and audited, which changes nothing, or either was refused
   abbrev pub IsAudit : Disk → ℕ → Came → Disk → ℕ → Type 0
@@ -107,7 +108,7 @@ module _ (Stores : Layout) where
   -- what is done for a command on the table of a disk, what comes of it, and the disk as it is given back
   abbrev pub IsDoneOnFile : FileCommand → Disk → ℕ → Came → Disk → ℕ → Type 0
   IsDoneOnFile asked.Create = IsCreate
-  IsDoneOnFile (asked.Load text) = IsLoad text.items
+  IsDoneOnFile (asked.Load text goal) = IsLoad text.items (points_of goal)
   IsDoneOnFile asked.Audit = IsAudit
 
 -- what comes of an audit of an open table

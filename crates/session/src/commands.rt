@@ -6,7 +6,7 @@ ghost use Rattle.recover.specs.Held.{StoresTrees};
 ghost use Rattle.line_answers.specs.Answered.{status_of_reply};
 ghost use Rattle.printed_lines.specs.Verdicts.{IsVerdictLine};
 ghost use Rattle.session.specs.Commands.{Came, made, refused as refused_for, replied, audited as audited_as, IsDoneOnFile};
-ghost use Rattle.session.specs.Commands.{IsAudited, IsTold, IsLineOf, refusal_in, refusal_of, status_of_verdict};
+ghost use Rattle.session.specs.Commands.{IsAudited, IsPrinted, IsLineOf, refusal_in, refusal_of, status_of_verdict};
 ghost use Rattle.solver.specs.Solvers.{state, IsReady};
 
 use audit::Verdict;
@@ -14,6 +14,7 @@ use game_file::GameFile;
 pub use line_answers::puts::{put_line, put_refused, put_reply, status_of};
 use line_answers::turns::reply_to;
 use printed_lines::verdicts::put_verdict;
+use rbg_game::goal::Goal;
 use recover::TableFile;
 use retrograde::Counts;
 use sector_disk::SectorDisk;
@@ -26,8 +27,8 @@ use std::io::{self, Write};
 pub enum FileCommand {
     /// Makes the empty table.
     Create,
-    /// Loads the game of this text.
-    Load(Vec<u8>),
+    /// Loads the game of this text with this goal, if there is one.
+    Load(Vec<u8>, Option<Goal>),
     /// Says whether the table is right.
     Audit,
 }
@@ -49,9 +50,9 @@ pub fn command_on<D: SectorDisk, W: Write>(
     command: FileCommand,
     out: &mut W,
 ) -> (Outcome, D)
-    ensures { (came : Came) × IsDoneOnFile StoresTrees command (D.disk disk) (D.failures disk) came (D.disk result.1)
+    ensures { (came : Came) × IsDoneOnFile (StoresTrees 3) command (D.disk disk) (D.failures disk) came (D.disk result.1)
         (D.failures result.1) × (result.0.refused ≡ refusal_of came)
-        × IsTold (Appends (W.contents out.old) (W.contents out.new)) came result.0.status }
+        × IsPrinted (Appends (W.contents out.old) (W.contents out.new)) came result.0.status }
 {
     command_in::<TableFile<D>, W>(alloc, disk, command, out)
 }
@@ -65,16 +66,16 @@ fn command_in<F: GameFile, W: Write>(
 ) -> (Outcome, F::Device)
     ensures { (came : Came) × IsDoneOnFile F.stores command (F.Device.disk disk) (F.Device.failures disk) came (F.Device.disk result.1)
         (F.Device.failures result.1) × (result.0.refused ≡ refusal_of came)
-        × IsTold (Appends (W.contents out.old) (W.contents out.new)) came result.0.status }
+        × IsPrinted (Appends (W.contents out.old) (W.contents out.new)) came result.0.status }
 {
     match command {
         FileCommand::Create => match FileSolver::<F>::create(alloc, disk) {
             Ok(solver) => (said(out, b"created\n"), solver.close()),
             Err(refused) => (said_refused(out, refused.fault), refused.disk),
         },
-        FileCommand::Load(text) => match FileSolver::<F>::open(alloc, disk) {
+        FileCommand::Load(text, goal) => match FileSolver::<F>::open(alloc, disk) {
             Ok(mut solver) => {
-                let reply = reply_to(alloc, &mut solver, Command::Load(text));
+                let reply = reply_to(alloc, &mut solver, Command::Load(text, goal));
                 (said_reply(out, reply), solver.close())
             }
             Err(refused) => (said_refused(out, refused.fault), refused.disk),
@@ -92,7 +93,7 @@ fn audited<F: GameFile, W: Write>(solver: &mut FileSolver<F>, out: &mut W) -> Ou
     requires open { (state solver.old).closed ≡ false }
     ensures asked { IsAsked F.stores (state solver.old) (state solver.new) }
     ensures came { (came : Came) × IsAudited (state solver.old) (state solver.new) came × (result.refused ≡ refusal_of came)
-        × IsTold (Appends (W.contents out.old) (W.contents out.new)) came result.status }
+        × IsPrinted (Appends (W.contents out.old) (W.contents out.new)) came result.status }
 {
     let Some(counts) = solver.status() else {
         return said_refused(out, SolverFault::NoGame);
@@ -124,7 +125,7 @@ fn status_of_verdict(verdict: Verdict) -> u8
 /// Writes the line of a verdict.
 fn said_verdict<W: Write>(out: &mut W, verdict: Verdict, counts: Counts) -> Outcome
     ensures refused { result.refused ≡ None }
-    ensures told { IsTold (Appends (W.contents out.old) (W.contents out.new)) (audited_as verdict counts) result.status }
+    ensures told { IsPrinted (Appends (W.contents out.old) (W.contents out.new)) (audited_as verdict counts) result.status }
 {
     let status = match put_audited(out, verdict, counts) {
         Ok(()) => status_of_verdict(verdict),
@@ -139,7 +140,7 @@ fn said_verdict<W: Write>(out: &mut W, verdict: Verdict, counts: Counts) -> Outc
 /// Writes a line of a command that was done.
 fn said<W: Write>(out: &mut W, line: &[u8]) -> Outcome
     ensures refused { result.refused ≡ None }
-    ensures told { IsLineOf made line.now → IsTold (Appends (W.contents out.old) (W.contents out.new)) made result.status }
+    ensures told { IsLineOf made line.now → IsPrinted (Appends (W.contents out.old) (W.contents out.new)) made result.status }
 {
     let status = match put_line(out, line) {
         Ok(()) => 0,
@@ -154,7 +155,7 @@ fn said<W: Write>(out: &mut W, line: &[u8]) -> Outcome
 /// Writes the line of a reply.
 fn said_reply<W: Write>(out: &mut W, reply: Reply) -> Outcome
     ensures refused { result.refused ≡ refusal_in reply }
-    ensures told { IsTold (Appends (W.contents out.old) (W.contents out.new)) (replied reply) result.status }
+    ensures told { IsPrinted (Appends (W.contents out.old) (W.contents out.new)) (replied reply) result.status }
 {
     let refused = refusal_in(reply);
     let status = match put_reply(out, reply) {
@@ -187,7 +188,7 @@ fn status_of_reply(reply: Reply) -> u8
 /// Writes the line of a refusal.
 pub fn said_refused<W: Write>(out: &mut W, fault: SolverFault) -> Outcome
     ensures refused { result.refused ≡ Some fault }
-    ensures told { IsTold (Appends (W.contents out.old) (W.contents out.new)) (refused_for fault) result.status }
+    ensures told { IsPrinted (Appends (W.contents out.old) (W.contents out.new)) (refused_for fault) result.status }
 {
     let status = match put_refused(out, fault) {
         Ok(()) => status_of(fault),

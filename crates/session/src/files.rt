@@ -8,6 +8,7 @@ use file_disk::{FileDisk, FileRefused};
 use line_answers::advice::advice;
 use page_store::MIN_PAGES;
 use printed_lines::refused::Refused;
+use rbg_game::goal::Goal;
 use rbg_read::read::read_game;
 use root_pair::MAGIC;
 use solver::SolverFault;
@@ -101,15 +102,21 @@ fn made(
     }
 }
 
-/// Loads the game of a text into the table of a file. The text is read first.
-pub fn load_file(rt: &HostRuntime, alloc: Global, name: &str, game: &str) -> u8 {
+/// Loads the game of a text, with this goal, if there is one, into the table of a file. The text is read first.
+pub fn load_file(
+    rt: &HostRuntime,
+    alloc: Global,
+    name: &str,
+    game: &str,
+    goal: Option<Goal>,
+) -> u8 {
     let mut text = Vec::new(alloc);
     if let Err(error) = read_start(rt, game, &mut text) {
         return refused_file(rt, game, &error, TO_READ);
     }
     let explained: Result<Vec<u8>, AllocError> = text.clone();
     let outcome = match opened(rt, name, Purpose::Change) {
-        Ok(file) => command_on_file(rt, alloc, name, file, FileCommand::Load(text)),
+        Ok(file) => command_on_file(rt, alloc, name, file, FileCommand::Load(text, goal)),
         Err(why) => return refused_opening(rt, name, why, TO_CHANGE),
     };
     if let Some(SolverFault::Game(_)) = outcome.refused

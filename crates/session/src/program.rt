@@ -47,7 +47,7 @@ fn run_words(rt: &HostRuntime) -> u8 {
     match words_of(alloc, &words) {
         Ok(Words::Moves { game }) => moves_of_file(rt, alloc, &game),
         Ok(Words::Create { file, pages }) => create_file(rt, alloc, &file, pages),
-        Ok(Words::Load { file, game }) => load_file(rt, alloc, &file, &game),
+        Ok(Words::Load { file, game, goal }) => load_file(rt, alloc, &file, &game, goal),
         Ok(Words::Session { file }) => session_of_file(rt, alloc, &file),
         Ok(Words::Audit { file }) => audit_file(rt, alloc, &file),
         Err(refusal) => show(rt, &refusal),

@@ -7,21 +7,36 @@ use clap::error::ErrorKind;
 use clap::{Arg, ArgAction, ArgMatches, Command, Error};
 pub use line_answers::input::SESSION_LINES;
 use page_store::MAX_PAGES;
+use rbg_game::goal::Goal;
+use rbg_game::limits::MAX_POINTS;
 use std::alloc::{AllocError, Global};
 
 /// What the words of a command line ask for.
 #[derive(Drop)]
 pub enum Words {
     /// The moves of the start of the game in this file.
-    Moves { game: String },
+    Moves {
+        game: String,
+    },
     /// A new table of so many pages in this file.
-    Create { file: String, pages: u32 },
-    /// Loads the game of a text into the table of a file.
-    Load { file: String, game: String },
+    Create {
+        file: String,
+        pages: u32,
+    },
+    /// Loads the game of a text, with this goal, if there is one, into the table of a file.
+    Load {
+        file: String,
+        game: String,
+        goal: Option<Goal>,
+    },
     /// A session over the table of this file.
-    Session { file: String },
+    Session {
+        file: String,
+    },
     /// Whether the table of this file is right.
-    Audit { file: String },
+    Audit {
+        file: String,
+    },
 }
 
 /// Why there is nothing to do: help was asked for, or the words are no command.
@@ -74,7 +89,11 @@ const LOAD_LONG_ABOUT: &str = concat!(
     "Loads the game of a text into an empty table, and prints `loaded`.\n",
     "\n",
     "The table then knows the start of the game. `session` solves it. A table of an earlier layout is not opened: ",
-    "that is answered by `refused E5`, and it stays as it is.",
+    "that is answered by `refused E5`, and it stays as it is.\n",
+    "\n",
+    "Without a goal the player has won who has more points at the end of play. With `--goal K` it is the one who has ",
+    "K points or more while the other has fewer than K: if both have so many, or neither, nobody has won. The table ",
+    "keeps its goal.",
 );
 
 const SESSION_ABOUT: &str = "Works on a table and asks it, by commands on standard input";
@@ -114,6 +133,8 @@ const MOVES_LONG_ABOUT: &str = concat!(
 
 const NO_NUMBER: &str = "the number behind `--pages` is one to ten digits";
 
+const NO_GOAL: &str = "the number behind `--goal` is one to ten digits";
+
 /// The command that the words ask for; the first word is the program's name.
 pub fn words_of(alloc: Global, words: &[String]) -> Result<Words, Refusal>
     ensures { IfErr result (λ refusal. IsStatusOfWords refusal.status) }
@@ -130,6 +151,9 @@ fn parsed<'a>(alloc: Global, words: &'a [String]) -> Result<Words, Error> {
     if has_signed_pages(&matches) {
         return Err(command.error(ErrorKind::ValueValidation, NO_NUMBER)?);
     }
+    if has_signed_goal(&matches) {
+        return Err(command.error(ErrorKind::ValueValidation, NO_GOAL)?);
+    }
     Ok(asked_in(alloc, &matches)?)
 }
 
@@ -137,6 +161,14 @@ fn parsed<'a>(alloc: Global, words: &'a [String]) -> Result<Words, Error> {
 fn has_signed_pages(matches: &ArgMatches<'_>) -> bool {
     match matches.subcommand() {
         Some(("create", inner)) => !is_number(inner.get_str("pages").unwrap_or("")),
+        _ => false,
+    }
+}
+
+/// Whether what stands behind `--goal` is anything but one to ten digits.
+fn has_signed_goal(matches: &ArgMatches<'_>) -> bool {
+    match matches.subcommand() {
+        Some(("load", inner)) => !is_number(inner.get_str("goal").unwrap_or("0")),
         _ => false,
     }
 }
@@ -164,6 +196,7 @@ fn asked_for(alloc: Global, name: &str, inner: &ArgMatches<'_>) -> Result<Words,
         "load" => Ok(Words::Load {
             file: given(alloc, inner, "FILE")?,
             game: given(alloc, inner, "GAME")?,
+            goal: goal_in(inner),
         }),
         "session" => Ok(Words::Session {
             file: given(alloc, inner, "FILE")?,
@@ -174,6 +207,14 @@ fn asked_for(alloc: Global, name: &str, inner: &ArgMatches<'_>) -> Result<Words,
         _ => Ok(Words::Moves {
             game: given(alloc, inner, "GAME")?,
         }),
+    }
+}
+
+/// The goal that was given, if one was.
+fn goal_in(matches: &ArgMatches<'_>) -> Option<Goal> {
+    match matches.get_one("goal") {
+        Some(points) => Goal::new(points),
+        None => None,
     }
 }
 
@@ -243,6 +284,20 @@ fn pages_word<'a>(alloc: Global) -> Arg<'a> {
     .value_parser(page_counts())
 }
 
+/// How many points a player needs, a number within its bounds as that of the pages is.
+fn goal_word<'a>(alloc: Global) -> Arg<'a> {
+    Arg::new(alloc, "goal")
+        .help("How many points win the game, 1 to 1,000,000: who has them while the other has not")
+        .action(ArgAction::Set)
+        .long("goal")
+        .value_name("K")
+        .value_parser(goals())
+}
+
+fn goals<'a>() -> ValueParser<'a> {
+    ValueParser::signed(1, i64::from(MAX_POINTS))
+}
+
 fn page_counts<'a>() -> ValueParser<'a> {
     ValueParser::signed(1, i64::from(MAX_PAGES))
 }
@@ -256,7 +311,8 @@ fn create_command<'a>(alloc: Global) -> Result<Command<'a>, AllocError> {
 fn load_command<'a>(alloc: Global) -> Result<Command<'a>, AllocError> {
     named(alloc, "load", LOAD_ABOUT, LOAD_LONG_ABOUT)
         .arg(file_word(alloc))?
-        .arg(game_word(alloc))
+        .arg(game_word(alloc))?
+        .arg(goal_word(alloc))
 }
 
 fn session_command<'a>(alloc: Global) -> Result<Command<'a>, AllocError> {

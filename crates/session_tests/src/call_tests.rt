@@ -1,5 +1,6 @@
 //! A table is made, loaded, worked, asked and audited by the calls that the program makes.
 
+use rbg_game::goal::Goal;
 use sector_disk::MemDisk;
 use session::commands::{FileCommand, command_on};
 use session::line_by_line::session_over;
@@ -42,7 +43,7 @@ fn expect_said(said: &Said, status: u8, lines: &str, row: u32) -> Result<(), Fai
 fn take(alloc: Global) -> Result<FileCommand, Fail> {
     let mut text = Vec::new(alloc);
     text.extend_from_slice(TAKE.as_bytes())?;
-    Ok(FileCommand::Load(text))
+    Ok(FileCommand::Load(text, None))
 }
 
 #[test]
@@ -66,6 +67,39 @@ fn a_table_is_made_loaded_solved_and_audited(rt: HostRuntime) -> Result<(), Fail
     expect_said(&solved, 0, replies, 6)?;
     let (right, _disk) = command_says(alloc, disk, FileCommand::Audit);
     expect_said(&right, 0, "audit right finished\n", 7)
+}
+
+/// White takes one point or two, and then black has no move.
+const POINTS: &str = "#players = white(2), black(2)  #pieces = e  #board = v[e]{}
+#rules = ->white ([$white=1]+[$white=2]) ->black {}";
+
+/// What a session answers to these lines over a new table of that game with this goal, if there is one.
+fn points_say(alloc: Global, goal: Option<Goal>, lines: &str) -> Result<Said, Fail> {
+    let disk = MemDisk::new(alloc, SECTORS)?;
+    let (made, disk) = command_says(alloc, disk, FileCommand::Create);
+    expect_said(&made, 0, "created\n", 0)?;
+    let mut text = Vec::new(alloc);
+    text.extend_from_slice(POINTS.as_bytes())?;
+    let (loaded, disk) = command_says(alloc, disk, FileCommand::Load(text, goal));
+    expect_said(&loaded, 0, "loaded\n", 1)?;
+    let (said, _disk) = session_says(alloc, disk, lines);
+    Ok(said)
+}
+
+#[test]
+fn a_goal_says_who_has_won(rt: HostRuntime) -> Result<(), Fail> {
+    let alloc = rt.alloc();
+    let lines = "work 256\nvalue 2\nline 1\n";
+    let none = points_say(alloc, None, lines)?;
+    let replies =
+        "units 8 known 4 expanded 4 settled 4 processed 4 finished\nwhite in 0\nline 1 2\n";
+    expect_said(&none, 0, replies, 2)?;
+    let two = points_say(alloc, Goal::new(2), lines)?;
+    let replies = "units 7 known 4 expanded 4 settled 3 processed 3 finished\ndrawn\nline 1 3\n";
+    expect_said(&two, 0, replies, 3)?;
+    let three = points_say(alloc, Goal::new(3), "work 256\nvalue 0\n")?;
+    let replies = "units 4 known 4 expanded 4 settled 0 processed 0 finished\ndrawn\n";
+    expect_said(&three, 0, replies, 4)
 }
 
 #[test]
@@ -111,4 +145,42 @@ fn words_are_a_command_help_or_no_command(rt: HostRuntime) -> Result<(), Fail> {
     expect(pages_asked(alloc, &audit)?, Ok(0), 1)?;
     expect(pages_asked(alloc, &["rbgsolve", "--help"])?, Err(0), 2)?;
     expect(pages_asked(alloc, &["rbgsolve", "make"])?, Err(2), 3)
+}
+
+/// The points of the goal that the table is to get, or none.
+fn points_in(words: &Words) -> Option<u32> {
+    match words {
+        Words::Load {
+            goal: Some(goal),
+            ..
+        } => Some(goal.points()),
+        _ => None,
+    }
+}
+
+/// The points of the goal that is asked for with this behind `--goal`, or the status that the words end with.
+fn goal_asked(alloc: Global, number: &str) -> Result<Result<Option<u32>, u8>, Fail> {
+    let words = ["rbgsolve", "load", "a.table", "a.rbg", "--goal", number];
+    match words_of(alloc, &spelled(alloc, &words)?) {
+        Ok(asked) => Ok(Ok(points_in(&asked))),
+        Err(refusal) => Ok(Err(refusal.status)),
+    }
+}
+
+#[test]
+fn a_goal_is_a_number_within_its_bounds(rt: HostRuntime) -> Result<(), Fail> {
+    let alloc = rt.alloc();
+    expect(goal_asked(alloc, "1")?, Ok(Some(1)), 0)?;
+    expect(goal_asked(alloc, "1000000")?, Ok(Some(1_000_000)), 1)?;
+    for (row, number) in ["0", "1000001", "+1", "two", "00000000001"]
+        .iter()
+        .enumerate()
+    {
+        expect(goal_asked(alloc, number)?, Err(2), row)?;
+    }
+    let load = ["rbgsolve", "load", "a.table", "a.rbg"];
+    let Ok(asked) = words_of(alloc, &spelled(alloc, &load)?) else {
+        return Err("a load without a goal is no command".into());
+    };
+    expect(points_in(&asked), None, 7)
 }

@@ -4,7 +4,7 @@ use Rattle.std.specs.Prelude.{IsTrue}
 use Rattle.sector_disk.specs.Disk.{Picture, Shown, Disk, MayLeave}
 use Rattle.sector_disk.specs.aid.Moments.{reads_left, still_honest}
 use Rattle.root_pair.specs.Root.{IsTablePicture}
-use Rattle.game_file.specs.Kept.{Kept, Layout}
+use Rattle.game_file.specs.Kept.{Kept, Layout, in_any}
 use Rattle.game_file.specs.State.{State}
 use Rattle.game_file.specs.Stops.{LeavesNow}
 use Rattle.solver.specs.declared.fault.SolverFault.{SolverFault}
@@ -22,10 +22,10 @@ lead_more [] sitting old mid new same leads = subst (λ (k : Option Kept). LeadT
 lead_more (s ∷ sittings) sitting old mid new (begins, (last, all, (left, may, rest))) leads =
     (begins, (last, all, (left, may, lead_more sittings sitting left mid new rest leads)))
 
-module _ (Stores : Layout) where
+module _ (Stores : ℕ → Layout) where
   -- a table that the sittings lead to, stored
   abbrev IsLeft : List Sitting → Picture → Type 0
-  IsLeft sittings picture = (kept : Option Kept) × LeadTo sittings None kept × Stores picture kept
+  IsLeft sittings picture = (kept : Option Kept) × LeadTo sittings None kept × in_any Stores picture kept
 
   sound_here : (sittings : List Sitting) (kept : Option Kept) → LeadTo sittings None kept → IsSound kept
   sound_here sittings kept leads = what_sittings_lead_to_is_sound sittings None kept leads tt
@@ -35,30 +35,30 @@ module _ (Stores : Layout) where
       let none : was.kept ≡ None = created.empty honest in
       let (kept, leads, stores) =
       sitting_leads Stores was sitting left sits (still_honest created.from.goes_on honest) (subst (λ (k : Option Kept). IsSound k) (sym none) tt)
-      (subst (λ (k : Option Kept). LeavesNow Stores was.disk k) (sym none) (created.now honest)) picture may in
-      (kept, subst (λ (k : Option Kept). LeadTo (sitting ∷ []) k kept) none leads, stores)
+      (subst (λ (k : Option Kept). LeavesNow (Stores was.capacity) was.disk k) (sym none) (created.now honest)) picture may in
+      (kept, subst (λ (k : Option Kept). LeadTo (sitting ∷ []) k kept) none leads, (was.capacity, stores))
   history_leads (was_reopened {sittings} {before} {left} {disk} {count} {was} {sitting} history found opened sits) picture may =
       let (old, led, stored) = history_leads history disk.now.contents (found.as_left disk.now.contents (reads_left disk)) in
       let sound = sound_here sittings old led in
-      let same : was.kept ≡ old = opened.only found.honest old (a_sound_table_is_held Stores disk.now.contents old stored sound) in
+      let same : was.kept ≡ old = opened.only found.honest old (a_sound_table_is_held (in_any Stores) disk.now.contents old stored sound) in
       let (kept, leads, stores) =
       sitting_leads Stores was sitting left sits (still_honest opened.from.goes_on found.honest) (subst (λ (k : Option Kept). IsSound k) (sym same) sound) (opened.now found.honest) picture may in
-      (kept, lead_more sittings sitting None old kept led (subst (λ (k : Option Kept). LeadTo (sitting ∷ []) k kept) same leads), stores)
+      (kept, lead_more sittings sitting None old kept led (subst (λ (k : Option Kept). LeadTo (sitting ∷ []) k kept) same leads), (was.capacity, stores))
   history_leads (was_not_opened history found leaves moment from to) picture may = history_leads history picture (found.as_left picture (leaves.each moment picture from to may))
 
   -- a disk that holds a table is opened with it
-  pub opened_so : (disk : Disk) (count : ℕ) (state : State) (kept : Option Kept) → IsTrue disk.honest → Holds Stores disk.now.contents kept → IsOpened Stores disk count state
-      → (state.kept ≡ kept) × LeavesNow Stores state.disk kept
+  pub opened_so : (disk : Disk) (count : ℕ) (state : State) (kept : Option Kept) → IsTrue disk.honest → Holds (in_any Stores) disk.now.contents kept → IsOpened Stores disk count state
+      → (state.kept ≡ kept) × LeavesNow (Stores state.capacity) state.disk kept
   opened_so disk count state kept honest holds opened =
       let same = opened.only honest kept holds in
-      (same, subst (λ (k : Option Kept). LeavesNow Stores state.disk k) same (opened.now honest))
+      (same, subst (λ (k : Option Kept). LeavesNow (Stores state.capacity) state.disk k) same (opened.now honest))
 
-  module _ (begins : (picture : Picture) (kept : Option Kept) → Stores picture kept → IsTablePicture picture) where
+  module _ (begins : (pages : ℕ) (picture : Picture) (kept : Option Kept) → Stores pages picture kept → IsTablePicture picture) where
     -- or that is refused for want of memory or for a fault of the disk
-    pub opens_or_fails : (disk : Disk) (before now : ℕ) (kept : Option Kept) (fault : SolverFault) → IsTrue disk.honest → Holds Stores disk.now.contents kept
+    pub opens_or_fails : (disk : Disk) (before now : ℕ) (kept : Option Kept) (fault : SolverFault) → IsTrue disk.honest → Holds (in_any Stores) disk.now.contents kept
         → OpenCause Stores disk before now fault → IsUnlucky before now fault
     opens_or_fails disk before now kept DiskFailed honest holds cause = inl (refl, cause)
-    opens_or_fails disk before now kept NotATable honest holds cause = absurd (cause honest (begins disk.now.contents kept holds.stores))
+    opens_or_fails disk before now kept NotATable honest holds cause = absurd (cause honest (begins holds.stores.0 disk.now.contents kept holds.stores.1))
     opens_or_fails disk before now kept AlreadyATable honest holds cause = absurd cause
     opens_or_fails disk before now kept Damaged honest holds cause = absurd ((cause honest).1 kept holds)
     opens_or_fails disk before now kept OldLayout honest holds cause = absurd (cause honest kept holds.stores)
@@ -79,13 +79,13 @@ module _ (Stores : Layout) where
     opens_or_fails disk before now kept BadPosition honest holds cause = absurd cause
 
     -- reopening gives the table that a picture holds
-    pub reopens : (picture : Picture) (kept : Option Kept) → Holds Stores picture kept → Reopens Stores picture kept
+    pub reopens : (picture : Picture) (kept : Option Kept) → Holds (in_any Stores) picture kept → Reopens Stores picture kept
     reopens picture kept holds = record {
       holds = holds;
       gives = λ disk count state honest reads opened.
-          opened_so disk count state kept honest (subst (λ (p : Picture). Holds Stores p kept) (sym reads) holds) opened;
+          opened_so disk count state kept honest (subst (λ (p : Picture). Holds (in_any Stores) p kept) (sym reads) holds) opened;
       fails = λ disk before now fault honest reads cause.
-          opens_or_fails disk before now kept fault honest (subst (λ (p : Picture). Holds Stores p kept) (sym reads) holds) cause;
+          opens_or_fails disk before now kept fault honest (subst (λ (p : Picture). Holds (in_any Stores) p kept) (sym reads) holds) cause;
     }
 
     -- the headline
@@ -93,4 +93,4 @@ module _ (Stores : Layout) where
     the_headline sittings left picture history may =
         let (kept, leads, stores) = history_leads history picture may in
         let sound = sound_here sittings kept leads in
-        (kept, leads, reopens picture kept (a_sound_table_is_held Stores picture kept stores sound), a_sound_table_is_exact kept sound)
+        (kept, leads, reopens picture kept (a_sound_table_is_held (in_any Stores) picture kept stores sound), a_sound_table_is_exact kept sound)

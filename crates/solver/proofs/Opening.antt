@@ -7,7 +7,7 @@ use Rattle.sector_disk.specs.aid.Moments.{goes_on_trans, leaves_then, leaves_mor
 use Rattle.root_pair.specs.Root.{IsTablePicture}
 use Rattle.game_file.specs.Calls.{IsOpenedFile, IsNotOpened, IsCreatedFile, IsNotCreated, IsAsked}
 use Rattle.game_file.specs.Causes.{FileOpenCause, FileCreateCause}
-use Rattle.game_file.specs.Kept.{Kept, Layout, Older}
+use Rattle.game_file.specs.Kept.{Kept, Layout, Older, in_any}
 use Rattle.game_file.specs.State.{State, GoesFrom}
 use Rattle.game_file.specs.Stops.{OldOrEmpty}
 use Rattle.game_file.specs.declared.fault.FileFault.{FileFault}
@@ -21,24 +21,24 @@ use Rattle.solver.specs.aid.Ready.{NoGameCause, IsHandedBack}
 use Rattle.solver.proofs.Loading.{Leaves}
 use Rattle.solver.proofs.Refusing.{apart}
 
--- a picture stores one table at most
-abbrev pub StoresOne : Layout → Type 0
-StoresOne Stores = (picture : Picture) (one other : Option Kept) → Stores picture one → Stores picture other → one ≡ other
+-- a picture stores one table at most, in one number of pages
+abbrev pub StoresOne : (ℕ → Layout) → Type 0
+StoresOne Stores = (m n : ℕ) (picture : Picture) (one other : Option Kept) → Stores m picture one → Stores n picture other → (m ≡ n) × (one ≡ other)
 
 -- a picture of an earlier layout stores none
-abbrev pub OlderStoresNone : Layout → Older → Type 0
-OlderStoresNone Stores IsOlder = (picture : Picture) (kept : Option Kept) → IsOlder picture → Stores picture kept → ⊥
+abbrev pub OlderStoresNone : (ℕ → Layout) → Older → Type 0
+OlderStoresNone Stores IsOlder = (pages : ℕ) (picture : Picture) (kept : Option Kept) → IsOlder picture → Stores pages picture kept → ⊥
 
 -- a picture that stores a table begins as each table does
-abbrev pub StoresBegins : Layout → Type 0
-StoresBegins Stores = (picture : Picture) (kept : Option Kept) → Stores picture kept → IsTablePicture picture
+abbrev pub StoresBegins : (ℕ → Layout) → Type 0
+StoresBegins Stores = (pages : ℕ) (picture : Picture) (kept : Option Kept) → Stores pages picture kept → IsTablePicture picture
 
 -- a count that grew from a later one on grew
 grew_from : {before mid now : ℕ} → before ≤ mid → Grew mid now → Grew before now
 grew_from le (inl less) = inl (omega (arith, le, less))
 grew_from le (inr most) = inr most
 
-module _ (Stores : Layout) (disk : Disk) (count : ℕ) (file : State) where
+module _ (Stores : ℕ → Layout) (disk : Disk) (count : ℕ) (file : State) where
   from_first : GoesFrom disk count file.disk file.failures → (later : State) → IsAsked Stores file later → GoesFrom disk count later.disk later.failures
   from_first from later asked = record {
     goes_on = goes_on_trans from.goes_on asked.ahead.goes_on;
@@ -51,16 +51,16 @@ module _ (Stores : Layout) (disk : Disk) (count : ℕ) (file : State) where
       → (later : State) → IsAsked Stores file later → Leaves Stores later → IsOpened Stores disk count later
   opened one found of_a_game later asked leaves = record {
     from = from_first found.from later asked;
-    capacity = asked.ahead.capacity ∙ found.capacity;
     is_open = asked.closed ∙ found.is_open;
     holds = λ honest.
         let here = still_honest found.from.goes_on honest in
         record {
-          stores = subst (λ (kept : Option Kept). Stores disk.now.contents kept) (sym (asked.kept here)) (found.stored honest);
+          stores = subst (λ (pages : ℕ). Stores pages disk.now.contents later.kept) (sym asked.ahead.capacity)
+              (subst (λ (kept : Option Kept). Stores file.capacity disk.now.contents kept) (sym (asked.kept here)) (found.stored honest));
           of_a_game = subst (λ (kept : Option Kept). IsOfAGame kept) (sym (asked.kept here)) (of_a_game here);
         };
     only = λ honest kept holds.
-        asked.kept (still_honest found.from.goes_on honest) ∙ one disk.now.contents file.kept kept (found.stored honest) holds.stores;
+        asked.kept (still_honest found.from.goes_on honest) ∙ (one file.capacity holds.stores.0 disk.now.contents file.kept kept (found.stored honest) holds.stores.1).1;
     since = since found asked;
     now = λ honest. leaves (still_honest (goes_on_trans found.from.goes_on asked.ahead.goes_on) honest) (asked.closed ∙ found.is_open);
   }
@@ -92,10 +92,10 @@ module _ (Stores : Layout) (disk : Disk) (count : ℕ) (file : State) where
   no_game_opened now NotATable one begins found cause = absurd cause
   no_game_opened now AlreadyATable one begins found cause = cause
   no_game_opened now Damaged one begins found cause = λ honest. (
-    begins disk.now.contents file.kept (found.stored honest),
+    begins file.capacity disk.now.contents file.kept (found.stored honest),
     λ kept holds.
         cause (still_honest found.from.goes_on honest)
-        (subst (λ (k : Option Kept). IsOfAGame k) (one disk.now.contents kept file.kept holds.stores (found.stored honest)) holds.of_a_game),
+        (subst (λ (k : Option Kept). IsOfAGame k) (one holds.stores.0 file.capacity disk.now.contents kept file.kept holds.stores.1 (found.stored honest)).1 holds.of_a_game),
   )
   no_game_opened now OldLayout one begins found cause = absurd cause
   no_game_opened now TooSmall one begins found cause = cause
@@ -118,16 +118,17 @@ module _ (Stores : Layout) (disk : Disk) (count : ℕ) (file : State) where
   pub no_game_older : (IsOlder : Older) → OlderStoresNone Stores IsOlder → (now : ℕ) (fault : SolverFault) → IsOpenedFile Stores disk count file
       → NoGameCause file now fault → LayoutCause IsOlder disk fault
   no_game_older IsOlder none now OldLayout found cause = absurd cause
-  no_game_older IsOlder none now Damaged found cause = λ honest older. none disk.now.contents file.kept older (found.stored honest)
+  no_game_older IsOlder none now Damaged found cause = λ honest older. none file.capacity disk.now.contents file.kept older (found.stored honest)
   no_game_older IsOlder none now fault found cause = tt
 
   -- what a stop since the making leaves
-  created_since : IsCreatedFile Stores disk count file → {later : State} → IsAsked Stores file later → IsTrue disk.honest → LeavesOnly disk later.disk (OldOrEmpty Stores disk.now)
-  created_since made asked honest =
-      leaves_then asked.ahead.goes_on (made.leaves honest)
+  created_since : IsCreatedFile Stores disk count file → {later : State} → IsAsked Stores file later → IsTrue disk.honest → LeavesOnly disk later.disk (OldOrEmpty (Stores later.capacity) disk.now)
+  created_since made {later} asked honest =
+      subst (λ (pages : ℕ). LeavesOnly disk later.disk (OldOrEmpty (Stores pages) disk.now)) (sym asked.ahead.capacity)
+      (leaves_then asked.ahead.goes_on (made.leaves honest)
       (leaves_more (λ picture left. (made.leaves honest).each file.disk.clock picture made.from.goes_on.later (omega arith)
       (subst (λ shown. MayLeave shown picture) (sym file.disk.was_now) left))
-      (asked.leaves (still_honest made.from.goes_on honest)))
+      (asked.leaves (still_honest made.from.goes_on honest))))
 
   pub created : IsCreatedFile Stores disk count file → (later : State) → IsAsked Stores file later → Leaves Stores later → IsCreated Stores disk count later
   created made later asked leaves = record {
@@ -138,7 +139,7 @@ module _ (Stores : Layout) (disk : Disk) (count : ℕ) (file : State) where
     fresh = made.fresh;
     since = created_since made asked;
     now = λ honest picture left.
-        subst (λ (kept : Option Kept). Stores picture kept) (asked.kept (still_honest made.from.goes_on honest) ∙ made.empty honest)
+        subst (λ (kept : Option Kept). Stores later.capacity picture kept) (asked.kept (still_honest made.from.goes_on honest) ∙ made.empty honest)
         (leaves (still_honest (goes_on_trans made.from.goes_on asked.ahead.goes_on) honest) (asked.closed ∙ made.is_open) picture left);
   }
 
@@ -148,7 +149,9 @@ module _ (Stores : Layout) (disk : Disk) (count : ℕ) (file : State) where
       (subst (λ (n : ℕ). IsNotCreated Stores disk count it.later.disk n) (sym it.failures)
       (record {
         from = from_first made.from it.later it.asked;
-        leaves = created_since made it.asked;
+        leaves = λ honest.
+            subst (λ (pages : ℕ). LeavesOnly disk it.later.disk (OldOrEmpty (Stores pages) disk.now)) (it.asked.ahead.capacity ∙ made.capacity)
+            (created_since made it.asked honest);
         kept = λ honest begins. absurd (made.fresh honest begins);
       }))
 
@@ -175,15 +178,15 @@ module _ (Stores : Layout) (disk : Disk) (count : ℕ) (file : State) where
   no_game_created now ListingsUsedUp made cause = absurd cause
   no_game_created now BadPosition made cause = cause
 
-module _ (Stores : Layout) (IsOlder : Older) where
+module _ (Stores : ℕ → Layout) (IsOlder : Older) where
   -- a file that is not opened is no solver
-  pub open_cause : OlderStoresNone Stores IsOlder → (disk : Disk) (count now : ℕ) (fault : FileFault) → FileOpenCause Stores IsOlder disk count now fault
+  pub open_cause : OlderStoresNone Stores IsOlder → (disk : Disk) (count now : ℕ) (fault : FileFault) → FileOpenCause (in_any Stores) IsOlder disk count now fault
       → OpenCause Stores disk count now (file_fault fault)
   open_cause none disk count now file.Disk cause = cause
   open_cause none disk count now file.NotATable cause = cause
   open_cause none disk count now file.AlreadyATable cause = cause
   open_cause none disk count now file.Damaged cause = λ honest. ((cause honest).0, λ kept holds. (cause honest).1 kept holds.stores)
-  open_cause none disk count now file.OldLayout cause = λ honest kept stores. none disk.now.contents kept (cause honest) stores
+  open_cause none disk count now file.OldLayout cause = λ honest kept stores. none stores.0 disk.now.contents kept (cause honest) stores.1
   open_cause none disk count now file.TooSmall cause = cause
   open_cause none disk count now file.TableFull cause = cause
   open_cause none disk count now file.OutOfMemory cause = cause
@@ -191,7 +194,7 @@ module _ (Stores : Layout) (IsOlder : Older) where
   open_cause none disk count now file.Inconsistent cause = cause
 
   -- and which layout it has is told
-  pub open_older : (disk : Disk) (count now : ℕ) (fault : FileFault) → FileOpenCause Stores IsOlder disk count now fault → LayoutCause IsOlder disk (file_fault fault)
+  pub open_older : (disk : Disk) (count now : ℕ) (fault : FileFault) → FileOpenCause (in_any Stores) IsOlder disk count now fault → LayoutCause IsOlder disk (file_fault fault)
   open_older disk count now file.Damaged cause = λ honest. (cause honest).2
   open_older disk count now file.OldLayout cause = cause
   open_older disk count now fault cause = tt
@@ -210,14 +213,14 @@ create_cause disk count now file.Closed cause = cause
 create_cause disk count now file.Inconsistent cause = cause
 
 -- a solver over a file that was opened
-pub opened_with : {X E : Type 0} (Stores : Layout) (disk : Disk) (count : ℕ) (file : State) (r : Result X E) (state : X → State) (IsReady : X → Type 0)
+pub opened_with : {X E : Type 0} (Stores : ℕ → Layout) (disk : Disk) (count : ℕ) (file : State) (r : Result X E) (state : X → State) (IsReady : X → Type 0)
     → StoresOne Stores → IsOpenedFile Stores disk count file → (IsTrue file.disk.honest → OnOk r (IsOfAGame file.kept)) → IfOk r (λ x. IsAsked Stores file (state x)) → IfOk r IsReady
     → ((x : X) → IsReady x → Leaves Stores (state x)) → IfOk r (λ x. IsOpened Stores disk count (state x))
 opened_with Stores disk count file (Ok x) state IsReady one found of_a_game asked ready leaves = opened Stores disk count file one found of_a_game (state x) asked (leaves x ready)
 opened_with Stores disk count file (Err e) state IsReady one found of_a_game asked ready leaves = tt
 
 -- and over one that was made
-pub created_with : {X E : Type 0} (Stores : Layout) (disk : Disk) (count : ℕ) (file : State) (r : Result X E) (state : X → State) (IsReady : X → Type 0)
+pub created_with : {X E : Type 0} (Stores : ℕ → Layout) (disk : Disk) (count : ℕ) (file : State) (r : Result X E) (state : X → State) (IsReady : X → Type 0)
     → IsCreatedFile Stores disk count file → IfOk r (λ x. IsAsked Stores file (state x)) → IfOk r IsReady
     → ((x : X) → IsReady x → Leaves Stores (state x)) → IfOk r (λ x. IsCreated Stores disk count (state x))
 created_with Stores disk count file (Ok x) state IsReady made asked ready leaves = created Stores disk count file made (state x) asked (leaves x ready)

@@ -40,15 +40,17 @@ a_sound_table_is_exact (Some kept) (game, is_read, sound) =
 
 -- what a command may do to a sound table leaves it sound
 does_sound : (reply : Reply) (command : Command) (old new : Option Kept) → Does reply command old new → IsSound old → IsSound new
-does_sound Loaded (load text) old new loads sound = subst (λ (k : Option Kept). IsSound k) (sym loads.is) (loads.game, loads.reads, a_first_table_is_sound Bits None loads.game)
+does_sound Loaded (load text goal) old new loads sound = subst (λ (k : Option Kept). IsSound k) (sym loads.is) (loads.game, loads.reads, a_first_table_is_sound Bits goal loads.game)
 does_sound Loaded (work units) old new does sound = absurd does
-does_sound (Worked done counts) (load text) old new does sound = absurd does
+does_sound (Worked done counts) (load text goal) old new does sound = absurd does
 does_sound (Worked done counts) (work units) old new works sound =
     let (game, is_read, here) : IsSound (Some works.was) = subst (λ (k : Option Kept). IsSound k) works.loaded sound in
     subst (λ (k : Option Kept). IsSound k) (sym works.worked) (
       game,
       subst (λ (text : List ℕ). Reads text game) (sym works.same_text) is_read,
-      subst (λ (packing : PackingKind). IsLocallySound (graph_of packing None game) (IsWideAt packing game) works.is.table) (sym works.same_packing) (works.work game is_read here).sound,
+      subst (λ (packing : PackingKind). IsLocallySound (graph_of packing works.is.goal game) (IsWideAt packing game) works.is.table) (sym works.same_packing)
+          (subst (λ (goal : Option ℕ). IsLocallySound (graph_of works.was.packing goal game) (IsWideAt works.was.packing game) works.is.table) (sym works.same_goal)
+          (works.work game is_read here).sound),
     )
 does_sound (Refused fault) command old new same sound = subst (λ (k : Option Kept). IsSound k) (sym same) sound
 
@@ -70,7 +72,7 @@ what_sittings_lead_to_is_sound [] old new same sound = subst (λ (k : Option Kep
 what_sittings_lead_to_is_sound (sitting ∷ sittings) old new (begins, (mid, all, (left, may, rest))) sound =
     what_sittings_lead_to_is_sound sittings left new rest (may_sound sitting.in_doubt mid left may (all_sound sitting.answered old mid all sound))
 
-module _ (Stores : Layout) where
+module _ (Stores : ℕ → Layout) where
   -- a solver that is open was open before
   turn_open : (b : Bool) (command : Command) (reply : Reply) (was is : State) → IsTurn Stores command reply was is → is.closed ≡ false → was.closed ≡ b → was.closed ≡ false
   turn_open false command reply was is turn open_ its_state = its_state
@@ -81,11 +83,17 @@ module _ (Stores : Layout) where
   used_open (a_question asked rest) open_ = sym asked.closed ∙ used_open rest open_
   used_open (a_command {asked} {reply} {answered} {was} {mid} {is} turn rest) open_ = turn_open was.closed asked reply was mid turn (used_open rest open_) refl
 
+  -- no call changes how many pages there are
+  used_capacity : {answered : List (Command × Reply)} {was is : State} → IsUsed Stores answered was is → is.capacity ≡ was.capacity
+  used_capacity no_call = refl
+  used_capacity (a_question asked rest) = used_capacity rest ∙ asked.ahead.capacity
+  used_capacity (a_command turn rest) = used_capacity rest ∙ turn.ahead.capacity
+
   -- a solver on an honest disk that is open, and a stop now leaves the sound table that is kept
   record IsFit (state : State) : Type 0 where
     honest : IsTrue state.disk.honest
     sound : IsSound state.kept
-    leaves : LeavesNow Stores state.disk state.kept
+    leaves : LeavesNow (Stores state.capacity) state.disk state.kept
 
   -- commands that were answered have done what their replies say
   used_does : {answered : List (Command × Reply)} {was is : State} → IsUsed Stores answered was is → is.closed ≡ false → IsFit was → DoAll answered was.kept is.kept × IsFit is
@@ -96,7 +104,8 @@ module _ (Stores : Layout) where
       let it : IsFit mid = record {
         honest = still_honest asked.ahead.goes_on fit.honest;
         sound = subst (λ (k : Option Kept). IsSound k) (sym same) fit.sound;
-        leaves = subst (λ (k : Option Kept). LeavesNow Stores mid.disk k) (sym same) (asked.now fit.honest was_open);
+        leaves = subst (λ (pages : ℕ). LeavesNow (Stores pages) mid.disk mid.kept) (sym asked.ahead.capacity)
+            (subst (λ (k : Option Kept). LeavesNow (Stores was.capacity) mid.disk k) (sym same) (asked.now fit.honest was_open));
       } in
       let (all, fit_then) = used_does rest open_ it in
       (subst (λ (k : Option Kept). DoAll answered k is.kept) same all, fit_then)
@@ -115,9 +124,9 @@ module _ (Stores : Layout) where
   -- what is left of a table in a sitting: it is stored, and the sitting leads to it
   record IsLeft (in_doubt : Option Command) (last : State) (picture : Picture) (kept : Option Kept) : Type 0 where
     may : DoesInDoubt in_doubt last.kept kept
-    stores : Stores picture kept
+    stores : Stores last.capacity picture kept
 
-  either : (command : Command) (last : State) (next : Option Kept) (picture : Picture) → MayDo command last.kept next → Stores picture last.kept ⊎ Stores picture next
+  either : (command : Command) (last : State) (next : Option Kept) (picture : Picture) → MayDo command last.kept next → Stores last.capacity picture last.kept ⊎ Stores last.capacity picture next
       → (kept : Option Kept) × IsLeft (Some command) last picture kept
   either command last next picture does (inl stores) = (last.kept, record { may = (Refused DiskFailed, refl); stores = stores })
   either command last next picture does (inr stores) = (next, record { may = does; stores = stores })
@@ -140,20 +149,20 @@ module _ (Stores : Layout) where
   ends_left {last} (by_a_fault {asked} {reply} {is} turn shut moment from to) open_ fit picture left = in_command true asked reply last is turn open_ shut fit moment picture from to left
 
   -- what is left of a sitting is a table that it leads to
-  pub sitting_leads : (was : State) (sitting : Sitting) (left : Shown) → IsSitting Stores was sitting left → IsTrue was.disk.honest → IsSound was.kept → LeavesNow Stores was.disk was.kept
-      → (picture : Picture) → MayLeave left picture → (kept : Option Kept) × LeadTo (sitting ∷ []) was.kept kept × Stores picture kept
+  pub sitting_leads : (was : State) (sitting : Sitting) (left : Shown) → IsSitting Stores was sitting left → IsTrue was.disk.honest → IsSound was.kept → LeavesNow (Stores was.capacity) was.disk was.kept
+      → (picture : Picture) → MayLeave left picture → (kept : Option Kept) × LeadTo (sitting ∷ []) was.kept kept × Stores was.capacity picture kept
   sitting_leads was sitting left it honest sound leaves picture may =
       let (all, fit) = used_does it.used it.is_open (record { honest = honest; sound = sound; leaves = leaves }) in
       let (kept, is) = ends_left it.ends it.is_open fit picture may in
-      (kept, (it.begins, (it.last.kept, all, (kept, is.may, refl))), is.stores)
+      (kept, (it.begins, (it.last.kept, all, (kept, is.may, refl))), subst (λ (pages : ℕ). Stores pages picture kept) (used_capacity it.used) is.stores)
 
   -- what is left of it holds the table, and what that says is so
-  sitting_holds : (was : State) (sitting : Sitting) (left : Shown) → IsSitting Stores was sitting left → IsTrue was.disk.honest → IsSound was.kept → LeavesNow Stores was.disk was.kept
-      → (picture : Picture) → MayLeave left picture → (kept : Option Kept) × LeadTo (sitting ∷ []) was.kept kept × Holds Stores picture kept × IsExact kept
+  sitting_holds : (was : State) (sitting : Sitting) (left : Shown) → IsSitting Stores was sitting left → IsTrue was.disk.honest → IsSound was.kept → LeavesNow (Stores was.capacity) was.disk was.kept
+      → (picture : Picture) → MayLeave left picture → (kept : Option Kept) × LeadTo (sitting ∷ []) was.kept kept × Holds (Stores was.capacity) picture kept × IsExact kept
   sitting_holds was sitting left it honest sound leaves picture may =
       let (kept, leads, stores) = sitting_leads was sitting left it honest sound leaves picture may in
       let sound_now = what_sittings_lead_to_is_sound (sitting ∷ []) was.kept kept leads sound in
-      (kept, leads, a_sound_table_is_held Stores picture kept stores sound_now, a_sound_table_is_exact kept sound_now)
+      (kept, leads, a_sound_table_is_held (Stores was.capacity) picture kept stores sound_now, a_sound_table_is_exact kept sound_now)
 
   -- the states of a run are those of one disk
   turns_go_on : (commands : List Command) (replies : List Reply) (was is : State) → Turns Stores commands replies was is → GoesOn was.disk is.disk

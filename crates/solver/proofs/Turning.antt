@@ -64,7 +64,7 @@ ahead_then first second = record {
   closes = closes_then first.goes_on.failed_writes second.goes_on.failed_writes first.closes second.closes;
 }
 
-module _ (Stores : Layout) where
+module _ (Stores : ℕ → Layout) where
   module _ (command : Command) (old new : State) (ahead : GoesAhead old new) where
     -- a command that is done is one of a run
     pub done_turn : (reply : Reply) → IsDone Stores command reply old new → (old.closed ≡ true → ⊥) → IsTurnWithCause Stores command reply old new
@@ -88,9 +88,10 @@ module _ (Stores : Layout) where
         ahead = ahead;
         between = λ honest was is. leaves_more (λ picture stores. inl stores) (it.stops.since honest is);
         at = λ honest was is picture left.
-            subst (λ (kept : Option Kept). Stores picture kept) (sym (it.stops.same honest))
+            subst (λ (pages : ℕ). Stores pages picture new.kept) (sym ahead.capacity)
+            (subst (λ (kept : Option Kept). Stores old.capacity picture kept) (sym (it.stops.same honest))
             ((it.stops.since honest is).each new.disk.clock picture ahead.goes_on.later (omega arith)
-            (subst (λ shown. MayLeave shown picture) (sym new.disk.was_now) left));
+            (subst (λ shown. MayLeave shown picture) (sym new.disk.was_now) left)));
         failed = λ was is. record {
           reply_is = ap Refused (is_disk fault old.closed new.closed it.still was is);
           leaves = λ honest. it.stops.failed honest was is;

@@ -64,30 +64,30 @@ stops_on source k stored same units count fault counted stops =
 module _ (source : Compiled) (k : Kept) (made : IsMadeOf source k) where
   -- what holds of the source's game holds of any that the text read to
   pub of_any : (P : PackingKind → Option ℕ → Game → Type 0) (game : Game) → Reads k.text game
-      → P (packing_kind source) (compiled_goal source) (compiled_game source) → P k.packing None game
+      → P (packing_kind source) (compiled_goal source) (compiled_game source) → P k.packing k.goal game
   of_any P game read so =
-      subst (λ (g : Game). P k.packing None g) (one_game k.text (compiled_game source) game made.reads read)
+      subst (λ (g : Game). P k.packing k.goal g) (one_game k.text (compiled_game source) game made.reads read)
       (subst (λ (w : Option ℕ). P k.packing w (compiled_game source)) made.goal
       (subst (λ (p : PackingKind). P p (compiled_goal source) (compiled_game source)) made.packing so))
 
-  pub to_source : (P : PackingKind → Option ℕ → Game → Type 0) (game : Game) → Reads k.text game → P k.packing None game
+  pub to_source : (P : PackingKind → Option ℕ → Game → Type 0) (game : Game) → Reads k.text game → P k.packing k.goal game
       → P (packing_kind source) (compiled_goal source) (compiled_game source)
   to_source P game read so =
       subst (λ (p : PackingKind). P p (compiled_goal source) (compiled_game source)) (sym made.packing)
       (subst (λ (w : Option ℕ). P k.packing w (compiled_game source)) (sym made.goal)
-      (subst (λ (g : Game). P k.packing None g) (one_game k.text game (compiled_game source) read made.reads) so))
+      (subst (λ (g : Game). P k.packing k.goal g) (one_game k.text game (compiled_game source) read made.reads) so))
 
   pub sound_here : IsSound (Some k) → IsLocallySound (graph_of (packing_kind source) (compiled_goal source) (compiled_game source)) (IsWideAt (packing_kind source) (compiled_game source)) k.table
   sound_here (game, read, sound) = to_source (λ p w g. IsLocallySound (graph_of p w g) (IsWideAt p g) k.table) game read sound
 
   module _ (units done : ℕ) (now : Stored (List ℕ))
       (works : IsLocallySound (graph_of (packing_kind source) (compiled_goal source) (compiled_game source)) (IsWideAt (packing_kind source) (compiled_game source)) k.table → IsWorkOf (packing_kind source) (compiled_goal source) (compiled_game source) units k.table done now) where
-    pub work_by : (game : Game) → Reads k.text game → IsLocallySound (graph_of k.packing None game) (IsWideAt k.packing game) k.table → IsWorkOf k.packing None game units k.table done now
+    pub work_by : (game : Game) → Reads k.text game → IsLocallySound (graph_of k.packing k.goal game) (IsWideAt k.packing game) k.table → IsWorkOf k.packing k.goal game units k.table done now
     work_by game read sound =
         of_any (λ p w g. IsWorkOf p w g units k.table done now) game read (works (to_source (λ p w g. IsLocallySound (graph_of p w g) (IsWideAt p g) k.table) game read sound))
 
     -- a sound table stays sound
-    pub worked_sound : IsSound (Some k) → IsSound (Some (kept_as k.text k.packing now))
+    pub worked_sound : IsSound (Some k) → IsSound (Some (kept_as k.text k.packing k.goal now))
     worked_sound sound = (
       compiled_game source,
       made.reads,
@@ -104,34 +104,35 @@ module _ (source : Compiled) (k : Kept) (made : IsMadeOf source k) where
         let (are, is_fits) = sound_tables_fit (packing_kind source) (compiled_goal source) game now start (works here).sound in
         cause (packed_length (packing_kind source) game) was_fits is_fits
 
-module _ (Stores : Layout) (old new : State) (source : Compiled) (k : Kept) (made : IsMadeOf source k) (loaded : old.kept ≡ Some k)
+module _ (Stores : ℕ → Layout) (old new : State) (source : Compiled) (k : Kept) (made : IsMadeOf source k) (loaded : old.kept ≡ Some k)
     (units done : ℕ) (now : Stored (List ℕ))
     (works : IsTrue old.disk.honest → IsLocallySound (graph_of (packing_kind source) (compiled_goal source) (compiled_game source)) (IsWideAt (packing_kind source) (compiled_game source)) k.table → IsWorkOf (packing_kind source) (compiled_goal source) (compiled_game source) units k.table done now) where
-  works_of : (counts : Counts) → counts ≡ counts_of now → IsTrue old.disk.honest → WorksOnTable units old.kept done counts (Some (kept_as k.text k.packing now))
+  works_of : (counts : Counts) → counts ≡ counts_of now → IsTrue old.disk.honest → WorksOnTable units old.kept done counts (Some (kept_as k.text k.packing k.goal now))
   works_of counts counted honest = record {
     was = k;
     loaded = loaded;
-    is = kept_as k.text k.packing now;
+    is = kept_as k.text k.packing k.goal now;
     worked = refl;
     same_text = refl;
     same_packing = refl;
+    same_goal = refl;
     work = work_by source k made units done now (works honest);
     counted = counted;
   }
 
   -- units are done and kept
   pub worked_done : (counts : Counts) → (IsTrue old.disk.honest → counts ≡ counts_of now) → Leaves Stores new → GoesOn old.disk new.disk
-      → IsPut Stores (kept_as k.text k.packing now) old new → IsDone Stores (work units) (Worked done counts) old new
+      → IsPut Stores (kept_as k.text k.packing k.goal now) old new → IsDone Stores (work units) (Worked done counts) old new
   worked_done counts counted leaves goes_on put = record {
     step = record {
       does = λ honest. subst (λ (kept : Option Kept). WorksOnTable units old.kept done counts kept) (sym (put.kept honest)) (works_of counts (counted honest) honest);
       reason = tt;
     };
-    stops = put_stops Stores (kept_as k.text k.packing now) old new leaves goes_on put;
+    stops = put_stops Stores (kept_as k.text k.packing k.goal now) old new leaves goes_on put;
   }
 
   -- they are kept, and sound
-  pub kept_sound : IsTrue old.disk.honest → IsSound old.kept → IsPut Stores (kept_as k.text k.packing now) old new → IsSound new.kept
+  pub kept_sound : IsTrue old.disk.honest → IsSound old.kept → IsPut Stores (kept_as k.text k.packing k.goal now) old new → IsSound new.kept
   kept_sound honest sound put =
       subst (λ (kept : Option Kept). IsSound kept) (sym (put.kept honest))
       (worked_sound source k made units done now (works honest) (subst (λ (kept : Option Kept). IsSound kept) loaded sound))
@@ -150,7 +151,7 @@ module _ (Stores : Layout) (old new : State) (source : Compiled) (k : Kept) (mad
       not_unfit source k made units done now (works honest) (subst (λ (kept : Option Kept). IsSound kept) loaded sound) (cause honest)
 
   -- they are not kept
-  pub not_kept : (fault : FileFault) → IsNotPut Stores (kept_as k.text k.packing now) old new → FileCommitCause k.table now old new fault
+  pub not_kept : (fault : FileFault) → IsNotPut Stores (kept_as k.text k.packing k.goal now) old new → FileCommitCause k.table now old new fault
       → (fault ≢ file.Disk → new.closed ≡ old.closed) → IsRefused Stores (work units) old new (file_fault fault)
   not_kept fault left cause still = record {
     step = record { does = left.kept; reason = keep_cause fault cause };
@@ -159,15 +160,16 @@ module _ (Stores : Layout) (old new : State) (source : Compiled) (k : Kept) (mad
       counts = left.counts;
       text = left.text;
       packing = left.packing;
+      goal = left.goal;
       same = left.kept;
       since = left.leaves;
-      failed = λ honest was is. (Some (kept_as k.text k.packing now), (Worked done (counts_of now), works_of (counts_of now) refl honest), left.either honest was);
+      failed = λ honest was is. (Some (kept_as k.text k.packing k.goal now), (Worked done (counts_of now), works_of (counts_of now) refl honest), left.either honest was);
     };
     still = λ other. still (λ is. other (ap file_fault is));
   }
 
 -- no unit is done, and nothing kept
-pub idle_done : (Stores : Layout) (state : State) (source : Compiled) (k : Kept) → IsMadeOf source k → state.kept ≡ Some k → (units done : ℕ) (now : Stored (List ℕ)) (counts : Counts)
+pub idle_done : (Stores : ℕ → Layout) (state : State) (source : Compiled) (k : Kept) → IsMadeOf source k → state.kept ≡ Some k → (units done : ℕ) (now : Stored (List ℕ)) (counts : Counts)
     → (IsTrue state.disk.honest → IsLocallySound (graph_of (packing_kind source) (compiled_goal source) (compiled_game source)) (IsWideAt (packing_kind source) (compiled_game source)) k.table → IsWorkOf (packing_kind source) (compiled_goal source) (compiled_game source) units k.table done now)
     → (IsTrue state.disk.honest → now ≡ k.table) → (IsTrue state.disk.honest → counts ≡ counts_of now) → Leaves Stores state → state.closed ≡ false
     → IsDone Stores (work units) (Worked done counts) state state
@@ -176,10 +178,11 @@ idle_done Stores state source k made loaded units done now counts works same cou
     does = λ honest. record {
       was = k;
       loaded = loaded;
-      is = kept_as k.text k.packing now;
-      worked = loaded ∙ ap (λ (t : Stored (List ℕ)). Some (kept_as k.text k.packing t)) (sym (same honest));
+      is = kept_as k.text k.packing k.goal now;
+      worked = loaded ∙ ap (λ (t : Stored (List ℕ)). Some (kept_as k.text k.packing k.goal t)) (sym (same honest));
       same_text = refl;
       same_packing = refl;
+      same_goal = refl;
       work = work_by source k made units done now (works honest);
       counted = counted honest;
     };
@@ -212,7 +215,7 @@ left_so Fails step.Inconsistent left back failed = back left
 left_so Fails step.OutOfMemory left back failed = back left
 left_so Fails (step.Table fault) left back failed = failed fault left
 
-module _ (Stores : Layout) (old new : State) (source : Compiled) (k : Kept) (made : IsMadeOf source k) (loaded : old.kept ≡ Some k) (units : ℕ) where
+module _ (Stores : ℕ → Layout) (old new : State) (source : Compiled) (k : Kept) (made : IsMadeOf source k) (loaded : old.kept ≡ Some k) (units : ℕ) where
   stops_at : (fault : StepFault) → (IsTrue old.disk.honest → IsLocallySound (graph_of (packing_kind source) (compiled_goal source) (compiled_game source)) (IsWideAt (packing_kind source) (compiled_game source)) k.table
       → StopsWith (graph_of (packing_kind source) (compiled_goal source) (compiled_game source)) (IsWideAt (packing_kind source) (compiled_game source)) k.table units fault) → IsTrue old.disk.honest → StopsAt units old.kept fault
   stops_at fault cause honest =
@@ -257,6 +260,7 @@ module _ (Stores : Layout) (old new : State) (source : Compiled) (k : Kept) (mad
         counts = given.counts;
         text = given.text;
         packing = given.packing;
+        goal = given.goal;
         same = given.kept;
         since = λ honest open_. given.leaves honest is_open;
         failed = λ honest was is. (old.kept, (Refused (step_fault fault), refl), leaves_more (λ picture left. inl left) (given.leaves honest is_open));

@@ -8,7 +8,7 @@ use Rattle.retrograde.specs.Graph.{IsReachable}
 use Rattle.retrograde.specs.Stored.{view_of}
 use Rattle.retrograde.specs.Values.{WonIn, Drawn}
 use Rattle.retrograde.specs.View.{IsKnown, HasNumber, HasValue, IsFinished}
-use Rattle.game_file.specs.Kept.{Kept, Layout}
+use Rattle.game_file.specs.Kept.{Kept, Layout, in_any}
 use Rattle.game_file.specs.State.{State}
 use Rattle.game_file.specs.Stops.{LeavesNow}
 use Rattle.solver.specs.declared.fault.SolverFault.{SolverFault}
@@ -39,13 +39,13 @@ IsExact (Some kept) = (game : Game) × SaysWhatIs kept game
 abbrev pub IsUnlucky : ℕ → ℕ → SolverFault → Type 0
 IsUnlucky before now fault = ((fault ≡ DiskFailed) × Grew before now) ⊎ (fault ≡ OutOfMemory)
 
-module _ (Stores : Layout) where
+module _ (Stores : ℕ → Layout) where
   -- reopening gives this table: an honest disk that reads as the picture is opened with it, and every stop then leaves it; or `open`
   -- is refused because the disk failed or memory ran out, and for nothing else
   pub record Reopens (picture : Picture) (kept : Option Kept) : Type 0 where
-    pub holds : Holds Stores picture kept
+    pub holds : Holds (in_any Stores) picture kept
     pub gives : (disk : Disk) (count : ℕ) (state : State) → IsTrue disk.honest → disk.now.contents ≡ picture
-        → IsOpened Stores disk count state → (state.kept ≡ kept) × LeavesNow Stores state.disk kept
+        → IsOpened Stores disk count state → (state.kept ≡ kept) × LeavesNow (Stores state.capacity) state.disk kept
     pub fails : (disk : Disk) (before now : ℕ) (fault : SolverFault) → IsTrue disk.honest → disk.now.contents ≡ picture
         → OpenCause Stores disk before now fault → IsUnlucky before now fault
 
@@ -74,4 +74,4 @@ module _ (Stores : Layout) where
       → (sitting : Sitting) × IsAnsweredBy moment sitting.answered sitting.in_doubt commands replies old new
       × IsSitting Stores old sitting (new.disk.was moment)
       × ((picture : Picture) → MayLeave (new.disk.was moment) picture
-      → (kept : Option Kept) × LeadTo (sitting ∷ []) old.kept kept × Holds Stores picture kept × IsExact kept)
+      → (kept : Option Kept) × LeadTo (sitting ∷ []) old.kept kept × Holds (Stores old.capacity) picture kept × IsExact kept)

@@ -9,10 +9,10 @@ use Rattle.retrograde.specs.Sound.{IsLocallySound}
 use Rattle.game_table.specs.Tables.{ArePositions}
 use Rattle.game_file.specs.Kept.{Kept, Layout}
 
--- the game of a table as a graph of positions, packed as the table has them: where it starts, who has the turn, who is ahead, and where
--- a move leads
+-- the game of a table as a graph of positions, packed as the table has them and with its goal: where it starts, who has the turn, who is
+-- ahead, and where a move leads
 abbrev pub graph_in : Game → Kept → Graph (List ℕ)
-graph_in game kept = graph_of kept.packing None game
+graph_in game kept = graph_of kept.packing kept.goal game
 
 -- the search for the moves of the position reaches too many
 abbrev pub wide_in : Game → Kept → List ℕ → Type 0

@@ -32,7 +32,7 @@ LeadTo [] old new = new ≡ old
 LeadTo (sitting ∷ sittings) old new = (sitting.begins ≡ old) × ((mid : Option Kept) × DoAll sitting.answered old mid
     × ((left : Option Kept) × DoesInDoubt sitting.in_doubt mid left × LeadTo sittings left new))
 
-module _ (Stores : Layout) where
+module _ (Stores : ℕ → Layout) where
   -- calls on a solver, one after another: commands with their replies, and questions, which change nothing
   pub data IsUsed : List (Command × Reply) → State → State → Type 0 where
     no_call : {state : State} → IsUsed [] state state

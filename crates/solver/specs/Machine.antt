@@ -26,15 +26,16 @@ use Rattle.solver.specs.State.{IsOfOtherOrigin}
 
 -- what changes the table
 pub data Command : Type 0 where
-  load : (text : List ℕ) → Command
+  load : (text : List ℕ) (goal : Option ℕ) → Command
   work : (units : ℕ) → Command
 
--- where no game is loaded, the game that the text reads to is now, its positions packed by bits, and its start is known and no more
-pub record Loads (text : List ℕ) (old new : Option Kept) : Type 0 where
+-- where no game is loaded, the game that the text reads to is now, with this goal, its positions packed by bits, and its start is known
+-- and no more
+pub record Loads (text : List ℕ) (goal : Option ℕ) (old new : Option Kept) : Type 0 where
   pub none : old ≡ None
   pub game : Game
   pub reads : Reads text game
-  pub is : new ≡ Some (record { text = text; packing = Bits; table = loaded (graph_of Bits None game).start })
+  pub is : new ≡ Some (record { text = text; packing = Bits; goal = goal; table = loaded (graph_of Bits goal game).start })
 
 -- so many units were asked of the old table and these done, or the new one is finished by then; it has these counts. Nothing is said
 -- of a table that is not sound
@@ -45,13 +46,14 @@ pub record WorksOnTable (units : ℕ) (old : Option Kept) (done : ℕ) (counts :
   pub worked : new ≡ Some is
   pub same_text : is.text ≡ was.text
   pub same_packing : is.packing ≡ was.packing
+  pub same_goal : is.goal ≡ was.goal
   pub work : (game : Game) → Reads was.text game → IsLocallySound (graph_in game was) (wide_in game was) was.table
       → AreDone (graph_in game was) (wide_in game was) units was.table done is.table
   pub counted : counts ≡ counts_of is.table
 
 -- what a command with this reply does to the table: it is done where the reply says so, and a refusal leaves the table
 abbrev pub Does : Reply → Command → Option Kept → Option Kept → Type 0
-Does Loaded (load text) old new = Loads text old new
+Does Loaded (load text goal) old new = Loads text goal old new
 Does (Worked done counts) (work units) old new = WorksOnTable units old done counts new
 Does (Refused fault) command old new = new ≡ old
 Does _ _ old new = ⊥
@@ -98,9 +100,9 @@ WorkCause units old new _ = ⊥
 
 -- a command has such a reply, and where it is refused a cause of that
 abbrev pub HasReason : Reply → Command → State → State → Type 0
-HasReason Loaded (load text) old new = Unit {0}
+HasReason Loaded (load text goal) old new = Unit {0}
 HasReason (Worked done counts) (work units) old new = Unit {0}
-HasReason (Refused fault) (load text) old new = LoadCause text old new fault
+HasReason (Refused fault) (load text goal) old new = LoadCause text old new fault
 HasReason (Refused fault) (work units) old new = WorkCause units old new fault
 HasReason _ _ old new = ⊥
 

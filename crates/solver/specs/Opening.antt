@@ -1,37 +1,36 @@
 -- What `open` and `create` give.
-use Rattle.std.specs.Prelude.{◌≡◌, ◌<◌, ◌/◌, min, ℕ, false, Option, None, IsTrue}
+use Rattle.std.specs.Prelude.{◌≡◌, ◌<◌, ℕ, false, Option, None, IsTrue}
 use Rattle.sector_disk.specs.Disk.{Disk, size, LeavesOnly, MayLeave, Grew}
 use Rattle.root_pair.specs.Root.{Begins, IsTablePicture}
-use Rattle.game_file.specs.Kept.{Kept, Layout, Older}
-use Rattle.game_file.specs.State.{State, GoesFrom}
+use Rattle.game_file.specs.Kept.{Kept, Layout, Older, in_any}
+use Rattle.game_file.specs.State.{State, GoesFrom, pages_of}
 use Rattle.game_file.specs.Stops.{LeavesNow, OldOrEmpty}
 use Rattle.solver.specs.declared.fault.SolverFault.{SolverFault}
 use Rattle.solver.specs.declared.fault.SolverFault.TheVariants.{Disk as DiskFailed, NotATable, AlreadyATable, Damaged, OldLayout}
 use Rattle.solver.specs.declared.fault.SolverFault.TheVariants.{TooSmall, OutOfMemory}
 use Rattle.solver.specs.Held.{Holds}
 
-module _ (Stores : Layout) where
+module _ (Stores : ℕ → Layout) where
   -- `open` answers Ok: the table is the one that the disk holds, and no other; a stop since then leaves what it could leave
   -- before, and a stop now this table
   pub record IsOpened (disk : Disk) (count : ℕ) (state : State) : Type 0 where
     pub from : GoesFrom disk count state.disk state.failures
-    pub capacity : state.capacity ≡ min (size disk / 8) 1048576
     pub is_open : state.closed ≡ false
-    pub holds : IsTrue disk.honest → Holds Stores disk.now.contents state.kept
-    pub only : IsTrue disk.honest → (kept : Option Kept) → Holds Stores disk.now.contents kept → state.kept ≡ kept
+    pub holds : IsTrue disk.honest → Holds (Stores state.capacity) disk.now.contents state.kept
+    pub only : IsTrue disk.honest → (kept : Option Kept) → Holds (in_any Stores) disk.now.contents kept → state.kept ≡ kept
     pub since : IsTrue disk.honest → LeavesOnly disk state.disk (MayLeave disk.now)
-    pub now : IsTrue disk.honest → LeavesNow Stores state.disk state.kept
+    pub now : IsTrue disk.honest → LeavesNow (Stores state.capacity) state.disk state.kept
 
   -- `create` answers Ok: no table was there, and now the empty one is; a stop since then leaves no table, what it could leave
   -- before, or the empty table, and a stop now the empty table
   pub record IsCreated (disk : Disk) (count : ℕ) (state : State) : Type 0 where
     pub from : GoesFrom disk count state.disk state.failures
-    pub capacity : state.capacity ≡ min (size disk / 8) 1048576
+    pub capacity : state.capacity ≡ pages_of disk
     pub is_open : state.closed ≡ false
     pub empty : IsTrue disk.honest → state.kept ≡ None
     pub fresh : IsTrue disk.honest → ¬ Begins disk.now.contents
-    pub since : IsTrue disk.honest → LeavesOnly disk state.disk (OldOrEmpty Stores disk.now)
-    pub now : IsTrue disk.honest → LeavesNow Stores state.disk None
+    pub since : IsTrue disk.honest → LeavesOnly disk state.disk (OldOrEmpty (Stores state.capacity) disk.now)
+    pub now : IsTrue disk.honest → LeavesNow (Stores state.capacity) state.disk None
 
   -- why `open` is refused: the disk failed; no table is there; it begins as each table does, and holds none; it has an earlier layout,
   -- so that it stores none; or memory ran out
@@ -39,8 +38,8 @@ module _ (Stores : Layout) where
   OpenCause disk before now DiskFailed = Grew before now
   OpenCause disk before now NotATable = IsTrue disk.honest → ¬ IsTablePicture disk.now.contents
   OpenCause disk before now Damaged =
-      IsTrue disk.honest → IsTablePicture disk.now.contents × ((kept : Option Kept) → ¬ Holds Stores disk.now.contents kept)
-  OpenCause disk before now OldLayout = IsTrue disk.honest → (kept : Option Kept) → ¬ Stores disk.now.contents kept
+      IsTrue disk.honest → IsTablePicture disk.now.contents × ((kept : Option Kept) → ¬ Holds (in_any Stores) disk.now.contents kept)
+  OpenCause disk before now OldLayout = IsTrue disk.honest → (kept : Option Kept) → ¬ in_any Stores disk.now.contents kept
   OpenCause disk before now OutOfMemory = Unit {0}
   OpenCause disk before now _ = ⊥
 

@@ -1,5 +1,6 @@
 -- Many commands, one after another, and what a stop leaves in the course of each.
-use Rattle.std.specs.Prelude.{◌≡◌, true, false, List, [], ◌∷◌, ◌++◌, map, Option, IsTrue}
+use Rattle.std.specs.Prelude.{◌≡◌, ℕ, true, false, List, [], ◌∷◌, ◌++◌, map, Option, IsTrue}
+use Rattle.rbg_game.specs.Goals.{points_of}
 use Rattle.game_file.specs.Kept.{Kept, Layout}
 use Rattle.game_file.specs.State.{State, GoesAhead}
 use Rattle.game_file.specs.Stops.{LeavesNow, LeavesEither}
@@ -13,16 +14,16 @@ use Rattle.solver.specs.Units.{units_in}
 
 -- what a command of a list asks
 abbrev pub command_of : Asked → Command
-command_of (asked.Load text) = load text.items
+command_of (asked.Load text goal) = load text.items (points_of goal)
 command_of (asked.Work units) = work (units_in units)
 
-module _ (Stores : Layout) where
+module _ (Stores : ℕ → Layout) where
   -- a write or a sync has failed in this command: it is answered E1, and a stop since it began leaves the table before it or one
   -- that it may have come to
   pub record HasFailed (command : Command) (reply : Reply) (was is : State) : Type 0 where
     pub reply_is : reply ≡ Refused DiskFailed
     pub leaves : IsTrue was.disk.honest → (next : Option Kept) × MayDo command was.kept next
-        × LeavesEither Stores was.disk is.disk was.kept next
+        × LeavesEither (Stores was.capacity) was.disk is.disk was.kept next
 
   -- one command of a run, from the state of the solver before it to the one after it. It does what its reply says. A stop between
   -- the two moments leaves the table before or the one after, and a stop at the second the one after; where a write or a sync fails
@@ -30,8 +31,8 @@ module _ (Stores : Layout) where
   pub record IsTurn (command : Command) (reply : Reply) (was is : State) : Type 0 where
     pub does : IsTrue was.disk.honest → Does reply command was.kept is.kept
     pub ahead : GoesAhead was is
-    pub between : IsTrue was.disk.honest → was.closed ≡ false → is.closed ≡ false → LeavesEither Stores was.disk is.disk was.kept is.kept
-    pub at : IsTrue was.disk.honest → was.closed ≡ false → is.closed ≡ false → LeavesNow Stores is.disk is.kept
+    pub between : IsTrue was.disk.honest → was.closed ≡ false → is.closed ≡ false → LeavesEither (Stores was.capacity) was.disk is.disk was.kept is.kept
+    pub at : IsTrue was.disk.honest → was.closed ≡ false → is.closed ≡ false → LeavesNow (Stores is.capacity) is.disk is.kept
     pub failed : was.closed ≡ false → is.closed ≡ true → HasFailed command reply was is
     pub shut : was.closed ≡ true → (reply ≡ Refused Closed) × (is ≡ was)
 
@@ -52,5 +53,5 @@ module _ (Stores : Layout) where
   pub record IsRun (commands : List Asked) (before after : List Reply) (was is : State) : Type 0 where
     pub added : List Reply
     pub replies_are : after ≡ before ++ added
-    pub begins : IsTrue was.disk.honest → was.closed ≡ false → LeavesNow Stores was.disk was.kept
+    pub begins : IsTrue was.disk.honest → was.closed ≡ false → LeavesNow (Stores was.capacity) was.disk was.kept
     pub turns : Turns (map command_of commands) added was is

@@ -7,11 +7,11 @@ use Rattle.game_file.specs.Kept.{Kept}
 use Rattle.game_file.specs.State.{State}
 use Rattle.solver.specs.Held.{IsSound}
 
--- this game in memory is the one that the text of the table reads to, packs positions as the table does, and has no goal
+-- this game in memory is the one that the text of the table reads to, packs positions as the table does, and has its goal
 pub record IsMadeOf (source : Compiled) (kept : Kept) : Type 0 where
   pub reads : Reads kept.text (compiled_game source)
   pub packing : packing_kind source ≡ kept.packing
-  pub goal : compiled_goal source ≡ None
+  pub goal : compiled_goal source ≡ kept.goal
 
 -- where a game is loaded, it is made ready in memory
 abbrev pub IsSourceOf : Option Compiled → Option Kept → Type 0

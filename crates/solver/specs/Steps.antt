@@ -1,5 +1,5 @@
 -- What a command on a solver does, by what it answers.
-use Rattle.std.specs.Prelude.{◌≡◌, ◌≢◌}
+use Rattle.std.specs.Prelude.{◌≡◌, ◌≢◌, ℕ}
 use Rattle.game_file.specs.Kept.{Layout}
 use Rattle.game_file.specs.State.{State}
 use Rattle.solver.specs.declared.fault.SolverFault.{SolverFault}
@@ -9,7 +9,7 @@ use Rattle.solver.specs.declared.replies.Reply.TheVariants.{Refused}
 use Rattle.solver.specs.Machine.{Command, MayDo, Step}
 use Rattle.solver.specs.Stops.{StopsDone, StopsRefused}
 
-module _ (Stores : Layout) where
+module _ (Stores : ℕ → Layout) where
   -- the command is done with this reply
   pub record IsDone (command : Command) (reply : Reply) (old new : State) : Type 0 where
     pub step : Step command old reply new

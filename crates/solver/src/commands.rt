@@ -3,7 +3,8 @@ ghost use Rattle.std.specs.Prelude.{◌≡◌, ◌≤◌, ◌↔◌, ℕ, List, 
 ghost use Rattle.std.specs.Prelude.{IsSome, IsOk, OnOk, IfOk, IfErr, IsErrOf, IsTrue};
 ghost use Rattle.sector_disk.specs.Disk.{Picture};
 ghost use Rattle.retrograde.specs.Changes.{counts_of};
-ghost use Rattle.game_file.specs.Kept.{Kept};
+ghost use Rattle.rbg_game.specs.Goals.{points_of};
+ghost use Rattle.game_file.specs.Kept.{Kept, in_any};
 ghost use Rattle.game_file.specs.Calls.{IsNotOpened, IsNotCreated};
 ghost use Rattle.game_file.specs.State.{GoesAhead};
 ghost use Rattle.game_file.specs.Stops.{LeavesNow};
@@ -21,6 +22,7 @@ use game_file::GameFile;
 use game_table::Source;
 use page_store::MOST_CACHED;
 use position_pack::PackingKind;
+use rbg_game::goal::Goal;
 use retrograde::Counts;
 use sector_disk::SectorDisk;
 use std::alloc::Global;
@@ -34,7 +36,7 @@ pub struct FileSolver<F: GameFile> {
     /// The game, where one is loaded.
     pub(crate) source: Option<Source>,
     // says nothing, but names the layout, so that contracts can write `state self` and need no path through a trait
-    ghost layout: { (picture : Picture) (kept : Option Kept) → F.stores picture kept → Unit {0} },
+    ghost layout: { (pages : ℕ) (picture : Picture) (kept : Option Kept) → F.stores pages picture kept → Unit {0} },
 }
 
 impl<F: GameFile> FileSolver<F> {
@@ -63,9 +65,9 @@ impl<F: GameFile> FileSolver<F> {
     pub fn open(alloc: Global, disk: F::Device) -> Result<Self, Refused<F::Device>>
         ensures ready { IfOk result IsReady }
         ensures opened { IfOk result (λ solver. IsOpened F.stores (F.Device.disk disk) (F.Device.failures disk) (state solver)) }
-        ensures gives { (kept : Option Kept) → IsTrue (F.Device.disk disk).honest → Holds F.stores (F.Device.disk disk).now.contents kept
-            → IfOk result (λ solver. ((state solver).kept ≡ kept) × LeavesNow F.stores (state solver).disk kept) }
-        ensures unlucky { (kept : Option Kept) → IsTrue (F.Device.disk disk).honest → Holds F.stores (F.Device.disk disk).now.contents kept
+        ensures gives { (kept : Option Kept) → IsTrue (F.Device.disk disk).honest → Holds (in_any F.stores) (F.Device.disk disk).now.contents kept
+            → IfOk result (λ solver. ((state solver).kept ≡ kept) × LeavesNow (F.stores (state solver).capacity) (state solver).disk kept) }
+        ensures unlucky { (kept : Option Kept) → IsTrue (F.Device.disk disk).honest → Holds (in_any F.stores) (F.Device.disk disk).now.contents kept
             → IfErr result (λ back. IsUnlucky (F.Device.failures disk) (F.Device.failures back.disk) back.fault) }
         ensures refused { IfErr result (λ back. IsNotOpened (F.Device.disk disk) (F.Device.failures disk) (F.Device.disk back.disk)
             (F.Device.failures back.disk)) }
@@ -86,9 +88,9 @@ impl<F: GameFile> FileSolver<F> {
         requires { pages ≤ 64 }
         ensures ready { IfOk result IsReady }
         ensures opened { IfOk result (λ solver. IsOpened F.stores (F.Device.disk disk) (F.Device.failures disk) (state solver)) }
-        ensures gives { (kept : Option Kept) → IsTrue (F.Device.disk disk).honest → Holds F.stores (F.Device.disk disk).now.contents kept
-            → IfOk result (λ solver. ((state solver).kept ≡ kept) × LeavesNow F.stores (state solver).disk kept) }
-        ensures unlucky { (kept : Option Kept) → IsTrue (F.Device.disk disk).honest → Holds F.stores (F.Device.disk disk).now.contents kept
+        ensures gives { (kept : Option Kept) → IsTrue (F.Device.disk disk).honest → Holds (in_any F.stores) (F.Device.disk disk).now.contents kept
+            → IfOk result (λ solver. ((state solver).kept ≡ kept) × LeavesNow (F.stores (state solver).capacity) (state solver).disk kept) }
+        ensures unlucky { (kept : Option Kept) → IsTrue (F.Device.disk disk).honest → Holds (in_any F.stores) (F.Device.disk disk).now.contents kept
             → IfErr result (λ back. IsUnlucky (F.Device.failures disk) (F.Device.failures back.disk) back.fault) }
         ensures refused { IfErr result (λ back. IsNotOpened (F.Device.disk disk) (F.Device.failures disk) (F.Device.disk back.disk)
             (F.Device.failures back.disk)) }
@@ -125,16 +127,16 @@ impl<F: GameFile> FileSolver<F> {
         }
     }
 
-    /// Loads the game of this text: E9, S2, then G1 to G10, then E1, E7, E8.
-    pub fn load(&mut self, text: &[u8]) -> Result<(), SolverFault>
+    /// Loads the game of this text with this goal, if there is one: E9, S2, then G1 to G10, then E1, E7, E8.
+    pub fn load(&mut self, text: &[u8], goal: Option<Goal>) -> Result<(), SolverFault>
         ensures ready { IsReady self.old → IsReady self.new }
         ensures lasts { F.lasts self.old.file self.new.file }
         ensures ahead { GoesAhead (state self.old) (state self.new) }
         ensures done { IsReady self.old
-            → OnOk result (IsDone F.stores (load_it text.now) Reply.Loaded (state self.old)
+            → OnOk result (IsDone F.stores (load_it text.now (points_of goal)) Reply.Loaded (state self.old)
             (state self.new)) }
         ensures refused { IsReady self.old
-            → IfErr result (IsRefused F.stores (load_it text.now) (state self.old)
+            → IfErr result (IsRefused F.stores (load_it text.now (points_of goal)) (state self.old)
             (state self.new)) }
         ensures closed { (state self.old).closed ≡ true → IsErrOf result SolverFault.Closed × (self.new ≡ self.old) }
         ensures already { (state self.old).closed ≡ false
@@ -145,8 +147,9 @@ impl<F: GameFile> FileSolver<F> {
             → IsSound (state self.new).kept }
     {
         self.needs_no_game()?;
-        let source = Source::read(self.alloc, text, PackingKind::Bits, None)?;
-        self.file.load(text, PackingKind::Bits, &source.start())?;
+        let source = Source::read(self.alloc, text, PackingKind::Bits, goal)?;
+        self.file
+            .load(text, PackingKind::Bits, goal, &source.start())?;
         self.source = Some(source);
         Ok(())
     }

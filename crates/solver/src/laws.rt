@@ -13,7 +13,7 @@ ghost use Rattle.retrograde.specs.View.{IsKnown, HasNumber, HasValue, IsFinished
 ghost use Rattle.best_line.specs.declared.answers.Value.{Value};
 ghost use Rattle.best_line.specs.Values.{IsComplete, IsValue};
 ghost use Rattle.best_line.specs.Laws.{IsSo};
-ghost use Rattle.game_file.specs.Kept.{Kept};
+ghost use Rattle.game_file.specs.Kept.{Kept, in_any};
 ghost use Rattle.game_file.specs.State.{State, GoesAhead};
 ghost use Rattle.solver.specs.Headline.{Headline};
 ghost use Rattle.solver.specs.Held.{Holds, IsSound, graph_in};
@@ -29,20 +29,22 @@ ghost use Rattle.solver.specs.declared.replies.Reply.TheVariants.{Refused};
 
 use game_file::GameFile;
 
-/// A picture of the disk stores one table at most.
+/// A picture of the disk stores one table at most, in one number of pages.
 pub fn a_picture_stores_one_table<F: GameFile>()
-    ensures { (picture : Picture) (one other : Option Kept) → F.stores picture one → F.stores picture other → one ≡ other }
+    ensures { (m n : ℕ) (picture : Picture) (one other : Option Kept) → F.stores m picture one → F.stores n picture other
+        → (m ≡ n) × (one ≡ other) }
 {}
 
 /// A picture that stores a locally sound table holds it.
 pub fn a_sound_table_is_held<F: GameFile>()
-    ensures { (picture : Picture) (kept : Option Kept) → F.stores picture kept → IsSound kept → Holds F.stores picture kept }
+    ensures { (pages : ℕ) (picture : Picture) (kept : Option Kept) → F.stores pages picture kept → IsSound kept
+        → Holds (F.stores pages) picture kept }
 {}
 
 /// Where each stop of the power has left the one table or the other, one of them is opened.
 pub fn what_was_left_is_opened<F: GameFile>()
     ensures { (disk : Disk) (count : ℕ) (state : State) (one other : Option Kept) → IsOpened F.stores disk count state → IsTrue disk.honest
-        → ((picture : Picture) → MayLeave disk.now picture → Holds F.stores picture one ⊎ Holds F.stores picture other)
+        → ((picture : Picture) → MayLeave disk.now picture → Holds (in_any F.stores) picture one ⊎ Holds (in_any F.stores) picture other)
         → (state.kept ≡ one) ⊎ (state.kept ≡ other) }
 {}
 

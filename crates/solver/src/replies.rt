@@ -2,6 +2,7 @@
 ghost use Rattle.std.specs.Prelude.{◌≤◌};
 
 use crate::SolverFault;
+use rbg_game::goal::Goal;
 use retrograde::Counts;
 
 /// How many units of work a command does, or rows it gives: 1 to 256.
@@ -48,8 +49,8 @@ pub struct Worked {
 /// What changes a table.
 #[derive(Drop)]
 pub enum Command {
-    /// Loads the game of this text.
-    Load(Vec<u8>),
+    /// Loads the game of this text with this goal, if there is one.
+    Load(Vec<u8>, Option<Goal>),
     /// Does so many units of work, or fewer where the table is finished by then.
     Work(Units),
 }

@@ -22,7 +22,7 @@ impl<F: GameFile> FileSolver<F> {
             → IsSound (state self.new).kept }
     {
         match command {
-            Command::Load(text) => match self.load(text) {
+            Command::Load(text, goal) => match self.load(text, *goal) {
                 Ok(()) => Reply::Loaded,
                 Err(fault) => Reply::Refused(fault),
             },

@@ -28,7 +28,8 @@ fn source_in<F: GameFile>(alloc: Global, file: &mut F) -> Result<Option<Source>,
     let Some(kind) = file.packing() else {
         return Ok(None);
     };
-    let source = match Source::read(alloc, text, kind, None) {
+    let goal = file.goal();
+    let source = match Source::read(alloc, text, kind, goal) {
         Ok(source) => source,
         Err(GameFault::OutOfMemory) => return Err(SolverFault::OutOfMemory),
         Err(_) => return Err(SolverFault::Damaged),

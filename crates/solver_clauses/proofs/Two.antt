@@ -30,7 +30,7 @@ not_refused : {d : ℕ} {c : Counts} → Worked d c ≡ Refused Closed → ⊥
 not_refused is = cc
 
 -- of a run of two commands to work that are both done
-pub run_of_two : {Stores : Layout} {a b : Units} {before after : List Reply} {was is : State} (d e : ℕ) (c f : Counts)
+pub run_of_two : {Stores : ℕ → Layout} {a b : Units} {before after : List Reply} {was is : State} (d e : ℕ) (c f : Counts)
     → IsRun Stores (asked.Work a ∷ asked.Work b ∷ []) before after was is → IsTrue was.disk.honest → was.closed ≡ false
     → after ≡ before ++ Worked d c ∷ Worked e f ∷ [] → LeavesTheFirst Stores (units_in a) was is
 run_of_two {Stores} {a} {b} {before} {after} {was} {is} d e c f run honest open_ replies = two turns
@@ -64,7 +64,7 @@ stays is = record {
     apart closed is_open shut = absurd (cc)
 
 -- of one command to work that is done
-pub done_alone : {Stores : Layout} {units d : ℕ} {c : Counts} {was is : State}
+pub done_alone : {Stores : ℕ → Layout} {units d : ℕ} {c : Counts} {was is : State}
     → IsDone Stores (work units) (Worked d c) was is → GoesAhead was is → IsTrue was.disk.honest → LeavesTheFirst Stores units was is
 done_alone {Stores} {units} {d} {c} {was} {is} done ahead honest = record {
   mid = is;

@@ -1,7 +1,8 @@
 //! What changes a table.
 ghost use Rattle.std.specs.Prelude.{◌≡◌, ◌∷◌, [], ◌++◌, ℕ, false, IfOk, IfErr, IsTrue, OnOk};
+ghost use Rattle.rbg_game.specs.Goals.{points_of};
 ghost use Rattle.retrograde.specs.declared.records.Counts.{Counts};
-ghost use Rattle.solver.specs.Machine.{work as work_on, LoadCause, WorkCause};
+ghost use Rattle.solver.specs.Machine.{load as load_it, work as work_on, LoadCause, WorkCause};
 ghost use Rattle.solver.specs.Runs.{IsRun};
 ghost use Rattle.solver.specs.Solvers.{state, IsReady};
 ghost use Rattle.solver.specs.Steps.{IsDone};
@@ -9,13 +10,30 @@ ghost use Rattle.solver.specs.Units.{units_in};
 ghost use Rattle.solver_clauses.specs.Between.{LeavesTheFirst};
 
 use game_file::GameFile;
+use rbg_game::goal::Goal;
 use solver::{Command, FileSolver, Reply, SolverFault, Units, Worked};
 
 /// `refused` of `FileSolver::load`, and of that the cause.
-pub fn load<F: GameFile>(solver: &mut FileSolver<F>, text: &[u8]) -> Result<(), SolverFault>
+pub fn load<F: GameFile>(
+    solver: &mut FileSolver<F>,
+    text: &[u8],
+    goal: Option<Goal>,
+) -> Result<(), SolverFault>
     ensures { IsReady solver.old → IfErr result (LoadCause text.now (state solver.old) (state solver.new)) }
 {
-    solver.load(text)
+    solver.load(text, goal)
+}
+
+/// `done` of `FileSolver::load`.
+pub fn load_done<F: GameFile>(
+    solver: &mut FileSolver<F>,
+    text: &[u8],
+    asked: Option<Goal>,
+) -> Result<(), SolverFault>
+    ensures { IsReady solver.old → OnOk result (IsDone F.stores (load_it text.now (points_of asked)) Reply.Loaded (state solver.old)
+        (state solver.new)) }
+{
+    solver.load(text, asked)
 }
 
 /// `done` of `FileSolver::work`.

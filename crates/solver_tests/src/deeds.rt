@@ -74,7 +74,7 @@ where
     F::Device: Drop,
 {
     let mut solver = opened::<F>(alloc, disk)?;
-    let loaded = solver.load(TAKE.as_bytes());
+    let loaded = solver.load(TAKE.as_bytes(), None);
     let disk = solver.close();
     loaded?;
     Ok(disk)

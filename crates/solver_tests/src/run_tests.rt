@@ -19,7 +19,7 @@ fn commands(alloc: Global, steps: &[Step]) -> Result<Vec<Command>, Fail> {
     let mut commands = Vec::new(alloc);
     for step in steps {
         let command = match step {
-            Step::Load => Command::Load(TAKE.as_bytes().to_vec(alloc)?),
+            Step::Load => Command::Load(TAKE.as_bytes().to_vec(alloc)?, None),
             Step::Work(count) => Command::Work(Units::new(*count).ok_or(
                 "that many units are no command",
             )?),

@@ -17,7 +17,7 @@ use Rattle.witness.specs.aid.Sittings.{IsOwn, AreOwn, IsOwnSitting, IsBehindSitt
 fresh_size : (disk : Disk) → IsFresh 256 disk → size disk ≡ 256
 fresh_size disk fresh = let zeros : List ℕ = replicate 512 0 in ap length fresh.contents ∙ length-replicate 256 zeros
 
-module _ (Stores : Layout) where
+module _ (Stores : ℕ → Layout) where
   -- a sitting in which no command is given
   abbrev idle : State → Sitting
   idle state = record { begins = state.kept; answered = []; in_doubt = None }

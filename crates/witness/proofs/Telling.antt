@@ -18,7 +18,7 @@ use Rattle.retrograde.specs.declared.records.Counts.{Counts}
 use Rattle.retrograde.specs.Sound.{IsLocallySound}
 use Rattle.retrograde.specs.Stored.{view_of}
 use Rattle.retrograde.specs.View.{IsFinished}
-use Rattle.table_work.specs.Work.{AreDone}
+use Rattle.table_work.specs.Work.{AreDone, StopsWith}
 use Rattle.frontier.specs.Causes.{IsRefusal}
 use Rattle.frontier.specs.declared.fault.StepFault.{StepFault}
 use Rattle.frontier.specs.declared.fault.StepFault.TheVariants as step
@@ -42,7 +42,7 @@ use Rattle.solver.specs.Queries.{OfKept, Tells, HasValueAt, AskCause, NumberCaus
 use Rattle.solver.specs.Steps.{IsDone, IsRefused}
 use Rattle.witness.specs.Game.{witness_text, witness_game}
 use Rattle.witness.specs.Sittings.{IsWantOfRoom}
-use Rattle.witness.specs.aid.Sittings.{IsOwn, AreOwn, IsOwnSitting, IsBehindSittings, IsFoundBehind, IsNoneOrIt, IsIt, IsItFinished, HasSuchTable}
+use Rattle.witness.specs.aid.Sittings.{IsOwn, AreOwn, IsOwnSitting, IsBehindSittings, IsFoundBehind, IsNoneOrIt, IsItsTable, IsIt, IsItFinished, HasSuchTable}
 use Rattle.witness.proofs.Finishing.{no_nine_units}
 use Rattle.witness.proofs.Positions.{graph}
 use Rattle.witness.proofs.Reading.{witness_read}
@@ -52,12 +52,12 @@ use Rattle.witness.proofs.Winning.{only_in_two, not_drawn}
 -- ---- which table it is
 
 own_does : (reply : Reply) (command : Command) (old new : Option Kept) → IsOwn command → Does reply command old new → IsNoneOrIt old → IsNoneOrIt new
-own_does Loaded (load text) old new own does was = subst IsNoneOrIt (sym does.is) own
+own_does Loaded (load text goal) old new own does was = subst IsNoneOrIt (sym does.is) own
 own_does (Worked done counts) (work units) old new own does was =
-    let before : does.was.text ≡ witness_text = subst IsNoneOrIt does.loaded was in
-    subst IsNoneOrIt (sym does.worked) (does.same_text ∙ before)
+    let before : IsItsTable does.was = subst IsNoneOrIt does.loaded was in
+    subst IsNoneOrIt (sym does.worked) (does.same_text ∙ before.0, does.same_goal ∙ before.1)
 own_does Loaded (work units) old new own does was = elim does [ ]
-own_does (Worked done counts) (load text) old new own does was = elim does [ ]
+own_does (Worked done counts) (load text goal) old new own does was = elim does [ ]
 own_does (Refused fault) command old new own does was = subst IsNoneOrIt (sym does) was
 
 own_do : (answered : List (Command × Reply)) (old new : Option Kept) → AreOwn answered → DoAll answered old new → IsNoneOrIt old → IsNoneOrIt new
@@ -88,7 +88,7 @@ zeros_begin_no_table begins =
     let first : ◌≡◌ {A = ℕ} 0 82 = ap (λ (xs : List ℕ). get_or xs 0 1) begins in
     absurd (omega arith)
 
-module _ (Stores : Layout) where
+module _ (Stores : ℕ → Layout) where
   -- ---- what is opened
 
   -- behind a stop it is a table of the game or of none, and sound
@@ -141,13 +141,13 @@ module _ (Stores : Layout) where
 
   -- ---- loading
 
-  pub load_done : (old new : State) → HasSuchTable IsNoneOrIt old → GoesAhead old new → IsDone Stores (load witness_text) Loaded old new
+  pub load_done : (old new : State) → HasSuchTable IsNoneOrIt old → GoesAhead old new → IsDone Stores (load witness_text None) Loaded old new
       → IsSound new.kept → HasSuchTable IsIt new
   load_done old new table ahead done sound = record {
     honest = subst (λ h. IsTrue h) (sym ahead.goes_on.honest) table.honest;
     is_open = done.stops.is_open;
     sound = sound;
-    such = subst IsIt (sym (done.step.does table.honest).is) refl;
+    such = subst IsIt (sym (done.step.does table.honest).is) (refl, refl);
   }
 
   text_cause : (why : GameFault) → TextCause witness_text why → IsWantOfRoom (fault.Game why)
@@ -164,9 +164,9 @@ module _ (Stores : Layout) where
   load_cause old new fault.GameAlready table none cause = let some : IsSome {T = Kept} None = subst (λ (k : Option Kept). IsSome k) none cause in absurd (cc)
   load_cause old new why table none cause = absurd cause
 
-  pub load_refused : (text : List ℕ) (old new : State) (why : SolverFault) → text ≡ witness_text → HasSuchTable IsNoneOrIt old → old.kept ≡ None
-      → IsRefused Stores (load text) old new why → IsWantOfRoom why
-  load_refused text old new why is table none refused =
+  pub load_refused : (text : List ℕ) (goal : Option ℕ) (old new : State) (why : SolverFault) → text ≡ witness_text → HasSuchTable IsNoneOrIt old → old.kept ≡ None
+      → IsRefused Stores (load text goal) old new why → IsWantOfRoom why
+  load_refused text goal old new why is table none refused =
       load_cause old new why table none (subst (λ t. LoadCause t old new why) is refused.step.reason)
 
   -- ---- working
@@ -175,9 +175,16 @@ module _ (Stores : Layout) where
   its_own : (kept : Kept) → kept.text ≡ witness_text → Reads kept.text witness_game
   its_own kept text = subst (λ t. Reads t witness_game) (sym text) witness_read
 
-  sound_for_it : (kept : Kept) → kept.text ≡ witness_text → IsSound (Some kept) → IsLocallySound (graph kept.packing) (IsWideAt kept.packing witness_game) kept.table
-  sound_for_it kept text (game, is_read, sound) =
-      subst (λ (g : Game). IsLocallySound (graph_of kept.packing None g) (IsWideAt kept.packing g) kept.table) (one_game kept.text game witness_game is_read (its_own kept text)) sound
+  sound_for_it : (kept : Kept) → IsItsTable kept → IsSound (Some kept) → IsLocallySound (graph kept.packing) (IsWideAt kept.packing witness_game) kept.table
+  sound_for_it kept (text, none) (game, is_read, sound) =
+      subst (λ (goal : Option ℕ). IsLocallySound (graph_of kept.packing goal witness_game) (IsWideAt kept.packing witness_game) kept.table) none
+      (subst (λ (g : Game). IsLocallySound (graph_of kept.packing kept.goal g) (IsWideAt kept.packing g) kept.table) (one_game kept.text game witness_game is_read (its_own kept text)) sound)
+
+  -- and so it is by its own goal, which is none
+  by_its_goal : (kept : Kept) → IsItsTable kept → IsLocallySound (graph kept.packing) (IsWideAt kept.packing witness_game) kept.table
+      → IsLocallySound (graph_of kept.packing kept.goal witness_game) (IsWideAt kept.packing witness_game) kept.table
+  by_its_goal kept (text, none) sound =
+      subst (λ (goal : Option ℕ). IsLocallySound (graph_of kept.packing goal witness_game) (IsWideAt kept.packing witness_game) kept.table) (sym none) sound
 
   pub work_done : (units : ℕ) (old new : State) (done : ℕ) (counts : Counts) → units ≡ 256 → HasSuchTable IsIt old → GoesAhead old new
       → IsDone Stores (work units) (Worked done counts) old new → IsSound new.kept → HasSuchTable IsItFinished new
@@ -185,17 +192,19 @@ module _ (Stores : Layout) where
     honest = subst (λ h. IsTrue h) (sym ahead.goes_on.honest) table.honest;
     is_open = is_done.stops.is_open;
     sound = sound;
-    such = subst IsItFinished (sym works.worked) (works.same_text ∙ text, finished all_done.all);
+    such = subst IsItFinished (sym works.worked) ((works.same_text ∙ its.0, works.same_goal ∙ its.1), finished all_done.all);
   }
     where
       works : WorksOnTable 256 old.kept done counts new.kept
       works = subst (λ n. WorksOnTable n old.kept done counts new.kept) all_units (is_done.step.does table.honest)
 
-      text : works.was.text ≡ witness_text
-      text = subst IsIt works.loaded table.such
+      its : IsItsTable works.was
+      its = subst IsIt works.loaded table.such
 
       all_done : AreDone (graph works.was.packing) (IsWideAt works.was.packing witness_game) 256 works.was.table done works.is.table
-      all_done = works.work witness_game (its_own works.was text) (sound_for_it works.was text (subst IsSound works.loaded table.sound))
+      all_done =
+          subst (λ (goal : Option ℕ). AreDone (graph_of works.was.packing goal witness_game) (IsWideAt works.was.packing witness_game) 256 works.was.table done works.is.table) its.1
+          (works.work witness_game (its_own works.was its.0) (by_its_goal works.was its (sound_for_it works.was its (subst IsSound works.loaded table.sound))))
 
       finished : (done ≡ 256) ⊎ (done < 256) × IsFinished (view_of works.is.table) → IsFinished (view_of works.is.table)
       finished (inl same) =
@@ -205,8 +214,10 @@ module _ (Stores : Layout) where
   -- no unit of work on the game is refused by its own fault
   never_stops : (kept : Option Kept) (why : StepFault) → IsIt kept → IsSound kept → StopsAt 256 kept why → IsRefusal why → ⊥
   never_stops None why it sound stops own = absurd it
-  never_stops (Some kept) why text sound stops own =
-      let at = stops witness_game (its_own kept text) (sound_for_it kept text sound) in
+  never_stops (Some kept) why its sound stops own =
+      let here = sound_for_it kept its sound in
+      let at = subst (λ (goal : Option ℕ). StopsWith (graph_of kept.packing goal witness_game) (IsWideAt kept.packing witness_game) kept.table 256 why) its.1
+      (stops witness_game (its_own kept its.0) (by_its_goal kept its here)) in
       unit_is_done kept.packing at.reached at.works.right why own at.cause
 
   work_cause : (old new : State) (why : SolverFault) → HasSuchTable IsIt old → WorkCause 256 old new why → IsWantOfRoom why
@@ -241,9 +252,11 @@ module _ (Stores : Layout) where
       go : (kept : Option Kept) → IsItFinished kept → IsSound kept → OfKept (HasValueAt 0 value) kept → value ≡ Won First 2
       go None it sound has = absurd it
       go (Some kept) it sound has =
-          let reads = its_own kept it.0 in
+          let reads = its_own kept it.0.0 in
           let first = (a_sound_table_is_right kept witness_game sound reads).moves.first in
-          won kept value it.1 has.value_is (a_value_is_so kept witness_game sound reads 0 (graph kept.packing).start value first has.value_is)
+          won kept value it.1 has.value_is
+          (subst (λ (goal : Option ℕ). IsSo (graph_of kept.packing goal witness_game) (graph kept.packing).start value) it.0.1
+          (a_value_is_so kept witness_game sound reads 0 (graph kept.packing).start value first has.value_is))
 
   ask_cause : (old new : State) (why : SolverFault) → HasSuchTable IsItFinished old → AskCause old new why → IsWantOfRoom why
   ask_cause old new fault.Disk table cause = tt

@@ -83,7 +83,7 @@ fn use_solver<F: GameFile>(alloc: Global, solver: &mut FileSolver<F>, text: Vec<
         → EndsOwnSitting F.stores (state solver.old) (state solver.new) }
 {
     let commands = [
-        Command::Load(text),
+        Command::Load(text, None),
         Command::Work(units(1)),
         Command::Work(units(2)),
         Command::Work(units(256)),
@@ -136,7 +136,7 @@ fn load<F: GameFile>(solver: &mut FileSolver<F>) -> Result<(), SolverFault>
 {
     match solver.status() {
         Some(_) => Ok(()),
-        None => match solver.load(text()) {
+        None => match solver.load(text(), None) {
             Ok(()) => Ok(()),
             Err(fault) => Err(fault),
         },

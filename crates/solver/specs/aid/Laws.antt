@@ -20,7 +20,7 @@ use Rattle.best_line.specs.declared.answers.Value.{Value}
 use Rattle.best_line.specs.declared.answers.Value.TheVariants.{Won, Drawn as NobodyWins, Open}
 use Rattle.best_line.specs.Values.{IsValue}
 use Rattle.best_line.specs.Laws.{IsSo}
-use Rattle.game_file.specs.Kept.{Kept, Layout}
+use Rattle.game_file.specs.Kept.{Kept, Layout, in_any}
 use Rattle.game_file.specs.State.{State}
 use Rattle.solver.specs.Held.{Holds, IsSound, graph_in, wide_in}
 use Rattle.solver.specs.Opening.{IsOpened}
@@ -30,17 +30,17 @@ pub a_sound_table_is_held : (Stores : Layout) (picture : Picture) (kept : Option
     → Holds Stores picture kept
 a_sound_table_is_held Stores picture None stores sound = record { stores = stores; of_a_game = tt }
 a_sound_table_is_held Stores picture (Some kept) stores (game, is_read, sound) =
-    let (positions, fits) = sound_tables_fit kept.packing None game kept.table (starts_are_positions kept.text game is_read) sound in
+    let (positions, fits) = sound_tables_fit kept.packing kept.goal game kept.table (starts_are_positions kept.text game is_read) sound in
     record { stores = stores; of_a_game = (game, record { reads = is_read; positions = positions }) }
 
 -- where a stop left the one table or the other, that is the one that is opened
-pub what_was_left_is_opened : (Stores : Layout) (disk : Disk) (count : ℕ) (state : State) (one other : Option Kept)
+pub what_was_left_is_opened : (Stores : ℕ → Layout) (disk : Disk) (count : ℕ) (state : State) (one other : Option Kept)
     → IsOpened Stores disk count state → IsTrue disk.honest
-    → ((picture : Picture) → MayLeave disk.now picture → Holds Stores picture one ⊎ Holds Stores picture other) → (state.kept ≡ one)
+    → ((picture : Picture) → MayLeave disk.now picture → Holds (in_any Stores) picture one ⊎ Holds (in_any Stores) picture other) → (state.kept ≡ one)
     ⊎ (state.kept ≡ other)
 what_was_left_is_opened Stores disk count state one other opened honest left = each (left disk.now.contents (reads_left disk))
   where
-    each : Holds Stores disk.now.contents one ⊎ Holds Stores disk.now.contents other → (state.kept ≡ one) ⊎ (state.kept ≡ other)
+    each : Holds (in_any Stores) disk.now.contents one ⊎ Holds (in_any Stores) disk.now.contents other → (state.kept ≡ one) ⊎ (state.kept ≡ other)
     each (inl holds) = inl (opened.only honest one holds)
     each (inr holds) = inr (opened.only honest other holds)
 

@@ -18,7 +18,7 @@ NoGameCause file now Closed = file.closed ≡ true
 NoGameCause file now _ = ⊥
 
 -- the disk as a file that was only read gives it back
-pub record IsHandedBack (Stores : Layout) (file : State) (back : Disk) (now : ℕ) : Type 0 where
+pub record IsHandedBack (Stores : ℕ → Layout) (file : State) (back : Disk) (now : ℕ) : Type 0 where
   pub later : State
   pub asked : IsAsked Stores file later
   pub disk : back ≡ later.disk

@@ -1,5 +1,5 @@
 -- What is known of the table of the small game from one call to the next.
-use Rattle.std.specs.Prelude.{◌≡◌, List, [], ◌∷◌, Option, None, Some, false, IsTrue, IfSome}
+use Rattle.std.specs.Prelude.{◌≡◌, ℕ, List, [], ◌∷◌, Option, None, Some, false, IsTrue, IfSome}
 use Rattle.std.specs.List.{AllByRecursion}
 use Rattle.sector_disk.specs.Disk.{Disk, size, MayLeave}
 use Rattle.retrograde.specs.Stored.{view_of}
@@ -13,9 +13,9 @@ use Rattle.solver.specs.Machine.{Command, load, work}
 use Rattle.solver.specs.Queries.{OfKept}
 use Rattle.witness.specs.Game.{witness_text}
 
--- the command loads the small game, or works
+-- the command loads the small game without a goal, or works
 abbrev pub IsOwn : Command → Type 0
-IsOwn (load text) = text ≡ witness_text
+IsOwn (load text goal) = (text ≡ witness_text) × (goal ≡ None)
 IsOwn (work units) = Unit {0}
 
 -- so does each that was answered
@@ -28,7 +28,7 @@ pub record IsOwnSitting (sitting : Sitting) : Type 0 where
   pub answered : AreOwn sitting.answered
   pub in_doubt : IfSome sitting.in_doubt IsOwn
 
-module _ (Stores : Layout) where
+module _ (Stores : ℕ → Layout) where
   -- from the one state to the other there is a sitting of this kind, at whose end the disk shows what it shows now
   pub record EndsOwnSitting (was is : State) : Type 0 where
     pub sitting : Sitting
@@ -51,18 +51,22 @@ module _ (Stores : Layout) where
     pub behind : IsBehindSittings disk
     pub left : MayLeave disk.now found.now.contents
 
+-- this is a table of the small game, without a goal
+abbrev pub IsItsTable : Kept → Type 0
+IsItsTable kept = (kept.text ≡ witness_text) × (kept.goal ≡ None)
+
 -- no game is loaded, or it is the small one
 abbrev pub IsNoneOrIt : Option Kept → Type 0
 IsNoneOrIt None = Unit {0}
-IsNoneOrIt (Some kept) = kept.text ≡ witness_text
+IsNoneOrIt (Some kept) = IsItsTable kept
 
 -- the small game is loaded
 abbrev pub IsIt : Option Kept → Type 0
-IsIt = OfKept (λ kept. kept.text ≡ witness_text)
+IsIt = OfKept IsItsTable
 
 -- and its table is finished
 abbrev pub IsItFinished : Option Kept → Type 0
-IsItFinished = OfKept (λ kept. (kept.text ≡ witness_text) × IsFinished (view_of kept.table))
+IsItFinished = OfKept (λ kept. IsItsTable kept × IsFinished (view_of kept.table))
 
 -- a solver that is open, on an honest disk, with a locally sound table of which this holds
 pub record HasSuchTable (Such : Option Kept → Type 0) (state : State) : Type 0 where

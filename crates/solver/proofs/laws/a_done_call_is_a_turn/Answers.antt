@@ -1,4 +1,3 @@
-use Rattle.std.proofs.Common.{◌≡◌, true, false, sym, ◌∙◌}
 use Rattle.solver.proofs.Turning.{done_turn}
 use Rattle.solver.proofs.Refusing.{apart}
 use Rattle.solver.proofs.laws.a_done_call_is_a_turn.Goals as goal

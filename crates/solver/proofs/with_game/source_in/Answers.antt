@@ -1,4 +1,5 @@
-use Rattle.std.proofs.Common.{◌∙◌, rules}
+use Rattle.std.proofs.Common.{◌∙◌, rules, sym}
+use Rattle.rbg_game.specs.Goals.{points_of}
 use Rattle.solver.proofs.Loading.{source_of_text}
 use Rattle.solver.proofs.Making.{kept_with, of_a_game, of_no_game, no_game_cause}
 use Rattle.solver.proofs.Passing.{passed_on, gives_none}
@@ -124,8 +125,8 @@ pub returns-clause-source : goal.returns-clause-source
 returns-clause-source g c = λ whole.
     let file = c.args.file.now in
     let asked = g.met.F.GameFile.whole_stays c.args.file.now c.are_positions.new.table whole c.are_positions.ensures.stays in
-    source_of_text c.in-Ok.source (g.F.GameFile.state c.are_positions.new.table).kept c.in-Some.text.now c.in-Some-packing.kind (asked.1.text ∙ c.in-Some.ensures.some)
-    (asked.1.packing ∙ c.in-Some-packing.ensures.some) c.in-Ok.ensures.reads c.in-Ok.ensures.packing c.in-Ok.ensures.goal
+    source_of_text c.in-Ok.source (g.F.GameFile.state c.are_positions.new.table).kept c.in-Some.text.now c.in-Some-packing.kind (points_of c.goal-goal.result)
+    (asked.1.text ∙ c.in-Some.ensures.some) (asked.1.packing ∙ c.in-Some-packing.ensures.some) (asked.1.goal ∙ sym c.goal-goal.ensures) c.in-Ok.ensures.reads c.in-Ok.ensures.packing c.in-Ok.ensures.goal
 
 pub returns-clause-cause : goal.returns-clause-cause
 returns-clause-cause g c = λ whole. tt

@@ -1,4 +1,4 @@
-use Rattle.std.proofs.Common.{ap, subst, Option, Err, rules, refl, sym}
+use Rattle.std.proofs.Common.{ap, subst, Option, Err, rules, refl}
 use Rattle.legal_moves.specs.declared.compiled.Compiled.{Compiled}
 use Rattle.audit.specs.declared.fault.AuditFault.{AuditFault}
 use Rattle.solver.specs.State.{IsSourceOf}
@@ -66,7 +66,7 @@ audit-requires g c = search rules
 pub returns-in_err-audit-clause-ready : goal.returns-in_err-audit-clause-ready
 returns-in_err-audit-clause-ready g c = λ ready.
     let asked = g.met.F.GameFile.whole_stays c.args.self.now.file c.audit.new.table ready.0 c.audit.ensures.stays in
-    (asked.0, same_source _ _ _ asked.1.text asked.1.packing ready.1)
+    (asked.0, same_source _ _ _ asked.1.text asked.1.packing asked.1.goal ready.1)
 
 pub returns-in_err-audit-clause-asked : goal.returns-in_err-audit-clause-asked
 returns-in_err-audit-clause-asked g c = λ ready. (g.met.F.GameFile.whole_stays c.args.self.now.file c.audit.new.table ready.0 c.audit.ensures.stays).1
@@ -83,7 +83,7 @@ returns-in_err-audit-clause-closed g c = λ is. absurd (not_refused _ _ (c.in_ok
 pub returns-clause-ready : goal.returns-clause-ready
 returns-clause-ready g c = λ ready.
     let asked = g.met.F.GameFile.whole_stays c.args.self.now.file c.audit.new.table ready.0 c.audit.ensures.stays in
-    (asked.0, same_source _ _ _ asked.1.text asked.1.packing ready.1)
+    (asked.0, same_source _ _ _ asked.1.text asked.1.packing asked.1.goal ready.1)
 
 pub returns-clause-asked : goal.returns-clause-asked
 returns-clause-asked g c = λ ready. (g.met.F.GameFile.whole_stays c.args.self.now.file c.audit.new.table ready.0 c.audit.ensures.stays).1

@@ -1,4 +1,4 @@
-use Rattle.std.proofs.Common.{subst, Option, rules, refl}
+use Rattle.std.proofs.Common.{subst, Option, refl}
 use Rattle.legal_moves.specs.declared.compiled.Compiled.{Compiled}
 use Rattle.solver.specs.State.{IsSourceOf}
 use Rattle.solver.proofs.Asking.{text_found, text_unknown, text_of_some, text_of_none, find_cause, find_asked}
@@ -64,7 +64,7 @@ returns-in_default-clause-closed g c = λ is. absurd (not_refused _ _ (c.in_ok-s
 pub returns-in_err-number-clause-ready : goal.returns-in_err-number-clause-ready
 returns-in_err-number-clause-ready g c = λ ready.
     let asked = g.met.F.GameFile.whole_stays c.args.self.now.file c.number_of.new.self ready.0 c.number_of.ensures.stays in
-    (asked.0, same_source _ _ _ asked.1.text asked.1.packing ready.1)
+    (asked.0, same_source _ _ _ asked.1.text asked.1.packing asked.1.goal ready.1)
 
 pub returns-in_err-number-clause-asked : goal.returns-in_err-number-clause-asked
 returns-in_err-number-clause-asked g c = λ ready. (g.met.F.GameFile.whole_stays c.args.self.now.file c.number_of.new.self ready.0 c.number_of.ensures.stays).1
@@ -85,7 +85,7 @@ returns-in_err-number-clause-closed g c = λ is. absurd (not_refused _ _ (c.in_o
 pub returns-in-Some-2-clause-ready : goal.returns-in-Some-2-clause-ready
 returns-in-Some-2-clause-ready g c = λ ready.
     let asked = g.met.F.GameFile.whole_stays c.args.self.now.file c.number_of.new.self ready.0 c.number_of.ensures.stays in
-    (asked.0, same_source _ _ _ asked.1.text asked.1.packing ready.1)
+    (asked.0, same_source _ _ _ asked.1.text asked.1.packing asked.1.goal ready.1)
 
 pub returns-in-Some-2-clause-asked : goal.returns-in-Some-2-clause-asked
 returns-in-Some-2-clause-asked g c = λ ready. (g.met.F.GameFile.whole_stays c.args.self.now.file c.number_of.new.self ready.0 c.number_of.ensures.stays).1
@@ -96,7 +96,7 @@ returns-in-Some-2-clause-closed g c = λ is. absurd (not_refused _ _ (c.in_ok-so
 pub returns-in-None-clause-ready : goal.returns-in-None-clause-ready
 returns-in-None-clause-ready g c = λ ready.
     let asked = g.met.F.GameFile.whole_stays c.args.self.now.file c.number_of.new.self ready.0 c.number_of.ensures.stays in
-    (asked.0, same_source _ _ _ asked.1.text asked.1.packing ready.1)
+    (asked.0, same_source _ _ _ asked.1.text asked.1.packing asked.1.goal ready.1)
 
 pub returns-in-None-clause-asked : goal.returns-in-None-clause-asked
 returns-in-None-clause-asked g c = λ ready. (g.met.F.GameFile.whole_stays c.args.self.now.file c.number_of.new.self ready.0 c.number_of.ensures.stays).1

@@ -33,7 +33,7 @@ list-requires-clause-few g c = c.count.ensures.few
 pub returns-in_err-list-clause-ready : goal.returns-in_err-list-clause-ready
 returns-in_err-list-clause-ready g c = λ ready.
     let asked = g.met.F.GameFile.whole_stays c.args.self.now.file c.list.new.table ready.0 c.list.ensures.stays in
-    (asked.0, same_source _ _ _ asked.1.text asked.1.packing ready.1)
+    (asked.0, same_source _ _ _ asked.1.text asked.1.packing asked.1.goal ready.1)
 
 pub returns-in_err-list-clause-asked : goal.returns-in_err-list-clause-asked
 returns-in_err-list-clause-asked g c = λ ready. (g.met.F.GameFile.whole_stays c.args.self.now.file c.list.new.table ready.0 c.list.ensures.stays).1
@@ -54,7 +54,7 @@ returns-in_err-list-clause-closed g c = λ is. absurd (not_refused _ _ (c.in_ok-
 pub returns-clause-ready : goal.returns-clause-ready
 returns-clause-ready g c = λ ready.
     let asked = g.met.F.GameFile.whole_stays c.args.self.now.file c.list.new.table ready.0 c.list.ensures.stays in
-    (asked.0, same_source _ _ _ asked.1.text asked.1.packing ready.1)
+    (asked.0, same_source _ _ _ asked.1.text asked.1.packing asked.1.goal ready.1)
 
 pub returns-clause-asked : goal.returns-clause-asked
 returns-clause-asked g c = λ ready. (g.met.F.GameFile.whole_stays c.args.self.now.file c.list.new.table ready.0 c.list.ensures.stays).1

@@ -4,7 +4,7 @@ use Rattle.solver.proofs.commands.FileSolver.list_begin.Goals as goal
 pub returns-in-Some-clause-ready : goal.returns-in-Some-clause-ready
 returns-in-Some-clause-ready g c = λ ready.
     let told = c.in-Some.ensures in
-    (told.whole ready.0, same_source _ _ _ (told.text ready.0) (told.packing ready.0) ready.1)
+    (told.whole ready.0, same_source _ _ _ (told.text ready.0) (told.packing ready.0) (told.goal ready.0) ready.1)
 
 pub returns-in-Some-clause-begun : goal.returns-in-Some-clause-begun
 returns-in-Some-clause-begun g c = λ ready honest kept is. c.in-Some.ensures.kept honest ready.0 kept is

@@ -1,6 +1,7 @@
 use Rattle.std.proofs.Common.{length, refl, rules}
+use Rattle.rbg_game.specs.Goals.{points_of}
 use Rattle.position_pack.specs.declared.kind.PackingKind.TheVariants.{Bits}
-use Rattle.legal_moves.specs.Compiled.{compiled_game, packing_kind}
+use Rattle.legal_moves.specs.Compiled.{compiled_game, compiled_goal, packing_kind}
 use Rattle.solver.proofs.Loading.{loaded_done, loaded_refused, loaded_sound, same_source, source_of_text, start_by, long_by}
 use Rattle.solver.proofs.Passing.{passed_on, passed_as, gives_none, not_refused}
 use Rattle.solver.proofs.Refusing.{nothing_done}
@@ -24,20 +25,20 @@ returns-in_err-load-clause-refused g c = λ ready.
     let is_open = c.in_ok-needs_no_game.ensures.open in
     let refused = c.in_err-load.ensures in
     passed_on _ c.from_residual-in_err-load.result _ c.from_residual-in_err-load.ensures
-    (loaded_refused _ _ _ _ c.in_ok-source.ensures.reads (start_by (packing_kind c.in_ok-source.source) Bits (compiled_game c.in_ok-source.source) c.start.result.items c.in_ok-source.ensures.packing c.start.ensures.start) _ _ none _ (long_by (packing_kind c.in_ok-source.source) Bits (compiled_game c.in_ok-source.source) (length c.start.result.items) c.in_ok-source.ensures.packing c.start.ensures.long)
+    (loaded_refused _ _ _ (points_of c.args.goal) _ c.in_ok-source.ensures.reads (start_by (packing_kind c.in_ok-source.source) Bits (compiled_goal c.in_ok-source.source) (points_of c.args.goal) (compiled_game c.in_ok-source.source) c.start.result.items c.in_ok-source.ensures.packing c.in_ok-source.ensures.goal c.start.ensures.start) _ _ none _ (long_by (packing_kind c.in_ok-source.source) Bits (compiled_game c.in_ok-source.source) (length c.start.result.items) c.in_ok-source.ensures.packing c.start.ensures.long)
     (refused.err ready.0 none) (refused.cause ready.0 none is_open) refused.still)
 
 pub returns-clause-done : goal.returns-clause-done
 returns-clause-done g c = λ ready.
     let none = c.in_ok-needs_no_game.ensures.none in
-    loaded_done _ _ _ _ c.in_ok-source.ensures.reads (start_by (packing_kind c.in_ok-source.source) Bits (compiled_game c.in_ok-source.source) c.start.result.items c.in_ok-source.ensures.packing c.start.ensures.start) _ _ none
+    loaded_done _ _ _ (points_of c.args.goal) _ c.in_ok-source.ensures.reads (start_by (packing_kind c.in_ok-source.source) Bits (compiled_goal c.in_ok-source.source) (points_of c.args.goal) (compiled_game c.in_ok-source.source) c.start.result.items c.in_ok-source.ensures.packing c.in_ok-source.ensures.goal c.start.ensures.start) _ _ none
     (λ honest is_open. g.met.F.GameFile.whole_leaves c.load.new.self (c.load.ensures.whole ready.0) honest is_open)
     c.load.ensures.ahead.goes_on (c.in_ok-load.ensures.ok ready.0 none)
 
 pub returns-clause-sound : goal.returns-clause-sound
 returns-clause-sound g c = λ ready honest sound.
     let none = c.in_ok-needs_no_game.ensures.none in
-    loaded_sound _ _ _ _ c.in_ok-source.ensures.reads (start_by (packing_kind c.in_ok-source.source) Bits (compiled_game c.in_ok-source.source) c.start.result.items c.in_ok-source.ensures.packing c.start.ensures.start) _ _ none honest (c.in_ok-load.ensures.ok ready.0 none)
+    loaded_sound _ _ _ (points_of c.args.goal) _ c.in_ok-source.ensures.reads (start_by (packing_kind c.in_ok-source.source) Bits (compiled_goal c.in_ok-source.source) (points_of c.args.goal) (compiled_game c.in_ok-source.source) c.start.result.items c.in_ok-source.ensures.packing c.in_ok-source.ensures.goal c.start.ensures.start) _ _ none honest (c.in_ok-load.ensures.ok ready.0 none)
 
 pub returns-in_err-source-clause-ready : goal.returns-in_err-source-clause-ready
 returns-in_err-source-clause-ready g c = λ ready. ready
@@ -63,7 +64,7 @@ load-requires g c = c.in_ok-source.ensures.short
 pub returns-in_err-load-clause-ready : goal.returns-in_err-load-clause-ready
 returns-in_err-load-clause-ready g c = λ ready.
     let left = c.in_err-load.ensures.err ready.0 c.in_ok-needs_no_game.ensures.none in
-    (c.load.ensures.whole ready.0, same_source _ _ _ left.text left.packing ready.1)
+    (c.load.ensures.whole ready.0, same_source _ _ _ left.text left.packing left.goal ready.1)
 
 pub returns-in_err-load-clause-ahead : goal.returns-in_err-load-clause-ahead
 returns-in_err-load-clause-ahead g c = c.load.ensures.ahead
@@ -88,7 +89,7 @@ same-source g c = search rules
 pub returns-clause-ready : goal.returns-clause-ready
 returns-clause-ready g c = λ ready.
     let put = c.in_ok-load.ensures.ok ready.0 c.in_ok-needs_no_game.ensures.none in
-    (c.load.ensures.whole ready.0, source_of_text c.in_ok-source.source _ _ _ put.text put.packing c.in_ok-source.ensures.reads c.in_ok-source.ensures.packing c.in_ok-source.ensures.goal)
+    (c.load.ensures.whole ready.0, source_of_text c.in_ok-source.source _ _ _ _ put.text put.packing put.goal c.in_ok-source.ensures.reads c.in_ok-source.ensures.packing c.in_ok-source.ensures.goal)
 
 pub returns-clause-ahead : goal.returns-clause-ahead
 returns-clause-ahead g c = c.load.ensures.ahead

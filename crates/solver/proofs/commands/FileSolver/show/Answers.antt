@@ -1,4 +1,4 @@
-use Rattle.std.proofs.Common.{subst, Option, rules, refl}
+use Rattle.std.proofs.Common.{subst, Option, refl}
 use Rattle.legal_moves.specs.declared.compiled.Compiled.{Compiled}
 use Rattle.solver.specs.State.{IsSourceOf}
 use Rattle.solver.proofs.Asking.{text_found, no_text, show_cause, show_numbered}
@@ -47,7 +47,7 @@ packed-requires g c = c.in_ok-source.ensures.there
 pub returns-in_err-packed-clause-ready : goal.returns-in_err-packed-clause-ready
 returns-in_err-packed-clause-ready g c = λ ready.
     let asked = g.met.F.GameFile.whole_stays c.args.self.now.file c.packed.new.self ready.0 c.packed.ensures.stays in
-    (asked.0, same_source _ _ _ asked.1.text asked.1.packing ready.1)
+    (asked.0, same_source _ _ _ asked.1.text asked.1.packing asked.1.goal ready.1)
 
 pub returns-in_err-packed-clause-asked : goal.returns-in_err-packed-clause-asked
 returns-in_err-packed-clause-asked g c = λ ready. (g.met.F.GameFile.whole_stays c.args.self.now.file c.packed.new.self ready.0 c.packed.ensures.stays).1
@@ -68,7 +68,7 @@ returns-in_err-packed-clause-closed g c = λ is. absurd (not_refused _ _ (c.in_o
 pub returns-in_err-text-clause-ready : goal.returns-in_err-text-clause-ready
 returns-in_err-text-clause-ready g c = λ ready.
     let asked = g.met.F.GameFile.whole_stays c.args.self.now.file c.packed.new.self ready.0 c.packed.ensures.stays in
-    (asked.0, same_source _ _ _ asked.1.text asked.1.packing ready.1)
+    (asked.0, same_source _ _ _ asked.1.text asked.1.packing asked.1.goal ready.1)
 
 pub returns-in_err-text-clause-asked : goal.returns-in_err-text-clause-asked
 returns-in_err-text-clause-asked g c = λ ready. (g.met.F.GameFile.whole_stays c.args.self.now.file c.packed.new.self ready.0 c.packed.ensures.stays).1
@@ -85,7 +85,7 @@ returns-in_err-text-clause-closed g c = λ is. absurd (not_refused _ _ (c.in_ok-
 pub returns-in-Some-clause-ready : goal.returns-in-Some-clause-ready
 returns-in-Some-clause-ready g c = λ ready.
     let asked = g.met.F.GameFile.whole_stays c.args.self.now.file c.packed.new.self ready.0 c.packed.ensures.stays in
-    (asked.0, same_source _ _ _ asked.1.text asked.1.packing ready.1)
+    (asked.0, same_source _ _ _ asked.1.text asked.1.packing asked.1.goal ready.1)
 
 pub returns-in-Some-clause-asked : goal.returns-in-Some-clause-asked
 returns-in-Some-clause-asked g c = λ ready. (g.met.F.GameFile.whole_stays c.args.self.now.file c.packed.new.self ready.0 c.packed.ensures.stays).1
@@ -96,7 +96,7 @@ returns-in-Some-clause-closed g c = λ is. absurd (not_refused _ _ (c.in_ok-sour
 pub returns-in-None-clause-ready : goal.returns-in-None-clause-ready
 returns-in-None-clause-ready g c = λ ready.
     let asked = g.met.F.GameFile.whole_stays c.args.self.now.file c.packed.new.self ready.0 c.packed.ensures.stays in
-    (asked.0, same_source _ _ _ asked.1.text asked.1.packing ready.1)
+    (asked.0, same_source _ _ _ asked.1.text asked.1.packing asked.1.goal ready.1)
 
 pub returns-in-None-clause-asked : goal.returns-in-None-clause-asked
 returns-in-None-clause-asked g c = λ ready. (g.met.F.GameFile.whole_stays c.args.self.now.file c.packed.new.self ready.0 c.packed.ensures.stays).1

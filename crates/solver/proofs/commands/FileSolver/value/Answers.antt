@@ -35,7 +35,7 @@ value-requires g c = c.in_ok-game_at.ensures.there
 pub returns-in_err-value-clause-ready : goal.returns-in_err-value-clause-ready
 returns-in_err-value-clause-ready g c = λ ready.
     let asked = g.met.F.GameFile.whole_stays c.args.self.now.file c.value.new.table ready.0 c.value.ensures.stays in
-    (asked.0, same_source _ _ _ asked.1.text asked.1.packing ready.1)
+    (asked.0, same_source _ _ _ asked.1.text asked.1.packing asked.1.goal ready.1)
 
 pub returns-in_err-value-clause-asked : goal.returns-in_err-value-clause-asked
 returns-in_err-value-clause-asked g c = λ ready. (g.met.F.GameFile.whole_stays c.args.self.now.file c.value.new.table ready.0 c.value.ensures.stays).1
@@ -56,7 +56,7 @@ returns-in_err-value-clause-closed g c = λ is. absurd (not_refused _ _ (c.in_ok
 pub returns-clause-ready : goal.returns-clause-ready
 returns-clause-ready g c = λ ready.
     let asked = g.met.F.GameFile.whole_stays c.args.self.now.file c.value.new.table ready.0 c.value.ensures.stays in
-    (asked.0, same_source _ _ _ asked.1.text asked.1.packing ready.1)
+    (asked.0, same_source _ _ _ asked.1.text asked.1.packing asked.1.goal ready.1)
 
 pub returns-clause-asked : goal.returns-clause-asked
 returns-clause-asked g c = λ ready. (g.met.F.GameFile.whole_stays c.args.self.now.file c.value.new.table ready.0 c.value.ensures.stays).1

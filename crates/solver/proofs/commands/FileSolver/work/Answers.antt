@@ -1,4 +1,4 @@
-use Rattle.std.proofs.Common.{◌≡◌, ℕ, ◌<◌, ◌≤◌, refl, ◌∙◌, ap, subst, arith, Option, Err, rules}
+use Rattle.std.proofs.Common.{◌≡◌, ℕ, ◌<◌, ◌≤◌, refl, ◌∙◌, ap, subst, arith, Option, Err}
 use Rattle.frontier.specs.declared.fault.StepFault.{StepFault}
 use Rattle.legal_moves.specs.declared.compiled.Compiled.{Compiled}
 use Rattle.solver.specs.State.{IsSourceOf}
@@ -54,7 +54,7 @@ returns-in_err-commit-clause-ready g c = λ ready.
     let (k, is, made) = kept_there c.in_ok-source.source.now _ (subst (λ (o : Option Compiled). IsSourceOf o (g.F.GameFile.state file).kept) c.in_ok-source.ensures.game ready.1) in
     let left = c.in_err-commit.ensures.err file k ready.0 is c.in-Ok.ensures.ahead
     (λ honest. let stored = g.met.F.GameFile.whole_stored file k ready.0 honest is in c.in-Ok.ensures.fits stored.0 (rw stored.1 stored.2)) in
-    (left.0, same_source _ _ _ left.1.text left.1.packing ready.1)
+    (left.0, same_source _ _ _ left.1.text left.1.packing left.1.goal ready.1)
 
 pub returns-in_err-commit-clause-sound : goal.returns-in_err-commit-clause-sound
 returns-in_err-commit-clause-sound g c = λ ready honest sound.
@@ -71,7 +71,7 @@ returns-in_ok-commit-clause-ready g c = λ ready.
     let (k, is, made) = kept_there c.in_ok-source.source.now _ source in
     let put = c.in_ok-commit.ensures.ok file k ready.0 is c.in-Ok.ensures.ahead
     (λ honest. let stored = g.met.F.GameFile.whole_stored file k ready.0 honest is in c.in-Ok.ensures.fits stored.0 (rw stored.1 stored.2)) in
-    (put.0, rw c.in_ok-source.ensures.game (source_of_text c.in_ok-source.source.now _ k.text k.packing put.1.text put.1.packing made.reads made.packing made.goal))
+    (put.0, rw c.in_ok-source.ensures.game (source_of_text c.in_ok-source.source.now _ k.text k.packing k.goal put.1.text put.1.packing put.1.goal made.reads made.packing made.goal))
 
 pub returns-in_ok-commit-clause-done : goal.returns-in_ok-commit-clause-done
 returns-in_ok-commit-clause-done g c = λ ready.
@@ -120,7 +120,7 @@ returns-in-Err-clause-ready g c = λ ready.
     let file = c.args.self.now.file in
     let given = given_up (g.F.Table.fails file c.work.new.table) _ c.in-Err.fault c.in-Err.ensures.left
     (λ ahead. c.discard.ensures.back file ready.0 ahead) (λ f fails. c.discard.ensures.failed file f ready.0 fails) in
-    (given.0, same_source _ _ _ given.1.text given.1.packing ready.1)
+    (given.0, same_source _ _ _ given.1.text given.1.packing given.1.goal ready.1)
 
 pub returns-in-Err-clause-ahead : goal.returns-in-Err-clause-ahead
 returns-in-Err-clause-ahead g c =
