@@ -1,7 +1,7 @@
 -- What a command has come to is committed, or given up.
 use Rattle.std.proofs.Common.{◌≢◌, ◌≡◌, ℕ, ◌≤◌, false, true, List, length, Option, None, Some, IsTrue, sym, ◌∙◌, ap, subst, arith}
 use Rattle.std.proofs.lemmas.Option.{same_Some}
-use Rattle.std.specs.Option.{is_none}
+use Rattle.std.specs.Option.{is_some}
 use Rattle.sector_disk.specs.Disk.{Disk, GoesOn, Grew, LeavesOnly, size}
 use Rattle.page_store.specs.Causes.{StoreCommitCause}
 use Rattle.page_store.specs.declared.fault.PageFault.{PageFault}
@@ -244,11 +244,11 @@ refused_ahead was left new goes_on same_size failures same_pages closes others s
     }
 
 -- where no game is loaded none was kept when the command began
-pub none_kept_some : (was now : Option TreeSlot) (text : List ℕ) (bytes : ℕ → List ℕ) (kept : Kept) → now ≡ was → is_none now ≡ true
+pub none_kept_some : (was now : Option TreeSlot) (text : List ℕ) (bytes : ℕ → List ℕ) (kept : Kept) → now ≡ was → is_some now ≡ false
     → kept_with was text bytes ≡ Some kept → ⊥
 none_kept_some None now text bytes kept same none is = absurd (cc)
 none_kept_some (Some s) now text bytes kept same none is =
-    let no : is_none (Some s) ≡ true = ap is_none (sym same) ∙ none in absurd (cc)
+    let no : is_some (Some s) ≡ false = ap is_some (sym same) ∙ none in absurd (cc)
 
 -- only marks change
 pub again_ahead : (was new : File) → IsStill was.work.store new.work.store → IsRemarked was.work.store new.work.store

@@ -266,7 +266,10 @@ impl<P: PagesOnDisk, const LAYOUT: u32> GameFile for TreeFile<P, LAYOUT> {
         }
         let text = text.to_vec(self.alloc)?;
         let commits = self.commits.wrapping_add(1);
-        match self.table.start(self.alloc, commits, text, packing, goal, start) {
+        match self
+            .table
+            .start(self.alloc, commits, text, packing, goal, start)
+        {
             Ok(()) => {
                 self.commits = commits;
                 self.game = Some(self.table.slot);

@@ -24,7 +24,11 @@ fn pages_said(layout: u32, said: u32, room: u32) -> u32
     ensures said { 3 ≤ layout → result ≡ said }
     ensures unsaid { layout < 3 → result ≡ room }
 {
-    if layout < FIRST_WITH_GOALS { room } else { said }
+    if layout < FIRST_WITH_GOALS {
+        room
+    } else {
+        said
+    }
 }
 
 /// What the root of a store that was just opened says, of a table of this layout; the store has as many pages then as the root says.

@@ -49,9 +49,9 @@ a_picture_stores_one_tree_table layout also m n picture one other a b =
     let same : b.root ≡ a.root = one_root a b in (
       sym a.same_layout ∙ ap layout_in (sym same) ∙ b.same_layout,
       a_root_keeps_one_tree_table a.root (m + n) one other (page picture)
-      (keeps_in_more_trees a.root m (m + n) one (page picture) (omega arith) a.keeps)
-      (keeps_in_more_trees a.root n (m + n) other (page picture) (omega arith)
-      (subst (λ (root : List ℕ). KeepsTrees root n other (page picture)) same b.keeps)),
+          (keeps_in_more_trees a.root m (m + n) one (page picture) (omega arith) a.keeps)
+          (keeps_in_more_trees a.root n (m + n) other (page picture) (omega arith)
+          (subst (λ (root : List ℕ). KeepsTrees root n other (page picture)) same b.keeps)),
     )
 
 -- from layout 3 on it stores the table in one number of pages

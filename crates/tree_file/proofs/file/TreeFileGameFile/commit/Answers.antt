@@ -140,10 +140,10 @@ returns-in-Err-clause-ahead g c =
     c.save.ensures.failures c.save.ensures.same_pages c.save.ensures.closes c.restore.ensures.others c.restore.ensures.still
 
 pub returns-then-is_none-clause-err : goal.returns-then-is_none-clause-err
-returns-then-is_none-clause-err g c = λ begun kept whole is ahead fits. absurd (none_kept_some begun.game c.args.self.now.game _ _ kept ahead.game (sym c.if-is_none.ensures) is)
+returns-then-is_none-clause-err g c = λ begun kept whole is ahead fits. absurd (none_kept_some begun.game c.args.self.now.game _ _ kept ahead.game c.if-is_none.ensures is)
 
 pub returns-then-is_none-clause-cause : goal.returns-then-is_none-clause-cause
-returns-then-is_none-clause-cause g c = λ begun kept whole is ahead. absurd (none_kept_some begun.game c.args.self.now.game _ _ kept ahead.game (sym c.if-is_none.ensures) is)
+returns-then-is_none-clause-cause g c = λ begun kept whole is ahead. absurd (none_kept_some begun.game c.args.self.now.game _ _ kept ahead.game c.if-is_none.ensures is)
 
 pub restore-requires-clause-sealed : goal.restore-requires-clause-sealed
 restore-requires-clause-sealed g c = λ p is. c.args.self.now.sealed p (c.in-Err.ensures.left.waiting p is)

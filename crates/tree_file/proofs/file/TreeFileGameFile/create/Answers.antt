@@ -72,7 +72,7 @@ returns-in-Err-clause-refused g c =
 pub returns-in-Err-clause-cause : goal.returns-in-Err-clause-cause
 returns-in-Err-clause-cause g c =
     subst (λ (f : FileFault). FileCreateCause (g.P.Device.SectorDisk.disk c.args.disk) (g.P.Device.SectorDisk.failures c.args.disk)
-    (g.P.Device.SectorDisk.failures c.create.new.disk) f) (sym c.into.ensures) 
+    (g.P.Device.SectorDisk.failures c.create.new.disk) f) (sym c.into.ensures)
     (why_not_laid (g.P.Device.SectorDisk.disk c.args.disk) (g.P.Device.SectorDisk.failures c.args.disk) (g.P.Device.SectorDisk.failures c.create.new.disk)
     c.in-Err.fault c.in-Err.ensures.fault)
 

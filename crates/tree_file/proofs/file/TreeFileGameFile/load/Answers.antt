@@ -10,7 +10,8 @@ use Rattle.game_file.specs.State.{count_behind}
 use Rattle.game_file.specs.Stops.{LeavesEither, LeavesTable}
 use Rattle.tree_table.specs.Held.{StoresTrees}
 use Rattle.tree_table.specs.InTrees.{work_in}
-use Rattle.tree_table.specs.Keeping.{IsKeptInTrees, StandsInTrees, slot_or_bare}
+use Rattle.tree_table.specs.Keeping.{IsKeptInTrees, StandsFor, StandsInTrees, slot_or_bare}
+use Rattle.tree_table.specs.declared.slot.TreeSlot.{TreeSlot}
 use Rattle.tree_table.specs.aid.Standing.{still_then, was_honest}
 use Rattle.tree_file.specs.File.{file_of, state_of}
 use Rattle.tree_file.specs.InFile.{file_in}
@@ -164,8 +165,10 @@ restore-requires-clause-stands g c =
     let self = c.args.self.now in
     let was : IsBackedFile g.row.LAYOUT self.commits (file_of (work_in self.table) self.game) = record
     { of_layout = self.of_layout; counted = self.counted; sized = self.sized; sealed = self.sealed; stands = self.stands } in
-    (backed_still g.row.LAYOUT self.commits (file_of (work_in self.table) self.game) (file_of (work_in c.start.new.self) self.game) was c.in-Err.ensures.left
-    c.in-Err.ensures.kept_text refl).stands
+    let is = backed_still g.row.LAYOUT self.commits (file_of (work_in self.table) self.game) (file_of (work_in c.start.new.self) self.game) was c.in-Err.ensures.left
+    c.in-Err.ensures.kept_text refl in
+    λ honest. subst (λ (game : Option TreeSlot). ∥ StandsFor game (work_in c.start.new.self).text (work_in c.start.new.self).store ∥₁)
+    (no_game self.game (sym c.if-is_some.ensures)) (is.stands honest)
 
 pub invariant_of-self-in-Err : goal.invariant_of-self-in-Err
 invariant_of-self-in-Err g c =
