@@ -21,9 +21,9 @@ use Rattle.solver.specs.aid.Ready.{NoGameCause, IsHandedBack}
 use Rattle.solver.proofs.Loading.{Leaves}
 use Rattle.solver.proofs.Refusing.{apart}
 
--- a picture stores one table at most, in one number of pages
+-- a picture stores one table at most, in whatever number of pages
 abbrev pub StoresOne : (ℕ → Layout) → Type 0
-StoresOne Stores = (m n : ℕ) (picture : Picture) (one other : Option Kept) → Stores m picture one → Stores n picture other → (m ≡ n) × (one ≡ other)
+StoresOne Stores = (m n : ℕ) (picture : Picture) (one other : Option Kept) → Stores m picture one → Stores n picture other → one ≡ other
 
 -- a picture of an earlier layout stores none
 abbrev pub OlderStoresNone : (ℕ → Layout) → Older → Type 0
@@ -60,7 +60,7 @@ module _ (Stores : ℕ → Layout) (disk : Disk) (count : ℕ) (file : State) wh
           of_a_game = subst (λ (kept : Option Kept). IsOfAGame kept) (sym (asked.kept here)) (of_a_game here);
         };
     only = λ honest kept holds.
-        asked.kept (still_honest found.from.goes_on honest) ∙ (one file.capacity holds.stores.0 disk.now.contents file.kept kept (found.stored honest) holds.stores.1).1;
+        asked.kept (still_honest found.from.goes_on honest) ∙ (one file.capacity holds.stores.0 disk.now.contents file.kept kept (found.stored honest) holds.stores.1);
     since = since found asked;
     now = λ honest. leaves (still_honest (goes_on_trans found.from.goes_on asked.ahead.goes_on) honest) (asked.closed ∙ found.is_open);
   }
@@ -95,7 +95,7 @@ module _ (Stores : ℕ → Layout) (disk : Disk) (count : ℕ) (file : State) wh
     begins file.capacity disk.now.contents file.kept (found.stored honest),
     λ kept holds.
         cause (still_honest found.from.goes_on honest)
-        (subst (λ (k : Option Kept). IsOfAGame k) (one holds.stores.0 file.capacity disk.now.contents kept file.kept holds.stores.1 (found.stored honest)).1 holds.of_a_game),
+        (subst (λ (k : Option Kept). IsOfAGame k) (one holds.stores.0 file.capacity disk.now.contents kept file.kept holds.stores.1 (found.stored honest)) holds.of_a_game),
   )
   no_game_opened now OldLayout one begins found cause = absurd cause
   no_game_opened now TooSmall one begins found cause = cause

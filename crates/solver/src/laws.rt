@@ -29,10 +29,10 @@ ghost use Rattle.solver.specs.declared.replies.Reply.TheVariants.{Refused};
 
 use game_file::GameFile;
 
-/// A picture of the disk stores one table at most, in one number of pages.
+/// A picture of the disk stores one table at most, in whatever number of pages.
 pub fn a_picture_stores_one_table<F: GameFile>()
     ensures { (m n : ℕ) (picture : Picture) (one other : Option Kept) → F.stores m picture one → F.stores n picture other
-        → (m ≡ n) × (one ≡ other) }
+        → one ≡ other }
 {}
 
 /// A picture that stores a locally sound table holds it.
