@@ -3,7 +3,7 @@
 use crate::standing::Standing;
 use game_file::GameFile;
 use recover::TableFile;
-use sector_disk::{MemDisk, SectorDisk};
+use sector_disk::MemDisk;
 use solver::{Command, FileSolver, Reply, SolverFault, Units};
 use std::alloc::Global;
 
@@ -56,17 +56,20 @@ pub struct Given<'a> {
     pub pages: usize,
 }
 
-/// Does it to the table of this disk. Answers the disk, and how far it came.
-pub fn done_on<D: SectorDisk + Drop>(
+/// Does it to the table of this disk, as a file of this layout. Answers the disk, and how far it came.
+pub fn done_on<F: GameFile>(
     given: Given<'_>,
-    disk: D,
+    disk: F::Device,
     deed: Deed,
-) -> anyhow::Result<(D, Progress)> {
+) -> anyhow::Result<(F::Device, Progress)>
+where
+    F::Device: Drop,
+{
     if deed == Deed::Create {
-        return Ok(created::<TableFile<D>>(given.alloc, disk));
+        return Ok(created::<F>(given.alloc, disk));
     }
     let commands = commands_of(given, deed)?;
-    commands_done::<TableFile<D>>(given, disk, &commands)
+    commands_done::<F>(given, disk, &commands)
 }
 
 /// Gives these commands to the table of this disk.
@@ -148,7 +151,7 @@ pub fn before(given: Given<'_>, deed: Deed) -> anyhow::Result<MemDisk> {
         Deed::Work => &[Deed::Create, Deed::Load],
     };
     for deed in earlier {
-        let (next, progress) = done_on(given, disk, *deed)?;
+        let (next, progress) = done_on::<TableFile<MemDisk>>(given, disk, *deed)?;
         if let Some(fault) = progress.refused {
             return Err(fault.into());
         }

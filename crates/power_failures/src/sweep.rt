@@ -2,6 +2,7 @@
 
 use crate::deeds::{DEEDS, Deed, Given, Progress, before, done_on};
 use crate::standing::{all_stand, is_right_on};
+use recover::TableFile;
 use sector_disk::{FlakyDisk, FuseDisk, MemDisk, SectorDisk};
 use solver::SolverFault;
 use std::alloc::Global;
@@ -86,11 +87,15 @@ fn done_in_trouble(
 ) -> anyhow::Result<(MemDisk, Progress)> {
     let disk = before(given, deed)?;
     if trouble == Trouble::Stop {
-        let (fuse, progress) = done_on(given, FuseDisk::new(disk, call), deed)?;
+        let (fuse, progress) = done_on::<TableFile<FuseDisk<MemDisk>>>(
+            given,
+            FuseDisk::new(disk, call),
+            deed,
+        )?;
         return Ok((fuse.into_inner(), progress));
     }
     let flaky = FlakyDisk::new(disk, call, trouble == Trouble::Done);
-    let (flaky, progress) = done_on(given, flaky, deed)?;
+    let (flaky, progress) = done_on::<TableFile<FlakyDisk<MemDisk>>>(given, flaky, deed)?;
     Ok((flaky.into_inner(), progress))
 }
 

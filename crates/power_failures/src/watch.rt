@@ -3,6 +3,7 @@
 use crate::deeds::{Deed, Given, done_on};
 use crate::named::{named_pages, picked_slot};
 use crate::watched::{Call, WatchedDisk};
+use recover::TableFile;
 use sector_disk::MemDisk;
 use std::alloc::Global;
 
@@ -43,7 +44,7 @@ pub fn watch(rt: &HostRuntime, alloc: Global, text: &[u8]) -> anyhow::Result<boo
 /// Does a deed, and notes what it asks of the disk.
 fn watched(given: Given<'_>, disk: MemDisk, deed: Deed) -> anyhow::Result<(MemDisk, Vec<Call>)> {
     let disk = WatchedDisk::new(given.alloc, disk);
-    let (disk, progress) = done_on(given, disk, deed)?;
+    let (disk, progress) = done_on::<TableFile<WatchedDisk<MemDisk>>>(given, disk, deed)?;
     if let Some(fault) = progress.refused {
         return Err(fault.into());
     }

@@ -7,17 +7,17 @@ ghost use Rattle.tree_table.specs.Held.{StoresTrees};
 ghost use Rattle.game_file.specs.Kept.{Kept};
 
 use crate::TableFile;
-use sector_disk::SectorDisk;
+use sector_disk::MemDisk;
 use solver::laws::the_headline;
 use tree_table::laws::a_picture_says_how_many_pages;
 
-/// The headline of the tables that this program makes, with what a picture of their file holds: the gate's bit, the slot, the text's
-/// chain and the trees.
-pub fn the_headline_of_our_tables<D: SectorDisk>()
+/// The headline of the tables that this program makes, on whichever disk, with what a picture of their file holds: the gate's bit, the
+/// slot, the text's chain and the trees.
+pub fn the_headline_of_our_tables()
     ensures { (sittings : List Sitting) (left : Shown) (picture : Picture) → History (StoresTrees 3) sittings left → MayLeave left picture
         → Headline (StoresTrees 3) sittings picture }
 {
-    the_headline::<TableFile<D>>()
+    the_headline::<TableFile<MemDisk>>()
 }
 
 /// A picture stores a table of this program in one number of pages, which its root says.

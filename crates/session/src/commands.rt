@@ -2,7 +2,6 @@
 ghost use Rattle.std.specs.Prelude.{◌≡◌, List, ℕ, false, Some, None, OnOk};
 ghost use Rattle.std.specs.Io.KnownBytes.{Appends};
 ghost use Rattle.game_file.specs.Calls.{IsAsked};
-ghost use Rattle.recover.specs.Held.{StoresTrees};
 ghost use Rattle.line_answers.specs.Answered.{status_of_reply};
 ghost use Rattle.printed_lines.specs.Verdicts.{IsVerdictLine};
 ghost use Rattle.session.specs.Commands.{Came, made, refused as refused_for, replied, audited as audited_as, IsDoneOnFile};
@@ -15,9 +14,7 @@ pub use line_answers::puts::{put_line, put_refused, put_reply, status_of};
 use line_answers::turns::reply_to;
 use printed_lines::verdicts::put_verdict;
 use rbg_game::goal::Goal;
-use recover::TableFile;
 use retrograde::Counts;
-use sector_disk::SectorDisk;
 use solver::{Command, FileSolver, Reply, SolverFault};
 use std::alloc::Global;
 use std::io::{self, Write};
@@ -42,23 +39,9 @@ pub struct Outcome {
     pub refused: Option<SolverFault>,
 }
 
-/// Does the command on the table of this disk, and writes one line: `created`, `loaded`, the verdict, or `refused` and a code.
-/// Gives what came of it, and the disk. Once the command is done, no memory is taken.
-pub fn command_on<D: SectorDisk, W: Write>(
-    alloc: Global,
-    disk: D,
-    command: FileCommand,
-    out: &mut W,
-) -> (Outcome, D)
-    ensures { (came : Came) × IsDoneOnFile (StoresTrees 3) command (D.disk disk) (D.failures disk) came (D.disk result.1)
-        (D.failures result.1) × (result.0.refused ≡ refusal_of came)
-        × IsPrinted (Appends (W.contents out.old) (W.contents out.new)) came result.0.status }
-{
-    command_in::<TableFile<D>, W>(alloc, disk, command, out)
-}
-
-/// The same with any layout of the file.
-fn command_in<F: GameFile, W: Write>(
+/// Does the command on the table of this disk, as a file of whichever layout, and writes one line: `created`, `loaded`, the verdict, or
+/// `refused` and a code. Gives what came of it, and the disk. Once the command is done, no memory is taken.
+pub fn command_on<F: GameFile, W: Write>(
     alloc: Global,
     disk: F::Device,
     command: FileCommand,

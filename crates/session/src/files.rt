@@ -10,6 +10,7 @@ use page_store::MIN_PAGES;
 use printed_lines::refused::Refused;
 use rbg_game::goal::Goal;
 use rbg_read::read::read_game;
+use recover::TableFile;
 use root_pair::MAGIC;
 use solver::SolverFault;
 use std::alloc::{AllocError, Global};
@@ -149,7 +150,13 @@ pub fn session_of_file(rt: &HostRuntime, alloc: Global, name: &str) -> u8 {
     let Ok(mut out) = BufWriter::new(alloc, io::writer(rt)) else {
         return status_of_refused(rt, Refused::OutOfMemory);
     };
-    let (status, _disk) = session_over(alloc, disk, &mut rt.stdin(), &mut out, &mut rt.stderr());
+    let (status, _disk) = session_over::<TableFile<FileDisk>, _, _, _>(
+        alloc,
+        disk,
+        &mut rt.stdin(),
+        &mut out,
+        &mut rt.stderr(),
+    );
     status
 }
 
@@ -190,7 +197,7 @@ fn command_on_file(
         let status = status_of_refused(rt, Refused::OutOfMemory);
         return undone(status, SolverFault::OutOfMemory);
     };
-    let (outcome, _disk) = command_on(alloc, disk, command, &mut out);
+    let (outcome, _disk) = command_on::<TableFile<FileDisk>, _>(alloc, disk, command, &mut out);
     match outcome.refused {
         None | Some(SolverFault::Game(_)) => {}
         Some(fault) => tell_refusal(rt, name, fault),

@@ -5,26 +5,13 @@ use game_file::GameFile;
 use line_answers::advice::tell_fault;
 use line_answers::input::{Asked, Line};
 use line_answers::questions::put_answer;
-use recover::TableFile;
-use sector_disk::SectorDisk;
 use solver::{FileSolver, SolverFault};
 use std::alloc::Global;
 use std::io::{ErrorKind, Read, Write};
 
-/// Answers each line of the input, on the table of this disk, before the next line is read. Gives the exit status, which
+/// Answers each line of the input, on the table of this disk, as a file of whichever layout, before the next line is read. Gives the exit status, which
 /// is 4 where the input or the output failed, and the disk. What a refusal means goes to `told`, whether or not it arrives.
-pub fn session_over<D: SectorDisk, R: Read, W: Write, E: Write>(
-    alloc: Global,
-    disk: D,
-    input: &mut R,
-    out: &mut W,
-    told: &mut E,
-) -> (u8, D) {
-    session_in::<TableFile<D>, R, W, E>(alloc, disk, input, out, told)
-}
-
-/// The same with any layout of the file.
-fn session_in<F: GameFile, R: Read, W: Write, E: Write>(
+pub fn session_over<F: GameFile, R: Read, W: Write, E: Write>(
     alloc: Global,
     disk: F::Device,
     input: &mut R,

@@ -1,6 +1,7 @@
 //! A table is made, loaded, worked, asked and audited by the calls that the program makes.
 
 use rbg_game::goal::Goal;
+use recover::TableFile;
 use sector_disk::MemDisk;
 use session::commands::{FileCommand, command_on};
 use session::line_by_line::session_over;
@@ -19,7 +20,7 @@ type Said = (u8, Vec<u8>);
 /// What the command prints that is done on this disk; it gives the disk back.
 fn command_says(alloc: Global, disk: MemDisk, command: FileCommand) -> (Said, MemDisk) {
     let mut out = Vec::new(alloc);
-    let (outcome, disk) = command_on(alloc, disk, command, &mut out);
+    let (outcome, disk) = command_on::<TableFile<MemDisk>, _>(alloc, disk, command, &mut out);
     ((outcome.status, out), disk)
 }
 
@@ -28,7 +29,9 @@ fn session_says(alloc: Global, disk: MemDisk, lines: &str) -> (Said, MemDisk) {
     let mut out = Vec::new(alloc);
     let mut told = Vec::new(alloc);
     let mut input = lines.as_bytes();
-    let (status, disk) = session_over(alloc, disk, &mut input, &mut out, &mut told);
+    let (status, disk) = session_over::<TableFile<MemDisk>, _, _, _>(
+        alloc, disk, &mut input, &mut out, &mut told,
+    );
     ((status, out), disk)
 }
 

@@ -2,7 +2,7 @@ use Rattle.std.proofs.Common.{inr, refl}
 use Rattle.solver.specs.Solvers.{state}
 use Rattle.session.specs.Commands.{made, refused, replied}
 use Rattle.session.proofs.Auditing.{audit_done, or_same}
-use Rattle.session.proofs.commands.command_in.Goals as goal
+use Rattle.session.proofs.commands.command_on.Goals as goal
 
 pub audited-requires-clause-open : goal.audited-requires-clause-open
 audited-requires-clause-open g c = c.in-Ok-open-2.ensures.opened.is_open
