@@ -1,0 +1,4 @@
+pub mod PositionLemmas
+pub mod EdgeLemmas
+pub mod OrderLemmas
+pub mod Passing
