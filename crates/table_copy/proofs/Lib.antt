@@ -1,4 +1,3 @@
-pub mod PositionLemmas
-pub mod EdgeLemmas
-pub mod OrderLemmas
+pub mod Lists
+pub mod Bounds
 pub mod Passing

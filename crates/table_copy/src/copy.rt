@@ -27,7 +27,8 @@ pub fn copy_table<A: Table, B: Table>(from: &mut A, to: &mut B) -> Result<(), Co
     ensures stays { A.stays from.old from.new }
     ensures to_honest { OnOk result (B.is_honest to.old ↔ B.is_honest to.new) }
     ensures ahead { OnOk result (B.goes_on to.old to.new) }
-    ensures left { IfErr result (Leaves (A.fails from.old from.new) (B.fails to.old to.new) (B.goes_on to.old to.new) (B.is_honest to.old)) }
+    ensures left { IfErr result (Leaves (A.fails from.old from.new) (B.fails to.old to.new)
+        (B.goes_on to.old to.new) (B.is_honest to.old)) }
 {
     copy_positions(from, to)?;
     copy_edges(from, to)?;

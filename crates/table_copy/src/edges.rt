@@ -1,7 +1,7 @@
 //! The edges are copied, successor by successor.
 ghost use Rattle.std.specs.Prelude.{◌≡◌, ◌+◌, ◌<◌, OnOk, IfErr, length};
-ghost use Rattle.table_copy.specs.Copies.{IsRead, Leaves};
-ghost use Rattle.table_copy.specs.aid.Parts.{IsWritten, with_edges};
+ghost use Rattle.table_copy.specs.Copies.{Leaves};
+ghost use Rattle.table_copy.specs.aid.Parts.{IsRead, IsWritten, with_edges};
 
 use crate::fault::CopyFault;
 use table::Table;
@@ -20,13 +20,11 @@ fn copy_edges_to<A: Table, B: Table>(
     ensures known { OnOk result ((B.counted to.new).known ≡ (B.counted to.old).known) }
     ensures read { IsRead A.stored A.is_honest A.counted A.stays from.old from.new }
     ensures written { OnOk result (IsWritten B.is_honest B.goes_on to.old to.new) }
-    ensures left { IfErr result (Leaves (A.fails from.old from.new) (B.fails to.old to.new) (B.goes_on to.old to.new) (B.is_honest to.old)) }
+    ensures left { IfErr result (Leaves (A.fails from.old from.new) (B.fails to.old to.new)
+        (B.goes_on to.old to.new) (B.is_honest to.old)) }
 {
     let mut after: Option<u32> = None;
-    while let Some(predecessor) = from
-        .next_edge(successor, after)
-        .map_err(CopyFault::From)?
-    {
+    while let Some(predecessor) = from.next_edge(successor, after).map_err(CopyFault::From)? {
         to.add_edge(successor, predecessor).map_err(CopyFault::To)?;
         after = Some(predecessor);
     }
@@ -42,7 +40,8 @@ pub fn copy_edges<A: Table, B: Table>(from: &mut A, to: &mut B) -> Result<(), Co
         (B.stored to.new ≡ with_edges (length (A.stored from.old).positions) (A.stored from.old)) }
     ensures read { IsRead A.stored A.is_honest A.counted A.stays from.old from.new }
     ensures written { OnOk result (IsWritten B.is_honest B.goes_on to.old to.new) }
-    ensures left { IfErr result (Leaves (A.fails from.old from.new) (B.fails to.old to.new) (B.goes_on to.old to.new) (B.is_honest to.old)) }
+    ensures left { IfErr result (Leaves (A.fails from.old from.new) (B.fails to.old to.new)
+        (B.goes_on to.old to.new) (B.is_honest to.old)) }
 {
     for successor in 0..from.counts().known {
         copy_edges_to(from, to, successor)?;

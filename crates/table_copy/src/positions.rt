@@ -2,18 +2,14 @@
 ghost use Rattle.std.specs.Prelude.{◌≡◌, ◌+◌, ◌^◌, ◌<◌, ◌≤◌, OnOk, IfErr, length};
 ghost use Rattle.retrograde.specs.Stored.{IsTable};
 ghost use Rattle.table.specs.Records.{nothing};
-ghost use Rattle.table_copy.specs.Copies.{IsRead, Leaves};
-ghost use Rattle.table_copy.specs.aid.Parts.{IsWritten, with_positions};
+ghost use Rattle.table_copy.specs.Copies.{Leaves};
+ghost use Rattle.table_copy.specs.aid.Parts.{IsRead, IsWritten, with_positions};
 
 use crate::fault::CopyFault;
 use table::Table;
 
 /// Copies the position with a number, and its record.
-fn copy_position<A: Table, B: Table>(
-    from: &mut A,
-    to: &mut B,
-    number: u32,
-) -> Result<(), CopyFault>
+fn copy_position<A: Table, B: Table>(from: &mut A, to: &mut B, number: u32) -> Result<(), CopyFault>
     requires known { number < (A.counted from.old).known }
     requires next { (B.counted to.old).known ≡ number }
     requires few { number < 2 ^ 24 }
@@ -24,7 +20,8 @@ fn copy_position<A: Table, B: Table>(
     ensures known { OnOk result ((B.counted to.new).known ≡ number + 1) }
     ensures read { IsRead A.stored A.is_honest A.counted A.stays from.old from.new }
     ensures written { OnOk result (IsWritten B.is_honest B.goes_on to.old to.new) }
-    ensures left { IfErr result (Leaves (A.fails from.old from.new) (B.fails to.old to.new) (B.goes_on to.old to.new) (B.is_honest to.old)) }
+    ensures left { IfErr result (Leaves (A.fails from.old from.new) (B.fails to.old to.new)
+        (B.goes_on to.old to.new) (B.is_honest to.old)) }
 {
     let position = from.packed(number).map_err(CopyFault::From)?;
     let kept = from.record(number).map_err(CopyFault::From)?;
@@ -45,7 +42,8 @@ pub fn copy_positions<A: Table, B: Table>(from: &mut A, to: &mut B) -> Result<()
     ensures known { OnOk result ((B.counted to.new).known ≡ (A.counted from.old).known) }
     ensures read { IsRead A.stored A.is_honest A.counted A.stays from.old from.new }
     ensures written { OnOk result (IsWritten B.is_honest B.goes_on to.old to.new) }
-    ensures left { IfErr result (Leaves (A.fails from.old from.new) (B.fails to.old to.new) (B.goes_on to.old to.new) (B.is_honest to.old)) }
+    ensures left { IfErr result (Leaves (A.fails from.old from.new) (B.fails to.old to.new)
+        (B.goes_on to.old to.new) (B.is_honest to.old)) }
 {
     for number in 0..from.counts().known {
         copy_position(from, to, number)?;

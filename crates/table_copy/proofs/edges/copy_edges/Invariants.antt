@@ -1,6 +1,5 @@
 use Rattle.std.proofs.Common.{◌≡◌}
-use Rattle.table_copy.specs.Copies.{IsRead}
-use Rattle.table_copy.specs.aid.Parts.{IsWritten, with_edges}
+use Rattle.table_copy.specs.aid.Parts.{IsRead, IsWritten, with_edges}
 use Rattle.table_copy.proofs.edges.copy_edges.Given as goal
 
 abbrev pub invariant-loop-successor : goal.invariant-loop-successor

@@ -1,7 +1,6 @@
 use Rattle.std.proofs.Common.{◌≡◌, ◌-◌, ◌≤◌}
-use Rattle.table_copy.specs.Copies.{IsRead}
-use Rattle.table_copy.specs.aid.Parts.{IsWritten}
-use Rattle.table_copy.proofs.EdgeLemmas.{bound_of, edges_to}
+use Rattle.table_copy.specs.aid.Parts.{IsRead, IsWritten}
+use Rattle.table_copy.proofs.Bounds.{bound_of, edges_to}
 use Rattle.table_copy.proofs.edges.copy_edges_to.Given as goal
 
 abbrev pub invariant-loop-predecessor : goal.invariant-loop-predecessor

@@ -1,6 +1,5 @@
 use Rattle.std.proofs.Common.{◌≡◌}
-use Rattle.table_copy.specs.Copies.{IsRead}
-use Rattle.table_copy.specs.aid.Parts.{IsWritten, with_order}
+use Rattle.table_copy.specs.aid.Parts.{IsRead, IsWritten, with_order}
 use Rattle.table_copy.proofs.order.copy_order.Given as goal
 
 abbrev pub invariant-loop-place : goal.invariant-loop-place

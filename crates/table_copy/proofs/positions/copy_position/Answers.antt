@@ -1,17 +1,16 @@
-use Rattle.std.proofs.Common.{◌≡◌, ◌∙◌, sym, ap, subst, ℕ, List, Some, slice_get, ◌+◌}
+use Rattle.std.proofs.Common.{◌≡◌, ◌∙◌, ap, subst, ℕ, List, Some, slice_get}
 use Rattle.retrograde.specs.Stored.{Stored, HasRecord}
 use Rattle.retrograde.specs.Changes.{with_position, with_record}
-use Rattle.table_copy.specs.aid.Parts.{with_positions}
 use Rattle.table_copy.proofs.Passing.{told, told_done}
-use Rattle.table_copy.proofs.PositionLemmas.{is_new, position_more}
-use Rattle.table_copy.proofs.positions.copy_position.Given as Given
+use Rattle.table_copy.proofs.Lists.{is_new, position_more}
 use Rattle.table_copy.proofs.positions.copy_position.Goals as goal
 
 pub add-requires-clause-unknown : goal.add-requires-clause-unknown
 add-requires-clause-unknown g c = λ honest i there.
     let from_honest = c.requires.honest honest in
     let at : slice_get (g.A.Table.stored c.args.from.now).positions c.args.number ≡ Some c.in_ok-position.position.items
-    = told _ _ c.packed.result c.map_err.result _ c.map_err.ensures.cases c.map_err.ensures.variant c.in_ok-position.was (c.packed.ensures.position from_honest) in
+    = told _ _ c.packed.result c.map_err.result _ c.map_err.ensures.cases c.map_err.ensures.variant c.in_ok-position.was
+    (c.packed.ensures.position from_honest) in
     is_new (g.A.Table.stored c.args.from.now) c.args.number _ at (c.requires.table from_honest) i
     (subst (λ (t : Stored (List ℕ)). slice_get t.positions i ≡ Some c.in_ok-position.position.items) (c.requires.before honest) there)
 
@@ -19,7 +18,8 @@ pub returns-clause-copied : goal.returns-clause-copied
 returns-clause-copied g c = λ honest.
     let from_honest = c.requires.honest honest in
     let at : slice_get (g.A.Table.stored c.args.from.now).positions c.args.number ≡ Some c.in_ok-position.position.items
-    = told _ _ c.packed.result c.map_err.result _ c.map_err.ensures.cases c.map_err.ensures.variant c.in_ok-position.was (c.packed.ensures.position from_honest) in
+    = told _ _ c.packed.result c.map_err.result _ c.map_err.ensures.cases c.map_err.ensures.variant c.in_ok-position.was
+    (c.packed.ensures.position from_honest) in
     let kept : HasRecord (g.A.Table.stored c.packed.new.self) c.args.number c.in_ok-kept.kept
     = told _ _ c.record.result c.map_err-2.result _ c.map_err-2.ensures.cases c.map_err-2.ensures.variant c.in_ok-kept.was
     (c.record.ensures.record (c.packed.ensures.honest.0 from_honest)) in

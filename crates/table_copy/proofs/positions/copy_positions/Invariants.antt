@@ -1,6 +1,5 @@
 use Rattle.std.proofs.Common.{◌≡◌}
-use Rattle.table_copy.specs.Copies.{IsRead}
-use Rattle.table_copy.specs.aid.Parts.{IsWritten, with_positions}
+use Rattle.table_copy.specs.aid.Parts.{IsRead, IsWritten, with_positions}
 use Rattle.table_copy.proofs.positions.copy_positions.Given as goal
 
 abbrev pub invariant-loop-number : goal.invariant-loop-number
