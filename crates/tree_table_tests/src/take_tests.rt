@@ -13,7 +13,7 @@ use test_aids::{TAKE, expect};
 use tree_table::{TreeTable, empty_slot};
 
 /// The settled order of the finished game.
-const ORDER: [u32; 7] = [4, 6, 2, 3, 5, 1, 0];
+pub const ORDER: [u32; 7] = [4, 6, 2, 3, 5, 1, 0];
 
 /// A store of 64 pages, all free, on a disk with an empty table.
 fn free_store(alloc: Global) -> Result<PageStore<MemDisk>, Fail> {
@@ -42,7 +42,7 @@ fn on_trees(alloc: Global, source: &Source) -> Result<TreeTable<PageStore<MemDis
 }
 
 /// Does so many units of work, or fewer where the table is finished.
-fn worked<T: Table>(
+pub fn worked<T: Table>(
     alloc: Global,
     source: &Source,
     table: &mut T,
@@ -80,7 +80,7 @@ fn expect_edges<T: Table>(table: &mut T, memory: &mut MemTable, number: u32) -> 
 }
 
 /// Expects that both tables say the same of everything.
-fn expect_same<T: Table>(table: &mut T, memory: &mut MemTable) -> Result<(), Fail> {
+pub fn expect_same<T: Table>(table: &mut T, memory: &mut MemTable) -> Result<(), Fail> {
     expect(table.counts(), memory.counts(), "the counts")?;
     for number in 0..memory.counts().known {
         expect_number(table, memory, number)?;
@@ -90,7 +90,7 @@ fn expect_same<T: Table>(table: &mut T, memory: &mut MemTable) -> Result<(), Fai
 }
 
 /// Expects this settled order.
-fn expect_order<T: Table>(table: &mut T, order: &[u32]) -> Result<(), Fail> {
+pub fn expect_order<T: Table>(table: &mut T, order: &[u32]) -> Result<(), Fail> {
     expect(table.counts().settled as usize, order.len(), "the settled")?;
     for place in 0..table.counts().settled {
         if place >= table.counts().settled {
