@@ -31,7 +31,7 @@ use Rattle.tree_table.specs.Forest.{IsForest}
 use Rattle.tree_table.specs.Held.{KeepsOnPages, StoresTrees}
 use Rattle.tree_table.specs.Keeping.{AreSized, IsKeptInTrees, IsStill, StandsFor, slot_or_bare}
 use Rattle.tree_table.specs.Slot.{slot_in, IsGameTreeSlot}
-use Rattle.tree_table.specs.Working.{work_of}
+use Rattle.tree_table.specs.Working.{Work, work_of}
 use Rattle.tree_table.specs.aid.Keeping.{kept_stands, spells_stores_trees}
 use Rattle.tree_table.specs.aid.Standing.{still_stands_for, was_honest}
 use Rattle.tree_file.specs.File.{File, NamesSlot, IsWholeFile, file_of, kept_of, kept_with, state_of}
@@ -42,7 +42,8 @@ use Rattle.tree_file.proofs.Saving.{calm_sealed}
 
 -- a root that names the same slot says the same of a game
 module _ (old root : List ℕ) (same : slot_in root ≡ slot_in old) where
-  game_under : (kind : PackingKind) (goal : Option ℕ) → packing_in root ≡ number_of_packing kind → IsGameTreeSlot old kind goal → IsGameTreeSlot root kind goal
+  game_under : (kind : PackingKind) (goal : Option ℕ) → packing_in root ≡ number_of_packing kind → IsGameTreeSlot old kind goal
+      → IsGameTreeSlot root kind goal
   game_under kind goal packing it = record {
     packing = packing;
     goal = ap (λ (s : TreeSlot). goal_numbered s.goal) same ∙ it.goal;
@@ -51,12 +52,14 @@ module _ (old root : List ℕ) (same : slot_in root ≡ slot_in old) where
     some = subst (λ (s : TreeSlot). 1 ≤ s.sizes.packed) (sym same) it.some;
   }
 
-  keeps_under : (capacity : ℕ) (kept : Kept) (text_pages : List ℕ) (pages : Tree → List ℕ) (bytes : ℕ → List ℕ) → packing_in root ≡ number_of_packing kept.packing
+  keeps_under : (capacity : ℕ) (kept : Kept) (text_pages : List ℕ) (pages : Tree → List ℕ) (bytes : ℕ → List ℕ)
+      → packing_in root ≡ number_of_packing kept.packing
       → KeepsOnPages old capacity kept text_pages pages bytes → KeepsOnPages root capacity kept text_pages pages bytes
   keeps_under capacity kept text_pages pages bytes packing it = record {
     slot = game_under kept.packing kept.goal packing it.slot;
     entries = it.entries;
-    forest = subst (λ (s : TreeSlot). IsForest s.sizes.packed capacity s.first s.roots kept.text text_pages pages it.entries bytes) (sym same) it.forest;
+    forest = subst (λ (s : TreeSlot). IsForest s.sizes.packed capacity s.first s.roots kept.text text_pages pages it.entries bytes)
+        (sym same) it.forest;
     text = it.text ∙ ap (λ (s : TreeSlot). s.sizes.text) (sym same);
     spelled = subst (λ (s : TreeSlot). AreEntriesOf s.sizes it.entries kept.table) (sym same) it.spelled;
     table = it.table;
@@ -85,7 +88,8 @@ sound_under root store sound = record {
 kept_under : (root : List ℕ) (game : Option TreeSlot) (text : List ℕ) (store : Store) → NamesSlot store.root game → NamesSlot root game
     → IfSome game (λ slot. packing_in root ≡ number_of_packing slot.packing) → IsKeptInTrees store (kept_with game text (reads store))
     → IsKeptInTrees (store_under root store) (kept_with game text (reads store))
-kept_under root None text store was now packing it = record { text_pages = it.text_pages; pages = it.pages; keeps = now; needed = it.needed }
+kept_under root None text store was now packing it =
+    record { text_pages = it.text_pages; pages = it.pages; keeps = now; needed = it.needed }
 kept_under root (Some slot) text store was now packing it = record {
   text_pages = it.text_pages;
   pages = it.pages;
@@ -94,7 +98,8 @@ kept_under root (Some slot) text store was now packing it = record {
 }
 
 -- so is what stands
-stands_under : (root : List ℕ) (game : Option TreeSlot) (text : List ℕ) (store : Store) → StandsFor game text store → StandsFor game text (store_under root store)
+stands_under : (root : List ℕ) (game : Option TreeSlot) (text : List ℕ) (store : Store) → StandsFor game text store
+    → StandsFor game text (store_under root store)
 stands_under root None text store it = it
 stands_under root (Some slot) text store it = record {
   table = it.table;
@@ -125,7 +130,8 @@ still_calm root old new calm done = record {
 }
 
 -- a commit in a calm store changes the root alone
-pub still_under : (root : List ℕ) (old new : Store) → IsCalm old → GoesOn old.disk new.disk → IsCommitted root old new → IsStill (store_under root old) new
+pub still_under : (root : List ℕ) (old new : Store) → IsCalm old → GoesOn old.disk new.disk → IsCommitted root old new
+    → IsStill (store_under root old) new
 still_under root old new calm goes_on done = record {
   goes_on = goes_on;
   root = done.is;
@@ -143,7 +149,8 @@ pub record IsNamedAnew (to : ℕ) (was : File) (root : List ℕ) : Type 0 where
   pub names : NamesSlot root was.game
   pub packing : IfSome was.game (λ slot. packing_in root ≡ number_of_packing slot.packing)
 
-pub named_anew : (to pages : ℕ) (was : File) (root : List ℕ) → layout_in root ≡ to → SaysPages root pages → pages ≡ length was.work.store.marks → NamesSlot root was.game
+pub named_anew : (to pages : ℕ) (was : File) (root : List ℕ) → layout_in root ≡ to → SaysPages root pages
+    → pages ≡ length was.work.store.marks → NamesSlot root was.game
     → IfSome was.game (λ slot. packing_in root ≡ number_of_packing slot.packing) → IsNamedAnew to was root
 named_anew to pages was root of_layout says capacity names packing = record {
   of_layout = of_layout;
@@ -181,7 +188,8 @@ module _ {layout : ℕ} (to : ℕ) (was : File) (whole : IsWholeFile layout was)
       let under = store_under root store in
       let kept = kept_of was in
       leaves_more (λ picture left. elim left [
-        | inl old ↦ inl (spells_stores_trees store.root layout (length store.marks) kept picture whole.of_layout whole.says whole.room whole.sound.few
+        | inl old ↦ inl (spells_stores_trees store.root layout (length store.marks) kept picture whole.of_layout whole.says whole.room
+            whole.sound.few
             (saved_spells store (kept_stands store kept (whole.kept honest)) picture old))
         | inr now ↦ inr (spells_stores_trees root to (length store.marks) kept picture anew.of_layout anew.says whole.room whole.sound.few
             (saved_spells under (kept_stands under kept (whole_under.kept honest)) picture
@@ -189,7 +197,8 @@ module _ {layout : ℕ} (to : ℕ) (was : File) (whole : IsWholeFile layout was)
       ]) (commits.leaves honest (whole.sound.safe honest is_open))
 
   -- after the commit
-  module _ (new : Store) (commits : Commits root was.work.store new) (done : IsCommitted root was.work.store new) (sound : IsSoundStore new) where
+  module _ (new : Store) (commits : Commits root was.work.store new) (done : IsCommitted root was.work.store new)
+      (sound : IsSoundStore new) where
     still : IsStill (store_under root was.work.store) new
     still = still_under root was.work.store new whole.calm commits.goes_on done
 
@@ -202,7 +211,8 @@ module _ {layout : ℕ} (to : ℕ) (was : File) (whole : IsWholeFile layout was)
     moved_kept : IsTrue was.work.store.disk.honest → kept_of (file_on was new) ≡ kept_of was
     moved_kept = again_kept (file_under root was) (file_on was new) whole_under still refl refl calm
 
-    pub moved_same : commits_in root ≡ count_behind (commits_in was.work.store.root) → KeepsTheSame (state_of was) (state_of (file_on was new))
+    pub moved_same : commits_in root ≡ count_behind (commits_in was.work.store.root)
+        → KeepsTheSame (state_of was) (state_of (file_on was new))
     moved_same counted = record {
       capacity = done.marks.same_length;
       commits = ap commits_in done.is ∙ counted;
@@ -227,23 +237,30 @@ module _ {layout : ℕ} (to : ℕ) (was : File) (whole : IsWholeFile layout was)
     pub moved_pages : LeavesPages was.work.store new
     moved_pages = record { reads = done.reads; marks = calm_mark root was.work.store new whole.calm done }
 
+    -- the game stands in it
+    pub moved_stands : (IsTrue was.work.store.disk.honest → ∥ StandsFor was.game was.work.text was.work.store ∥₁)
+        → IsTrue new.disk.honest → ∥ StandsFor was.game was.work.text new ∥₁
+    moved_stands stands honest =
+        let before = was_honest commits.goes_on honest in
+        ∥∥₁_elim (stands before) ∥∥₁_prop (λ (s : StandsFor was.game was.work.text was.work.store).
+        ∣ still_stands_for was.game was.work.text (store_under root was.work.store) new before still
+        (stands_under root was.game was.work.text was.work.store s) ∣₁)
+
     -- what is so of it at any moment
-    pub moved_backed : (counted : ℕ) → AreSized was.game → (IsTrue was.work.store.disk.honest → ∥ StandsFor was.game was.work.text was.work.store ∥₁)
-        → counted ≡ commits_in root → IsBackedFile to counted (file_on was new)
-    moved_backed counted sized stands is = record {
+    pub moved_backed : (counted : ℕ) (work : Work) → work ≡ (file_on was new).work → AreSized was.game
+        → (IsTrue was.work.store.disk.honest → ∥ StandsFor was.game was.work.text was.work.store ∥₁) → counted ≡ commits_in root
+        → IsBackedFile to counted (file_of work was.game)
+    moved_backed counted work same sized stands is = subst (λ (w : Work). IsBackedFile to counted (file_of w was.game)) (sym same) (record {
       of_layout = ap layout_in done.is ∙ anew.of_layout;
       counted = is ∙ ap commits_in (sym done.is);
       sized = sized;
       sealed = calm_sealed new calm;
-      stands = λ honest.
-          let before = was_honest commits.goes_on honest in
-          ∥∥₁_elim (stands before) ∥∥₁_prop (λ (s : StandsFor was.game was.work.text was.work.store).
-          ∣ still_stands_for was.game was.work.text (store_under root was.work.store) new before still
-          (stands_under root was.game was.work.text was.work.store s) ∣₁);
-    }
+      stands = moved_stands stands;
+    })
 
   -- after a refusal
-  module _ (new : Store) (commits : Commits root was.work.store new) (fault : PageFault) (cause : StoreCommitCause was.work.store new fault) where
+  module _ (new : Store) (commits : Commits root was.work.store new) (fault : PageFault)
+      (cause : StoreCommitCause was.work.store new fault) where
     no_other : was.work.store.closed ≡ false → of_pages fault ≢ DiskFailed → ⊥
     no_other is_open other = at fault cause other
       where
@@ -256,7 +273,8 @@ module _ {layout : ℕ} (to : ℕ) (was : File) (whole : IsWholeFile layout was)
         at page.Closed cause other = let never : true ≡ false = sym cause ∙ is_open in cc
 
     -- a commit in which no write failed left the store as it was
-    as_it_was : was.work.store.closed ≡ false → ¬ Grew was.work.store.disk.failed_writes new.disk.failed_writes → IsUnchanged was.work.store new
+    as_it_was : was.work.store.closed ≡ false → ¬ Grew was.work.store.disk.failed_writes new.disk.failed_writes
+        → IsUnchanged was.work.store new
     as_it_was is_open spared = at fault cause
       where
         at : (f : PageFault) → StoreCommitCause was.work.store new f → IsUnchanged was.work.store new
@@ -271,7 +289,8 @@ module _ {layout : ℕ} (to : ℕ) (was : File) (whole : IsWholeFile layout was)
     not_moved = record {
       from = record { goes_on = commits.goes_on; failures = commits.failures; same_size = commits.same_size };
       leaves = λ honest is_open other. absurd (no_other is_open other);
-      unwritten = λ honest is_open spared. leaves_more (whole_leaves layout was whole honest is_open) ((as_it_was is_open spared).leaves honest);
+      unwritten = λ honest is_open spared. leaves_more (whole_leaves layout was whole honest is_open)
+          ((as_it_was is_open spared).leaves honest);
       either = λ honest is_open. either_layout new commits honest is_open;
     }
 
@@ -282,6 +301,7 @@ no_goal {layout} was whole early = by_game was.game whole.names
     zero : goal_number_in was.work.store.root ≡ 0
     zero = elim (goal_has_place was.work.store.root) [ inl late ↦ absurd (omega (arith, late, early, whole.of_layout)) | inr none ↦ none ]
 
-    by_game : (game : Option TreeSlot) → NamesSlot was.work.store.root game → goal_kept (kept_with game was.work.text (reads was.work.store)) ≡ None
+    by_game : (game : Option TreeSlot) → NamesSlot was.work.store.root game
+        → goal_kept (kept_with game was.work.text (reads was.work.store)) ≡ None
     by_game None names = refl
     by_game (Some slot) names = ap goal_numbered (ap (λ (s : TreeSlot). s.goal) names ∙ zero)
