@@ -6,6 +6,7 @@ mod kept;
 pub mod laws;
 mod on_disk;
 mod open;
+mod renew;
 mod version;
 mod working;
 
