@@ -1,13 +1,14 @@
 -- A commit carries a file of layout 1 into layout 3.
-use Rattle.std.proofs.Common.{◌≡◌, ◌≢◌, ◌⊎◌, inl, inr, ℕ, ◌≤◌, ◌^◌, false, List, length, Option, None, Some, Contains, IsTrue, refl, sym, ◌∙◌, ap, subst, arith}
-use Rattle.sector_disk.specs.Disk.{Picture, Disk, LeavesOnly}
+use Rattle.std.proofs.Common.{◌≡◌, ◌≢◌, ◌⊎◌, inl, inr, ℕ, ◌≤◌, true, false, List, length, Option, None, Some, Result, Ok, Err, Contains, IsTrue, refl, sym, ◌∙◌, ap, subst, arith}
+use Rattle.std.specs.Prelude.{OnOk, IfOk, IfErr}
+use Rattle.sector_disk.specs.Disk.{Picture, LeavesOnly}
 use Rattle.sector_disk.specs.aid.Moments.{goes_on_trans, leaves_more, reads_left, still_honest}
 use Rattle.page_store.specs.declared.fault.PageFault.{PageFault}
 use Rattle.page_store.specs.declared.fault.PageFault.TheVariants as page
 use Rattle.page_store.specs.Causes.{StoreCommitCause}
 use Rattle.page_store.specs.Spelling.{IsPrepared, Spells, Stands}
 use Rattle.page_store.specs.Store.{Store, Saved, SavedAs, StopLeaves, StoreWorks, Commits}
-use Rattle.page_store.specs.aid.Works.{works_then}
+use Rattle.page_store.specs.aid.Works.{grew_since, works_then}
 use Rattle.page_store.specs.aid.Carrying.{commit_carries, saved_spells, saved_as_spells}
 use Rattle.root_slot.specs.Fields.{commits_in, layout_in, packing_in, number_of_packing, goal_numbered, SaysPages}
 use Rattle.table.specs.InMemory.{stored_in}
@@ -18,6 +19,7 @@ use Rattle.flat_table.specs.Held.{KeepsTable, Stores}
 use Rattle.flat_table.specs.aid.StoredLaws.{spells_stores}
 use Rattle.game_file.specs.declared.fault.FileFault.{FileFault}
 use Rattle.game_file.specs.declared.fault.FileFault.TheVariants.{Disk as DiskFailed}
+use Rattle.game_file.specs.declared.fault.FileFault.TheVariants as file
 use Rattle.game_file.specs.Faults.{of_pages}
 use Rattle.game_file.specs.State.{GoesFrom, count_behind}
 use Rattle.game_file.specs.Stops.{LeavesNow, LeavesTable}
@@ -29,7 +31,7 @@ use Rattle.tree_table.specs.Slot.{slot_in, IsEmptyTreeSlot, IsGameTreeSlot}
 use Rattle.tree_table.specs.Working.{HoldsTable, text_slot}
 use Rattle.tree_table.specs.aid.Keeping.{spells_stores_trees, table_is_prepared}
 use Rattle.tree_table.proofs.Limits.{within_limits}
-use Rattle.layout_moves.specs.Moving.{IsMoved, IsNotMoved}
+use Rattle.layout_moves.specs.Moving.{IsMoved, IsNotMoved, MoveCause}
 use Rattle.layout_moves.specs.aid.Steps.{HasFrameOf, IsCopied, RootCause, StepCause}
 
 -- a disk failure of the pages below is one of the file
@@ -176,3 +178,41 @@ root_cause old new page.Damaged cause = absurd cause
 root_cause old new page.TableFull cause = absurd cause
 root_cause old new page.OutOfMemory cause = absurd cause
 root_cause old new page.Closed cause = cause
+
+-- why a table is not moved: a step fails behind others
+pub step_moves : (old mid new : Store) (game : Game) (fault : FileFault) → old.closed ≡ false → StoreWorks old mid → mid.closed ≡ old.closed
+    → StepCause mid new fault → MoveCause (state_of (file_of old (Some game))) new.failures fault
+step_moves old mid new game file.Disk is_open works still cause = grew_since works.failures cause
+step_moves old mid new game file.NotATable is_open works still cause = absurd cause
+step_moves old mid new game file.AlreadyATable is_open works still cause = absurd cause
+step_moves old mid new game file.Damaged is_open works still cause = λ honest. cause (still_honest works.goes_on honest)
+step_moves old mid new game file.OldLayout is_open works still cause = absurd cause
+step_moves old mid new game file.TooSmall is_open works still cause = absurd cause
+step_moves old mid new game file.TableFull is_open works still cause = refl
+step_moves old mid new game file.OutOfMemory is_open works still cause = refl
+step_moves old mid new game file.Closed is_open works still cause = let no : true ≡ false = sym cause ∙ still ∙ is_open in absurd (cc)
+step_moves old mid new game file.Inconsistent is_open works still cause = λ honest. absurd (cause (still_honest works.goes_on honest))
+
+-- or the commit
+pub root_moves : (old mid new : Store) (game : Option Game) (fault : FileFault) → old.closed ≡ false → StoreWorks old mid → mid.closed ≡ old.closed
+    → RootCause mid new fault → MoveCause (state_of (file_of old game)) new.failures fault
+root_moves old mid new game file.Disk is_open works still cause = grew_since works.failures cause
+root_moves old mid new game file.NotATable is_open works still cause = absurd cause
+root_moves old mid new game file.AlreadyATable is_open works still cause = absurd cause
+root_moves old mid new game file.Damaged is_open works still cause = absurd cause
+root_moves old mid new game file.OldLayout is_open works still cause = absurd cause
+root_moves old mid new game file.TooSmall is_open works still cause = absurd cause
+root_moves old mid new game file.TableFull is_open works still cause = absurd cause
+root_moves old mid new game file.OutOfMemory is_open works still cause = absurd cause
+root_moves old mid new game file.Closed is_open works still cause = let no : true ≡ false = sym cause ∙ still ∙ is_open in absurd (cc)
+root_moves old mid new game file.Inconsistent is_open works still cause = absurd cause
+
+-- what is said of an answer
+pub of_ok : {X E : Type 0} (Such : X → Type 0) (r : Result X E) (x : X) → r ≡ Ok x → IfOk r Such → Such x
+of_ok {X} {E} Such r x is it = subst (λ (s : Result X E). IfOk s Such) is it
+
+pub of_done : {X E : Type 0} (Done : Type 0) (r : Result X E) (x : X) → r ≡ Ok x → OnOk r Done → Done
+of_done {X} {E} Done r x is it = subst (λ (s : Result X E). OnOk s Done) is it
+
+pub of_err : {X E : Type 0} (Such : E → Type 0) (r : Result X E) (x : E) → r ≡ Err x → IfErr r Such → Such x
+of_err {X} {E} Such r x is it = subst (λ (s : Result X E). IfErr s Such) is it

@@ -1,7 +1,6 @@
 -- A table that is copied into one that holds nothing.
-use Rattle.std.proofs.Common.{◌≡◌, ℕ, ◌^◌, ◌≤◌, false, true, List, IsTrue, refl, sym, ◌∙◌, ap, subst}
-use Rattle.sector_disk.specs.Disk.{Disk}
-use Rattle.page_store.specs.Store.{Store, StoreWorks, reads}
+use Rattle.std.proofs.Common.{◌≡◌, ℕ, ◌^◌, ◌≤◌, false, List, IsTrue, sym, ◌∙◌, ap, subst}
+use Rattle.page_store.specs.Store.{Store, StoreWorks}
 use Rattle.retrograde.specs.Stored.{Stored}
 use Rattle.table.specs.Records.{nothing}
 use Rattle.table.specs.declared.fault.TableFault.{TableFault}

@@ -1,5 +1,5 @@
 -- What it is to move a table from a file of one layout into one of another, and why it is not moved.
-use Rattle.std.specs.Prelude.{◌≡◌, ◌≢◌, ◌⊎◌, ℕ, List, Option, Some, IsSome, IsTrue}
+use Rattle.std.specs.Prelude.{◌≡◌, ◌≢◌, ◌⊎◌, ℕ, List, Some, IsSome, IsTrue}
 use Rattle.sector_disk.specs.Disk.{Picture, Disk, LeavesOnly, Grew}
 use Rattle.root_pair.specs.Root.{HoldsRoot}
 use Rattle.root_slot.specs.Fields.{commits_in}

@@ -22,11 +22,7 @@ const LAYOUT: u32 = 3;
 
 /// Commits the table that this slot names, in so many pages as there are and with this count of commits, in the place of that of layout 1
 /// from which it was copied.
-pub fn commit_slot<P: Pages>(
-    store: &mut P,
-    commits: u64,
-    slot: &TreeSlot,
-) -> Result<(), FileFault>
+pub fn commit_slot<P: Pages>(store: &mut P, commits: u64, slot: &TreeSlot) -> Result<(), FileFault>
     ensures moved { (begun : Store) (game : Loaded) → IsCopied slot.now begun game (P.store store.old)
         → commits ≡ count_behind (commits_in begun.root)
         → OnOk result (IsMoved Stores (StoresTrees 3) (state_of (file_of begun (Some game))) (P.store store.new).disk (P.store store.new).failures) }

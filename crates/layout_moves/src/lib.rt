@@ -3,4 +3,6 @@
 
 mod committing;
 mod copying;
+mod migration;
 
+pub use migration::rebuild;

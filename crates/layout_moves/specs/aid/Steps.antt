@@ -1,5 +1,5 @@
 -- What the steps do by which a table comes into the other layout.
-use Rattle.std.specs.Prelude.{◌≡◌, ℕ, true, false, length, None, Option, Some, IsTrue}
+use Rattle.std.specs.Prelude.{◌≡◌, true, false, length, Some, IsTrue}
 use Rattle.sector_disk.specs.Disk.{Grew}
 use Rattle.page_store.specs.Store.{Store, StoreWorks}
 use Rattle.table.specs.InMemory.{stored_in}

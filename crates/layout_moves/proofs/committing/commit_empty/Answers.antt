@@ -1,4 +1,4 @@
-use Rattle.std.proofs.Common.{◌∙◌, ℕ, length, None, sym, subst}
+use Rattle.std.proofs.Common.{◌∙◌, length, None, sym, subst}
 use Rattle.page_store.specs.aid.Works.{works_refl}
 use Rattle.flat_table.specs.Calls.{file_of, state_of}
 use Rattle.flat_table.specs.Held.{Stores}

@@ -1,4 +1,4 @@
-use Rattle.std.proofs.Common.{◌≡◌, ◌∙◌, inl, ℕ, length, Some, sym, subst, arith}
+use Rattle.std.proofs.Common.{◌≡◌, ◌∙◌, inl, Some, sym, subst, arith}
 use Rattle.flat_table.specs.Calls.{file_of, state_of}
 use Rattle.flat_table.specs.Held.{Stores}
 use Rattle.game_file.specs.declared.fault.FileFault.{FileFault}

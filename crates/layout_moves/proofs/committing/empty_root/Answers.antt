@@ -1,5 +1,5 @@
-use Rattle.std.proofs.Common.{◌≡◌, ◌≤◌, ◌∙◌, inl, ℕ, refl, sym, arith}
-use Rattle.root_slot.specs.Fields.{layout_in, word_at, goal_number_in}
+use Rattle.std.proofs.Common.{◌≡◌, ◌≤◌, ◌∙◌, inl, refl, sym, arith}
+use Rattle.root_slot.specs.Fields.{layout_in, word_at}
 use Rattle.root_slot.specs.aid.Goals.{goal_is}
 use Rattle.root_slot.specs.aid.Words.{word_same}
 use Rattle.layout_moves.proofs.committing.empty_root.Goals as goal

@@ -1,6 +1,5 @@
-use Rattle.std.proofs.Common.{◌∙◌, ap, sym, subst}
 use Rattle.tree_table.specs.InTrees.{work_in}
-use Rattle.layout_moves.proofs.Tables.{left_works, left_cause}
+use Rattle.layout_moves.proofs.Tables.{left_works}
 use Rattle.layout_moves.proofs.copying.copy_on.Goals as goal
 
 pub returns-clause-works : goal.returns-clause-works
