@@ -25,9 +25,11 @@ const LAYOUT: u32 = 3;
 pub fn commit_slot<P: Pages>(store: &mut P, commits: u64, slot: &TreeSlot) -> Result<(), FileFault>
     ensures moved { (begun : Store) (game : Loaded) → IsCopied slot.now begun game (P.store store.old)
         → commits ≡ count_behind (commits_in begun.root)
-        → OnOk result (IsMoved Stores (StoresTrees 3) (state_of (file_of begun (Some game))) (P.store store.new).disk (P.store store.new).failures) }
+        → OnOk result (IsMoved Stores (StoresTrees 3) (state_of (file_of begun (Some game)))
+        (P.store store.new).disk (P.store store.new).failures) }
     ensures left { (begun : Store) (game : Loaded) → IsCopied slot.now begun game (P.store store.old)
-        → IfErr result (IsNotMoved Stores (StoresTrees 3) (state_of (file_of begun (Some game))) (P.store store.new).disk (P.store store.new).failures) }
+        → IfErr result (IsNotMoved Stores (StoresTrees 3) (state_of (file_of begun (Some game)))
+        (P.store store.new).disk (P.store store.new).failures) }
     ensures cause { IfErr result (RootCause (P.store store.old) (P.store store.new)) }
 {
     let root = game_slot(LAYOUT, store.capacity(), commits, slot);

@@ -88,8 +88,8 @@ fn move_table<P: Pages>(alloc: Global, store: P, commits: u64, game: Option<Game
 }
 
 /// Writes the table of a file of layout 1 as one of layout 3, on free pages, by one commit, and gives the disk back: with the same text,
-/// packing, positions, records, edges and settled order, in as many pages, and with no goal. Sector 0 and the pages of the old table are
-/// not written, so until the commit a stop leaves the old table.
+/// packing, positions, records, edges and settled order, in as many pages, and with no goal. Until the commit only free pages are written,
+/// so a stop leaves the old table.
 ///
 /// E7 or E8: too few pages are free or memory is short, and the old table is there. E1: so it is, but that after a write or a sync it may
 /// be the new one. S6: its positions have no bytes, as those of no game, and the old table is there.
@@ -97,7 +97,8 @@ pub fn rebuild<D: SectorDisk>(alloc: Global, file: FlatTable<D>) -> Result<D, Re
     requires whole { IsFile (file_in file) }
     requires open { (file_in file).store.closed ≡ false }
     ensures moved { IfOk result (λ disk. IsMoved Stores (StoresTrees 3) (state_of (file_in file)) (D.disk disk) (D.failures disk)) }
-    ensures left { IfErr result (λ back. IsNotMoved Stores (StoresTrees 3) (state_of (file_in file)) (D.disk back.disk) (D.failures back.disk) back.fault) }
+    ensures left { IfErr result (λ back. IsNotMoved Stores (StoresTrees 3) (state_of (file_in file))
+        (D.disk back.disk) (D.failures back.disk) back.fault) }
     ensures cause { IfErr result (λ back. MoveCause (state_of (file_in file)) (D.failures back.disk) back.fault) }
 {
     let FileParts {
