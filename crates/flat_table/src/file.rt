@@ -161,6 +161,40 @@ impl<D: SectorDisk> FlatTable<D> {
     }
 }
 
+/// A file in its parts: what a layer above needs to write its table anew.
+#[derive(Drop)]
+pub struct FileParts<D: SectorDisk> {
+    pub store: PageStore<D>,
+    /// Commits since the file was made, as the committed root tells them.
+    pub commits: u64,
+    /// The text, the packing and the table of the last commit, where a game is loaded, and the pages that hold them.
+    pub game: Option<Game>,
+}
+
+impl<D: SectorDisk> FlatTable<D> {
+    ghost use Rattle.flat_table.specs.InFile.{file_in, parts_in};
+
+    /// Takes the file apart, as of the last commit: a command that is going on is given up. The store is as it is, and where the file was
+    /// whole its committed root spells what is in memory, nothing is handed out or released, and a stop leaves it. It always answers.
+    pub fn into_parts(self) -> FileParts<D>
+        ensures file { parts_in result ≡ file_in self }
+        ensures commits { result.commits ≡ commits_in (file_in self).store.root }
+        ensures whole { IsFile (file_in self) → IsFile (parts_in result) }
+    {
+        let FlatTable {
+            store,
+            commits,
+            game,
+            ..
+        } = self;
+        FileParts {
+            store,
+            commits,
+            game,
+        }
+    }
+}
+
 impl<D: SectorDisk> GameFile for FlatTable<D> {
     ghost use Rattle.page_store.specs.InStore.{store_in};
     ghost use Rattle.flat_table.specs.InFile.{file_in};

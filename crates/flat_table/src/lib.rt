@@ -11,4 +11,4 @@ pub mod read;
 pub mod slot;
 pub mod write;
 
-pub use file::FlatTable;
+pub use file::{FileParts, FlatTable};

@@ -9,9 +9,9 @@ mod Found
 mod KeyOrder
 mod Reading
 mod NextEdges
-mod Holding
-mod Limits
+pub mod Holding
+pub mod Limits
 mod Committing
 mod Loading
-mod Bare
+pub mod Bare
 mod Versions

@@ -1,0 +1,8 @@
+//! A file of an earlier layout becomes one of the layout that the program writes.
+#![tactic(auto)]
+
+mod committing;
+mod copying;
+mod migration;
+
+pub use migration::rebuild;
