@@ -19,11 +19,11 @@ type File = TreeFile<PageStore<MemDisk>, 3>;
 const SECTORS: u64 = 2048;
 
 /// Adds a position that is not known.
-fn add(file: &mut File, position: &Packed) -> anyhow::Result<()> {
-    if file.counts().known >= MAX_POSITIONS || file.number_of(position)?.is_some() {
+fn add<T: Table>(table: &mut T, position: &Packed) -> anyhow::Result<()> {
+    if table.counts().known >= MAX_POSITIONS || table.number_of(position)?.is_some() {
         anyhow::bail!("a position is known, or there is no room");
     }
-    file.add(position)?;
+    table.add(position)?;
     Ok(())
 }
 

@@ -7,4 +7,4 @@ mod Finding
 mod Sealing
 mod Opening
 mod Versions
-mod Moving
+mod Renewing

@@ -18,7 +18,7 @@ pub use Rattle.tree_table.specs.Working
 pub mod File
 pub mod Calls
 pub mod InFile
-pub mod Moving
+pub mod Renewing
 pub mod Older
 pub mod Opening
 pub mod Versions

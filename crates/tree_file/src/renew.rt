@@ -4,7 +4,7 @@ ghost use Rattle.root_slot.specs.Fields.{commits_in, layout_in, number_of_packin
 ghost use Rattle.game_file.specs.Kept.{goal_kept};
 ghost use Rattle.tree_table.specs.Held.{StoresTrees};
 ghost use Rattle.tree_file.specs.File.{IsWholeFile, NamesSlot, kept_of, state_of};
-ghost use Rattle.tree_file.specs.Moving.{IsMoved, IsNotMoved, KeepsTheSame, LeavesPages, RenewCause};
+ghost use Rattle.tree_file.specs.Renewing.{IsRenewed, IsNotRenewed, KeepsTheSame, LeavesPages, RenewCause};
 
 use crate::file::TreeFile;
 use crate::on_disk::PagesOnDisk;
@@ -44,9 +44,9 @@ impl<P: PagesOnDisk> TreeFile<P, 2> {
         ensures same { IfOk result (λ t. KeepsTheSame (state_of (file_in self)) (state_of (file_in t))) }
         ensures goal { IfOk result (λ t. goal_kept (kept_of (file_in t)) ≡ None) }
         ensures pages { IfOk result (λ t. LeavesPages (file_in self).work.store (file_in t).work.store) }
-        ensures moved { IfOk result (λ t. IsMoved (StoresTrees 2) (StoresTrees 3) (state_of (file_in self))
+        ensures moved { IfOk result (λ t. IsRenewed (StoresTrees 2) (StoresTrees 3) (state_of (file_in self))
             (state_of (file_in t)).disk (state_of (file_in t)).failures) }
-        ensures refused { IfErr result (λ back. IsNotMoved (StoresTrees 2) (StoresTrees 3) (state_of (file_in self))
+        ensures refused { IfErr result (λ back. IsNotRenewed (StoresTrees 2) (StoresTrees 3) (state_of (file_in self))
             (P.Device.disk back.disk) (P.Device.failures back.disk) back.fault) }
         ensures untouched { IfErr result (λ back. back.fault ≢ FileFault.Disk → P.Device.disk back.disk ≡ (state_of (file_in self)).disk) }
         ensures cause { IfErr result (λ back. RenewCause (state_of (file_in self)) (P.Device.failures back.disk) back.fault) }

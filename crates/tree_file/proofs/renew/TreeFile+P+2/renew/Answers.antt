@@ -6,8 +6,8 @@ use Rattle.tree_table.specs.Held.{StoresTrees}
 use Rattle.tree_table.specs.Working.{Work}
 use Rattle.tree_file.specs.File.{IsWholeFile, file_of, state_of}
 use Rattle.tree_file.specs.InFile.{file_in}
-use Rattle.tree_file.specs.Moving.{IsMoved, IsNotMoved, KeepsTheSame, LeavesPages}
-use Rattle.tree_file.proofs.Moving.{moved, moved_backed, moved_pages, moved_same, moved_stands, moved_whole, named_anew, no_goal, not_moved}
+use Rattle.tree_file.specs.Renewing.{IsRenewed, IsNotRenewed, KeepsTheSame, LeavesPages}
+use Rattle.tree_file.proofs.Renewing.{moved, moved_backed, moved_pages, moved_same, moved_stands, moved_whole, named_anew, no_goal, not_moved}
 use Rattle.tree_file.proofs.renew.TreeFile+P+2.renew.Goals as goal
 
 pub standing-requires-clause-stands : goal.standing-requires-clause-stands
@@ -66,7 +66,7 @@ returns-in-Ok-clause-moved g c =
     let self = c.args.self in
     let root = c.renewed_slot-root.ensures in
     let anew = named_anew 3 _ (file_in self) c.renewed_slot-root.result root.layout root.pages c.capacity.ensures root.names root.packing in
-    subst (λ (w : Work). IsMoved (StoresTrees 2) (StoresTrees 3) (state_of (file_in self)) w.store.disk w.store.failures)
+    subst (λ (w : Work). IsRenewed (StoresTrees 2) (StoresTrees 3) (state_of (file_in self)) w.store.disk w.store.failures)
     (sym c.standing.ensures.work)
     (moved 3 (file_in self) c.requires c.renewed_slot-root.result anew (g.P.Pages.store c.commit.new.self) c.commit.ensures.commits
     c.in-Ok.ensures.ok
@@ -80,10 +80,10 @@ returns-in-Err-clause-refused g c =
     let left = g.P.Pages.store c.commit.new.self in
     let told = not_moved 3 (file_in self) c.requires c.renewed_slot-root.result anew left c.commit.ensures.commits c.in-Err.fault
     c.in-Err.ensures.cause in
-    let with_fault = subst (λ (f : FileFault). IsNotMoved (StoresTrees 2) (StoresTrees 3) (state_of (file_in self)) left.disk
+    let with_fault = subst (λ (f : FileFault). IsNotRenewed (StoresTrees 2) (StoresTrees 3) (state_of (file_in self)) left.disk
     left.failures f) (sym c.into.ensures) told in
-    let with_count = subst (λ (n : ℕ). IsNotMoved (StoresTrees 2) (StoresTrees 3) (state_of (file_in self)) left.disk n c.into.result)
+    let with_count = subst (λ (n : ℕ). IsNotRenewed (StoresTrees 2) (StoresTrees 3) (state_of (file_in self)) left.disk n c.into.result)
     (sym c.give_back.ensures.failures) with_fault in
-    subst (λ (d : Disk). IsNotMoved (StoresTrees 2) (StoresTrees 3) (state_of (file_in self)) d
+    subst (λ (d : Disk). IsNotRenewed (StoresTrees 2) (StoresTrees 3) (state_of (file_in self)) d
     (g.P.Device.SectorDisk.failures c.give_back.result) c.into.result)
     (sym c.give_back.ensures.disk) with_count

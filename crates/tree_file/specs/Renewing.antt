@@ -12,14 +12,14 @@ use Rattle.game_file.specs.Stops.{LeavesNow, LeavesTable}
 module _ (From To : ℕ → Layout) where
   -- what a file of the one layout kept is in one of the other now, in as many pages, on a disk that comes back; a stop meanwhile leaves
   -- it in the one layout or in the other, and a stop now in the other
-  pub record IsMoved (old : State) (back : Disk) (count : ℕ) : Type 0 where
+  pub record IsRenewed (old : State) (back : Disk) (count : ℕ) : Type 0 where
     pub from : GoesFrom old.disk old.failures back count
     pub leaves : IsTrue old.disk.honest → LeavesOnly old.disk back
         (λ picture. From old.capacity picture old.kept ⊎ To old.capacity picture old.kept)
     pub now : IsTrue old.disk.honest → LeavesNow (To old.capacity) back old.kept
 
   -- it is not: of a file that was open a stop leaves it in the one layout; where a write or a sync failed, in the one or in the other
-  pub record IsNotMoved (old : State) (back : Disk) (count : ℕ) (fault : FileFault) : Type 0 where
+  pub record IsNotRenewed (old : State) (back : Disk) (count : ℕ) (fault : FileFault) : Type 0 where
     pub from : GoesFrom old.disk old.failures back count
     pub leaves : IsTrue old.disk.honest → old.closed ≡ false → fault ≢ DiskFailed → LeavesTable (From old.capacity) old.disk back old.kept
     pub unwritten : IsTrue old.disk.honest → old.closed ≡ false → ¬ Grew old.disk.failed_writes back.failed_writes

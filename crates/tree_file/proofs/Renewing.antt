@@ -35,7 +35,7 @@ use Rattle.tree_table.specs.Working.{Work, work_of}
 use Rattle.tree_table.specs.aid.Keeping.{kept_stands, spells_stores_trees}
 use Rattle.tree_table.specs.aid.Standing.{still_stands_for, was_honest}
 use Rattle.tree_file.specs.File.{File, NamesSlot, IsWholeFile, file_of, kept_of, kept_with, state_of}
-use Rattle.tree_file.specs.Moving.{IsMoved, IsNotMoved, KeepsTheSame, LeavesPages}
+use Rattle.tree_file.specs.Renewing.{IsRenewed, IsNotRenewed, KeepsTheSame, LeavesPages}
 use Rattle.tree_file.specs.aid.Backed.{IsBackedFile}
 use Rattle.tree_file.specs.aid.Whole.{again_goal, again_kept, again_packing, again_text, again_whole, whole_leaves}
 use Rattle.tree_file.proofs.Saving.{calm_sealed}
@@ -224,7 +224,7 @@ module _ {layout : ℕ} (to : ℕ) (was : File) (whole : IsWholeFile layout was)
       is_open = done.closed;
     }
 
-    pub moved : IsMoved (StoresTrees layout) (StoresTrees to) (state_of was) new.disk new.failures
+    pub moved : IsRenewed (StoresTrees layout) (StoresTrees to) (state_of was) new.disk new.failures
     moved = record {
       from = record { goes_on = commits.goes_on; failures = commits.failures; same_size = commits.same_size };
       leaves = λ honest. either_layout new commits honest (commits.closes.stays done.closed);
@@ -285,7 +285,7 @@ module _ {layout : ℕ} (to : ℕ) (was : File) (whole : IsWholeFile layout was)
         at page.OutOfMemory cause = absurd cause
         at page.Closed cause = let never : true ≡ false = sym cause ∙ is_open in absurd (cc)
 
-    pub not_moved : IsNotMoved (StoresTrees layout) (StoresTrees to) (state_of was) new.disk new.failures (of_pages fault)
+    pub not_moved : IsNotRenewed (StoresTrees layout) (StoresTrees to) (state_of was) new.disk new.failures (of_pages fault)
     not_moved = record {
       from = record { goes_on = commits.goes_on; failures = commits.failures; same_size = commits.same_size };
       leaves = λ honest is_open other. absurd (no_other is_open other);
