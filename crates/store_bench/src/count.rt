@@ -26,16 +26,15 @@ fn position(number: u32) -> Packed {
 }
 
 /// A new table on this disk, with the first position in it, and so many pages in memory, 64 at most.
-pub fn begun<D: SectorDisk + Drop>(
-    alloc: Global,
-    disk: D,
-    pages: usize,
-) -> anyhow::Result<Count<D>> {
-    let disk = match Count::<D>::create(alloc, disk) {
+pub fn begun<F: GameFile + Drop>(alloc: Global, disk: F::Device, pages: usize) -> anyhow::Result<F>
+where
+    F::Device: Drop,
+{
+    let disk = match F::create(alloc, disk) {
         Ok(table) => table.into_disk(),
         Err(refused) => return Err(refused.fault.into()),
     };
-    let mut table = match Count::<D>::open_with_cache(alloc, disk, pages.min(64)) {
+    let mut table = match F::open_with_cache(alloc, disk, pages.min(64)) {
         Ok(table) => table,
         Err(refused) => return Err(refused.fault.into()),
     };
@@ -44,7 +43,7 @@ pub fn begun<D: SectorDisk + Drop>(
 }
 
 /// Works up to 256 units and commits them. Answers how many there were.
-pub fn work<D: SectorDisk + Drop>(table: &mut Count<D>, last: u32) -> anyhow::Result<u32> {
+pub fn work<F: GameFile>(table: &mut F, last: u32) -> anyhow::Result<u32> {
     let mut units: u32 = 0;
     for _ in 0..UNITS {
         let counts = table.counts();

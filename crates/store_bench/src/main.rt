@@ -9,7 +9,7 @@ mod sector_file;
 use crate::count::{Count, begun, work};
 use crate::sector_file::SectorFile;
 use file_disk::FileDisk;
-use sector_disk::SectorDisk;
+use game_file::GameFile;
 use std::fs::OpenOptions;
 use std::io::{self, Read};
 use std::process::ExitCode;
@@ -35,20 +35,23 @@ fn run(rt: &HostRuntime) -> anyhow::Result<()> {
     let pages = pages.parse::<usize>().unwrap_or(0).min(64);
     let file = OpenOptions::new().read(true).write(true).open(rt, path)?;
     if by_sectors.is_empty() {
-        answer_all(rt, FileDisk::new(rt.alloc(), file)?, last, pages)
+        answer_all::<Count<FileDisk>>(rt, FileDisk::new(rt.alloc(), file)?, last, pages)
     } else {
-        answer_all(rt, SectorFile::new(file)?, last, pages)
+        answer_all::<Count<SectorFile>>(rt, SectorFile::new(file)?, last, pages)
     }
 }
 
 /// Makes a table on this disk, and answers each line of the input.
-fn answer_all<D: SectorDisk + Drop>(
+fn answer_all<F: GameFile + Drop>(
     rt: &HostRuntime,
-    disk: D,
+    disk: F::Device,
     last: u32,
     pages: usize,
-) -> anyhow::Result<()> {
-    let mut table = begun(rt.alloc(), disk, pages.min(64))?;
+) -> anyhow::Result<()>
+where
+    F::Device: Drop,
+{
+    let mut table = begun::<F>(rt.alloc(), disk, pages.min(64))?;
     let mut chunk = [0; 4096];
     let mut input = rt.stdin();
     // an input that gave a byte in each turn would be read for longer than any machine runs
@@ -63,9 +66,9 @@ fn answer_all<D: SectorDisk + Drop>(
 }
 
 /// Works for each line that ends in these bytes, and tells how far the table is then.
-fn answer_lines<D: SectorDisk + Drop>(
+fn answer_lines<F: GameFile>(
     rt: &HostRuntime,
-    table: &mut Count<D>,
+    table: &mut F,
     last: u32,
     bytes: &[u8],
 ) -> anyhow::Result<()> {
@@ -79,7 +82,7 @@ fn answer_lines<D: SectorDisk + Drop>(
 }
 
 /// Tells what was worked, and how far the table is then.
-fn tell<D: SectorDisk + Drop>(rt: &HostRuntime, table: &Count<D>, units: u32) -> io::Result<()> {
+fn tell<T: Table>(rt: &HostRuntime, table: &T, units: u32) -> io::Result<()> {
     let counts = table.counts();
     let is_open = counts.expanded < counts.known || counts.processed < counts.settled;
     println!(rt;
