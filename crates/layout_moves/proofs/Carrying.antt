@@ -32,7 +32,7 @@ use Rattle.tree_table.specs.Working.{HoldsTable, text_slot}
 use Rattle.tree_table.specs.aid.Keeping.{spells_stores_trees, table_is_prepared}
 use Rattle.tree_table.proofs.Limits.{within_limits}
 use Rattle.layout_moves.specs.Moving.{IsMoved, IsNotMoved, MoveCause}
-use Rattle.layout_moves.specs.aid.Steps.{HasFrameOf, IsCopied, RootCause, StepCause}
+use Rattle.layout_moves.specs.aid.Steps.{HasFrameOf, IsCopied, NewRootCause, StepCause}
 
 -- a disk failure of the pages below is one of the file
 disk_is_disk : (fault : PageFault) → of_pages fault ≢ DiskFailed → fault ≢ page.Disk
@@ -171,7 +171,7 @@ game_copied slot is old mid new game text whole is_open same slot_is wrote still
 }
 
 -- why a root is not committed
-pub root_cause : (old new : Store) (fault : PageFault) → StoreCommitCause old new fault → RootCause old new (of_pages fault)
+pub root_cause : (old new : Store) (fault : PageFault) → StoreCommitCause old new fault → NewRootCause old new (of_pages fault)
 root_cause old new page.Disk cause = cause.0
 root_cause old new page.NotATable cause = absurd cause
 root_cause old new page.Damaged cause = absurd cause
@@ -195,7 +195,7 @@ step_moves old mid new game file.Inconsistent is_open works still cause = λ hon
 
 -- or the commit
 pub root_moves : (old mid new : Store) (game : Option Game) (fault : FileFault) → old.closed ≡ false → StoreWorks old mid → mid.closed ≡ old.closed
-    → RootCause mid new fault → MoveCause (state_of (file_of old game)) new.failures fault
+    → NewRootCause mid new fault → MoveCause (state_of (file_of old game)) new.failures fault
 root_moves old mid new game file.Disk is_open works still cause = grew_since works.failures cause
 root_moves old mid new game file.NotATable is_open works still cause = absurd cause
 root_moves old mid new game file.AlreadyATable is_open works still cause = absurd cause

@@ -5,7 +5,7 @@ use Rattle.retrograde.specs.Stored.{Stored}
 use Rattle.table.specs.Records.{nothing}
 use Rattle.table.specs.declared.fault.TableFault.{TableFault}
 use Rattle.table.specs.declared.fault.TableFault.TheVariants as table
-use Rattle.table_copy.specs.Copies.{Leaves}
+use Rattle.table_copy.specs.Copies.{LeavesOfCopy}
 use Rattle.table_copy.specs.declared.fault.CopyFault.{CopyFault}
 use Rattle.table_copy.specs.declared.fault.CopyFault.TheVariants.{From, To, Inconsistent}
 use Rattle.tree_table.specs.declared.slot.TreeSlot.{TreeSlot}
@@ -41,7 +41,7 @@ module _ (slot : TreeSlot) (text : List ℕ) (store : Store) (few : slot.sizes.c
       (ahead.holds (honest_work honest) (held honest)))
 
   -- a fault leaves the committed root's pages
-  pub left_works : (Fails : TableFault → Type 0) (fault : CopyFault) → Leaves Fails (WorkFails a b) (WorkGoesOn a b) (IsHonestWork a) fault
+  pub left_works : (Fails : TableFault → Type 0) (fault : CopyFault) → LeavesOfCopy Fails (WorkFails a b) (WorkGoesOn a b) (IsHonestWork a) fault
       → StoreWorks store b.store
   left_works Fails (From fault) left = begins_with left.2.works
   left_works Fails (To fault) left = begins_with left.works
@@ -56,7 +56,7 @@ module _ (slot : TreeSlot) (text : List ℕ) (store : Store) (few : slot.sizes.c
 
   -- why
   pub left_cause : (fault : CopyFault)
-      → Leaves (λ f. f ≡ table.OutOfMemory) (WorkFails a b) (WorkGoesOn a b) (IsHonestWork a) fault
+      → LeavesOfCopy (λ f. f ≡ table.OutOfMemory) (WorkFails a b) (WorkGoesOn a b) (IsHonestWork a) fault
       → StepCause store b.store (of_copy fault)
   left_cause (From fault) left = subst (λ (f : TableFault). StepCause store b.store (of_copy (From f))) (sym left.0) tt
   left_cause (To fault) left = to_fails fault left.cause

@@ -10,7 +10,7 @@ ghost use Rattle.root_slot.specs.Fields.{commits_in, layout_in, SaysPages};
 ghost use Rattle.tree_table.specs.Held.{StoresTrees};
 ghost use Rattle.tree_table.specs.Slot.{IsEmptyTreeSlot};
 ghost use Rattle.layout_moves.specs.Moving.{IsMoved, IsNotMoved};
-ghost use Rattle.layout_moves.specs.aid.Steps.{IsCopied, RootCause};
+ghost use Rattle.layout_moves.specs.aid.Steps.{IsCopied, NewRootCause};
 
 use game_file::FileFault;
 use page_store::Pages;
@@ -30,7 +30,7 @@ pub fn commit_slot<P: Pages>(store: &mut P, commits: u64, slot: &TreeSlot) -> Re
     ensures left { (begun : Store) (game : Loaded) → IsCopied slot.now begun game (P.store store.old)
         → IfErr result (IsNotMoved Stores (StoresTrees 3) (state_of (file_of begun (Some game)))
         (P.store store.new).disk (P.store store.new).failures) }
-    ensures cause { IfErr result (RootCause (P.store store.old) (P.store store.new)) }
+    ensures cause { IfErr result (NewRootCause (P.store store.old) (P.store store.new)) }
 {
     let root = game_slot(LAYOUT, store.capacity(), commits, slot);
     match store.commit(&root) {
@@ -60,7 +60,7 @@ pub fn commit_empty<P: Pages>(store: &mut P, commits: u64) -> Result<(), FileFau
         (P.store store.new).disk (P.store store.new).failures) }
     ensures left { IfErr result (IsNotMoved Stores (StoresTrees 3) (state_of (file_of (P.store store.old) None))
         (P.store store.new).disk (P.store store.new).failures) }
-    ensures cause { IfErr result (RootCause (P.store store.old) (P.store store.new)) }
+    ensures cause { IfErr result (NewRootCause (P.store store.old) (P.store store.new)) }
 {
     let root = empty_root(store.capacity(), commits);
     match store.commit(&root) {

@@ -4,7 +4,7 @@ use Rattle.std.specs.Prelude.{MatchResult, IfOk, IfErr, IsErr, IsErrAnd, is_ok}
 use Rattle.table.specs.declared.fault.TableFault.{TableFault}
 use Rattle.table_copy.specs.declared.fault.CopyFault.{CopyFault}
 use Rattle.table_copy.specs.declared.fault.CopyFault.TheVariants.{From, To, Inconsistent}
-use Rattle.table_copy.specs.Copies.{Leaves}
+use Rattle.table_copy.specs.Copies.{LeavesOfCopy}
 
 -- what is so of the fault is so of what is answered
 pub passed_on : {X E : Type 0} (Such : E → Type 0) (r : Result X E) (fault : E)
@@ -15,7 +15,7 @@ passed_on Such (Err f) fault is such = subst Such (sym is.1) such
 -- a fault after calls that were answered
 pub leaves_after : (F To_F G To_G : TableFault → Type 0) (Ahead On Honest Was : Type 0) (fault : CopyFault)
     → ((f : TableFault) → F f → To_F f) → ((f : TableFault) → G f → To_G f) → (Ahead → On) → (Was → Honest)
-    → Leaves F G Ahead Honest fault → Leaves To_F To_G On Was fault
+    → LeavesOfCopy F G Ahead Honest fault → LeavesOfCopy To_F To_G On Was fault
 leaves_after F To_F G To_G Ahead On Honest Was (From f) from to on was left = (from f left.0, left.1, on left.2)
 leaves_after F To_F G To_G Ahead On Honest Was (To f) from to on was left = to f left
 leaves_after F To_F G To_G Ahead On Honest Was Inconsistent from to on was left = ((λ h. left.0 (was h)), on left.1)

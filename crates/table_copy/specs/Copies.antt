@@ -6,7 +6,7 @@ use Rattle.table_copy.specs.declared.fault.CopyFault.TheVariants.{From, To, Inco
 
 -- why a table is not copied: of its own fault each of the two says the cause, and the one that is written has gone on after
 -- another; it counts something else than was written only where it is not honest
-abbrev pub Leaves : (TableFault → Type 0) → (TableFault → Type 0) → Type 0 → Type 0 → CopyFault → Type 0
-Leaves from_fails to_fails ahead honest (From fault) = from_fails fault × NeedsNoPage fault × ahead
-Leaves from_fails to_fails ahead honest (To fault) = to_fails fault
-Leaves from_fails to_fails ahead honest Inconsistent = ¬ honest × ahead
+abbrev pub LeavesOfCopy : (TableFault → Type 0) → (TableFault → Type 0) → Type 0 → Type 0 → CopyFault → Type 0
+LeavesOfCopy from_fails to_fails ahead honest (From fault) = from_fails fault × NeedsNoPage fault × ahead
+LeavesOfCopy from_fails to_fails ahead honest (To fault) = to_fails fault
+LeavesOfCopy from_fails to_fails ahead honest Inconsistent = ¬ honest × ahead

@@ -2,7 +2,7 @@
 ghost use Rattle.std.specs.Prelude.{◌≡◌, ◌↔◌, ◌^◌, ◌≤◌, OnOk, IfErr};
 ghost use Rattle.retrograde.specs.Stored.{IsTable};
 ghost use Rattle.table.specs.Records.{nothing};
-ghost use Rattle.table_copy.specs.Copies.{Leaves};
+ghost use Rattle.table_copy.specs.Copies.{LeavesOfCopy};
 
 use crate::edges::copy_edges;
 use crate::fault::CopyFault;
@@ -27,7 +27,7 @@ pub fn copy_table<A: Table, B: Table>(from: &mut A, to: &mut B) -> Result<(), Co
     ensures stays { A.stays from.old from.new }
     ensures to_honest { OnOk result (B.is_honest to.old ↔ B.is_honest to.new) }
     ensures ahead { OnOk result (B.goes_on to.old to.new) }
-    ensures left { IfErr result (Leaves (A.fails from.old from.new) (B.fails to.old to.new)
+    ensures left { IfErr result (LeavesOfCopy (A.fails from.old from.new) (B.fails to.old to.new)
         (B.goes_on to.old to.new) (B.is_honest to.old)) }
 {
     copy_positions(from, to)?;

@@ -14,7 +14,7 @@ use Rattle.tree_page.specs.Page.{Item}
 use Rattle.tree_table.specs.declared.tree.Tree.{Tree}
 use Rattle.tree_table.specs.declared.tree.Tree.TheVariants.{Order}
 use Rattle.tree_table.specs.Entries.{number_key}
-use Rattle.tree_check.specs.aid.Right.{IsNumberAt, IsCellAt, IsRightAt, IsRightPlaced, IsPlaceOf, IsRightNumber, AreKnown, AreRight, ArePlaces, ArePlaced}
+use Rattle.tree_check.specs.aid.Right.{IsNumberAt, IsCellAt, IsRightAt, IsRightPlaced, IsPlaceOf, IsRightNumber, AreKnown, AreRight, ArePlaces, AreMarkedByPlaces}
 use Rattle.tree_check.specs.aid.Right.{placed_of, has_place, has_done, is_among}
 use Rattle.tree_check.specs.declared.places.Placed.{Placed}
 use Rattle.tree_check.specs.declared.places.Placed.TheVariants.{Nowhere, Waiting, Processed}
@@ -32,7 +32,7 @@ one_cell_at packed es i c d a b =
 
 -- before the first place none is found
 pub none_placed : (sizes : Sizes) (entries : Tree → List Item) (placed : List Placed) → ((i : ℕ) → slice_index_or placed i Nowhere ≡ Nowhere)
-    → ArePlaced sizes entries 0 placed
+    → AreMarkedByPlaces sizes entries 0 placed
 none_placed sizes entries placed none = record {
   places = map (λ (p : Placed). None) placed;
   are = record {
@@ -110,7 +110,7 @@ pub said_of : (processed : ℕ) (places : List (Option ℕ)) (placed : List Plac
     → slice_index_or placed n Nowhere ≡ placed_of processed (slice_index_or places n None)
 said_of processed places placed says n = ap (λ (ps : List Placed). slice_index_or ps n Nowhere) says ∙ get_or-map (placed_of processed) places n None
 
-module _ (sizes : Sizes) (entries : Tree → List Item) (k n : ℕ) (placed : List Placed) (are : ArePlaced sizes entries k placed)
+module _ (sizes : Sizes) (entries : Tree → List Item) (k n : ℕ) (placed : List Placed) (are : AreMarkedByPlaces sizes entries k placed)
     (here : IsNumberAt (entries Order) (number_key k) n) (long : length placed ≡ sizes.counts.known) (low : n < sizes.counts.known)
     (result : Bool) (now : List Placed)
     (is_free : slice_index_or placed n Nowhere ≡ Nowhere → (result ≡ true) × (now ≡ slice_set placed n (placed_of sizes.counts.processed (Some k))))
@@ -129,10 +129,10 @@ module _ (sizes : Sizes) (entries : Tree → List Item) (k n : ℕ) (placed : Li
   taken_there : (j : ℕ) → slice_index_or are.places n None ≡ Some j → slice_index_or placed n Nowhere ≢ Nowhere
   taken_there j some is = says_some sizes.counts.processed j (sym (said ∙ ap (placed_of sizes.counts.processed) some) ∙ is)
 
-  pub placed_more : result ≡ true → ArePlaced sizes entries (k + 1) now
+  pub placed_more : result ≡ true → AreMarkedByPlaces sizes entries (k + 1) now
   placed_more is = by_spot (slice_index_or are.places n None) refl
     where
-      by_spot : (o : Option ℕ) → slice_index_or are.places n None ≡ o → ArePlaced sizes entries (k + 1) now
+      by_spot : (o : Option ℕ) → slice_index_or are.places n None ≡ o → AreMarkedByPlaces sizes entries (k + 1) now
       by_spot None none = record {
         places = slice_set are.places n (Some k);
         are = inside sizes entries k n are.places are.are here low within none;
@@ -225,7 +225,7 @@ as_placed sizes entries i place it = record {
 }
 
 -- a number that is right where it was found to stand
-module _ (sizes : Sizes) (entries : Tree → List Item) (placed : List Placed) (are : ArePlaced sizes entries sizes.counts.settled placed)
+module _ (sizes : Sizes) (entries : Tree → List Item) (placed : List Placed) (are : AreMarkedByPlaces sizes entries sizes.counts.settled placed)
     (n : ℕ) (within : n < length placed) where
   is_its_place : IsPlaceOf sizes entries n (slice_index_or are.places n None)
   is_its_place = record {

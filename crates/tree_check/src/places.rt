@@ -2,7 +2,7 @@
 ghost use Rattle.std.specs.Prelude.{◌≡◌, ◌≢◌, ◌≤◌, ◌<◌, ℕ, true, false, Some, IfOk, IfErr, length, slice_index_or, slice_set};
 ghost use Rattle.page_store.specs.Store.{StoreWorks, IsUnchanged};
 ghost use Rattle.tree_check.specs.aid.Reading.{TellsOfEntries, CheckCause};
-ghost use Rattle.tree_check.specs.aid.Right.{AreRight, ArePlaced, placed_of};
+ghost use Rattle.tree_check.specs.aid.Right.{AreRight, AreMarkedByPlaces, placed_of};
 ghost use Rattle.tree_check.specs.declared.places.Placed.TheVariants.{Nowhere};
 ghost use Rattle.position_pack.specs.declared.limits.TheConstants.{MAX_PACKED};
 
@@ -68,7 +68,7 @@ pub fn find_places<P: Pages>(
     requires short { slot.now.sizes.packed ≤ MAX_PACKED }
     ensures long { IfOk result (λ placed. length placed.items ≡ slot.now.sizes.counts.known) }
     ensures places { TellsOfEntries slot.now (P.store store.old) (λ entries. IfOk result (λ placed.
-        ArePlaced slot.now.sizes entries slot.now.sizes.counts.settled placed.items)) }
+        AreMarkedByPlaces slot.now.sizes entries slot.now.sizes.counts.settled placed.items)) }
     ensures unchanged { IsUnchanged (P.store store.old) (P.store store.new) }
     ensures works { StoreWorks (P.store store.old) (P.store store.new) }
     ensures cause { IfErr result (CheckCause (λ entries. AreRight slot.now.sizes entries 0 slot.now.sizes.counts.known)

@@ -90,8 +90,8 @@ fn first_table<P: Pages>(
 }
 
 /// Puts a game with this text, packing, goal and start into a store that has none, and commits: the new root has the layout of the old
-/// one, and tells this count of commits. A stop of the power leaves no game or this one; after `Ok` this one is kept, and after a refusal that leaves the store open
-/// none.
+/// one, and tells this count of commits. A stop of the power leaves no game or this one; after `Ok` this one is kept, and after a refusal
+/// that leaves the store open none.
 pub fn load<P: Pages>(
     alloc: Global,
     store: &mut P,
@@ -117,7 +117,8 @@ pub fn load<P: Pages>(
     ensures done { IsVacant (P.store store.old)
         → OnOk result (IsKeptInTrees (P.store store.new) (Some (kept_as text.now packing (points_of goal) (loaded start.now.items)))) }
     ensures kept_stop { IsVacant (P.store store.old) → OnErr result ((P.store store.new).closed ≡ false
-        → LeavesTable (StoresTrees (layout_in (P.store store.old).root) (length (P.store store.old).marks)) (P.store store.old).disk (P.store store.new).disk None) }
+        → LeavesTable (StoresTrees (layout_in (P.store store.old).root) (length (P.store store.old).marks))
+        (P.store store.old).disk (P.store store.new).disk None) }
     ensures stands { IsTrue (P.store store.old).disk.honest
         → IfOk result (λ slot. StandsInTrees slot text.now (P.store store.new)) }
     ensures holds { IsTrue (P.store store.old).disk.honest

@@ -26,10 +26,10 @@ StepCause old new Inconsistent = ¬ IsTrue old.disk.honest
 StepCause old new _ = ⊥
 
 -- a root is not committed: the disk failed, or the store was closed
-abbrev pub RootCause : Store → Store → FileFault → Type 0
-RootCause old new DiskFailed = Grew old.failures new.failures
-RootCause old new Closed = old.closed ≡ true
-RootCause old new _ = ⊥
+abbrev pub NewRootCause : Store → Store → FileFault → Type 0
+NewRootCause old new DiskFailed = Grew old.failures new.failures
+NewRootCause old new Closed = old.closed ≡ true
+NewRootCause old new _ = ⊥
 
 -- the slot has the packing, the goal and the length of the text of this one
 pub record HasFrameOf (slot other : TreeSlot) : Type 0 where

@@ -4,7 +4,7 @@ use Rattle.retrograde.specs.declared.records.Counts.{Counts}
 use Rattle.retrograde.specs.Stored.{Stored}
 
 -- a table that is only read, in the words of its kind: what it stores and counts is as it was
-pub record IsRead {T : Type 0} (stored : T → Stored (List ℕ)) (IsHonest : T → Type 0) (counted : T → Counts)
+pub record HasOnlyRead {T : Type 0} (stored : T → Stored (List ℕ)) (IsHonest : T → Type 0) (counted : T → Counts)
     (Stays : T → T → Type 0) (old new : T) : Type 0 where
   pub same : IsHonest old → stored new ≡ stored old
   pub honest : IsHonest old ↔ IsHonest new
@@ -12,7 +12,7 @@ pub record IsRead {T : Type 0} (stored : T → Stored (List ℕ)) (IsHonest : T 
   pub stays : Stays old new
 
 -- a table that is written goes on, and is as honest as it was
-pub record IsWritten {T : Type 0} (IsHonest : T → Type 0) (GoesOn : T → T → Type 0) (old new : T) : Type 0 where
+pub record HasGoneOn {T : Type 0} (IsHonest : T → Type 0) (GoesOn : T → T → Type 0) (old new : T) : Type 0 where
   pub honest : IsHonest old ↔ IsHonest new
   pub ahead : GoesOn old new
 

@@ -107,7 +107,7 @@ pub record ArePlaces (sizes : Sizes) (entries : Tree → List Item) (count : ℕ
   pub only : (i k : ℕ) → slice_index_or places i None ≡ Some k → (k < count) × IsNumberAt (entries Order) (number_key k) i
 
 -- what so many first places say of each number
-pub record ArePlaced (sizes : Sizes) (entries : Tree → List Item) (count : ℕ) (placed : List Placed) : Type 0 where
+pub record AreMarkedByPlaces (sizes : Sizes) (entries : Tree → List Item) (count : ℕ) (placed : List Placed) : Type 0 where
   pub places : List (Option ℕ)
   pub are : ArePlaces sizes entries count places
   pub says : placed ≡ map (placed_of sizes.counts.processed) places

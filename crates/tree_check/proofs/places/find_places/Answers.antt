@@ -2,7 +2,7 @@ use Rattle.std.proofs.Common.{◌≡◌, ◌∙◌, ℕ, List, sym, subst, arith
 use Rattle.page_store.specs.aid.Works.{works_refl, works_then}
 use Rattle.tree_table.specs.declared.tree.Tree.TheVariants.{Order}
 use Rattle.tree_table.specs.Entries.{number_key}
-use Rattle.tree_check.specs.aid.Right.{IsNumberAt, AreRight, ArePlaced}
+use Rattle.tree_check.specs.aid.Right.{IsNumberAt, AreRight, AreMarkedByPlaces}
 use Rattle.tree_check.proofs.Passing.{passed_on, check_since, plain_check, read_here, read_more, told_before}
 use Rattle.tree_check.proofs.Taking.{none_placed, placed_more, placed_twice, place_known, place_missing, take_long}
 use Rattle.tree_check.proofs.places.find_places.Goals as goal
@@ -107,4 +107,4 @@ pub returns-clause-places : goal.returns-clause-places
 returns-clause-places g c = λ honest text entries h.
     let slot = c.args.slot.now in
     let end : c.loop-place.place ≡ slot.sizes.counts.settled = omega (arith, c.loop-place-test.false, c.loop-place.auto.place-end) in
-    subst (λ (k : ℕ). ArePlaced slot.sizes entries k c.loop-place.placed.items) end (c.loop-place.invariant.so_far honest text entries h)
+    subst (λ (k : ℕ). AreMarkedByPlaces slot.sizes entries k c.loop-place.placed.items) end (c.loop-place.invariant.so_far honest text entries h)
