@@ -96,12 +96,13 @@ def attribute_end(code: list[str], at: int) -> int:
 
 
 def item_end(lines: list[str], code: list[str], at: int, end: int, indent: int) -> int:
-    """Behind the item that begins on this line."""
+    """Behind the item that begins on this line. No comma ends a function: its bounds may stand below it, behind `where`."""
     depth = 0
+    ends = (";",) if re.match(r"\s*(pub(\([a-z]+\))?\s+)?(const\s+)?fn\b", code[at]) else (";", ",")
     while at < end:
         text = code[at].rstrip()
         depth += sum(text.count(sign) for sign in "({[") - sum(text.count(sign) for sign in ")}]")
-        closes = text.endswith((";", ",")) or (indent_of(lines[at]) == indent and text.endswith("}"))
+        closes = text.endswith(ends) or (indent_of(lines[at]) == indent and text.endswith("}"))
         at += 1
         if depth <= 0 and closes:
             break

@@ -1,5 +1,6 @@
 pub mod Passing
-mod ListLemmas
+pub mod ListLemmas
+pub mod Joining
 pub mod FinishLemmas
 mod StepLemmas
 mod LineLemmas

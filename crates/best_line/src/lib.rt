@@ -11,7 +11,7 @@ mod values;
 
 pub use answers::{Row, Value};
 pub use fault::LineFault;
-pub use laws::values_are_so;
+pub use laws::{rows_join, values_are_so};
 pub use lines::line;
 pub use rows::list;
 pub use values::{value, value_of};

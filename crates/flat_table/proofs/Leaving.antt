@@ -51,6 +51,7 @@ unchanged_works root old new commits same =
       holds = same.holds;
       past = λ p. ap (λ (ms : List Mark). is_past (mark ms p)) same.marks;
       held = commits.held;
+      header = commits.header;
     }
   where
     still_safe : IsTrue old.disk.honest → IsSafe old → IsSafe new

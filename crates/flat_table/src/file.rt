@@ -27,7 +27,7 @@ use crate::put::put;
 use crate::read::read_all;
 use crate::slot::empty_slot;
 use game_file::{FileFault, GameFile, Refused};
-use page_store::{MOST_CACHED, PageStore, Pages};
+use page_store::{MAX_PAGES, MOST_CACHED, PageStore, Pages};
 use position_pack::{Packed, PackingKind};
 use rbg_game::goal::Goal;
 use root_pair::create;
@@ -310,6 +310,16 @@ impl<D: SectorDisk> GameFile for FlatTable<D> {
 
     fn discard(&mut self) {
         self.draft = None;
+    }
+
+    fn grow(&mut self, pages: u32) -> Result<(), FileFault> {
+        if self.store.is_closed() {
+            return Err(FileFault::Closed);
+        }
+        if pages <= self.store.capacity() || pages > MAX_PAGES {
+            return Err(FileFault::TooSmall);
+        }
+        Err(FileFault::OutOfMemory)
     }
 
     fn into_disk(self) -> D {

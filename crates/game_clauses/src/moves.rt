@@ -40,7 +40,8 @@ pub fn compiled_successors(
 ) -> Result<Vec<Packed>, MoveFault>
     requires { IsSoundCompiled compiled.now }
     ensures { IfOk result (λ found. ListsExactly
-        ((graph_of (packing_kind compiled.now) (compiled_goal compiled.now) (compiled_game compiled.now)).Successor at.now.items) (map (λ p. p.items) found.items)) }
+        ((graph_of (packing_kind compiled.now) (compiled_goal compiled.now) (compiled_game compiled.now)).Successor at.now.items)
+        (map (λ p. p.items) found.items)) }
 {
     compiled.successors(alloc, at)
 }

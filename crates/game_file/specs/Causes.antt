@@ -71,3 +71,11 @@ FileVersionCause old new table.Damaged = ¬ IsTrue old.disk.honest
 FileVersionCause old new table.TableFull = ⊥
 FileVersionCause old new table.OutOfMemory = ⊥
 FileVersionCause old new table.Closed = old.closed ≡ true
+
+-- the same whichever version it is: E1 only where the disk failed, E9 only where the file is closed, and neither E7 nor E8
+abbrev pub FileReadFault : State → State → TableFault → Type 0
+FileReadFault old new table.Disk = Grew old.failures new.failures
+FileReadFault old new table.Damaged = Unit {0}
+FileReadFault old new table.TableFull = ⊥
+FileReadFault old new table.OutOfMemory = ⊥
+FileReadFault old new table.Closed = old.closed ≡ true

@@ -7,4 +7,5 @@ pub mod Stops
 pub mod Faults
 pub mod Causes
 pub mod Calls
+pub mod Growing
 pub mod aid

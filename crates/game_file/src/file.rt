@@ -1,5 +1,5 @@
 //! What a game's table in a file promises.
-ghost use Rattle.std.specs.Prelude.{◌≡◌, ◌≢◌, ◌≤◌, ◌^◌, ℕ, true, false, Option, None, Some, length, OnOk, OnErr, IfOk, IfErr};
+ghost use Rattle.std.specs.Prelude.{◌≡◌, ◌≢◌, ◌≤◌, ◌^◌, ℕ, true, false, Option, None, Some, length, OnOk, OnErr, IfOk, IfErr, IsErrOf};
 ghost use Rattle.std.specs.Prelude.{IfSome, IfNone, IsTrue, option_map};
 ghost use Rattle.sector_disk.specs.Disk.{Picture};
 ghost use Rattle.root_pair.specs.Root.{IsTablePicture};
@@ -7,6 +7,7 @@ ghost use Rattle.retrograde.specs.Stored.{IsTable, loaded};
 ghost use Rattle.table.specs.declared.fault.TableFault.{TableFault};
 ghost use Rattle.game_file.specs.Kept.{Kept, Layout, Older, goal_kept, in_any, kept_as, packing_kept, text_kept};
 ghost use Rattle.game_file.specs.State.{State, GoesAhead};
+ghost use Rattle.game_file.specs.Growing.{GrowsAhead, IsNoGrowth, IsGrownFile, IsNotGrown, FileGrowCause};
 ghost use Rattle.game_file.specs.Stops.{LeavesNow};
 ghost use Rattle.game_file.specs.Calls.{IsOpenedFile, IsNotOpened, IsCreatedFile, IsNotCreated, IsPut, IsNotPut, IsNothingPut, IsAsked};
 ghost use Rattle.game_file.specs.Causes.{FileOpenCause, FileCreateCause, FileLoadCause, FileCommitCause, FileTableCause};
@@ -152,6 +153,21 @@ pub trait GameFile: Table {
             → is_whole self.new × IsNothingPut stores (state was) (state self.new) × FileTableCause (state was) (state self.new) fault }
         ensures still { (was : Self) (fault : TableFault) → is_whole was → Self.fails was self.old fault → fault ≢ TableFault.Disk
             → (state self.new).closed ≡ (state was).closed };
+
+    /// Makes the file one of so many pages, by one commit that keeps what is kept: E9, then E6 unless that is more than there are and at
+    /// most 1,048,576, and then E1, E8. The new pages are there from the commit on, and free. A command that is going on is given up.
+    /// After a refusal the disk may be longer, which does no harm. A layout that does not say how many pages there are answers E8.
+    fn grow(&mut self, pages: u32) -> Result<(), FileFault>
+        ensures ahead { GrowsAhead (state self.old) (state self.new) }
+        ensures lasts { lasts self.old self.new }
+        ensures whole { is_whole self.old → is_whole self.new }
+        ensures ok { is_whole self.old → OnOk result (IsGrownFile stores pages (state self.old) (state self.new)) }
+        ensures err { is_whole self.old → OnErr result (IsNotGrown stores pages (state self.old) (state self.new)) }
+        ensures cause { IfErr result (FileGrowCause pages (state self.old) (state self.new)) }
+        ensures closed { (state self.old).closed ≡ true → IsErrOf result FileFault.Closed × (self.new ≡ self.old) }
+        ensures small { (state self.old).closed ≡ false → IsNoGrowth pages (state self.old).capacity
+            → IsErrOf result FileFault.TooSmall × (self.new ≡ self.old) }
+        ensures still { IfErr result (λ fault. fault ≢ FileFault.Disk → (state self.new).closed ≡ (state self.old).closed) };
 
     /// The disk, as it is. It always answers.
     fn into_disk(self) -> Self::Device

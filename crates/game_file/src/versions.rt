@@ -2,7 +2,7 @@
 ghost use Rattle.std.specs.Prelude.{◌≡◌, ◌<◌, ◌⊎◌, ℕ, List, length, Some, None, IfOk, IfErr, IfSome, IfNone, IsTrue};
 ghost use Rattle.retrograde.specs.Changes.{counts_of};
 ghost use Rattle.retrograde.specs.Stored.{Stored, HasRecord};
-ghost use Rattle.game_file.specs.Causes.{FileVersionCause};
+ghost use Rattle.game_file.specs.Causes.{FileReadFault, FileVersionCause};
 ghost use Rattle.game_file.specs.Kept.{Kept, text_kept, packing_kept, goal_kept};
 
 use crate::GameFile;
@@ -35,6 +35,7 @@ pub trait Versions: GameFile {
             → IfSome result (λ version. is_version version kept.table self.new) }
         ensures others { (version : Self.Version) (table : Stored (List ℕ)) → is_version version table self.old
             → IfSome result (λ new. are_two version new × is_version version table self.new) }
+        ensures free { IfSome result (λ version. ¬ is_used_up self.old) }
         ensures none { IfNone result (((Self.state self.old).kept ≡ None) ⊎ is_used_up self.old) }
         ensures refused { IfNone result (Self.state self.new ≡ Self.state self.old) }
         ensures left { (version : Self.Version) (table : Stored (List ℕ)) → is_version version table self.old
@@ -50,7 +51,8 @@ pub trait Versions: GameFile {
             → IfOk result (HasRecord table number) }
         ensures stays { Self.stays self.old self.new }
         ensures cause { (table : Stored (List ℕ)) → is_version version.now table self.old → number < length table.positions
-            → IfErr result (FileVersionCause (Self.state self.old) (Self.state self.new)) };
+            → IfErr result (FileVersionCause (Self.state self.old) (Self.state self.new)) }
+        ensures fault { IfErr result (FileReadFault (Self.state self.old) (Self.state self.new)) };
 
     /// Ends a version. It takes no memory and always answers, of a closed file too.
     fn give_back(&mut self, version: Self::Version)
@@ -60,7 +62,8 @@ pub trait Versions: GameFile {
         ensures packing { Self.is_whole self.old → packing_kept (Self.state self.new).kept ≡ packing_kept (Self.state self.old).kept }
         ensures goal { Self.is_whole self.old → goal_kept (Self.state self.new).kept ≡ goal_kept (Self.state self.old).kept }
         ensures others { (other : Self.Version) (table : Stored (List ℕ)) → are_two other version → is_version other table self.old
-            → is_version other table self.new };
+            → is_version other table self.new }
+        ensures ended { (table : Stored (List ℕ)) → ¬ is_version version table self.new };
 
     /// A version that is kept lasts over each call that promises so.
     ghost version_lasts: { (version : Self.Version) (table : Stored (List ℕ)) (old new : Self) → IsTrue (Self.state old).disk.honest

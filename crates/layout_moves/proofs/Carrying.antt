@@ -1,14 +1,14 @@
 -- A commit carries a file of layout 1 into layout 3.
 use Rattle.std.proofs.Common.{◌≡◌, ◌≢◌, ◌⊎◌, inl, inr, ℕ, ◌≤◌, true, false, List, length, Option, None, Some, Result, Ok, Err, Contains, IsTrue, refl, sym, ◌∙◌, ap, subst, arith}
 use Rattle.std.specs.Prelude.{OnOk, IfOk, IfErr}
-use Rattle.sector_disk.specs.Disk.{Picture, LeavesOnly}
-use Rattle.sector_disk.specs.aid.Moments.{goes_on_trans, leaves_more, reads_left, still_honest}
+use Rattle.sector_disk.specs.Disk.{Picture, Grew, LeavesOnly}
+use Rattle.sector_disk.specs.aid.Moments.{goes_on_trans, leaves_more, leaves_then, reads_left, still_honest}
 use Rattle.page_store.specs.declared.fault.PageFault.{PageFault}
 use Rattle.page_store.specs.declared.fault.PageFault.TheVariants as page
 use Rattle.page_store.specs.Causes.{StoreCommitCause}
 use Rattle.page_store.specs.Spelling.{IsPrepared, Spells, Stands}
-use Rattle.page_store.specs.Store.{Store, Saved, SavedAs, StopLeaves, StoreWorks, Commits}
-use Rattle.page_store.specs.aid.Works.{grew_since, works_then}
+use Rattle.page_store.specs.Store.{Store, IsUnchanged, SameHeader, Saved, SavedAs, StopLeaves, StoreWorks, Commits}
+use Rattle.page_store.specs.aid.Works.{grew_since, safe_saves, saved_before, works_then}
 use Rattle.page_store.specs.aid.Carrying.{commit_carries, saved_spells, saved_as_spells}
 use Rattle.root_slot.specs.Fields.{commits_in, layout_in, packing_in, number_of_packing, goal_numbered, SaysPages}
 use Rattle.table.specs.InMemory.{stored_in}
@@ -31,7 +31,8 @@ use Rattle.tree_table.specs.Slot.{slot_in, IsEmptyTreeSlot, IsGameTreeSlot}
 use Rattle.tree_table.specs.Working.{HoldsTable, text_slot}
 use Rattle.tree_table.specs.aid.Keeping.{spells_stores_trees, table_is_prepared}
 use Rattle.tree_table.proofs.Limits.{within_limits}
-use Rattle.layout_moves.specs.Moving.{IsMoved, IsNotMoved, MoveCause}
+use Rattle.layout_moves.specs.Moving.{MoveCause}
+use Rattle.tree_file.specs.Moving.{IsMoved, IsNotMoved}
 use Rattle.layout_moves.specs.aid.Steps.{HasFrameOf, IsCopied, NewRootCause, StepCause}
 
 -- a disk failure of the pages below is one of the file
@@ -56,8 +57,10 @@ module _ (old : Store) (game : Option Game) (whole : IsFile (file_of old game)) 
       → IsNotMoved Stores (StoresTrees 3) (state_of (file_of old game)) new.disk new.failures fault
   works_not_moved new fault works = record {
     from = record { goes_on = works.goes_on; failures = works.failures; same_size = works.same_size };
-    leaves = λ honest other. works_leave new works honest;
-    either = λ honest. leaves_more (λ picture left. inl left) (works_leave new works honest);
+    header = works.header;
+    leaves = λ honest is_open other. works_leave new works honest;
+    unwritten = λ honest is_open spared. works_leave new works honest;
+    either = λ honest is_open. leaves_more (λ picture left. inl left) (works_leave new works honest);
   }
 
   -- a root of layout 3 is committed behind such calls
@@ -69,6 +72,9 @@ module _ (old : Store) (game : Option Game) (whole : IsFile (file_of old game)) 
       failures = omega (arith, works.failures, commits.failures);
       same_size = commits.same_size ∙ works.same_size;
     }
+
+    same_header : SameHeader old.disk new.disk
+    same_header honest = commits.header (still_honest works.goes_on honest) ∙ works.header honest
 
     each : IsTrue old.disk.honest → (picture : Picture)
         → Spells old.root (length old.marks) (KeepsTable old.root (length old.marks) (kept_of game)) picture
@@ -97,6 +103,32 @@ module _ (old : Store) (game : Option Game) (whole : IsFile (file_of old game)) 
         subst (λ (s : Store). LeavesTable (Stores (length old.marks)) old.disk s.disk (kept_of game)) (sym (same (disk_is_disk fault other)))
         (works_leave mid works honest)
 
+    -- a commit that left the store as it was leaves the table as it was
+    unchanged_leaves : IsUnchanged mid new → IsTrue old.disk.honest → LeavesTable (Stores (length old.marks)) old.disk new.disk (kept_of game)
+    unchanged_leaves same honest =
+        let safe = whole.sound.safe honest is_open in
+        let later = still_honest works.goes_on honest in
+        leaves_more (stored honest)
+        (leaves_then commits.goes_on (works.leaves honest safe)
+        (leaves_more (λ picture left. saved_before works honest picture (safe_saves mid (works.safe honest safe) picture left)) (same.leaves later)))
+
+    -- so does one in which no write failed
+    unwritten_leaves : (fault : PageFault) → StoreCommitCause mid new fault → mid.closed ≡ old.closed
+        → ¬ Grew old.disk.failed_writes new.disk.failed_writes → IsTrue old.disk.honest
+        → LeavesTable (Stores (length old.marks)) old.disk new.disk (kept_of game)
+    unwritten_leaves fault cause still spared honest = unchanged_leaves (at fault cause) honest
+      where
+        at : (f : PageFault) → StoreCommitCause mid new f → IsUnchanged mid new
+        at page.Disk cause = elim cause.1 [
+          | inl unchanged ↦ unchanged
+          | inr shut ↦ absurd (spared (grew_since works.goes_on.failed_writes (commits.closes.cause (still ∙ is_open) shut)))
+        ]
+        at page.NotATable cause = absurd cause
+        at page.Damaged cause = absurd cause
+        at page.TableFull cause = absurd cause
+        at page.OutOfMemory cause = absurd cause
+        at page.Closed cause = let never : true ≡ false = sym cause ∙ still ∙ is_open in absurd (cc)
+
     -- what the new root keeps is prepared on these pages
     module _ (named : IsTrue old.disk.honest → ℕ → Type 0)
         (prepared : (honest : IsTrue old.disk.honest) → IsPrepared (named honest) (KeepsTrees root (length old.marks) (kept_of game)) mid) where
@@ -104,6 +136,7 @@ module _ (old : Store) (game : Option Game) (whole : IsFile (file_of old game)) 
           → IsMoved Stores (StoresTrees 3) (state_of (file_of old game)) new.disk new.failures
       moved count after = record {
         from = from;
+        header = same_header;
         leaves = λ honest. either honest (prepared honest);
         now = λ honest. now honest (prepared honest) (after (still_honest works.goes_on honest));
         commits = λ honest. record {
@@ -113,12 +146,14 @@ module _ (old : Store) (game : Option Game) (whole : IsFile (file_of old game)) 
         };
       }
 
-      pub not_moved : (fault : PageFault) → (fault ≢ page.Disk → new ≡ mid)
+      pub not_moved : (fault : PageFault) → (fault ≢ page.Disk → new ≡ mid) → StoreCommitCause mid new fault → mid.closed ≡ old.closed
           → IsNotMoved Stores (StoresTrees 3) (state_of (file_of old game)) new.disk new.failures (of_pages fault)
-      not_moved fault same = record {
+      not_moved fault same cause still = record {
         from = from;
-        leaves = λ honest other. refused_leaves fault same honest other;
-        either = λ honest. either honest (prepared honest);
+        header = same_header;
+        leaves = λ honest is_open other. refused_leaves fault same honest other;
+        unwritten = λ honest is_open spared. unwritten_leaves fault cause still spared honest;
+        either = λ honest is_open. either honest (prepared honest);
       }
 
 -- no page is needed for the table of no game

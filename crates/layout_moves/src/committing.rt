@@ -9,7 +9,7 @@ ghost use Rattle.page_store.specs.Store.{Store};
 ghost use Rattle.root_slot.specs.Fields.{commits_in, layout_in, SaysPages};
 ghost use Rattle.tree_table.specs.Held.{StoresTrees};
 ghost use Rattle.tree_table.specs.Slot.{IsEmptyTreeSlot};
-ghost use Rattle.layout_moves.specs.Moving.{IsMoved, IsNotMoved};
+ghost use Rattle.tree_file.specs.Moving.{IsMoved, IsNotMoved};
 ghost use Rattle.layout_moves.specs.aid.Steps.{IsCopied, NewRootCause};
 
 use game_file::FileFault;

@@ -3,6 +3,8 @@
 
 mod committing;
 mod copying;
+mod earlier;
 mod migration;
 
+pub use earlier::EarlierFile;
 pub use migration::rebuild;

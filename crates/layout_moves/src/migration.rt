@@ -7,7 +7,8 @@ ghost use Rattle.flat_table.specs.InFile.{file_in};
 ghost use Rattle.game_file.specs.State.{count_behind};
 ghost use Rattle.root_slot.specs.Fields.{commits_in};
 ghost use Rattle.tree_table.specs.Held.{StoresTrees};
-ghost use Rattle.layout_moves.specs.Moving.{IsMoved, IsNotMoved, MoveCause};
+ghost use Rattle.layout_moves.specs.Moving.{MoveCause};
+ghost use Rattle.tree_file.specs.Moving.{IsMoved, IsNotMoved};
 
 use crate::committing::{commit_empty, commit_slot};
 use crate::copying::{Attempt, copy_on, write_text};

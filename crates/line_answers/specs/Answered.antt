@@ -120,11 +120,13 @@ module _ (Stores : ℕ → Layout) where
       ((status ≡ 0) × Tells (IsAnswerTo about line) old)
       ⊎ ((why : SolverFault) × (status ≡ status_of_fault why) × (line ≡ fault_line why) × QuestionCause about old new why)
 
-  -- what is done for a line that asks this, with which exit status, and what is written
+  -- what is done for a line that asks this, with which exit status, and what is written; where no listings are kept, a line about them
+  -- is no command
   abbrev pub IsReplied : Asked → State → State → ℕ → List ℕ → Type 0
   IsReplied asked.Nothing old new status line = (new ≡ old) × (status ≡ 0) × (line ≡ [])
   IsReplied asked.Quit old new status line = (new ≡ old) × (status ≡ 0) × (line ≡ [])
   IsReplied asked.Usage old new status line = (new ≡ old) × (status ≡ 0) × (line ≡ codes "usage" ++ 10 ∷ [])
+  IsReplied (asked.Listing about) old new status line = (new ≡ old) × (status ≡ 0) × (line ≡ codes "usage" ++ 10 ∷ [])
   IsReplied asked.Help old new status line = (new ≡ old) × (status ≡ 0) × (line ≡ codes "usage" ++ 10 ∷ [])
   IsReplied asked.Status old new status line = (new ≡ old) × (status ≡ 0) × SaysStatus old line
   IsReplied (asked.Work units) old new status line = IsWorkReplied (units_in units) old new status line

@@ -4,7 +4,8 @@ use Rattle.std.specs.Str.Parse.{IsNumeral, digits_value}
 use Rattle.solver.specs.declared.replies.Units.{Units}
 use Rattle.solver.specs.Units.{units_in}
 use Rattle.line_answers.specs.declared.input.Asked.{Asked}
-use Rattle.line_answers.specs.declared.input.Asked.TheVariants.{Nothing, Work, Status, Question, Help, Quit, Usage}
+use Rattle.line_answers.specs.declared.input.Asked.TheVariants.{Nothing, Work, Status, Question, Listing, Help, Quit, Usage}
+use Rattle.line_answers.specs.declared.input.ListingLine.TheVariants.{Begin, Next, End}
 use Rattle.line_answers.specs.declared.input.Question.TheVariants.{Value, Line, List as ListFrom, Show, Find}
 use Rattle.line_answers.specs.declared.input.TheConstants.{MAX_LINE_BYTES}
 
@@ -53,6 +54,9 @@ IsCommand words Status = words ≡ codes "status" ∷ []
 IsCommand words Help = words ≡ codes "help" ∷ []
 IsCommand words Quit = words ≡ codes "quit" ∷ []
 IsCommand words (Work units) = (word : List ℕ) × (words ≡ codes "work" ∷ word ∷ []) × AreUnits word units
+IsCommand words (Listing Begin) = words ≡ codes "begin" ∷ []
+IsCommand words (Listing End) = words ≡ codes "end" ∷ []
+IsCommand words (Listing (Next units)) = (word : List ℕ) × (words ≡ codes "next" ∷ word ∷ []) × AreUnits word units
 IsCommand words (Question (Value number)) = (word : List ℕ) × (words ≡ codes "value" ∷ word ∷ []) × WritesNumber word number
 IsCommand words (Question (Line number)) = (word : List ℕ) × (words ≡ codes "line" ∷ word ∷ []) × WritesNumber word number
 IsCommand words (Question (Show number)) = (word : List ℕ) × (words ≡ codes "show" ∷ word ∷ []) × WritesNumber word number

@@ -8,4 +8,5 @@ pub use Rattle.solver.specs.Units
 pub mod Told
 pub mod Asked
 pub mod Answered
+pub mod Listed
 pub mod aid

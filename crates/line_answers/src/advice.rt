@@ -12,10 +12,10 @@ pub fn advice(fault: SolverFault) -> &'static str {
         SolverFault::AlreadyATable => "it stays as it is, so give the name of another file",
         SolverFault::Damaged => "go back to a copy of the file, or begin with a new one",
         SolverFault::OldLayout =>
-            "open it with the version of rbgsolve that made it, or load the game into a new table",
+            "`rbgsolve migrate` brings it into today's, with all that is known",
         SolverFault::TooSmall => "give `--pages` 16 or more",
         SolverFault::TableFull =>
-            "the table stays as it was, and fewer units may still fit; else load the game into a table of more pages (`create --pages N`)",
+            "the table stays as it was, and a command of fewer units may still fit; else give it twice as many pages (`rbgsolve grow FILE --pages N`)",
         SolverFault::OutOfMemory => "the table stays as it was, so try again with more memory free",
         SolverFault::Closed => "start a session again",
         SolverFault::Game(_) => "mend the text, and load it again",

@@ -20,6 +20,9 @@ pub const SESSION_LINES: &str = concat!(
     "  value N    who wins position N and in how many moves, or `drawn`, or `open`\n",
     "  line N     the numbers of the positions along a shortest win from N\n",
     "  list A B   the values of B positions, 1 to 256, from A on, one a line\n",
+    "  begin      begins a listing of the table as it is now\n",
+    "  next M     its next M rows, 1 to 256, whatever is worked meanwhile, or `done`\n",
+    "  end        ends the listing that was begun last\n",
     "  show N     the text of position N\n",
     "  find TEXT  the number of the position with this text\n",
     "  help       shows these lines on standard error\n",
@@ -107,6 +110,8 @@ pub enum Asked<'a> {
     Status,
     /// What the table says of positions.
     Question(Question<'a>),
+    /// The rows of a table that is kept as it was.
+    Listing(ListingLine),
     /// The lines that a session takes.
     Help,
     /// The end of the session.
@@ -128,6 +133,17 @@ pub enum Question<'a> {
     Show(u32),
     /// The number of the position with this text.
     Find(&'a [u8]),
+}
+
+/// A line about listings: it acts on the one that was begun last.
+#[derive(Clone, Copy, PartialEq, Eq, Debug, Drop)]
+pub enum ListingLine {
+    /// Begins one of the table of the last commit.
+    Begin,
+    /// So many of its next rows.
+    Next(Units),
+    /// Ends it.
+    End,
 }
 
 /// What a line asks for, without what ends it.
@@ -178,6 +194,10 @@ fn word_asked<'a>(word: &[u8]) -> Asked<'a>
         Asked::Quit
     } else if word == b"help".as_slice() {
         Asked::Help
+    } else if word == b"begin".as_slice() {
+        Asked::Listing(ListingLine::Begin)
+    } else if word == b"end".as_slice() {
+        Asked::Listing(ListingLine::End)
     } else {
         Asked::Usage
     }
@@ -193,6 +213,11 @@ fn one_asked<'a>(word: &[u8], number_word: &[u8]) -> Asked<'a>
     if word == b"work".as_slice() {
         match Units::new(number) {
             Some(units) => Asked::Work(units),
+            None => Asked::Usage,
+        }
+    } else if word == b"next".as_slice() {
+        match Units::new(number) {
+            Some(units) => Asked::Listing(ListingLine::Next(units)),
             None => Asked::Usage,
         }
     } else if word == b"value".as_slice() {

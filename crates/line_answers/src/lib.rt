@@ -3,6 +3,7 @@
 
 pub mod advice;
 pub mod input;
+pub mod listings;
 mod numbers;
 pub mod puts;
 pub mod questions;

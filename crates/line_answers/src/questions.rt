@@ -23,7 +23,8 @@ use std::alloc::Global;
 use std::io::{self, Write};
 
 /// Writes the reply to a line at once, and gives the exit status that belongs to it: 0, or that of the
-/// refusal. A line without a word has no reply, and neither has `quit`. What a refusal means goes to `told`.
+/// refusal. A line without a word has no reply, and neither has `quit`. What a refusal means goes to `told`. A line about listings is
+/// answered `usage`, as where none are kept: whoever keeps them answers it by `put_listing`.
 pub fn put_answer<F: GameFile, W: Write, E: Write>(
     alloc: Global,
     solver: &mut FileSolver<F>,
@@ -39,7 +40,7 @@ pub fn put_answer<F: GameFile, W: Write, E: Write>(
 {
     match asked {
         Asked::Nothing | Asked::Quit => Ok(0),
-        Asked::Usage => put_done(out, b"usage\n"),
+        Asked::Usage | Asked::Listing(_) => put_done(out, b"usage\n"),
         Asked::Help => {
             let status = put_done(out, b"usage\n")?;
             let _told = writeln!(told, "{SESSION_LINES}");
@@ -59,7 +60,7 @@ pub fn put_answer<F: GameFile, W: Write, E: Write>(
 }
 
 /// Writes a line at once that is no refusal.
-fn put_done<W: Write>(out: &mut W, line: &[u8]) -> io::Result<u8>
+pub fn put_done<W: Write>(out: &mut W, line: &[u8]) -> io::Result<u8>
     ensures status { IfOk result (λ status. status ≡ 0) }
     ensures line { OnOk result (Appends (W.contents out.old) (W.contents out.new) line.now) }
 {

@@ -4,7 +4,7 @@ use Rattle.std.proofs.lemmas.Bool.{cases_lt, cases_eq}
 use Rattle.sector_disk.specs.Disk.{Picture, sector, Shown, Agrees, MayLeave, Disk, size, GoesOn, LeavesOnly, Grew}
 use Rattle.sector_disk.specs.aid.Disk.{KeepsThroughout}
 use Rattle.sector_disk.specs.aid.Moments.{leaves_more, leaves_now, goes_on_refl}
-use Rattle.root_pair.specs.Root.{picked, HoldsRoot, root_of, IsAtRest, OldOrNew, IsPublished, PublishCause}
+use Rattle.root_pair.specs.Root.{picked, spare_by, HoldsRoot, root_of, IsAtRest, OldOrNew, IsPublished, PublishCause}
 use Rattle.root_pair.specs.declared.fault.RootFault.{RootFault}
 use Rattle.root_pair.specs.declared.fault.RootFault.TheVariants.{Read, Write, NotATable, AlreadyATable, TooSmall}
 use Rattle.root_pair.specs.aid.Rest.{same_root, rest_leaves, root_kept, rest_kept, synced_rests}
@@ -16,7 +16,7 @@ use Rattle.page_store.specs.Holds.{Holds, any, holders_at}
 use Rattle.page_store.specs.Marks.{mark, needs, is_past, stays, IsNeeded, turned, committed, let_go, AreDiscarded, AreCommitted, IsMarked}
 use Rattle.page_store.specs.Page.{page, IsWithin}
 use Rattle.page_store.specs.aid.Page.{IsOutside, page_same}
-use Rattle.page_store.specs.Store.{Store, Saved, SavedAs, IsHeldBy, IsSafe, AreSoundHolds, IsSoundStore, StoreWorks, StoreCloses, IsUnchanged, IsRemarked}
+use Rattle.page_store.specs.Store.{Store, Saved, SavedAs, IsHeldBy, IsSafe, AreSoundHolds, IsSoundStore, StoreWorks, StoreCloses, SameHeader, IsUnchanged, IsRemarked}
 use Rattle.page_store.specs.aid.Holding.{need_any}
 use Rattle.page_store.specs.aid.Works.{safe_saves, safe_remarked, closes_same}
 
@@ -46,6 +46,7 @@ works_read old new goes_on size_ failures same = record {
   waiting = λ p is. ap (λ (ms : List Mark). mark ms p) (sym same.marks) ∙ is;
   needed = λ p. ap (λ (ms : List Mark). needs (mark ms p)) same.marks;
   reads = λ honest p needed. ap (λ (s : Shown). page s.contents p) (same.shown honest);
+  header = λ honest. ap (λ (s : Shown). sector s.contents 0) (same.shown honest);
   safe = λ honest safe. safe_unchanged old new same (sym (same.shown honest)) safe;
   leaves = λ honest safe. leaves_more (safe_saves old safe) (same.leaves honest);
   holds = same.holds;
@@ -178,6 +179,7 @@ module _ (old new : Store) (at : ℕ) (sound : IsSoundStore old) (fresh : mark o
     waiting = λ p is. ap (λ (ms : List Mark). mark ms p) (sym marks) ∙ is;
     needed = λ p. ap (λ (ms : List Mark). needs (mark ms p)) marks;
     reads = λ honest p needed. reads_else at old.disk new.disk kept honest p (not_needed old.marks p at fresh needed);
+    header = λ honest. (kept honest).keeps.contents 0 (low 0 (omega arith));
     safe = still_safe;
     leaves = λ honest safe. leaves_more (saved safe) (kept honest).leaves;
     holds = holds;
@@ -203,6 +205,7 @@ works_remarked old new others long waiting same past = record {
   waiting = waiting;
   needed = same;
   reads = λ honest p needed. ap (λ (d : Disk). page d.now.contents p) others.disk;
+  header = λ honest. ap (λ (d : Disk). sector d.now.contents 0) others.disk;
   safe = λ honest safe. safe_remarked old new others long (fewer_needed old.marks new.marks long same) safe;
   leaves = λ honest safe. subst (λ (d : Disk). LeavesOnly old.disk d (Saved old)) (sym others.disk) (leaves_now old.disk (safe_saves old safe));
   holds = others.holds;
@@ -340,6 +343,11 @@ waiting_apart m is was = cc
 
 pub free_apart : (m : Mark) → m ≡ Free → m ≢ Committed
 free_apart m is was = cc
+
+-- the header is not written by a commit
+pub published_header : (old new : Disk) → (IsTrue old.honest → (k : ℕ) → k ≢ 1 → k ≢ spare_by (sector old.now.contents 1)
+    → sector new.now.contents k ≡ sector old.now.contents k) → SameHeader old new
+published_header old new others honest = others honest 0 (omega arith) (omega arith)
 
 -- what a hold needs is not written by a commit
 pub published_held : (old : Store) (new : Disk) → IsTrue old.disk.honest

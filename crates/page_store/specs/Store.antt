@@ -1,6 +1,6 @@
 -- What is stated of a store of pages, and what a stop within a call leaves.
 use Rattle.std.specs.Prelude.{◌≡◌, ◌⊎◌, ℕ, ◌*◌, ◌/◌, ◌<◌, ◌≤◌, min, Bool, true, false, List, length, IsTrue}
-use Rattle.sector_disk.specs.Disk.{Picture, Disk, size, GoesOn, Grew, IsLonger, LeavesOnly, MayLeave, SyncedMore}
+use Rattle.sector_disk.specs.Disk.{Picture, Disk, size, sector, GoesOn, Grew, IsLonger, LeavesOnly, MayLeave, SyncedMore}
 use Rattle.root_pair.specs.Root.{HoldsRoot, root_of, IsAtRest}
 use Rattle.page_store.specs.declared.marks.Mark.{Mark}
 use Rattle.page_store.specs.declared.marks.Mark.TheVariants.{Committed, Waiting}
@@ -95,8 +95,12 @@ pub record ClosesByWrites (was : Bool) (before : ℕ) (is : Bool) (now : ℕ) : 
 abbrev pub StoreCloses : Store → Store → Type 0
 StoreCloses old new = ClosesByWrites old.closed old.disk.failed_writes new.closed new.disk.failed_writes
 
+-- the header, which is sector 0, reads as it did
+abbrev pub SameHeader : Disk → Disk → Type 0
+SameHeader old new = IsTrue old.honest → sector new.now.contents 0 ≡ sector old.now.contents 0
+
 -- a call that commits nothing: the committed root and the pages that it may need stay, for reads and for stops; so do the holds and
--- their pages, for reads
+-- their pages, for reads, and the header
 pub record StoreWorks (old new : Store) : Type 0 where
   pub goes_on : GoesOn old.disk new.disk
   pub same_size : size new.disk ≡ size old.disk
@@ -111,6 +115,7 @@ pub record StoreWorks (old new : Store) : Type 0 where
   pub past : (p : ℕ) → is_past (mark new.marks p) ≡ is_past (mark old.marks p)
   pub held : IsTrue old.disk.honest → (place : HoldPlace) (p : ℕ) → IsHeldBy place old p → reads new p ≡ reads old p
   pub reads : IsTrue old.disk.honest → (p : ℕ) → IsNeeded old.marks p → reads new p ≡ reads old p
+  pub header : SameHeader old.disk new.disk
   pub safe : IsTrue old.disk.honest → IsSafe old → IsSafe new
   pub leaves : IsTrue old.disk.honest → IsSafe old → LeavesOnly old.disk new.disk (Saved old)
 
@@ -142,7 +147,7 @@ pub record IsUnchanged (old new : Store) : Type 0 where
   pub failed_writes : new.disk.failed_writes ≡ old.disk.failed_writes
 
 -- a commit of this root, whatever it answers: a stop leaves what was saved before, or this root and all pages as they read; the holds
--- stay, and their pages
+-- stay, and their pages, and the header
 pub record Commits (root : List ℕ) (old new : Store) : Type 0 where
   pub goes_on : GoesOn old.disk new.disk
   pub same_size : size new.disk ≡ size old.disk
@@ -151,6 +156,7 @@ pub record Commits (root : List ℕ) (old new : Store) : Type 0 where
   pub closes : StoreCloses old new
   pub holds : new.holds ≡ old.holds
   pub held : IsTrue old.disk.honest → (place : HoldPlace) (p : ℕ) → IsHeldBy place old p → reads new p ≡ reads old p
+  pub header : SameHeader old.disk new.disk
 
 -- a commit answers Ok: this root, all pages as they read, and the marks of a new beginning, where a page that was released stays for
 -- the holds that need it

@@ -1,1 +1,3 @@
 pub use Rattle.tree_table.specs.Held
+pub mod Migrating
+pub mod aid

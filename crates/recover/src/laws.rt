@@ -1,14 +1,17 @@
 //! What holds of the tables that this program makes.
-ghost use Rattle.std.specs.Prelude.{◌≡◌, ℕ, List, Option};
-ghost use Rattle.sector_disk.specs.Disk.{Picture, Shown, MayLeave};
-ghost use Rattle.solver.specs.Headline.{Headline};
-ghost use Rattle.solver.specs.Histories.{Sitting, History};
+ghost use Rattle.std.specs.Prelude.{◌≡◌, ℕ, List, [], Option, IsTrue};
+ghost use Rattle.sector_disk.specs.Disk.{Picture, Shown, Disk, MayLeave};
+ghost use Rattle.solver.specs.Headline.{Headline, HeadlineFrom};
+ghost use Rattle.solver.specs.Held.{IsSound};
+ghost use Rattle.solver.specs.Histories.{Sitting, History, HistoryFrom};
 ghost use Rattle.tree_table.specs.Held.{StoresTrees};
 ghost use Rattle.game_file.specs.Kept.{Kept};
+ghost use Rattle.recover.specs.Migrating.{EitherLayout, IsMigrated};
+ghost use Rattle.flat_table.specs.Held.{Stores};
 
 use crate::TableFile;
 use sector_disk::MemDisk;
-use solver::laws::the_headline;
+use solver::laws::{the_headline, the_headline_from};
 use tree_table::laws::a_picture_says_how_many_pages;
 
 /// The headline of the tables that this program makes, on whichever disk, with what a picture of their file holds: the gate's bit, the
@@ -19,6 +22,20 @@ pub fn the_headline_of_our_tables()
 {
     the_headline::<TableFile<MemDisk>>()
 }
+
+/// What the headline says holds of each table that is locally sound as it begins, of whatever origin.
+pub fn the_headline_of_found_tables()
+    ensures { (begins : Option Kept) (sittings : List Sitting) (left : Shown) (picture : Picture) → IsSound begins
+        → HistoryFrom (StoresTrees 3) begins sittings left → MayLeave left picture → HeadlineFrom (StoresTrees 3) begins sittings picture }
+{
+    the_headline_from::<TableFile<MemDisk>>()
+}
+
+/// A table that was brought from an earlier layout begins a history.
+pub fn a_migrated_table_goes_on()
+    ensures { (disk back : Disk) (count now : ℕ) (done : IsMigrated (EitherLayout Stores (StoresTrees 2)) (StoresTrees 3) disk count back now)
+        → IsTrue disk.honest → HistoryFrom (StoresTrees 3) done.kept [] back.now }
+{}
 
 /// A picture stores a table of this program in one number of pages, which its root says.
 pub fn our_tables_say_how_many_pages()

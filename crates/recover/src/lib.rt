@@ -3,11 +3,19 @@
 #![tactic(auto)]
 
 pub mod laws;
+mod migration;
 
+pub use migration::{Migration, migrate};
 pub use solver::{Command, FileSolver, Listing, Refused, Reply, SolverFault, Units, Worked};
 
 /// The file of today's layout, on a disk.
 pub type TableFile<D> = tree_file::TreeFile<page_store::PageStore<D>, 3>;
+
+/// The file of the second layout, which is today's but for the count of pages and the goal.
+pub type SecondFile<D> = tree_file::TreeFile<page_store::PageStore<D>, 2>;
+
+/// The file of the first layout.
+pub type FirstFile<D> = flat_table::FlatTable<D>;
 
 /// A solver over such a file.
 pub type Solver<D> = FileSolver<TableFile<D>>;

@@ -1,1 +1,2 @@
 mod Auditing
+mod Bringing

@@ -3,9 +3,13 @@ use Rattle.std.specs.Prelude.{◌≡◌, ◌⊎◌, ℕ, List, [], ◌∷◌, �
 use Rattle.sector_disk.specs.Disk.{Disk}
 use Rattle.rbg_game.specs.Goals.{points_of}
 use Rattle.retrograde.specs.declared.records.Counts.{Counts}
+use Rattle.recover.specs.declared.migration.Migration.{Migration}
+use Rattle.recover.specs.declared.migration.Migration.TheVariants.{Migrated, Current}
+use Rattle.recover.specs.Migrating.{EitherLayout, IsCurrent, IsMigrated, IsNotMigrated, MigrateCause}
 use Rattle.audit.specs.declared.verdict.Verdict.{Verdict}
 use Rattle.audit.specs.declared.verdict.Verdict.TheVariants.{Right, Wrong}
 use Rattle.game_file.specs.Calls.{IsAsked, IsNotCreated, IsNotOpened}
+use Rattle.game_file.specs.Growing.{IsGrownFile, IsNotGrown}
 use Rattle.game_file.specs.Kept.{Layout}
 use Rattle.game_file.specs.State.{State}
 use Rattle.solver.specs.declared.fault.SolverFault.{SolverFault}
@@ -13,6 +17,7 @@ use Rattle.solver.specs.declared.fault.SolverFault.TheVariants as fault
 use Rattle.solver.specs.declared.replies.Reply.{Reply}
 use Rattle.solver.specs.declared.replies.Reply.TheVariants as reply
 use Rattle.solver.specs.Audits.{HasVerdict, IsSoInGame, AuditCause}
+use Rattle.solver.specs.Growing.{GrowthCause}
 use Rattle.solver.specs.Machine.{load}
 use Rattle.solver.specs.Opening.{IsCreated, IsOpened, OpenCause, CreateCause}
 use Rattle.solver.specs.Queries.{Tells}
@@ -23,17 +28,25 @@ use Rattle.line_answers.specs.Told.{fault_line, IsReplyLine}
 use Rattle.session.specs.declared.commands.FileCommand.{FileCommand}
 use Rattle.session.specs.declared.commands.FileCommand.TheVariants as asked
 
--- what came of a command: the empty table was made; it was refused; it has this reply; or the table has this verdict and these counts
+-- what came of a command: the empty table was made; it was refused; it has this reply; the table has this verdict and these counts; it has
+-- got more pages; or it was brought into today's layout, which it had before or not
 pub data Came : Type 0 where
   made : Came
   refused : (why : SolverFault) → Came
   replied : (said : Reply) → Came
   audited : (verdict : Verdict) (counts : Counts) → Came
+  brought : (which : Migration) → Came
+  grown : Came
 
 -- the exit status of a verdict
 abbrev pub status_of_verdict : Verdict → ℕ
 status_of_verdict Right = 0
 status_of_verdict (Wrong number reason) = 1
+
+-- the word for a table that was brought into today's layout
+abbrev pub word_of_migration : Migration → List ℕ
+word_of_migration Migrated = codes "migrated"
+word_of_migration Current = codes "current"
 
 -- the exit status that belongs to it
 abbrev pub status_of_came : Came → ℕ
@@ -41,6 +54,8 @@ status_of_came made = 0
 status_of_came (refused why) = status_of_fault why
 status_of_came (replied said) = status_of_reply said
 status_of_came (audited verdict counts) = status_of_verdict verdict
+status_of_came (brought which) = 0
+status_of_came grown = 0
 
 -- the line that tells it
 abbrev pub IsLineOf : Came → List ℕ → Type 0
@@ -48,6 +63,8 @@ IsLineOf made line = line ≡ codes "created" ++ 10 ∷ []
 IsLineOf (refused why) line = line ≡ fault_line why
 IsLineOf (replied said) line = IsReplyLine said line
 IsLineOf (audited verdict counts) line = IsVerdictLine counts verdict line
+IsLineOf (brought which) line = line ≡ word_of_migration which ++ 10 ∷ []
+IsLineOf grown line = line ≡ codes "grown" ++ 10 ∷ []
 
 -- why the reply refuses, if it does
 abbrev pub refusal_in : Reply → Option SolverFault
@@ -60,6 +77,8 @@ refusal_of made = None
 refusal_of (refused why) = Some why
 refusal_of (replied said) = refusal_in said
 refusal_of (audited verdict counts) = None
+refusal_of (brought which) = None
+refusal_of grown = None
 
 -- it is told with this status: its line is printed and the status is its own, or the output failed and the status is 4
 pub data IsPrinted (Prints : List ℕ → Type 0) (came : Came) (status : ℕ) : Type 0 where
@@ -106,14 +125,32 @@ module _ (Stores : ℕ → Layout) where
       ⊎ IsUnopened disk count why back now
   IsAudit disk count _ back now = ⊥
 
+  -- the table was opened, and has got so many pages, or either was refused
+  abbrev pub IsGrow : ℕ → Disk → ℕ → Came → Disk → ℕ → Type 0
+  IsGrow pages disk count grown back now =
+      (was : State) × (is : State) × IsOpened Stores disk count was × GivesBack is back now × IsGrownFile Stores pages was is
+  IsGrow pages disk count (refused why) back now =
+      ((was : State) × (is : State) × IsOpened Stores disk count was × GivesBack is back now × IsNotGrown Stores pages was is
+      × GrowthCause pages was is why) ⊎ IsUnopened disk count why back now
+  IsGrow pages disk count _ back now = ⊥
+
   -- what is done for a command on the table of a disk, what comes of it, and the disk as it is given back
   abbrev pub IsDoneOnFile : FileCommand → Disk → ℕ → Came → Disk → ℕ → Type 0
   IsDoneOnFile asked.Create = IsCreate
   IsDoneOnFile (asked.Load text goal) = IsLoad text.items (points_of goal)
   IsDoneOnFile asked.Audit = IsAudit
+  IsDoneOnFile (asked.Grow pages) = IsGrow pages
 
 -- what comes of an audit of an open table
 abbrev pub IsAudited : State → State → Came → Type 0
 IsAudited was is (audited verdict counts) = HasCome was verdict counts
 IsAudited was is (refused why) = AuditCause was is why
 IsAudited was is _ = ⊥
+
+-- what comes of bringing a table into today's layout, where it has that one or the first or the second, and the disk as it is given back
+abbrev pub IsBrought : (ℕ → Layout) → (ℕ → Layout) → (ℕ → Layout) → Disk → ℕ → Came → Disk → ℕ → Type 0
+IsBrought First Second Today disk count (brought Migrated) back now = IsMigrated (EitherLayout First Second) Today disk count back now
+IsBrought First Second Today disk count (brought Current) back now = IsCurrent (EitherLayout First Second) Today disk count back now
+IsBrought First Second Today disk count (refused why) back now =
+    IsNotMigrated (EitherLayout First Second) Today disk count back now why × MigrateCause First Second Today disk count now why
+IsBrought First Second Today disk count _ back now = ⊥

@@ -4,8 +4,8 @@ ghost use Rattle.std.specs.Io.KnownBytes.{Appends};
 ghost use Rattle.game_file.specs.Calls.{IsAsked};
 ghost use Rattle.line_answers.specs.Answered.{status_of_reply};
 ghost use Rattle.printed_lines.specs.Verdicts.{IsVerdictLine};
-ghost use Rattle.session.specs.Commands.{Came, made, refused as refused_for, replied, audited as audited_as, IsDoneOnFile};
-ghost use Rattle.session.specs.Commands.{IsAudited, IsPrinted, IsLineOf, refusal_in, refusal_of, status_of_verdict};
+ghost use Rattle.session.specs.Commands.{Came, refused as refused_for, replied, audited as audited_as, IsDoneOnFile};
+ghost use Rattle.session.specs.Commands.{IsAudited, IsPrinted, IsLineOf, refusal_in, refusal_of, status_of_came, status_of_verdict};
 ghost use Rattle.solver.specs.Solvers.{state, IsReady};
 
 use audit::Verdict;
@@ -28,6 +28,8 @@ pub enum FileCommand {
     Load(Vec<u8>, Option<Goal>),
     /// Says whether the table is right.
     Audit,
+    /// Gives the table so many pages, more than it has.
+    Grow(u32),
 }
 
 /// What came of a command on a file.
@@ -39,8 +41,8 @@ pub struct Outcome {
     pub refused: Option<SolverFault>,
 }
 
-/// Does the command on the table of this disk, as a file of whichever layout, and writes one line: `created`, `loaded`, the verdict, or
-/// `refused` and a code. Gives what came of it, and the disk. Once the command is done, no memory is taken.
+/// Does the command on the table of this disk, as a file of whichever layout, and writes one line: `created`, `loaded`, the verdict,
+/// `grown`, or `refused` and a code. Gives what came of it, and the disk. Once the command is done, no memory is taken.
 pub fn command_on<F: GameFile, W: Write>(
     alloc: Global,
     disk: F::Device,
@@ -65,6 +67,13 @@ pub fn command_on<F: GameFile, W: Write>(
         },
         FileCommand::Audit => match FileSolver::<F>::open(alloc, disk) {
             Ok(mut solver) => (audited(&mut solver, out), solver.close()),
+            Err(refused) => (said_refused(out, refused.fault), refused.disk),
+        },
+        FileCommand::Grow(pages) => match FileSolver::<F>::open(alloc, disk) {
+            Ok(mut solver) => match solver.grow(pages) {
+                Ok(()) => (said(out, b"grown\n"), solver.close()),
+                Err(fault) => (said_refused(out, fault), solver.close()),
+            },
             Err(refused) => (said_refused(out, refused.fault), refused.disk),
         },
     }
@@ -123,7 +132,8 @@ fn said_verdict<W: Write>(out: &mut W, verdict: Verdict, counts: Counts) -> Outc
 /// Writes a line of a command that was done.
 fn said<W: Write>(out: &mut W, line: &[u8]) -> Outcome
     ensures refused { result.refused ≡ None }
-    ensures told { IsLineOf made line.now → IsPrinted (Appends (W.contents out.old) (W.contents out.new)) made result.status }
+    ensures told { (came : Came) → IsLineOf came line.now → status_of_came came ≡ 0
+        → IsPrinted (Appends (W.contents out.old) (W.contents out.new)) came result.status }
 {
     let status = match put_line(out, line) {
         Ok(()) => 0,

@@ -2,6 +2,7 @@
 
 use crate::commands::{FileCommand, Outcome, command_on};
 use crate::line_by_line::session_over;
+use crate::migrating::migrate_on;
 use crate::open::{Purpose, Unopened, new_file, opened, writable};
 use crate::program::{read_start, status_of_refused, tell, tell_game_fault};
 use file_disk::{FileDisk, FileRefused};
@@ -10,7 +11,7 @@ use page_store::MIN_PAGES;
 use printed_lines::refused::Refused;
 use rbg_game::goal::Goal;
 use rbg_read::read::read_game;
-use recover::TableFile;
+use recover::{FirstFile, SecondFile, TableFile};
 use root_pair::MAGIC;
 use solver::SolverFault;
 use std::alloc::{AllocError, Global};
@@ -29,6 +30,9 @@ const TO_MAKE: &str =
     "give a file that may be read and written, or a new one in a folder that is there and may be written";
 
 const TO_GROW: &str = "see that there is room for so many pages, or give fewer";
+
+const TO_COPY: &str =
+    "the table stays as it was; make the file longer, as `truncate -s +1M` does, and give the command again";
 
 const TO_KEEP: &str =
     "a new name is kept only in a folder that may be read: give a file in such a folder";
@@ -137,6 +141,47 @@ pub fn audit_file(rt: &HostRuntime, alloc: Global, name: &str) -> u8 {
     }
 }
 
+/// Brings the table of a file into the layout that this program writes.
+pub fn migrate_file(rt: &HostRuntime, alloc: Global, name: &str) -> u8 {
+    let file = match opened(rt, name, Purpose::Change) {
+        Ok(file) => file,
+        Err(why) => return refused_opening(rt, name, why, TO_CHANGE),
+    };
+    let disk = match disk_over(rt, alloc, name, file) {
+        Ok(disk) => disk,
+        Err((status, _)) => return status,
+    };
+    let Ok(mut out) = BufWriter::new(alloc, io::writer(rt)) else {
+        return status_of_refused(rt, Refused::OutOfMemory);
+    };
+    let (outcome, _disk) = migrate_on::<
+        FileDisk,
+        TableFile<FileDisk>,
+        SecondFile<FileDisk>,
+        FirstFile<FileDisk>,
+        _,
+    >(alloc, disk, &mut out);
+    match outcome.refused {
+        Some(SolverFault::TableFull) => {
+            tell(
+                rt,
+                format_args!("{name}: {}: {TO_COPY}", SolverFault::TableFull),
+            );
+        }
+        Some(fault) => tell_refusal(rt, name, fault),
+        None => {}
+    }
+    outcome.status
+}
+
+/// Gives the table of a file so many pages.
+pub fn grow_file(rt: &HostRuntime, alloc: Global, name: &str, pages: u32) -> u8 {
+    match opened(rt, name, Purpose::Change) {
+        Ok(file) => command_on_file(rt, alloc, name, file, FileCommand::Grow(pages)).status,
+        Err(why) => refused_opening(rt, name, why, TO_CHANGE),
+    }
+}
+
 /// A session over the table of a file, on standard input and output.
 pub fn session_of_file(rt: &HostRuntime, alloc: Global, name: &str) -> u8 {
     let file = match opened(rt, name, Purpose::Change) {
@@ -197,9 +242,16 @@ fn command_on_file(
         let status = status_of_refused(rt, Refused::OutOfMemory);
         return undone(status, SolverFault::OutOfMemory);
     };
+    let is_growth = matches!(&command, FileCommand::Grow(_));
     let (outcome, _disk) = command_on::<TableFile<FileDisk>, _>(alloc, disk, command, &mut out);
     match outcome.refused {
         None | Some(SolverFault::Game(_)) => {}
+        Some(SolverFault::TooSmall) if is_growth => tell(
+            rt,
+            format_args!(
+                "{name}: the table has as many pages or more: give `--pages` more than it has"
+            ),
+        ),
         Some(fault) => tell_refusal(rt, name, fault),
     }
     outcome

@@ -6,6 +6,7 @@ mod explain;
 mod files;
 pub mod line_by_line;
 mod mentions;
+pub mod migrating;
 mod open;
 mod program;
 mod streams;

@@ -1,17 +1,19 @@
 //! A session: commands as lines on an input, each with its reply.
 
 use crate::commands::said_refused;
-use game_file::GameFile;
+use game_file::Versions;
 use line_answers::advice::tell_fault;
 use line_answers::input::{Asked, Line};
+use line_answers::listings::put_listing;
 use line_answers::questions::put_answer;
-use solver::{FileSolver, SolverFault};
+use solver::{FileSolver, Listing, SolverFault};
 use std::alloc::Global;
 use std::io::{ErrorKind, Read, Write};
 
 /// Answers each line of the input, on the table of this disk, as a file of whichever layout, before the next line is read. Gives the exit status, which
-/// is 4 where the input or the output failed, and the disk. What a refusal means goes to `told`, whether or not it arrives.
-pub fn session_over<F: GameFile, R: Read, W: Write, E: Write>(
+/// is 4 where the input or the output failed, and the disk. What a refusal means goes to `told`, whether or not it arrives. However the
+/// session ends, the listings that are open are given back first.
+pub fn session_over<F: Versions, R: Read, W: Write, E: Write>(
     alloc: Global,
     disk: F::Device,
     input: &mut R,
@@ -20,11 +22,22 @@ pub fn session_over<F: GameFile, R: Read, W: Write, E: Write>(
 ) -> (u8, F::Device) {
     match FileSolver::<F>::open(alloc, disk) {
         Ok(mut solver) => {
-            let status = answer_all(alloc, &mut solver, input, out, told);
+            let mut listings = Vec::new(alloc);
+            let status = answer_all(alloc, &mut solver, &mut listings, input, out, told);
+            give_back(&mut solver, listings);
             (status, solver.close())
         }
         Err(refused) => (refuse(refused.fault, out, told), refused.disk),
     }
+}
+
+/// Ends all listings that are open.
+fn give_back<F: Versions>(solver: &mut FileSolver<F>, open: Vec<Listing<F::Version>>) {
+    let mut listings = open;
+    while let Some(listing) = listings.pop() {
+        solver.list_end(listing);
+    }
+    listings.destroy_empty();
 }
 
 /// Writes a refusal that ends the session, and gives its status, or 4 where the output fails.
@@ -35,9 +48,10 @@ fn refuse<W: Write, E: Write>(fault: SolverFault, out: &mut W, told: &mut E) -> 
 }
 
 /// Answers line by line up to `quit`, the end of the input, or a refusal that ends the session.
-fn answer_all<F: GameFile, R: Read, W: Write, E: Write>(
+fn answer_all<F: Versions, R: Read, W: Write, E: Write>(
     alloc: Global,
     solver: &mut FileSolver<F>,
+    listings: &mut Vec<Listing<F::Version>>,
     input: &mut R,
     out: &mut W,
     told: &mut E,
@@ -48,14 +62,15 @@ fn answer_all<F: GameFile, R: Read, W: Write, E: Write>(
     for _turn in 0..u64::MAX {
         let count = match input.read(&mut chunk) {
             Ok(0) => {
-                let ended = answer(alloc, solver, line.asked_last(), out, told);
+                let ended = answer(alloc, solver, listings, line.asked_last(), out, told);
                 return ended.unwrap_or(0);
             }
             Ok(count) => count,
             Err(error) if error.kind() == ErrorKind::Interrupted => continue,
             Err(_) => return 4,
         };
-        if let Some(status) = answer_chunk(alloc, solver, &mut line, &chunk[..count], out, told) {
+        let bytes = &chunk[..count];
+        if let Some(status) = answer_chunk(alloc, solver, listings, &mut line, bytes, out, told) {
             return status;
         }
     }
@@ -64,16 +79,17 @@ fn answer_all<F: GameFile, R: Read, W: Write, E: Write>(
 
 /// Answers the lines that end in these bytes, and keeps what stands behind the last of them. Gives the status where the
 /// session ends.
-fn answer_chunk<F: GameFile, W: Write, E: Write>(
+fn answer_chunk<F: Versions, W: Write, E: Write>(
     alloc: Global,
     solver: &mut FileSolver<F>,
+    listings: &mut Vec<Listing<F::Version>>,
     line: &mut Line,
     chunk: &[u8],
     out: &mut W,
     told: &mut E,
 ) -> Option<u8> {
     for byte in chunk {
-        let ended = answer_byte(alloc, solver, line, *byte, out, told);
+        let ended = answer_byte(alloc, solver, listings, line, *byte, out, told);
         if ended.is_some() {
             return ended;
         }
@@ -82,9 +98,10 @@ fn answer_chunk<F: GameFile, W: Write, E: Write>(
 }
 
 /// Puts a byte to the line, or answers the line that it ends.
-fn answer_byte<F: GameFile, W: Write, E: Write>(
+fn answer_byte<F: Versions, W: Write, E: Write>(
     alloc: Global,
     solver: &mut FileSolver<F>,
+    listings: &mut Vec<Listing<F::Version>>,
     line: &mut Line,
     byte: u8,
     out: &mut W,
@@ -96,23 +113,26 @@ fn answer_byte<F: GameFile, W: Write, E: Write>(
             Err(_) => Some(refuse(SolverFault::OutOfMemory, out, told)),
         };
     }
-    let ended = answer(alloc, solver, line.asked(), out, told);
+    let ended = answer(alloc, solver, listings, line.asked(), out, told);
     line.clear();
     ended
 }
 
 /// Writes the reply to a line. Gives the status where the session ends with it.
-fn answer<F: GameFile, W: Write, E: Write>(
+fn answer<F: Versions, W: Write, E: Write>(
     alloc: Global,
     solver: &mut FileSolver<F>,
+    listings: &mut Vec<Listing<F::Version>>,
     asked: Asked<'_>,
     out: &mut W,
     told: &mut E,
 ) -> Option<u8> {
-    if matches!(asked, Asked::Quit) {
-        return Some(0);
-    }
-    match put_answer(alloc, solver, asked, out, told) {
+    let replied = match asked {
+        Asked::Quit => return Some(0),
+        Asked::Listing(about) => put_listing(alloc, solver, listings, about, out, told),
+        asked => put_answer(alloc, solver, asked, out, told),
+    };
+    match replied {
         Ok(status) => (status > 1).then_some(status),
         Err(_) => Some(4),
     }

@@ -1,7 +1,7 @@
 //! What the command line says is done here: the words are read, and each command is handed on.
 
 use crate::explain::{Explanation, LineColumn, explain, line_column};
-use crate::files::{audit_file, create_file, load_file, session_of_file};
+use crate::files::{audit_file, create_file, grow_file, load_file, migrate_file, session_of_file};
 use crate::streams::Streams;
 use crate::words::{Refusal, Words, words_of};
 use printed_lines::moves::moves_to;
@@ -50,6 +50,8 @@ fn run_words(rt: &HostRuntime) -> u8 {
         Ok(Words::Load { file, game, goal }) => load_file(rt, alloc, &file, &game, goal),
         Ok(Words::Session { file }) => session_of_file(rt, alloc, &file),
         Ok(Words::Audit { file }) => audit_file(rt, alloc, &file),
+        Ok(Words::Migrate { file }) => migrate_file(rt, alloc, &file),
+        Ok(Words::Grow { file, pages }) => grow_file(rt, alloc, &file, pages),
         Err(refusal) => show(rt, &refusal),
     }
 }

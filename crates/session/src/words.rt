@@ -37,6 +37,15 @@ pub enum Words {
     Audit {
         file: String,
     },
+    /// Brings the table of this file into today's layout.
+    Migrate {
+        file: String,
+    },
+    /// So many pages for the table of this file, more than it has.
+    Grow {
+        file: String,
+        pages: u32,
+    },
 }
 
 /// Why there is nothing to do: help was asked for, or the words are no command.
@@ -89,7 +98,7 @@ const LOAD_LONG_ABOUT: &str = concat!(
     "Loads the game of a text into an empty table, and prints `loaded`.\n",
     "\n",
     "The table then knows the start of the game. `session` solves it. A table of an earlier layout is not opened: ",
-    "that is answered by `refused E5`, and it stays as it is.\n",
+    "that is answered by `refused E5`, and `migrate` brings it into today's.\n",
     "\n",
     "Without a goal the player has won who has more points at the end of play. With `--goal K` it is the one who has ",
     "K points or more while the other has fewer than K: if both have so many, or neither, nobody has won. The table ",
@@ -106,7 +115,7 @@ const SESSION_LONG_ABOUT: &str = concat!(
     "at one position: finds where its moves lead, or, once that is done for all, tells its predecessors who wins ",
     "it. A table is finished when nothing is left to do. A table that may be read and not written can be asked.\n",
     "\n",
-    "A table of an earlier layout is not opened: that is answered by `refused E5`, and it stays as it is.",
+    "A table of an earlier layout is not opened: that is answered by `refused E5`, and `migrate` brings it into today's.",
 );
 
 const AUDIT_ABOUT: &str = "Says whether a table is right, whoever made it";
@@ -119,6 +128,27 @@ const AUDIT_LONG_ABOUT: &str = concat!(
     "settled position in exactly the named number of moves, and of a finished table the positions are all that ",
     "play can reach and the unsettled ones are drawn. Or it prints `audit wrong N REASON` with the lowest number ",
     "that fails and its lowest condition, and ends with status 1.",
+);
+
+const MIGRATE_ABOUT: &str = "Brings a table of an earlier layout into today's";
+
+const MIGRATE_LONG_ABOUT: &str = concat!(
+    "Brings a table of an earlier layout into today's, and prints `migrated`; or `current` where it has today's already.\n",
+    "\n",
+    "The game, the numbers of the positions and all that is known of them stay, and so does the number of pages. What ",
+    "stops it loses nothing: the file has the table in the one layout or in the other, so give the command again. A ",
+    "table of layout 1 is copied within the file. If there is no room for that, it is answered by `refused E7`, and the ",
+    "table stays as it was.",
+);
+
+const GROW_ABOUT: &str = "Gives a table more pages";
+
+const GROW_LONG_ABOUT: &str = concat!(
+    "Gives a table more pages, by which it keeps all that is in it, and prints `grown`.\n",
+    "\n",
+    "A table in which no page is free answers `refused E7` to work. N is how many pages it has then, more than it has ",
+    "now: else that is answered by `refused E6`. The file gets longer where it is too short. If the power fails meanwhile, the ",
+    "table has as many pages as before or N, and nothing in it is lost.",
 );
 
 const MOVES_ABOUT: &str = "Prints the legal moves of a game's start";
@@ -160,7 +190,7 @@ fn parsed<'a>(alloc: Global, words: &'a [String]) -> Result<Words, Error> {
 /// Whether what stands behind `--pages` is anything but one to ten digits.
 fn has_signed_pages(matches: &ArgMatches<'_>) -> bool {
     match matches.subcommand() {
-        Some(("create", inner)) => !is_number(inner.get_str("pages").unwrap_or("")),
+        Some(("create" | "grow", inner)) => !is_number(inner.get_str("pages").unwrap_or("")),
         _ => false,
     }
 }
@@ -204,6 +234,13 @@ fn asked_for(alloc: Global, name: &str, inner: &ArgMatches<'_>) -> Result<Words,
         "audit" => Ok(Words::Audit {
             file: given(alloc, inner, "FILE")?,
         }),
+        "migrate" => Ok(Words::Migrate {
+            file: given(alloc, inner, "FILE")?,
+        }),
+        "grow" => Ok(Words::Grow {
+            file: given(alloc, inner, "FILE")?,
+            pages: inner.get_one("pages").unwrap_or(0),
+        }),
         _ => Ok(Words::Moves {
             game: given(alloc, inner, "GAME")?,
         }),
@@ -228,6 +265,8 @@ fn command<'a>(alloc: Global) -> Result<Command<'a>, AllocError> {
     let command = with(command, load_command(alloc))?;
     let command = with(command, session_command(alloc))?;
     let command = with(command, audit_command(alloc))?;
+    let command = with(command, migrate_command(alloc))?;
+    let command = with(command, grow_command(alloc))?;
     with(command, moves_command(alloc))
 }
 
@@ -323,6 +362,16 @@ fn session_command<'a>(alloc: Global) -> Result<Command<'a>, AllocError> {
 
 fn audit_command<'a>(alloc: Global) -> Result<Command<'a>, AllocError> {
     named(alloc, "audit", AUDIT_ABOUT, AUDIT_LONG_ABOUT).arg(file_word(alloc))
+}
+
+fn migrate_command<'a>(alloc: Global) -> Result<Command<'a>, AllocError> {
+    named(alloc, "migrate", MIGRATE_ABOUT, MIGRATE_LONG_ABOUT).arg(file_word(alloc))
+}
+
+fn grow_command<'a>(alloc: Global) -> Result<Command<'a>, AllocError> {
+    named(alloc, "grow", GROW_ABOUT, GROW_LONG_ABOUT)
+        .arg(file_word(alloc))?
+        .arg(pages_word(alloc))
 }
 
 fn moves_command<'a>(alloc: Global) -> Result<Command<'a>, AllocError> {

@@ -15,17 +15,17 @@ use test_aids::{TAKE, expect};
 const SECTORS: u64 = 8 * 24;
 
 /// What is printed, with the exit status.
-type Said = (u8, Vec<u8>);
+pub type Said = (u8, Vec<u8>);
 
 /// What the command prints that is done on this disk; it gives the disk back.
-fn command_says(alloc: Global, disk: MemDisk, command: FileCommand) -> (Said, MemDisk) {
+pub fn command_says(alloc: Global, disk: MemDisk, command: FileCommand) -> (Said, MemDisk) {
     let mut out = Vec::new(alloc);
     let (outcome, disk) = command_on::<TableFile<MemDisk>, _>(alloc, disk, command, &mut out);
     ((outcome.status, out), disk)
 }
 
 /// What a session over this disk answers to these lines; it gives the disk back.
-fn session_says(alloc: Global, disk: MemDisk, lines: &str) -> (Said, MemDisk) {
+pub fn session_says(alloc: Global, disk: MemDisk, lines: &str) -> (Said, MemDisk) {
     let mut out = Vec::new(alloc);
     let mut told = Vec::new(alloc);
     let mut input = lines.as_bytes();
@@ -36,7 +36,7 @@ fn session_says(alloc: Global, disk: MemDisk, lines: &str) -> (Said, MemDisk) {
 }
 
 /// A failure if something else is printed than these lines, or the status is another.
-fn expect_said(said: &Said, status: u8, lines: &str, row: u32) -> Result<(), Fail> {
+pub fn expect_said(said: &Said, status: u8, lines: &str, row: u32) -> Result<(), Fail> {
     let (found, out) = said;
     expect(*found, status, row)?;
     expect(out.as_slice() == lines.as_bytes(), true, row)
@@ -70,6 +70,96 @@ fn a_table_is_made_loaded_solved_and_audited(rt: HostRuntime) -> Result<(), Fail
     expect_said(&solved, 0, replies, 6)?;
     let (right, _disk) = command_says(alloc, disk, FileCommand::Audit);
     expect_said(&right, 0, "audit right finished\n", 7)
+}
+
+/// What a session answers to these lines over a new table of the game of takes.
+fn take_says(alloc: Global, lines: &str) -> Result<Said, Fail> {
+    let disk = MemDisk::new(alloc, SECTORS)?;
+    let (made, disk) = command_says(alloc, disk, FileCommand::Create);
+    expect_said(&made, 0, "created\n", 0)?;
+    let (loaded, disk) = command_says(alloc, disk, take(alloc)?);
+    expect_said(&loaded, 0, "loaded\n", 1)?;
+    let (said, _disk) = session_says(alloc, disk, lines);
+    Ok(said)
+}
+
+#[test]
+fn a_listing_gives_the_rows_of_its_beginning(rt: HostRuntime) -> Result<(), Fail> {
+    let alloc = rt.alloc();
+    let lines = "work 7\nbegin\nnext 3\nwork 256\nnext 256\nnext 1\nvalue 0\nend\nend\n";
+    let said = take_says(alloc, lines)?;
+    let replies = concat!(
+        "units 7 known 7 expanded 7 settled 2 processed 0 open\nlisting\n0 open\n1 open\n2 open\n",
+        "units 7 known 7 expanded 7 settled 7 processed 7 finished\n",
+        "3 open\n4 black in 0\n5 open\n6 white in 0\ndone\nblack in 3\nended\nusage\n",
+    );
+    expect_said(&said, 0, replies, 2)
+}
+
+#[test]
+fn the_last_of_four_listings_is_asked(rt: HostRuntime) -> Result<(), Fail> {
+    let alloc = rt.alloc();
+    let lines =
+        "begin\nbegin\nbegin\nbegin\nbegin\nnext 0\nnext 257\nnext 1\nnext 1\nend\nnext 1\nend\n";
+    let said = take_says(alloc, lines)?;
+    let replies = concat!(
+        "listing\nlisting\nlisting\nlisting\nrefused S9\nusage\nusage\n",
+        "0 open\ndone\nended\n0 open\nended\n",
+    );
+    expect_said(&said, 0, replies, 2)?;
+    let again = take_says(alloc, "next 1\nend\nbegin\nend\nbegin\nquit\n")?;
+    expect_said(&again, 0, "usage\nusage\nlisting\nended\nlisting\n", 3)
+}
+
+#[test]
+fn no_listing_is_begun_where_no_game_is_loaded(rt: HostRuntime) -> Result<(), Fail> {
+    let alloc = rt.alloc();
+    let disk = MemDisk::new(alloc, SECTORS)?;
+    let (made, disk) = command_says(alloc, disk, FileCommand::Create);
+    expect_said(&made, 0, "created\n", 0)?;
+    let (said, _disk) = session_says(alloc, disk, "begin\nnext 1\n");
+    expect_said(&said, 0, "refused S1\nusage\n", 1)
+}
+
+/// The game of takes with spaces behind its text, so that the text takes nine pages of 4,092 bytes.
+fn long_take(alloc: Global) -> Result<FileCommand, Fail> {
+    let mut text = Vec::new(alloc);
+    text.extend_from_slice(TAKE.as_bytes())?;
+    for _ in 0..35_000 {
+        text.push(b' ')?;
+    }
+    Ok(FileCommand::Load(text, None))
+}
+
+/// What a session answers to these lines over a new table of 16 pages with that game.
+fn long_take_says(alloc: Global, lines: &str) -> Result<Said, Fail> {
+    let disk = MemDisk::new(alloc, 8 * 16)?;
+    let (made, disk) = command_says(alloc, disk, FileCommand::Create);
+    expect_said(&made, 0, "created\n", 0)?;
+    let (loaded, disk) = command_says(alloc, disk, long_take(alloc)?);
+    expect_said(&loaded, 0, "loaded\n", 1)?;
+    let (said, _disk) = session_says(alloc, disk, lines);
+    Ok(said)
+}
+
+/// The system page, nine pages of text, and the leaves of the positions and of the records are taken as the game is loaded. The first
+/// seven units need four pages more, the leaves of the four trees, and then none is free while the listing keeps the first two leaves.
+#[test]
+fn a_listing_keeps_its_pages_until_it_is_ended(rt: HostRuntime) -> Result<(), Fail> {
+    let alloc = rt.alloc();
+    let half = "units 7 known 7 expanded 7 settled 2 processed 0 open\n";
+    let done = "units 7 known 7 expanded 7 settled 7 processed 7 finished\n";
+    let none = long_take_says(alloc, "work 7\nwork 7\n")?;
+    let mut replies = String::from_str(alloc, half)?;
+    replies.push_str(done)?;
+    expect_said(&none, 0, replies.as_str(), 2)?;
+    let lines = "begin\nwork 7\nwork 7\nnext 256\nnext 256\nend\nwork 7\n";
+    let one = long_take_says(alloc, lines)?;
+    let mut replies = String::from_str(alloc, "listing\n")?;
+    replies.push_str(half)?;
+    replies.push_str("refused E7\n0 open\ndone\nended\n")?;
+    replies.push_str(done)?;
+    expect_said(&one, 0, replies.as_str(), 3)
 }
 
 /// White takes one point or two, and then black has no move.
@@ -115,7 +205,7 @@ fn the_moves_of_a_start_are_printed(rt: HostRuntime) -> Result<(), Fail> {
 }
 
 /// These words, the first of which is the program's name.
-fn spelled(alloc: Global, words: &[&str]) -> Result<Vec<String>, Fail> {
+pub fn spelled(alloc: Global, words: &[&str]) -> Result<Vec<String>, Fail> {
     let mut spelled = Vec::new(alloc);
     for word in words {
         spelled.push(String::from_str(alloc, word)?)?;

@@ -9,9 +9,9 @@ use Rattle.game_file.specs.State.{State}
 use Rattle.game_file.specs.Stops.{LeavesNow}
 use Rattle.solver.specs.declared.fault.SolverFault.{SolverFault}
 use Rattle.solver.specs.declared.fault.SolverFault.TheVariants.{Disk as DiskFailed, NotATable, AlreadyATable, Damaged, OldLayout, TooSmall, TableFull, OutOfMemory, Closed, Game as BadGame, NoGame, GameAlready, KeeperChooses, TooWide, TooManyPositions, Inconsistent, NoSuchPosition, NotSettled, ListingsUsedUp, BadPosition}
-use Rattle.solver.specs.Headline.{IsUnlucky, Reopens, Headline}
+use Rattle.solver.specs.Headline.{IsUnlucky, Reopens, Headline, HeadlineFrom}
 use Rattle.solver.specs.Held.{Holds, IsSound}
-use Rattle.solver.specs.Histories.{Sitting, LeadTo, History, was_made, was_reopened, was_not_opened}
+use Rattle.solver.specs.Histories.{Sitting, LeadTo, History, HistoryFrom, was_made, was_left, was_found, was_reopened, was_not_opened}
 use Rattle.solver.specs.aid.Laws.{a_sound_table_is_held}
 use Rattle.solver.specs.Opening.{IsOpened, OpenCause}
 use Rattle.solver.proofs.Prefixes.{what_sittings_lead_to_is_sound, sitting_leads, a_sound_table_is_exact}
@@ -24,27 +24,31 @@ lead_more (s ∷ sittings) sitting old mid new (begins, (last, all, (left, may, 
 
 module _ (Stores : ℕ → Layout) where
   -- a table that the sittings lead to, stored
-  abbrev IsLeft : List Sitting → Picture → Type 0
-  IsLeft sittings picture = (kept : Option Kept) × LeadTo sittings None kept × in_any Stores picture kept
+  abbrev IsLeft : Option Kept → List Sitting → Picture → Type 0
+  IsLeft begins sittings picture = (kept : Option Kept) × LeadTo sittings begins kept × in_any Stores picture kept
 
-  sound_here : (sittings : List Sitting) (kept : Option Kept) → LeadTo sittings None kept → IsSound kept
-  sound_here sittings kept leads = what_sittings_lead_to_is_sound sittings None kept leads tt
-
-  history_leads : {sittings : List Sitting} {left : Shown} → History Stores sittings left → (picture : Picture) → MayLeave left picture → IsLeft sittings picture
-  history_leads (was_made {disk} {count} {was} {sitting} {left} honest created sits) picture may =
+  history_leads : {begins : Option Kept} {sittings : List Sitting} {left : Shown} → IsSound begins → HistoryFrom Stores begins sittings left
+      → (picture : Picture) → MayLeave left picture → IsLeft begins sittings picture
+  history_leads sound (was_made {disk} {count} {was} {sitting} {left} honest created sits) picture may =
       let none : was.kept ≡ None = created.empty honest in
       let (kept, leads, stores) =
       sitting_leads Stores was sitting left sits (still_honest created.from.goes_on honest) (subst (λ (k : Option Kept). IsSound k) (sym none) tt)
       (subst (λ (k : Option Kept). LeavesNow (Stores was.capacity) was.disk k) (sym none) (created.now honest)) picture may in
-      (kept, subst (λ (k : Option Kept). LeadTo (sitting ∷ []) k kept) none leads, (was.capacity, stores))
-  history_leads (was_reopened {sittings} {before} {left} {disk} {count} {was} {sitting} history found opened sits) picture may =
-      let (old, led, stored) = history_leads history disk.now.contents (found.as_left disk.now.contents (reads_left disk)) in
-      let sound = sound_here sittings old led in
-      let same : was.kept ≡ old = opened.only found.honest old (a_sound_table_is_held (in_any Stores) disk.now.contents old stored sound) in
+      (kept, subst (λ (k : Option Kept). LeadTo (sitting ∷ []) k kept) none leads, stores)
+  history_leads {begins} sound (was_left stored) picture may = (begins, refl, stored picture may)
+  history_leads sound (was_found {disk} {count} {was} {sitting} {left} honest opened sits) picture may =
       let (kept, leads, stores) =
-      sitting_leads Stores was sitting left sits (still_honest opened.from.goes_on found.honest) (subst (λ (k : Option Kept). IsSound k) (sym same) sound) (opened.now found.honest) picture may in
-      (kept, lead_more sittings sitting None old kept led (subst (λ (k : Option Kept). LeadTo (sitting ∷ []) k kept) same leads), (was.capacity, stores))
-  history_leads (was_not_opened history found leaves moment from to) picture may = history_leads history picture (found.as_left picture (leaves.each moment picture from to may))
+      sitting_leads Stores was sitting left sits (still_honest opened.from.goes_on honest) sound (opened.now honest) picture may in
+      (kept, leads, stores)
+  history_leads sound (was_reopened {begins} {sittings} {before} {left} {disk} {count} {was} {sitting} history found opened sits) picture may =
+      let (old, led, stored) = history_leads sound history disk.now.contents (found.as_left disk.now.contents (reads_left disk)) in
+      let now_sound = what_sittings_lead_to_is_sound sittings begins old led sound in
+      let same : was.kept ≡ old = opened.only found.honest old (a_sound_table_is_held (in_any Stores) disk.now.contents old stored now_sound) in
+      let (kept, leads, stores) =
+      sitting_leads Stores was sitting left sits (still_honest opened.from.goes_on found.honest) (subst (λ (k : Option Kept). IsSound k) (sym same) now_sound) (opened.now found.honest) picture may in
+      (kept, lead_more sittings sitting begins old kept led (subst (λ (k : Option Kept). LeadTo (sitting ∷ []) k kept) same leads), stores)
+  history_leads sound (was_not_opened history found leaves moment from to) picture may =
+      history_leads sound history picture (found.as_left picture (leaves.each moment picture from to may))
 
   -- a disk that holds a table is opened with it
   pub opened_so : (disk : Disk) (count : ℕ) (state : State) (kept : Option Kept) → IsTrue disk.honest → Holds (in_any Stores) disk.now.contents kept → IsOpened Stores disk count state
@@ -88,9 +92,14 @@ module _ (Stores : ℕ → Layout) where
           opens_or_fails disk before now kept fault honest (subst (λ (p : Picture). Holds (in_any Stores) p kept) (sym reads) holds) cause;
     }
 
-    -- the headline
+    -- the headline, of each table that is locally sound as it begins
+    pub the_headline_from : (begins : Option Kept) (sittings : List Sitting) (left : Shown) (picture : Picture) → IsSound begins
+        → HistoryFrom Stores begins sittings left → MayLeave left picture → HeadlineFrom Stores begins sittings picture
+    the_headline_from begins sittings left picture sound history may =
+        let (kept, leads, stores) = history_leads sound history picture may in
+        let now_sound = what_sittings_lead_to_is_sound sittings begins kept leads sound in
+        (kept, leads, reopens picture kept (a_sound_table_is_held (in_any Stores) picture kept stores now_sound), a_sound_table_is_exact kept now_sound)
+
+    -- of a table that was made
     pub the_headline : (sittings : List Sitting) (left : Shown) (picture : Picture) → History Stores sittings left → MayLeave left picture → Headline Stores sittings picture
-    the_headline sittings left picture history may =
-        let (kept, leads, stores) = history_leads history picture may in
-        let sound = sound_here sittings kept leads in
-        (kept, leads, reopens picture kept (a_sound_table_is_held (in_any Stores) picture kept stores sound), a_sound_table_is_exact kept sound)
+    the_headline sittings left picture history may = the_headline_from None sittings left picture tt history may

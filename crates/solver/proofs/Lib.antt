@@ -9,3 +9,5 @@ pub mod Prefixes
 pub mod Chains
 pub mod Making
 pub mod Starts
+pub mod Giving
+pub mod Listed

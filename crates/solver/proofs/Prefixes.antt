@@ -10,7 +10,7 @@ use Rattle.position_pack.specs.declared.kind.PackingKind.TheVariants.{Bits}
 use Rattle.legal_moves.specs.Sources.{IsWideAt, graph_of}
 use Rattle.retrograde.specs.Sound.{IsLocallySound}
 use Rattle.game_table.specs.aid.Laws.{a_first_table_is_sound}
-use Rattle.game_file.specs.Kept.{Kept, Layout}
+use Rattle.game_file.specs.Kept.{Kept, Layout, in_any}
 use Rattle.game_file.specs.State.{State}
 use Rattle.game_file.specs.Stops.{LeavesNow}
 use Rattle.solver.specs.declared.replies.Command.{Command as Asked}
@@ -19,8 +19,9 @@ use Rattle.solver.specs.declared.replies.Reply.{Reply}
 use Rattle.solver.specs.declared.replies.Reply.TheVariants.{Loaded, Worked, Refused}
 use Rattle.solver.specs.Held.{Holds, IsSound}
 use Rattle.solver.specs.Headline.{IsExact, IsAnsweredBy, LeavesAPrefix}
-use Rattle.solver.specs.Histories.{Sitting, DoAll, DoesInDoubt, LeadTo, IsUsed, no_call, a_question, a_command, Ends, by_closing, in_a_question, in_a_command, by_a_fault, IsSitting}
+use Rattle.solver.specs.Histories.{Sitting, DoAll, DoesInDoubt, LeadTo, IsUsed, no_call, a_question, a_command, a_growth, Ends, by_closing, in_a_question, in_a_growth, in_a_command, by_a_fault, IsSitting}
 use Rattle.solver.specs.aid.Laws.{a_sound_table_is_held, what_is_settled_is_won, finished_is_all, finished_leaves_the_drawn}
+use Rattle.solver.specs.Growing.{IsGrowth}
 use Rattle.solver.specs.Machine.{Command, load, work, Does, MayDo}
 use Rattle.solver.specs.Runs.{command_of, IsTurn, IsTurnWithCause, Turns, IsRun}
 
@@ -78,16 +79,15 @@ module _ (Stores : ℕ → Layout) where
   turn_open false command reply was is turn open_ its_state = its_state
   turn_open true command reply was is turn open_ its_state = sym (ap (λ (s : State). s.closed) (turn.shut its_state).1) ∙ open_
 
+  growth_open : (b : Bool) (pages : ℕ) (was is : State) → IsGrowth Stores pages was is → is.closed ≡ false → was.closed ≡ b → was.closed ≡ false
+  growth_open false pages was is growth open_ its_state = its_state
+  growth_open true pages was is growth open_ its_state = sym (ap (λ (s : State). s.closed) (growth.shut its_state)) ∙ open_
+
   used_open : {answered : List (Command × Reply)} {was is : State} → IsUsed Stores answered was is → is.closed ≡ false → was.closed ≡ false
   used_open no_call open_ = open_
   used_open (a_question asked rest) open_ = sym asked.closed ∙ used_open rest open_
   used_open (a_command {asked} {reply} {answered} {was} {mid} {is} turn rest) open_ = turn_open was.closed asked reply was mid turn (used_open rest open_) refl
-
-  -- no call changes how many pages there are
-  used_capacity : {answered : List (Command × Reply)} {was is : State} → IsUsed Stores answered was is → is.capacity ≡ was.capacity
-  used_capacity no_call = refl
-  used_capacity (a_question asked rest) = used_capacity rest ∙ asked.ahead.capacity
-  used_capacity (a_command turn rest) = used_capacity rest ∙ turn.ahead.capacity
+  used_open (a_growth {answered} {pages} {was} {mid} {is} growth rest) open_ = growth_open was.closed pages was mid growth (used_open rest open_) refl
 
   -- a solver on an honest disk that is open, and a stop now leaves the sound table that is kept
   record IsFit (state : State) : Type 0 where
@@ -120,49 +120,108 @@ module _ (Stores : ℕ → Layout) where
       } in
       let (all, fit_then) = used_does rest open_ it in
       ((mid.kept, does, all), fit_then)
+  used_does (a_growth {answered} {pages} {was} {mid} {is} growth rest) open_ fit =
+      let mid_open = used_open rest open_ in
+      let same = growth.kept fit.honest in
+      let it : IsFit mid = record {
+        honest = still_honest growth.ahead.goes_on fit.honest;
+        sound = subst (λ (k : Option Kept). IsSound k) (sym same) fit.sound;
+        leaves = growth.at fit.honest mid_open;
+      } in
+      let (all, fit_then) = used_does rest open_ it in
+      (subst (λ (k : Option Kept). DoAll answered k is.kept) same all, fit_then)
 
-  -- what is left of a table in a sitting: it is stored, and the sitting leads to it
-  record IsLeft (in_doubt : Option Command) (last : State) (picture : Picture) (kept : Option Kept) : Type 0 where
+  -- the sitting ends in a growth
+  abbrev IsInAGrowth : {last : State} {in_doubt : Option Command} {left : Shown} → Ends Stores last in_doubt left → Type 0
+  IsInAGrowth by_closing = ⊥
+  IsInAGrowth (in_a_question asked moment from to) = ⊥
+  IsInAGrowth (in_a_growth growth moment from to) = Unit {0}
+  IsInAGrowth (in_a_command turn moment from to) = ⊥
+  IsInAGrowth (by_a_fault turn shut moment from to) = ⊥
+
+  -- what is left of a table in a sitting: it is stored in so many pages, and the sitting leads to it
+  record IsLeft (in_doubt : Option Command) (last : State) (pages : ℕ) (picture : Picture) (kept : Option Kept) : Type 0 where
     may : DoesInDoubt in_doubt last.kept kept
-    stores : Stores last.capacity picture kept
+    stores : Stores pages picture kept
 
   either : (command : Command) (last : State) (next : Option Kept) (picture : Picture) → MayDo command last.kept next → Stores last.capacity picture last.kept ⊎ Stores last.capacity picture next
-      → (kept : Option Kept) × IsLeft (Some command) last picture kept
+      → (kept : Option Kept) × IsLeft (Some command) last last.capacity picture kept
   either command last next picture does (inl stores) = (last.kept, record { may = (Refused DiskFailed, refl); stores = stores })
   either command last next picture does (inr stores) = (next, record { may = does; stores = stores })
 
   in_command : (b : Bool) (command : Command) (reply : Reply) (last is : State) → IsTurn Stores command reply last is → last.closed ≡ false → is.closed ≡ b → IsFit last
-      → (moment : ℕ) (picture : Picture) → last.disk.clock ≤ moment → moment ≤ is.disk.clock → MayLeave (is.disk.was moment) picture → (kept : Option Kept) × IsLeft (Some command) last picture kept
+      → (moment : ℕ) (picture : Picture) → last.disk.clock ≤ moment → moment ≤ is.disk.clock → MayLeave (is.disk.was moment) picture → (kept : Option Kept) × IsLeft (Some command) last last.capacity picture kept
   in_command false command reply last is turn open_ its_state fit moment picture from to left =
       either command last is.kept picture (reply, turn.does fit.honest) ((turn.between fit.honest open_ its_state).each moment picture from to left)
   in_command true command reply last is turn open_ its_state fit moment picture from to left =
       let (next, does, leaves) = (turn.failed open_ its_state).leaves fit.honest in
       either command last next picture does (leaves.each moment picture from to left)
 
-  ends_left : {last : State} {in_doubt : Option Command} {left : Shown} → Ends Stores last in_doubt left → last.closed ≡ false → IsFit last
-      → (picture : Picture) → MayLeave left picture → (kept : Option Kept) × IsLeft in_doubt last picture kept
-  ends_left {last} by_closing open_ fit picture left = (last.kept, record { may = refl; stores = fit.leaves picture left })
-  ends_left {last} (in_a_question asked moment from to) open_ fit picture left =
-      (last.kept, record { may = refl; stores = (asked.since fit.honest open_).each moment picture from to left })
+  -- it is left in as many pages as the last state has, but in a growth
+  record IsLeftBehind {last : State} {in_doubt : Option Command} {left : Shown} (ends : Ends Stores last in_doubt left) (picture : Picture) : Type 0 where
+    kept : Option Kept
+    pages : ℕ
+    is : IsLeft in_doubt last pages picture kept
+    as_many : (IsInAGrowth ends → ⊥) → pages ≡ last.capacity
+
+  ends_left : {last : State} {in_doubt : Option Command} {left : Shown} (ends : Ends Stores last in_doubt left) → last.closed ≡ false → IsFit last
+      → (picture : Picture) → MayLeave left picture → IsLeftBehind ends picture
+  ends_left {last} by_closing open_ fit picture left =
+      record { kept = last.kept; pages = last.capacity; is = record { may = refl; stores = fit.leaves picture left }; as_many = λ not. refl }
+  ends_left {last} (in_a_question asked moment from to) open_ fit picture left = record {
+    kept = last.kept;
+    pages = last.capacity;
+    is = record { may = refl; stores = (asked.since fit.honest open_).each moment picture from to left };
+    as_many = λ not. refl;
+  }
+  ends_left {last} (in_a_growth {pages} {is} growth moment from to) open_ fit picture left =
+      elim ((growth.between fit.honest open_).each moment picture from to left) [
+        | inl before ↦ record { kept = last.kept; pages = last.capacity; is = record { may = refl; stores = before }; as_many = λ not. refl }
+        | inr after ↦ record { kept = last.kept; pages = pages; is = record { may = refl; stores = after }; as_many = λ not. absurd (not tt) }
+      ]
   ends_left {last} (in_a_command {asked} {reply} {is} turn moment from to) open_ fit picture left =
-      in_command is.closed asked reply last is turn open_ refl fit moment picture from to left
-  ends_left {last} (by_a_fault {asked} {reply} {is} turn shut moment from to) open_ fit picture left = in_command true asked reply last is turn open_ shut fit moment picture from to left
+      let (kept, it) = in_command is.closed asked reply last is turn open_ refl fit moment picture from to left in
+      record { kept = kept; pages = last.capacity; is = it; as_many = λ not. refl }
+  ends_left {last} (by_a_fault {asked} {reply} {is} turn shut moment from to) open_ fit picture left =
+      let (kept, it) = in_command true asked reply last is turn open_ shut fit moment picture from to left in
+      record { kept = kept; pages = last.capacity; is = it; as_many = λ not. refl }
 
-  -- what is left of a sitting is a table that it leads to
-  pub sitting_leads : (was : State) (sitting : Sitting) (left : Shown) → IsSitting Stores was sitting left → IsTrue was.disk.honest → IsSound was.kept → LeavesNow (Stores was.capacity) was.disk was.kept
-      → (picture : Picture) → MayLeave left picture → (kept : Option Kept) × LeadTo (sitting ∷ []) was.kept kept × Stores was.capacity picture kept
-  sitting_leads was sitting left it honest sound leaves picture may =
+  -- what is left of a sitting is a table that it leads to, in some number of pages
+  record IsLedTo (was : State) (sitting : Sitting) (left : Shown) (it : IsSitting Stores was sitting left) (picture : Picture) : Type 0 where
+    kept : Option Kept
+    pages : ℕ
+    leads : LeadTo (sitting ∷ []) was.kept kept
+    stores : Stores pages picture kept
+    as_many : (IsInAGrowth it.ends → ⊥) → pages ≡ it.last.capacity
+
+  led_to : (was : State) (sitting : Sitting) (left : Shown) (it : IsSitting Stores was sitting left) → IsTrue was.disk.honest → IsSound was.kept → LeavesNow (Stores was.capacity) was.disk was.kept
+      → (picture : Picture) → MayLeave left picture → IsLedTo was sitting left it picture
+  led_to was sitting left it honest sound leaves picture may =
       let (all, fit) = used_does it.used it.is_open (record { honest = honest; sound = sound; leaves = leaves }) in
-      let (kept, is) = ends_left it.ends it.is_open fit picture may in
-      (kept, (it.begins, (it.last.kept, all, (kept, is.may, refl))), subst (λ (pages : ℕ). Stores pages picture kept) (used_capacity it.used) is.stores)
+      let behind = ends_left it.ends it.is_open fit picture may in
+      record {
+        kept = behind.kept;
+        pages = behind.pages;
+        leads = (it.begins, (it.last.kept, all, (behind.kept, behind.is.may, refl)));
+        stores = behind.is.stores;
+        as_many = behind.as_many;
+      }
 
-  -- what is left of it holds the table, and what that says is so
-  sitting_holds : (was : State) (sitting : Sitting) (left : Shown) → IsSitting Stores was sitting left → IsTrue was.disk.honest → IsSound was.kept → LeavesNow (Stores was.capacity) was.disk was.kept
+  pub sitting_leads : (was : State) (sitting : Sitting) (left : Shown) → IsSitting Stores was sitting left → IsTrue was.disk.honest → IsSound was.kept → LeavesNow (Stores was.capacity) was.disk was.kept
+      → (picture : Picture) → MayLeave left picture → (kept : Option Kept) × LeadTo (sitting ∷ []) was.kept kept × in_any Stores picture kept
+  sitting_leads was sitting left it honest sound leaves picture may =
+      let led = led_to was sitting left it honest sound leaves picture may in
+      (led.kept, led.leads, (led.pages, led.stores))
+
+  -- what is left of one in which nothing grows holds the table in as many pages, and what that says is so
+  sitting_holds : (was : State) (sitting : Sitting) (left : Shown) (it : IsSitting Stores was sitting left) → it.last.capacity ≡ was.capacity → (IsInAGrowth it.ends → ⊥)
+      → IsTrue was.disk.honest → IsSound was.kept → LeavesNow (Stores was.capacity) was.disk was.kept
       → (picture : Picture) → MayLeave left picture → (kept : Option Kept) × LeadTo (sitting ∷ []) was.kept kept × Holds (Stores was.capacity) picture kept × IsExact kept
-  sitting_holds was sitting left it honest sound leaves picture may =
-      let (kept, leads, stores) = sitting_leads was sitting left it honest sound leaves picture may in
-      let sound_now = what_sittings_lead_to_is_sound (sitting ∷ []) was.kept kept leads sound in
-      (kept, leads, a_sound_table_is_held (Stores was.capacity) picture kept stores sound_now, a_sound_table_is_exact kept sound_now)
+  sitting_holds was sitting left it steady apart honest sound leaves picture may =
+      let led = led_to was sitting left it honest sound leaves picture may in
+      let sound_now = what_sittings_lead_to_is_sound (sitting ∷ []) was.kept led.kept led.leads sound in
+      let stores = subst (λ (pages : ℕ). Stores pages picture led.kept) (led.as_many apart ∙ steady) led.stores in
+      (led.kept, led.leads, a_sound_table_is_held (Stores was.capacity) picture led.kept stores sound_now, a_sound_table_is_exact led.kept sound_now)
 
   -- the states of a run are those of one disk
   turns_go_on : (commands : List Command) (replies : List Reply) (was is : State) → Turns Stores commands replies was is → GoesOn was.disk is.disk
@@ -185,14 +244,18 @@ module _ (Stores : ℕ → Layout) where
     sitting : Sitting
     part : IsAnsweredBy Stores moment sitting.answered sitting.in_doubt commands replies was is
     sits : IsSitting Stores was sitting left
+    steady : sits.last.capacity ≡ was.capacity
+    apart : IsInAGrowth sits.ends → ⊥
 
   cut_before : (moment : ℕ) (command : Command) (commands : List Command) (reply : Reply) (replies : List Reply) (was mid is : State) (left : Shown) → was.closed ≡ false
-      → IsTurnWithCause Stores command reply was mid → (moment < mid.disk.clock) ⊎ (mid.closed ≡ true) → Turns Stores commands replies mid is → Ends Stores was (Some command) left
-      → IsCut moment (command ∷ commands) (reply ∷ replies) was is left
-  cut_before moment command commands reply replies was mid is left open_ turn later rest ends = record {
+      → IsTurnWithCause Stores command reply was mid → (moment < mid.disk.clock) ⊎ (mid.closed ≡ true) → Turns Stores commands replies mid is → (ends : Ends Stores was (Some command) left)
+      → (IsInAGrowth ends → ⊥) → IsCut moment (command ∷ commands) (reply ∷ replies) was is left
+  cut_before moment command commands reply replies was mid is left open_ turn later rest ends apart = record {
     sitting = record { begins = was.kept; answered = []; in_doubt = Some command };
     part = (refl, (mid, turn, later, rest));
     sits = record { begins = refl; last = was; used = no_call; is_open = open_; ends = ends };
+    steady = refl;
+    apart = apart;
   }
 
   cut_behind : (moment : ℕ) (command : Command) (commands : List Command) (reply : Reply) (replies : List Reply) (was mid is : State) (left : Shown)
@@ -202,7 +265,13 @@ module _ (Stores : ℕ → Layout) where
     sitting = record { begins = was.kept; answered = (command, reply) ∷ cut.sitting.answered; in_doubt = cut.sitting.in_doubt };
     part = (refl, refl, (mid, turn, by_then, open_, cut.part));
     sits = record { begins = refl; last = cut.sits.last; used = a_command turn.turn cut.sits.used; is_open = cut.sits.is_open; ends = cut.sits.ends };
+    steady = cut.steady ∙ turn.turn.ahead.capacity;
+    apart = cut.apart;
   }
+
+  -- a sitting ends by closing, where the disk shows this
+  closing : (was : State) (left : Shown) → left ≡ was.disk.now → (ends : Ends Stores was None left) × (IsInAGrowth ends → ⊥)
+  closing was left same = subst (λ (shown : Shown). (ends : Ends Stores was None shown) × (IsInAGrowth ends → ⊥)) (sym same) (by_closing, λ never. never)
 
   cut_at : (commands : List Command) (replies : List Reply) (was is : State) → Turns Stores commands replies was is → was.closed ≡ false
       → (moment : ℕ) → was.disk.clock ≤ moment → moment ≤ is.disk.clock → IsCut moment commands replies was is (is.disk.was moment)
@@ -210,10 +279,13 @@ module _ (Stores : ℕ → Layout) where
       let clock : is.disk.clock ≡ was.disk.clock = ap (λ (s : State). s.disk.clock) same in
       let at : moment ≡ is.disk.clock = omega (arith, from, to, clock) in
       let left : is.disk.was moment ≡ was.disk.now = ap is.disk.was at ∙ is.disk.was_now ∙ ap (λ (s : State). s.disk.now) same in
+      let (ends, apart) = closing was (is.disk.was moment) left in
       record {
         sitting = record { begins = was.kept; answered = []; in_doubt = None };
         part = same;
-        sits = record { begins = refl; last = was; used = no_call; is_open = open_; ends = subst (λ (shown : Shown). Ends Stores was None shown) (sym left) by_closing };
+        sits = record { begins = refl; last = was; used = no_call; is_open = open_; ends = ends };
+        steady = refl;
+        apart = apart;
       }
   cut_at [] (reply ∷ replies) was is none open_ moment from to = absurd none
   cut_at (command ∷ commands) [] was is none open_ moment from to = absurd none
@@ -232,7 +304,7 @@ module _ (Stores : ℕ → Layout) where
 
       before : moment < mid.disk.clock → IsCut moment (command ∷ commands) (reply ∷ replies) was is (is.disk.was moment)
       before less = subst (λ (shown : Shown). IsCut moment (command ∷ commands) (reply ∷ replies) was is shown) (then_shown (omega (arith, less)))
-          (cut_before moment command commands reply replies was mid is (mid.disk.was moment) open_ it (inl less) rest (in_a_command turn moment from (omega (arith, less))))
+          (cut_before moment command commands reply replies was mid is (mid.disk.was moment) open_ it (inl less) rest (in_a_command turn moment from (omega (arith, less))) (λ never. never))
 
       by : (b : Bool) → mid.closed ≡ b → (mid.closed ≡ false → mid.disk.clock ≤ moment → IsCut moment commands replies mid is (is.disk.was moment))
           → IsCut moment (command ∷ commands) (reply ∷ replies) was is (is.disk.was moment)
@@ -240,7 +312,7 @@ module _ (Stores : ℕ → Layout) where
           let clock : is.disk.clock ≡ mid.disk.clock = ap (λ (s : State). s.disk.clock) (turns_shut commands replies mid is rest shut) in
           let le : moment ≤ mid.disk.clock = omega (arith, to, clock) in
           subst (λ (shown : Shown). IsCut moment (command ∷ commands) (reply ∷ replies) was is shown) (then_shown le)
-          (cut_before moment command commands reply replies was mid is (mid.disk.was moment) open_ it (inr shut) rest (by_a_fault turn shut moment from le))
+          (cut_before moment command commands reply replies was mid is (mid.disk.was moment) open_ it (inr shut) rest (by_a_fault turn shut moment from le) (λ never. never))
       by false mid_open then = elim (cases_lt moment mid.disk.clock) [
         | inl less ↦ before less
         | inr le ↦ cut_behind moment command commands reply replies was mid is (is.disk.was moment) it le mid_open (then mid_open le)
@@ -253,5 +325,5 @@ module _ (Stores : ℕ → Layout) where
   stopped_run commands done before after was is all run honest open_ sound =
       let left : LeavesAPrefix Stores (map command_of done) run.added was is = λ moment from to.
       let cut = cut_at (map command_of done) run.added was is run.turns open_ moment from to in
-      (cut.sitting, cut.part, cut.sits, λ picture may. sitting_holds was cut.sitting (is.disk.was moment) cut.sits honest sound (run.begins honest open_) picture may) in
+      (cut.sitting, cut.part, cut.sits, λ picture may. sitting_holds was cut.sitting (is.disk.was moment) cut.sits cut.steady cut.apart honest sound (run.begins honest open_) picture may) in
       (run.added, run.replies_are, subst (λ (cs : List Asked). LeavesAPrefix Stores (map command_of cs) run.added was is) all left)

@@ -49,10 +49,14 @@ module _ (Stores : ℕ → Layout) where
     pub fails : (disk : Disk) (before now : ℕ) (fault : SolverFault) → IsTrue disk.honest → disk.now.contents ≡ picture
         → OpenCause Stores disk before now fault → IsUnlucky before now fault
 
-  -- whenever the power stops behind these sittings, the table that reopening gives is one that they lead to from the empty one: with
-  -- every command that was answered as it was answered, and in each sitting at most one that was not; and what it says is so
+  -- whenever the power stops behind these sittings, the table that reopening gives is one that they lead to from this one: with every
+  -- command that was answered as it was answered, and in each sitting at most one that was not; and what it says is so
+  abbrev pub HeadlineFrom : Option Kept → List Sitting → Picture → Type 0
+  HeadlineFrom begins sittings picture = (kept : Option Kept) × LeadTo sittings begins kept × Reopens picture kept × IsExact kept
+
+  -- so from the empty one
   abbrev pub Headline : List Sitting → Picture → Type 0
-  Headline sittings picture = (kept : Option Kept) × LeadTo sittings None kept × Reopens picture kept × IsExact kept
+  Headline = HeadlineFrom None
 
   -- what of a run is answered at this moment: the first of its commands, each with its reply, in states of the run that come no later;
   -- and where there is a next command, it is in doubt: it is answered later, or a write or a sync fails in it, which closes the solver

@@ -2,9 +2,10 @@
 use Rattle.std.specs.Prelude.{◌≡◌, ℕ, ◌≤◌, true, false, List, [], ◌∷◌, ◌++◌, Option, None, Some, IsTrue}
 use Rattle.sector_disk.specs.Disk.{Picture, Shown, Disk, LeavesOnly, MayLeave}
 use Rattle.game_file.specs.Calls.{IsAsked}
-use Rattle.game_file.specs.Kept.{Kept, Layout}
+use Rattle.game_file.specs.Kept.{Kept, Layout, in_any}
 use Rattle.game_file.specs.State.{State}
 use Rattle.solver.specs.declared.replies.Reply.{Reply}
+use Rattle.solver.specs.Growing.{IsGrowth}
 use Rattle.solver.specs.Machine.{Command, Does, MayDo}
 use Rattle.solver.specs.Opening.{IsCreated, IsOpened}
 use Rattle.solver.specs.Runs.{IsTurn}
@@ -33,20 +34,24 @@ LeadTo (sitting ∷ sittings) old new = (sitting.begins ≡ old) × ((mid : Opti
     × ((left : Option Kept) × DoesInDoubt sitting.in_doubt mid left × LeadTo sittings left new))
 
 module _ (Stores : ℕ → Layout) where
-  -- calls on a solver, one after another: commands with their replies, and questions, which change nothing
+  -- calls on a solver, one after another: commands with their replies, questions, which change nothing, and growths, which keep the table
   pub data IsUsed : List (Command × Reply) → State → State → Type 0 where
     no_call : {state : State} → IsUsed [] state state
     a_question : {answered : List (Command × Reply)} {was mid is : State} → IsAsked Stores was mid → IsUsed answered mid is
         → IsUsed answered was is
     a_command : {asked : Command} {reply : Reply} {answered : List (Command × Reply)} {was mid is : State}
         → IsTurn Stores asked reply was mid → IsUsed answered mid is → IsUsed ((asked, reply) ∷ answered) was is
+    a_growth : {answered : List (Command × Reply)} {pages : ℕ} {was mid is : State} → IsGrowth Stores pages was mid → IsUsed answered mid is
+        → IsUsed answered was is
 
-  -- what the disk shows at the end of a sitting, and the command in doubt: the solver is closed; a stop comes in a question, or in
-  -- a command, up to its last call of the disk; or a write or a sync fails in a command, which is answered E1
+  -- what the disk shows at the end of a sitting, and the command in doubt: the solver is closed; a stop comes in a question, in a growth,
+  -- or in a command, up to its last call of the disk; or a write or a sync fails in a growth or in a command, which is answered E1
   pub data Ends (last : State) : Option Command → Shown → Type 0 where
     by_closing : Ends last None last.disk.now
     in_a_question : {is : State} → IsAsked Stores last is → (moment : ℕ) → last.disk.clock ≤ moment → moment ≤ is.disk.clock
         → Ends last None (is.disk.was moment)
+    in_a_growth : {pages : ℕ} {is : State} → IsGrowth Stores pages last is → (moment : ℕ) → last.disk.clock ≤ moment
+        → moment ≤ is.disk.clock → Ends last None (is.disk.was moment)
     in_a_command : {asked : Command} {reply : Reply} {is : State} → IsTurn Stores asked reply last is → (moment : ℕ)
         → last.disk.clock ≤ moment → moment ≤ is.disk.clock → Ends last (Some asked) (is.disk.was moment)
     by_a_fault : {asked : Command} {reply : Reply} {is : State} → IsTurn Stores asked reply last is → is.closed ≡ true → (moment : ℕ)
@@ -65,14 +70,23 @@ module _ (Stores : ℕ → Layout) where
     pub honest : IsTrue disk.honest
     pub as_left : (picture : Picture) → MayLeave disk.now picture → MayLeave left picture
 
-  -- the sittings of a table since it was made, and what the disk shows behind them: `create` has answered Ok and the first sitting
-  -- goes on from there; another opens what was left; and while it is opened a stop may come, or `open` is refused
-  pub data History : List Sitting → Shown → Type 0 where
+  -- the sittings of a table that began as this one, and what the disk shows behind them. It was made: `create` has answered Ok, and the
+  -- first sitting goes on from there. It was left: whatever stop has come, the disk holds it. Or it was found, and opened. Another sitting
+  -- opens what was left; and while it is opened a stop may come, or `open` is refused
+  pub data HistoryFrom : Option Kept → List Sitting → Shown → Type 0 where
     was_made : {disk : Disk} {count : ℕ} {was : State} {sitting : Sitting} {left : Shown} → IsTrue disk.honest
-        → IsCreated Stores disk count was → IsSitting was sitting left → History (sitting ∷ []) left
-    was_reopened : {sittings : List Sitting} {before left : Shown} {disk : Disk} {count : ℕ} {was : State} {sitting : Sitting}
-        → History sittings before → IsFound before disk → IsOpened Stores disk count was → IsSitting was sitting left
-        → History (sittings ++ (sitting ∷ [])) left
-    was_not_opened : {sittings : List Sitting} {before : Shown} {disk later : Disk} → History sittings before → IsFound before disk
-        → LeavesOnly disk later (MayLeave disk.now) → (moment : ℕ) → disk.clock ≤ moment → moment ≤ later.clock
-        → History sittings (later.was moment)
+        → IsCreated Stores disk count was → IsSitting was sitting left → HistoryFrom None (sitting ∷ []) left
+    was_left : {begins : Option Kept} {left : Shown} → ((picture : Picture) → MayLeave left picture → in_any Stores picture begins)
+        → HistoryFrom begins [] left
+    was_found : {disk : Disk} {count : ℕ} {was : State} {sitting : Sitting} {left : Shown} → IsTrue disk.honest
+        → IsOpened Stores disk count was → IsSitting was sitting left → HistoryFrom was.kept (sitting ∷ []) left
+    was_reopened : {begins : Option Kept} {sittings : List Sitting} {before left : Shown} {disk : Disk} {count : ℕ} {was : State}
+        {sitting : Sitting} → HistoryFrom begins sittings before → IsFound before disk → IsOpened Stores disk count was
+        → IsSitting was sitting left → HistoryFrom begins (sittings ++ (sitting ∷ [])) left
+    was_not_opened : {begins : Option Kept} {sittings : List Sitting} {before : Shown} {disk later : Disk}
+        → HistoryFrom begins sittings before → IsFound before disk → LeavesOnly disk later (MayLeave disk.now)
+        → (moment : ℕ) → disk.clock ≤ moment → moment ≤ later.clock → HistoryFrom begins sittings (later.was moment)
+
+  -- the sittings of a table that began as the empty one
+  abbrev pub History : List Sitting → Shown → Type 0
+  History = HistoryFrom None

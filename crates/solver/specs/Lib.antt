@@ -1,6 +1,7 @@
 pub use Rattle.best_line.specs.Laws
 pub use Rattle.best_line.specs.Values as BestLineValues
 pub use Rattle.game_file.specs.Calls
+pub use Rattle.game_file.specs.Growing as GameFileGrowing
 pub use Rattle.game_file.specs.Kept
 pub use Rattle.game_file.specs.State as GameFileState
 pub use Rattle.game_file.specs.Stops as GameFileStops
@@ -21,6 +22,7 @@ pub mod State
 pub mod Stops
 pub mod Opening
 pub mod Listings
+pub mod Growing
 pub mod Machine
 pub mod Steps
 pub mod Queries

@@ -215,4 +215,11 @@ impl<F: GameFile> FileSolver<F> {
         let FileSolver { file, .. } = self;
         file.into_disk()
     }
+    /// Gives the file up, as it is. It takes no memory and always answers, of a closed solver too.
+    pub fn into_file(self) -> F
+        ensures { result ≡ self.file }
+    {
+        let FileSolver { file, .. } = self;
+        file
+    }
 }

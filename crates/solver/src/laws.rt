@@ -15,9 +15,9 @@ ghost use Rattle.best_line.specs.Values.{IsComplete, IsValue};
 ghost use Rattle.best_line.specs.Laws.{IsSo};
 ghost use Rattle.game_file.specs.Kept.{Kept, in_any};
 ghost use Rattle.game_file.specs.State.{State, GoesAhead};
-ghost use Rattle.solver.specs.Headline.{Headline};
+ghost use Rattle.solver.specs.Headline.{Headline, HeadlineFrom};
 ghost use Rattle.solver.specs.Held.{Holds, IsSound, graph_in};
-ghost use Rattle.solver.specs.Histories.{Sitting, LeadTo, History};
+ghost use Rattle.solver.specs.Histories.{Sitting, LeadTo, History, HistoryFrom};
 ghost use Rattle.solver.specs.Machine.{Command, MayDo};
 ghost use Rattle.solver.specs.Opening.{IsOpened};
 ghost use Rattle.solver.specs.Runs.{IsTurnWithCause};
@@ -104,6 +104,14 @@ pub fn what_may_be_done_is_sound()
 /// What sittings lead to from a locally sound table is locally sound.
 pub fn what_sittings_lead_to_is_sound()
     ensures { (sittings : List Sitting) (old new : Option Kept) → LeadTo sittings old new → IsSound old → IsSound new }
+{}
+
+/// What the headline says of a made table holds of each that is locally sound as it begins: one that came from an earlier layout, one that
+/// an audit found right, the empty one that a stopped or refused `create` left. It is used in any number of sittings; whatever a stop leaves,
+/// reopening gives a table which they lead to from the one that it began as, and what that says is so.
+pub fn the_headline_from<F: GameFile>()
+    ensures { (begins : Option Kept) (sittings : List Sitting) (left : Shown) (picture : Picture) → IsSound begins
+        → HistoryFrom F.stores begins sittings left → MayLeave left picture → HeadlineFrom F.stores begins sittings picture }
 {}
 
 /// The headline. A table is made, and used in any number of sittings; each opens what was left, and may end by a stop of the power

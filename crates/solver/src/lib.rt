@@ -3,13 +3,16 @@
 
 mod commands;
 mod fault;
+mod growing;
 pub mod laws;
 mod listing;
+pub mod listing_laws;
 mod listings;
 mod needs;
 mod queries;
 mod replies;
 mod run;
+mod version_rows;
 mod with_game;
 
 pub use commands::FileSolver;

@@ -6,6 +6,8 @@ mod deeds;
 #[cfg(test)]
 mod fault_tests;
 #[cfg(test)]
+mod grow_tests;
+#[cfg(test)]
 mod run_tests;
 #[cfg(test)]
 mod stop_tests;

@@ -8,3 +8,4 @@ mod Sealing
 mod Opening
 mod Versions
 mod Renewing
+mod Growing

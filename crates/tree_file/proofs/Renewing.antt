@@ -3,7 +3,7 @@ use Rattle.std.proofs.Common.{◌≡◌, ◌≢◌, ◌⊎◌, inl, inr, ℕ, �
 use Rattle.std.specs.Prelude.{IfSome}
 use mathlib.Core.Logic.{∥∥₁_elim, ∥∥₁_prop}
 use Rattle.sector_disk.specs.Disk.{GoesOn, Grew, LeavesOnly}
-use Rattle.sector_disk.specs.aid.Moments.{leaves_more, still_honest}
+use Rattle.sector_disk.specs.aid.Moments.{leaves_more, reads_left, still_honest}
 use Rattle.position_pack.specs.declared.kind.PackingKind.{PackingKind}
 use Rattle.page_store.specs.Causes.{StoreCommitCause}
 use Rattle.page_store.specs.declared.fault.PageFault.{PageFault}
@@ -14,7 +14,7 @@ use Rattle.page_store.specs.declared.marks.Mark.TheVariants.{Committed, Waiting,
 use Rattle.page_store.specs.Holds.{holders_at}
 use Rattle.page_store.specs.Marks.{mark, committed, is_past, needs, rests}
 use Rattle.page_store.specs.Spelling.{IsCalm}
-use Rattle.page_store.specs.Store.{Store, IsSoundStore, Commits, IsCommitted, IsUnchanged, reads}
+use Rattle.page_store.specs.Store.{Store, IsSoundStore, Commits, IsCommitted, IsUnchanged, SavedAs, StopLeaves, reads}
 use Rattle.page_store.specs.aid.Carrying.{saved_spells}
 use Rattle.retrograde.specs.Changes.{counts_of}
 use Rattle.root_slot.specs.Fields.{commits_in, goal_number_in, goal_numbered, layout_in, number_of_packing, packing_in, SaysPages}
@@ -32,10 +32,11 @@ use Rattle.tree_table.specs.Held.{KeepsOnPages, StoresTrees}
 use Rattle.tree_table.specs.Keeping.{AreSized, IsKeptInTrees, IsStill, StandsFor, slot_or_bare}
 use Rattle.tree_table.specs.Slot.{slot_in, IsGameTreeSlot}
 use Rattle.tree_table.specs.Working.{Work, work_of}
+use Rattle.tree_table.specs.aid.Growing.{rests_on}
 use Rattle.tree_table.specs.aid.Keeping.{kept_stands, spells_stores_trees}
 use Rattle.tree_table.specs.aid.Standing.{still_stands_for, was_honest}
 use Rattle.tree_file.specs.File.{File, NamesSlot, IsWholeFile, file_of, kept_of, kept_with, state_of}
-use Rattle.tree_file.specs.Renewing.{IsRenewed, IsNotRenewed, KeepsTheSame, LeavesPages}
+use Rattle.tree_file.specs.Moving.{IsMoved, IsNotMoved, LeavesPages}
 use Rattle.tree_file.specs.aid.Backed.{IsBackedFile}
 use Rattle.tree_file.specs.aid.Whole.{again_goal, again_kept, again_packing, again_text, again_whole, whole_leaves}
 use Rattle.tree_file.proofs.Saving.{calm_sealed}
@@ -52,7 +53,7 @@ module _ (old root : List ℕ) (same : slot_in root ≡ slot_in old) where
     some = subst (λ (s : TreeSlot). 1 ≤ s.sizes.packed) (sym same) it.some;
   }
 
-  keeps_under : (capacity : ℕ) (kept : Kept) (text_pages : List ℕ) (pages : Tree → List ℕ) (bytes : ℕ → List ℕ)
+  pub keeps_under : (capacity : ℕ) (kept : Kept) (text_pages : List ℕ) (pages : Tree → List ℕ) (bytes : ℕ → List ℕ)
       → packing_in root ≡ number_of_packing kept.packing
       → KeepsOnPages old capacity kept text_pages pages bytes → KeepsOnPages root capacity kept text_pages pages bytes
   keeps_under capacity kept text_pages pages bytes packing it = record {
@@ -113,14 +114,6 @@ stands_under root (Some slot) text store it = record {
 }
 
 -- a page of a calm store is used as before after a commit
-rests_on : (h : Holders) (m : Mark) → IsTrue (rests m) → committed h m ≡ m
-rests_on h Committed calm = refl
-rests_on h Waiting calm = cc
-rests_on h Fresh calm = cc
-rests_on h Released calm = cc
-rests_on h Free calm = refl
-rests_on h Past calm = refl
-
 calm_mark : (root : List ℕ) (old new : Store) → IsCalm old → IsCommitted root old new → (p : ℕ) → mark new.marks p ≡ mark old.marks p
 calm_mark root old new calm done p = done.marks.each p ∙ rests_on (holders_at old.holds.of p) (mark old.marks p) (calm.each p)
 
@@ -205,58 +198,32 @@ module _ {layout : ℕ} (to : ℕ) (was : File) (whole : IsWholeFile layout was)
     calm : IsCalm new
     calm = still_calm root was.work.store new whole.calm done
 
-    pub moved_whole : IsWholeFile to (file_on was new)
+    moved_whole : IsWholeFile to (file_on was new)
     moved_whole = again_whole (file_under root was) (file_on was new) whole_under still refl refl calm sound refl refl
 
     moved_kept : IsTrue was.work.store.disk.honest → kept_of (file_on was new) ≡ kept_of was
     moved_kept = again_kept (file_under root was) (file_on was new) whole_under still refl refl calm
 
-    pub moved_same : commits_in root ≡ count_behind (commits_in was.work.store.root)
-        → KeepsTheSame (state_of was) (state_of (file_on was new))
-    moved_same counted = record {
-      capacity = done.marks.same_length;
-      commits = ap commits_in done.is ∙ counted;
-      counts = refl;
-      text = again_text (file_under root was) (file_on was new) whole_under still refl refl calm;
-      packing = again_packing (file_under root was) (file_on was new) whole_under still refl refl calm;
-      goal = again_goal (file_under root was) (file_on was new) whole_under still refl refl calm;
-      kept = moved_kept;
-      is_open = done.closed;
-    }
-
-    pub moved : IsRenewed (StoresTrees layout) (StoresTrees to) (state_of was) new.disk new.failures
-    moved = record {
+    pub moved : commits_in root ≡ count_behind (commits_in was.work.store.root)
+        → (IsTrue was.work.store.disk.honest → StopLeaves new (SavedAs root was.work.store))
+        → IsMoved (StoresTrees layout) (StoresTrees to) (state_of was) new.disk new.failures
+    moved counted after = record {
       from = record { goes_on = commits.goes_on; failures = commits.failures; same_size = commits.same_size };
+      header = commits.header;
       leaves = λ honest. either_layout new commits honest (commits.closes.stays done.closed);
       now = λ honest.
           subst (λ (k : Option Kept). LeavesNow (StoresTrees to (length was.work.store.marks)) new.disk k) (moved_kept honest)
           (subst (λ (n : ℕ). LeavesNow (StoresTrees to n) new.disk (kept_of (file_on was new))) done.marks.same_length
           (whole_leaves to (file_on was new) moved_whole (still_honest commits.goes_on honest) done.closed));
+      commits = λ honest. record {
+        root = root;
+        holds = (after honest new.disk.now.contents (reads_left new.disk)).holds;
+        commits = counted;
+      };
     }
 
-    pub moved_pages : LeavesPages was.work.store new
-    moved_pages = record { reads = done.reads; marks = calm_mark root was.work.store new whole.calm done }
-
-    -- the game stands in it
-    pub moved_stands : (IsTrue was.work.store.disk.honest → ∥ StandsFor was.game was.work.text was.work.store ∥₁)
-        → IsTrue new.disk.honest → ∥ StandsFor was.game was.work.text new ∥₁
-    moved_stands stands honest =
-        let before = was_honest commits.goes_on honest in
-        ∥∥₁_elim (stands before) ∥∥₁_prop (λ (s : StandsFor was.game was.work.text was.work.store).
-        ∣ still_stands_for was.game was.work.text (store_under root was.work.store) new before still
-        (stands_under root was.game was.work.text was.work.store s) ∣₁)
-
-    -- what is so of it at any moment
-    pub moved_backed : (counted : ℕ) (work : Work) → work ≡ (file_on was new).work → AreSized was.game
-        → (IsTrue was.work.store.disk.honest → ∥ StandsFor was.game was.work.text was.work.store ∥₁) → counted ≡ commits_in root
-        → IsBackedFile to counted (file_of work was.game)
-    moved_backed counted work same sized stands is = subst (λ (w : Work). IsBackedFile to counted (file_of w was.game)) (sym same) (record {
-      of_layout = ap layout_in done.is ∙ anew.of_layout;
-      counted = is ∙ ap commits_in (sym done.is);
-      sized = sized;
-      sealed = calm_sealed new calm;
-      stands = moved_stands stands;
-    })
+    pub moved_pages : LeavesPages was.work.store.disk new.disk
+    moved_pages = record { reads = done.reads }
 
   -- after a refusal
   module _ (new : Store) (commits : Commits root was.work.store new) (fault : PageFault)
@@ -285,9 +252,10 @@ module _ {layout : ℕ} (to : ℕ) (was : File) (whole : IsWholeFile layout was)
         at page.OutOfMemory cause = absurd cause
         at page.Closed cause = let never : true ≡ false = sym cause ∙ is_open in absurd (cc)
 
-    pub not_moved : IsNotRenewed (StoresTrees layout) (StoresTrees to) (state_of was) new.disk new.failures (of_pages fault)
+    pub not_moved : IsNotMoved (StoresTrees layout) (StoresTrees to) (state_of was) new.disk new.failures (of_pages fault)
     not_moved = record {
       from = record { goes_on = commits.goes_on; failures = commits.failures; same_size = commits.same_size };
+      header = commits.header;
       leaves = λ honest is_open other. absurd (no_other is_open other);
       unwritten = λ honest is_open spared. leaves_more (whole_leaves layout was whole honest is_open)
           ((as_it_was is_open spared).leaves honest);

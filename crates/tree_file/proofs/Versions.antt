@@ -3,7 +3,9 @@ use Rattle.std.proofs.Common.{◌≡◌, ◌≢◌, ℕ, true, false, List, Opti
 use Rattle.page_store.specs.declared.marks.Mark.{Mark}
 use Rattle.page_store.specs.declared.holds.HoldPlace.{HoldPlace}
 use Rattle.page_store.specs.declared.holds.Hold.{Hold}
-use Rattle.page_store.specs.Holds.{needed_by}
+use Rattle.page_store.specs.Holds.{needed_by, with_need}
+use Rattle.page_store.specs.declared.holds.HoldPlace.TheVariants.{First, Second, Third, Fourth}
+use Rattle.page_store.specs.declared.holds.Holders.{Holders}
 use Rattle.page_store.specs.aid.Works.{works_refl}
 use Rattle.page_store.specs.Marks.{mark, rests}
 use Rattle.page_store.specs.Store.{Store, IsSoundStore, IsHoldTaken, IsLetGo}
@@ -25,7 +27,7 @@ use Rattle.tree_table.specs.Causes.{IsNoTable, ReadCause}
 use Rattle.tree_table.specs.aid.Standing.{taken_still, let_go_still, works_still}
 use Rattle.tree_table.specs.aid.Versions.{version_taken}
 use Rattle.tree_file.specs.File.{File, IsWholeFile, NamesSlot, kept_of, counts_told, state_of}
-use Rattle.game_file.specs.Causes.{FileVersionCause}
+use Rattle.game_file.specs.Causes.{FileReadFault, FileVersionCause}
 use Rattle.tree_file.specs.aid.Whole.{again_goal, again_kept, again_packing, again_text, again_whole}
 use Rattle.tree_file.proofs.Saving.{calm_sealed}
 
@@ -175,3 +177,35 @@ pub read_not : {X : Type 0} (place : HoldPlace) (slot : TreeSlot) (table : Store
     → (r : Result X TableFault) → IfErr r (ReadCause IsNoTable slot old.work.store new.work.store) → IfErr r (FileVersionCause (state_of old) (state_of new))
 read_not place slot table old new it (Ok x) cause = tt
 read_not place slot table old new it (Err fault) cause = not_read place slot table old new it fault cause
+
+-- whichever version it is
+read_fault : (slot : TreeSlot) (old new : File) (fault : TableFault) → ReadCause IsNoTable slot old.work.store new.work.store fault
+    → FileReadFault (state_of old) (state_of new) fault
+read_fault slot old new DiskFailed cause = cause
+read_fault slot old new Damaged cause = tt
+read_fault slot old new TableFull cause = cause
+read_fault slot old new OutOfMemory cause = cause
+read_fault slot old new Closed cause = cause
+
+pub read_faulted : {X : Type 0} (slot : TreeSlot) (old new : File) (r : Result X TableFault)
+    → IfErr r (ReadCause IsNoTable slot old.work.store new.work.store) → IfErr r (FileReadFault (state_of old) (state_of new))
+read_faulted slot old new (Ok x) cause = tt
+read_faulted slot old new (Err fault) cause = read_fault slot old new fault cause
+
+-- where a hold was taken not all were taken before
+pub some_free : (place : HoldPlace) (old new : Store) → IsHoldTaken place old new → ((other : HoldPlace) → needed_by old.holds.taken other ≡ true) → ⊥
+some_free place old new taken full = let no : true ≡ false = sym (full place) ∙ taken.was_free in cc
+
+-- a hold that was let go is taken no more
+without : (place : HoldPlace) (holders : Holders) → needed_by (with_need holders place false) place ≡ false
+without First holders = refl
+without Second holders = refl
+without Third holders = refl
+without Fourth holders = refl
+
+-- so no table is kept by it
+pub none_kept : (place : HoldPlace) (slot : TreeSlot) (table : Stored (List ℕ)) (old new : Store) → IsLetGo place old new
+    → StandsInVersion place slot table new → ⊥
+none_kept place slot table old new gone it =
+    let free : needed_by new.holds.taken place ≡ false = ap (λ (h : Holders). needed_by h place) gone.taken ∙ without place old.holds.taken in
+    let no : true ≡ false = sym it.taken ∙ free in cc

@@ -1,5 +1,6 @@
 pub use Rattle.game_file.specs.Calls as GameFileCalls
 pub use Rattle.game_file.specs.Causes as GameFileCauses
+pub use Rattle.game_file.specs.Growing as GameFileGrowing
 pub use Rattle.game_file.specs.Kept
 pub use Rattle.game_file.specs.Stops
 pub use Rattle.page_store.specs.Causes as PageStoreCauses
@@ -18,7 +19,7 @@ pub use Rattle.tree_table.specs.Working
 pub mod File
 pub mod Calls
 pub mod InFile
-pub mod Renewing
+pub mod Moving
 pub mod Older
 pub mod Opening
 pub mod Versions

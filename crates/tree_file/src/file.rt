@@ -21,6 +21,7 @@ ghost use Rattle.tree_table.specs.Versions.{KeepsHolds};
 ghost use Rattle.tree_table.specs.aid.Versions.{keeps_holds_then, works_keep_holds};
 ghost use Rattle.tree_file.specs.aid.Whole.{whole_counts, whole_leaves, whole_stored, whole_stays, works_ahead, fails_for, older_none};
 
+use crate::naming::slot_naming;
 use crate::on_disk::PagesOnDisk;
 use crate::open::{read_all, read_root};
 use game_file::{FileFault, GameFile, Refused};
@@ -305,6 +306,29 @@ impl<P: PagesOnDisk, const LAYOUT: u32> GameFile for TreeFile<P, LAYOUT> {
 
     fn discard(&mut self) {
         self.table.restore(&self.game);
+    }
+
+    fn grow(&mut self, pages: u32) -> Result<(), FileFault> {
+        if self.table.store.is_closed() {
+            return Err(FileFault::Closed);
+        }
+        let room = self.table.store.capacity();
+        if pages <= room || pages > MAX_PAGES {
+            return Err(FileFault::TooSmall);
+        }
+        if LAYOUT < FIRST_WITH_GOALS || room == 0 {
+            return Err(FileFault::OutOfMemory);
+        }
+        self.table.restore(&self.game);
+        let commits = self.commits.wrapping_add(1);
+        let root = slot_naming(LAYOUT, pages, commits, &self.game);
+        match self.table.grow(self.alloc, pages, &root) {
+            Ok(()) => {
+                self.commits = commits;
+                Ok(())
+            }
+            Err(fault) => Err(fault.into()),
+        }
     }
 
     fn into_disk(self) -> P::Device {

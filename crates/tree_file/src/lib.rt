@@ -4,6 +4,7 @@
 mod file;
 mod kept;
 pub mod laws;
+mod naming;
 mod on_disk;
 mod open;
 mod renew;

@@ -13,5 +13,6 @@ pub mod Holding
 pub mod Limits
 mod Committing
 mod Loading
+mod Grown
 pub mod Bare
 mod Versions

@@ -1,5 +1,6 @@
 pub mod Faults
 pub mod Frames
+pub mod Growing
 pub mod Keeping
 pub mod Keys
 pub mod Lists

@@ -6,6 +6,7 @@ mod begin;
 mod bytes;
 mod change;
 mod fault;
+mod growing;
 mod keeping;
 pub mod laws;
 mod read;

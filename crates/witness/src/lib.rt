@@ -3,7 +3,9 @@
 #![tactic(auto)]
 
 pub mod laws;
+mod listed;
 mod sittings;
 mod stop;
 
+pub use listed::rows_beside_work;
 pub use stop::value_after_a_stop;

@@ -16,7 +16,8 @@ pub record IsPutInFile (is : Kept) (old new : FlatFile) : Type 0 where
 pub record IsNotPutInFile (is : Kept) (old new : FlatFile) : Type 0 where
   pub stands : IsFile new
   pub game : new.game ≡ old.game
-  pub leaves : IsTrue old.store.disk.honest → new.store.closed ≡ false → LeavesTable (Stores (length old.store.marks)) old.store.disk new.store.disk (kept_of old.game)
+  pub leaves : IsTrue old.store.disk.honest → new.store.closed ≡ false
+      → LeavesTable (Stores (length old.store.marks)) old.store.disk new.store.disk (kept_of old.game)
   pub either : IsTrue old.store.disk.honest → old.store.closed ≡ false
       → LeavesEither (Stores (length old.store.marks)) old.store.disk new.store.disk (kept_of old.game) (Some is)
   pub untouched : (old.store.closed ≡ false) ⊎ (new.store.disk ≡ old.store.disk)

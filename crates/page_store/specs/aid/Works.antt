@@ -82,6 +82,7 @@ works_refl store = record {
   waiting = λ p is. is;
   needed = λ p. refl;
   reads = λ honest p needed. refl;
+  header = λ honest. refl;
   safe = λ honest safe. safe;
   leaves = λ honest safe. leaves_now store.disk (safe_saves store safe);
   holds = refl;
@@ -128,6 +129,7 @@ works_then {old} {mid} {new} first second = record {
   waiting = λ p is. first.waiting p (second.waiting p is);
   needed = λ p. second.needed p ∙ first.needed p;
   reads = λ honest p needed. second.reads (still_honest first.goes_on honest) p (still_needed first p needed) ∙ first.reads honest p needed;
+  header = λ honest. second.header (still_honest first.goes_on honest) ∙ first.header honest;
   safe = λ honest safe. second.safe (still_honest first.goes_on honest) (first.safe honest safe);
   leaves = λ honest safe.
       leaves_then second.goes_on (first.leaves honest safe)

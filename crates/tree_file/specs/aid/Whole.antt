@@ -44,7 +44,8 @@ whole_leaves layout file whole honest is_open =
     (kept_stays store (kept_of file) whole.says whole.room whole.sound.few (whole.kept honest) (whole.sound.safe honest is_open))
 
 -- where no game is loaded all pages but the system page are free
-pub no_game_is_free : {layout : ℕ} (file : File) → IsWholeFile layout file → file.game ≡ None → length file.work.store.marks ≤ free_count file.work.store.marks + 1
+pub no_game_is_free : {layout : ℕ} (file : File) → IsWholeFile layout file → file.game ≡ None
+    → length file.work.store.marks ≤ free_count file.work.store.marks + 1
 no_game_is_free file whole none = rest_free file.work.store.marks (whole.free none)
 
 -- what is kept is what the committed root and its pages spell
@@ -76,7 +77,7 @@ free_still m Free calm same past free = refl
 free_still m Past calm same past free = let never : true ≡ false = sym (past refl) ∙ ap is_past free in absurd (cc)
 
 -- what is kept by the same slot and text
-as_kept : (one other : File) → other.game ≡ one.game → other.work.text ≡ one.work.text
+pub as_kept : (one other : File) → other.game ≡ one.game → other.work.text ≡ one.work.text
     → kept_of other ≡ kept_with one.game one.work.text (reads other.work.store)
 as_kept one other game text = λ i. kept_with (game i) (text i) (reads other.work.store)
 
@@ -85,12 +86,12 @@ pub text_same : (game : Option TreeSlot) (text : List ℕ) (bytes other : ℕ �
 text_same None text bytes other = refl
 text_same (Some slot) text bytes other = refl
 
-packing_same : (game : Option TreeSlot) (text : List ℕ) (bytes other : ℕ → List ℕ)
+pub packing_same : (game : Option TreeSlot) (text : List ℕ) (bytes other : ℕ → List ℕ)
     → packing_kept (kept_with game text bytes) ≡ packing_kept (kept_with game text other)
 packing_same None text bytes other = refl
 packing_same (Some slot) text bytes other = refl
 
-goal_same : (game : Option TreeSlot) (text : List ℕ) (bytes other : ℕ → List ℕ)
+pub goal_same : (game : Option TreeSlot) (text : List ℕ) (bytes other : ℕ → List ℕ)
     → goal_kept (kept_with game text bytes) ≡ goal_kept (kept_with game text other)
 goal_same None text bytes other = refl
 goal_same (Some slot) text bytes other = refl

@@ -1,10 +1,10 @@
-use Rattle.std.proofs.Common.{◌∙◌, length, None, sym, subst}
+use Rattle.std.proofs.Common.{◌∙◌, length, None, refl, sym, subst}
 use Rattle.page_store.specs.aid.Works.{works_refl}
 use Rattle.flat_table.specs.Calls.{file_of, state_of}
 use Rattle.flat_table.specs.Held.{Stores}
 use Rattle.game_file.specs.declared.fault.FileFault.{FileFault}
 use Rattle.tree_table.specs.Held.{StoresTrees}
-use Rattle.layout_moves.specs.Moving.{IsNotMoved}
+use Rattle.tree_file.specs.Moving.{IsNotMoved}
 use Rattle.layout_moves.proofs.Carrying.{moved, not_moved, none_prepared}
 use Rattle.layout_moves.proofs.committing.commit_empty.Goals as goal
 
@@ -22,4 +22,4 @@ returns-in-Err-clause-left g c =
     let root = c.empty_root-root.result in
     subst (λ (f : FileFault). IsNotMoved Stores (StoresTrees 3) (state_of (file_of old None)) new.disk new.failures f) (sym c.into.ensures)
     (not_moved old None c.requires.whole c.requires.open root old new c.empty_root-root.ensures.layout (λ late. c.empty_root-root.ensures.pages late ∙ c.capacity.ensures) (works_refl old) c.commit.ensures.commits
-    (λ honest p. ⊥) (λ honest. none_prepared root (length old.marks) old c.empty_root-root.ensures.empty) c.in-Err.fault c.in-Err.ensures.untouched)
+    (λ honest p. ⊥) (λ honest. none_prepared root (length old.marks) old c.empty_root-root.ensures.empty) c.in-Err.fault c.in-Err.ensures.untouched c.in-Err.ensures.cause refl)

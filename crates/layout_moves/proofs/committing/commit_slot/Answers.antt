@@ -4,7 +4,7 @@ use Rattle.flat_table.specs.Held.{Stores}
 use Rattle.game_file.specs.declared.fault.FileFault.{FileFault}
 use Rattle.tree_table.specs.Held.{StoresTrees}
 use Rattle.tree_table.specs.Slot.{slot_in}
-use Rattle.layout_moves.specs.Moving.{IsNotMoved}
+use Rattle.tree_file.specs.Moving.{IsNotMoved}
 use Rattle.layout_moves.proofs.Carrying.{moved, not_moved, game_pages, game_prepared}
 use Rattle.layout_moves.proofs.committing.commit_slot.Goals as goal
 
@@ -28,4 +28,4 @@ returns-in-Err-clause-left g c = λ begun game copied.
     subst (λ (f : FileFault). IsNotMoved Stores (StoresTrees 3) (state_of (file_of begun (Some game))) new.disk new.failures f) (sym c.into.ensures)
     (not_moved begun (Some game) copied.whole copied.is_open root mid new c.game_slot-root.ensures.layout (λ late. c.game_slot-root.ensures.pages late ∙ c.capacity.ensures ∙ copied.works.same_pages) copied.works c.commit.ensures.commits
     (game_pages root slot begun mid game copied c.game_slot-root.ensures.packing told) (game_prepared root slot begun mid game copied c.game_slot-root.ensures.packing told)
-    c.in-Err.fault c.in-Err.ensures.untouched)
+    c.in-Err.fault c.in-Err.ensures.untouched c.in-Err.ensures.cause copied.still)

@@ -1,6 +1,6 @@
-use Rattle.std.proofs.Common.{inr, refl}
+use Rattle.std.proofs.Common.{inl, inr, refl}
 use Rattle.solver.specs.Solvers.{state}
-use Rattle.session.specs.Commands.{made, refused, replied}
+use Rattle.session.specs.Commands.{grown, made, refused, replied}
 use Rattle.session.proofs.Auditing.{audit_done, or_same}
 use Rattle.session.proofs.commands.command_on.Goals as goal
 
@@ -12,7 +12,7 @@ returns-in-Ok g c = (
   made,
   rw c.in-Create.is (state c.in-Ok.solver, c.in-Ok.ensures.created, record { disk = c.close.ensures.disk; failures = c.close.ensures.failures }),
   c.said.ensures.refused,
-  c.said.ensures.told refl,
+  c.said.ensures.told made refl refl,
 )
 
 pub returns-in-Err : goal.returns-in-Err
@@ -62,4 +62,41 @@ returns-in-Err-open-2 g c = (
   rw c.in-Audit.is (inr (c.in-Err-open-2.ensures.refused, c.in-Err-open-2.ensures.cause)),
   c.said_refused-in-Err-open-2.ensures.refused,
   c.said_refused-in-Err-open-2.ensures.told,
+)
+
+pub returns-in-Ok-grow : goal.returns-in-Ok-grow
+returns-in-Ok-grow g c = (
+  grown,
+  rw c.in-Grow.is (
+    state c.in-Ok-open-3.solver,
+    state c.grow.new.self,
+    c.in-Ok-open-3.ensures.opened,
+    record { disk = c.close-in-Ok-grow.ensures.disk; failures = c.close-in-Ok-grow.ensures.failures },
+    c.in-Ok-grow.ensures.grown c.in-Ok-open-3.ensures.ready,
+  ),
+  c.said-in-Ok-grow.ensures.refused,
+  c.said-in-Ok-grow.ensures.told grown refl refl,
+)
+
+pub returns-in-Err-grow : goal.returns-in-Err-grow
+returns-in-Err-grow g c = (
+  refused c.in-Err-grow.fault,
+  rw c.in-Grow.is (inl (
+    state c.in-Ok-open-3.solver,
+    state c.grow.new.self,
+    c.in-Ok-open-3.ensures.opened,
+    record { disk = c.close-in-Err-grow.ensures.disk; failures = c.close-in-Err-grow.ensures.failures },
+    c.in-Err-grow.ensures.refused c.in-Ok-open-3.ensures.ready,
+    c.in-Err-grow.ensures.cause,
+  )),
+  c.said_refused-in-Err-grow.ensures.refused,
+  c.said_refused-in-Err-grow.ensures.told,
+)
+
+pub returns-in-Err-open-3 : goal.returns-in-Err-open-3
+returns-in-Err-open-3 g c = (
+  refused c.in-Err-open-3.refused.fault,
+  rw c.in-Grow.is (inr (c.in-Err-open-3.ensures.refused, c.in-Err-open-3.ensures.cause)),
+  c.said_refused-in-Err-open-3.ensures.refused,
+  c.said_refused-in-Err-open-3.ensures.told,
 )

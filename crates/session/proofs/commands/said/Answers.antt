@@ -1,9 +1,9 @@
-use Rattle.std.proofs.Common.{refl}
+use Rattle.std.proofs.Common.{refl, sym}
 use Rattle.session.specs.Commands.{told, untold}
 use Rattle.session.proofs.commands.said.Goals as goal
 
 pub returns-in-Ok-clause-told : goal.returns-in-Ok-clause-told
-returns-in-Ok-clause-told g c = λ is_line. told c.args.line.now is_line c.in-Ok.ensures refl
+returns-in-Ok-clause-told g c = λ came is_line none. told c.args.line.now is_line c.in-Ok.ensures (sym none)
 
 pub returns-in-Err-clause-told : goal.returns-in-Err-clause-told
-returns-in-Err-clause-told g c = λ is_line. untold refl
+returns-in-Err-clause-told g c = λ came is_line none. untold refl

@@ -4,7 +4,7 @@ use Rattle.root_pair.specs.aid.Rest.{pages_behind}
 use Rattle.page_store.specs.Holds.{holds_of}
 use Rattle.page_store.specs.Store.{store_of}
 use Rattle.page_store.specs.aid.Works.{safe_saves, closes_same, closes_failed}
-use Rattle.page_store.proofs.Keeping.{old_or_new, pages_kept, was_honest, published_reads, published_leaves, published_grew, published_held}
+use Rattle.page_store.proofs.Keeping.{old_or_new, pages_kept, was_honest, published_reads, published_leaves, published_grew, published_held, published_header}
 use Rattle.page_store.proofs.Caching.{carried, committed_kept}
 use Rattle.page_store.proofs.Passing.{not_closed, is_read, no_read}
 use Rattle.page_store.proofs.store.PageStorePages.commit.Goals as goal
@@ -18,6 +18,7 @@ returns-then-self-clause-commits g c = record {
   leaves = λ honest safe. leaves_now _ (λ picture left. inl (safe_saves _ safe picture left));
   holds = refl;
   held = λ honest place p held. refl;
+  header = λ honest. refl;
 }
 
 pub returns-in-Ok-clause-commits : goal.returns-in-Ok-clause-commits
@@ -31,6 +32,7 @@ returns-in-Ok-clause-commits g c = record {
   held = λ honest. published_held
       (store_of (g.D.SectorDisk.disk c.args.self.now.disk) (g.D.SectorDisk.failures c.args.self.now.disk) c.args.self.now.root.bytes c.args.self.now.marks.items c.args.self.now.closed (holds_of c.args.self.now.taken c.args.self.now.holders.items))
       (g.D.SectorDisk.disk c.publish.new.disk) honest (pages_behind (g.D.SectorDisk.disk c.args.self.now.disk) (g.D.SectorDisk.disk c.publish.new.disk) c.publish.ensures.others);
+  header = published_header (g.D.SectorDisk.disk c.args.self.now.disk) (g.D.SectorDisk.disk c.publish.new.disk) c.publish.ensures.others;
 }
 
 pub returns-in-Ok-clause-after : goal.returns-in-Ok-clause-after
@@ -57,6 +59,7 @@ returns-then-is_read-clause-commits g c = record {
   held = λ honest. published_held
       (store_of (g.D.SectorDisk.disk c.args.self.now.disk) (g.D.SectorDisk.failures c.args.self.now.disk) c.args.self.now.root.bytes c.args.self.now.marks.items c.args.self.now.closed (holds_of c.args.self.now.taken c.args.self.now.holders.items))
       (g.D.SectorDisk.disk c.publish.new.disk) honest (pages_behind (g.D.SectorDisk.disk c.args.self.now.disk) (g.D.SectorDisk.disk c.publish.new.disk) c.publish.ensures.others);
+  header = published_header (g.D.SectorDisk.disk c.args.self.now.disk) (g.D.SectorDisk.disk c.publish.new.disk) c.publish.ensures.others;
 }
 
 pub returns-else-is_read-clause-commits : goal.returns-else-is_read-clause-commits
@@ -70,6 +73,7 @@ returns-else-is_read-clause-commits g c = record {
   held = λ honest. published_held
       (store_of (g.D.SectorDisk.disk c.args.self.now.disk) (g.D.SectorDisk.failures c.args.self.now.disk) c.args.self.now.root.bytes c.args.self.now.marks.items c.args.self.now.closed (holds_of c.args.self.now.taken c.args.self.now.holders.items))
       (g.D.SectorDisk.disk c.publish.new.disk) honest (pages_behind (g.D.SectorDisk.disk c.args.self.now.disk) (g.D.SectorDisk.disk c.publish.new.disk) c.publish.ensures.others);
+  header = published_header (g.D.SectorDisk.disk c.args.self.now.disk) (g.D.SectorDisk.disk c.publish.new.disk) c.publish.ensures.others;
 }
 
 pub returns-else-is_read-clause-cause : goal.returns-else-is_read-clause-cause

@@ -11,3 +11,12 @@ returns-in-Some-clause-begun g c = λ ready honest kept is. c.in-Some.ensures.ke
 
 pub returns-in-Some-clause-others : goal.returns-in-Some-clause-others
 returns-in-Some-clause-others g c = λ other table it. c.in-Some.ensures.others other table it
+
+pub returns-in-Some-clause-table : goal.returns-in-Some-clause-table
+returns-in-Some-clause-table g c = λ ready honest kept is. (g.met.F.GameFile.whole_stored c.args.self.now.file kept ready.0 honest is).2
+
+pub returns-in-None-clause-table : goal.returns-in-None-clause-table
+returns-in-None-clause-table g c = λ ready honest kept is. (g.met.F.GameFile.whole_stored c.args.self.now.file kept ready.0 honest is).2
+
+pub returns-in_err-needs_game-clause-table : goal.returns-in_err-needs_game-clause-table
+returns-in_err-needs_game-clause-table g c = λ ready honest kept is. (g.met.F.GameFile.whole_stored c.args.self.now.file kept ready.0 honest is).2

@@ -4,7 +4,7 @@ use Rattle.tree_table.specs.aid.Standing.{let_go_still}
 use Rattle.tree_table.specs.aid.Versions.{version_let_go}
 use Rattle.tree_file.specs.File.{file_of}
 use Rattle.tree_file.specs.aid.Backed.{IsBackedFile, backed_still}
-use Rattle.tree_file.proofs.Versions.{let_go_goal, let_go_packing, let_go_state, let_go_text, let_go_whole}
+use Rattle.tree_file.proofs.Versions.{let_go_goal, let_go_packing, let_go_state, let_go_text, let_go_whole, none_kept}
 use Rattle.tree_file.proofs.version.TreeFileVersions.give_back.Goals as goal
 
 pub invariant_of-self : goal.invariant_of-self
@@ -50,3 +50,8 @@ returns-clause-goal g c = λ whole.
     let self = c.args.self.now in
     let_go_goal c.args.version.hold.place (file_of (work_in self.table) self.game) (file_of (work_in c.let_go.new.self) self.game) whole c.let_go.ensures.gone
     (g.met.P.Pages.sound c.let_go.new.self.store) c.let_go.ensures.slot c.let_go.ensures.text c.let_go.ensures.torn refl
+
+pub returns-clause-ended : goal.returns-clause-ended
+returns-clause-ended g c = λ table it.
+    none_kept c.args.version.hold.place c.args.version.slot table (g.P.Pages.store c.args.self.now.table.store) (g.P.Pages.store c.let_go.new.self.store)
+    c.let_go.ensures.gone it

@@ -4,7 +4,7 @@ use Rattle.tree_table.specs.Working.{Work}
 use Rattle.tree_table.specs.aid.Versions.{version_taken_else}
 use Rattle.tree_file.specs.File.{file_of, state_of}
 use Rattle.tree_file.specs.aid.Backed.{IsBackedFile, backed_still}
-use Rattle.tree_file.proofs.Versions.{hold_still, place_apart, taken_goal, taken_packing, taken_state, taken_text, taken_version, taken_whole}
+use Rattle.tree_file.proofs.Versions.{hold_still, place_apart, some_free, taken_goal, taken_packing, taken_state, taken_text, taken_version, taken_whole}
 use Rattle.tree_file.proofs.version.TreeFileVersions.keep.Goals as goal
 
 pub invariant_of-self : goal.invariant_of-self
@@ -68,3 +68,7 @@ returns-in-Some-hold-clause-goal g c = λ whole.
     let self = c.args.self.now in
     taken_goal c.in-Some-hold.hold.place (file_of (work_in self.table) self.game) (file_of (work_in c.hold.new.self) self.game) whole c.in-Some-hold.ensures.some
     (g.met.P.Pages.sound c.hold.new.self.store) c.hold.ensures.slot c.hold.ensures.text c.hold.ensures.torn refl
+
+pub returns-in-Some-hold-clause-free : goal.returns-in-Some-hold-clause-free
+returns-in-Some-hold-clause-free g c = λ full.
+    some_free c.in-Some-hold.hold.place (g.P.Pages.store c.args.self.now.table.store) (g.P.Pages.store c.hold.new.self.store) c.in-Some-hold.ensures.some full

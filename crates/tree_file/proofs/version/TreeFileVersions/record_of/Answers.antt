@@ -5,7 +5,7 @@ use Rattle.tree_file.specs.File.{file_of}
 use Rattle.tree_file.specs.InFile.{file_in}
 use Rattle.tree_file.specs.aid.Backed.{IsBackedFile, backed_still}
 use Rattle.tree_file.specs.aid.Frames.{stays_here}
-use Rattle.tree_file.proofs.Versions.{read_not}
+use Rattle.tree_file.proofs.Versions.{read_faulted, read_not}
 use Rattle.tree_file.proofs.version.TreeFileVersions.record_of.Goals as goal
 
 pub returns-then-number-version-clause-stays : goal.returns-then-number-version-clause-stays
@@ -27,4 +27,10 @@ pub returns-clause-cause : goal.returns-clause-cause
 returns-clause-cause g c = λ table it low.
     let self = c.args.self.now in
     read_not c.args.version.now.hold.place c.args.version.now.slot table (file_of (work_in self.table) self.game) (file_of (work_in c.kept_record.new.self) self.game) it
+    c.kept_record.result c.kept_record.ensures.cause
+
+pub returns-clause-fault : goal.returns-clause-fault
+returns-clause-fault g c =
+    let self = c.args.self.now in
+    read_faulted c.args.version.now.slot (file_of (work_in self.table) self.game) (file_of (work_in c.kept_record.new.self) self.game)
     c.kept_record.result c.kept_record.ensures.cause

@@ -8,17 +8,17 @@ use Rattle.root_slot.specs.aid.Words.{word_same, word_zero}
 use Rattle.tree_table.specs.declared.slot.TreeSlot.{TreeSlot}
 use Rattle.tree_table.specs.Slot.{IsEmptyTreeSlot}
 use Rattle.tree_file.specs.File.{NamesSlot}
-use Rattle.tree_file.proofs.renew.renewed_slot.Goals as goal
+use Rattle.tree_file.proofs.naming.slot_naming.Goals as goal
 
 pub returns-in-Some-clause-names : goal.returns-in-Some-clause-names
 returns-in-Some-clause-names c =
-    subst (λ (g : Option TreeSlot). NamesSlot c.game_slot.result g) (sym c.in-Some.is) (sym (c.game_slot.ensures.slot (inl (omega arith))))
+    subst (λ (g : Option TreeSlot). NamesSlot c.game_slot.result g) (sym c.in-Some.is) (sym (c.game_slot.ensures.slot (inl c.requires)))
 
 pub returns-in-None-clause-pages : goal.returns-in-None-clause-pages
 returns-in-None-clause-pages c = λ late.
     let same : capacity_in c.put_long.new.root ≡ capacity_in c.empty_slot-root.result =
     word_same c.empty_slot-root.result c.put_long.new.root 68 (λ k low high. c.put_long.ensures.behind k (omega (arith, low))) in
-    same ∙ c.empty_slot-root.ensures.pages (omega (arith, c.empty_slot-root.ensures.layout))
+    same ∙ c.empty_slot-root.ensures.pages (omega (arith, c.empty_slot-root.ensures.layout, c.requires))
 
 behind : (c : goal.After-put_long) (k : ℕ) → 72 ≤ k → slice_index c.put_long.new.root k ≡ 0
 behind c k low = elim (cases_lt k 512) [

@@ -1,0 +1,5 @@
+use Rattle.best_line.proofs.Joining.{rows_join}
+use Rattle.best_line.proofs.laws.rows_join.Goals as goal
+
+pub returns : goal.returns
+returns c = rows_join

@@ -1,0 +1,59 @@
+use Rattle.std.proofs.Common.{◌≡◌, ℕ, sym, ◌∙◌, subst}
+use Rattle.sector_disk.specs.Disk.{Disk}
+use Rattle.solver.specs.Solvers.{state}
+use Rattle.recover.specs.Migrating.{EitherLayout, IsCurrent}
+use Rattle.recover.proofs.Migrating.{is_current, still_there}
+use Rattle.recover.proofs.Reading.{on_ok, read_first, read_on}
+use Rattle.recover.proofs.Refusing.{none_by}
+use Rattle.recover.proofs.migration.migrate.Goals as goal
+
+pub returns-in-Ok-clause-current : goal.returns-in-Ok-clause-current
+returns-in-Ok-clause-current g c = λ is.
+    let synced = sym c.is_err.ensures.value ∙ c.if-is_err.false in
+    let read = read_first (g.D.SectorDisk.disk c.args.disk) (g.D.SectorDisk.disk c.sync.new.self) (g.D.SectorDisk.failures c.args.disk)
+    (g.D.SectorDisk.failures c.sync.new.self) c.sync.ensures.time c.sync.ensures.cause.later c.sync.ensures.same
+    (λ honest. on_ok c.sync.result synced (c.sync.ensures.all honest)) in
+    let Earlier = EitherLayout g.First.GameFile.stores g.Second.GameFile.stores in
+    let was = state c.in-Ok.solver in
+    let it = is_current Earlier g.Today.GameFile.stores _ _ _ _ was read c.in-Ok.ensures.opened in
+    subst (λ (d : Disk). IsCurrent Earlier g.Today.GameFile.stores (g.D.SectorDisk.disk c.args.disk) (g.D.SectorDisk.failures c.args.disk) d
+    (g.D.SectorDisk.failures c.close.result)) (sym c.close.ensures.disk)
+    (subst (λ (n : ℕ). IsCurrent Earlier g.Today.GameFile.stores (g.D.SectorDisk.disk c.args.disk) (g.D.SectorDisk.failures c.args.disk)
+    was.disk n) (sym c.close.ensures.failures) it)
+
+pub returns-then-not-is_older-clause-refused : goal.returns-then-not-is_older-clause-refused
+returns-then-not-is_older-clause-refused g c =
+    let synced = sym c.is_err.ensures.value ∙ c.if-is_err.false in
+    let read = read_first (g.D.SectorDisk.disk c.args.disk) (g.D.SectorDisk.disk c.sync.new.self) (g.D.SectorDisk.failures c.args.disk)
+    (g.D.SectorDisk.failures c.sync.new.self) c.sync.ensures.time c.sync.ensures.cause.later c.sync.ensures.same
+    (λ honest. on_ok c.sync.result synced (c.sync.ensures.all honest)) in
+    still_there (EitherLayout g.First.GameFile.stores g.Second.GameFile.stores) g.Today.GameFile.stores _ _ _ _ _ _ c.in-Err.refused.fault
+    read c.in-Err.ensures.refused
+
+pub returns-in-Ok-migrate_earlier-clause-migrated : goal.returns-in-Ok-migrate_earlier-clause-migrated
+returns-in-Ok-migrate_earlier-clause-migrated g c = λ is.
+    let synced = sym c.is_err.ensures.value ∙ c.if-is_err.false in
+    let read = read_first (g.D.SectorDisk.disk c.args.disk) (g.D.SectorDisk.disk c.sync.new.self) (g.D.SectorDisk.failures c.args.disk)
+    (g.D.SectorDisk.failures c.sync.new.self) c.sync.ensures.time c.sync.ensures.cause.later c.sync.ensures.same
+    (λ honest. on_ok c.sync.result synced (c.sync.ensures.all honest)) in
+    c.in-Ok-migrate_earlier.ensures.migrated _ _
+    (read_on _ _ _ _ _ _ read c.in-Err.ensures.refused.from c.in-Err.ensures.refused.leaves)
+
+pub returns-in-Err-migrate_earlier-clause-refused : goal.returns-in-Err-migrate_earlier-clause-refused
+returns-in-Err-migrate_earlier-clause-refused g c =
+    let synced = sym c.is_err.ensures.value ∙ c.if-is_err.false in
+    let read = read_first (g.D.SectorDisk.disk c.args.disk) (g.D.SectorDisk.disk c.sync.new.self) (g.D.SectorDisk.failures c.args.disk)
+    (g.D.SectorDisk.failures c.sync.new.self) c.sync.ensures.time c.sync.ensures.cause.later c.sync.ensures.same
+    (λ honest. on_ok c.sync.result synced (c.sync.ensures.all honest)) in
+    c.in-Err-migrate_earlier.ensures.refused _ _
+    (read_on _ _ _ _ _ _ read c.in-Err.ensures.refused.from c.in-Err.ensures.refused.leaves)
+
+pub returns-in-Err-migrate_earlier-clause-cause : goal.returns-in-Err-migrate_earlier-clause-cause
+returns-in-Err-migrate_earlier-clause-cause g c =
+    let synced = sym c.is_err.ensures.value ∙ c.if-is_err.false in
+    let read = read_first (g.D.SectorDisk.disk c.args.disk) (g.D.SectorDisk.disk c.sync.new.self) (g.D.SectorDisk.failures c.args.disk)
+    (g.D.SectorDisk.failures c.sync.new.self) c.sync.ensures.time c.sync.ensures.cause.later c.sync.ensures.same
+    (λ honest. on_ok c.sync.result synced (c.sync.ensures.all honest)) in
+    c.in-Err-migrate_earlier.ensures.cause _ _
+    (read_on _ _ _ _ _ _ read c.in-Err.ensures.refused.from c.in-Err.ensures.refused.leaves)
+    (none_by g.Today.GameFile.stores _ _ _ _ _ c.in-Err.refused.fault (c.is_older.ensures.0 c.if-not-is_older.false) read c.in-Err.ensures.cause)

@@ -1,0 +1,24 @@
+use Rattle.std.proofs.Common.{◌≡◌, inl, inr, sym, subst}
+use Rattle.solver.specs.Opening.{IsOpened}
+use Rattle.recover.proofs.migration.move_from.Goals as goal
+
+pub returns-in-Ok-clause-moved : goal.returns-in-Ok-clause-moved
+returns-in-Ok-clause-moved g c = record {
+  was = g.Earlier.GameFile.state c.into_file-file.result;
+  opened =
+      subst (λ f. IsOpened g.Earlier.GameFile.stores (g.Earlier.Device.SectorDisk.disk c.args.disk)
+      (g.Earlier.Device.SectorDisk.failures c.args.disk) (g.Earlier.GameFile.state f)) (sym c.into_file-file.ensures) c.in_ok-open.ensures.opened;
+  moved = c.in-Ok.ensures.moved;
+}
+
+pub returns-in-Err-clause-refused : goal.returns-in-Err-clause-refused
+returns-in-Err-clause-refused g c = inr (record {
+  was = g.Earlier.GameFile.state c.into_file-file.result;
+  opened =
+      subst (λ f. IsOpened g.Earlier.GameFile.stores (g.Earlier.Device.SectorDisk.disk c.args.disk)
+      (g.Earlier.Device.SectorDisk.failures c.args.disk) (g.Earlier.GameFile.state f)) (sym c.into_file-file.ensures) c.in_ok-open.ensures.opened;
+  why = c.in-Err.refused.fault;
+  is = c.into.ensures;
+  left = c.in-Err.ensures.left;
+  cause = c.in-Err.ensures.cause;
+})

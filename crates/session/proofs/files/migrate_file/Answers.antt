@@ -1,0 +1,5 @@
+use Rattle.recover.specs.aid.Layouts.{our_layouts}
+use Rattle.session.proofs.files.migrate_file.Goals as goal
+
+pub migrate_on-disk-requires : goal.migrate_on-disk-requires
+migrate_on-disk-requires c = our_layouts

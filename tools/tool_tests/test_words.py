@@ -1,0 +1,45 @@
+"""Help without a program is that of the program, and each tool has help and refuses words that are no command."""
+import os
+
+from .common import ROOT, Case
+
+TOOLS = ("board", "grid", "lint", "moves", "new_table", "play", "report", "second_opinion", "size", "solve", "stats", "trust")
+
+
+class Words(Case):
+    def test_first_words_are_those_of_the_program(self):
+        status, out, _ = self.ran("first_words", "--check", os.environ["RBGSOLVE_PROGRAM"])
+        self.assertEqual((status, out), (0, ""))
+
+    def test_words_that_need_the_program(self):
+        for words in (["moves", "take.rbg"], ["session"], ["--bogus", "create"], ["--"]):
+            self.assertEqual(self.ran("first_words", *words), (100, "", ""))
+
+    def test_output_that_cannot_be_written(self):
+        with open("/dev/full", "wb") as full:
+            import subprocess
+
+            done = subprocess.run([ROOT / "tools/first_words", "--help"], stdout=full, check=False)
+        self.assertEqual(done.returncode, 4)
+
+    def test_each_tool_has_help(self):
+        for tool in TOOLS:
+            status, out, err = self.ran(tool, "--help")
+            self.assertEqual((status, err), (0, ""), tool)
+            self.assertIn(f"tools/{tool}", out)
+            self.assertIn("Exit status", out)
+
+    def test_each_tool_refuses_words_that_are_no_command(self):
+        for tool in TOOLS:
+            for words in ([], ["a", "b", "c", "d"], ["--bogus"]):
+                if (tool == "lint" and "a" in words) or (tool in ("solve", "stats") and "--bogus" in words):
+                    continue  # names of files
+                status, out, err = self.ran(tool, *words)
+                self.assertEqual((status, out), (2, ""), (tool, words))
+                self.assertTrue(err)
+
+    def test_a_file_that_cannot_be_read(self):
+        for tool in ("lint", "size", "second_opinion", "new_table", "trust"):
+            status, out, err = self.ran(tool, "no_such_file", *(["game"] if tool == "trust" else []))
+            self.assertEqual((status, out), (4, ""), tool)
+            self.assertIn("no_such_file", err)
