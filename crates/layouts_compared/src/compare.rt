@@ -1,8 +1,9 @@
 //! What tables of all layouts say of one game, compared.
 
 use crate::layout::{Flat, SECTORS, Second, Third};
-use crate::sitting::{Told, told_of};
+use crate::sitting::{Told, begun_in, ended_in, told_of};
 use page_store::MOST_CACHED;
+use recover::migrate;
 use sector_disk::{MemDisk, SectorDisk};
 use std::alloc::Global;
 use std::fmt::{self, Display, Formatter, Write};
@@ -41,7 +42,8 @@ impl Display for Difference {
 }
 
 /// Loads the game of this text into a table of layout 1, one of layout 2, and two of layout 3 of which one keeps so many pages in memory,
-/// two at most; does up to so many units of work in each, and compares all that they say, and what the files with trees hold.
+/// two at most; does up to so many units of work in each, and compares all that they say, and what the files with trees hold. Two more
+/// tables, of layouts 1 and 2, come into layout 3 behind the first commands, and have to say the same.
 pub fn compare(alloc: Global, text: &[u8], most: u32, pages: usize) -> anyhow::Result<Outcome> {
     let flat = told_of::<Flat>(alloc, text, most, MOST_CACHED)?;
     let second = told_of::<Second>(alloc, text, most, MOST_CACHED)?;
@@ -59,11 +61,31 @@ pub fn compare(alloc: Global, text: &[u8], most: u32, pages: usize) -> anyhow::R
     if !(flat.is_right && second.is_right && third.is_right && spare.is_right) {
         return Ok(Outcome::NotRight);
     }
+    let from_first = moved(alloc, begun_in::<Flat>(alloc, text, most)?, most)?;
+    if let Some(difference) = first_difference(alloc, 3, &flat.said, &from_first.said)? {
+        return Ok(Outcome::Differs(difference));
+    }
+    let from_second = moved(alloc, begun_in::<Second>(alloc, text, most)?, most)?;
+    if let Some(difference) = first_difference(alloc, 3, &flat.said, &from_second.said)? {
+        return Ok(Outcome::Differs(difference));
+    }
+    if !(from_first.is_right && from_second.is_right) {
+        return Ok(Outcome::NotRight);
+    }
     let known = third.known;
     if hold_the_same(second.disk, third.disk, spare.disk)? {
         Ok(Outcome::Equal(known))
     } else {
         Ok(Outcome::OtherFiles)
+    }
+}
+
+/// What a table says that began so in an earlier layout, came into layout 3, and went on in that.
+fn moved(alloc: Global, begun: (MemDisk, Vec<u8>), most: u32) -> anyhow::Result<Told<MemDisk>> {
+    let (disk, said) = begun;
+    match migrate::<MemDisk, Third, Second, Flat>(alloc, disk) {
+        Ok((disk, _)) => ended_in::<Third>(alloc, disk, said, most),
+        Err(refused) => Err(refused.fault.into()),
     }
 }
 

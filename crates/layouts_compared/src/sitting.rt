@@ -42,8 +42,41 @@ where
 {
     let mut said = Vec::new(alloc);
     let loaded = loaded::<F>(alloc, text, pages)?;
-    let worked = worked(alloc, loaded, &mut said, most, pages)?;
+    let worked = worked(alloc, loaded, &mut said, 0, most, pages)?;
     told_at_end(alloc, worked, said)
+}
+
+/// The same up to where the table would be opened for the first time: the disk, and what was said.
+pub fn begun_in<F: Layout + Drop>(
+    alloc: Global,
+    text: &[u8],
+    most: u32,
+) -> anyhow::Result<(F::Device, Vec<u8>)>
+where
+    F::Device: Drop,
+{
+    let mut said = Vec::new(alloc);
+    let mut solver = loaded::<F>(alloc, text, MOST_CACHED)?;
+    some_steps(alloc, &mut solver, &mut said, 0, most)?;
+    Ok((solver.close(), said))
+}
+
+/// The rest of it, on this disk.
+pub fn ended_in<F: Layout + Drop>(
+    alloc: Global,
+    disk: F::Device,
+    said: Vec<u8>,
+    most: u32,
+) -> anyhow::Result<Told<F::Device>>
+where
+    F::Device: Drop,
+{
+    let mut said = said;
+    let mut solver = opened::<F>(alloc, disk, MOST_CACHED)?;
+    if !is_done(solver.status(), most) {
+        solver = worked(alloc, solver, &mut said, COMMANDS as u32, most, MOST_CACHED)?;
+    }
+    told_at_end(alloc, solver, said)
 }
 
 /// A new table with the game of this text and so many pages in memory.
@@ -60,18 +93,19 @@ where
     Ok(solver)
 }
 
-/// Does up to so many units of work, and asks on the way. The table is stopped and opened now and then.
+/// Does up to so many units of work, from this command on, and asks on the way. The table is stopped and opened now and then.
 fn worked<F: Layout + Drop>(
     alloc: Global,
     mut solver: FileSolver<F>,
     said: &mut Vec<u8>,
+    from: u32,
     most: u32,
     pages: usize,
 ) -> anyhow::Result<FileSolver<F>>
 where
     F::Device: Drop,
 {
-    for first in (0..most).step_by(COMMANDS) {
+    for first in (from..most).step_by(COMMANDS) {
         some_steps(alloc, &mut solver, said, first, most)?;
         solver = opened(alloc, F::stopped(alloc, solver.close())?, pages)?;
         if is_done(solver.status(), most) {
