@@ -312,6 +312,10 @@ impl<D: SectorDisk> GameFile for FlatTable<D> {
         self.draft = None;
     }
 
+    fn capacity(&self) -> u32 {
+        self.store.capacity()
+    }
+
     fn grow(&mut self, pages: u32) -> Result<(), FileFault> {
         if self.store.is_closed() {
             return Err(FileFault::Closed);

@@ -24,8 +24,8 @@ pub enum FileFault {
     /// The table is in a file of an earlier layout, which is not opened (E5).
     #[error("the table has an earlier layout")]
     OldLayout,
-    /// There is room for fewer than 16 pages (E6).
-    #[error("there is room for fewer than 16 pages")]
+    /// A table would have fewer than 16 pages; or a growth is to no more pages than there are, or to more than 1,048,576 (E6).
+    #[error("the number of pages is too small, or over 1,048,576")]
     TooSmall,
     /// A page is needed, and none is free (E7).
     #[error("no page is free")]

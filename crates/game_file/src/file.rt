@@ -100,6 +100,10 @@ pub trait GameFile: Table {
     fn is_closed(&self) -> bool
         ensures { result ≡ (state self.now).closed };
 
+    /// How many pages there are. It takes no memory and always answers.
+    fn capacity(&self) -> u32
+        ensures { result ≡ (state self.now).capacity };
+
     /// Commits the table of a game that is loaded now, its start and no more, where none was, with this packing and goal: S6 if the start
     /// has no bytes, and E9, E1, E7, E8. After a refusal there is still none, but that after E1 in a write or a sync the file is closed,
     /// and the disk has the one or the other. A layout that has no place for a goal answers E8 where one is asked for.

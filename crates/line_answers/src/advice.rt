@@ -1,7 +1,12 @@
 //! What is said to people of a refusal: what is wrong, and what to do.
 
+use page_store::MAX_PAGES;
 use solver::SolverFault;
 use std::io::Write;
+
+/// What is said first where no page is free.
+const NO_PAGE: &str =
+    "no page is free: the table stays as it was, and a command of fewer units may still fit; else";
 
 /// What to do after a refusal.
 pub fn advice(fault: SolverFault) -> &'static str {
@@ -31,6 +36,22 @@ pub fn advice(fault: SolverFault) -> &'static str {
         SolverFault::ListingsUsedUp => "end one of them first",
         SolverFault::BadPosition => "write it as `show` does",
     }
+}
+
+/// Says that no page of a table with so many pages is free, and how it gets twice as many, or the most that there may be.
+pub fn tell_full<E: Write>(told: &mut E, pages: u32) {
+    let more = pages.saturating_mul(2).min(MAX_PAGES);
+    let _told = if pages < MAX_PAGES {
+        writeln!(
+            told,
+            "{NO_PAGE} give it more pages: `rbgsolve grow FILE --pages {more}`"
+        )
+    } else {
+        writeln!(
+            told,
+            "{NO_PAGE} write a smaller game, for no table has more pages"
+        )
+    };
 }
 
 /// Says in a sentence what is wrong and what to do, whether or not it arrives.

@@ -12,7 +12,7 @@ ghost use Rattle.line_answers.specs.Answered.{IsValueLine, AreRowLines, IsPlayLi
 ghost use Rattle.line_answers.specs.Answered.{status_of_fault, IsDoneFor, IsReplied, IsWorkReplied};
 ghost use Rattle.line_answers.specs.Told.{fault_line};
 
-use crate::advice::tell_fault;
+use crate::advice::{tell_fault, tell_full};
 use crate::input::{Asked, Question, SESSION_LINES};
 use crate::puts::{put_line, put_refused, put_reply, status_of};
 use crate::turns::reply_to;
@@ -99,6 +99,11 @@ fn put_worked<F: GameFile, W: Write, E: Write>(
         × Appends (W.contents out.old) (W.contents out.new) line) }
 {
     match reply_to(alloc, solver, Command::Work(units)) {
+        Reply::Refused(SolverFault::TableFull) => {
+            put_refused(out, SolverFault::TableFull)?;
+            tell_full(told, solver.capacity());
+            Ok(status_of(SolverFault::TableFull))
+        }
         Reply::Refused(fault) => put_fault(fault, out, told),
         reply => {
             put_reply(out, reply)?;

@@ -29,7 +29,7 @@ pub enum SolverFault {
     #[error("the table has an earlier layout")]
     OldLayout,
     /// E6
-    #[error("there is room for fewer than 16 pages")]
+    #[error("the number of pages is too small, or over 1,048,576")]
     TooSmall,
     /// E7
     #[error("no page is free")]

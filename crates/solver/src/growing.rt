@@ -12,6 +12,13 @@ use game_file::GameFile;
 impl<F: GameFile> FileSolver<F> {
     ghost use Rattle.solver.specs.Solvers.{state, IsReady};
 
+    /// How many pages the file has. It takes no memory and always answers, of a closed solver too.
+    pub fn capacity(&self) -> u32
+        ensures { result ≡ (state self.now).capacity }
+    {
+        self.file.capacity()
+    }
+
     /// Makes the file one of so many pages, by one commit that keeps the table: E9, then E6 unless that is more than there are and at most
     /// 1,048,576, and then E1, E8. It needs no game. The new pages are free from the commit on. After a stop or a refusal the disk may be
     /// longer than that many pages take, which is no fault.

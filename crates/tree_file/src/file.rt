@@ -308,6 +308,10 @@ impl<P: PagesOnDisk, const LAYOUT: u32> GameFile for TreeFile<P, LAYOUT> {
         self.table.restore(&self.game);
     }
 
+    fn capacity(&self) -> u32 {
+        self.table.store.capacity()
+    }
+
     fn grow(&mut self, pages: u32) -> Result<(), FileFault> {
         if self.table.store.is_closed() {
             return Err(FileFault::Closed);
