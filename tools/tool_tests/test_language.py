@@ -9,11 +9,11 @@ from .common import GAMES, ROOT, Case
 
 
 def rows_of_texts():
-    """The rows of docs/TEXTS.md, as tools/check_texts reads them."""
+    """The rows of transcripts/TEXTS.md, as tools/check_texts reads them."""
     source = (ROOT / "tools/check_texts").read_text().rpartition("sys.exit(main")[0]
     names = {"__name__": "check_texts"}
     exec(compile(source, "check_texts", "exec"), names)
-    return list(names["rows_of"](ROOT / "docs/TEXTS.md"))
+    return list(names["rows_of"](ROOT / "transcripts/TEXTS.md"))
 
 
 class Language(Case):
@@ -26,7 +26,7 @@ class Language(Case):
                 found = "ok"
             except language.Fault as fault:
                 found = fault.code
-            self.assertEqual(found, wanted, f"docs/TEXTS.md:{number}")
+            self.assertEqual(found, wanted, f"transcripts/TEXTS.md:{number}")
 
     def test_places_of_faults_are_the_programs(self):
         for line in ("{stone} [stoen]", "->white )", "->grey", "[$ n = 1000001]", "{? ->white}"):

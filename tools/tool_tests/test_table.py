@@ -15,7 +15,7 @@ class Tables(Case):
         return rbgtable.Table(self.table(game), WHERE)
 
     def test_take(self):
-        """The rows of take, as docs/ROWS.md has them."""
+        """The rows of take, as transcripts/ROWS.md has them."""
         with self.opened("take") as table:
             self.assertEqual(str(table.counts), "known 7 expanded 7 settled 7 processed 7 finished")
             self.assertEqual([str(value) for value in table.values()], [
