@@ -5,6 +5,7 @@ use audit::Verdict;
 use line_answers::input::{Asked, Question};
 use line_answers::questions::put_answer;
 use page_store::MOST_CACHED;
+use printed_lines::replies::row_lines;
 use retrograde::Counts;
 use solver::{FileSolver, Units};
 use std::alloc::Global;
@@ -12,6 +13,9 @@ use std::io::Write;
 
 /// So many units are asked for in turn.
 const STEPS: [u32; 4] = [1, 7, 97, 256];
+
+/// So many rows of a listing are asked for in turn: by 15 commands in a row no more than 256.
+const ROWS: [u32; 4] = [3, 40, 1, 17];
 
 /// So many commands are between two openings.
 const COMMANDS: usize = 16;
@@ -160,6 +164,7 @@ where
 }
 
 /// As many commands as there are between two openings, from this one on, but no more once the table is finished or so many units are done.
+/// Behind the first a listing is begun, and behind each later one it gives some rows.
 fn some_steps<F: Layout>(
     alloc: Global,
     solver: &mut FileSolver<F>,
@@ -167,12 +172,52 @@ fn some_steps<F: Layout>(
     first: u32,
     most: u32,
 ) -> anyhow::Result<()> {
-    for round in (first..most).take(COMMANDS) {
+    if first >= most {
+        return Ok(());
+    }
+    step(alloc, solver, said, first)?;
+    if is_done(solver.status(), most) {
+        return Ok(());
+    }
+    let mut rows = F::begin_rows(solver)?;
+    let told = later_steps(alloc, solver, &mut rows, said, first, most);
+    F::end_rows(solver, rows);
+    told
+}
+
+/// The commands behind the first, each with some rows of the listing behind it.
+fn later_steps<F: Layout>(
+    alloc: Global,
+    solver: &mut FileSolver<F>,
+    rows: &mut F::Rows,
+    said: &mut Vec<u8>,
+    first: u32,
+    most: u32,
+) -> anyhow::Result<()> {
+    for round in (first..most).take(COMMANDS).skip(1) {
         step(alloc, solver, said, round)?;
+        put_rows(alloc, solver, rows, said, round)?;
         if is_done(solver.status(), most) {
             return Ok(());
         }
     }
+    Ok(())
+}
+
+/// Some rows of the listing.
+fn put_rows<F: Layout>(
+    alloc: Global,
+    solver: &mut FileSolver<F>,
+    rows: &mut F::Rows,
+    said: &mut Vec<u8>,
+    round: u32,
+) -> anyhow::Result<()> {
+    let Some(count) = Units::new(ROWS[round as usize % 4]) else {
+        return Ok(());
+    };
+    let next = F::next_rows(alloc, solver, rows, count)?;
+    writeln!(said, "{} rows", next.len())?;
+    said.write_all(&row_lines(alloc, solver.needs_game()?, &next)?)?;
     Ok(())
 }
 
