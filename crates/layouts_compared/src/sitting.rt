@@ -14,11 +14,14 @@ use std::io::Write;
 /// So many units are asked for in turn.
 const STEPS: [u32; 4] = [1, 7, 97, 256];
 
-/// So many rows of a listing are asked for in turn: by 15 commands in a row no more than 256.
-const ROWS: [u32; 4] = [3, 40, 1, 17];
-
 /// So many commands are between two openings.
 const COMMANDS: usize = 16;
+
+/// So many of these are done before a listing is begun.
+const BEFORE: usize = 2;
+
+/// So many rows of a listing are asked for behind the others in turn: 240 between two openings, and so no more than 256.
+const ROWS: [u32; 4] = [3, 1, 40, 17];
 
 /// What one table said, and what is left of it.
 #[derive(Drop)]
@@ -164,7 +167,7 @@ where
 }
 
 /// As many commands as there are between two openings, from this one on, but no more once the table is finished or so many units are done.
-/// Behind the first a listing is begun, and behind each later one it gives some rows.
+/// Behind the first two a listing is begun, and behind each later one it gives some rows.
 fn some_steps<F: Layout>(
     alloc: Global,
     solver: &mut FileSolver<F>,
@@ -172,11 +175,7 @@ fn some_steps<F: Layout>(
     first: u32,
     most: u32,
 ) -> anyhow::Result<()> {
-    if first >= most {
-        return Ok(());
-    }
-    step(alloc, solver, said, first)?;
-    if is_done(solver.status(), most) {
+    if !first_steps(alloc, solver, said, first, most)? {
         return Ok(());
     }
     let mut rows = F::begin_rows(solver)?;
@@ -185,7 +184,24 @@ fn some_steps<F: Layout>(
     told
 }
 
-/// The commands behind the first, each with some rows of the listing behind it.
+/// The commands before the listing. Answers whether others come behind them.
+fn first_steps<F: Layout>(
+    alloc: Global,
+    solver: &mut FileSolver<F>,
+    said: &mut Vec<u8>,
+    first: u32,
+    most: u32,
+) -> anyhow::Result<bool> {
+    for round in (first..most).take(BEFORE) {
+        step(alloc, solver, said, round)?;
+        if is_done(solver.status(), most) {
+            return Ok(false);
+        }
+    }
+    Ok(true)
+}
+
+/// The commands beside the listing, each with some rows behind it.
 fn later_steps<F: Layout>(
     alloc: Global,
     solver: &mut FileSolver<F>,
@@ -194,7 +210,7 @@ fn later_steps<F: Layout>(
     first: u32,
     most: u32,
 ) -> anyhow::Result<()> {
-    for round in (first..most).take(COMMANDS).skip(1) {
+    for round in (first..most).take(COMMANDS).skip(BEFORE) {
         step(alloc, solver, said, round)?;
         put_rows(alloc, solver, rows, said, round)?;
         if is_done(solver.status(), most) {
