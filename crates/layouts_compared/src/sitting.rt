@@ -5,6 +5,7 @@ use audit::Verdict;
 use line_answers::input::{Asked, Question};
 use line_answers::questions::put_answer;
 use page_store::MOST_CACHED;
+use printed_lines::replies::row_lines;
 use retrograde::Counts;
 use solver::{FileSolver, Units};
 use std::alloc::Global;
@@ -15,6 +16,12 @@ const STEPS: [u32; 4] = [1, 7, 97, 256];
 
 /// So many commands are between two openings.
 const COMMANDS: usize = 16;
+
+/// So many of these are done before a listing is begun.
+const BEFORE: usize = 2;
+
+/// So many rows of a listing are asked for behind the others in turn: 240 between two openings, and so no more than 256.
+const ROWS: [u32; 4] = [3, 1, 40, 17];
 
 /// What one table said, and what is left of it.
 #[derive(Drop)]
@@ -160,6 +167,7 @@ where
 }
 
 /// As many commands as there are between two openings, from this one on, but no more once the table is finished or so many units are done.
+/// Behind the first two a listing is begun, and behind each later one it gives some rows.
 fn some_steps<F: Layout>(
     alloc: Global,
     solver: &mut FileSolver<F>,
@@ -167,12 +175,65 @@ fn some_steps<F: Layout>(
     first: u32,
     most: u32,
 ) -> anyhow::Result<()> {
-    for round in (first..most).take(COMMANDS) {
+    if !first_steps(alloc, solver, said, first, most)? {
+        return Ok(());
+    }
+    let mut rows = F::begin_rows(solver)?;
+    let told = later_steps(alloc, solver, &mut rows, said, first, most);
+    F::end_rows(solver, rows);
+    told
+}
+
+/// The commands before the listing. Answers whether others come behind them.
+fn first_steps<F: Layout>(
+    alloc: Global,
+    solver: &mut FileSolver<F>,
+    said: &mut Vec<u8>,
+    first: u32,
+    most: u32,
+) -> anyhow::Result<bool> {
+    for round in (first..most).take(BEFORE) {
         step(alloc, solver, said, round)?;
+        if is_done(solver.status(), most) {
+            return Ok(false);
+        }
+    }
+    Ok(true)
+}
+
+/// The commands beside the listing, each with some rows behind it.
+fn later_steps<F: Layout>(
+    alloc: Global,
+    solver: &mut FileSolver<F>,
+    rows: &mut F::Rows,
+    said: &mut Vec<u8>,
+    first: u32,
+    most: u32,
+) -> anyhow::Result<()> {
+    for round in (first..most).take(COMMANDS).skip(BEFORE) {
+        step(alloc, solver, said, round)?;
+        put_rows(alloc, solver, rows, said, round)?;
         if is_done(solver.status(), most) {
             return Ok(());
         }
     }
+    Ok(())
+}
+
+/// Some rows of the listing.
+fn put_rows<F: Layout>(
+    alloc: Global,
+    solver: &mut FileSolver<F>,
+    rows: &mut F::Rows,
+    said: &mut Vec<u8>,
+    round: u32,
+) -> anyhow::Result<()> {
+    let Some(count) = Units::new(ROWS[round as usize % 4]) else {
+        return Ok(());
+    };
+    let next = F::next_rows(alloc, solver, rows, count)?;
+    writeln!(said, "{} rows", next.len())?;
+    said.write_all(&row_lines(alloc, solver.needs_game()?, &next)?)?;
     Ok(())
 }
 

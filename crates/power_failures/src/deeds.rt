@@ -1,7 +1,8 @@
 //! What is done to the table on a disk, and how far it came.
 
+use crate::listed::work_beside_listings;
 use crate::standing::Standing;
-use game_file::GameFile;
+use game_file::{GameFile, Versions};
 use recover::TableFile;
 use sector_disk::MemDisk;
 use solver::{Command, FileSolver, Reply, SolverFault, Units};
@@ -20,10 +21,21 @@ pub enum Deed {
     Work,
     /// Loads the game and works seven units, in one call.
     LoadAndWork,
+    /// Gives the loaded table 64 pages.
+    Grow,
+    /// Begins two listings of the loaded table, works seven units beside them, and asks for rows.
+    WorkBesideListings,
 }
 
 /// All of them.
-pub const DEEDS: [Deed; 4] = [Deed::Create, Deed::Load, Deed::Work, Deed::LoadAndWork];
+pub const DEEDS: [Deed; 6] = [
+    Deed::Create,
+    Deed::Load,
+    Deed::Work,
+    Deed::LoadAndWork,
+    Deed::Grow,
+    Deed::WorkBesideListings,
+];
 
 impl Deed {
     /// What is found before it, after its first command, and so on.
@@ -31,7 +43,8 @@ impl Deed {
         match self {
             Deed::Create => &[Standing::NoTable, Standing::Empty],
             Deed::Load => &[Standing::Empty, Standing::Loaded],
-            Deed::Work => &[Standing::Loaded, Standing::Worked],
+            Deed::Work | Deed::WorkBesideListings => &[Standing::Loaded, Standing::Worked],
+            Deed::Grow => &[Standing::Loaded, Standing::Grown],
             Deed::LoadAndWork => &[Standing::Empty, Standing::Loaded, Standing::Worked],
         }
     }
@@ -57,7 +70,7 @@ pub struct Given<'a> {
 }
 
 /// Does it to the table of this disk, as a file of this layout. Answers the disk, and how far it came.
-pub fn done_on<F: GameFile>(
+pub fn done_on<F: Versions>(
     given: Given<'_>,
     disk: F::Device,
     deed: Deed,
@@ -65,11 +78,48 @@ pub fn done_on<F: GameFile>(
 where
     F::Device: Drop,
 {
-    if deed == Deed::Create {
-        return Ok(created::<F>(given.alloc, disk));
+    match deed {
+        Deed::Create => Ok(created::<F>(given.alloc, disk)),
+        Deed::Grow => Ok(grown::<F>(given, disk)),
+        Deed::WorkBesideListings => Ok(worked_beside_listings::<F>(given, disk)),
+        Deed::Load | Deed::Work | Deed::LoadAndWork => {
+            let commands = commands_of(given, deed)?;
+            commands_done::<F>(given, disk, &commands)
+        }
     }
-    let commands = commands_of(given, deed)?;
-    commands_done::<F>(given, disk, &commands)
+}
+
+/// Gives the table of this disk 64 pages.
+fn grown<F: GameFile>(given: Given<'_>, disk: F::Device) -> (F::Device, Progress) {
+    match FileSolver::<F>::open_with_cache(given.alloc, disk, given.pages.min(64)) {
+        Err(refused) => (refused.disk, refused_by(refused.fault, 0)),
+        Ok(mut solver) => {
+            let grown = solver.grow(64);
+            (solver.close(), progress_by(grown))
+        }
+    }
+}
+
+/// Works seven units beside two listings of the table of this disk.
+fn worked_beside_listings<F: Versions>(given: Given<'_>, disk: F::Device) -> (F::Device, Progress) {
+    match FileSolver::<F>::open_with_cache(given.alloc, disk, given.pages.min(64)) {
+        Err(refused) => (refused.disk, refused_by(refused.fault, 0)),
+        Ok(mut solver) => {
+            let worked = work_beside_listings(&mut solver);
+            (solver.close(), progress_by(worked))
+        }
+    }
+}
+
+/// How far a deed of one command came.
+fn progress_by(answer: Result<(), SolverFault>) -> Progress {
+    match answer {
+        Ok(()) => Progress {
+            done: 1,
+            refused: None,
+        },
+        Err(fault) => refused_by(fault, 0),
+    }
 }
 
 /// Gives these commands to the table of this disk.
@@ -148,7 +198,7 @@ pub fn before(given: Given<'_>, deed: Deed) -> anyhow::Result<MemDisk> {
     let earlier: &[Deed] = match deed {
         Deed::Create => &[],
         Deed::Load | Deed::LoadAndWork => &[Deed::Create],
-        Deed::Work => &[Deed::Create, Deed::Load],
+        Deed::Work | Deed::Grow | Deed::WorkBesideListings => &[Deed::Create, Deed::Load],
     };
     for deed in earlier {
         let (next, progress) = done_on::<TableFile<MemDisk>>(given, disk, *deed)?;

@@ -5,6 +5,7 @@
 mod deeds;
 mod growing;
 mod growth;
+mod listed;
 mod named;
 mod soak;
 mod standing;

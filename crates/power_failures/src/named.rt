@@ -41,6 +41,13 @@ pub fn picked_slot(disk: &mut MemDisk) -> anyhow::Result<u64> {
     Ok(2 + u64::from(gate[0] % 2))
 }
 
+/// How many pages the picked root slot tells.
+pub fn told_pages(disk: &mut MemDisk) -> anyhow::Result<u32> {
+    let picked = picked_slot(disk)?;
+    let slot = sector(disk, picked)?;
+    Ok(word(&slot, 68))
+}
+
 /// The pages of the chain and of the four trees that the picked root slot names.
 pub fn named_pages(alloc: Global, disk: &mut MemDisk) -> anyhow::Result<Vec<u32>> {
     let picked = picked_slot(disk)?;

@@ -90,6 +90,8 @@ enum Order {
     Load,
     /// To work so many units.
     Work(Units),
+    /// To have so many pages.
+    Grow(u32),
 }
 
 /// One round: a table is made, and orders are given to it, each with a stop at a random call, if it comes so far. Answers whether it was
@@ -205,7 +207,7 @@ fn is_equal_to<F: GameFile, M: GameFile>(
 ) -> anyhow::Result<bool> {
     let is_ahead = found.status() != model.status();
     if given.is_done || is_ahead {
-        obey(model, text, given.order)?;
+        follow(model, text, given.order)?;
     }
     tally.count(given.is_done, is_ahead);
     are_equal(random, model, found)
@@ -222,8 +224,11 @@ where
     }
 }
 
-/// To load where no game is, and else to work.
+/// To load where no game is, and else to work; now and then to grow to as many pages as there were at first, or up to as many again.
 fn some_order(random: &mut Pcg32, has_game: bool) -> Order {
+    if below(random, 8) == 0 {
+        return Order::Grow(128 + below(random, 128) as u32);
+    }
     let most = 1 << below(random, 8).min(8);
     match Units::new(1 + below(random, most) as u32) {
         Some(units) if has_game => Order::Work(units),
@@ -293,6 +298,19 @@ fn obey<F: GameFile>(
     match order {
         Order::Load => solver.load(text, None),
         Order::Work(units) => solver.work(units).map(|_| ()),
+        Order::Grow(pages) => solver.grow(pages),
+    }
+}
+
+/// Does what is ordered in the model, which has room for all and does not grow.
+fn follow<M: GameFile>(
+    model: &mut FileSolver<M>,
+    text: &[u8],
+    order: Order,
+) -> Result<(), SolverFault> {
+    match order {
+        Order::Grow(_) => Ok(()),
+        Order::Load | Order::Work(_) => obey(model, text, order),
     }
 }
 

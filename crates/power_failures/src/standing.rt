@@ -1,5 +1,7 @@
 //! What is found on a disk behind a stop.
 
+use crate::named::told_pages;
+use crate::sweep::TELLING;
 use audit::Verdict;
 use game_file::GameFile;
 use recover::TableFile;
@@ -18,6 +20,8 @@ pub enum Standing {
     Loaded,
     /// The same, seven units of it worked.
     Worked,
+    /// The game of takes as it is loaded, in a table of 64 pages; the others have 16.
+    Grown,
     /// Something else.
     Other,
 }
@@ -38,8 +42,8 @@ const WORKED: Counts = Counts {
     processed: 0,
 };
 
-/// What is found on this disk.
-fn found_on<F: GameFile>(alloc: Global, disk: F::Device) -> Standing
+/// What is found on this disk, of which the root tells so many pages.
+fn found_on<F: GameFile>(alloc: Global, disk: F::Device, pages: u32) -> Standing
 where
     F::Device: Drop,
 {
@@ -47,20 +51,21 @@ where
         Err(refused) if refused.fault == SolverFault::NotATable => Standing::NoTable,
         Err(_) => Standing::Other,
         Ok(solver) => {
-            let standing = standing_of(solver.status());
+            let standing = standing_of(solver.status(), pages);
             let _ = solver.close();
             standing
         }
     }
 }
 
-/// Which table is so far.
-fn standing_of(counts: Option<Counts>) -> Standing {
-    match counts {
-        None => Standing::Empty,
-        Some(counts) if counts == LOADED => Standing::Loaded,
-        Some(counts) if counts == WORKED => Standing::Worked,
-        Some(_) => Standing::Other,
+/// Which table is so far and has so many pages.
+fn standing_of(counts: Option<Counts>, pages: u32) -> Standing {
+    match (counts, pages) {
+        (None, 16) => Standing::Empty,
+        (Some(counts), 16) if counts == LOADED => Standing::Loaded,
+        (Some(counts), 64) if counts == LOADED => Standing::Grown,
+        (Some(counts), 16) if counts == WORKED => Standing::Worked,
+        _ => Standing::Other,
     }
 }
 
@@ -96,15 +101,29 @@ where
     }
 }
 
-/// Whether one of these is found on each of the 256 pictures that a stop now leaves.
-pub fn all_stand(alloc: Global, disk: &MemDisk, allowed: &[Standing]) -> anyhow::Result<bool> {
+/// Whether one of these is found on each of the first 256 pictures that a stop now leaves.
+pub fn first_stand(alloc: Global, disk: &MemDisk, allowed: &[Standing]) -> anyhow::Result<bool> {
     for pick in 0..256 {
-        if !allowed.contains(&found_on::<TableFile<MemDisk>>(
-            alloc,
-            disk.after_stop(alloc, pick)?,
-        )) {
+        if !stands(alloc, disk.after_stop(alloc, pick)?, allowed)? {
             return Ok(false);
         }
     }
     Ok(true)
+}
+
+/// Whether one of these is found on each of the pictures that tell all others.
+pub fn telling_stand(alloc: Global, disk: &MemDisk, allowed: &[Standing]) -> anyhow::Result<bool> {
+    for pick in TELLING {
+        if !stands(alloc, disk.after_stop(alloc, pick)?, allowed)? {
+            return Ok(false);
+        }
+    }
+    Ok(true)
+}
+
+/// Whether one of these is found on this picture.
+fn stands(alloc: Global, picture: MemDisk, allowed: &[Standing]) -> anyhow::Result<bool> {
+    let mut picture = picture;
+    let pages = told_pages(&mut picture)?;
+    Ok(allowed.contains(&found_on::<TableFile<MemDisk>>(alloc, picture, pages)))
 }

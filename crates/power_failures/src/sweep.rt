@@ -1,7 +1,7 @@
 //! Each deed again and again, with another disk call at which the power stops or the device fails.
 
 use crate::deeds::{DEEDS, Deed, Given, Progress, before, done_on};
-use crate::standing::{all_stand, is_right_on};
+use crate::standing::{first_stand, is_right_on, telling_stand};
 use recover::TableFile;
 use sector_disk::{FlakyDisk, FuseDisk, MemDisk, SectorDisk};
 use solver::SolverFault;
@@ -99,13 +99,14 @@ fn done_in_trouble(
     Ok((flaky.into_inner(), progress))
 }
 
-/// Whether each stop now leaves what the commands that were answered lead to, or what the next one leads to.
+/// Whether each stop now leaves what the commands that were answered lead to, or what the next one leads to. Of a disk that was just made
+/// longer the first 256 pictures keep four sectors of the new end at most, and those that tell all others lose it or keep it.
 fn is_left(alloc: Global, left: &MemDisk, deed: Deed, progress: Progress) -> anyhow::Result<bool> {
     let standings = deed.standings();
     let end = if progress.refused.is_some() { 2 } else { 1 };
     let allowed = standings.iter().skip(progress.done).take(end);
     let allowed: Vec<_> = allowed.copied().collect(alloc)?;
-    all_stand(alloc, left, &allowed)
+    Ok(first_stand(alloc, left, &allowed)? && telling_stand(alloc, left, &allowed)?)
 }
 
 /// Numbers of pictures that tell all others of what a stop leaves: each sector that is not synced is as at the last sync, as written, and

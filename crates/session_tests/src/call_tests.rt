@@ -43,7 +43,7 @@ pub fn expect_said(said: &Said, status: u8, lines: &str, row: u32) -> Result<(),
 }
 
 /// The game of takes, as the text of a load.
-fn take(alloc: Global) -> Result<FileCommand, Fail> {
+pub fn take(alloc: Global) -> Result<FileCommand, Fail> {
     let mut text = Vec::new(alloc);
     text.extend_from_slice(TAKE.as_bytes())?;
     Ok(FileCommand::Load(text, None))

@@ -5,3 +5,5 @@
 mod call_tests;
 #[cfg(test)]
 mod grow_tests;
+#[cfg(test)]
+mod listing_tests;

@@ -1,7 +1,8 @@
 //! A table gets more pages: what each growth is answered, and what is found where a disk call of it fails and the power stops.
 
-use crate::deeds::{InMemory, LOADED, opened, status, take_table};
+use crate::deeds::{InMemory, LOADED, empty_table, opened, status, take_table};
 use game_file::GameFile;
+use page_store::{PageStore, Pages};
 use retrograde::Counts;
 use sector_disk::{FlakyDisk, MemDisk};
 use solver::SolverFault;
@@ -84,6 +85,37 @@ fn a_table_gets_more_pages_and_never_fewer(rt: HostRuntime) -> Result<(), Fail> 
     }
     let found = found_on::<InMemory>(alloc, FlakyDisk::new(disk, u64::MAX, false))?;
     expect(found, (Some(LOADED), true), 0)
+}
+
+/// How many pages are free in this store once it has as many as its root tells at byte 68, where no page is named.
+fn free_in<P: Pages>(store: &mut P) -> u32 {
+    let root = store.root().bytes;
+    let pages = u32::from_be_bytes([root[68], root[69], root[70], root[71]]);
+    if pages > 0 && pages <= store.capacity() {
+        store.set_capacity(pages);
+    }
+    store.seal();
+    store.free_pages()
+}
+
+/// The same of the store on this disk.
+fn free_on(alloc: Global, disk: MemDisk) -> Result<u32, Fail> {
+    match PageStore::open(alloc, disk) {
+        Ok(mut store) => Ok(free_in(&mut store)),
+        Err(refused) => Err(refused.fault.into()),
+    }
+}
+
+/// All pages but the system page are free where no game is loaded: 15 of 16, and 63 of 64.
+#[test]
+fn an_empty_table_that_grew_has_its_new_pages_free(rt: HostRuntime) -> Result<(), Fail> {
+    let alloc = rt.alloc();
+    let (refused, disk) = grown(alloc, empty_table(alloc)?, 1_048_577)?;
+    expect(refused, Err(SolverFault::TooSmall), 0)?;
+    expect(free_on(alloc, disk.after_stop(alloc, 0)?)?, 15, 16)?;
+    let (said, disk) = grown(alloc, disk, 64)?;
+    expect(said, Ok(()), 64)?;
+    expect(free_on(alloc, disk)?, 63, 64)
 }
 
 /// A stop in a growth to 64 pages, in which this call fails, leaves the same table, which has 16 pages until the gate is written.
