@@ -3,7 +3,8 @@ ghost use Rattle.std.specs.Prelude.{◌≡◌, ◌⊎◌, ◌∷◌, [], ◌++�
 ghost use Rattle.std.specs.Io.KnownBytes.{Appends};
 ghost use Rattle.std.specs.List.{flat_map};
 ghost use Rattle.rbg_game.specs.Meaning.{game_of};
-ghost use Rattle.printed_lines.specs.Answers.{IsMovesAnswer};
+ghost use Rattle.legal_moves.specs.Moves.{start_of};
+ghost use Rattle.printed_lines.specs.Answers.{IsMovesAnswer, TellsMoves};
 ghost use Rattle.printed_lines.specs.Counted.{IsStatusLine};
 ghost use Rattle.printed_lines.specs.Replies.{row_line, value_text};
 ghost use Rattle.solver.specs.Solvers.{state, IsReady};
@@ -67,8 +68,9 @@ pub fn value_line(alloc: Global, game: &Game, value: Value) -> Result<Vec<u8>, A
 
 /// The clause of `moves_to`.
 pub fn moves_to<W: Write>(alloc: Global, text: &[u8], out: &mut W) -> u8
-    ensures { (result ≡ 4)
-        ⊎ ((written : List ℕ) × IsMovesAnswer text.now result written × Appends (W.contents out.old) (W.contents out.new) written) }
+    ensures { (result ≡ 4) ⊎ ((written : List ℕ)
+        × IsMovesAnswer text.now (λ game. TellsMoves game (start_of game)) result written
+        × Appends (W.contents out.old) (W.contents out.new) written) }
 {
     moves::moves_to(alloc, text, out)
 }

@@ -1,5 +1,6 @@
-mod Appending
+pub mod Appending
 mod LineLemmas
 mod WritingLemmas
 mod AnswerLemmas
+mod Asked
 mod Telling

@@ -5,8 +5,8 @@ use Rattle.rbg_game.specs.Games.{Game}
 use Rattle.legal_moves.specs.Listed.{ShownMove}
 use Rattle.printed_lines.specs.Lines.{IsLine, AreLines}
 use Rattle.printed_lines.specs.aid.Stops.{IsStoppedLine}
-use Rattle.printed_lines.specs.declared.moves.Stop.{Stop}
-use Rattle.printed_lines.specs.declared.moves.Stop.TheVariants.{Refused}
+use Rattle.printed_lines.specs.declared.move_lines.Stop.{Stop}
+use Rattle.printed_lines.specs.declared.move_lines.Stop.TheVariants.{Refused}
 use Rattle.printed_lines.specs.declared.refused.Refused.TheVariants.{OutOfMemory}
 
 -- one line more

@@ -19,6 +19,8 @@ pub enum Refused {
     Game(GameFault),
     /// A search reaches too many configurations.
     TooWide,
+    /// The text is that of no position of the game.
+    BadPosition,
 }
 
 impl Refused {
@@ -33,6 +35,7 @@ impl Refused {
             Refused::TooSmall => "E6",
             Refused::Game(fault) => fault.code(),
             Refused::TooWide => "S4",
+            Refused::BadPosition => "S10",
         }
     }
 
@@ -43,7 +46,11 @@ impl Refused {
         match self {
             Refused::Disk => 4,
             Refused::OutOfMemory | Refused::Game(GameFault::OutOfMemory) => 5,
-            Refused::AlreadyATable | Refused::TooSmall | Refused::Game(_) | Refused::TooWide => 1,
+            Refused::AlreadyATable
+            | Refused::TooSmall
+            | Refused::Game(_)
+            | Refused::TooWide
+            | Refused::BadPosition => 1,
         }
     }
 }

@@ -1,12 +1,12 @@
 -- What was written where the moves were not written to their end.
 use Rattle.std.specs.Prelude.{◌≡◌, ℕ, ⊤, List, take}
 use Rattle.rbg_game.specs.Games.{Game}
-use Rattle.rbg_text.specs.Token.{Text}
+use Rattle.rbg_game.specs.declared.position.Position.{Position}
 use Rattle.legal_moves.specs.Listed.{ShownMove}
 use Rattle.printed_lines.specs.Lines.{AreLines}
-use Rattle.printed_lines.specs.Answers.{IsRefused}
-use Rattle.printed_lines.specs.declared.moves.Stop.{Stop}
-use Rattle.printed_lines.specs.declared.moves.Stop.TheVariants.{Refused, Output}
+use Rattle.printed_lines.specs.Answers.{IsUntold}
+use Rattle.printed_lines.specs.declared.move_lines.Stop.{Stop}
+use Rattle.printed_lines.specs.declared.move_lines.Stop.TheVariants.{Refused, Output}
 use Rattle.printed_lines.specs.declared.refused.Refused.TheVariants.{OutOfMemory}
 
 -- some lines were written, and then memory ran out or the output failed
@@ -15,7 +15,7 @@ IsStoppedLine game moves Written (Refused why) = (why ≡ OutOfMemory)
     × ((k : ℕ) × (lines : List ℕ) × AreLines game (take k moves) lines × Written lines)
 IsStoppedLine game moves Written Output = ⊤
 
--- the text was refused, perhaps behind some lines, or the output failed
-abbrev pub IsStopped : Text → (List ℕ → Type 0) → Stop → Type 0
-IsStopped text Written (Refused why) = (lines : List ℕ) × IsRefused text why lines × Written lines
-IsStopped text Written Output = ⊤
+-- the moves of the position are not all told, perhaps behind some lines, or the output failed
+abbrev pub IsStopped : Game → Position → (List ℕ → Type 0) → Stop → Type 0
+IsStopped game at Written (Refused why) = (lines : List ℕ) × IsUntold game at why lines × Written lines
+IsStopped game at Written Output = ⊤

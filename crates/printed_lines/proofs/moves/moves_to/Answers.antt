@@ -1,22 +1,10 @@
-use Rattle.std.proofs.Common.{◌++◌, subst, inl, inr}
-use Rattle.std.specs.Io.KnownBytes.{Appends}
-use Rattle.printed_lines.specs.Answers.{refusal_line}
-use Rattle.printed_lines.specs.aid.Stops.{IsStopped}
-use Rattle.printed_lines.proofs.Appending.{appends_then}
-use Rattle.printed_lines.proofs.AnswerLemmas.{refusal_of}
+use Rattle.legal_moves.specs.Compiled.{compiled_game}
+use Rattle.printed_lines.proofs.Asked.{told_of, refused_of}
 use Rattle.printed_lines.proofs.moves.moves_to.Goals as goal
 
-pub returns-in-Err-Refused : goal.returns-in-Err-Refused
-returns-in-Err-Refused g c =
-    let contents = g.W.Write.contents in
-    let why = c.in-Err-Refused.refused in
-    let told = c.in-Err-Refused.ensures in
-    let stopped = subst (IsStopped c.args.text.now (Appends (contents c.args.out.now) (contents c.write_moves.new.out))) c.in-Err-Refused.field-0-is told.stopped in
-    elim c.write_refused.ensures [
-      | inl failed ↦ inl failed
-      | inr p ↦ inr (
-        stopped.0 ++ refusal_line why,
-        refusal_of c.args.text.now why stopped.0 c.write_refused.result stopped.1 p.0,
-        appends_then (contents c.args.out.now) (contents c.write_moves.new.out) (contents c.write_refused.new.out) stopped.0 (refusal_line why) stopped.2 p.1,
-      )
-    ]
+pub returns-in-Ok : goal.returns-in-Ok
+returns-in-Ok g c =
+    told_of c.args.text.now _ (compiled_game c.in-Ok.book) c.put_start_moves.result _ _ c.in-Ok.ensures.reads c.put_start_moves.ensures
+
+pub returns-in-Err : goal.returns-in-Err
+returns-in-Err g c = refused_of c.args.text.now _ c.in-Err.refused c.write_refused.result _ _ c.in-Err.ensures.refused c.write_refused.ensures

@@ -2,7 +2,7 @@ use Rattle.std.proofs.Common.{ℕ, List, take}
 use Rattle.std.specs.Io.KnownBytes.{Appends}
 use Rattle.legal_moves.specs.Compiled.{compiled_game}
 use Rattle.printed_lines.specs.Lines.{AreLines}
-use Rattle.printed_lines.proofs.moves.write_lines.Given as goal
+use Rattle.printed_lines.proofs.move_lines.write_lines.Given as goal
 
 abbrev pub invariant-loop-k : goal.invariant-loop-k
 invariant-loop-k g l =

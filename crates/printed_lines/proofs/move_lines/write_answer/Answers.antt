@@ -3,8 +3,8 @@ use Rattle.std.specs.Prelude.{codes}
 use Rattle.std.specs.Io.KnownBytes.{Keeps}
 use Rattle.printed_lines.proofs.Appending.{appends_and_keeps}
 use Rattle.printed_lines.proofs.AnswerLemmas.{nothing_left}
-use Rattle.printed_lines.proofs.moves.write_answer.Goals as goal
-use Rattle.printed_lines.proofs.moves.write_answer.Goals.{then-len-eq0+in_ok-write_all, else-len-eq0+in_ok-write_lines}
+use Rattle.printed_lines.proofs.move_lines.write_answer.Goals as goal
+use Rattle.printed_lines.proofs.move_lines.write_answer.Goals.{then-len-eq0+in_ok-write_all, else-len-eq0+in_ok-write_lines}
 
 pub returns-clause-ok : goal.returns-clause-ok
 returns-clause-ok g c =

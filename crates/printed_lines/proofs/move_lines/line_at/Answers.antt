@@ -6,7 +6,7 @@ use Rattle.position_pack.specs.Packings.{form_of}
 use Rattle.printed_lines.specs.Lines.{line_of}
 use Rattle.legal_moves.specs.Compiled.{compiled_game}
 use Rattle.printed_lines.proofs.LineLemmas.{packed_at, position_of, bytes_are, line_is}
-use Rattle.printed_lines.proofs.moves.line_at.Goals as goal
+use Rattle.printed_lines.proofs.move_lines.line_at.Goals as goal
 
 pub unreachable-requires : goal.unreachable-requires
 unreachable-requires c =

@@ -5,7 +5,7 @@ use Rattle.legal_moves.specs.Compiled.{compiled_game}
 use Rattle.printed_lines.specs.Lines.{AreLines}
 use Rattle.printed_lines.proofs.Appending.{appends_then, appends_nothing}
 use Rattle.printed_lines.proofs.WritingLemmas.{one_more_line, stopped}
-use Rattle.printed_lines.proofs.moves.write_lines.Goals as goal
+use Rattle.printed_lines.proofs.move_lines.write_lines.Goals as goal
 
 pub loop-k-init : goal.loop-k-init
 loop-k-init g c = ([], refl, appends_nothing (g.W.Write.contents c.args.out.now))
