@@ -4,7 +4,7 @@ ghost use Rattle.std.specs.Io.KnownBytes.{Appends};
 ghost use Rattle.std.specs.List.{flat_map};
 ghost use Rattle.rbg_game.specs.Meaning.{game_of};
 ghost use Rattle.legal_moves.specs.Moves.{start_of};
-ghost use Rattle.printed_lines.specs.Answers.{IsMovesAnswer, TellsMoves};
+ghost use Rattle.printed_lines.specs.Answers.{IsMovesAnswer, TellsMoves, TellsMovesAt};
 ghost use Rattle.printed_lines.specs.Counted.{IsStatusLine};
 ghost use Rattle.printed_lines.specs.Replies.{row_line, value_text};
 ghost use Rattle.solver.specs.Solvers.{state, IsReady};
@@ -73,4 +73,13 @@ pub fn moves_to<W: Write>(alloc: Global, text: &[u8], out: &mut W) -> u8
         × Appends (W.contents out.old) (W.contents out.new) written) }
 {
     moves::moves_to(alloc, text, out)
+}
+
+/// The clause of `moves_at`.
+pub fn moves_at<W: Write>(alloc: Global, text: &[u8], position: &[u8], out: &mut W) -> u8
+    ensures { (result ≡ 4) ⊎ ((written : List ℕ)
+        × IsMovesAnswer text.now (λ game. TellsMovesAt game position.now) result written
+        × Appends (W.contents out.old) (W.contents out.new) written) }
+{
+    moves::moves_at(alloc, text, position, out)
 }

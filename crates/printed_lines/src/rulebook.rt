@@ -1,9 +1,11 @@
 //! A game that was read, and what is told of its moves.
 
-ghost use Rattle.std.specs.Prelude.{◌≡◌, ◌⊎◌, ℕ, List, IfOk, IfErr};
+ghost use Rattle.std.specs.Prelude.{◌≡◌, ◌⊎◌, ℕ, List, MatchOption, IfOk, IfErr};
 ghost use Rattle.std.specs.Io.KnownBytes.{Appends};
 ghost use Rattle.rbg_game.specs.Names.{HasProperNames};
 ghost use Rattle.rbg_game.specs.Positions.{IsPositionOf};
+ghost use Rattle.rbg_game.specs.declared.position.Position.{Position as TextbookPosition};
+ghost use Rattle.position_pack.specs.Spelled.{IsSpelled};
 ghost use Rattle.rbg_read.specs.Reading.{Reads};
 ghost use Rattle.legal_moves.specs.Compiled.{compiled_game, IsSoundCompiled};
 ghost use Rattle.legal_moves.specs.Moves.{start_of};
@@ -55,9 +57,12 @@ impl Rulebook {
         }
     }
 
-    /// Whether the text is that of a position of the game.
-    pub fn is_position(&self, text: &[u8]) -> bool {
-        read_position(self.compiled.game(), text).is_some()
+    /// The position of the game that the text spells, if it spells one. It takes no memory and always answers.
+    pub fn position(&self, text: &[u8]) -> Option<Position>
+        ensures { MatchOption result ((at : TextbookPosition) → ¬ IsSpelled (compiled_game self.now) at text.now)
+            (λ at. IsSpelled (compiled_game self.now) at text.now) }
+    {
+        read_position(self.compiled.game(), text)
     }
 
     /// Writes the moves of the start, one a line; `ended` where there is none; or `refused` and a code. Gives the exit status, which

@@ -4,9 +4,12 @@
 pub mod commands;
 mod explain;
 mod files;
+mod game_words;
+mod games;
 pub mod line_by_line;
 mod mentions;
 pub mod migrating;
+pub mod moves_by_line;
 mod open;
 mod program;
 mod streams;
@@ -14,5 +17,5 @@ pub mod words;
 mod wrong_names;
 
 pub use line_answers::{input, questions, turns};
-pub use printed_lines::{moves, refused, replies, verdicts};
+pub use printed_lines::{moves, refused, replies, rulebook, verdicts};
 pub use program::run;

@@ -2,17 +2,16 @@
 
 use crate::explain::{Explanation, LineColumn, explain, line_column};
 use crate::files::{audit_file, create_file, grow_file, load_file, migrate_file, session_of_file};
+use crate::games::moves_of_game;
 use crate::streams::Streams;
 use crate::words::{Refusal, Words, words_of};
-use printed_lines::moves::moves_to;
 use printed_lines::refused::Refused;
 use rbg_game::limits::MAX_TEXT_BYTES;
 use rbg_read::fault::GameFault;
-use rbg_read::read::read_game;
 use std::alloc::Global;
 use std::fmt::Display;
 use std::fs;
-use std::io::{self, BufWriter, Read};
+use std::io::{self, Read};
 
 /// As many bytes as are read of a game text: one more than the limit, so that a longer text is seen
 /// to be too long.
@@ -45,7 +44,7 @@ fn run_words(rt: &HostRuntime) -> u8 {
         }
     };
     match words_of(alloc, &words) {
-        Ok(Words::Moves { game }) => moves_of_file(rt, alloc, &game),
+        Ok(Words::Moves { game, at }) => moves_of_game(rt, alloc, &game, at.as_deref()),
         Ok(Words::Create { file, pages }) => create_file(rt, alloc, &file, pages),
         Ok(Words::Load { file, game, goal }) => load_file(rt, alloc, &file, &game, goal),
         Ok(Words::Session { file }) => session_of_file(rt, alloc, &file),
@@ -81,39 +80,6 @@ pub fn status_of_refused(rt: &HostRuntime, refused: Refused) -> u8 {
         Ok(()) => refused.status(),
         Err(_) => 4,
     }
-}
-
-fn moves_of_file(rt: &HostRuntime, alloc: Global, game: &str) -> u8 {
-    let mut text = Vec::new(alloc);
-    if let Err(error) = read_start(rt, game, &mut text) {
-        if error.kind() == io::ErrorKind::OutOfMemory {
-            return status_of_refused(rt, Refused::OutOfMemory);
-        }
-        let status = status_of_refused(rt, Refused::Disk);
-        tell(rt, format_args!("{game}: the file cannot be read"));
-        return status;
-    }
-    let Ok(mut out) = BufWriter::new(alloc, io::writer(rt)) else {
-        return status_of_refused(rt, Refused::OutOfMemory);
-    };
-    let status = moves_to(alloc, &text, &mut out);
-    if status == 1 {
-        tell_why(rt, alloc, game, &text);
-    }
-    status
-}
-
-/// Says on standard error why the text was refused.
-fn tell_why(rt: &HostRuntime, alloc: Global, game: &str, text: &[u8]) {
-    let Err(fault) = read_game(alloc, text) else {
-        return tell(
-            rt,
-            format_args!(
-                "{game}: the search from the start reaches more than 65,536 configurations"
-            ),
-        );
-    };
-    tell_game_fault(rt, alloc, game, text, fault);
 }
 
 /// Says on standard error why the text is no game.

@@ -2,6 +2,7 @@
 ghost use Rattle.std.specs.Prelude.{IfErr};
 ghost use Rattle.session.specs.Statuses.{IsStatusOfWords};
 
+use crate::game_words::{moves_command, position_in};
 use clap::builder::ValueParser;
 use clap::error::ErrorKind;
 use clap::{Arg, ArgAction, ArgMatches, Command, Error};
@@ -14,9 +15,10 @@ use std::alloc::{AllocError, Global};
 /// What the words of a command line ask for.
 #[derive(Drop)]
 pub enum Words {
-    /// The moves of the start of the game in this file.
+    /// The moves of the start of the game in this file, or of the position with this text; `-` is for those on standard input.
     Moves {
         game: String,
+        at: Option<String>,
     },
     /// A new table of so many pages in this file.
     Create {
@@ -151,16 +153,6 @@ const GROW_LONG_ABOUT: &str = concat!(
     "table has as many pages as before or N, and nothing in it is lost.",
 );
 
-const MOVES_ABOUT: &str = "Prints the legal moves of a game's start";
-
-const MOVES_LONG_ABOUT: &str = concat!(
-    "Prints the legal moves of a game's start, one a line: MOVE => POSITION.\n",
-    "\n",
-    "MOVE lists what the move does, each as the number of the action and, behind @, the vertex where it is done. ",
-    "POSITION is who has the turn, the place in the rules, the current vertex, the pieces by vertices, and the two ",
-    "scores and the variables. A start without a legal move is answered by `ended`.",
-);
-
 const NO_NUMBER: &str = "the number behind `--pages` is one to ten digits";
 
 const NO_GOAL: &str = "the number behind `--goal` is one to ten digits";
@@ -243,6 +235,7 @@ fn asked_for(alloc: Global, name: &str, inner: &ArgMatches<'_>) -> Result<Words,
         }),
         _ => Ok(Words::Moves {
             game: given(alloc, inner, "GAME")?,
+            at: position_in(alloc, inner)?,
         }),
     }
 }
@@ -271,7 +264,12 @@ fn command<'a>(alloc: Global) -> Result<Command<'a>, AllocError> {
 }
 
 /// A command, and what help says of it, at the short and at length.
-fn named<'a>(alloc: Global, name: &'a str, about: &'a str, long_about: &'a str) -> Command<'a> {
+pub(crate) fn named<'a>(
+    alloc: Global,
+    name: &'a str,
+    about: &'a str,
+    long_about: &'a str,
+) -> Command<'a> {
     Command::new(alloc, name)
         .about(about)
         .long_about(long_about)
@@ -306,7 +304,7 @@ fn file_word<'a>(alloc: Global) -> Arg<'a> {
     required_word(alloc, "FILE", "The file with the table")
 }
 
-fn game_word<'a>(alloc: Global) -> Arg<'a> {
+pub(crate) fn game_word<'a>(alloc: Global) -> Arg<'a> {
     required_word(alloc, "GAME", "The file with the game text")
 }
 
@@ -372,10 +370,6 @@ fn grow_command<'a>(alloc: Global) -> Result<Command<'a>, AllocError> {
     named(alloc, "grow", GROW_ABOUT, GROW_LONG_ABOUT)
         .arg(file_word(alloc))?
         .arg(pages_word(alloc))
-}
-
-fn moves_command<'a>(alloc: Global) -> Result<Command<'a>, AllocError> {
-    named(alloc, "moves", MOVES_ABOUT, MOVES_LONG_ABOUT).arg(game_word(alloc))
 }
 
 fn refusal_of(alloc: Global, error: Error) -> Refusal

@@ -7,3 +7,5 @@ mod call_tests;
 mod grow_tests;
 #[cfg(test)]
 mod listing_tests;
+#[cfg(test)]
+mod moves_tests;
