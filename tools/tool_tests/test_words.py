@@ -3,7 +3,7 @@ import os
 
 from .common import ROOT, Case
 
-TOOLS = ("board", "grid", "lint", "moves", "new_table", "play", "report", "second_opinion", "size", "solve", "stats", "trust")
+TOOLS = ("board", "export", "grid", "lint", "moves", "new_table", "play", "report", "second_opinion", "size", "solve", "stats", "trust")
 
 
 class Words(Case):
