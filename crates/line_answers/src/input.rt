@@ -87,19 +87,6 @@ impl Line {
         }
     }
 
-    /// The bytes of the line, where LF has ended it: a CR before that is none of them. None where they are too many.
-    pub fn text(&self) -> Option<&[u8]>
-        ensures { MatchOption result (IsTrue self.now.is_too_long
-            ⊎ ((line : List ℕ) × IsBare self.now.bytes.items line × (MAX_LINE_BYTES < length line)))
-            (λ line. IsBare self.now.bytes.items line.now × (length line.now ≤ MAX_LINE_BYTES) × (self.now.is_too_long ≡ false)) }
-    {
-        let line = match self.bytes.as_slice() {
-            [line @ .., b'\r'] => line,
-            line => line,
-        };
-        (!self.is_too_long && line.len() <= MAX_LINE_BYTES).then_some(line)
-    }
-
     /// What the line asks for, where the input ends with it.
     pub fn asked_last(&self) -> Asked<'_>
         ensures long { IsTrue self.now.is_too_long → result ≡ Usage }

@@ -4,12 +4,15 @@ ghost use Rattle.std.specs.Io.KnownBytes.{Appends};
 ghost use Rattle.legal_moves.specs.Compiled.{compiled_game};
 ghost use Rattle.printed_lines.specs.Answers.{TellsMovesAt};
 
-use line_answers::input::Line;
 use printed_lines::refusals::write_refused;
 use printed_lines::refused::Refused;
 use printed_lines::rulebook::Rulebook;
+use rbg_game::limits::MAX_TEXT_BYTES;
 use std::alloc::Global;
 use std::io::{self, Read, Write};
+
+/// More bytes than any position's text has: 128 names of pieces, those of a role and a vertex, and the numbers.
+const MOST_BYTES: usize = 131 * MAX_TEXT_BYTES;
 
 /// Writes the moves of the position on each line of the input, or why they are not told, and then an empty line, before the next line
 /// is read. Gives the exit status: 0 at the end of the input, 4 where the input or the output failed, 5 where memory ran out.
@@ -19,7 +22,7 @@ pub fn moves_by_line<R: Read + Drop, W: Write>(
     input: R,
     out: &mut W,
 ) -> u8 {
-    let mut line = Line::new(alloc);
+    let mut line = Vec::new(alloc);
     for byte in input.bytes() {
         let Ok(byte) = byte else {
             return 4;
@@ -32,31 +35,43 @@ pub fn moves_by_line<R: Read + Drop, W: Write>(
     end_input(alloc, book, &line, out)
 }
 
-/// Puts a byte to the line, or answers the line that it ends; 0 where the line goes on.
+/// Puts a byte to the line, or answers the line that it ends; 0 where the line goes on. Of a line that is too long for a position so many
+/// bytes are kept as show that it is.
 fn put_byte<W: Write>(
     alloc: Global,
     book: &Rulebook,
-    line: &mut Line,
+    line: &mut Vec<u8>,
     byte: u8,
     out: &mut W,
 ) -> u8 {
-    if byte != b'\n' {
-        return match line.push(byte) {
-            Ok(()) => 0,
-            Err(_) => write_refused(Refused::OutOfMemory, out),
-        };
+    if byte == b'\n' {
+        let status = put_line_moves(alloc, book, without_return(line), out);
+        line.clear();
+        return status;
     }
-    let status = put_line_moves(alloc, book, line.text().unwrap_or(b""), out);
-    line.clear();
-    status
+    if line.len() > MOST_BYTES {
+        return 0;
+    }
+    match line.push(byte) {
+        Ok(()) => 0,
+        Err(_) => write_refused(Refused::OutOfMemory, out),
+    }
+}
+
+/// The line without a CR at its end.
+fn without_return(line: &[u8]) -> &[u8] {
+    match line {
+        [bare @ .., b'\r'] => bare,
+        bare => bare,
+    }
 }
 
 /// Answers the last line, if the input ended within one.
-fn end_input<W: Write>(alloc: Global, book: &Rulebook, line: &Line, out: &mut W) -> u8 {
-    let status = match line.text() {
-        Some([]) => 0,
-        text => put_line_moves(alloc, book, text.unwrap_or(b""), out),
-    };
+fn end_input<W: Write>(alloc: Global, book: &Rulebook, line: &[u8], out: &mut W) -> u8 {
+    if line.is_empty() {
+        return 0;
+    }
+    let status = put_line_moves(alloc, book, without_return(line), out);
     if status > 1 { status } else { 0 }
 }
 
