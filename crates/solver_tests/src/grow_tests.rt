@@ -1,4 +1,5 @@
 //! A table gets more pages: what each growth is answered, and what is found where a disk call of it fails and the power stops.
+ghost use Rattle.page_store.specs.Pages.{AllWait};
 
 use crate::deeds::{InMemory, LOADED, empty_table, opened, status, take_table};
 use game_file::GameFile;
@@ -88,7 +89,9 @@ fn a_table_gets_more_pages_and_never_fewer(rt: HostRuntime) -> Result<(), Fail> 
 }
 
 /// How many pages are free in this store once it has as many as its root tells at byte 68, where no page is named.
-fn free_in<P: Pages>(store: &mut P) -> u32 {
+fn free_in<P: Pages>(store: &mut P) -> u32
+    requires { AllWait (P.store store.old) }
+{
     let root = store.root().bytes;
     let pages = u32::from_be_bytes([root[68], root[69], root[70], root[71]]);
     if pages > 0 && pages <= store.capacity() {
@@ -120,7 +123,7 @@ fn an_empty_table_that_grew_has_its_new_pages_free(rt: HostRuntime) -> Result<()
 
 /// A stop in a growth to 64 pages, in which this call fails, leaves the same table, which has 16 pages until the gate is written.
 fn is_left(alloc: Global, call: u64, done: bool, pick: u64) -> Result<(), Fail> {
-    let disk = FlakyDisk::new(take_table(alloc)?, TO_OPEN + call, done);
+    let disk = FlakyDisk::new(take_table(alloc)?, TO_OPEN.saturating_add(call), done);
     let (said, disk) = grown_on::<InMemory>(alloc, disk, 64)?;
     expect(said, Err(SolverFault::Disk), (call, done, pick))?;
     let left = disk.into_inner().after_stop(alloc, pick)?;
