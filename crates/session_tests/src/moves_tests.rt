@@ -79,8 +79,11 @@ fn positions_are_answered_line_by_line(rt: HostRuntime) -> Result<(), Fail> {
 
 /// Whether these words ask for the moves of the position with this text.
 fn ask_for(alloc: Global, words: &[&str], position: &str) -> Result<bool, Fail> {
-    match words_of(alloc, &spelled(alloc, words)?) {
-        Ok(Words::Moves { at: Some(at), .. }) => Ok(at.as_str() == position),
+    let Ok(asked) = words_of(alloc, &spelled(alloc, words)?) else {
+        return Ok(false);
+    };
+    match asked {
+        Words::Moves { game: _, at } => Ok(at.as_deref() == Some(position)),
         _ => Ok(false),
     }
 }
