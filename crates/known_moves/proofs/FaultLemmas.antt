@@ -3,7 +3,7 @@ use Rattle.std.proofs.Common.{◌≡◌, Result, Err, refl}
 use Rattle.legal_moves.specs.declared.fault.MoveFault.{MoveFault}
 use Rattle.legal_moves.specs.declared.fault.MoveFault.TheVariants as search
 use Rattle.table.specs.declared.fault.TableFault.{TableFault}
-use Rattle.known_moves.specs.Causes.{OfTable, search_fault}
+use Rattle.known_moves.specs.Causes.{FaultOfTable, search_fault}
 use Rattle.known_moves.specs.declared.fault.KnownMovesFault.{KnownMovesFault}
 use Rattle.known_moves.specs.declared.fault.KnownMovesFault.TheVariants.{Inconsistent, TooWide, OutOfMemory, Table}
 
@@ -25,7 +25,7 @@ pub search_is_wide : (fault : MoveFault) → search_fault fault ≡ TooWide → 
 search_is_wide search.TooWide is = refl
 search_is_wide search.OutOfMemory is = cc
 
-pub search_of_none : (Fails : TableFault → Type 0) (fault : MoveFault) → OfTable Fails (search_fault fault)
+pub search_of_none : (Fails : TableFault → Type 0) (fault : MoveFault) → FaultOfTable Fails (search_fault fault)
 search_of_none Fails search.TooWide = tt
 search_of_none Fails search.OutOfMemory = tt
 
@@ -33,8 +33,8 @@ pub inconsistent_is_narrow : {X : Type 0} → ◌≡◌ {A = Result X KnownMoves
 inconsistent_is_narrow is = cc
 
 -- after calls that were answered
-pub of_table_after : (Fails Since : TableFault → Type 0) (fault : KnownMovesFault) → ((f : TableFault) → Fails f → Since f) → OfTable Fails fault
-    → OfTable Since fault
+pub of_table_after : (Fails Since : TableFault → Type 0) (fault : KnownMovesFault) → ((f : TableFault) → Fails f → Since f) → FaultOfTable Fails fault
+    → FaultOfTable Since fault
 of_table_after Fails Since Inconsistent since it = tt
 of_table_after Fails Since TooWide since it = tt
 of_table_after Fails Since OutOfMemory since it = tt

@@ -19,7 +19,7 @@ use Rattle.legal_moves.specs.aid.Repacked.{IsRepacked, AreRepacked}
 use Rattle.legal_moves.proofs.ReachLemmas.{position_of}
 use Rattle.legal_moves.proofs.RepackLemmas.{lists_repacked}
 use Rattle.legal_moves.proofs.SourceLemmas.{one_position, at_by_packed, packed_by_at}
-use Rattle.known_moves.specs.Moves.{IsTold, IsKnownMove, modifiers_of}
+use Rattle.known_moves.specs.Moves.{IsKnownAs, IsKnownMove, modifiers_of}
 use Rattle.known_moves.specs.aid.Found.{AreToldMoves, IsToldMove, LeadsToPosition}
 use Rattle.known_moves.specs.declared.known.KnownMove.{KnownMove}
 
@@ -63,7 +63,7 @@ module _ (kind : PackingKind) (game : Game) (view : View (List ℕ)) where
   -- the move, with what the table tells of where it leads
   pub told_is : (found : Option ShownMove) (next : Position) (move : KnownMove) → IfSome found (λ m. IsAt Bytes game m.next next)
       → option_map (λ m. m.shown) found ≡ Some (modifiers_of move) → move.packed.items ≡ packed_by kind (shape_of game) next
-      → move.text.items ≡ text_of game next → IsTold view move.packed.items move.number move.value → IfSome found (λ m. IsToldMove kind game view m move)
+      → move.text.items ≡ text_of game next → IsKnownAs view move.packed.items move.number move.value → IfSome found (λ m. IsToldMove kind game view m move)
   told_is None next move at shown packed text told = tt
   told_is (Some m) next move at shown packed text told =
       let e : m.shown ≡ modifiers_of move = cc in

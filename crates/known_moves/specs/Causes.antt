@@ -11,8 +11,8 @@ search_fault search.TooWide = TooWide
 search_fault search.OutOfMemory = OutOfMemory
 
 -- where the fault is the table's, this is said of it
-abbrev pub OfTable : (TableFault → Type 0) → KnownMovesFault → Type 0
-OfTable fails Inconsistent = Unit {0}
-OfTable fails TooWide = Unit {0}
-OfTable fails OutOfMemory = Unit {0}
-OfTable fails (Table fault) = fails fault
+abbrev pub FaultOfTable : (TableFault → Type 0) → KnownMovesFault → Type 0
+FaultOfTable fails Inconsistent = Unit {0}
+FaultOfTable fails TooWide = Unit {0}
+FaultOfTable fails OutOfMemory = Unit {0}
+FaultOfTable fails (Table fault) = fails fault

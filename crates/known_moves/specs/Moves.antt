@@ -15,9 +15,9 @@ use Rattle.known_moves.specs.declared.known.KnownMove.{KnownMove}
 use Rattle.known_moves.specs.declared.known.KnownMoves.{KnownMoves}
 
 -- the position with these bytes has this number and this value, or it is not known and its value open
-abbrev pub IsTold : View (List ℕ) → List ℕ → Option ℕ → Value → Type 0
-IsTold view bytes None value = ((number : ℕ) → ¬ HasNumber view number bytes) × (value ≡ Open)
-IsTold view bytes (Some number) value = HasNumber view number bytes × IsValue view number value
+abbrev pub IsKnownAs : View (List ℕ) → List ℕ → Option ℕ → Value → Type 0
+IsKnownAs view bytes None value = ((number : ℕ) → ¬ HasNumber view number bytes) × (value ≡ Open)
+IsKnownAs view bytes (Some number) value = HasNumber view number bytes × IsValue view number value
 
 -- the modifiers of the move's word, each with the vertex that is current when it acts
 abbrev pub modifiers_of : KnownMove → List (ℕ × ℕ)
@@ -33,7 +33,7 @@ module _ (kind : PackingKind) (game : Game) (view : View (List ℕ)) where
     pub leads : IsMove game at word next
     pub shortest : IsShortest game at word next
     pub shows : ShowsFrom game word at.state next.state (modifiers_of move)
-    pub told : IsTold view move.packed.items move.number move.value
+    pub told : IsKnownAs view move.packed.items move.number move.value
 
   -- all moves of the position with this number: each successor once, by ascending bytes, and who has the turn
   pub record AreKnownMoves (number : ℕ) (known : KnownMoves) : Type 0 where

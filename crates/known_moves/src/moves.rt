@@ -5,7 +5,7 @@ ghost use Rattle.retrograde.specs.View.{HasNumber};
 ghost use Rattle.table.specs.Faults.{NeedsNoPage};
 ghost use Rattle.legal_moves.specs.Compiled.{compiled_game, packing_kind, IsSoundCompiled};
 ghost use Rattle.legal_moves.specs.Sources.{IsPositionBytes, IsWideAt};
-ghost use Rattle.known_moves.specs.Causes.{OfTable};
+ghost use Rattle.known_moves.specs.Causes.{FaultOfTable};
 ghost use Rattle.known_moves.specs.Moves.{AreKnownMoves};
 ghost use Rattle.known_moves.specs.aid.Found.{AreToldMoves, IsToldMove, LeadsToPosition};
 ghost use Rattle.known_moves.specs.declared.fault.KnownMovesFault.TheVariants.{Inconsistent, TooWide};
@@ -37,8 +37,8 @@ fn told_move<T: Table>(
     ensures honest { T.is_honest table.old ↔ T.is_honest table.new }
     ensures counts { T.counted table.new ≡ T.counted table.old }
     ensures stays { T.stays table.old table.new }
-    ensures room { IfErr result (OfTable NeedsNoPage) }
-    ensures fault { IfErr result (OfTable (T.fails table.old table.new)) }
+    ensures room { IfErr result (FaultOfTable NeedsNoPage) }
+    ensures fault { IfErr result (FaultOfTable (T.fails table.old table.new)) }
 {
     let word = moves.word(alloc, k)?;
     let next = successor_of(compiled, moves, k);
@@ -70,8 +70,8 @@ fn told_moves<T: Table>(
     ensures honest { T.is_honest table.old ↔ T.is_honest table.new }
     ensures counts { T.counted table.new ≡ T.counted table.old }
     ensures stays { T.stays table.old table.new }
-    ensures room { IfErr result (OfTable NeedsNoPage) }
-    ensures fault { IfErr result (OfTable (T.fails table.old table.new)) }
+    ensures room { IfErr result (FaultOfTable NeedsNoPage) }
+    ensures fault { IfErr result (FaultOfTable (T.fails table.old table.new)) }
 {
     let mut known = Vec::new(alloc);
     for k in 0..moves.len() {
@@ -104,8 +104,8 @@ pub fn known_moves<T: Table>(
     ensures honest { T.is_honest table.old ↔ T.is_honest table.new }
     ensures counts { T.counted table.new ≡ T.counted table.old }
     ensures stays { T.stays table.old table.new }
-    ensures room { IfErr result (OfTable NeedsNoPage) }
-    ensures fault { IfErr result (OfTable (T.fails table.old table.new)) }
+    ensures room { IfErr result (FaultOfTable NeedsNoPage) }
+    ensures fault { IfErr result (FaultOfTable (T.fails table.old table.new)) }
 {
     let packed = table.packed(number)?;
     let Some(at) = compiled.packing().unpack(&packed) else {

@@ -2,7 +2,7 @@
 ghost use Rattle.std.specs.Prelude.{◌≡◌, ◌↔◌, IfOk, IfErr};
 ghost use Rattle.retrograde.specs.Stored.{IsTable, view_of};
 ghost use Rattle.table.specs.Faults.{NeedsNoPage};
-ghost use Rattle.known_moves.specs.Moves.{IsTold};
+ghost use Rattle.known_moves.specs.Moves.{IsKnownAs};
 
 use best_line::{Value, value};
 use position_pack::Packed;
@@ -20,7 +20,7 @@ pub struct Told {
 /// What a table tells of the position with these bytes. The table stays as it was.
 pub fn told_of<T: Table>(table: &mut T, packed: &Packed) -> Result<Told, TableFault>
     ensures told { T.is_honest table.old → IsTable (T.stored table.old)
-        → IfOk result (λ told. IsTold (view_of (T.stored table.old)) packed.now.items told.number told.value) }
+        → IfOk result (λ told. IsKnownAs (view_of (T.stored table.old)) packed.now.items told.number told.value) }
     ensures same { T.is_honest table.old → T.stored table.new ≡ T.stored table.old }
     ensures honest { T.is_honest table.old ↔ T.is_honest table.new }
     ensures counts { T.counted table.new ≡ T.counted table.old }

@@ -8,7 +8,7 @@ use Rattle.position_pack.specs.Texts.{text_of}
 use Rattle.retrograde.specs.View.{View}
 use Rattle.legal_moves.specs.Listed.{ShownMove}
 use Rattle.legal_moves.specs.Sources.{IsAt}
-use Rattle.known_moves.specs.Moves.{IsTold, modifiers_of}
+use Rattle.known_moves.specs.Moves.{IsKnownAs, modifiers_of}
 use Rattle.known_moves.specs.declared.known.KnownMove.{KnownMove}
 
 -- the bytes are those of a position of the game
@@ -23,7 +23,7 @@ module _ (kind : PackingKind) (game : Game) (view : View (List ℕ)) where
     pub packed_is : IsAt kind game move.packed.items next
     pub text_is : move.text.items ≡ text_of game next
     pub shown_is : found.shown ≡ modifiers_of move
-    pub told : IsTold view move.packed.items move.number move.value
+    pub told : IsKnownAs view move.packed.items move.number move.value
 
   -- so many as were found, each in its place
   pub record AreToldMoves (found : List ShownMove) (moves : List KnownMove) : Type 0 where
