@@ -19,7 +19,8 @@ one_fewer (m ∷ old) [] at long low was is others = absurd (omega (arith, long)
 one_fewer (m ∷ old) (n ∷ new) zero long low was is others =
     omega (arith, ap free_one was, ap free_one is, free_same old new (omega (arith, long)) (λ p. others (suc p) (λ same. omega (arith, same))))
 one_fewer (m ∷ old) (n ∷ new) (suc at) long low was is others =
-    omega (arith, ap free_one (others 0 (λ same. omega (arith, same))), one_fewer old new at (omega (arith, long)) (omega (arith, low)) was is (λ p other. others (suc p) (λ same. other (omega (arith, same)))))
+    let fewer = one_fewer old new at (omega (arith, long)) (omega (arith, low)) was is (λ p other. others (suc p) (λ same. other (omega (arith, same)))) in
+    omega (arith, ap free_one (others 0 (λ same. omega (arith, same))), fewer)
 
 all_free : (marks : List Mark) → ((p : ℕ) → p < length marks → mark marks p ≡ Free) → free_count marks ≡ length marks
 all_free [] each = refl
