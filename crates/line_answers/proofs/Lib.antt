@@ -1,3 +1,4 @@
 mod OneReply
 mod AskLemmas
 mod Telling
+pub mod LookLemmas

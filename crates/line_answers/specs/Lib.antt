@@ -9,4 +9,6 @@ pub mod Told
 pub mod Asked
 pub mod Answered
 pub mod Listed
+pub mod Looked
+pub mod Looks
 pub mod aid

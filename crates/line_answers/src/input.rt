@@ -34,8 +34,8 @@ pub const SESSION_LINES: &str = concat!(
 /// The bytes of a line so far.
 #[derive(Drop)]
 pub struct Line {
-    bytes: Vec<u8>,
-    is_too_long: bool,
+    pub(crate) bytes: Vec<u8>,
+    pub(crate) is_too_long: bool,
 }
 
 impl Line {
@@ -147,7 +147,7 @@ pub enum ListingLine {
 }
 
 /// What a line asks for, without what ends it.
-fn asked_by(line: &[u8]) -> Asked<'_>
+pub(crate) fn asked_by(line: &[u8]) -> Asked<'_>
     ensures { Asks line.now result }
 {
     if line.len() > MAX_LINE_BYTES {
@@ -249,7 +249,7 @@ fn two_asked<'a>(word: &[u8], from_word: &[u8], count_word: &[u8]) -> Asked<'a>
 }
 
 /// The first word of a line, and what stands behind it; no word is empty.
-fn next_word(line: &[u8]) -> (&[u8], &[u8])
+pub(crate) fn next_word(line: &[u8]) -> (&[u8], &[u8])
     ensures { IsFirstWord line.now result.0.now result.1.now }
 {
     split_at_space(trimmed(line))

@@ -4,6 +4,8 @@
 pub mod advice;
 pub mod input;
 pub mod listings;
+pub mod looked;
+pub mod looks;
 mod numbers;
 pub mod puts;
 pub mod questions;

@@ -113,7 +113,7 @@ fn put_worked<F: GameFile, W: Write, E: Write>(
 }
 
 /// The text that answers a question, in whole lines.
-fn text_of<F: GameFile>(
+pub(crate) fn text_of<F: GameFile>(
     alloc: Global,
     solver: &mut FileSolver<F>,
     question: Question<'_>,

@@ -7,5 +7,6 @@ pub mod Lines
 pub mod Answers
 pub mod Replies
 pub mod Counted
+pub mod Known
 pub mod Verdicts
 pub mod aid

@@ -45,7 +45,8 @@ fn name_of_vertex(game: &Game, vertex: u8) -> &[u8]
     }
 }
 
-fn put_modifier(
+/// Puts a modifier behind a line, as `NUMBER@VERTEX` and a space.
+pub(crate) fn put_modifier(
     alloc: Global,
     line: &mut Vec<u8>,
     game: &Game,

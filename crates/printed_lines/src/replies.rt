@@ -38,7 +38,7 @@ fn name_of_player(game: &Game, player: Player) -> &[u8]
 }
 
 /// Puts a number behind a line.
-fn put_number(alloc: Global, line: &mut Vec<u8>, number: u32) -> Result<(), AllocError>
+pub(crate) fn put_number(alloc: Global, line: &mut Vec<u8>, number: u32) -> Result<(), AllocError>
     ensures { IfOk result (λ _. line.new.items ≡ line.old.items ++ decimal number) }
 {
     let number = number.to_string(alloc)?;
@@ -46,7 +46,12 @@ fn put_number(alloc: Global, line: &mut Vec<u8>, number: u32) -> Result<(), Allo
 }
 
 /// Puts the text of a value behind a line.
-fn put_value(alloc: Global, line: &mut Vec<u8>, game: &Game, value: Value) -> Result<(), AllocError>
+pub(crate) fn put_value(
+    alloc: Global,
+    line: &mut Vec<u8>,
+    game: &Game,
+    value: Value,
+) -> Result<(), AllocError>
     ensures { IfOk result (λ _. line.new.items ≡ line.old.items ++ value_text (game_of game.now) value) }
 {
     match value {

@@ -22,7 +22,8 @@ use std::path::Path;
 /// The bytes of a page.
 const PAGE: u64 = 4_096;
 
-const TO_READ: &str = "give a file that is there and may be read";
+/// What to do where a file cannot be read.
+pub const TO_READ: &str = "give a file that is there and may be read";
 
 const TO_CHANGE: &str = "give a file that is there and may be read and written";
 
@@ -206,7 +207,7 @@ pub fn session_of_file(rt: &HostRuntime, alloc: Global, name: &str) -> u8 {
 }
 
 /// The disk over an open file; or the status, once it was said why there is none.
-fn disk_over(
+pub fn disk_over(
     rt: &HostRuntime,
     alloc: Global,
     name: &str,
@@ -306,7 +307,7 @@ fn folder_of(rt: &HostRuntime, name: &str) -> io::Result<File> {
 }
 
 /// Says that a table's file is not open, and gives the status.
-fn refused_opening(rt: &HostRuntime, name: &str, why: Unopened, advice: &str) -> u8 {
+pub fn refused_opening(rt: &HostRuntime, name: &str, why: Unopened, advice: &str) -> u8 {
     match why {
         Unopened::Failed(error) => refused_file(rt, name, &error, advice),
         Unopened::OwnOutput => 4,

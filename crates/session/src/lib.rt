@@ -7,12 +7,14 @@ mod files;
 mod game_words;
 mod games;
 pub mod line_by_line;
+mod look;
 mod mentions;
 pub mod migrating;
 pub mod moves_by_line;
 mod open;
 mod program;
 mod streams;
+mod table_words;
 pub mod words;
 mod wrong_names;
 

@@ -5,10 +5,20 @@ use game_file::Versions;
 use line_answers::advice::tell_fault;
 use line_answers::input::{Asked, Line};
 use line_answers::listings::put_listing;
+use line_answers::looked::Looked;
+use line_answers::looks::put_looked;
 use line_answers::questions::put_answer;
 use solver::{FileSolver, Listing, SolverFault};
 use std::alloc::Global;
 use std::io::{ErrorKind, Read, Write};
+
+/// What a session may do, and what it keeps.
+enum Manner<V> {
+    /// It works, asks and keeps listings; those that are open stand here.
+    Work(Vec<Listing<V>>),
+    /// It only looks.
+    Look,
+}
 
 /// Answers each line of the input, on the table of this disk, as a file of whichever layout, before the next line is read. Gives the exit status, which
 /// is 4 where the input or the output failed, and the disk. What a refusal means goes to `told`, whether or not it arrives. However the
@@ -20,14 +30,45 @@ pub fn session_over<F: Versions, R: Read, W: Write, E: Write>(
     out: &mut W,
     told: &mut E,
 ) -> (u8, F::Device) {
+    lines_over::<F, R, W, E>(alloc, disk, Manner::Work(Vec::new(alloc)), input, out, told)
+}
+
+/// The same for a session that only looks: it writes nothing to the disk.
+pub fn look_over<F: Versions, R: Read, W: Write, E: Write>(
+    alloc: Global,
+    disk: F::Device,
+    input: &mut R,
+    out: &mut W,
+    told: &mut E,
+) -> (u8, F::Device) {
+    lines_over::<F, R, W, E>(alloc, disk, Manner::Look, input, out, told)
+}
+
+/// Answers the lines in this manner.
+fn lines_over<F: Versions, R: Read, W: Write, E: Write>(
+    alloc: Global,
+    disk: F::Device,
+    mut manner: Manner<F::Version>,
+    input: &mut R,
+    out: &mut W,
+    told: &mut E,
+) -> (u8, F::Device) {
     match FileSolver::<F>::open(alloc, disk) {
         Ok(mut solver) => {
-            let mut listings = Vec::new(alloc);
-            let status = answer_all(alloc, &mut solver, &mut listings, input, out, told);
-            give_back(&mut solver, listings);
+            let status = answer_all(alloc, &mut solver, &mut manner, input, out, told);
+            match manner {
+                Manner::Work(listings) => give_back(&mut solver, listings),
+                Manner::Look => {}
+            }
             (status, solver.close())
         }
-        Err(refused) => (refuse(refused.fault, out, told), refused.disk),
+        Err(refused) => {
+            match manner {
+                Manner::Work(listings) => listings.destroy_empty(),
+                Manner::Look => {}
+            }
+            (refuse(refused.fault, out, told), refused.disk)
+        }
     }
 }
 
@@ -51,7 +92,7 @@ fn refuse<W: Write, E: Write>(fault: SolverFault, out: &mut W, told: &mut E) -> 
 fn answer_all<F: Versions, R: Read, W: Write, E: Write>(
     alloc: Global,
     solver: &mut FileSolver<F>,
-    listings: &mut Vec<Listing<F::Version>>,
+    manner: &mut Manner<F::Version>,
     input: &mut R,
     out: &mut W,
     told: &mut E,
@@ -62,7 +103,7 @@ fn answer_all<F: Versions, R: Read, W: Write, E: Write>(
     for _turn in 0..u64::MAX {
         let count = match input.read(&mut chunk) {
             Ok(0) => {
-                let ended = answer(alloc, solver, listings, line.asked_last(), out, told);
+                let ended = answer_last(alloc, solver, manner, &line, out, told);
                 return ended.unwrap_or(0);
             }
             Ok(count) => count,
@@ -70,7 +111,7 @@ fn answer_all<F: Versions, R: Read, W: Write, E: Write>(
             Err(_) => return 4,
         };
         let bytes = &chunk[..count];
-        if let Some(status) = answer_chunk(alloc, solver, listings, &mut line, bytes, out, told) {
+        if let Some(status) = answer_chunk(alloc, solver, manner, &mut line, bytes, out, told) {
             return status;
         }
     }
@@ -82,14 +123,14 @@ fn answer_all<F: Versions, R: Read, W: Write, E: Write>(
 fn answer_chunk<F: Versions, W: Write, E: Write>(
     alloc: Global,
     solver: &mut FileSolver<F>,
-    listings: &mut Vec<Listing<F::Version>>,
+    manner: &mut Manner<F::Version>,
     line: &mut Line,
     chunk: &[u8],
     out: &mut W,
     told: &mut E,
 ) -> Option<u8> {
     for byte in chunk {
-        let ended = answer_byte(alloc, solver, listings, line, *byte, out, told);
+        let ended = answer_byte(alloc, solver, manner, line, *byte, out, told);
         if ended.is_some() {
             return ended;
         }
@@ -101,7 +142,7 @@ fn answer_chunk<F: Versions, W: Write, E: Write>(
 fn answer_byte<F: Versions, W: Write, E: Write>(
     alloc: Global,
     solver: &mut FileSolver<F>,
-    listings: &mut Vec<Listing<F::Version>>,
+    manner: &mut Manner<F::Version>,
     line: &mut Line,
     byte: u8,
     out: &mut W,
@@ -113,9 +154,39 @@ fn answer_byte<F: Versions, W: Write, E: Write>(
             Err(_) => Some(refuse(SolverFault::OutOfMemory, out, told)),
         };
     }
-    let ended = answer(alloc, solver, listings, line.asked(), out, told);
+    let ended = answer_ended(alloc, solver, manner, line, out, told);
     line.clear();
     ended
+}
+
+/// Writes the reply to a line that LF has ended. Gives the status where the session ends with it.
+fn answer_ended<F: Versions, W: Write, E: Write>(
+    alloc: Global,
+    solver: &mut FileSolver<F>,
+    manner: &mut Manner<F::Version>,
+    line: &Line,
+    out: &mut W,
+    told: &mut E,
+) -> Option<u8> {
+    match manner {
+        Manner::Work(listings) => answer(alloc, solver, listings, line.asked(), out, told),
+        Manner::Look => answer_look(alloc, solver, line.looked(), out, told),
+    }
+}
+
+/// Writes the reply to the line with which the input ends. Gives the status where it ends the session.
+fn answer_last<F: Versions, W: Write, E: Write>(
+    alloc: Global,
+    solver: &mut FileSolver<F>,
+    manner: &mut Manner<F::Version>,
+    line: &Line,
+    out: &mut W,
+    told: &mut E,
+) -> Option<u8> {
+    match manner {
+        Manner::Work(listings) => answer(alloc, solver, listings, line.asked_last(), out, told),
+        Manner::Look => answer_look(alloc, solver, line.looked_last(), out, told),
+    }
 }
 
 /// Writes the reply to a line. Gives the status where the session ends with it.
@@ -133,6 +204,23 @@ fn answer<F: Versions, W: Write, E: Write>(
         asked => put_answer(alloc, solver, asked, out, told),
     };
     match replied {
+        Ok(status) => (status > 1).then_some(status),
+        Err(_) => Some(4),
+    }
+}
+
+/// The same where it only looks.
+fn answer_look<F: Versions, W: Write, E: Write>(
+    alloc: Global,
+    solver: &mut FileSolver<F>,
+    looked: Looked<'_>,
+    out: &mut W,
+    told: &mut E,
+) -> Option<u8> {
+    if looked == Looked::Quit {
+        return Some(0);
+    }
+    match put_looked(alloc, solver, looked, out, told) {
         Ok(status) => (status > 1).then_some(status),
         Err(_) => Some(4),
     }

@@ -3,6 +3,7 @@
 use crate::explain::{Explanation, LineColumn, explain, line_column};
 use crate::files::{audit_file, create_file, grow_file, load_file, migrate_file, session_of_file};
 use crate::games::moves_of_game;
+use crate::look::look_at_file;
 use crate::streams::Streams;
 use crate::words::{Refusal, Words, words_of};
 use printed_lines::refused::Refused;
@@ -48,6 +49,7 @@ fn run_words(rt: &HostRuntime) -> u8 {
         Ok(Words::Create { file, pages }) => create_file(rt, alloc, &file, pages),
         Ok(Words::Load { file, game, goal }) => load_file(rt, alloc, &file, &game, goal),
         Ok(Words::Session { file }) => session_of_file(rt, alloc, &file),
+        Ok(Words::Look { file }) => look_at_file(rt, alloc, &file),
         Ok(Words::Audit { file }) => audit_file(rt, alloc, &file),
         Ok(Words::Migrate { file }) => migrate_file(rt, alloc, &file),
         Ok(Words::Grow { file, pages }) => grow_file(rt, alloc, &file, pages),

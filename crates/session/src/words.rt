@@ -3,13 +3,13 @@ ghost use Rattle.std.specs.Prelude.{IfErr};
 ghost use Rattle.session.specs.Statuses.{IsStatusOfWords};
 
 use crate::game_words::{moves_command, position_in};
-use clap::builder::ValueParser;
+use crate::table_words::{
+    audit_command, create_command, grow_command, load_command, look_command, migrate_command,
+    session_command,
+};
 use clap::error::ErrorKind;
 use clap::{Arg, ArgAction, ArgMatches, Command, Error};
-pub use line_answers::input::SESSION_LINES;
-use page_store::MAX_PAGES;
 use rbg_game::goal::Goal;
-use rbg_game::limits::MAX_POINTS;
 use std::alloc::{AllocError, Global};
 
 /// What the words of a command line ask for.
@@ -33,6 +33,10 @@ pub enum Words {
     },
     /// A session over the table of this file.
     Session {
+        file: String,
+    },
+    /// Questions about the table of this file.
+    Look {
         file: String,
     },
     /// Whether the table of this file is right.
@@ -81,76 +85,7 @@ const AFTER_HELP: &str = concat!(
     "    prints  black in 3\n",
     "\n",
     "A command that cannot be done is answered by `refused` and a code, which docs/REFUSALS.md lists.\n",
-    "A run takes its table: while one works on it, others end with status 4. Audits may run side by side.",
-);
-
-const CREATE_ABOUT: &str = "Makes an empty table in a file";
-
-const CREATE_LONG_ABOUT: &str = concat!(
-    "Makes an empty table in a file, and prints `created`.\n",
-    "\n",
-    "FILE gets the length of N pages. Of what was in it, the first 2,048 bytes are written over at once, the ",
-    "others only as the table grows, and all behind the new length is lost: standard error says so before. A file that ",
-    "begins as each table does is not touched: that is answered by `refused E3`.",
-);
-
-const LOAD_ABOUT: &str = "Loads a game into an empty table";
-
-const LOAD_LONG_ABOUT: &str = concat!(
-    "Loads the game of a text into an empty table, and prints `loaded`.\n",
-    "\n",
-    "The table then knows the start of the game. `session` solves it. A table of an earlier layout is not opened: ",
-    "that is answered by `refused E5`, and `migrate` brings it into today's.\n",
-    "\n",
-    "Without a goal the player has won who has more points at the end of play. With `--goal K` it is the one who has ",
-    "K points or more while the other has fewer than K: if both have so many, or neither, nobody has won. The table ",
-    "keeps its goal.",
-);
-
-const SESSION_ABOUT: &str = "Works on a table and asks it, by commands on standard input";
-
-const SESSION_LONG_ABOUT: &str = concat!(
-    "Works on a table and asks it, by commands, one a line, on standard input, with the reply to each on standard ",
-    "output. When a reply is there, what it says is on the disk. What a refusal means is said on standard error.\n",
-    "\n",
-    "Positions are numbered from 0, the start, in the order in which they came to be known. A unit of work looks ",
-    "at one position: finds where its moves lead, or, once that is done for all, tells its predecessors who wins ",
-    "it. A table is finished when nothing is left to do. A table that may be read and not written can be asked.\n",
-    "\n",
-    "A table of an earlier layout is not opened: that is answered by `refused E5`, and `migrate` brings it into today's.",
-);
-
-const AUDIT_ABOUT: &str = "Says whether a table is right, whoever made it";
-
-const AUDIT_LONG_ABOUT: &str = concat!(
-    "Says whether a table is right, whoever made it. Each number is compared with the game and with the numbers ",
-    "beside it, by seven conditions, A1 to A7.\n",
-    "\n",
-    "It prints `audit right finished`, or `audit right open` where work is left: then the named player wins each ",
-    "settled position in exactly the named number of moves, and of a finished table the positions are all that ",
-    "play can reach and the unsettled ones are drawn. Or it prints `audit wrong N REASON` with the lowest number ",
-    "that fails and its lowest condition, and ends with status 1.",
-);
-
-const MIGRATE_ABOUT: &str = "Brings a table of an earlier layout into today's";
-
-const MIGRATE_LONG_ABOUT: &str = concat!(
-    "Brings a table of an earlier layout into today's, and prints `migrated`; or `current` where it has today's already.\n",
-    "\n",
-    "The game, the numbers of the positions and all that is known of them stay, and so does the number of pages. What ",
-    "stops it loses nothing: the file has the table in the one layout or in the other, so give the command again. A ",
-    "table of layout 1 is copied within the file. If there is no room for that, it is answered by `refused E7`, and the ",
-    "table stays as it was.",
-);
-
-const GROW_ABOUT: &str = "Gives a table more pages";
-
-const GROW_LONG_ABOUT: &str = concat!(
-    "Gives a table more pages, by which it keeps all that is in it, and prints `grown`.\n",
-    "\n",
-    "A table in which no page is free answers `refused E7` to work. N is how many pages it has then, more than it has ",
-    "now: else that is answered by `refused E6`. The file gets longer where it is too short. If the power fails meanwhile, the ",
-    "table has as many pages as before or N, and nothing in it is lost.",
+    "A run takes its table: while one works on it, others end with status 4. Audits and looks may run side by side.",
 );
 
 const NO_NUMBER: &str = "the number behind `--pages` is one to ten digits";
@@ -223,6 +158,9 @@ fn asked_for(alloc: Global, name: &str, inner: &ArgMatches<'_>) -> Result<Words,
         "session" => Ok(Words::Session {
             file: given(alloc, inner, "FILE")?,
         }),
+        "look" => Ok(Words::Look {
+            file: given(alloc, inner, "FILE")?,
+        }),
         "audit" => Ok(Words::Audit {
             file: given(alloc, inner, "FILE")?,
         }),
@@ -257,6 +195,7 @@ fn command<'a>(alloc: Global) -> Result<Command<'a>, AllocError> {
     let command = with(whole_command(alloc), create_command(alloc))?;
     let command = with(command, load_command(alloc))?;
     let command = with(command, session_command(alloc))?;
+    let command = with(command, look_command(alloc))?;
     let command = with(command, audit_command(alloc))?;
     let command = with(command, migrate_command(alloc))?;
     let command = with(command, grow_command(alloc))?;
@@ -293,83 +232,16 @@ fn with<'a>(
 }
 
 /// A word that has to be given, and what help says of it.
-fn required_word<'a>(alloc: Global, id: &'a str, help: &'a str) -> Arg<'a> {
+pub(crate) fn required_word<'a>(alloc: Global, id: &'a str, help: &'a str) -> Arg<'a> {
     Arg::new(alloc, id)
         .help(help)
         .required(true)
         .action(ArgAction::Set)
 }
 
-fn file_word<'a>(alloc: Global) -> Arg<'a> {
-    required_word(alloc, "FILE", "The file with the table")
-}
-
+/// The word for the file of a game.
 pub(crate) fn game_word<'a>(alloc: Global) -> Arg<'a> {
     required_word(alloc, "GAME", "The file with the game text")
-}
-
-/// How many pages a table has, a number of the type `u32` within bounds: what `value_parser!(u32).range(1..=1_048_576)` gives, said at
-/// once, since a range takes long to prove.
-fn pages_word<'a>(alloc: Global) -> Arg<'a> {
-    required_word(
-        alloc,
-        "pages",
-        "How many pages of 4,096 bytes the table has: 16 to 1,048,576",
-    )
-    .long("pages")
-    .value_name("N")
-    .value_parser(page_counts())
-}
-
-/// How many points a player needs, a number within its bounds as that of the pages is.
-fn goal_word<'a>(alloc: Global) -> Arg<'a> {
-    Arg::new(alloc, "goal")
-        .help("How many points win the game, 1 to 1,000,000: who has them while the other has not")
-        .action(ArgAction::Set)
-        .long("goal")
-        .value_name("K")
-        .value_parser(goals())
-}
-
-fn goals<'a>() -> ValueParser<'a> {
-    ValueParser::signed(1, i64::from(MAX_POINTS))
-}
-
-fn page_counts<'a>() -> ValueParser<'a> {
-    ValueParser::signed(1, i64::from(MAX_PAGES))
-}
-
-fn create_command<'a>(alloc: Global) -> Result<Command<'a>, AllocError> {
-    named(alloc, "create", CREATE_ABOUT, CREATE_LONG_ABOUT)
-        .arg(file_word(alloc))?
-        .arg(pages_word(alloc))
-}
-
-fn load_command<'a>(alloc: Global) -> Result<Command<'a>, AllocError> {
-    named(alloc, "load", LOAD_ABOUT, LOAD_LONG_ABOUT)
-        .arg(file_word(alloc))?
-        .arg(game_word(alloc))?
-        .arg(goal_word(alloc))
-}
-
-fn session_command<'a>(alloc: Global) -> Result<Command<'a>, AllocError> {
-    named(alloc, "session", SESSION_ABOUT, SESSION_LONG_ABOUT)
-        .after_help(SESSION_LINES)
-        .arg(file_word(alloc))
-}
-
-fn audit_command<'a>(alloc: Global) -> Result<Command<'a>, AllocError> {
-    named(alloc, "audit", AUDIT_ABOUT, AUDIT_LONG_ABOUT).arg(file_word(alloc))
-}
-
-fn migrate_command<'a>(alloc: Global) -> Result<Command<'a>, AllocError> {
-    named(alloc, "migrate", MIGRATE_ABOUT, MIGRATE_LONG_ABOUT).arg(file_word(alloc))
-}
-
-fn grow_command<'a>(alloc: Global) -> Result<Command<'a>, AllocError> {
-    named(alloc, "grow", GROW_ABOUT, GROW_LONG_ABOUT)
-        .arg(file_word(alloc))?
-        .arg(pages_word(alloc))
 }
 
 fn refusal_of(alloc: Global, error: Error) -> Refusal

@@ -8,4 +8,6 @@ mod grow_tests;
 #[cfg(test)]
 mod listing_tests;
 #[cfg(test)]
+mod look_tests;
+#[cfg(test)]
 mod moves_tests;

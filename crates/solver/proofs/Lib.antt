@@ -4,6 +4,7 @@ pub mod Loading
 pub mod Working
 pub mod Opening
 pub mod Asking
+pub mod MovesAsking
 pub mod Turning
 pub mod Prefixes
 pub mod Chains

@@ -9,6 +9,8 @@ use Rattle.game_file.specs.declared.fault.FileFault.{FileFault}
 use Rattle.game_file.specs.declared.fault.FileFault.TheVariants as file
 use Rattle.best_line.specs.declared.fault.LineFault.{LineFault}
 use Rattle.best_line.specs.declared.fault.LineFault.TheVariants as line
+use Rattle.known_moves.specs.declared.fault.KnownMovesFault.{KnownMovesFault}
+use Rattle.known_moves.specs.declared.fault.KnownMovesFault.TheVariants as moves
 use Rattle.audit.specs.declared.fault.AuditFault.{AuditFault}
 use Rattle.audit.specs.declared.fault.AuditFault.TheVariants as audit
 use Rattle.solver.specs.declared.fault.SolverFault.{SolverFault}
@@ -49,6 +51,12 @@ line_fault line.Inconsistent = Inconsistent
 line_fault line.TooWide = TooWide
 line_fault line.OutOfMemory = OutOfMemory
 line_fault (line.Table fault) = table_fault fault
+
+abbrev pub moves_fault : KnownMovesFault → SolverFault
+moves_fault moves.Inconsistent = Inconsistent
+moves_fault moves.TooWide = TooWide
+moves_fault moves.OutOfMemory = OutOfMemory
+moves_fault (moves.Table fault) = table_fault fault
 
 abbrev pub audit_fault : AuditFault → SolverFault
 audit_fault audit.TooWide = TooWide

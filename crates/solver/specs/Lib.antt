@@ -26,6 +26,7 @@ pub mod Growing
 pub mod Machine
 pub mod Steps
 pub mod Queries
+pub mod Moves
 pub mod Runs
 pub mod Histories
 pub mod Headline

@@ -4,6 +4,7 @@ use audit::AuditFault;
 use best_line::LineFault;
 use frontier::StepFault;
 use game_file::FileFault;
+use known_moves::KnownMovesFault;
 use rbg_read::fault::GameFault;
 use std::alloc::{AllocError, AllocFailed};
 use table::TableFault;
@@ -168,6 +169,22 @@ impl From<LineFault> for SolverFault {
             LineFault::TooWide => SolverFault::TooWide,
             LineFault::OutOfMemory => SolverFault::OutOfMemory,
             LineFault::Table(fault) => fault.into(),
+        }
+    }
+}
+
+impl From<KnownMovesFault> for SolverFault {
+    ghost use Rattle.std.specs.Prelude.{◌≡◌};
+    ghost use Rattle.solver.specs.Faults.{moves_fault};
+
+    ghost from_gives = { λ fault r. r ≡ moves_fault fault };
+
+    fn from(fault: KnownMovesFault) -> Self {
+        match fault {
+            KnownMovesFault::Inconsistent => SolverFault::Inconsistent,
+            KnownMovesFault::TooWide => SolverFault::TooWide,
+            KnownMovesFault::OutOfMemory => SolverFault::OutOfMemory,
+            KnownMovesFault::Table(fault) => fault.into(),
         }
     }
 }

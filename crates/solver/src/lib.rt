@@ -8,6 +8,7 @@ pub mod laws;
 mod listing;
 pub mod listing_laws;
 mod listings;
+mod moves;
 mod needs;
 mod queries;
 mod replies;
@@ -17,5 +18,6 @@ mod with_game;
 
 pub use commands::FileSolver;
 pub use fault::{Refused, SolverFault};
+pub use known_moves::{KnownMove, KnownMoves};
 pub use listing::Listing;
 pub use replies::{Command, Reply, Units, Worked};

@@ -1,7 +1,8 @@
 //! What is asked of a solver.
-ghost use Rattle.std.specs.Prelude.{◌≡◌, true, false, Ok, None, IfOk, IfErr, IfSome, IfNone, IsErrOf};
+ghost use Rattle.std.specs.Prelude.{◌≡◌, true, false, Ok, None, Some, IfOk, IfErr, IfSome, IfNone, IsErrOf};
 ghost use Rattle.rbg_game.specs.Meaning.{game_of};
 ghost use Rattle.game_file.specs.Calls.{IsAsked};
+ghost use Rattle.game_file.specs.Kept.{text_kept};
 ghost use Rattle.audit.specs.declared.verdict.Verdict.TheVariants.{Right};
 ghost use Rattle.solver.specs.Audits.{HasVerdict, IsSoInGame, AuditCause};
 ghost use Rattle.solver.specs.Held.{IsSound};
@@ -30,6 +31,14 @@ impl<F: GameFile> FileSolver<F> {
             Some(source) => Some(source.game()),
             None => None,
         }
+    }
+
+    /// The text of the game, byte for byte as it was loaded, where one is. It takes no memory and always answers, of a closed solver too.
+    pub fn text(&self) -> Option<&[u8]>
+        ensures some { IfSome result (λ text. text_kept (state self.now).kept ≡ Some text.now) }
+        ensures none { IfNone result ((state self.now).kept ≡ None) }
+    {
+        self.file.text()
     }
 
     /// The game of an open solver in which one is loaded: E9, S1. It takes no memory.

@@ -1,0 +1,174 @@
+//! The words of the commands on a table.
+
+use crate::words::{game_word, named, required_word};
+use clap::builder::ValueParser;
+use clap::{Arg, ArgAction, Command};
+use line_answers::input::SESSION_LINES;
+use line_answers::looked::LOOK_LINES;
+use page_store::MAX_PAGES;
+use rbg_game::limits::MAX_POINTS;
+use std::alloc::{AllocError, Global};
+
+const CREATE_ABOUT: &str = "Makes an empty table in a file";
+
+const CREATE_LONG_ABOUT: &str = concat!(
+    "Makes an empty table in a file, and prints `created`.\n",
+    "\n",
+    "FILE gets the length of N pages. Of what was in it, the first 2,048 bytes are written over at once, the ",
+    "others only as the table grows, and all behind the new length is lost: standard error says so before. A file that ",
+    "begins as each table does is not touched: that is answered by `refused E3`.",
+);
+
+const LOAD_ABOUT: &str = "Loads a game into an empty table";
+
+const LOAD_LONG_ABOUT: &str = concat!(
+    "Loads the game of a text into an empty table, and prints `loaded`.\n",
+    "\n",
+    "The table then knows the start of the game. `session` solves it. A table of an earlier layout is not opened: ",
+    "that is answered by `refused E5`, and `migrate` brings it into today's.\n",
+    "\n",
+    "Without a goal the player has won who has more points at the end of play. With `--goal K` it is the one who has ",
+    "K points or more while the other has fewer than K: if both have so many, or neither, nobody has won. The table ",
+    "keeps its goal.",
+);
+
+const SESSION_ABOUT: &str = "Works on a table and asks it, by commands on standard input";
+
+const SESSION_LONG_ABOUT: &str = concat!(
+    "Works on a table and asks it, by commands, one a line, on standard input, with the reply to each on standard ",
+    "output. When a reply is there, what it says is on the disk. What a refusal means is said on standard error.\n",
+    "\n",
+    "Positions are numbered from 0, the start, in the order in which they came to be known. A unit of work looks ",
+    "at one position: finds where its moves lead, or, once that is done for all, tells its predecessors who wins ",
+    "it. A table is finished when nothing is left to do. A table that may be read and not written can be asked.\n",
+    "\n",
+    "A table of an earlier layout is not opened: that is answered by `refused E5`, and `migrate` brings it into today's.",
+);
+
+const LOOK_ABOUT: &str =
+    "Asks a table, by questions on standard input: the moves of a position too";
+
+const LOOK_LONG_ABOUT: &str = concat!(
+    "Asks a table, by questions, one a line, on standard input, with the answer to each on standard output. It writes ",
+    "nothing to the table. Many may look at once, beside audits, but none while a run works on the table.\n",
+    "\n",
+    "`moves N` prints the moves of position N, the best first for who has the turn: those by which he wins, by the ",
+    "fewest moves, then the drawn, the open, and those by which he loses, by the most moves. A line is NUMBER VALUE ",
+    "MOVE => POSITION: the number and the value of the position that the move leads to, what the move does, and that ",
+    "position. A position that is not known yet has `?` for its number, and is `open`. `ended` says that there is no move.",
+);
+
+const AUDIT_ABOUT: &str = "Says whether a table is right, whoever made it";
+
+const AUDIT_LONG_ABOUT: &str = concat!(
+    "Says whether a table is right, whoever made it. Each number is compared with the game and with the numbers ",
+    "beside it, by seven conditions, A1 to A7.\n",
+    "\n",
+    "It prints `audit right finished`, or `audit right open` where work is left: then the named player wins each ",
+    "settled position in exactly the named number of moves, and of a finished table the positions are all that ",
+    "play can reach and the unsettled ones are drawn. Or it prints `audit wrong N REASON` with the lowest number ",
+    "that fails and its lowest condition, and ends with status 1.",
+);
+
+const MIGRATE_ABOUT: &str = "Brings a table of an earlier layout into today's";
+
+const MIGRATE_LONG_ABOUT: &str = concat!(
+    "Brings a table of an earlier layout into today's, and prints `migrated`; or `current` where it has today's already.\n",
+    "\n",
+    "The game, the numbers of the positions and all that is known of them stay, and so does the number of pages. What ",
+    "stops it loses nothing: the file has the table in the one layout or in the other, so give the command again. A ",
+    "table of layout 1 is copied within the file. If there is no room for that, it is answered by `refused E7`, and the ",
+    "table stays as it was.",
+);
+
+const GROW_ABOUT: &str = "Gives a table more pages";
+
+const GROW_LONG_ABOUT: &str = concat!(
+    "Gives a table more pages, by which it keeps all that is in it, and prints `grown`.\n",
+    "\n",
+    "A table in which no page is free answers `refused E7` to work. N is how many pages it has then, more than it has ",
+    "now: else that is answered by `refused E6`. The file gets longer where it is too short. If the power fails meanwhile, the ",
+    "table has as many pages as before or N, and nothing in it is lost.",
+);
+
+/// The command `create`, as words spell it.
+pub fn create_command<'a>(alloc: Global) -> Result<Command<'a>, AllocError> {
+    named(alloc, "create", CREATE_ABOUT, CREATE_LONG_ABOUT)
+        .arg(file_word(alloc))?
+        .arg(pages_word(alloc))
+}
+
+/// The command `load`, as words spell it.
+pub fn load_command<'a>(alloc: Global) -> Result<Command<'a>, AllocError> {
+    named(alloc, "load", LOAD_ABOUT, LOAD_LONG_ABOUT)
+        .arg(file_word(alloc))?
+        .arg(game_word(alloc))?
+        .arg(goal_word(alloc))
+}
+
+/// The command `session`, as words spell it.
+pub fn session_command<'a>(alloc: Global) -> Result<Command<'a>, AllocError> {
+    named(alloc, "session", SESSION_ABOUT, SESSION_LONG_ABOUT)
+        .after_help(SESSION_LINES)
+        .arg(file_word(alloc))
+}
+
+/// The command `look`, as words spell it.
+pub fn look_command<'a>(alloc: Global) -> Result<Command<'a>, AllocError> {
+    named(alloc, "look", LOOK_ABOUT, LOOK_LONG_ABOUT)
+        .after_help(LOOK_LINES)
+        .arg(file_word(alloc))
+}
+
+/// The command `audit`, as words spell it.
+pub fn audit_command<'a>(alloc: Global) -> Result<Command<'a>, AllocError> {
+    named(alloc, "audit", AUDIT_ABOUT, AUDIT_LONG_ABOUT).arg(file_word(alloc))
+}
+
+/// The command `migrate`, as words spell it.
+pub fn migrate_command<'a>(alloc: Global) -> Result<Command<'a>, AllocError> {
+    named(alloc, "migrate", MIGRATE_ABOUT, MIGRATE_LONG_ABOUT).arg(file_word(alloc))
+}
+
+/// The command `grow`, as words spell it.
+pub fn grow_command<'a>(alloc: Global) -> Result<Command<'a>, AllocError> {
+    named(alloc, "grow", GROW_ABOUT, GROW_LONG_ABOUT)
+        .arg(file_word(alloc))?
+        .arg(pages_word(alloc))
+}
+
+/// The word for the file of a table.
+fn file_word<'a>(alloc: Global) -> Arg<'a> {
+    required_word(alloc, "FILE", "The file with the table")
+}
+
+/// How many pages a table has, a number of the type `u32` within bounds: what `value_parser!(u32).range(1..=1_048_576)` gives, said at
+/// once, since a range takes long to prove.
+fn pages_word<'a>(alloc: Global) -> Arg<'a> {
+    required_word(
+        alloc,
+        "pages",
+        "How many pages of 4,096 bytes the table has: 16 to 1,048,576",
+    )
+    .long("pages")
+    .value_name("N")
+    .value_parser(page_counts())
+}
+
+/// How many points a player needs, a number within its bounds as that of the pages is.
+fn goal_word<'a>(alloc: Global) -> Arg<'a> {
+    Arg::new(alloc, "goal")
+        .help("How many points win the game, 1 to 1,000,000: who has them while the other has not")
+        .action(ArgAction::Set)
+        .long("goal")
+        .value_name("K")
+        .value_parser(goals())
+}
+
+fn goals<'a>() -> ValueParser<'a> {
+    ValueParser::signed(1, i64::from(MAX_POINTS))
+}
+
+fn page_counts<'a>() -> ValueParser<'a> {
+    ValueParser::signed(1, i64::from(MAX_PAGES))
+}
