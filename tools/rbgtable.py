@@ -7,14 +7,14 @@
         print(table.value(0))                     # first in 8
         print(table.find("second 21 a1 p,c,c,c,c,c,e,e,c,c,e,e 1,0"))         # 7
         for move in table.moves(1):               # best first
-            print(move.number, move.value, move.text)
+            print(move.number, move.value, move.word, move.text)
         for row in table.rows():                  # each position: number, text, value
             print(row.number, row.text, row.value)
 
-Values, texts and lines are the answers of one session (docs/SESSION.md), which has the table for itself until it is
-closed; on a file that may be read and not written there may be many. Which positions a move leads to, and the game's
-text, no session tells: they are read from the file's bytes (docs/FORMAT.md), as the session found them when it opened
-the file. What cannot be answered raises `Refused`, with the program's code and sentence.
+Values, texts, lines, moves and the game's text are the answers of `rbgsolve look` (docs/SESSION.md), which writes nothing:
+many may look at a table at once, but none while a run works on it. Where all edges are wanted, `successors` reads them
+from the file's bytes (docs/FORMAT.md), as they are when it is first called. What cannot be answered raises `Refused`, with the
+program's code and sentence.
 """
 from __future__ import annotations
 
@@ -56,6 +56,16 @@ class Row(NamedTuple):
     value: Value
 
 
+class Move(NamedTuple):
+    """A move: the number and the value of the position that it leads to, what it does, and the text of that position. The word is
+    pairs of the number of an action and the vertex where it is done; a position that is not known has no number, and is open."""
+
+    number: int | None
+    value: Value
+    word: tuple[tuple[int, str], ...]
+    text: str
+
+
 class Counts(NamedTuple):
     known: int
     expanded: int
@@ -87,6 +97,15 @@ def value_of(words):
     return Value(words[0], int(words[2]), False)
 
 
+def move_of(line):
+    """The move that a line of `moves N` tells: NUMBER VALUE MOVE => POSITION."""
+    told, _, text = line.partition(" => ")
+    number, *words = told.split(" ")
+    value, word = (words[:3], words[3:]) if words[1:2] == ["in"] else (words[:1], words[1:])
+    pairs = (part.partition("@") for part in word)
+    return Move(None if number == "?" else int(number), value_of(value), tuple((int(action), vertex) for action, _, vertex in pairs), text)
+
+
 class Table:
     """A table that is asked. `program` is the words that start rbgsolve, one name or a list."""
 
@@ -96,10 +115,10 @@ class Table:
         # standard error goes to a file: a pipe that nobody reads would fill up, and stop the program
         self._told = tempfile.TemporaryFile()
         self._told_before = 0
-        self._successors = None
+        self._program, self._successors, self._game = program, None, None
         try:
             self._process = subprocess.Popen(
-                [*program, "session", "--", self.file], stdin=subprocess.PIPE, stdout=subprocess.PIPE, stderr=self._told
+                [*program, "look", "--", self.file], stdin=subprocess.PIPE, stdout=subprocess.PIPE, stderr=self._told
             )
         except OSError as error:
             self._told.close()
@@ -240,22 +259,40 @@ class Table:
             for number, text, value in zip(range(block, last), texts, values):
                 yield Row(number, text, value)
 
-    def moves(self, number):
-        """The positions that the moves of a position lead to, best first for who has the turn: won soonest, drawn, open, lost latest."""
-        mover = self.show(number).split(" ")[0]
-        found = [Row(to, self.show(to), self.value(to)) for to in self.successors(number)]
-        return sorted(found, key=lambda row: rank(row.value, mover))
+    def value_at(self, text):
+        """The value of the position with this text, or None if it is not known."""
+        try:
+            return value_of(self.ask(f"value-of {text}").split())
+        except Refused as refused:
+            if refused.code != "S7":
+                raise
+            return None
 
-    # what the file's bytes tell
+    def moves(self, number):
+        """The moves of a position, best first for who has the turn: won soonest, drawn, open, lost latest."""
+        # how many lines the reply has is not known before: it ends where that to `status` begins
+        try:
+            found = [self.ask(f"moves {number}\nstatus")]
+        except Refused:
+            if not self._process.stdin.closed:
+                self._reply()
+            raise
+        while not found[-1].startswith("known "):
+            found.append(self._reply())
+        return [move_of(line) for line in found[:-1] if line != "ended"]
 
     @property
     def game(self):
         """The text of the table's game."""
-        with open(self.file, "rb") as file:
-            root = root_of(file)
-            if root is None or not root.packing:
-                raise Refused(f"{self.file}: no game is loaded", "S1")
-            return text_of(file, root)
+        if self._game is None:
+            ran = subprocess.run([*self._program, "look", "--", self.file], input=b"game\n", capture_output=True, check=False)
+            if ran.returncode or ran.stdout.startswith(b"refused"):
+                reply, told = (stream.decode("utf-8", "replace").strip() for stream in (ran.stdout, ran.stderr))
+                raise Refused(f"{self.file}: {reply or 'no answer'}", reply.partition("refused ")[2], ran.returncode or 1, told)
+            self._game = ran.stdout
+        return self._game
+
+    # what the file's bytes tell
 
     def successors(self, number):
         """The numbers that the moves of a position lead to."""
@@ -266,13 +303,6 @@ class Table:
                 self._successors = successors_in(file, root_of(file))
         begins, to = self._successors
         return list(to[begins[number] : begins[number + 1]])
-
-
-def rank(value, mover):
-    """A key by which the best value for the mover comes first."""
-    if not value.winner:
-        return 0, value.is_open, 0
-    return (-1, False, value.distance) if value.winner == mover else (1, False, -value.distance)
 
 
 def root_of(file):

@@ -271,6 +271,10 @@ class Play:
         """What a move does, by the text of its actions."""
         return " ".join(f"{one_action(self.game, self.game.actions[number - 1])}@{self.names[vertex]}" for number, vertex in word)
 
+    def names_of(self, word):
+        """The same for a word whose vertices are names, as `rbgsolve` prints it; scores that are set are left out."""
+        return self.name(self.deeds([(number, self.names.index(vertex)) for number, vertex in word]))
+
 
 def one_action(game, action):
     """The text of one action: of a list of assignments that one alone."""

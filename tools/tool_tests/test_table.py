@@ -28,7 +28,12 @@ class Tables(Case):
             self.assertEqual([row.number for row in table.rows(2, 5)], [2, 3, 4])
             # black wins soonest by taking what is left
             self.assertEqual([(move.number, str(move.value)) for move in table.moves(3)], [(4, "black in 0"), (5, "white in 1")])
+            self.assertEqual(table.moves(3)[0].word, ((9, "v"), (10, "v"), (11, "v"), (2, "v")))
             self.assertEqual(table.moves(6), [])
+            with self.assertRaises(rbgtable.Refused):
+                table.moves(7)
+            self.assertEqual(str(table.value_at("white 2 v e 0,0,3")), "black in 2")
+            self.assertIsNone(table.value_at("white 2 v e 1,1,3"))
 
     def test_a_drawn_position_has_its_best_move(self):
         with self.opened("tictactoe") as table:
@@ -36,8 +41,11 @@ class Tables(Case):
             moves = table.moves(2)
             self.assertEqual(len(moves), 8)
             self.assertEqual(str(moves[0].value), "drawn")
-            ranks = [rbgtable.rank(move.value, "nought") for move in moves]
-            self.assertEqual(ranks, sorted(ranks))
+            # nought has the turn: what is drawn comes before what cross wins, and a longer loss before a shorter one
+            losses = [move.value.distance for move in moves if move.value.winner]
+            self.assertTrue(all(move.value.winner == "cross" for move in moves if move.value.winner))
+            self.assertEqual([bool(move.value.winner) for move in moves], sorted(bool(move.value.winner) for move in moves))
+            self.assertEqual(losses, sorted(losses, reverse=True))
 
     def test_successors_of_a_tree_of_several_pages(self):
         """All edges of a table with inner pages are those of the second program."""

@@ -9,7 +9,7 @@ use Rattle.line_answers.specs.Looked.{GameBehind, HasOtherWord, LooksInWords, Mo
 use Rattle.line_answers.specs.aid.Words.{IsFirstWord}
 
 -- the first word is this one, and this is behind it
-pub word_is : (line first rest word behind : List ℕ) → IsFirstWord line first rest → first ≡ word → rest ≡ behind → word ≢ [] → BeginsWith line word behind
+word_is : (line first rest word behind : List ℕ) → IsFirstWord line first rest → first ≡ word → rest ≡ behind → word ≢ [] → BeginsWith line word behind
 word_is line first rest word behind (inl it) same is some = subst (BeginsWith line word) is (subst (λ w. BeginsWith line w rest) same it)
 word_is line first rest word behind (inr it) same is some = absurd (some (sym same ∙ it.0))
 
@@ -20,6 +20,22 @@ begins line word rest (inr it) some = absurd (some it.0)
 blank : (line word rest : List ℕ) → IsFirstWord line word rest → word ≡ [] → IsBlank line
 blank line word rest (inl it) none = absurd (it.some none)
 blank line word rest (inr it) none = it.2
+
+-- a line whose first word is `moves`, `game` or `value-of`
+pub asks_moves : (line first rest : List ℕ) (looked : Looked) → IsFirstWord line first rest → first ≡ codes "moves" → MovesBehind rest looked
+    → LooksInWords line looked
+asks_moves line first rest looked is same behind =
+    LooksInWords.moves rest looked (word_is line first rest (codes "moves") rest is same refl (λ none. absurd (omega (arith, ap length none)))) behind
+
+pub asks_game : (line first rest : List ℕ) (looked : Looked) → IsFirstWord line first rest → first ≡ codes "game" → GameBehind rest looked
+    → LooksInWords line looked
+asks_game line first rest looked is same behind =
+    LooksInWords.game rest looked (word_is line first rest (codes "game") rest is same refl (λ none. absurd (omega (arith, ap length none)))) behind
+
+pub asks_value : (line first rest behind : List ℕ) → IsFirstWord line first rest → first ≡ codes "value-of" → rest ≡ behind
+    → BeginsWith line (codes "value-of") behind
+asks_value line first rest behind is same behind_is =
+    word_is line first rest (codes "value-of") behind is same behind_is (λ none. absurd (omega (arith, ap length none)))
 
 no_word : (word : List ℕ) → ◌≡◌ {A = List (List ℕ)} [] (word ∷ []) → ⊥
 no_word word same = absurd (omega (arith, ap length same))

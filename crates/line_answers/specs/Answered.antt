@@ -98,6 +98,12 @@ pub record SaysStatus (state : State) (line : List ℕ) : Type 0 where
   pub are : IsTrue state.disk.honest → counts ≡ option_map (λ kept. counts_of kept.table) state.kept
   pub line_is : IsStatusLine counts line
 
+-- it is answered so, or refused with its cause
+abbrev pub IsAnsweredOrRefused : (List ℕ → Kept → Type 0) → (SolverFault → Type 0) → State → ℕ → List ℕ → Type 0
+IsAnsweredOrRefused Answers Cause old status line =
+    ((status ≡ 0) × Tells (Answers line) old)
+    ⊎ ((why : SolverFault) × (status ≡ status_of_fault why) × (line ≡ fault_line why) × Cause why)
+
 module _ (Stores : ℕ → Layout) where
   -- so many units are asked for: their reply as a line, and what was done is the turn of that command; or there is no room for the
   -- reply, and nothing was done
@@ -114,12 +120,6 @@ module _ (Stores : ℕ → Layout) where
   IsDoneFor (asked.Question about) old new = IsAsked Stores old new
   IsDoneFor _ old new = new ≡ old
 
-  -- a question is answered, or refused with its cause
-  abbrev pub IsAnswered : Question → State → State → ℕ → List ℕ → Type 0
-  IsAnswered about old new status line =
-      ((status ≡ 0) × Tells (IsAnswerTo about line) old)
-      ⊎ ((why : SolverFault) × (status ≡ status_of_fault why) × (line ≡ fault_line why) × QuestionCause about old new why)
-
   -- what is done for a line that asks this, with which exit status, and what is written; where no listings are kept, a line about them
   -- is no command
   abbrev pub IsReplied : Asked → State → State → ℕ → List ℕ → Type 0
@@ -130,4 +130,4 @@ module _ (Stores : ℕ → Layout) where
   IsReplied asked.Help old new status line = (new ≡ old) × (status ≡ 0) × (line ≡ codes "usage" ++ 10 ∷ [])
   IsReplied asked.Status old new status line = (new ≡ old) × (status ≡ 0) × SaysStatus old line
   IsReplied (asked.Work units) old new status line = IsWorkReplied (units_in units) old new status line
-  IsReplied (asked.Question about) old new status line = IsAsked Stores old new × IsAnswered about old new status line
+  IsReplied (asked.Question about) old new status line = IsAsked Stores old new × IsAnsweredOrRefused (IsAnswerTo about) (QuestionCause about old new) old status line

@@ -14,7 +14,7 @@ use Rattle.solver.specs.Moves.{HasMoves, HasValueByText, MovesCause}
 use Rattle.solver.specs.Queries.{IsGameOf, Tells, FindCause}
 use Rattle.printed_lines.specs.Known.{known_lines}
 use Rattle.printed_lines.specs.Replies.{value_text}
-use Rattle.line_answers.specs.Answered.{IsAnswerTo, QuestionCause, SaysStatus, status_of_fault}
+use Rattle.line_answers.specs.Answered.{IsAnsweredOrRefused, IsAnswerTo, QuestionCause, SaysStatus, status_of_fault}
 use Rattle.line_answers.specs.Told.{fault_line}
 use Rattle.line_answers.specs.declared.looked.Looked.{Looked}
 use Rattle.line_answers.specs.declared.looked.Looked.TheVariants as looked
@@ -36,12 +36,6 @@ pub record IsValueLineOf (position text : List ℕ) (kept : Kept) : Type 0 where
   pub value : Value
   pub has : HasValueByText position value kept
   pub text_is : text ≡ value_text game value ++ 10 ∷ []
-
--- it is answered so, or refused with its cause
-abbrev pub IsAnsweredBy : (List ℕ → Kept → Type 0) → (SolverFault → Type 0) → State → ℕ → List ℕ → Type 0
-IsAnsweredBy Answers Cause old status line =
-    ((status ≡ 0) × Tells (Answers line) old)
-    ⊎ ((why : SolverFault) × (status ≡ status_of_fault why) × (line ≡ fault_line why) × Cause why)
 
 -- the text of the game byte for byte, on any disk; or that none is loaded
 abbrev pub IsGameReplied : State → ℕ → List ℕ → Type 0
@@ -65,7 +59,7 @@ IsLookReplied looked.Usage old new status line = (status ≡ 0) × (line ≡ cod
 IsLookReplied looked.Help old new status line = (status ≡ 0) × (line ≡ codes "usage" ++ 10 ∷ [])
 IsLookReplied looked.Status old new status line = (status ≡ 0) × SaysStatus old line
 IsLookReplied looked.Game old new status line = IsGameReplied old status line
-IsLookReplied (looked.Question about) old new status line = IsAnsweredBy (IsAnswerTo about) (QuestionCause about old new) old status line
-IsLookReplied (looked.Moves number) old new status line = IsAnsweredBy (AreMoveLines number) (MovesCause number old new) old status line
+IsLookReplied (looked.Question about) old new status line = IsAnsweredOrRefused (IsAnswerTo about) (QuestionCause about old new) old status line
+IsLookReplied (looked.Moves number) old new status line = IsAnsweredOrRefused (AreMoveLines number) (MovesCause number old new) old status line
 IsLookReplied (looked.ValueOf position) old new status line =
-    IsAnsweredBy (IsValueLineOf position.now) (FindCause position.now old new) old status line
+    IsAnsweredOrRefused (IsValueLineOf position.now) (FindCause position.now old new) old status line
