@@ -167,3 +167,15 @@ class Play(Case):
         blocks = self.played("take", "", "--from", "6", "--values")
         self.assertEqual(blocks[0][0], "position 6: black has the turn; white 1, black 0, heap 0; white in 0")
         self.assertEqual(self.ran("play", self.folder / "take.table", "--from", "7")[0], 1)
+
+    def test_by_chance(self):
+        """With the keeper's move white wins a game of takes in four moves, and black in three."""
+        status, out, err = self.ran("play", "--random", GAMES / "take.rbg", 40, 3)
+        self.assertEqual((status, err), (0, ""))
+        white, black, nobody = out.splitlines()
+        self.assertRegex(white, r"^white [0-9]+ of 40 plays, 4 moves$")
+        self.assertRegex(black, r"^black [0-9]+ of 40 plays, 3 moves$")
+        self.assertEqual(nobody, "nobody 0 of 40 plays")
+        self.assertEqual(int(white.split()[1]) + int(black.split()[1]), 40)
+        self.assertEqual(self.ran("play", "--random", GAMES / "take.rbg", "x", 3)[0], 2)
+        self.assertEqual(self.ran("play")[0], 2)
