@@ -54,15 +54,15 @@ latest_new : (buckets : List ℕ) (more : ℕ) → IsLatest (buckets ++ more ∷
 latest_new buckets more = (omega (arith, length-append buckets (more ∷ [])), slice_get-end buckets more, λ i later less is. absurd (omega (arith, later, less, length-append buckets (more ∷ []))))
 
 -- nothing is chained
-pub chained_none : (chains : Chains) → chains.heads.items ≡ replicate 2048 0 → chains.befores.items ≡ [] → AreChained [] chains
+pub chained_none : (chains : Chains) → chains.heads.items ≡ replicate 512 0 → chains.befores.items ≡ [] → AreChained [] chains
 chained_none chains heads befores = record {
   as_many = ap length befores;
-  heads = λ bucket less. subst (IsLatest [] bucket 0) (sym (ap (λ xs. slice_index xs bucket) heads ∙ get_or-replicate 2048 bucket 0 0 less)) (λ i below is. absurd (omega (arith, below)));
+  heads = λ bucket less. subst (IsLatest [] bucket 0) (sym (ap (λ xs. slice_index xs bucket) heads ∙ get_or-replicate 512 bucket 0 0 less)) (λ i below is. absurd (omega (arith, below)));
   befores = λ i bucket is. absurd (cc);
 }
 
-module _ (buckets : List ℕ) (more : ℕ) (old new : Chains) (chained : AreChained buckets old) (small : more < 2048) (many : length old.heads.items ≡ 2048) (pushed : new.befores.items ≡ old.befores.items ++ slice_index old.heads.items more ∷ []) (headed : new.heads.items ≡ slice_set old.heads.items more (suc (length old.befores.items))) where
-  head : (bucket : ℕ) → bucket < 2048 → (bucket < more) ⊎ (more ≤ bucket) → IsLatest (buckets ++ more ∷ []) bucket (length (buckets ++ more ∷ [])) (slice_index new.heads.items bucket)
+module _ (buckets : List ℕ) (more : ℕ) (old new : Chains) (chained : AreChained buckets old) (small : more < 512) (many : length old.heads.items ≡ 512) (pushed : new.befores.items ≡ old.befores.items ++ slice_index old.heads.items more ∷ []) (headed : new.heads.items ≡ slice_set old.heads.items more (suc (length old.befores.items))) where
+  head : (bucket : ℕ) → bucket < 512 → (bucket < more) ⊎ (more ≤ bucket) → IsLatest (buckets ++ more ∷ []) bucket (length (buckets ++ more ∷ [])) (slice_index new.heads.items bucket)
   head bucket less which = go (bucket_is which)
     where
       bucket_is : (bucket < more) ⊎ (more ≤ bucket) → (bucket ≡ more) ⊎ ¬ (bucket ≡ more)
@@ -131,7 +131,7 @@ module _ {A : Type 0} (bucket_of : A → ℕ) (items : List A) (IsWanted : A →
         bound (suc k) l = omega (arith, l.0, within)
 
     -- where a chain begins
-    pub along_first : (chains : Chains) → AreChained (map bucket_of items) chains → bucket < 2048 → IsAlong (slice_index chains.heads.items bucket)
+    pub along_first : (chains : Chains) → AreChained (map bucket_of items) chains → bucket < 512 → IsAlong (slice_index chains.heads.items bucket)
     along_first chains chained small =
         along (slice_index chains.heads.items bucket) (length items) (omega arith) (subst (λ n. IsLatest (map bucket_of items) bucket n (slice_index chains.heads.items bucket)) (length-map items bucket_of) (chained.heads bucket small)) (λ i x is wanted. slice_get-inside items i x is)
       where

@@ -17,22 +17,9 @@ use Rattle.position_pack.proofs.ShapeLemmas.{small_shape, fits, is_position}
 use Rattle.position_pack.proofs.PackingLemmas.{packed_order}
 use Rattle.legal_moves.specs.Listed.{ListsExactly, IsSuccessorBytes}
 use Rattle.legal_moves.specs.Sources.{IsAt, IsMoveBetween}
-use Rattle.legal_moves.specs.aid.Repacked.{IsRepacked, AreRepacked, AreAllPacked}
+use Rattle.legal_moves.specs.aid.Repacked.{IsRepacked, AreRepacked}
 use Rattle.legal_moves.proofs.ReachLemmas.{position_of}
 use Rattle.legal_moves.proofs.SourceLemmas.{one_position}
-
--- the bytes of a position are not read as none
-pub row_at : (rows : Form) (xs : List (List ℕ)) (k : ℕ) → AreAllPacked rows xs → k < length xs → (at : Position) × IsPacked rows at (get_or xs k [])
-row_at rows [] k h lt = absurd (omega (arith, lt))
-row_at rows (x ∷ xs) zero h lt = h.0
-row_at rows (x ∷ xs) (suc k) h lt = row_at rows xs k h.1 (omega (arith, lt))
-
--- one more is repacked
-pub repacked_more : (rows form : Form) (xs ys : List (List ℕ)) (x y : List ℕ) → AreRepacked rows form xs ys → IsRepacked rows form x y → AreRepacked rows form (xs ++ x ∷ []) (ys ++ y ∷ [])
-repacked_more rows form [] [] x y h one = (one, tt)
-repacked_more rows form [] (b ∷ ys) x y h one = absurd h
-repacked_more rows form (a ∷ xs) [] x y h one = absurd h
-repacked_more rows form (a ∷ xs) (b ∷ ys) x y h one = (h.0, repacked_more rows form xs ys x y h.1 one)
 
 pub repacked_many : (rows form : Form) (xs ys : List (List ℕ)) → AreRepacked rows form xs ys → length xs ≡ length ys
 repacked_many rows form [] [] h = refl
@@ -45,14 +32,6 @@ repacked_at rows form [] ys k d h lt = absurd (omega (arith, lt))
 repacked_at rows form (a ∷ xs) [] k d h lt = absurd h
 repacked_at rows form (a ∷ xs) (b ∷ ys) zero d h lt = h.0
 repacked_at rows form (a ∷ xs) (b ∷ ys) (suc k) d h lt = repacked_at rows form xs ys k d h.1 (omega (arith, lt))
-
--- the rows of successors are those of positions
-pub rows_by_successors : (game : Game) → IsSoundGame game → (x : List ℕ) (at : Position) (kind : PackingKind) → IsAt kind game x at → (xs : List (List ℕ)) → All (IsSuccessorBytes game at) xs → AreAllPacked (form_of Bytes game) xs
-rows_by_successors game sound x at kind here [] h = tt
-rows_by_successors game sound x at kind here (y ∷ xs) h = (first (h 0 [] (omega arith)), rows_by_successors game sound x at kind here xs (λ k d lt. h (suc k) d (omega (arith, lt))))
-  where
-    first : IsSuccessorBytes game at y → (next : Position) × IsPacked (form_of Bytes game) next y
-    first (next, bytes, leads) = (next, record { fits = fits game next (position_of game at next sound here.position_is leads); bytes_are = bytes })
 
 module _ (kind : PackingKind) (game : Game) (sound : IsSoundGame game) (x : List ℕ) (at : Position) (here : IsAt kind game x at)
     (xs ys : List (List ℕ)) (h : AreRepacked (form_of Bytes game) (form_of kind game) xs ys) (listed : ListsExactly (IsSuccessorBytes game at) xs) where

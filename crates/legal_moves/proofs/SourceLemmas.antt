@@ -1,27 +1,16 @@
 -- The positions and the moves of a game, by their bytes.
 use Rattle.std.proofs.Common.{◌≡◌, ℕ, List, [], sym, ◌∙◌, subst, arith}
-use Rattle.std.proofs.lemmas.List.Elements.{All-weaker}
 use Rattle.rbg_game.specs.Games.{Game}
 use Rattle.rbg_game.specs.Sound.{IsSoundGame}
 use Rattle.rbg_game.specs.declared.position.Position.{Position}
 use Rattle.position_pack.specs.declared.kind.PackingKind.{PackingKind}
-use Rattle.position_pack.specs.declared.kind.PackingKind.TheVariants.{Bytes}
 use Rattle.position_pack.specs.Shape.{shape_of}
 use Rattle.position_pack.specs.Packings.{Form, form_of, IsPacked}
 use Rattle.position_pack.proofs.ShapeLemmas.{small_shape, fits, is_position}
 use Rattle.position_pack.proofs.PackingLemmas.{packed_tell}
 use Rattle.legal_moves.specs.Searches.{IsWide}
-use Rattle.legal_moves.specs.Listed.{ListsExactly, IsSuccessorBytes}
+use Rattle.legal_moves.specs.Listed.{ListsExactly}
 use Rattle.legal_moves.specs.Sources.{IsAt, IsMoveBetween, IsWideAt}
-use Rattle.legal_moves.proofs.ReachLemmas.{position_of}
-
--- what passes one of two tests that agree passes the other
-alike : (P Q : List ℕ → Type 0) (xs : List (List ℕ)) → ((x : List ℕ) → P x → Q x) → ((x : List ℕ) → Q x → P x) → ListsExactly P xs → ListsExactly Q xs
-alike P Q xs there back h = record {
-  only = All-weaker P Q there xs h.only;
-  all = λ x q. h.all x (back x q);
-  ascending = h.ascending;
-}
 
 none_listed : (P : List ℕ → Type 0) → ((x : List ℕ) → ¬ P x) → ListsExactly P []
 none_listed P none = record {
@@ -48,13 +37,6 @@ module _ (kind : PackingKind) (game : Game) (sound : IsSoundGame game) where
 
   pub narrow_at : (x : List ℕ) (at : Position) → IsAt kind game x at → ¬ IsWide game at → ¬ IsWideAt kind game x
   narrow_at x at here narrow (other, there, wide) = narrow (subst (IsWide game) (one_position x at other here there) wide)
-
--- the moves from a position are those between its bytes and others
-pub lists_between : (game : Game) → IsSoundGame game → (x : List ℕ) (at : Position) (xs : List (List ℕ)) → IsAt Bytes game x at → ListsExactly (IsSuccessorBytes game at) xs → ListsExactly (IsMoveBetween Bytes game x) xs
-lists_between game sound x at xs here =
-    alike (IsSuccessorBytes game at) (IsMoveBetween Bytes game x) xs
-    (λ y (next, bytes, leads). (at, next, here, record { position_is = position_of game at next sound here.position_is leads; bytes_are = bytes }, leads))
-    (λ y (other, next, from, to, leads). subst (λ p. IsSuccessorBytes game p y) (one_position Bytes game sound x at other here from) (next, to.bytes_are, leads))
 
 -- bytes that are no position have no successor, and are not too wide
 module _ (kind : PackingKind) (game : Game) (x : List ℕ) (none : (at : Position) → ¬ IsAt kind game x at) where

@@ -5,9 +5,7 @@ use Rattle.rbg_game.specs.Meaning.{game_of}
 use Rattle.rbg_game.specs.Sound.{IsSoundGame}
 use Rattle.rbg_game.specs.Positions.{IsPositionOf}
 use Rattle.position_pack.specs.declared.kind.PackingKind.{PackingKind}
-use Rattle.position_pack.specs.declared.kind.PackingKind.TheVariants.{Bytes}
 use Rattle.position_pack.specs.Shape.{shape_of}
-use Rattle.position_pack.specs.Packings.{form_of}
 use Rattle.legal_moves.specs.Configurations.{expressions_of}
 use Rattle.legal_moves.specs.Made.{CompiledGame}
 use Rattle.legal_moves.specs.Moves.{start_of}
@@ -35,6 +33,5 @@ pub record IsSoundCompiled (c : CompiledGame) : Type 0 where
 pub record IsCompiled (c : Inside) : Type 0 where
   pub sound : IsSoundGame (game_of c.game)
   pub packing_is : c.packing.shape ≡ shape_of (game_of c.game)
-  pub rows_are : c.rows ≡ form_of Bytes (game_of c.game)
   pub tables_are : AreTables (expressions_of (game_of c.game)) c.tables.items
   pub same_are : AreSame (inner_of (game_of c.game).rules) c.same.items

@@ -2,6 +2,7 @@ pub mod Answers
 pub mod Buckets
 pub mod Chains
 pub mod Configurations
+pub mod Ends
 pub mod Going
 pub mod Looking
 pub mod Marks

@@ -8,7 +8,7 @@ use rbg_game::position::SemiState;
 /// That of a board, by its pieces and values.
 pub fn board_bucket(board: &SemiState) -> usize
     ensures is { result ≡ bucket_of_board board.now }
-    ensures small { result < 2048 }
+    ensures small { result < 512 }
 {
     hash_of_values(hash_of_pieces(&board.pieces), &board.values) % BUCKETS
 }
@@ -16,7 +16,7 @@ pub fn board_bucket(board: &SemiState) -> usize
 /// That of a board's number, a vertex and the number of the last action.
 pub fn stand_bucket(board: usize, vertex: u8, place: u16) -> usize
     ensures is { result ≡ bucket_of_stand board vertex place }
-    ensures small { result < 2048 }
+    ensures small { result < 512 }
 {
     let hash = mixed_with(board % 65536, usize::from(vertex));
     mixed_with(hash, usize::from(place)) % BUCKETS

@@ -4,7 +4,7 @@ ghost use Rattle.std.specs.Prelude.{◌≡◌, ◌<◌, length, [], ◌∷◌, �
 use std::alloc::{AllocError, Global};
 
 /// How many chains there are.
-pub const BUCKETS: usize = 2048;
+pub const BUCKETS: usize = 512;
 
 /// How many indices there is room for at first.
 const ROOM: usize = 64;
@@ -16,7 +16,7 @@ pub struct Chains {
     pub heads: Vec<u32>,
     /// For each index the latest one before it with the same bucket.
     pub befores: Vec<u32>,
-    ghost all_buckets: { length heads.items ≡ 2048 },
+    ghost all_buckets: { length heads.items ≡ 512 },
 }
 
 impl Chains {
@@ -34,7 +34,7 @@ impl Chains {
 
     /// The latest index that has the bucket.
     pub fn latest(&self, bucket: usize) -> usize
-        requires { bucket < 2048 }
+        requires { bucket < 512 }
         ensures { result ≡ slice_index self.now.heads.items bucket }
     {
         self.heads[bucket] as usize
@@ -42,7 +42,7 @@ impl Chains {
 
     /// Chains the next index, which has the bucket. An index beyond 32 bits, which no search comes to, is refused like a growth.
     pub fn push(&mut self, bucket: usize) -> Result<(), AllocError>
-        requires { bucket < 2048 }
+        requires { bucket < 512 }
         ensures { (buckets : List ℕ) → AreChained buckets self.old → OnOk result (AreChained (buckets ++ bucket ∷ []) self.new) }
     {
         let before = self.heads[bucket];

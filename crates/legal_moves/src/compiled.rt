@@ -10,11 +10,12 @@ ghost use Rattle.legal_moves.specs.declared.limits.TheConstants.{WIDEST};
 
 use crate::compile::add_table;
 use crate::copies::copied_state;
+use crate::ends::ascending_ends;
 use crate::fault::MoveFault;
 use crate::fields::{byte_at, leader_of, role_with, value_at};
+use crate::found::Found;
 use crate::moves::Moves;
 use crate::patterns::same_patterns;
-use crate::repack::repacked;
 use crate::search::Searcher;
 use crate::source::MoveSource;
 use crate::table::Table;
@@ -34,8 +35,6 @@ pub struct Compiled {
     game: Game,
     /// By which positions are asked of and answered.
     packing: Packing,
-    /// By bytes, as `Moves` has its successors.
-    rows: Packing,
     /// Of the rules last, of each pattern before the table that it stands in.
     tables: Vec<Table>,
     /// For each pattern the number of the first that asks the same.
@@ -68,6 +67,8 @@ impl Compiled {
     ghost use Rattle.legal_moves.specs.Searches.{IsWide};
     ghost use Rattle.legal_moves.specs.Listed.{AreMoves, IsShortestMove};
     ghost use Rattle.legal_moves.specs.Compiled.{compiled_game, packing_kind, compiled_goal, IsSoundCompiled};
+    ghost use Rattle.legal_moves.specs.aid.Configurations.{IsSearch};
+    ghost use Rattle.legal_moves.specs.aid.Standing.{configurations_of, AreKept};
     ghost use Rattle.rbg_game.specs.Goals.{points_of};
     ghost use Rattle.position_pack.specs.Packings.{form_of};
 
@@ -89,11 +90,9 @@ impl Compiled {
         add_table(alloc, &mut tables, &game.rules)?;
         let same = same_patterns(alloc, &game.rules)?;
         let packing = Packing::new(&game, kind);
-        let rows = Packing::new(&game, PackingKind::Bytes);
         Ok(Compiled {
             game,
             packing,
-            rows,
             tables,
             same,
             goal,
@@ -147,6 +146,20 @@ impl Compiled {
         ensures wide { result ≡ Err MoveFault.TooWide → IsWide (compiled_game self.now) at.now }
         ensures narrow { IsOk result → ¬ IsWide (compiled_game self.now) at.now }
     {
+        let found = self.search(alloc, at)?;
+        let moves = Moves::of(alloc, found)?;
+        Ok(moves)
+    }
+
+    /// The search for the moves of a position.
+    fn search(&self, alloc: Global, at: &Position) -> Result<Found, MoveFault>
+        requires at { IsPositionOf (compiled_game self.now) at.now }
+        ensures found { let game = compiled_game self.now in IfOk result
+            (λ found. IsSearch game game.rules at.now.place at.now.state (configurations_of found)) }
+        ensures kept { IfOk result AreKept }
+        ensures sound { IsSoundGame (compiled_game self.now) }
+        ensures wide { result ≡ Err MoveFault.TooWide → IsWide (compiled_game self.now) at.now }
+    {
         let searcher = Searcher {
             game: &self.game,
             tables: &self.tables,
@@ -155,9 +168,7 @@ impl Compiled {
         };
         let rules = self.tables.len() - 1;
         let state = copied_state(&at.state);
-        let found = searcher.search(rules, at.place, state)?;
-        let moves = Moves::of(alloc, found)?;
-        Ok(moves)
+        searcher.search(rules, at.place, state)
     }
 }
 
@@ -218,11 +229,8 @@ impl MoveSource for Compiled {
         let Some(position) = self.packing.unpack(at) else {
             return Ok(Vec::new(alloc));
         };
-        let moves = self.moves(alloc, &position)?;
-        let successors = moves.into_successors(alloc)?;
-        match self.packing.kind() {
-            PackingKind::Bytes => Ok(successors),
-            PackingKind::Bits => Ok(repacked(alloc, &self.rows, &self.packing, &successors)?),
-        }
+        let found = self.search(alloc, &position)?;
+        let successors = ascending_ends(alloc, &self.packing, &found)?;
+        Ok(successors)
     }
 }

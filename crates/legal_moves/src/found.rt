@@ -97,7 +97,7 @@ impl Found {
     fn like(&self, bucket: usize, state: &SemiState) -> Option<usize>
         requires kept { AreKept self.now }
         requires bucket { bucket ≡ bucket_of_board state.now }
-        requires small { bucket < 2048 }
+        requires small { bucket < 512 }
         ensures some { IfSome result (λ number. (number < length self.now.boards.items)
             × IsSameBoard (board_at self.now.boards.items number) state.now) }
         ensures none { IfNone result (IsNewBoard self.now.boards.items state.now) }
@@ -116,7 +116,7 @@ impl Found {
     fn has(&self, bucket: usize, stand: Stand) -> bool
         requires kept { AreKept self.now }
         requires bucket { bucket ≡ bucket_at stand }
-        requires small { bucket < 2048 }
+        requires small { bucket < 512 }
         ensures there { OnTrue result ((i : ℕ) × (s : Stand) × (slice_get self.now.stands.items i ≡ Some s) × IsSameStand s stand) }
         ensures new { OnFalse result (IsNewStand self.now.stands.items stand) }
     {

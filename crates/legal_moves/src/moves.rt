@@ -102,16 +102,6 @@ impl Moves {
         word.as_mut_slice().reverse();
         Ok(word)
     }
-
-    /// The bytes of the successors alone.
-    pub fn into_successors(self, alloc: Global) -> Result<Vec<Packed>, AllocError>
-        ensures { IfOk result (λ found. map (λ p. p.items) found.items ≡ map (λ m. m.next) self) }
-    {
-        self.successors
-            .into_iter()
-            .map(|successor| successor.packed)
-            .collect(alloc)
-    }
 }
 
 /// The index of each configuration at which a move ends, by its bytes.

@@ -11,5 +11,5 @@ IsLatest buckets bucket n (suc k) =
 -- the indices with these buckets are chained
 pub record AreChained (buckets : List ℕ) (chains : Chains) : Type 0 where
   pub as_many : length chains.befores.items ≡ length buckets
-  pub heads : (bucket : ℕ) → bucket < 2048 → IsLatest buckets bucket (length buckets) (slice_index chains.heads.items bucket)
+  pub heads : (bucket : ℕ) → bucket < 512 → IsLatest buckets bucket (length buckets) (slice_index chains.heads.items bucket)
   pub befores : (i bucket : ℕ) → slice_get buckets i ≡ Some bucket → IsLatest buckets bucket i (slice_index chains.befores.items i)

@@ -7,11 +7,6 @@ use Rattle.position_pack.specs.Packings.{Form, IsPacked}
 abbrev pub IsRepacked : Form → Form → List ℕ → List ℕ → Type 0
 IsRepacked rows form x y = (at : Position) × IsPacked rows at x × IsPacked form at y
 
--- each of the bytes is that of a position
-abbrev pub AreAllPacked : Form → List (List ℕ) → Type 0
-AreAllPacked rows [] = ⊤
-AreAllPacked rows (x ∷ xs) = ((at : Position) × IsPacked rows at x) × AreAllPacked rows xs
-
 -- as many, and each is repacked
 abbrev pub AreRepacked : Form → Form → List (List ℕ) → List (List ℕ) → Type 0
 AreRepacked rows form [] [] = ⊤

@@ -7,7 +7,6 @@ pub invariant_of-result : goal.invariant_of-result
 invariant_of-result c = record {
   sound = c.requires;
   packing_is = search rules;
-  rows_are = search rules;
   tables_are = (c.in_ok-add_table.ensures [] (AreTables-none c.new-tables.result.items c.new-tables.ensures.items)).1;
   same_are = c.in_ok-same.ensures;
 }

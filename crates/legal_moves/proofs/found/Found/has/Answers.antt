@@ -12,7 +12,7 @@ loop-at-init c =
     let stands = c.args.self.now.stands.items in
     let stand = c.args.stand in
     subst (IsAlong bucket_at stands (λ s. IsSameStand s stand) (bucket_at stand)) (ap (slice_index c.args.self.now.stand_chains.heads.items) (sym c.requires.bucket) ∙ sym c.latest-at.ensures)
-    (along_first bucket_at stands (λ s. IsSameStand s stand) (bucket_at stand) (λ s same. same_stand_bucket s stand same) c.args.self.now.stand_chains c.requires.kept.stands_are (subst (λ b. b < 2048) c.requires.bucket c.requires.small))
+    (along_first bucket_at stands (λ s. IsSameStand s stand) (bucket_at stand) (λ s same. same_stand_bucket s stand same) c.args.self.now.stand_chains c.requires.kept.stands_are (subst (λ b. b < 512) c.requires.bucket c.requires.small))
 
 pub returns-then-is_same_stand-clause-there : goal.returns-then-is_same_stand-clause-there
 returns-then-is_same_stand-clause-there c =

@@ -13,7 +13,7 @@ loop-at-init c =
     let boards = c.args.self.now.boards.items in
     let state = c.args.state.now in
     subst (IsAlong bucket_of_board boards (λ A. IsSameBoard A state) (bucket_of_board state)) (ap (slice_index c.args.self.now.board_chains.heads.items) (sym c.requires.bucket) ∙ sym c.latest-at.ensures)
-    (along_first bucket_of_board boards (λ A. IsSameBoard A state) (bucket_of_board state) (λ A same. same_board_bucket A state same) c.args.self.now.board_chains c.requires.kept.boards_are (subst (λ b. b < 2048) c.requires.bucket c.requires.small))
+    (along_first bucket_of_board boards (λ A. IsSameBoard A state) (bucket_of_board state) (λ A same. same_board_bucket A state same) c.args.self.now.board_chains c.requires.kept.boards_are (subst (λ b. b < 512) c.requires.bucket c.requires.small))
 
 pub returns-then-is_same_board-clause-some : goal.returns-then-is_same_board-clause-some
 returns-then-is_same_board-clause-some c =
