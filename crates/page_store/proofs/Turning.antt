@@ -1,5 +1,6 @@
 -- Marks are turned, part after part and block after block.
-use Rattle.std.proofs.Common.{◌≡◌, ◌≢◌, ◌⊎◌, inl, inr, ℕ, ◌+◌, ◌*◌, ◌/◌, ◌<◌, ◌≤◌, Bool, true, false, not, cond, List, length, IsTrue, refl, sym, ◌∙◌, ap, subst, arith}
+use Rattle.std.proofs.Common.{◌≡◌, ◌≢◌, inl, inr, ℕ, ◌+◌, ◌*◌, ◌/◌, ◌<◌, ◌≤◌, Bool, true, false, not, cond, List, length, IsTrue}
+use Rattle.std.proofs.Common.{refl, sym, ◌∙◌, ap, subst, arith}
 use Rattle.std.proofs.lemmas.List.{get_or-set_same, get_or-set_other, length-set, get_or_past}
 use Rattle.std.proofs.lemmas.Bool.{cases_lt, cases_eq}
 use Rattle.std.specs.Prelude.{slice_set}
@@ -95,7 +96,8 @@ part_idle turn from upto marks idle rest = record {
 }
 
 -- there is no such page
-pub part_past : (turn : ℕ → Mark → Mark) (at : ℕ) (marks : List Mark) → IsIdle turn → length marks ≤ at → ArePartTurned turn at (at + 1) false marks marks
+pub part_past : (turn : ℕ → Mark → Mark) (at : ℕ) (marks : List Mark) → IsIdle turn → length marks ≤ at
+    → ArePartTurned turn at (at + 1) false marks marks
 part_past turn at marks idle past = part_idle turn at (at + 1) marks idle (λ p low high. past_rests marks p (omega (arith, low, past)))
 
 -- one page is turned
@@ -103,7 +105,8 @@ pub part_page : (turn : ℕ → Mark → Mark) (at : ℕ) (now : Mark) (goes_on 
     → (goes_on ≡ false → IsTrue (rests now)) → ArePartTurned turn at (at + 1) goes_on old (slice_set old at now)
 part_page turn at now goes_on old within is rest = record {
   same_length = length-set old at now;
-  here = λ p low high. subst (λ (q : ℕ). mark (slice_set old at now) q ≡ turn q (mark old q)) (it p low high) (get_or-set_same old at now Committed within ∙ is);
+  here = λ p low high. subst (λ (q : ℕ). mark (slice_set old at now) q ≡ turn q (mark old q)) (it p low high)
+      (get_or-set_same old at now Committed within ∙ is);
   below = λ p low. get_or-set_other old at p now Committed (omega (arith, low));
   behind = λ p high. get_or-set_other old at p now Committed (omega (arith, high));
   rest = λ none p low high. subst (λ (q : ℕ). IsTrue (rests (mark (slice_set old at now) q))) (it p low high)
@@ -211,7 +214,8 @@ all_are_noted marks noted long few each = record {
 }
 
 -- fewer pages are there
-pub cut_noted : (pages : ℕ) (marks new : List Mark) (noted : List Bool) → AreCut pages marks new → pages ≤ length marks → AreNoted marks noted → AreNoted new noted
+pub cut_noted : (pages : ℕ) (marks new : List Mark) (noted : List Bool) → AreCut pages marks new → pages ≤ length marks
+    → AreNoted marks noted → AreNoted new noted
 cut_noted pages marks new noted cut room of = record {
   long = of.long;
   few = omega (arith, cut.long, room, of.few);
@@ -241,5 +245,6 @@ pub left_noted : (holders : List Holders) (marks new : List Mark) (noted : List 
 left_noted holders marks new noted gone of = record {
   long = of.long;
   few = omega (arith, gone.same_length, of.few);
-  rest = λ p none. rests_same (left (holders_at holders p) (mark marks p)) (mark new p) (gone.each p) (left_rests (holders_at holders p) (mark marks p) (of.rest p none));
+  rest = λ p none. rests_same (left (holders_at holders p) (mark marks p)) (mark new p) (gone.each p)
+      (left_rests (holders_at holders p) (mark marks p) (of.rest p none));
 }

@@ -1,4 +1,4 @@
-use Rattle.std.proofs.Common.{◌≡◌, ◌<◌, ◌≤◌, ◌∙◌, ℕ, ◌+◌, ◌*◌, arith, subst}
+use Rattle.std.proofs.Common.{◌≡◌, ℕ, ◌+◌, ◌*◌, arith, subst}
 use Rattle.page_store.proofs.Turning.{committed_idle, part_none, part_then, part_idle}
 use Rattle.page_store.specs.Blocks.{ArePartTurned}
 use Rattle.page_store.specs.declared.marks.Mark.{Mark}
@@ -20,7 +20,9 @@ returns-then-not-noted c = part_idle _ _ _ _ (committed_idle c.args.holders.now)
 pub returns : goal.returns
 returns c =
     let end : c.loop-page.page ≡ 256 * c.args.block + 256 = omega arith in
-    subst (λ (n : ℕ). ArePartTurned (λ (p : ℕ) (m : Mark). committed (holders_at c.args.holders.now p) m) (256 * c.args.block) n c.loop-page.goes_on c.args.marks.now.items c.loop-page.marks.items) end c.loop-page.invariant
+    let turn : ℕ → Mark → Mark = λ (p : ℕ) (m : Mark). committed (holders_at c.args.holders.now p) m in
+    subst (λ (n : ℕ). ArePartTurned turn (256 * c.args.block) n c.loop-page.goes_on c.args.marks.now.items c.loop-page.marks.items)
+    end c.loop-page.invariant
 
 pub commit_page-here-requires : goal.commit_page-here-requires
 commit_page-here-requires c = omega (arith, c.requires.same_length, c.loop-page.invariant.same_length)

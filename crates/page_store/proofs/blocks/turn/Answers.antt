@@ -1,8 +1,6 @@
-use Rattle.std.proofs.Common.{◌≡◌, ◌<◌, ◌≤◌, ◌∙◌, ℕ, Bool, false, length, sym, arith}
+use Rattle.std.proofs.Common.{◌≡◌, ◌<◌, ◌≤◌, ◌∙◌, false, length, sym, arith}
 use Rattle.std.proofs.lemmas.List.{get_or_default}
 use Rattle.page_store.specs.Blocks.{noted_at}
-use Rattle.page_store.specs.declared.marks.Mark.{Mark}
-use Rattle.page_store.specs.Marks.{turned}
 use Rattle.page_store.proofs.Turning.{turned_idle, blocks_none, next_rests, blocks_more, blocks_all, blocks_noted}
 use Rattle.page_store.proofs.blocks.turn.Goals as goal
 
@@ -14,7 +12,8 @@ turn_block-requires-clause-within c = omega (arith, c.len-block-end.ensures, c.r
 
 pub turn_block-requires-clause-rest : goal.turn_block-requires-clause-rest
 turn_block-requires-clause-rest c = λ none.
-    let here : c.loop-block.block < length c.loop-block.noted.items = omega (arith, c.len-block-end.ensures, c.requires.long, c.loop-block.invariant.long, c.loop-block-test.true) in
+    let here : c.loop-block.block < length c.loop-block.noted.items =
+    omega (arith, c.len-block-end.ensures, c.requires.long, c.loop-block.invariant.long, c.loop-block-test.true) in
     let is : c.index.result.now ≡ noted_at c.loop-block.noted.items c.loop-block.block = c.index.ensures ∙ get_or_default _ _ _ false here in
     next_rests _ _ _ _ _ _ c.requires c.loop-block.invariant (sym is ∙ none)
 

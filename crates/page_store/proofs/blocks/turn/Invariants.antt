@@ -5,4 +5,5 @@ use Rattle.page_store.specs.Marks.{turned}
 use Rattle.page_store.proofs.blocks.turn.Given as goal
 
 abbrev pub invariant-loop-block : goal.invariant-loop-block
-invariant-loop-block l = AreBlocksTurned (λ (p : ℕ) (m : Mark). turned l.fresh l.released l.waiting m) l.block l.fn.marks.items l.fn.noted.items l.marks.items l.noted.items
+invariant-loop-block l =
+    AreBlocksTurned (λ (p : ℕ) (m : Mark). turned l.fresh l.released l.waiting m) l.block l.fn.marks.items l.fn.noted.items l.marks.items l.noted.items

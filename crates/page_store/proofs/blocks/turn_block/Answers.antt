@@ -1,4 +1,4 @@
-use Rattle.std.proofs.Common.{◌≡◌, ◌<◌, ◌≤◌, ◌∙◌, ℕ, ◌+◌, ◌*◌, arith, subst}
+use Rattle.std.proofs.Common.{◌≡◌, ℕ, ◌+◌, ◌*◌, arith, subst}
 use Rattle.page_store.proofs.Turning.{turned_idle, part_none, part_then, part_idle}
 use Rattle.page_store.specs.Blocks.{ArePartTurned}
 use Rattle.page_store.specs.declared.marks.Mark.{Mark}
@@ -19,4 +19,6 @@ returns-then-not-noted c = part_idle _ _ _ _ (turned_idle c.args.fresh c.args.re
 pub returns : goal.returns
 returns c =
     let end : c.loop-page.page ≡ 256 * c.args.block + 256 = omega arith in
-    subst (λ (n : ℕ). ArePartTurned (λ (p : ℕ) (m : Mark). turned c.args.fresh c.args.released c.args.waiting m) (256 * c.args.block) n c.loop-page.goes_on c.args.marks.now.items c.loop-page.marks.items) end c.loop-page.invariant
+    let turn : ℕ → Mark → Mark = λ (p : ℕ) (m : Mark). turned c.args.fresh c.args.released c.args.waiting m in
+    subst (λ (n : ℕ). ArePartTurned turn (256 * c.args.block) n c.loop-page.goes_on c.args.marks.now.items c.loop-page.marks.items)
+    end c.loop-page.invariant

@@ -1,9 +1,6 @@
-use Rattle.std.proofs.Common.{◌≡◌, ◌<◌, ◌≤◌, ◌∙◌, ℕ, Bool, false, length, sym, arith}
+use Rattle.std.proofs.Common.{◌≡◌, ◌<◌, ◌≤◌, ◌∙◌, false, length, sym, arith}
 use Rattle.std.proofs.lemmas.List.{get_or_default}
 use Rattle.page_store.specs.Blocks.{noted_at}
-use Rattle.page_store.specs.declared.marks.Mark.{Mark}
-use Rattle.page_store.specs.Holds.{holders_at}
-use Rattle.page_store.specs.Marks.{committed}
 use Rattle.page_store.proofs.Turning.{committed_idle, blocks_none, next_rests, blocks_more, blocks_all, blocks_noted}
 use Rattle.page_store.proofs.blocks.turn_committed.Goals as goal
 
@@ -15,7 +12,8 @@ commit_block-requires-clause-within c = omega (arith, c.len-block-end.ensures, c
 
 pub commit_block-requires-clause-rest : goal.commit_block-requires-clause-rest
 commit_block-requires-clause-rest c = λ none.
-    let here : c.loop-block.block < length c.loop-block.noted.items = omega (arith, c.len-block-end.ensures, c.requires.noted.long, c.loop-block.invariant.long, c.loop-block-test.true) in
+    let here : c.loop-block.block < length c.loop-block.noted.items =
+    omega (arith, c.len-block-end.ensures, c.requires.noted.long, c.loop-block.invariant.long, c.loop-block-test.true) in
     let is : c.index.result.now ≡ noted_at c.loop-block.noted.items c.loop-block.block = c.index.ensures ∙ get_or_default _ _ _ false here in
     next_rests _ _ _ _ _ _ c.requires.noted c.loop-block.invariant (sym is ∙ none)
 

@@ -6,4 +6,5 @@ use Rattle.page_store.specs.Marks.{committed}
 use Rattle.page_store.proofs.blocks.turn_committed.Given as goal
 
 abbrev pub invariant-loop-block : goal.invariant-loop-block
-invariant-loop-block l = AreBlocksTurned (λ (p : ℕ) (m : Mark). committed (holders_at l.holders p) m) l.block l.fn.marks.items l.fn.noted.items l.marks.items l.noted.items
+invariant-loop-block l =
+    AreBlocksTurned (λ (p : ℕ) (m : Mark). committed (holders_at l.holders p) m) l.block l.fn.marks.items l.fn.noted.items l.marks.items l.noted.items

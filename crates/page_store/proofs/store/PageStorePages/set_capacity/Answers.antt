@@ -1,4 +1,4 @@
-use Rattle.std.proofs.Common.{refl, arith, sym, ◌∙◌}
+use Rattle.std.proofs.Common.{refl}
 use Rattle.page_store.proofs.Growing.{are_cut, shortened, cut_sound}
 use Rattle.page_store.proofs.Caching.{empty_cache}
 use Rattle.page_store.proofs.Turning.{cut_noted}
