@@ -1,5 +1,6 @@
 mod Failing
 mod Fitting
+mod InPlace
 mod Listing
 mod Placing
 mod Rising

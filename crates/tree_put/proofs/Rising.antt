@@ -52,7 +52,7 @@ flat_flat : {X : Type 0} (f : Item → List X) (g : Item → List Item) (ts : Li
 flat_flat f g [] = refl
 flat_flat f g (t ∷ ts) = ap (λ rest. flat_map f (g t) ++ rest) (flat_flat f g ts) ∙ sym (flat_map-append f (g t) (flat_map g ts))
 
-first_got : (es : List Item) → first_key es ≡ option_map (λ e. e.0) (slice_get es 0)
+pub first_got : (es : List Item) → first_key es ≡ option_map (λ e. e.0) (slice_get es 0)
 first_got [] = refl
 first_got (e ∷ es) = refl
 
@@ -334,7 +334,7 @@ module _ (w : Widths) (d q i : ℕ) (c : Item) (store : Store) (got : slice_get 
       ∙ ap (λ (es : List Item). put_entry es key value) (sym entries_parts)
 
 -- while a child grows, the page above it reads as before
-page_stays : (w : Widths) (d q i : ℕ) (c : Item) (others : List ℕ) (old mid : Store) → IsTrue old.disk.honest → slice_get (items_in w Inner (reads old q)) i ≡ Some c
+pub page_stays : (w : Widths) (d q i : ℕ) (c : Item) (others : List ℕ) (old mid : Store) → IsTrue old.disk.honest → slice_get (items_in w Inner (reads old q)) i ≡ Some c
     → IsGrowing w (suc d) q old → TakePlace (pages_below w (reads old) d (child_of c)) others old mid → reads mid q ≡ reads old q
 page_stays w d q i c others old mid honest got growing grown =
     let left : List ℕ = pages_left w d q i c old got growing in

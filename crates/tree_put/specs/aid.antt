@@ -1,3 +1,4 @@
 pub mod Causes
 pub mod Growing
 pub mod Items
+pub mod Spots

@@ -3,6 +3,7 @@
 #![tactic(auto)]
 
 mod below;
+mod in_place;
 mod items;
 mod map;
 mod place;

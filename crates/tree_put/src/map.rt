@@ -9,6 +9,7 @@ ghost use Rattle.tree_put.specs.aid.Causes.{WriteCause};
 ghost use Rattle.tree_put.specs.aid.Items.{listed, AreWhole};
 
 use crate::below::put_below;
+use crate::in_place::put_in_place;
 use crate::items::{FewItems, first_child, new_entry};
 use crate::place::write_on;
 use page_store::{PageFault, Pages};
@@ -45,6 +46,34 @@ pub fn put<P: Pages>(
         let entry = new_entry(widths, key, value);
         return on_new_page(store, widths, Kind::Leaf, &entry);
     }
+    let done = put_in_place(store, widths, root, LEVELS, key, value)?;
+    if done {
+        return Ok(root);
+    }
+    put_anew(store, widths, root, key, value)
+}
+
+/// The same where there is a root, with each page on the way to the leaf written anew.
+fn put_anew<P: Pages>(
+    store: &mut P,
+    widths: Widths,
+    root: u32,
+    key: &[u8],
+    value: &[u8],
+) -> Result<u32, PageFault>
+    requires some { root ≢ 0 }
+    requires key { length key.now ≡ widths.key }
+    requires value { length value.now ≡ widths.value }
+    ensures map { IsTrue (P.store store.old).disk.honest → (pages : List ℕ) (es : List Item)
+        → HoldsMap widths (P.store store.old) root pages es
+        → AreHeld (P.store store.old).marks pages
+        → IfOk result (λ next. (others : List ℕ) × HoldsMap widths (P.store store.new) next others (put_entry es key.now value.now)
+        × TakePlace pages others (P.store store.old) (P.store store.new)) }
+    ensures open { OnOk result ((P.store store.new).closed ≡ false) }
+    ensures works { StoreWorks (P.store store.old) (P.store store.new) }
+    ensures still { IfErr result (λ fault. fault ≢ PageFault.Disk → (P.store store.new).closed ≡ (P.store store.old).closed) }
+    ensures cause { IfErr result (MapPutCause widths root (P.store store.old) (P.store store.new)) }
+{
     let tops = put_below(store, widths, root, LEVELS, key, value)?;
     if tops.count == 1 {
         Ok(first_child(widths, &tops))

@@ -1,18 +1,16 @@
-use Rattle.std.proofs.Common.{◌≡◌, ◌≢◌, ◌∙◌, ◌<◌, ◌≤◌, ◌∷◌, [], ℕ, List, Result, Ok, Err, IfOk, length, sym}
+use Rattle.std.proofs.Common.{◌≡◌, ◌≢◌, ◌∙◌, ◌<◌, ◌≤◌, ◌∷◌, [], ℕ, List, Result, Ok, Err, IfOk, IfErr, IsTrue, length, subst, arith}
 use Rattle.std.proofs.lemmas.Result.{IfErr-weaker}
-use Rattle.sector_disk.specs.aid.Moments.{still_honest}
 use Rattle.page_store.specs.declared.fault.PageFault.TheVariants.{Disk}
-use Rattle.page_store.specs.Store.{reads}
-use Rattle.page_store.specs.aid.Works.{works_then}
-use Rattle.tree_page.specs.declared.kind.Kind.TheVariants.{Leaf, Inner}
-use Rattle.tree_page.specs.aid.Items.{length-items}
-use Rattle.tree_page.specs.Page.{IsPage, items_in}
-use Rattle.tree_map.specs.Changes.{HoldsMap, TakePlace, MapPutCause}
+use Rattle.page_store.specs.Store.{Store, StoreWorks, reads}
+use Rattle.tree_page.specs.declared.kind.Kind.TheVariants.{Leaf}
+use Rattle.tree_page.specs.Page.{Item, IsPage, items_in}
+use Rattle.tree_map.specs.Changes.{AreHeld, HoldsMap, TakePlace, MapPutCause}
 use Rattle.tree_map.specs.Entries.{put_entry}
 use Rattle.tree_put.specs.aid.Causes.{WriteCause}
 use Rattle.tree_put.specs.aid.Items.{listed}
-use Rattle.tree_put.proofs.Failing.{passed_on, cause_later}
-use Rattle.tree_put.proofs.Rooting.{first_put, as_put, put_fails, put_one, put_two}
+use Rattle.tree_put.proofs.Failing.{passed_on}
+use Rattle.tree_put.proofs.Rooting.{first_put, as_put}
+use Rattle.tree_put.proofs.InPlace.{put_there}
 use Rattle.tree_put.proofs.map.put.Goals as goal
 
 -- what five clauses say of an answer, taken together
@@ -35,42 +33,6 @@ returns-then-root-eq0-clause-map g c honest pages es holds held =
     (λ q is_page there place form items. first_put w key value c.args.root q pages es old new put.works c.if-root-eq0.true holds is_page there place form (items ∙ c.new_entry-entry.ensures.listed))
     put.is_page put.there put.place (put.page honest) (put.items honest)
 
-pub returns-in_err-tops-clause-cause : goal.returns-in_err-tops-clause-cause
-returns-in_err-tops-clause-cause g c =
-    passed_on _ c.from_residual.result _ c.from_residual.ensures
-    (put_fails c.args.widths c.args.root (g.P.Pages.store c.args.store.now) (g.P.Pages.store c.put_below.new.store) _ c.if-root-eq0.false c.in_err-tops.ensures.cause)
-
-pub returns-then-tops-eq1-clause-map : goal.returns-then-tops-eq1-clause-map
-returns-then-tops-eq1-clause-map g c honest pages es holds held =
-    let w = c.args.widths in
-    let tops = c.in_ok-tops.tops in
-    put_one w c.args.key.now c.args.value.now c.args.root pages es (listed w Inner tops.count tops.bytes.items) (g.P.Pages.store c.args.store.now) (g.P.Pages.store c.put_below.new.store) c.in_ok-tops.ensures.works
-    c.if-root-eq0.false (g.met.P.Pages.sound c.args.store.now).few holds held (c.in_ok-tops.ensures.grown honest)
-    c.first_child.result (length-items w.key 4 tops.count tops.bytes.items ∙ c.if-tops-eq1.true) c.first_child.ensures
-
-pub returns-else-tops-eq1-clause-map : goal.returns-else-tops-eq1-clause-map
-returns-else-tops-eq1-clause-map g c honest pages es holds held =
-    let w = c.args.widths in
-    let key = c.args.key.now in
-    let value = c.args.value.now in
-    let tops = listed w Inner c.in_ok-tops.tops.count c.in_ok-tops.tops.bytes.items in
-    let old = g.P.Pages.store c.args.store.now in
-    let mid = g.P.Pages.store c.put_below.new.store in
-    let new = g.P.Pages.store c.on_new_page-else-tops-eq1.new.store in
-    let works = c.in_ok-tops.ensures.works in
-    let now = still_honest works.goes_on honest in
-    let put = c.on_new_page-else-tops-eq1.ensures in
-    of_all (λ q. 1 ≤ q) (λ q. q < length mid.marks) (λ q. TakePlace [] (q ∷ []) mid new) (λ q. IsPage w Inner (reads new q))
-    (λ q. items_in w Inner (reads new q) ≡ tops)
-    (λ q. (others : List ℕ) × HoldsMap w new q others (put_entry es key value) × TakePlace pages others old new)
-    c.on_new_page-else-tops-eq1.result
-    (λ q is_page there place form items. put_two w key value c.args.root pages es tops old mid works c.if-root-eq0.false (g.met.P.Pages.sound c.args.store.now).few holds held
-    (c.in_ok-tops.ensures.grown honest) q new now put.works is_page there place form items)
-    put.is_page put.there put.place (put.page now) (put.items now)
-
-pub returns-else-tops-eq1-clause-works : goal.returns-else-tops-eq1-clause-works
-returns-else-tops-eq1-clause-works g c = works_then c.in_ok-tops.ensures.works c.on_new_page-else-tops-eq1.ensures.works
-
 pub returns-then-root-eq0-clause-open : goal.returns-then-root-eq0-clause-open
 returns-then-root-eq0-clause-open g c =
     c.on_new_page.ensures.open
@@ -90,44 +52,49 @@ returns-then-root-eq0-clause-cause g c =
     IfErr-weaker c.on_new_page.result (WriteCause old new) (MapPutCause c.args.widths c.args.root old new)
     (λ fault cause. as_put c.args.widths c.args.root old new fault cause) c.on_new_page.ensures.cause
 
-pub returns-in_err-tops-clause-works : goal.returns-in_err-tops-clause-works
-returns-in_err-tops-clause-works g c =
-    c.put_below.ensures.works
-
-pub returns-in_err-tops-clause-still : goal.returns-in_err-tops-clause-still
-returns-in_err-tops-clause-still g c =
-    passed_on _ c.from_residual.result _ c.from_residual.ensures c.in_err-tops.ensures.still
-
-pub returns-then-tops-eq1-clause-open : goal.returns-then-tops-eq1-clause-open
-returns-then-tops-eq1-clause-open g c =
-    c.in_ok-tops.ensures.open
-
-pub returns-then-tops-eq1-clause-works : goal.returns-then-tops-eq1-clause-works
-returns-then-tops-eq1-clause-works g c =
-    c.in_ok-tops.ensures.works
-
-pub returns-else-tops-eq1-clause-open : goal.returns-else-tops-eq1-clause-open
-returns-else-tops-eq1-clause-open g c =
-    c.on_new_page-else-tops-eq1.ensures.open
-
-pub returns-else-tops-eq1-clause-still : goal.returns-else-tops-eq1-clause-still
-returns-else-tops-eq1-clause-still g c =
-    let store = g.P.Pages.store in
-    IfErr-weaker c.on_new_page-else-tops-eq1.result (λ fault. fault ≢ Disk → (store c.on_new_page-else-tops-eq1.new.store).closed ≡ (store c.put_below.new.store).closed)
-    (λ fault. fault ≢ Disk → (store c.on_new_page-else-tops-eq1.new.store).closed ≡ (store c.args.store.now).closed)
-    (λ fault still other. still other ∙ (c.in_ok-tops.ensures.open ∙ sym (c.in_ok-tops.ensures.works.closed c.in_ok-tops.ensures.open)))
-    c.on_new_page-else-tops-eq1.ensures.still
-
-pub returns-else-tops-eq1-clause-cause : goal.returns-else-tops-eq1-clause-cause
-returns-else-tops-eq1-clause-cause g c =
-    let old = g.P.Pages.store c.args.store.now in
-    let mid = g.P.Pages.store c.put_below.new.store in
-    let new = g.P.Pages.store c.on_new_page-else-tops-eq1.new.store in
-    IfErr-weaker c.on_new_page-else-tops-eq1.result (WriteCause mid new) (MapPutCause c.args.widths c.args.root old new)
-    (λ fault cause. as_put c.args.widths c.args.root old new fault (cause_later old mid new fault c.in_ok-tops.ensures.works c.in_ok-tops.ensures.open cause)) c.on_new_page-else-tops-eq1.ensures.cause
-
 pub returns-then-root-eq0-clause-first : goal.returns-then-root-eq0-clause-first
 returns-then-root-eq0-clause-first g c = λ none. c.on_new_page.ensures.first
 
 pub returns-then-root-eq0-clause-refused : goal.returns-then-root-eq0-clause-refused
 returns-then-root-eq0-clause-refused g c = λ none. c.on_new_page.ensures.refused
+
+pub returns-then-done-clause-map : goal.returns-then-done-clause-map
+returns-then-done-clause-map g c honest pages es holds held =
+    let old = g.P.Pages.store c.args.store.now in
+    let new = g.P.Pages.store c.put_in_place.new.store in
+    put_there c.args.widths c.args.key.now c.args.value.now c.args.root pages es old new
+    c.put_in_place.ensures.works c.if-root-eq0.false (g.met.P.Pages.sound c.args.store.now).few (omega arith) holds held
+    (λ d top growing leads first. c.in_ok-done.ensures.grown honest d top growing leads first c.if-done.true)
+
+pub returns-clause-map : goal.returns-clause-map
+returns-clause-map g c =
+    let w = c.args.widths in
+    let new = g.P.Pages.store c.put_anew.new.store in
+    subst (λ (s : Store). IsTrue s.disk.honest → (pages : List ℕ) (es : List Item) → HoldsMap w s c.args.root pages es → AreHeld s.marks pages
+    → IfOk c.put_anew.result (λ next. (others : List ℕ) × HoldsMap w new next others (put_entry es c.args.key.now c.args.value.now)
+    × TakePlace pages others s new)) (c.in_ok-done.ensures.same c.if-done.false) c.put_anew.ensures.map
+
+pub returns-clause-works : goal.returns-clause-works
+returns-clause-works g c =
+    subst (λ (s : Store). StoreWorks s (g.P.Pages.store c.put_anew.new.store)) (c.in_ok-done.ensures.same c.if-done.false) c.put_anew.ensures.works
+
+pub returns-clause-still : goal.returns-clause-still
+returns-clause-still g c =
+    let new = g.P.Pages.store c.put_anew.new.store in
+    subst (λ (s : Store). IfErr c.put_anew.result (λ fault. fault ≢ Disk → new.closed ≡ s.closed))
+    (c.in_ok-done.ensures.same c.if-done.false) c.put_anew.ensures.still
+
+pub returns-clause-cause : goal.returns-clause-cause
+returns-clause-cause g c =
+    let new = g.P.Pages.store c.put_anew.new.store in
+    subst (λ (s : Store). IfErr c.put_anew.result (MapPutCause c.args.widths c.args.root s new))
+    (c.in_ok-done.ensures.same c.if-done.false) c.put_anew.ensures.cause
+
+pub returns-in_err-done-clause-cause : goal.returns-in_err-done-clause-cause
+returns-in_err-done-clause-cause g c =
+    let old = g.P.Pages.store c.args.store.now in
+    let new = g.P.Pages.store c.put_in_place.new.store in
+    passed_on _ c.from_residual.result _ c.from_residual.ensures (as_put c.args.widths c.args.root old new _ c.in_err-done.ensures.cause)
+
+pub returns-in_err-done-clause-still : goal.returns-in_err-done-clause-still
+returns-in_err-done-clause-still g c = passed_on _ c.from_residual.result _ c.from_residual.ensures c.in_err-done.ensures.still
