@@ -1,4 +1,5 @@
 pub mod Appending
+mod KnownLemmas
 mod LineLemmas
 mod WritingLemmas
 mod AnswerLemmas

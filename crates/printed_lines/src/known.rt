@@ -1,10 +1,11 @@
 //! The lines of the moves of a known position.
 
-ghost use Rattle.std.specs.Prelude.{◌≡◌, ◌++◌, map, IfOk};
+ghost use Rattle.std.specs.Prelude.{◌≡◌, ◌∷◌, [], ◌++◌, codes, map, IfOk};
 ghost use Rattle.std.specs.List.{flat_map};
 ghost use Rattle.rbg_game.specs.Meaning.{game_of};
 ghost use Rattle.printed_lines.specs.Lines.{modifier_text};
 ghost use Rattle.printed_lines.specs.Known.{known_line, known_lines, number_text};
+ghost use Rattle.printed_lines.specs.Replies.{value_text};
 
 use crate::lines::put_modifier;
 use crate::replies::{put_number, put_value};
@@ -43,6 +44,29 @@ fn put_word(
     Ok(())
 }
 
+/// Puts the number and the value of a position behind the text.
+fn put_number_and_value(
+    alloc: Global,
+    text: &mut Vec<u8>,
+    game: &Game,
+    known: &KnownMove,
+) -> Result<(), AllocError>
+    ensures { IfOk result (λ _. text.new.items ≡ text.old.items ++ (number_text known.now.number ++ (32 ∷ value_text (game_of game.now) known.now.value))) }
+{
+    put_known_number(alloc, text, known.number)?;
+    text.push(b' ')?;
+    put_value(alloc, text, game, known.value)
+}
+
+/// Puts the text of a position behind an arrow, and ends the line.
+fn put_end(text: &mut Vec<u8>, position: &[u8]) -> Result<(), AllocError>
+    ensures { IfOk result (λ _. text.new.items ≡ text.old.items ++ (codes "=> " ++ (position.now ++ 10 ∷ []))) }
+{
+    text.extend_from_slice(b"=> ")?;
+    text.extend_from_slice(position)?;
+    text.push(b'\n').map_err(AllocError::from)
+}
+
 /// Puts the line of a move behind the text: `NUMBER VALUE MOVE => POSITION`.
 fn put_known_move(
     alloc: Global,
@@ -52,14 +76,11 @@ fn put_known_move(
 ) -> Result<(), AllocError>
     ensures { IfOk result (λ _. text.new.items ≡ text.old.items ++ known_line (game_of game.now) known.now) }
 {
-    put_known_number(alloc, text, known.number)?;
-    text.push(b' ')?;
-    put_value(alloc, text, game, known.value)?;
+    put_number_and_value(alloc, text, game, known)?;
     text.push(b' ')?;
     put_word(alloc, text, game, &known.word)?;
-    text.extend_from_slice(b"=> ")?;
-    text.extend_from_slice(&known.text)?;
-    text.push(b'\n').map_err(AllocError::from)
+    put_end(text, &known.text)?;
+    Ok(())
 }
 
 /// The lines of moves in their order, each with the number and the value of the position that it leads to: `ended` where there is none.

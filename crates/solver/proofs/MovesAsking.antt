@@ -14,7 +14,7 @@ use Rattle.table.specs.declared.fault.TableFault.{TableFault}
 use Rattle.table.specs.declared.fault.TableFault.TheVariants as table
 use Rattle.best_line.specs.Values.{IsValue}
 use Rattle.best_line.specs.declared.answers.Value.{Value}
-use Rattle.known_moves.specs.Causes.{OfTable}
+use Rattle.known_moves.specs.Causes.{FaultOfTable}
 use Rattle.known_moves.specs.Moves.{AreKnownMoves}
 use Rattle.known_moves.specs.declared.fault.KnownMovesFault.{KnownMovesFault}
 use Rattle.known_moves.specs.declared.fault.KnownMovesFault.TheVariants as moves
@@ -108,7 +108,7 @@ module _ (old new : State) (number : ℕ) where
   pub moves_cause : {Fails : TableFault → Type 0} (fault : KnownMovesFault)
       → (fault ≡ moves.TooWide → IsTrue old.disk.honest → OfKept (HasWideNumber number) old.kept)
       → (fault ≡ moves.Inconsistent → (IsTrue old.disk.honest → ¬ IsSound old.kept) × (IsTrue old.disk.honest → OfKept (HasNoPosition number) old.kept))
-      → OfTable NeedsNoPage fault → OfTable Fails fault → ((f : TableFault) → Fails f → FileTableCause old new f)
+      → FaultOfTable NeedsNoPage fault → FaultOfTable Fails fault → ((f : TableFault) → Fails f → FileTableCause old new f)
       → MovesCause number old new (moves_fault fault)
   moves_cause moves.Inconsistent wide none no_page fails cause = none refl
   moves_cause moves.TooWide wide none no_page fails cause = wide refl

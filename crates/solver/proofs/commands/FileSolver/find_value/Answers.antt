@@ -9,16 +9,16 @@ use Rattle.solver.proofs.Passing.{passed_on, passed_as, gives_none, not_refused}
 use Rattle.solver.proofs.Loading.{same_source}
 use Rattle.solver.proofs.commands.FileSolver.find_value.Goals as goal
 
-pub returns-in-Some-2-clause-value : goal.returns-in-Some-2-clause-value
-returns-in-Some-2-clause-value g c = λ ready honest.
+pub returns-in-Some-number-clause-value : goal.returns-in-Some-number-clause-value
+returns-in-Some-number-clause-value g c = λ ready honest.
     let file = c.args.self.now.file in
     let source = subst (λ (o : Option Compiled). IsSourceOf o (g.F.GameFile.state file).kept) c.in_ok-source.ensures.game ready.1 in
     let (k, is, made) = kept_there c.in_ok-source.source.now _ source in
     let stored = g.met.F.GameFile.whole_stored file k ready.0 honest is in
     let fits = subst (λ (t : Stored (List ℕ)). IsTable t) (sym stored.1) stored.2 in
     rw is
-    (value_told k _ stored.1 c.in_ok-source.source.now made c.in-Some.packed.items c.args.text.now c.in-Some-2.field-0 c.in_ok-told.told.value
-    c.in-Some.ensures (rw c.in-Some-2.is at c.in_ok-told.ensures.told stored.0 fits))
+    (value_told k _ stored.1 c.in_ok-source.source.now made c.in-Some.packed.items c.args.text.now c.in-Some-number.field-0 c.in_ok-told.told.value
+    c.in-Some.ensures (rw c.in-Some-number.is at c.in_ok-told.ensures.told stored.0 fits))
 
 pub returns-in_default-clause-cause : goal.returns-in_default-clause-cause
 returns-in_default-clause-cause g c = λ ready.
@@ -86,16 +86,16 @@ returns-in_err-told-clause-cause g c = λ ready.
 pub returns-in_err-told-clause-closed : goal.returns-in_err-told-clause-closed
 returns-in_err-told-clause-closed g c = λ is. absurd (not_refused _ _ (c.in_ok-source.ensures.closed is))
 
-pub returns-in-Some-2-clause-ready : goal.returns-in-Some-2-clause-ready
-returns-in-Some-2-clause-ready g c = λ ready.
+pub returns-in-Some-number-clause-ready : goal.returns-in-Some-number-clause-ready
+returns-in-Some-number-clause-ready g c = λ ready.
     let asked = g.met.F.GameFile.whole_stays c.args.self.now.file c.told_of.new.table ready.0 c.told_of.ensures.stays in
     (asked.0, same_source _ _ _ asked.1.text asked.1.packing asked.1.goal ready.1)
 
-pub returns-in-Some-2-clause-asked : goal.returns-in-Some-2-clause-asked
-returns-in-Some-2-clause-asked g c = λ ready. (g.met.F.GameFile.whole_stays c.args.self.now.file c.told_of.new.table ready.0 c.told_of.ensures.stays).1
+pub returns-in-Some-number-clause-asked : goal.returns-in-Some-number-clause-asked
+returns-in-Some-number-clause-asked g c = λ ready. (g.met.F.GameFile.whole_stays c.args.self.now.file c.told_of.new.table ready.0 c.told_of.ensures.stays).1
 
-pub returns-in-Some-2-clause-closed : goal.returns-in-Some-2-clause-closed
-returns-in-Some-2-clause-closed g c = λ is. absurd (not_refused _ _ (c.in_ok-source.ensures.closed is))
+pub returns-in-Some-number-clause-closed : goal.returns-in-Some-number-clause-closed
+returns-in-Some-number-clause-closed g c = λ is. absurd (not_refused _ _ (c.in_ok-source.ensures.closed is))
 
 pub returns-in-None-clause-ready : goal.returns-in-None-clause-ready
 returns-in-None-clause-ready g c = λ ready.
@@ -114,8 +114,8 @@ returns-in_default-clause-value g c = λ ready. tt
 pub returns-in-None-clause-value : goal.returns-in-None-clause-value
 returns-in-None-clause-value g c = λ ready. tt
 
-pub returns-in-Some-2-clause-cause : goal.returns-in-Some-2-clause-cause
-returns-in-Some-2-clause-cause g c = λ ready. tt
+pub returns-in-Some-number-clause-cause : goal.returns-in-Some-number-clause-cause
+returns-in-Some-number-clause-cause g c = λ ready. tt
 
 pub returns-in_err-source-clause-lasts : goal.returns-in_err-source-clause-lasts
 returns-in_err-source-clause-lasts g c = g.met.F.GameFile.goes_on_lasts c.args.self.now.file c.args.self.now.file (g.met.F.Table.stays_goes_on c.args.self.now.file c.args.self.now.file (g.met.F.Table.stays_here c.args.self.now.file))
@@ -126,8 +126,8 @@ returns-in_default-clause-lasts g c = g.met.F.GameFile.goes_on_lasts c.args.self
 pub returns-in_err-told-clause-lasts : goal.returns-in_err-told-clause-lasts
 returns-in_err-told-clause-lasts g c = g.met.F.GameFile.goes_on_lasts c.args.self.now.file c.told_of.new.table (g.met.F.Table.stays_goes_on c.args.self.now.file c.told_of.new.table c.told_of.ensures.stays)
 
-pub returns-in-Some-2-clause-lasts : goal.returns-in-Some-2-clause-lasts
-returns-in-Some-2-clause-lasts g c = g.met.F.GameFile.goes_on_lasts c.args.self.now.file c.told_of.new.table (g.met.F.Table.stays_goes_on c.args.self.now.file c.told_of.new.table c.told_of.ensures.stays)
+pub returns-in-Some-number-clause-lasts : goal.returns-in-Some-number-clause-lasts
+returns-in-Some-number-clause-lasts g c = g.met.F.GameFile.goes_on_lasts c.args.self.now.file c.told_of.new.table (g.met.F.Table.stays_goes_on c.args.self.now.file c.told_of.new.table c.told_of.ensures.stays)
 
 pub returns-in-None-clause-lasts : goal.returns-in-None-clause-lasts
 returns-in-None-clause-lasts g c = g.met.F.GameFile.goes_on_lasts c.args.self.now.file c.told_of.new.table (g.met.F.Table.stays_goes_on c.args.self.now.file c.told_of.new.table c.told_of.ensures.stays)
@@ -141,8 +141,8 @@ returns-in_default-clause-no_game g c = λ is_open none. absurd (not_refused _ _
 pub returns-in_err-told-clause-no_game : goal.returns-in_err-told-clause-no_game
 returns-in_err-told-clause-no_game g c = λ is_open none. absurd (not_refused _ _ (c.in_ok-source.ensures.no_game is_open none))
 
-pub returns-in-Some-2-clause-no_game : goal.returns-in-Some-2-clause-no_game
-returns-in-Some-2-clause-no_game g c = λ is_open none. absurd (not_refused _ _ (c.in_ok-source.ensures.no_game is_open none))
+pub returns-in-Some-number-clause-no_game : goal.returns-in-Some-number-clause-no_game
+returns-in-Some-number-clause-no_game g c = λ is_open none. absurd (not_refused _ _ (c.in_ok-source.ensures.no_game is_open none))
 
 pub returns-in-None-clause-no_game : goal.returns-in-None-clause-no_game
 returns-in-None-clause-no_game g c = λ is_open none. absurd (not_refused _ _ (c.in_ok-source.ensures.no_game is_open none))
