@@ -1,6 +1,6 @@
 -- How the tables and the draft of one grow with each part of an expression.
-use Rattle.std.proofs.Common.{◌≡◌, ℕ, zero, suc, ◌+◌, ◌⊎◌, inl, inr, ◌↔◌, Bool, false, cond, List, [], ◌∷◌, ◌++◌, length, take, Some, slice_get, Contains, refl, sym, ap, ◌∙◌, subst, arith, append_assoc, append-nil, length-append}
-use Rattle.std.specs.List.{AllZip}
+use Rattle.std.proofs.Common.{◌≡◌, ℕ, zero, suc, ◌+◌, ◌⊎◌, inl, inr, ◌↔◌, Bool, false, cond, List, [], ◌∷◌, ◌++◌, length, take, Some, slice_get, slice_index_or, ◌==◌, Contains, refl, sym, ap, ◌∙◌, subst, arith, append_assoc, append-nil, length-append}
+use Rattle.std.specs.List.{AllZip, list_any}
 use Rattle.rbg_game.specs.Rules.{Regex, one, empty, cat, alt, star, count, Action, pattern}
 use Rattle.legal_moves.specs.Glushkov.{is_nullable, IsFirst, IsLast, IsNext, IsNextAt}
 use Rattle.legal_moves.specs.aid.Relations.{IsRelated}
@@ -247,8 +247,8 @@ next_by_related e T T' draft0 D E R h none bare related i j k = there i j ((rela
         again (inr g) = inr (subst (λ m. IsNext e m i j) from_1 g)
     there i j (inr k) = inl (is_0 i k.0, (begins j).0 k.1)
 
-pub IsExpressionTable-made : (es : List Regex) (e : Regex) (T T' : List Table) (draft0 D : Draft) (E : Ends) (R : Relation) (table : Table) → AreTables es T → IsAdded e T T' draft0 D E → E.nullable ≡ is_nullable e → draft0.steps.items ≡ [] → ((i j : ℕ) → ¬ IsRelated draft0.follows i j) → table.steps ≡ D.steps → table.ends ≡ E → ((i j : ℕ) → IsRelated R i j ↔ (IsRelated D.follows i j ⊎ Contains (0 ∷ []) i × Contains E.first.items j)) → ((i : ℕ) → AreListed (IsRelated R i) (list_at table.follows.items i)) → IsExpressionTable (es ++ inner_of e) table e
-IsExpressionTable-made es e T T' draft0 D E R table t h null none bare steps ends related lists = record {
+pub IsExpressionTable-made : (es : List Regex) (e : Regex) (T T' : List Table) (draft0 D : Draft) (E : Ends) (R : Relation) (table : Table) → AreTables es T → IsAdded e T T' draft0 D E → E.nullable ≡ is_nullable e → draft0.steps.items ≡ [] → ((i j : ℕ) → ¬ IsRelated draft0.follows i j) → table.steps ≡ D.steps → table.ends ≡ E → ((i j : ℕ) → IsRelated R i j ↔ (IsRelated D.follows i j ⊎ Contains (0 ∷ []) i × Contains E.first.items j)) → ((i : ℕ) → AreListed (IsRelated R i) (list_at table.follows.items i)) → ((k : ℕ) → slice_index_or table.lasts.items k false ≡ list_any (λ j. j == k) table.ends.last.items) → IsExpressionTable (es ++ inner_of e) table e
+IsExpressionTable-made es e T T' draft0 D E R table t h null none bare steps ends related lists lasts = record {
   steps_are = subst (λ ss. AllZip (IsStep (es ++ inner_of e)) ss.items (actions_of e)) (sym steps) (h.steps_are es [] t (subst (λ ss. AllZip (IsStep es) ss []) (sym none) tt));
   follows_are = λ i. listed_by (IsRelated R i) (IsNextAt e i) (list_at table.follows.items i) (λ k m. next_by_related e T T' draft0 D E R h none bare related i k m) (λ k n. (related i k).1 (back i k n)) (lists i);
   ends_are = record {
@@ -256,6 +256,7 @@ IsExpressionTable-made es e T T' draft0 D E R table t h null none bare steps end
     last_is = ap (λ x. x.last.items) ends ∙ h.ends_are.last_is ∙ ap (last_of e) from_1;
   };
   nullable_is = ap (λ x. x.nullable) ends ∙ null;
+  lasts_are = lasts;
 }
   where
     from_1 : suc (length draft0.steps.items) ≡ 1

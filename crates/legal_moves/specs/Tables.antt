@@ -1,6 +1,6 @@
 -- Expressions as tables.
-use Rattle.std.specs.Prelude.{◌≡◌, ℕ, ◌+◌, Bool, true, false, List, [], ◌∷◌, ◌++◌, length, take, Some, slice_get, if◌then◌else◌}
-use Rattle.std.specs.List.{AllZip}
+use Rattle.std.specs.Prelude.{◌≡◌, ℕ, ◌+◌, Bool, true, false, List, [], ◌∷◌, ◌++◌, length, take, Some, slice_get, slice_index_or, ◌==◌, if◌then◌else◌}
+use Rattle.std.specs.List.{AllZip, list_any}
 use Rattle.rbg_game.specs.Rules.{Regex, one, empty, cat, alt, star, count, Action, pattern}
 use Rattle.rbg_game.specs.Meaning.{action_of}
 use Rattle.legal_moves.specs.Glushkov.{is_nullable, IsNextAt}
@@ -70,6 +70,7 @@ pub record IsExpressionTable (es : List Regex) (table : Table) (e : Regex) : Typ
   pub follows_are : (i : ℕ) → AreListed (IsNextAt e i) (list_at table.follows.items i)
   pub ends_are : IsEnds table.ends e 1
   pub nullable_is : table.ends.nullable ≡ is_nullable e
+  pub lasts_are : (k : ℕ) → slice_index_or table.lasts.items k false ≡ list_any (λ j. j == k) table.ends.last.items
 
 -- a table for each expression, which asks about earlier ones alone
 pub record AreTables (es : List Regex) (tables : List Table) : Type 0 where

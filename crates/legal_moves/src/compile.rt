@@ -7,6 +7,7 @@ ghost use Rattle.legal_moves.specs.Tables.{inner_of, inner_in, IsStep, AreTables
 ghost use Rattle.legal_moves.specs.aid.Tables.{IsAdded};
 
 use crate::copies::copied_expression;
+use crate::marks::marks_of;
 use crate::relation::Relation;
 use crate::table::{Draft, Ends, Step, Table};
 use rbg_game::rules::{Action, Rules};
@@ -28,11 +29,13 @@ pub fn add_table(alloc: Global, tables: &mut Vec<Table>, rules: &Rules) -> Resul
     follows.relate_all(alloc, &[0], &ends.first)?;
     let follows = follows.lists(alloc)?;
     let index = tables.len();
+    let lasts = marks_of(alloc, &ends.last)?;
     let looks = steps.iter().all(|step| step.is_look(tables));
     tables.push(Table {
         steps,
         follows,
         ends,
+        lasts,
         looks,
     })?;
     Ok(index)

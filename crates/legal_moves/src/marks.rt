@@ -1,8 +1,9 @@
 //! Rows of marks.
-ghost use Rattle.std.specs.Prelude.{◌≡◌, ℕ, ◌⊎◌, ◌↔◌, OnOk, false, slice_index_or};
+ghost use Rattle.std.specs.Prelude.{◌≡◌, ◌==◌, ℕ, ◌⊎◌, ◌↔◌, IfOk, OnOk, false, slice_index_or};
+ghost use Rattle.std.specs.List.{list_any};
 ghost use Rattle.legal_moves.specs.aid.Marks.{IsMarkSet};
 
-use std::alloc::AllocError;
+use std::alloc::{AllocError, Global};
 
 /// Marks one place of a row, which grows to have it.
 pub fn mark(row: &mut Vec<bool>, at: usize) -> Result<(), AllocError>
@@ -13,6 +14,17 @@ pub fn mark(row: &mut Vec<bool>, at: usize) -> Result<(), AllocError>
     }
     row[at] = true;
     Ok(())
+}
+
+/// A row in which these places are marked, and no others.
+pub fn marks_of(alloc: Global, places: &[usize]) -> Result<Vec<bool>, AllocError>
+    ensures { IfOk result (λ row. (k : ℕ) → slice_index_or row.items k false ≡ list_any (λ j. j == k) places.now) }
+{
+    let mut row = Vec::new(alloc);
+    for place in places {
+        mark(&mut row, *place)?;
+    }
+    Ok(row)
 }
 
 /// Whether the place of a row is marked.

@@ -1,5 +1,5 @@
 //! The search for the configurations that valid actions lead to.
-ghost use Rattle.std.specs.Prelude.{◌≡◌, ◌==◌, ◌+◌, ◌≤◌, ◌<◌, ◌⊎◌, length, Err, IsOk, IfOk, OnOk, IfSome, MatchBool};
+ghost use Rattle.std.specs.Prelude.{◌≡◌, ◌==◌, ◌+◌, ◌≤◌, ◌<◌, ◌⊎◌, length, slice_index_or, false, Err, IsOk, IfOk, OnOk, IfSome, MatchBool};
 ghost use Rattle.std.specs.Bool.{OnTrue};
 ghost use Rattle.std.specs.List.{list_any};
 ghost use Rattle.rbg_game.specs.Rules.{count, action_at};
@@ -20,6 +20,7 @@ use crate::effect::{Glance, act, at_a_glance};
 use crate::fault::MoveFault;
 use crate::found::{Found, Stand};
 use crate::looks::{Look, Looks};
+use crate::marks::is_marked;
 use crate::table::{Step, Table};
 use rbg_game::game::Game;
 use rbg_game::position::SemiState;
@@ -209,8 +210,8 @@ impl Searcher<'_> {
         if self.tables[index].looks
             && let Some(looks) = self.look(index, state, vertex)?
         {
-            let ends = &self.tables[index].ends;
-            return Ok(ends.nullable || any_looks_last(&looks.looks, &ends.last));
+            let table = &self.tables[index];
+            return Ok(table.ends.nullable || any_looks_last(&looks.looks, &table.lasts));
         }
         let mut state = copied_state(state);
         state.vertex = vertex;
@@ -370,11 +371,11 @@ fn any_stands_last(stands: &[Stand], last: &[usize]) -> bool
         .any(|stand| last.contains(&usize::from(stand.place)))
 }
 
-/// Whether the last action of some look is one of those.
-fn any_looks_last(looks: &[Look], last: &[usize]) -> bool
-    ensures { result ≡ list_any (λ l. list_any (λ k. k == l.place) last.now) looks.now }
+/// Whether the last action of some look is one that is marked.
+fn any_looks_last(looks: &[Look], lasts: &[bool]) -> bool
+    ensures { result ≡ list_any (λ l. slice_index_or lasts.now l.place false) looks.now }
 {
     looks
         .iter()
-        .any(|look| last.contains(&usize::from(look.place)))
+        .any(|look| is_marked(lasts, usize::from(look.place)))
 }

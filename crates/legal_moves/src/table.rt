@@ -142,6 +142,8 @@ pub struct Table {
     /// For each number those that can stand right after it; for 0 those that can stand first.
     pub follows: Vec<Followers>,
     pub ends: Ends,
+    /// For each number whether words can end there.
+    pub lasts: Vec<bool>,
     /// Whether all steps only look, as far as was seen: a search that only looks is tried first then.
     pub looks: bool,
 }

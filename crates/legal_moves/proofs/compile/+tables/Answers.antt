@@ -1,4 +1,4 @@
-use Rattle.std.proofs.Common.{◌≡◌, true, ◌||◌, ◌&&◌, ◌==◌, ◌∷◌, ◌++◌, [], length, map, take, refl, sym, ap, ◌∙◌, subst, arith}
+use Rattle.std.proofs.Common.{◌≡◌, ℕ, true, false, slice_index_or, ◌||◌, ◌&&◌, ◌==◌, ◌∷◌, ◌++◌, [], length, map, take, refl, sym, ap, ◌∙◌, subst, arith}
 use Rattle.rbg_game.specs.Rules.{cat, alt, on, assignment, comparison, pattern, cat_all, alt_all}
 use Rattle.rbg_game.specs.Meaning.{regex_of, action_of, expression_of}
 use Rattle.rbg_game.proofs.MeaningLemmas.{regex_of-Action, regex_of-Star, regex_of-Concat, regex_of-Sum, action_of-Pattern, action_of-On, action_of-Off, action_of-Shift, action_of-Switch, action_of-Assignment, action_of-Comparison}
@@ -6,6 +6,7 @@ use Rattle.legal_moves.specs.Glushkov.{is_nullable}
 use Rattle.rbg_game.specs.declared.rules.Action.TheVariants as Action
 use Rattle.std.proofs.lemmas.List.{take_all, length-map}
 use Rattle.std.specs.Result.{IfOk}
+use Rattle.std.specs.List.{list_any}
 use Rattle.legal_moves.specs.Tables.{inner_of, inner_in, is_pattern}
 use Rattle.legal_moves.specs.aid.Tables.{IsAdded}
 use Rattle.legal_moves.proofs.Exits.{refused}
@@ -73,9 +74,10 @@ add_table-returns t c =
     let added = c.in_ok-ends.ensures.added in
     let now = added.tables_are es tables in
     let related = related_along c.add_rules.new.draft.follows c.relate_all.new.self (0 ∷ []) c.in_ok-ends.ends.first.items (0 ∷ []) c.deref.result.now refl c.deref.ensures.value c.in_ok-relate_all.ensures in
-    let made = IsExpressionTable-made es e c.args.tables.now.items c.add_rules.new.tables.items (record { steps = c.new.result; follows = c.new-2.result }) c.add_rules.new.draft c.in_ok-ends.ends c.relate_all.new.self (record { steps = c.add_rules.new.draft.steps; follows = c.in_ok-follows.follows; ends = c.in_ok-ends.ends; looks = c.all-looks.result }) tables added c.in_ok-ends.ensures.nullable c.new.ensures.items c.new-2.ensures refl refl related c.in_ok-follows.ensures in
+    let lasts = subst (λ ks. (k : ℕ) → slice_index_or c.in_ok-lasts.lasts.items k false ≡ list_any (λ j. j == k) ks) c.deref-2.ensures.value c.in_ok-lasts.ensures in
+    let made = IsExpressionTable-made es e c.args.tables.now.items c.add_rules.new.tables.items (record { steps = c.new.result; follows = c.new-2.result }) c.add_rules.new.draft c.in_ok-ends.ends c.relate_all.new.self (record { steps = c.add_rules.new.draft.steps; follows = c.in_ok-follows.follows; ends = c.in_ok-ends.ends; lasts = c.in_ok-lasts.lasts; looks = c.all-looks.result }) tables added c.in_ok-ends.ensures.nullable c.new.ensures.items c.new-2.ensures refl refl related c.in_ok-follows.ensures lasts in
     let count : c.len-index.result ≡ length c.add_rules.new.tables.items = omega arith in
-    (count ∙ now.as_many, AreTables-pushed (es ++ inner_of e) e c.add_rules.new.tables.items c.push.new.self.items (record { steps = c.add_rules.new.draft.steps; follows = c.in_ok-follows.follows; ends = c.in_ok-ends.ends; looks = c.all-looks.result }) now made c.in_ok-push.ensures.items)
+    (count ∙ now.as_many, AreTables-pushed (es ++ inner_of e) e c.add_rules.new.tables.items c.push.new.self.items (record { steps = c.add_rules.new.draft.steps; follows = c.in_ok-follows.follows; ends = c.in_ok-ends.ends; lasts = c.in_ok-lasts.lasts; looks = c.all-looks.result }) now made c.in_ok-push.ensures.items)
 
 pub step_of-returns-in_ok-index-in-Pattern : goal.step_of-returns-in_ok-index-in-Pattern
 step_of-returns-in_ok-index-in-Pattern t c =
@@ -268,3 +270,6 @@ step_of-returns-in_ok-right-in-Comparison t c =
     ∙ ap (λ x. comparison x op (expression_of right)) c.in_ok-left-in-Comparison.ensures
     ∙ ap (comparison (expression_of c.in-Comparison.left) op) c.in_ok-right-in-Comparison.ensures ∙ sym e in
     unasked es c.args.tables.now.items (Action.Comparison left op right) (action_of c.args.action.now) same (ap inner_in e) (ap is_pattern e) tables
+
+pub add_table-returns-in_err-lasts : goal.add_table-returns-in_err-lasts
+add_table-returns-in_err-lasts t c = refused _ c.from_residual-in_err-lasts.result _ c.from_residual-in_err-lasts.ensures.1

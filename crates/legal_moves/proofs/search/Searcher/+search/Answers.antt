@@ -1,4 +1,4 @@
-use Rattle.std.proofs.Common.{slice_index, inl, ◌≡◌, ◌==◌, ℕ, inr, false, ◌+◌, ◌-◌, ◌<◌, ◌≤◌, length, vec_len, Some, Err, get_or, slice_get, [], ◌∷◌, refl, sym, ap, ◌∙◌, subst, arith, length-append}
+use Rattle.std.proofs.Common.{slice_index, slice_index_or, inl, ◌≡◌, ◌==◌, ℕ, inr, false, ◌+◌, ◌-◌, ◌<◌, ◌≤◌, length, vec_len, Some, Err, get_or, slice_get, [], ◌∷◌, refl, sym, ap, ◌∙◌, subst, arith, length-append}
 use Rattle.rbg_game.specs.Positions.{IsStateOf}
 use Rattle.rbg_game.specs.Rules.{count}
 use Rattle.rbg_game.specs.Meaning.{game_of}
@@ -32,10 +32,11 @@ use Rattle.legal_moves.specs.Tables.{inner_of}
 use Rattle.legal_moves.specs.aid.Answers.{IsAnswerAt}
 use Rattle.legal_moves.specs.Searches.{IsWideFrom}
 use Rattle.legal_moves.proofs.AnswerLemmas.{same_expression, answer_along}
-use Rattle.legal_moves.proofs.ReadyLemmas.{OnTrue-at, read_at, count_steps, act_plain, act_tells, act_narrow, ask_before, ask_lacks, ask_ready, ask_narrow, ask_wide, ask_some, ask_none, ask_look, beq_true, beq_same}
+use Rattle.legal_moves.proofs.ReadyLemmas.{OnTrue-at, read_at, is_table, count_steps, act_plain, act_tells, act_narrow, ask_before, ask_lacks, ask_ready, ask_narrow, ask_wide, ask_some, ask_none, ask_look, beq_true, beq_same}
 use Rattle.legal_moves.proofs.Faults.{passed, for_want}
+use Rattle.legal_moves.proofs.MarkLemmas.{any_agree}
 use Rattle.legal_moves.proofs.search.Searcher.+search.Goals as goal
-use Rattle.legal_moves.proofs.search.Searcher.+search.Goals.{look_on-in-Fails, look_on-in-At+in_ok-add-in-At, expand-then-last-eq0, expand-else-last-eq0, is_legal-then-ends, is_legal-else-ends, is_legal-then-ends-2, is_legal-else-ends-2}
+use Rattle.legal_moves.proofs.search.Searcher.+search.Goals.{look_on-in-Fails, look_on-in-At+in_ok-add-in-At, expand-then-last-eq0, expand-else-last-eq0, is_legal-then-table, is_legal-else-table, is_legal-then-ends, is_legal-else-ends}
 
 pub glance_at-step-requires-clause-upto : goal.glance_at-step-requires-clause-upto
 glance_at-step-requires-clause-upto t c =
@@ -164,17 +165,18 @@ is_legal-returns-clause-answer t c =
     let S = at_vertex c.args.state.now c.args.vertex in
     let search = subst (λ o. IfSome o (λ l. IsSearch game e 0 S (seen_from c.args.state.now l.looks.items))) c.in-Some.is c.in_ok-looks.ensures.found in
     let table_is = ap (λ x. x.ends.nullable) c.index-self-index-2.is in
-    elim c.if-ends.branch [
-      | is_legal-then-ends w ↦
-          let null = table_is ∙ w.if-ends.true in
-          subst (λ b. MatchBool b (IsLegal game e S) (¬ IsLegal game e S)) (sym (w.result-is ∙ w.if-ends.true))
+    elim c.if-table.branch [
+      | is_legal-then-table w ↦
+          let null = table_is ∙ w.if-table.true in
+          subst (λ b. MatchBool b (IsLegal game e S) (¬ IsLegal game e S)) (sym (w.result-is ∙ w.if-table.true))
           (legal_by_nullable game tables index c.requires.ready T at_T c.requires.lacks S cs search null)
-      | is_legal-else-ends w ↦
+      | is_legal-else-table w ↦
           let configurations = w.deref.ensures.value in
-          let last = w.deref-else-ends.ensures.value ∙ ap (λ x. x.ends.last.items) (sym c.index-self-index-2.is) in
-          let any = w.any_looks_last.ensures ∙ ap (λ xs. list_any (λ x. list_any (λ k. k == x.place) xs) w.deref.result.now) last ∙ ap (λ xs. list_any (λ x. list_any (λ k. k == x.place) T.ends.last.items) xs) configurations ∙ sym (any_look c.args.state.now ls T.ends.last.items) in
+          let lasts = w.deref-else-table.ensures.value ∙ ap (λ x. x.lasts.items) (sym c.index-self-index-2.is) in
+          let agree = any_agree (λ (l : Look). slice_index_or T.lasts.items l.place false) (λ l. list_any (λ k. k == l.place) T.ends.last.items) (λ l. (is_table game tables index c.requires.ready T at_T).lasts_are l.place) ls in
+          let any = w.any_looks_last.ensures ∙ ap (λ xs. list_any (λ x. slice_index_or xs x.place false) w.deref.result.now) lasts ∙ ap (λ xs. list_any (λ x. slice_index_or T.lasts.items x.place false) xs) configurations ∙ agree ∙ sym (any_look c.args.state.now ls T.ends.last.items) in
           subst (λ b. MatchBool b (IsLegal game e S) (¬ IsLegal game e S)) (sym w.result-is)
-          (legal_by_any game tables index c.requires.ready T at_T c.requires.lacks S cs search w.any_looks_last.result any (table_is ∙ w.if-ends.false))
+          (legal_by_any game tables index c.requires.ready T at_T c.requires.lacks S cs search w.any_looks_last.result any (table_is ∙ w.if-table.false))
     ]
 
 pub is_legal-returns-clause-narrow : goal.is_legal-returns-clause-narrow
@@ -204,17 +206,17 @@ is_legal-returns-2-clause-answer t c =
     let search = subst (λ S. IsSearch game e 0 (at_vertex S c.args.vertex) cs) c.copied_state-state.ensures c.in_ok-found.ensures.found in
     let S = at_vertex c.args.state.now c.args.vertex in
     let table_is = ap (λ x. x.ends.nullable) c.index-self-index-3.is in
-    elim c.if-ends-2.branch [
-      | is_legal-then-ends-2 w ↦
-          let null = table_is ∙ w.if-ends-2.true in
-          subst (λ b. MatchBool b (IsLegal game e S) (¬ IsLegal game e S)) (sym (w.result-is ∙ w.if-ends-2.true))
+    elim c.if-ends.branch [
+      | is_legal-then-ends w ↦
+          let null = table_is ∙ w.if-ends.true in
+          subst (λ b. MatchBool b (IsLegal game e S) (¬ IsLegal game e S)) (sym (w.result-is ∙ w.if-ends.true))
           (legal_by_nullable game tables index c.requires.ready T at_T c.requires.lacks S cs search null)
-      | is_legal-else-ends-2 w ↦
-          let configurations = w.deref-else-ends-2.ensures.value in
-          let last = w.deref-else-ends-2-2.ensures.value ∙ ap (λ x. x.ends.last.items) (sym c.index-self-index-3.is) in
-          let any = w.any_stands_last.ensures ∙ ap (λ xs. list_any (λ x. list_any (λ k. k == x.place) xs) w.deref-else-ends-2.result.now) last ∙ ap (λ xs. list_any (λ x. list_any (λ k. k == x.place) T.ends.last.items) xs) configurations ∙ sym (any_stand c.in_ok-found.found.boards.items c.in_ok-found.found.stands.items T.ends.last.items) in
+      | is_legal-else-ends w ↦
+          let configurations = w.deref-else-ends.ensures.value in
+          let last = w.deref-else-ends-2.ensures.value ∙ ap (λ x. x.ends.last.items) (sym c.index-self-index-3.is) in
+          let any = w.any_stands_last.ensures ∙ ap (λ xs. list_any (λ x. list_any (λ k. k == x.place) xs) w.deref-else-ends.result.now) last ∙ ap (λ xs. list_any (λ x. list_any (λ k. k == x.place) T.ends.last.items) xs) configurations ∙ sym (any_stand c.in_ok-found.found.boards.items c.in_ok-found.found.stands.items T.ends.last.items) in
           subst (λ b. MatchBool b (IsLegal game e S) (¬ IsLegal game e S)) (sym w.result-is)
-          (legal_by_any game tables index c.requires.ready T at_T c.requires.lacks S cs search w.any_stands_last.result any (table_is ∙ w.if-ends-2.false))
+          (legal_by_any game tables index c.requires.ready T at_T c.requires.lacks S cs search w.any_stands_last.result any (table_is ∙ w.if-ends.false))
     ]
 
 pub is_legal-returns-2-clause-narrow : goal.is_legal-returns-2-clause-narrow
