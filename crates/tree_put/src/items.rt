@@ -140,10 +140,24 @@ fn move_within(page: &mut [u8; 4096], start: usize, end: usize, to: usize)
     requires room { to + (end - start) ≤ 4096 }
     ensures { page.new ≡ copy_within page.old start end to }
 {
-    if start != to {
-        let was = *page;
-        page[to..to + (end - start)].copy_from_slice(&was[start..end]);
+    if start == to {
+        return;
     }
+    if start == end {
+        return;
+    }
+    move_by_copy(page, start, end, to);
+}
+
+/// The same by a copy of the page. It stands by itself, since the copy is made as it begins.
+fn move_by_copy(page: &mut [u8; 4096], start: usize, end: usize, to: usize)
+    requires order { start ≤ end }
+    requires within { end ≤ 4096 }
+    requires room { to + (end - start) ≤ 4096 }
+    ensures { page.new ≡ copy_within page.old start end to }
+{
+    let was = *page;
+    page[to..to + (end - start)].copy_from_slice(&was[start..end]);
 }
 
 /// The same on the page itself, where it has room. What stands behind its items is moved along or stays.
