@@ -1,6 +1,7 @@
 //! The program `rbgsolve` but for its `main`: the command line, the commands on files, sessions, and explanations of faults for people.
 #![tactic(auto)]
 
+pub mod actions;
 pub mod commands;
 mod explain;
 mod files;
