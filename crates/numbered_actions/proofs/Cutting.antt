@@ -1,6 +1,7 @@
 -- Each stretch has a token, and cuts the text as its action does.
 use Rattle.std.proofs.Common.{◌≡◌, ℕ, zero, suc, ◌+◌, ◌-◌, ◌<◌, ◌≤◌, List, [], ◌∷◌, map, length, drop, get_or, refl, ap, sym, subst, ◌∙◌, arith}
-use Rattle.std.proofs.lemmas.List.{length-map, length-drop, drop-drop}
+use Rattle.std.specs.Prelude.{All}
+use Rattle.std.proofs.lemmas.List.{length-map, length-drop}
 use Rattle.rbg_text.specs.Token.{Text, Splits}
 use Rattle.rbg_text.specs.View.{token_view}
 use Rattle.rbg_text.specs.Syntax.{Section}
@@ -52,9 +53,7 @@ each_begins ls found spots are k s lt at =
     let long_from : length (tokens_from ls s.from) ≡ length ls - s.from = length-map (drop s.from ls) view ∙ length-drop s.from ls in
     (omega (arith, now, long_to, long_from), omega (arith, now, long_to, long_from))
 
--- the tokens from the first on, without so many, are those behind
-pub cut_is : (ls : List Lexeme) (s : Stretch) (count : ℕ) → count ≡ s.to - s.from → s.from < s.to
-    → record { here = tokens_of (drop s.from ls); behind = tokens_of (drop count (drop s.from ls)) } ≡ cut_of ls s
-cut_is ls s count is lt =
-    let sum : s.from + count ≡ s.to = omega (arith, is, lt) in
-    ap (λ rest. record { here = tokens_of (drop s.from ls); behind = tokens_of rest }) (drop-drop count s.from ls ∙ ap (λ n. drop n ls) sum)
+-- a stretch ends within the tokens
+pub each_fits : (ls : List Lexeme) (found : List Stretch) → All (λ stretch. stretch.to ≤ length ls) found → (k : ℕ) (s : Stretch) → k < length found
+    → s ≡ get_or found k s → s.to ≤ length ls
+each_fits ls found fits k s lt at = subst (λ (x : Stretch). x.to ≤ length ls) (sym at) (fits k s lt)

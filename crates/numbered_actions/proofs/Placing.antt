@@ -1,8 +1,10 @@
 -- Where the tokens of a text stand.
-use Rattle.std.proofs.Common.{◌≡◌, ℕ, zero, suc, ◌+◌, ◌-◌, ◌≤◌, List, [], ◌∷◌, ◌++◌, length, take, drop, refl, ap, sym, subst, ◌∙◌, append_assoc, length-append, arith}
-use Rattle.std.proofs.lemmas.List.{take-append-drop, drop_at, take_at, length-take-le}
+use Rattle.std.proofs.Common.{◌≡◌, ℕ, zero, suc, ◌+◌, ◌-◌, ◌≤◌, List, [], ◌∷◌, ◌++◌, length, take, drop, Option, None, Some, refl, ap, sym, subst, ◌∙◌, append_assoc, length-append, arith}
+use Rattle.std.proofs.lemmas.List.{take-append-drop, drop_at, take_at, length-take-le, map-append}
 use Rattle.rbg_text.specs.Token.{Text, Token, Line, end, feed, byte, Gap, none, blank, comment, Takes, Splits, token_text}
+use Rattle.rbg_text.specs.Lex.{cons_tokens}
 use Rattle.rbg_text.specs.View.{token_view}
+use Rattle.rbg_text.specs.aid.View.{with_front}
 use Rattle.numbered_actions.specs.declared.lexemes.Lexeme.{Lexeme}
 use Rattle.numbered_actions.specs.Placed.{IsPlaced, Stand}
 use Rattle.numbered_actions.specs.Listed.{Begins}
@@ -24,6 +26,10 @@ gap_ends (comment line gap) =
     let first = line_ends line in
     let rest = gap_ends gap in
     (47 ∷ 47 ∷ (first.0 ++ rest.0), ap (λ t. 47 ∷ 47 ∷ t) (first.1 ∙ ap (λ t. first.0 ++ t) rest.1 ∙ sym (append_assoc first.0 rest.0 _)))
+
+front_more : (ts : List Token) (t : Token) (more : Option (List Token)) → with_front ts (cons_tokens t more) ≡ with_front (ts ++ t ∷ []) more
+front_more ts t None = refl
+front_more ts t (Some us) = ap Some (sym (append_assoc ts (t ∷ []) us))
 
 -- where the next token stands, if the lexer has come to the byte `last`, from where on the text is `old`
 pub record Stands (text old : Text) (last next : ℕ) (t : Token) (new : Text) : Type 0 where
@@ -94,3 +100,11 @@ stand_drop text (l ∷ more) tail (suc k) stand = stand_drop text more stand.0 k
 
 pub stand_begins : (text : Text) (l : Lexeme) (more : List Lexeme) (tail : Text) → Stand text (l ∷ more) tail → Begins (drop l.at text) (tokens_of (l ∷ more))
 stand_begins text l more tail stand = (stand.0, stand.1.takes, stand_splits text more stand.0 stand.2)
+
+-- a token more that was lexed
+pub lexed_more : (found longer : List Lexeme) (l : Lexeme) (t : Token) (whole old new : Option (List Token)) → whole ≡ with_front (tokens_of found) old
+    → old ≡ cons_tokens t new → longer ≡ found ++ l ∷ [] → token_view l.token ≡ t → whole ≡ with_front (tokens_of longer) new
+lexed_more found longer l t whole old new before step more token =
+    let tokens : tokens_of longer ≡ tokens_of found ++ t ∷ [] =
+    ap tokens_of more ∙ map-append (λ (m : Lexeme). token_view m.token) found (l ∷ []) ∙ ap (λ u. tokens_of found ++ u ∷ []) token in
+    before ∙ ap (with_front (tokens_of found)) step ∙ front_more (tokens_of found) t new ∙ ap (λ ts. with_front ts new) (sym tokens)

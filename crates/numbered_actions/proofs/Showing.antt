@@ -1,19 +1,19 @@
 -- The lines of actions, one after the other.
-use Rattle.std.proofs.Common.{◌≡◌, ℕ, zero, suc, ◌+◌, ◌-◌, ◌<◌, ◌≤◌, List, [], ◌∷◌, ◌++◌, length, take, drop, map, get_or, Option, Some, None, refl, ap, sym, subst, ◌∙◌, append_assoc, append-nil, add-one, arith}
-use Rattle.std.specs.Prelude.{slice_get}
+use Rattle.std.proofs.Common.{◌≡◌, ℕ, zero, suc, ◌+◌, ◌-◌, ◌<◌, ◌≤◌, List, [], ◌∷◌, ◌++◌, length, take, drop, map, get_or, Some, Result, Ok, Err, refl, ap, sym, subst, ◌∙◌, append_assoc, append-nil, add-one, arith}
+use Rattle.std.specs.Prelude.{All, IfOk, slice_get}
 use Rattle.std.specs.List.{flat_map}
-use Rattle.std.specs.Fmt.{decimal}
-use Rattle.std.proofs.lemmas.List.{length-map, length-drop, take-map}
-use Rattle.rbg_text.specs.Token.{Text, token_text}
-use Rattle.rbg_text.specs.Syntax.{Tokens}
+use Rattle.std.proofs.lemmas.List.{length-map, length-drop, take-map, drop_more}
+use Rattle.rbg_text.specs.Token.{Text}
 use Rattle.rbg_text.specs.View.{token_view}
 use Rattle.numbered_actions.specs.declared.lexemes.Lexeme.{Lexeme}
-use Rattle.numbered_actions.specs.Written.{Cut}
+use Rattle.numbered_actions.specs.declared.stretches.Stretch.{Stretch}
+use Rattle.numbered_actions.specs.Written.{Spot, Cut, cut_at}
 use Rattle.numbered_actions.specs.Placed.{Stand}
-use Rattle.numbered_actions.specs.Tokens.{tokens_of}
-use Rattle.numbered_actions.specs.aid.Lines.{with_gap}
-use Rattle.numbered_actions.specs.Listed.{Shows, last, further, one_line, place_of, IsActionLine, AreActionLines}
-use Rattle.numbered_actions.proofs.Placing.{stand_begins}
+use Rattle.numbered_actions.specs.Tokens.{tokens_of, tokens_from, cut_of}
+use Rattle.numbered_actions.specs.Listed.{Begins, Shows, last, further, one_line, IsActionLine, AreActionLines}
+use Rattle.numbered_actions.specs.aid.Lines.{with_gap, line_of, IsLineOf}
+use Rattle.numbered_actions.proofs.Placing.{stand_drop, stand_begins}
+use Rattle.numbered_actions.proofs.Cutting.{each_begins, each_fits}
 
 -- one line more
 pub one_more_action : (text : Text) (cuts : List Cut) (k number : ℕ) (lines line : List ℕ) (cut : Cut) → slice_get cuts k ≡ Some cut
@@ -39,36 +39,75 @@ shown text l [] tail (suc n) stand =
 shown text l (m ∷ more) tail (suc n) stand =
     let behind = flat_map with_gap (take n more) in
     let next = shown text m more stand.0 n stand.2 in
-    let line = further {gap = m.gap.now} stand.1.takes stand.2.1.between stand.2.1.gap_is next in
+    let line = further m.gap.now stand.1.takes stand.2.1.between stand.2.1.gap_is next in
     subst (Shows (drop l.at text) (token_view l.token ∷ token_view m.token ∷ tokens_of (take n more)))
     (ap (λ w. w ++ (one_line m.gap.now ++ (m.bytes.now ++ behind))) (sym stand.1.bytes_are)
     ∙ ap (λ w. l.bytes.now ++ w) (sym (append_assoc (one_line m.gap.now) m.bytes.now behind)))
     line
 
--- so many tokens are cut off
-cut_off : (l : Lexeme) (more : List Lexeme) (n : ℕ) → n ≤ length more
-    → take (length (tokens_of (l ∷ more)) - length (tokens_of (drop (suc n) (l ∷ more)))) (tokens_of (l ∷ more)) ≡ token_view l.token ∷ tokens_of (take n more)
-cut_off l more n fits =
+-- a stretch cuts off its tokens
+cut_off : (tokens : List Lexeme) (s : Stretch) (l : Lexeme) → drop s.from tokens ≡ l ∷ drop (s.from + 1) tokens → s.from < s.to → s.to ≤ length tokens
+    → let cut = cut_of tokens s in
+    take (length cut.here - length cut.behind) cut.here ≡ token_view l.token ∷ tokens_of (take (s.to - (s.from + 1)) (drop (s.from + 1) tokens))
+cut_off tokens s l here begins fits =
     let view = λ (m : Lexeme). token_view m.token in
-    let so_many : length (tokens_of (l ∷ more)) - length (tokens_of (drop (suc n) (l ∷ more))) ≡ suc n =
-    omega (arith, length-map more view, length-map (drop n more) view, length-drop n more, fits) in
-    ap (λ k. take k (tokens_of (l ∷ more))) so_many ∙ ap (λ ts. token_view l.token ∷ ts) (take-map view n more)
+    let n = s.to - (s.from + 1) in
+    let long_here : length (tokens_from tokens s.from) ≡ length tokens - s.from = length-map (drop s.from tokens) view ∙ length-drop s.from tokens in
+    let long_behind : length (tokens_from tokens s.to) ≡ length tokens - s.to = length-map (drop s.to tokens) view ∙ length-drop s.to tokens in
+    let so_many : length (tokens_from tokens s.from) - length (tokens_from tokens s.to) ≡ suc n = omega (arith, long_here, long_behind, begins, fits) in
+    ap (λ k. take k (tokens_from tokens s.from)) so_many ∙ ap (λ ls. take (suc n) (tokens_of ls)) here
+    ∙ ap (λ ts. token_view l.token ∷ ts) (take-map view n (drop (s.from + 1) tokens))
 
--- the line of an action, from its first tokens
-pub action_line : (text : Text) (here : List Lexeme) (l : Lexeme) (tail : Text) (count number : ℕ) (line : List ℕ) → Stand text here tail → l ≡ get_or here 0 l
-    → 0 < count → count ≤ length here
-    → line ≡ decimal number ++ 32 ∷ (decimal (place_of text l.at).line ++ 58 ∷ (decimal (place_of text l.at).column ++ 32 ∷ ((l.bytes.now ++ flat_map with_gap (take (count - 1) (drop 1 here))) ++ 10 ∷ [])))
-    → IsActionLine text (record { here = tokens_of here; behind = tokens_of (drop count here) }) number line
-action_line text [] l tail count number line stand first some fits is = absurd (omega (arith, some, fits))
-action_line text (m ∷ more) l tail zero number line stand first some fits is = absurd (omega (arith, some))
-action_line text (m ∷ more) l tail (suc n) number line stand first some fits is =
-    let one_fewer : suc n - 1 ≡ n = omega arith in
-    let same : l ≡ m = first in
-    let text_of = λ (x : Lexeme) (k : ℕ). decimal number ++ 32 ∷ (decimal (place_of text x.at).line ++ 58 ∷ (decimal (place_of text x.at).column ++ 32 ∷ ((x.bytes.now ++ flat_map with_gap (take k more)) ++ 10 ∷ []))) in
+-- the line of an action
+action_line : (text : Text) (tokens : List Lexeme) (s : Stretch) (l : Lexeme) (number : ℕ) → Stand text tokens text → l ≡ get_or tokens s.from l
+    → s.from < s.to → s.from < length tokens → s.to ≤ length tokens
+    → IsActionLine text (cut_of tokens s) number (line_of text number l (take (s.to - (s.from + 1)) (drop (s.from + 1) tokens)))
+action_line text tokens s l number stand at begins within fits =
+    let more = drop (s.from + 1) tokens in
+    let n = s.to - (s.from + 1) in
+    let here : drop s.from tokens ≡ l ∷ more = drop_more tokens s.from l within ∙ ap (λ (m : Lexeme). m ∷ more) (sym at) in
+    let there = stand_drop text tokens text s.from stand in
+    let placed : Stand text (l ∷ more) there.0 = subst (λ ls. Stand text ls there.0) here there.1 in
     record {
-      at = m.at;
-      begins = stand_begins text m more tail stand;
-      shown = m.bytes.now ++ flat_map with_gap (take n more);
-      shows = subst (λ ts. Shows (drop m.at text) ts (m.bytes.now ++ flat_map with_gap (take n more))) (sym (cut_off m more n (omega (arith, fits)))) (shown text m more tail n stand);
-      written = is ∙ ap (λ x. text_of x (suc n - 1)) same ∙ ap (λ k. text_of m k) one_fewer;
+      at = l.at;
+      begins = subst (λ ls. Begins (drop l.at text) (tokens_of ls)) (sym here) (stand_begins text l more there.0 placed);
+      shown = l.bytes.now ++ flat_map with_gap (take n more);
+      shows = subst (λ ts. Shows (drop l.at text) ts (l.bytes.now ++ flat_map with_gap (take n more))) (sym (cut_off tokens s l here begins fits))
+          (shown text l more there.0 n placed);
+      written = refl;
     }
+
+got : {A B : Type 0} (f : A → B) (xs : List A) (k : ℕ) (x : A) → x ≡ get_or xs k x → k < length xs → slice_get (map f xs) k ≡ Some (f x)
+got f [] k x at lt = absurd (omega (arith, lt))
+got f (y ∷ xs) zero x at lt = ap (λ z. Some (f z)) (sym at)
+got f (y ∷ xs) (suc k) x at lt = got f xs k x at (omega (arith, lt))
+
+-- the line of the action at an index behind the others
+pub one_line_more : (text : Text) (tokens : List Lexeme) (actions : List Stretch) (spots : List Spot) (i : ℕ) (lines longer : List ℕ) (s : Stretch)
+    → Stand text tokens text → map (cut_of tokens) actions ≡ map cut_at spots → All (λ stretch. stretch.to ≤ length tokens) actions
+    → s ≡ get_or actions i s → i < length actions → AreActionLines text (take i (map (cut_of tokens) actions)) 1 lines
+    → (line : List ℕ) × IsLineOf text tokens s (i + 1) line × (longer ≡ lines ++ line)
+    → AreActionLines text (take (i + 1) (map (cut_of tokens) actions)) 1 longer
+one_line_more text tokens actions spots i lines longer s stand cuts fits at lt before (line, is_line, more) =
+    let next : i + 1 ≡ 1 + i = omega arith in
+    let begins = each_begins tokens actions spots cuts i s lt at in
+    let to_fits = each_fits tokens actions fits i s lt at in
+    let of_tokens = action_line text tokens s is_line.0 (i + 1) stand is_line.1 begins.0 begins.1 to_fits in
+    let is = subst (IsActionLine text (cut_of tokens s) (i + 1)) (sym is_line.2) of_tokens in
+    subst (λ w. AreActionLines text (take (i + 1) (map (cut_of tokens) actions)) 1 w) (sym more)
+    (one_more_action text (map (cut_of tokens) actions) i 1 lines line (cut_of tokens s) (got (cut_of tokens) actions i s at lt) before
+    (subst (λ n. IsActionLine text (cut_of tokens s) n line) next is))
+
+-- a line that was put together
+pub line_put : (old a b c d head bytes rest : List ℕ) → a ≡ old ++ head → b ≡ a ++ bytes → c ≡ b ++ rest → d ≡ c ++ 10 ∷ []
+    → d ≡ old ++ (head ++ ((bytes ++ rest) ++ 10 ∷ []))
+line_put old a b c d head bytes rest p q r s =
+    s ∙ ap (λ w. w ++ 10 ∷ []) (r ∙ ap (λ w. w ++ rest) (q ∙ ap (λ w. w ++ bytes) p)) ∙ simp append_assoc
+
+pub then_ok : {X E : Type 0} {P Q : Type 0} (r : Result X E) → (P → Q) → IfOk r (λ _. P) → IfOk r (λ _. Q)
+then_ok (Ok x) f h = f h
+then_ok (Err e) f h = tt
+
+pub map_ok : {X E : Type 0} {P Q : X → Type 0} (r : Result X E) → ((x : X) → P x → Q x) → IfOk r P → IfOk r Q
+map_ok (Ok x) f h = f x h
+map_ok (Err e) f h = tt

@@ -33,14 +33,14 @@ pub fn lexemes(alloc: Global, text: &[u8]) -> Result<Vec<Lexeme<'_>>, ReadError>
     let mut end = 0;
     while let Some(token) = lexer.next_token()? {
         let next = text.len() - lexer.left();
-        found.push(lexeme(text, token, end, next))?;
+        found.push(standing(text, token, end, next))?;
         end = next;
     }
     Ok(found)
 }
 
 /// The token that ends right before the byte `next`, behind one that ends right before the byte `last`.
-fn lexeme<'a>(text: &'a [u8], token: Token<'a>, last: usize, next: usize) -> Lexeme<'a>
+fn standing<'a>(text: &'a [u8], token: Token<'a>, last: usize, next: usize) -> Lexeme<'a>
     requires room { last + length (grammar.token_text (token_view token)) ≤ next }
     requires within { next ≤ length text.now }
     ensures token { token_view result.token ≡ token_view token.entry }

@@ -1,2 +1,3 @@
 mod Auditing
 mod Bringing
+mod Listing
