@@ -1,5 +1,5 @@
 -- Each stretch has a token, and cuts the text as its action does.
-use Rattle.std.proofs.Common.{◌≡◌, ℕ, zero, suc, ◌+◌, ◌-◌, ◌<◌, ◌≤◌, List, [], ◌∷◌, map, length, drop, get_or, refl, ap, sym, subst, ◌∙◌, arith}
+use Rattle.std.proofs.Common.{◌≡◌, ℕ, zero, suc, ◌-◌, ◌<◌, ◌≤◌, List, [], ◌∷◌, map, length, drop, get_or, refl, ap, sym, subst, ◌∙◌, arith}
 use Rattle.std.specs.Prelude.{All}
 use Rattle.std.proofs.lemmas.List.{length-map, length-drop}
 use Rattle.rbg_text.specs.Token.{Text, Splits}
@@ -12,7 +12,7 @@ use Rattle.rbg_read.specs.Means.{Means}
 use Rattle.rbg_read.specs.Reading.{Reads, reads, Parses}
 use Rattle.numbered_actions.specs.declared.lexemes.Lexeme.{Lexeme}
 use Rattle.numbered_actions.specs.declared.stretches.Stretch.{Stretch}
-use Rattle.numbered_actions.specs.Written.{Spot, Cut, cut_at, spots_of, said}
+use Rattle.numbered_actions.specs.Written.{Spot, Cut, cut_at, said}
 use Rattle.numbered_actions.specs.Placed.{Stand}
 use Rattle.numbered_actions.specs.Tokens.{tokens_of, tokens_from, cut_of}
 use Rattle.numbered_actions.proofs.Lengths.{said_longer}

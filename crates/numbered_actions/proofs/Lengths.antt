@@ -1,5 +1,5 @@
 -- An action has a token at least.
-use Rattle.std.proofs.Common.{◌≡◌, ℕ, ◌<◌, ◌≤◌, List, [], ◌∷◌, length, arith}
+use Rattle.std.proofs.Common.{◌<◌, ◌≤◌, List, [], ◌∷◌, length, arith}
 use Rattle.rbg_text.specs.Token.{Text}
 use Rattle.rbg_text.specs.Syntax as g
 use Rattle.rbg_text.specs.Syntax.{Tokens, Expr, Term, Factor, Atom, Assignment, Sum, Concat, Element, Base, mark}

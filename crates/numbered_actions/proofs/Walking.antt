@@ -1,6 +1,5 @@
 -- A walk over the tokens of a text finds the actions that the grammar says.
-use Rattle.std.proofs.Common.{◌≡◌, ℕ, suc, List, [], ◌∷◌, ◌++◌, map, refl, ap, sym, ◌∙◌, append_assoc}
-use Rattle.std.specs.Prelude.{codes}
+use Rattle.std.proofs.Common.{◌≡◌, ℕ, suc, List, [], ◌∷◌, ◌++◌, map, refl, ap, ◌∙◌}
 use Rattle.rbg_game.specs.declared.rules.Comparison.{Comparison}
 use Rattle.rbg_game.specs.declared.rules.Comparison.TheVariants as test
 use Rattle.rbg_text.specs.Token.{Text}

@@ -4,3 +4,4 @@ mod WritingLemmas
 mod AnswerLemmas
 mod Asked
 mod Telling
+mod Listing

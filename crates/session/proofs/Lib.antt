@@ -1,3 +1,2 @@
 mod Auditing
 mod Bringing
-mod Listing

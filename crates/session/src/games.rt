@@ -1,8 +1,8 @@
 //! The commands on the text of a game, for which there need be no table.
 
-use crate::actions::actions_to;
 use crate::moves_by_line::moves_by_line;
 use crate::program::{read_start, status_of_refused, tell, tell_game_fault};
+use printed_lines::actions::actions_to;
 use printed_lines::moves::{moves_at, moves_to};
 use printed_lines::refused::Refused;
 use printed_lines::rulebook::Rulebook;

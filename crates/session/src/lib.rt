@@ -1,7 +1,6 @@
 //! The program `rbgsolve` but for its `main`: the command line, the commands on files, sessions, and explanations of faults for people.
 #![tactic(auto)]
 
-pub mod actions;
 pub mod commands;
 mod explain;
 mod files;
@@ -18,5 +17,5 @@ pub mod words;
 mod wrong_names;
 
 pub use line_answers::{input, questions, turns};
-pub use printed_lines::{moves, refused, replies, rulebook, verdicts};
+pub use printed_lines::{actions, moves, refused, replies, rulebook, verdicts};
 pub use program::run;

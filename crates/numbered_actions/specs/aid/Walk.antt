@@ -1,7 +1,7 @@
 -- How the actions are found in one walk over the tokens of a text.
 use Rattle.std.specs.Prelude.{◌≡◌, ℕ, zero, suc, if◌then◌else◌, List, [], ◌∷◌, Option, Some, None, option_map, codes}
 use Rattle.std.specs.Str.{bytes_eq}
-use Rattle.rbg_text.specs.Token.{Token, name, number, sign}
+use Rattle.rbg_text.specs.Token.{Token, name, sign}
 use Rattle.rbg_text.specs.Syntax.{Tokens}
 use Rattle.rbg_text.specs.declared.token.Sign.TheVariants.{Hash, Comma, Arrow as SingleArrow, DoubleArrow, Dollar, OpenBracket, CloseBracket, OpenBrace, CloseBrace}
 use Rattle.numbered_actions.specs.declared.lexemes.Lexeme.{Lexeme}

@@ -1,4 +1,4 @@
-use Rattle.std.proofs.Common.{◌≡◌, ◌-◌, [], ◌∷◌, ◌++◌, length, ap, sym, subst, append-nil}
+use Rattle.std.proofs.Common.{◌≡◌, ◌-◌, [], ◌∷◌, ◌++◌, length, ap, subst, append-nil}
 use Rattle.rbg_text.specs.Token.{Gap}
 use Rattle.rbg_text.specs.View.{token_view}
 use Rattle.rbg_text.proofs.Splitting.{whole_stray}

@@ -1,6 +1,5 @@
-use Rattle.std.proofs.Common.{◌≡◌, ◌+◌, List, ◌++◌, length, map, drop}
+use Rattle.std.proofs.Common.{◌≡◌, ◌+◌, List, ◌++◌, length, drop}
 use Rattle.rbg_text.specs.Lex.{lex}
-use Rattle.rbg_text.specs.View.{token_view}
 use Rattle.rbg_text.specs.aid.View.{with_front}
 use Rattle.numbered_actions.specs.declared.lexemes.Lexeme.{Lexeme}
 use Rattle.numbered_actions.specs.Placed.{Stand}

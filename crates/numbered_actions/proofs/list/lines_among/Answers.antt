@@ -1,4 +1,4 @@
-use Rattle.std.proofs.Common.{◌≡◌, map, ap, subst, ◌∙◌}
+use Rattle.std.proofs.Common.{map, ap, subst, ◌∙◌}
 use Rattle.numbered_actions.specs.Listed.{AreActionLines}
 use Rattle.numbered_actions.specs.Tokens.{cut_of}
 use Rattle.numbered_actions.specs.Written.{spots_of}

@@ -3,11 +3,11 @@
 ghost use Rattle.std.specs.Prelude.{◌≡◌, ◌⊎◌, ℕ, List, OnOk};
 ghost use Rattle.std.specs.Io.KnownBytes.{Appends};
 ghost use Rattle.printed_lines.specs.Answers.{IsMovesAnswer};
-ghost use Rattle.session.specs.Actions.{TellsActions};
+ghost use Rattle.printed_lines.specs.Actions.{TellsActions};
 
+use crate::refusals::write_refused;
+use crate::refused::Refused;
 use numbered_actions::list::action_lines;
-use printed_lines::refusals::write_refused;
-use printed_lines::refused::Refused;
 use std::alloc::Global;
 use std::io::{self, Write};
 
@@ -18,15 +18,22 @@ pub fn actions_to<W: Write>(alloc: Global, text: &[u8], out: &mut W) -> u8
         × Appends (W.contents out.old) (W.contents out.new) written) }
 {
     match action_lines(alloc, text) {
-        Ok(lines) => match put_lines(out, &lines) {
-            Ok(()) => 0,
-            Err(_) => 4,
-        },
+        Ok(lines) => put_actions(lines.as_slice(), out),
         Err(fault) => write_refused(Refused::Game(fault), out),
     }
 }
 
-fn put_lines<W: Write>(out: &mut W, lines: &[u8]) -> io::Result<()>
+/// Writes lines, and gives the status 0, or 4 where the output fails.
+fn put_actions<W: Write>(lines: &[u8], out: &mut W) -> u8
+    ensures { (result ≡ 4) ⊎ ((result ≡ 0) × Appends (W.contents out.old) (W.contents out.new) lines.now) }
+{
+    match put_lines(lines, out) {
+        Ok(()) => 0,
+        Err(_) => 4,
+    }
+}
+
+fn put_lines<W: Write>(lines: &[u8], out: &mut W) -> io::Result<()>
     ensures { OnOk result (Appends (W.contents out.old) (W.contents out.new) lines.now) }
 {
     out.write_all(lines)?;
