@@ -5,3 +5,4 @@ mod WritingLemmas
 mod AnswerLemmas
 mod Asked
 mod Telling
+mod Listing

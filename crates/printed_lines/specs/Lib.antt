@@ -5,6 +5,7 @@ pub use Rattle.rbg_game.specs.Positions
 pub use Rattle.rbg_game.specs.Sound
 pub mod Lines
 pub mod Answers
+pub mod Actions
 pub mod Replies
 pub mod Counted
 pub mod Known

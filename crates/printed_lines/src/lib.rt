@@ -2,6 +2,7 @@
 //! position of a game.
 #![tactic(auto)]
 
+pub mod actions;
 pub mod known;
 mod lines;
 mod move_lines;

@@ -15,28 +15,6 @@ pub struct Explanation {
     pub message: String,
 }
 
-/// A line and a column, each from 1; a column is a byte of its line.
-#[derive(Clone, Copy)]
-pub struct LineColumn {
-    pub line: usize,
-    pub column: usize,
-}
-
-/// The line and the column of a byte.
-pub fn line_column(text: &[u8], at: usize) -> LineColumn {
-    let mut line = 1usize;
-    let mut column = 1usize;
-    for byte in text.iter().take(at) {
-        if *byte == b'\n' {
-            line = line.saturating_add(1);
-            column = 1;
-        } else {
-            column = column.saturating_add(1);
-        }
-    }
-    LineColumn { line, column }
-}
-
 /// What is wrong with a text that was refused with this fault.
 pub fn explain(alloc: Global, text: &[u8], fault: GameFault) -> Result<Explanation, AllocError> {
     if fault == GameFault::OutOfMemory {

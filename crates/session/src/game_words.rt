@@ -17,6 +17,15 @@ const MOVES_LONG_ABOUT: &str = concat!(
     "and each is answered before the next is read: its moves, and an empty line.",
 );
 
+const ACTIONS_ABOUT: &str = "Prints the actions of a game with their numbers";
+
+const ACTIONS_LONG_ABOUT: &str = concat!(
+    "Prints the actions of a game's rules, one a line: NUMBER LINE:COLUMN ACTION.\n",
+    "\n",
+    "NUMBER is the one by which `moves` shows the action. LINE and COLUMN are where it begins in the text, and ACTION is how it stands ",
+    "there, in one line. A pattern is one action, and each assignment of a list is one.",
+);
+
 /// The command `moves`, as words spell it.
 pub fn moves_command<'a>(alloc: Global) -> Result<Command<'a>, AllocError> {
     named(alloc, "moves", MOVES_ABOUT, MOVES_LONG_ABOUT)
@@ -41,4 +50,9 @@ pub fn position_in(alloc: Global, matches: &ArgMatches<'_>) -> Result<Option<Str
         Some(position) => Ok(Some(String::from_str(alloc, position)?)),
         None => Ok(None),
     }
+}
+
+/// The command `actions`, as words spell it.
+pub fn actions_command<'a>(alloc: Global) -> Result<Command<'a>, AllocError> {
+    named(alloc, "actions", ACTIONS_ABOUT, ACTIONS_LONG_ABOUT).arg(game_word(alloc))
 }

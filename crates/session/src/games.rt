@@ -2,6 +2,7 @@
 
 use crate::moves_by_line::moves_by_line;
 use crate::program::{read_start, status_of_refused, tell, tell_game_fault};
+use printed_lines::actions::actions_to;
 use printed_lines::moves::{moves_at, moves_to};
 use printed_lines::refused::Refused;
 use printed_lines::rulebook::Rulebook;
@@ -27,6 +28,24 @@ pub fn moves_of_game(rt: &HostRuntime, alloc: Global, game: &str, at: Option<&st
     };
     if status == 1 {
         tell_why(rt, alloc, game, &text, at);
+    }
+    status
+}
+
+/// Writes the numbered actions of a game.
+pub fn actions_of_game(rt: &HostRuntime, alloc: Global, game: &str) -> u8 {
+    let text = match text_of_game(rt, alloc, game) {
+        Ok(text) => text,
+        Err(status) => return status,
+    };
+    let Ok(mut out) = BufWriter::new(alloc, io::writer(rt)) else {
+        return status_of_refused(rt, Refused::OutOfMemory);
+    };
+    let status = actions_to(alloc, &text, &mut out);
+    if status == 1
+        && let Err(refused) = Rulebook::read(alloc, &text)
+    {
+        tell_refused_game(rt, alloc, game, &text, refused);
     }
     status
 }

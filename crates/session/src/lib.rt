@@ -19,5 +19,5 @@ pub mod words;
 mod wrong_names;
 
 pub use line_answers::{input, questions, turns};
-pub use printed_lines::{moves, refused, replies, rulebook, verdicts};
+pub use printed_lines::{actions, moves, refused, replies, rulebook, verdicts};
 pub use program::run;

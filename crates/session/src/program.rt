@@ -1,11 +1,12 @@
 //! What the command line says is done here: the words are read, and each command is handed on.
 
-use crate::explain::{Explanation, LineColumn, explain, line_column};
+use crate::explain::{Explanation, explain};
 use crate::files::{audit_file, create_file, grow_file, load_file, migrate_file, session_of_file};
-use crate::games::moves_of_game;
+use crate::games::{actions_of_game, moves_of_game};
 use crate::look::look_at_file;
 use crate::streams::Streams;
 use crate::words::{Refusal, Words, words_of};
+use numbered_actions::lines::{LineColumn, line_column};
 use printed_lines::refused::Refused;
 use rbg_game::limits::MAX_TEXT_BYTES;
 use rbg_read::fault::GameFault;
@@ -46,6 +47,7 @@ fn run_words(rt: &HostRuntime) -> u8 {
     };
     match words_of(alloc, &words) {
         Ok(Words::Moves { game, at }) => moves_of_game(rt, alloc, &game, at.as_deref()),
+        Ok(Words::Actions { game }) => actions_of_game(rt, alloc, &game),
         Ok(Words::Create { file, pages }) => create_file(rt, alloc, &file, pages),
         Ok(Words::Load { file, game, goal }) => load_file(rt, alloc, &file, &game, goal),
         Ok(Words::Session { file }) => session_of_file(rt, alloc, &file),

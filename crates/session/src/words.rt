@@ -2,7 +2,7 @@
 ghost use Rattle.std.specs.Prelude.{IfErr};
 ghost use Rattle.session.specs.Statuses.{IsStatusOfWords};
 
-use crate::game_words::{moves_command, position_in};
+use crate::game_words::{actions_command, moves_command, position_in};
 use crate::table_words::{
     audit_command, create_command, grow_command, load_command, look_command, migrate_command,
     session_command,
@@ -19,6 +19,10 @@ pub enum Words {
     Moves {
         game: String,
         at: Option<String>,
+    },
+    /// The numbered actions of the game in this file.
+    Actions {
+        game: String,
     },
     /// A new table of so many pages in this file.
     Create {
@@ -171,6 +175,9 @@ fn asked_for(alloc: Global, name: &str, inner: &ArgMatches<'_>) -> Result<Words,
             file: given(alloc, inner, "FILE")?,
             pages: inner.get_one("pages").unwrap_or(0),
         }),
+        "actions" => Ok(Words::Actions {
+            game: given(alloc, inner, "GAME")?,
+        }),
         _ => Ok(Words::Moves {
             game: given(alloc, inner, "GAME")?,
             at: position_in(alloc, inner)?,
@@ -199,7 +206,8 @@ fn command<'a>(alloc: Global) -> Result<Command<'a>, AllocError> {
     let command = with(command, audit_command(alloc))?;
     let command = with(command, migrate_command(alloc))?;
     let command = with(command, grow_command(alloc))?;
-    with(command, moves_command(alloc))
+    let command = with(command, moves_command(alloc))?;
+    with(command, actions_command(alloc))
 }
 
 /// A command, and what help says of it, at the short and at length.
