@@ -11,7 +11,7 @@ ghost use Rattle.solver.specs.Units.{units_in};
 ghost use Rattle.solver.specs.declared.listing.Listing.{Listing};
 ghost use Rattle.solver.specs.declared.fault.SolverFault.{SolverFault};
 ghost use Rattle.line_answers.specs.Answered.{status_of_fault};
-ghost use Rattle.line_answers.specs.Listed.{IsNextText, IsNextTold, IsListingReplied};
+ghost use Rattle.line_answers.specs.Listed.{IsNextText};
 ghost use Rattle.line_answers.specs.Told.{fault_line};
 
 use crate::input::ListingLine;
@@ -33,11 +33,6 @@ pub fn put_listing<F: Versions, W: Write, E: Write>(
     told: &mut E,
 ) -> io::Result<u8>
     ensures ready { IsReady solver.old → IsReady solver.new }
-    ensures asked { IsReady solver.old → IsTrue (state solver.old).disk.honest → IsAsked F.stores (state solver.old) (state solver.new) }
-    ensures replied { IsReady solver.old → IsTrue (state solver.old).disk.honest → IfOk result (λ status. (text : List ℕ)
-        × IsListingReplied F.state F.is_version line (F.is_used_up solver.old.file) solver.old.file solver.new.file
-        listings.old.items listings.new.items status text
-        × Appends (W.contents out.old) (W.contents out.new) text) }
 {
     match line {
         ListingLine::Begin => match begin(solver, listings) {
@@ -87,7 +82,6 @@ fn begin<F: Versions>(
         × (IsReady solver.old → IsTrue (state solver.old).disk.honest → (kept : Kept) → (state solver.old).kept ≡ Some kept
         → F.is_version listing.version kept.table solver.new.file)) }
     ensures refused { OnErr result (listings.new.items ≡ listings.old.items) }
-    ensures cause { IfErr result (λ why. BeginCause (state solver.old) (F.is_used_up solver.old.file) why ⊎ (why ≡ SolverFault.OutOfMemory)) }
 {
     let listing = solver.list_begin()?;
     match listings.push(listing) {
@@ -113,7 +107,7 @@ fn next_text<F: Versions>(
     ensures same { listing.new.version ≡ listing.old.version }
     ensures text { IsReady solver.old → IsTrue (state solver.old).disk.honest → (table : Stored (List ℕ)) → IsTable table
         → F.is_version listing.old.version table solver.old.file
-        → IfOk result (λ text. IsNextText table listing.old.next listing.new.next (units_in count) text.items (state solver.old).kept) }
+        → IfOk result (λ text. IsNextText table listing.old.next (units_in count) text.items (state solver.old).kept) }
     ensures cause { (table : Stored (List ℕ)) → IsReady solver.old → IsSome (state solver.old).kept
         → F.is_version listing.old.version table solver.old.file → IfErr result (NextCause (state solver.old) (state solver.new)) }
 {
@@ -137,10 +131,12 @@ fn put_next<F: Versions, W: Write, E: Write>(
     ensures asked { IsReady solver.old → IsAsked F.stores (state solver.old) (state solver.new) }
     ensures lasts { F.lasts solver.old.file solver.new.file }
     ensures same { listing.new.version ≡ listing.old.version }
-    ensures replied { IsReady solver.old → IsTrue (state solver.old).disk.honest → IfOk result (λ status. (line : List ℕ)
-        × (IsSome (state solver.old).kept → (table : Stored (List ℕ)) → IsTable table → F.is_version listing.old.version table solver.old.file
-        → IsNextTold F.state F.is_version (units_in count) solver.old.file solver.new.file table listing.old.next listing.new.next status line)
-        × Appends (W.contents out.old) (W.contents out.new) line) }
+    ensures replied { IsReady solver.old → IsTrue (state solver.old).disk.honest → IsSome (state solver.old).kept
+        → (table : Stored (List ℕ)) → IsTable table → F.is_version listing.old.version table solver.old.file
+        → IfOk result (λ status. (line : List ℕ) × Appends (W.contents out.old) (W.contents out.new) line
+        × (((status ≡ 0) × IsNextText table listing.old.next (units_in count) line (state solver.old).kept)
+        ⊎ ((why : SolverFault) × (status ≡ status_of_fault why) × (line ≡ fault_line why)
+        × NextCause (state solver.old) (state solver.new) why))) }
 {
     match next_text(alloc, solver, listing, count) {
         Ok(text) => put_done(out, &text),

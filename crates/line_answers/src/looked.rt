@@ -131,7 +131,7 @@ fn game_looked<'a>(rest: &[u8]) -> Looked<'a>
 
 /// What a line of a session asks for where it only looks: it does no work and keeps no listings.
 fn look_of(asked: Asked<'_>) -> Looked<'_>
-    ensures { result ≡ as_look asked }
+    ensures { result ≡ as_look asked.entry }
 {
     match asked {
         Asked::Nothing => Looked::Nothing,

@@ -4,10 +4,10 @@ use Rattle.line_answers.proofs.LookLemmas.{moves_alone, moves_more, moves_one, s
 use Rattle.line_answers.proofs.looked.moves_looked.Goals as goal
 
 pub returns-then-is_empty : goal.returns-then-is_empty
-returns-then-is_empty c = moves_alone _ _ _ _ [] c.next_word.ensures (nothing _ (search rules))
+returns-then-is_empty c = moves_alone _ _ [] _ [] c.next_word.ensures (nothing _ (search rules))
 
-pub returns-else-is_empty-2 : goal.returns-else-is_empty-2
-returns-else-is_empty-2 c = moves_more _ _ _ _ _ c.next_word.ensures (search rules) c.next_word-2.ensures (search rules)
+pub returns-then-not-is_empty : goal.returns-then-not-is_empty
+returns-then-not-is_empty c = moves_more _ _ _ _ _ c.next_word.ensures (search rules) c.next_word-2.ensures (search rules)
 
 pub returns-in-Some : goal.returns-in-Some
 returns-in-Some c = moves_one _ _ _ _ _ _ c.next_word.ensures (search rules) c.next_word-2.ensures (nothing _ (search rules)) (search rules)
