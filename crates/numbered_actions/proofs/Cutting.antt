@@ -24,10 +24,12 @@ sections_of text game (reads {all = all} short flat parses none means) =
     (all, record { splits = subst (Splits text) parses.spelled parses.splits; spelled = refl }, means)
 
 -- the tokens that stand in a text are those of its sections
-pub spelled_by : (text : Text) (ls : List Lexeme) (all : List Section) → Stand text ls text → Parses text (grammar.text all) all → tokens_of ls ≡ grammar.text all
+pub spelled_by : (text : Text) (ls : List Lexeme) (all : List Section) → Stand text ls text → Parses text (grammar.text all) all
+    → tokens_of ls ≡ grammar.text all
 spelled_by text ls all stand parses = splits_once (stand_splits text ls text stand) parses.splits
 
-each_longer : (ls : List Lexeme) (found : List Stretch) (spots : List Spot) → map (cut_of ls) found ≡ map cut_at spots → (k : ℕ) (d : Stretch) → k < length found
+each_longer : (ls : List Lexeme) (found : List Stretch) (spots : List Spot) → map (cut_of ls) found ≡ map cut_at spots → (k : ℕ) (d : Stretch)
+    → k < length found
     → length (tokens_from ls (get_or found k d).to) < length (tokens_from ls (get_or found k d).from)
 each_longer ls [] spots are k d lt = absurd (omega (arith, lt))
 each_longer ls (s ∷ found) [] are k d lt = absurd (cc)
@@ -41,7 +43,8 @@ each_longer ls (s ∷ found) (spot ∷ spots) are (suc k) d lt =
     each_longer ls found spots more k d (omega (arith, lt))
 
 -- a stretch begins within the tokens, and before it ends
-pub each_begins : (ls : List Lexeme) (found : List Stretch) (spots : List Spot) → map (cut_of ls) found ≡ map cut_at spots → (k : ℕ) (s : Stretch) → k < length found
+pub each_begins : (ls : List Lexeme) (found : List Stretch) (spots : List Spot) → map (cut_of ls) found ≡ map cut_at spots → (k : ℕ) (s : Stretch)
+    → k < length found
     → s ≡ get_or found k s → (s.from < s.to) × (s.from < length ls)
 each_begins ls found spots are k s lt at =
     let view = λ (m : Lexeme). token_view m.token in

@@ -1,5 +1,6 @@
 -- The actions of an expression in a list, and by their numbers.
-use Rattle.std.proofs.Common.{◌≡◌, ℕ, zero, suc, ◌+◌, ◌≤◌, ◌==◌, ◌⊎◌, inl, inr, Bool, true, false, cond, List, [], ◌∷◌, ◌++◌, length, slice_get, Option, Some, None, refl, ap, subst, ◌∙◌, arith, length-append}
+use Rattle.std.proofs.Common.{◌≡◌, ℕ, zero, suc, ◌+◌, ◌≤◌, ◌==◌, ◌⊎◌, inl, inr, Bool, true, false, cond, List, [], ◌∷◌, ◌++◌, length}
+use Rattle.std.proofs.Common.{slice_get, Option, Some, None, refl, ap, subst, ◌∙◌, arith, length-append}
 use Rattle.std.specs.List.{AllZip}
 use Rattle.std.specs.Option.{option_or}
 use Rattle.std.proofs.lemmas.Bool.{eq-eqb, eqb-true}
@@ -32,12 +33,14 @@ none_behind (cat a b) n k above = rw (none_behind a n k (omega (arith, above))) 
 none_behind (alt a b) n k above = rw (none_behind a n k (omega (arith, above))) (none_behind b (n + count a) k (omega (arith, above)))
 none_behind (star a) n k above = none_behind a n k above
 
-in_either : {A : Type 0} (xs ys : List A) (k : ℕ) (x : A) → slice_get (xs ++ ys) k ≡ Some x → (slice_get xs k ≡ Some x) ⊎ ((j : ℕ) × (k ≡ length xs + j) × (slice_get ys j ≡ Some x))
+in_either : {A : Type 0} (xs ys : List A) (k : ℕ) (x : A) → slice_get (xs ++ ys) k ≡ Some x
+    → (slice_get xs k ≡ Some x) ⊎ ((j : ℕ) × (k ≡ length xs + j) × (slice_get ys j ≡ Some x))
 in_either [] ys k x h = inr (k, omega arith, h)
 in_either (y ∷ xs) ys zero x h = inl h
 in_either (y ∷ xs) ys (suc k) x h = go (in_either xs ys k x h)
   where
-    go : (slice_get xs k ≡ Some x) ⊎ ((j : ℕ) × (k ≡ length xs + j) × (slice_get ys j ≡ Some x)) → (slice_get xs k ≡ Some x) ⊎ ((j : ℕ) × (suc k ≡ suc (length xs) + j) × (slice_get ys j ≡ Some x))
+    go : (slice_get xs k ≡ Some x) ⊎ ((j : ℕ) × (k ≡ length xs + j) × (slice_get ys j ≡ Some x))
+        → (slice_get xs k ≡ Some x) ⊎ ((j : ℕ) × (suc k ≡ suc (length xs) + j) × (slice_get ys j ≡ Some x))
     go (inl g) = inl g
     go (inr g) = inr (g.0, omega (arith, g.1), g.2)
 
@@ -45,10 +48,13 @@ first_of : (x y : Option Action) (a : Action) → x ≡ Some a → option_or x y
 first_of None y a e = absurd (cc)
 first_of (Some b) y a e = e
 
-both_by_list : (b c : Regex) (n k : ℕ) (a : Action) → ((m j : ℕ) → slice_get (actions_of b) j ≡ Some a → action_at b m (m + j) ≡ Some a) → ((m j : ℕ) → slice_get (actions_of c) j ≡ Some a → action_at c m (m + j) ≡ Some a) → slice_get (actions_of b ++ actions_of c) k ≡ Some a → option_or (action_at b n (n + k)) (action_at c (n + count b) (n + k)) ≡ Some a
+both_by_list : (b c : Regex) (n k : ℕ) (a : Action) → ((m j : ℕ) → slice_get (actions_of b) j ≡ Some a → action_at b m (m + j) ≡ Some a)
+    → ((m j : ℕ) → slice_get (actions_of c) j ≡ Some a → action_at c m (m + j) ≡ Some a) → slice_get (actions_of b ++ actions_of c) k ≡ Some a
+    → option_or (action_at b n (n + k)) (action_at c (n + count b) (n + k)) ≡ Some a
 both_by_list b c n k a left right h = go (in_either (actions_of b) (actions_of c) k a h)
   where
-    go : (slice_get (actions_of b) k ≡ Some a) ⊎ ((j : ℕ) × (k ≡ length (actions_of b) + j) × (slice_get (actions_of c) j ≡ Some a)) → option_or (action_at b n (n + k)) (action_at c (n + count b) (n + k)) ≡ Some a
+    go : (slice_get (actions_of b) k ≡ Some a) ⊎ ((j : ℕ) × (k ≡ length (actions_of b) + j) × (slice_get (actions_of c) j ≡ Some a))
+        → option_or (action_at b n (n + k)) (action_at c (n + count b) (n + k)) ≡ Some a
     go (inl g) = first_of _ _ a (left n k g)
     go (inr g) =
         let size = length_actions b in
@@ -70,7 +76,8 @@ length_zip R [] (y ∷ ys) h = absurd h
 length_zip R (x ∷ xs) [] h = absurd h
 length_zip R (x ∷ xs) (y ∷ ys) h = ap suc (length_zip R xs ys h.1)
 
-pub zip_at : {A B : Type 0} (R : A → B → Type 0) (xs : List A) (ys : List B) → AllZip R xs ys → (k : ℕ) (x : A) → slice_get xs k ≡ Some x → (y : B) × (slice_get ys k ≡ Some y) × R x y
+pub zip_at : {A B : Type 0} (R : A → B → Type 0) (xs : List A) (ys : List B) → AllZip R xs ys → (k : ℕ) (x : A) → slice_get xs k ≡ Some x
+    → (y : B) × (slice_get ys k ≡ Some y) × R x y
 zip_at R [] ys h k x at = absurd (cc)
 zip_at R (z ∷ xs) [] h k x at = absurd h
 zip_at R (z ∷ xs) (y ∷ ys) h zero x at = let same : z ≡ x = cc in (y, refl, subst (λ w. R w y) same h.0)

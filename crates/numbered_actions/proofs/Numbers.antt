@@ -1,5 +1,6 @@
 -- The actions that are listed are those of the rules, by their numbers.
-use Rattle.std.proofs.Common.{◌≡◌, ℕ, ◌+◌, List, [], ◌∷◌, ◌++◌, map, fold, slice_get, Option, Some, None, refl, ap, sym, subst, ◌∙◌, append_assoc, append-nil, arith}
+use Rattle.std.proofs.Common.{◌≡◌, ℕ, ◌+◌, List, [], ◌∷◌, ◌++◌, map, fold, slice_get, Option, Some, None, refl, ap, sym, subst, ◌∙◌}
+use Rattle.std.proofs.Common.{append_assoc, append-nil, arith}
 use Rattle.std.specs.Prelude.{IfSome}
 use Rattle.std.specs.List.{AllZip, flat_map}
 use Rattle.rbg_text.specs.Syntax as g
@@ -9,7 +10,8 @@ use Rattle.rbg_game.specs.Rules.{Regex, Action, action_at}
 use Rattle.rbg_read.specs.Means.{Names, names_of, rules_of, sum_rules, concat_rules, element_rules, base_rules}
 use Rattle.rbg_read.specs.Means as means
 use Rattle.numbered_actions.proofs.Numbering.{actions_of, length_actions, by_list, length_zip, zip_at}
-use Rattle.numbered_actions.specs.Written.{Spot, assigned, meaning, spots, spots_in_concat, spots_in_element, spots_in_base, spots_of, further_assigned}
+use Rattle.numbered_actions.specs.Written.{Spot, assigned, meaning, spots, spots_in_concat, spots_in_element, spots_in_base, spots_of}
+use Rattle.numbered_actions.specs.Written.{further_assigned}
 use Rattle.numbered_actions.specs.Laws.{NumbersAreKept}
 
 zip_append : {A B : Type 0} (R : A → B → Type 0) (xs ys : List A) (zs ws : List B) → AllZip R xs zs → AllZip R ys ws → AllZip R (xs ++ ys) (zs ++ ws)
@@ -37,13 +39,15 @@ mutual
   sum_zip names (g.branch c) rest = concat_zip names c rest
   sum_zip names (g.either s c) rest =
       let front = mark Plus (g.concat c rest) in
-      zip_append (Is names) (spots s front) (spots_in_concat c rest) (actions_of (sum_rules names s)) (actions_of (concat_rules names c)) (sum_zip names s front) (concat_zip names c rest)
+      zip_append (Is names) (spots s front) (spots_in_concat c rest) (actions_of (sum_rules names s)) (actions_of (concat_rules names c))
+      (sum_zip names s front) (concat_zip names c rest)
 
   concat_zip : (names : Names) (c : Concat) (rest : Tokens) → AllZip (Is names) (spots_in_concat c rest) (actions_of (concat_rules names c))
   concat_zip names (g.single e) rest = element_zip names e rest
   concat_zip names (g.followed c e) rest =
       let front = g.element e rest in
-      zip_append (Is names) (spots_in_concat c front) (spots_in_element e rest) (actions_of (concat_rules names c)) (actions_of (element_rules names e)) (concat_zip names c front) (element_zip names e rest)
+      zip_append (Is names) (spots_in_concat c front) (spots_in_element e rest) (actions_of (concat_rules names c)) (actions_of (element_rules names e))
+      (concat_zip names c front) (element_zip names e rest)
 
   element_zip : (names : Names) (e : Element) (rest : Tokens) → AllZip (Is names) (spots_in_element e rest) (actions_of (element_rules names e))
   element_zip names (g.once b) rest = base_zip names b rest
@@ -68,7 +72,8 @@ numbered : (names : Names) (e : Regex) (all : List Spot) → AllZip (Is names) a
     → IfSome (slice_get all k) (λ spot. (a : Action) × (meaning names spot.written ≡ Regex.one a) × (action_at e 1 (k + 1) ≡ Some a))
 numbered names e all zip k = go (slice_get all k) refl
   where
-    go : (o : Option Spot) → slice_get all k ≡ o → IfSome o (λ spot. (a : Action) × (meaning names spot.written ≡ Regex.one a) × (action_at e 1 (k + 1) ≡ Some a))
+    go : (o : Option Spot) → slice_get all k ≡ o
+        → IfSome o (λ spot. (a : Action) × (meaning names spot.written ≡ Regex.one a) × (action_at e 1 (k + 1) ≡ Some a))
     go None at = tt
     go (Some spot) at =
         let there = zip_at (Is names) all (actions_of e) zip k spot at in
@@ -82,7 +87,8 @@ all_zip names (g.pieces first more ∷ all) = all_zip names all
 all_zip names (g.variables some ∷ all) = all_zip names all
 all_zip names (g.board first more ∷ all) = all_zip names all
 all_zip names (g.rules s ∷ all) =
-    zip_append (Is names) (spots s (g.text all)) (spots_of all) (actions_of (sum_rules names s)) (flat_map actions_of (map (sum_rules names) (flat_map rules_of all)))
+    zip_append (Is names) (spots s (g.text all)) (spots_of all) (actions_of (sum_rules names s))
+    (flat_map actions_of (map (sum_rules names) (flat_map rules_of all)))
     (sum_zip names s (g.text all)) (all_zip names all)
 
 pub numbers_kept : NumbersAreKept

@@ -1,5 +1,6 @@
 -- Where the tokens of a text stand.
-use Rattle.std.proofs.Common.{◌≡◌, ℕ, zero, suc, ◌+◌, ◌-◌, ◌≤◌, List, [], ◌∷◌, ◌++◌, length, take, drop, Option, None, Some, refl, ap, sym, subst, ◌∙◌, append_assoc, length-append, arith}
+use Rattle.std.proofs.Common.{◌≡◌, ℕ, zero, suc, ◌+◌, ◌-◌, ◌≤◌, List, [], ◌∷◌, ◌++◌, length, take, drop, Option, None, Some, refl, ap, sym}
+use Rattle.std.proofs.Common.{subst, ◌∙◌, append_assoc, length-append, arith}
 use Rattle.std.proofs.lemmas.List.{take-append-drop, drop_at, take_at, length-take-le, map-append}
 use Rattle.rbg_text.specs.Token.{Text, Token, Line, end, feed, byte, Gap, none, blank, comment, Takes, Splits, token_text}
 use Rattle.rbg_text.specs.Lex.{cons_tokens}
@@ -56,7 +57,8 @@ stands text old here new last next t at_last size gap takes is =
     let long_text : length text ≡ length front + length here = ap length whole ∙ length-append front here in
     let at_here : length front ≡ next - length word = omega (arith, long_text, long_here, is) in
     let at_new : length (front ++ word) ≡ next = omega (arith, length-append front word, long_text, long_here, is) in
-    let here_is : drop (next - length word) text ≡ here = subst (λ s. drop (next - length word) s ≡ here) (sym whole) (drop_at front here (next - length word) at_here) in
+    let here_is : drop (next - length word) text ≡ here =
+    subst (λ s. drop (next - length word) s ≡ here) (sym whole) (drop_at front here (next - length word) at_here) in
     let gap_long : length before.0 ≡ (next - length word) - last =
     omega (arith, at_here, length-append (take last text) before.0, length-take-le last text (omega (arith, size))) in
     record {

@@ -1,5 +1,6 @@
 -- The lines of actions, one after the other.
-use Rattle.std.proofs.Common.{◌≡◌, ℕ, zero, suc, ◌+◌, ◌-◌, ◌<◌, ◌≤◌, List, [], ◌∷◌, ◌++◌, length, take, drop, map, get_or, Some, Result, Ok, Err, refl, ap, sym, subst, ◌∙◌, append_assoc, append-nil, add-one, arith}
+use Rattle.std.proofs.Common.{◌≡◌, ℕ, zero, suc, ◌+◌, ◌-◌, ◌<◌, ◌≤◌, List, [], ◌∷◌, ◌++◌, length, take, drop, map, get_or, Some, Result, Ok}
+use Rattle.std.proofs.Common.{Err, refl, ap, sym, subst, ◌∙◌, append_assoc, append-nil, add-one, arith}
 use Rattle.std.specs.Prelude.{All, IfOk, slice_get}
 use Rattle.std.specs.List.{flat_map}
 use Rattle.std.proofs.lemmas.List.{length-map, length-drop, take-map, drop_more}
@@ -22,7 +23,8 @@ one_more_action text [] k number lines line cut at are is = absurd (cc)
 one_more_action text (c ∷ cuts) zero number lines line cut at are is =
     let same : c ≡ cut = cc in
     let first : number + 0 ≡ number = omega arith in
-    (line, [], ap (λ w. w ++ line) are ∙ sym (append-nil line), subst (λ x. IsActionLine text x number line) (sym same) (subst (λ n. IsActionLine text cut n line) first is), refl)
+    let here = subst (λ x. IsActionLine text x number line) (sym same) (subst (λ n. IsActionLine text cut n line) first is) in
+    (line, [], ap (λ w. w ++ line) are ∙ sym (append-nil line), here, refl)
 one_more_action text (c ∷ cuts) (suc k) number lines line cut at are is =
     let next : number + suc k ≡ number + 1 + k = omega arith in
     let rest = one_more_action text cuts k (number + 1) are.1 line cut at are.4 (subst (λ n. IsActionLine text cut n line) next is) in

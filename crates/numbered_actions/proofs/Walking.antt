@@ -4,7 +4,8 @@ use Rattle.rbg_game.specs.declared.rules.Comparison.{Comparison}
 use Rattle.rbg_game.specs.declared.rules.Comparison.TheVariants as test
 use Rattle.rbg_text.specs.Token.{Text}
 use Rattle.rbg_text.specs.Syntax as g
-use Rattle.rbg_text.specs.Syntax.{Tokens, Expr, Term, Factor, Atom, Assignment, Sum, Concat, Element, Base, Declaration, Further, after_comma, at_once, Section, mark}
+use Rattle.rbg_text.specs.Syntax.{Tokens, Expr, Term, Factor, Atom, Assignment, Sum, Concat, Element, Base, Declaration, Further}
+use Rattle.rbg_text.specs.Syntax.{after_comma, at_once, Section, mark}
 use Rattle.rbg_text.specs.declared.token.Sign.TheVariants.{Plus, Star, CloseParen, CloseBracket, CloseBrace}
 use Rattle.numbered_actions.specs.Written.{Spot, Cut, cut_at, spots, spots_in_concat, spots_in_element, spots_in_base, spots_of, further_assigned}
 use Rattle.numbered_actions.specs.aid.Walk.{elsewhere, rules, assignment, braces, found_from}
@@ -51,11 +52,13 @@ mutual
   atom_within (g.Atom.variable w) begun d rest = refl
   atom_within (g.parenthesized e) begun d rest = expr_within e begun d (mark CloseParen rest)
 
-names_within : (ws : List Text) (begun : Tokens) (d : ℕ) (rest : Tokens) → found_from (braces begun d) (g.further g.word ws rest) ≡ found_from (braces begun d) rest
+names_within : (ws : List Text) (begun : Tokens) (d : ℕ) (rest : Tokens)
+    → found_from (braces begun d) (g.further g.word ws rest) ≡ found_from (braces begun d) rest
 names_within [] begun d rest = refl
 names_within (w ∷ ws) begun d rest = names_within ws begun d rest
 
-set_within : (ws : List Text) (begun : Tokens) (d : ℕ) (rest : Tokens) → found_from (braces begun d) (g.commas g.word ws rest) ≡ found_from (braces begun d) rest
+set_within : (ws : List Text) (begun : Tokens) (d : ℕ) (rest : Tokens)
+    → found_from (braces begun d) (g.commas g.word ws rest) ≡ found_from (braces begun d) rest
 set_within [] begun d rest = refl
 set_within (w ∷ ws) begun d rest = names_within ws begun d rest
 
@@ -107,7 +110,8 @@ joined (x ∷ xs) ys a b c p q = p ∙ ap (λ more. cut_at x ∷ more) (joined x
 -- the assignments of a list, where one has begun
 list_found : (more : List Assignment) (begun rest : Tokens)
     → found_from (assignment begun) (g.further g.assignment more (mark CloseBracket rest))
-    ≡ record { here = begun; behind = g.further g.assignment more (mark CloseBracket rest) } ∷ (map cut_at (further_assigned more (mark CloseBracket rest)) ++ found_from rules rest)
+    ≡ record { here = begun; behind = g.further g.assignment more (mark CloseBracket rest) }
+    ∷ (map cut_at (further_assigned more (mark CloseBracket rest)) ++ found_from rules rest)
 list_found [] begun rest = refl
 list_found (a ∷ more) begun rest =
     let next = g.assignment a (g.further g.assignment more (mark CloseBracket rest)) in

@@ -3,7 +3,8 @@ use Rattle.std.specs.Prelude.{◌≡◌, ℕ, zero, suc, if◌then◌else◌, Li
 use Rattle.std.specs.Str.{bytes_eq}
 use Rattle.rbg_text.specs.Token.{Token, name, sign}
 use Rattle.rbg_text.specs.Syntax.{Tokens}
-use Rattle.rbg_text.specs.declared.token.Sign.TheVariants.{Hash, Comma, Arrow as SingleArrow, DoubleArrow, Dollar, OpenBracket, CloseBracket, OpenBrace, CloseBrace}
+use Rattle.rbg_text.specs.declared.token.Sign.TheVariants.{Hash, Comma, Arrow as SingleArrow, DoubleArrow, Dollar, OpenBracket}
+use Rattle.rbg_text.specs.declared.token.Sign.TheVariants.{CloseBracket, OpenBrace, CloseBrace}
 use Rattle.numbered_actions.specs.declared.lexemes.Lexeme.{Lexeme}
 use Rattle.numbered_actions.specs.declared.stretches.Stretch.{Stretch}
 use Rattle.numbered_actions.specs.declared.stretches.Within.{Within}

@@ -27,5 +27,6 @@ loop-index-preserved c =
 pub returns : goal.returns
 returns c =
     let cuts = map (cut_of c.args.tokens.now) c.args.actions.now in
-    let all : take c.loop-index.index cuts ≡ cuts = take_all c.loop-index.index cuts (omega (arith, length-map c.args.actions.now (cut_of c.args.tokens.now))) in
+    let all : take c.loop-index.index cuts ≡ cuts =
+    take_all c.loop-index.index cuts (omega (arith, length-map c.args.actions.now (cut_of c.args.tokens.now))) in
     subst (λ cs. AreActionLines c.args.text.now cs 1 c.loop-index.lines.items) all c.loop-index.invariant
