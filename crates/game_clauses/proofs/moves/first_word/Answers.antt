@@ -1,6 +1,0 @@
-use Rattle.game_clauses.proofs.moves.first_word.Goals as goal
-use Rattle.game_clauses.proofs.WordLemmas.{of_part}
-
--- the word that is shown is that of the first move
-pub returns : goal.returns
-returns c = of_part _ _ _ 0 _ c.in_ok-moves.ensures.shortest c.in_ok-word.ensures

@@ -1,5 +1,0 @@
-use Rattle.solver_clauses.proofs.Two.{done_alone}
-use Rattle.solver_clauses.proofs.commands.work_alone.Goals as goal
-
-pub returns : goal.returns
-returns g c = λ ready honest. done_alone (c.in_ok-done.ensures.done ready) c.work.ensures.ahead honest
