@@ -1,7 +1,6 @@
 //! The commands on files: each is opened here, and the rest is done on a disk over it.
 
 use crate::commands::{FileCommand, Outcome, command_on};
-use crate::line_by_line::session_over;
 use crate::migrating::migrate_on;
 use crate::open::{Purpose, Unopened, new_file, opened, writable};
 use crate::program::{read_start, status_of_refused, tell, tell_game_fault};
@@ -16,7 +15,7 @@ use root_pair::MAGIC;
 use solver::SolverFault;
 use std::alloc::{AllocError, Global};
 use std::fs::{self, File};
-use std::io::{self, BufWriter, ErrorKind, Read};
+use std::io::{self, ErrorKind, Read};
 use std::path::Path;
 
 /// The bytes of a page.
@@ -25,7 +24,8 @@ const PAGE: u64 = 4_096;
 /// What to do where a file cannot be read.
 pub const TO_READ: &str = "give a file that is there and may be read";
 
-const TO_CHANGE: &str = "give a file that is there and may be read and written";
+/// What to do where a file cannot be opened to be changed.
+pub const TO_CHANGE: &str = "give a file that is there and may be read and written";
 
 const TO_MAKE: &str =
     "give a file that may be read and written, or a new one in a folder that is there and may be written";
@@ -181,29 +181,6 @@ pub fn grow_file(rt: &HostRuntime, alloc: Global, name: &str, pages: u32) -> u8 
         Ok(file) => command_on_file(rt, alloc, name, file, FileCommand::Grow(pages)).status,
         Err(why) => refused_opening(rt, name, why, TO_CHANGE),
     }
-}
-
-/// A session over the table of a file, on standard input and output.
-pub fn session_of_file(rt: &HostRuntime, alloc: Global, name: &str) -> u8 {
-    let file = match opened(rt, name, Purpose::Change) {
-        Ok(file) => file,
-        Err(why) => return refused_opening(rt, name, why, TO_CHANGE),
-    };
-    let disk = match disk_over(rt, alloc, name, file) {
-        Ok(disk) => disk,
-        Err((status, _)) => return status,
-    };
-    let Ok(mut out) = BufWriter::new(alloc, io::writer(rt)) else {
-        return status_of_refused(rt, Refused::OutOfMemory);
-    };
-    let (status, _disk) = session_over::<TableFile<FileDisk>, _, _, _>(
-        alloc,
-        disk,
-        &mut rt.stdin(),
-        &mut out,
-        &mut rt.stderr(),
-    );
-    status
 }
 
 /// The disk over an open file; or the status, once it was said why there is none.

@@ -1,9 +1,9 @@
 //! What the command line says is done here: the words are read, and each command is handed on.
 
 use crate::explain::{Explanation, explain};
-use crate::files::{audit_file, create_file, grow_file, load_file, migrate_file, session_of_file};
+use crate::files::{audit_file, create_file, grow_file, load_file, migrate_file};
 use crate::games::{actions_of_game, moves_of_game};
-use crate::look::look_at_file;
+use crate::sessions::{look_at_file, session_of_file};
 use crate::streams::Streams;
 use crate::words::{Refusal, Words, words_of};
 use numbered_actions::lines::{LineColumn, line_column};
@@ -50,8 +50,8 @@ fn run_words(rt: &HostRuntime) -> u8 {
         Ok(Words::Actions { game }) => actions_of_game(rt, alloc, &game),
         Ok(Words::Create { file, pages }) => create_file(rt, alloc, &file, pages),
         Ok(Words::Load { file, game, goal }) => load_file(rt, alloc, &file, &game, goal),
-        Ok(Words::Session { file }) => session_of_file(rt, alloc, &file),
-        Ok(Words::Look { file }) => look_at_file(rt, alloc, &file),
+        Ok(Words::Session { file, is_quiet }) => session_of_file(rt, alloc, &file, is_quiet),
+        Ok(Words::Look { file, is_quiet }) => look_at_file(rt, alloc, &file, is_quiet),
         Ok(Words::Audit { file }) => audit_file(rt, alloc, &file),
         Ok(Words::Migrate { file }) => migrate_file(rt, alloc, &file),
         Ok(Words::Grow { file, pages }) => grow_file(rt, alloc, &file, pages),

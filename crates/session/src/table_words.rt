@@ -5,7 +5,6 @@ use clap::builder::ValueParser;
 use clap::{Arg, ArgAction, Command};
 use line_answers::input::SESSION_LINES;
 use line_answers::looked::LOOK_LINES;
-use page_store::MAX_PAGES;
 use rbg_game::limits::MAX_POINTS;
 use std::alloc::{AllocError, Global};
 
@@ -110,14 +109,16 @@ pub fn load_command<'a>(alloc: Global) -> Result<Command<'a>, AllocError> {
 pub fn session_command<'a>(alloc: Global) -> Result<Command<'a>, AllocError> {
     named(alloc, "session", SESSION_ABOUT, SESSION_LONG_ABOUT)
         .after_help(SESSION_LINES)
-        .arg(file_word(alloc))
+        .arg(file_word(alloc))?
+        .arg(quiet_word(alloc))
 }
 
 /// The command `look`, as words spell it.
 pub fn look_command<'a>(alloc: Global) -> Result<Command<'a>, AllocError> {
     named(alloc, "look", LOOK_ABOUT, LOOK_LONG_ABOUT)
         .after_help(LOOK_LINES)
-        .arg(file_word(alloc))
+        .arg(file_word(alloc))?
+        .arg(quiet_word(alloc))
 }
 
 /// The command `audit`, as words spell it.
@@ -142,20 +143,27 @@ fn file_word<'a>(alloc: Global) -> Arg<'a> {
     required_word(alloc, "FILE", "The file with the table")
 }
 
-/// How many pages a table has, a number of the type `u32` within bounds: what `value_parser!(u32).range(1..=1_048_576)` gives, said at
-/// once, since a range takes long to prove.
+/// The word that leaves out the sentences on standard error.
+fn quiet_word<'a>(alloc: Global) -> Arg<'a> {
+    Arg::new(alloc, "quiet")
+        .help("Says nothing on standard error of what is refused")
+        .action(ArgAction::SetTrue)
+        .long("quiet")
+}
+
+/// How many pages a table has: what `page_counts::pages_of` takes, which is asked once the words are parsed.
 fn pages_word<'a>(alloc: Global) -> Arg<'a> {
     required_word(
         alloc,
         "pages",
-        "How many pages of 4,096 bytes the table has: 16 to 1,048,576",
+        "How many pages of 4,096 bytes the table has: 16 to 1,048,576; or how many bytes, as 64M",
     )
     .long("pages")
     .value_name("N")
-    .value_parser(page_counts())
 }
 
-/// How many points a player needs, a number within its bounds as that of the pages is.
+/// How many points a player needs, a number of the type `u32` within bounds: what `value_parser!(u32).range(1..=1_000_000)` gives, said at
+/// once, since a range takes long to prove.
 fn goal_word<'a>(alloc: Global) -> Arg<'a> {
     Arg::new(alloc, "goal")
         .help("How many points win the game, 1 to 1,000,000: who has them while the other has not")
@@ -167,8 +175,4 @@ fn goal_word<'a>(alloc: Global) -> Arg<'a> {
 
 fn goals<'a>() -> ValueParser<'a> {
     ValueParser::signed(1, i64::from(MAX_POINTS))
-}
-
-fn page_counts<'a>() -> ValueParser<'a> {
-    ValueParser::signed(1, i64::from(MAX_PAGES))
 }

@@ -3,6 +3,7 @@ ghost use Rattle.std.specs.Prelude.{IfErr};
 ghost use Rattle.session.specs.Statuses.{IsStatusOfWords};
 
 use crate::game_words::{actions_command, moves_command, position_in};
+use crate::page_counts::{is_number, pages_of};
 use crate::table_words::{
     audit_command, create_command, grow_command, load_command, look_command, migrate_command,
     session_command,
@@ -35,13 +36,15 @@ pub enum Words {
         game: String,
         goal: Option<Goal>,
     },
-    /// A session over the table of this file.
+    /// A session over the table of this file, with or without sentences on standard error.
     Session {
         file: String,
+        is_quiet: bool,
     },
-    /// Questions about the table of this file.
+    /// Questions about the table of this file, with or without those sentences.
     Look {
         file: String,
+        is_quiet: bool,
     },
     /// Whether the table of this file is right.
     Audit {
@@ -92,7 +95,8 @@ const AFTER_HELP: &str = concat!(
     "A run takes its table: while one works on it, others end with status 4. Audits and looks may run side by side.",
 );
 
-const NO_NUMBER: &str = "the number behind `--pages` is one to ten digits";
+const NO_PAGES: &str =
+    "`--pages` takes 1 to 1048576 pages of 4,096 bytes, or as many bytes with K, M or G behind the number, as 64M";
 
 const NO_GOAL: &str = "the number behind `--goal` is one to ten digits";
 
@@ -109,8 +113,8 @@ pub fn words_of(alloc: Global, words: &[String]) -> Result<Words, Refusal>
 fn parsed<'a>(alloc: Global, words: &'a [String]) -> Result<Words, Error> {
     let mut command: Command<'a> = command(alloc)?;
     let matches = command.try_get_matches_from_mut(words)?;
-    if has_signed_pages(&matches) {
-        return Err(command.error(ErrorKind::ValueValidation, NO_NUMBER)?);
+    if has_no_pages(&matches) {
+        return Err(command.error(ErrorKind::ValueValidation, NO_PAGES)?);
     }
     if has_signed_goal(&matches) {
         return Err(command.error(ErrorKind::ValueValidation, NO_GOAL)?);
@@ -118,12 +122,17 @@ fn parsed<'a>(alloc: Global, words: &'a [String]) -> Result<Words, Error> {
     Ok(asked_in(alloc, &matches)?)
 }
 
-/// Whether what stands behind `--pages` is anything but one to ten digits.
-fn has_signed_pages(matches: &ArgMatches<'_>) -> bool {
+/// Whether what stands behind `--pages` is no number of pages.
+fn has_no_pages(matches: &ArgMatches<'_>) -> bool {
     match matches.subcommand() {
-        Some(("create" | "grow", inner)) => !is_number(inner.get_str("pages").unwrap_or("")),
+        Some(("create" | "grow", inner)) => pages_in(inner).is_none(),
         _ => false,
     }
+}
+
+/// The pages that stand behind `--pages`.
+fn pages_in(matches: &ArgMatches<'_>) -> Option<u32> {
+    pages_of(matches.get_str("pages").unwrap_or(""))
 }
 
 /// Whether what stands behind `--goal` is anything but one to ten digits.
@@ -132,11 +141,6 @@ fn has_signed_goal(matches: &ArgMatches<'_>) -> bool {
         Some(("load", inner)) => !is_number(inner.get_str("goal").unwrap_or("0")),
         _ => false,
     }
-}
-
-/// Whether a word is one to ten digits.
-fn is_number(word: &str) -> bool {
-    (1..=10).contains(&word.len()) && word.bytes().all(|byte| byte.is_ascii_digit())
 }
 
 /// What the command that was given asks for.
@@ -152,7 +156,7 @@ fn asked_for(alloc: Global, name: &str, inner: &ArgMatches<'_>) -> Result<Words,
     match name {
         "create" => Ok(Words::Create {
             file: given(alloc, inner, "FILE")?,
-            pages: inner.get_one("pages").unwrap_or(0),
+            pages: pages_in(inner).unwrap_or(0),
         }),
         "load" => Ok(Words::Load {
             file: given(alloc, inner, "FILE")?,
@@ -161,9 +165,11 @@ fn asked_for(alloc: Global, name: &str, inner: &ArgMatches<'_>) -> Result<Words,
         }),
         "session" => Ok(Words::Session {
             file: given(alloc, inner, "FILE")?,
+            is_quiet: inner.get_flag("quiet"),
         }),
         "look" => Ok(Words::Look {
             file: given(alloc, inner, "FILE")?,
+            is_quiet: inner.get_flag("quiet"),
         }),
         "audit" => Ok(Words::Audit {
             file: given(alloc, inner, "FILE")?,
@@ -173,7 +179,7 @@ fn asked_for(alloc: Global, name: &str, inner: &ArgMatches<'_>) -> Result<Words,
         }),
         "grow" => Ok(Words::Grow {
             file: given(alloc, inner, "FILE")?,
-            pages: inner.get_one("pages").unwrap_or(0),
+            pages: pages_in(inner).unwrap_or(0),
         }),
         "actions" => Ok(Words::Actions {
             game: given(alloc, inner, "GAME")?,

@@ -240,6 +240,35 @@ fn words_are_a_command_help_or_no_command(rt: HostRuntime) -> Result<(), Fail> {
     expect(pages_asked(alloc, &["rbgsolve", "make"])?, Err(2), 3)
 }
 
+#[test]
+fn pages_are_a_number_or_bytes_with_a_unit(rt: HostRuntime) -> Result<(), Fail> {
+    let alloc = rt.alloc();
+    let rows = [
+        ("1", Ok(1)),
+        ("016", Ok(16)),
+        ("1048576", Ok(1_048_576)),
+        ("4K", Ok(1)),
+        ("5000K", Ok(1_250)),
+        ("64M", Ok(16_384)),
+        ("4G", Ok(1_048_576)),
+        ("0", Err(2)),
+        ("1048577", Err(2)),
+        ("3K", Err(2)),
+        ("5G", Err(2)),
+        ("9999999999G", Err(2)),
+        ("00000000016", Err(2)),
+        ("+16", Err(2)),
+        ("16k", Err(2)),
+        ("M", Err(2)),
+        ("1.5G", Err(2)),
+    ];
+    for (row, (number, wanted)) in rows.iter().enumerate() {
+        let create = ["rbgsolve", "create", "a.table", "--pages", *number];
+        expect(pages_asked(alloc, &create)?, *wanted, row)?;
+    }
+    Ok(())
+}
+
 /// The points of the goal that the table is to get, or none.
 fn points_in(words: &Words) -> Option<u32> {
     match words {
