@@ -15,7 +15,7 @@ use root_pair::MAGIC;
 use solver::SolverFault;
 use std::alloc::{AllocError, Global};
 use std::fs::{self, File};
-use std::io::{self, ErrorKind, Read};
+use std::io::{self, BufWriter, ErrorKind, Read};
 use std::path::Path;
 
 /// The bytes of a page.
