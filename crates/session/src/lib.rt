@@ -11,7 +11,7 @@ mod mentions;
 pub mod migrating;
 pub mod moves_by_line;
 mod open;
-pub mod page_counts;
+mod page_counts;
 mod program;
 mod sessions;
 mod streams;
