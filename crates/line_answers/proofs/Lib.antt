@@ -1,4 +1,5 @@
 mod OneReply
 mod AskLemmas
 mod Telling
+mod Replying
 pub mod LookLemmas

@@ -5,13 +5,13 @@ ghost use Rattle.std.specs.Io.KnownBytes.{Appends};
 ghost use Rattle.game_file.specs.Calls.{IsAsked};
 ghost use Rattle.game_file.specs.Kept.{Kept};
 ghost use Rattle.retrograde.specs.Stored.{Stored, IsTable};
-ghost use Rattle.solver.specs.Listings.{NextCause};
+ghost use Rattle.solver.specs.Listings.{BeginCause, NextCause};
 ghost use Rattle.solver.specs.Solvers.{state, IsReady};
 ghost use Rattle.solver.specs.Units.{units_in};
 ghost use Rattle.solver.specs.declared.listing.Listing.{Listing};
 ghost use Rattle.solver.specs.declared.fault.SolverFault.{SolverFault};
 ghost use Rattle.line_answers.specs.Answered.{status_of_fault};
-ghost use Rattle.line_answers.specs.Listed.{IsNextText};
+ghost use Rattle.line_answers.specs.Listed.{IsNextText, IsNextTold, IsNoneOpen, IsNext, IsListingReplied};
 ghost use Rattle.line_answers.specs.Told.{fault_line};
 
 use crate::input::ListingLine;
@@ -33,16 +33,18 @@ pub fn put_listing<F: Versions, W: Write, E: Write>(
     told: &mut E,
 ) -> io::Result<u8>
     ensures ready { IsReady solver.old → IsReady solver.new }
+    ensures asked { IsReady solver.old → IsTrue (state solver.old).disk.honest → IsAsked F.stores (state solver.old) (state solver.new) }
+    ensures replied { IsReady solver.old → IsTrue (state solver.old).disk.honest → IfOk result (λ status. (text : List ℕ)
+        × IsListingReplied F.state F.is_version line (F.is_used_up solver.old.file) solver.old.file solver.new.file
+        listings.old.items listings.new.items status text
+        × Appends (W.contents out.old) (W.contents out.new) text) }
 {
     match line {
         ListingLine::Begin => match begin(solver, listings) {
             Ok(()) => put_done(out, b"listing\n"),
             Err(fault) => put_fault(fault, out, told),
         },
-        ListingLine::Next(count) => match listings.last_mut() {
-            Some(listing) => put_next(alloc, solver, listing, count, out, told),
-            None => put_done(out, b"usage\n"),
-        },
+        ListingLine::Next(count) => put_next_of_last(alloc, solver, listings, count, out, told),
         ListingLine::End => {
             if end(solver, listings) {
                 put_done(out, b"ended\n")
@@ -82,6 +84,7 @@ fn begin<F: Versions>(
         × (IsReady solver.old → IsTrue (state solver.old).disk.honest → (kept : Kept) → (state solver.old).kept ≡ Some kept
         → F.is_version listing.version kept.table solver.new.file)) }
     ensures refused { OnErr result (listings.new.items ≡ listings.old.items) }
+    ensures cause { IfErr result (λ why. BeginCause (state solver.old) (F.is_used_up solver.old.file) why ⊎ (why ≡ SolverFault.OutOfMemory)) }
 {
     let listing = solver.list_begin()?;
     match listings.push(listing) {
@@ -107,7 +110,7 @@ fn next_text<F: Versions>(
     ensures same { listing.new.version ≡ listing.old.version }
     ensures text { IsReady solver.old → IsTrue (state solver.old).disk.honest → (table : Stored (List ℕ)) → IsTable table
         → F.is_version listing.old.version table solver.old.file
-        → IfOk result (λ text. IsNextText table listing.old.next (units_in count) text.items (state solver.old).kept) }
+        → IfOk result (λ text. IsNextText table listing.old.next listing.new.next (units_in count) text.items (state solver.old).kept) }
     ensures cause { (table : Stored (List ℕ)) → IsReady solver.old → IsSome (state solver.old).kept
         → F.is_version listing.old.version table solver.old.file → IfErr result (NextCause (state solver.old) (state solver.new)) }
 {
@@ -131,15 +134,37 @@ fn put_next<F: Versions, W: Write, E: Write>(
     ensures asked { IsReady solver.old → IsAsked F.stores (state solver.old) (state solver.new) }
     ensures lasts { F.lasts solver.old.file solver.new.file }
     ensures same { listing.new.version ≡ listing.old.version }
-    ensures replied { IsReady solver.old → IsTrue (state solver.old).disk.honest → IsSome (state solver.old).kept
-        → (table : Stored (List ℕ)) → IsTable table → F.is_version listing.old.version table solver.old.file
-        → IfOk result (λ status. (line : List ℕ) × Appends (W.contents out.old) (W.contents out.new) line
-        × (((status ≡ 0) × IsNextText table listing.old.next (units_in count) line (state solver.old).kept)
-        ⊎ ((why : SolverFault) × (status ≡ status_of_fault why) × (line ≡ fault_line why)
-        × NextCause (state solver.old) (state solver.new) why))) }
+    ensures replied { IsReady solver.old → IsTrue (state solver.old).disk.honest → IfOk result (λ status. (line : List ℕ)
+        × (IsSome (state solver.old).kept → (table : Stored (List ℕ)) → IsTable table → F.is_version listing.old.version table solver.old.file
+        → IsNextTold F.state F.is_version (units_in count) solver.old.file solver.new.file table listing.old.next listing.new.next status line)
+        × Appends (W.contents out.old) (W.contents out.new) line) }
 {
     match next_text(alloc, solver, listing, count) {
         Ok(text) => put_done(out, &text),
         Err(fault) => put_fault(fault, out, told),
     }
+}
+
+/// Writes the lines of the next rows of the listing that was begun last, or the refusal; `usage` where none is open.
+fn put_next_of_last<F: Versions, W: Write, E: Write>(
+    alloc: Global,
+    solver: &mut FileSolver<F>,
+    listings: &mut Vec<Listing<F::Version>>,
+    count: Units,
+    out: &mut W,
+    told: &mut E,
+) -> io::Result<u8>
+    ensures ready { IsReady solver.old → IsReady solver.new }
+    ensures asked { IsReady solver.old → IsAsked F.stores (state solver.old) (state solver.new) }
+    ensures replied { IsReady solver.old → IsTrue (state solver.old).disk.honest → IfOk result (λ status. (text : List ℕ)
+        × (IsNoneOpen listings.old.items listings.new.items status text
+        ⊎ IsNext F.state F.is_version (units_in count) solver.old.file solver.new.file listings.old.items listings.new.items status text)
+        × Appends (W.contents out.old) (W.contents out.new) text) }
+{
+    let Some(mut listing) = listings.pop() else {
+        return put_done(out, b"usage\n");
+    };
+    let written = put_next(alloc, solver, &mut listing, count, out, told);
+    listings.push_reserved(listing);
+    written
 }
