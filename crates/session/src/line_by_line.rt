@@ -12,6 +12,15 @@ use solver::{FileSolver, Listing, SolverFault};
 use std::alloc::Global;
 use std::io::{ErrorKind, Read, Write};
 
+/// Which lines are taken.
+#[derive(Clone, Copy, PartialEq, Eq, Drop)]
+pub enum Lines {
+    /// All lines of a session.
+    Session,
+    /// Those that ask alone: nothing is written to the disk.
+    Look,
+}
+
 /// What a session may do, and what it keeps.
 enum Manner<V> {
     /// It works, asks and keeps listings; those that are open stand here.
@@ -30,7 +39,7 @@ pub fn session_over<F: Versions, R: Read, W: Write, E: Write>(
     out: &mut W,
     told: &mut E,
 ) -> (u8, F::Device) {
-    lines_over::<F, R, W, E>(alloc, disk, Manner::Work(Vec::new(alloc)), input, out, told)
+    lines_over::<F, R, W, E>(alloc, disk, Lines::Session, input, out, told)
 }
 
 /// The same for a session that only looks: it writes nothing to the disk.
@@ -41,20 +50,24 @@ pub fn look_over<F: Versions, R: Read, W: Write, E: Write>(
     out: &mut W,
     told: &mut E,
 ) -> (u8, F::Device) {
-    lines_over::<F, R, W, E>(alloc, disk, Manner::Look, input, out, told)
+    lines_over::<F, R, W, E>(alloc, disk, Lines::Look, input, out, told)
 }
 
-/// Answers the lines in this manner.
-fn lines_over<F: Versions, R: Read, W: Write, E: Write>(
+/// The same where these lines are taken.
+pub fn lines_over<F: Versions, R: Read, W: Write, E: Write>(
     alloc: Global,
     disk: F::Device,
-    mut manner: Manner<F::Version>,
+    lines: Lines,
     input: &mut R,
     out: &mut W,
     told: &mut E,
 ) -> (u8, F::Device) {
     match FileSolver::<F>::open(alloc, disk) {
         Ok(mut solver) => {
+            let mut manner = match lines {
+                Lines::Session => Manner::Work(Vec::new(alloc)),
+                Lines::Look => Manner::Look,
+            };
             let status = answer_all(alloc, &mut solver, &mut manner, input, out, told);
             match manner {
                 Manner::Work(listings) => give_back(&mut solver, listings),
@@ -62,13 +75,7 @@ fn lines_over<F: Versions, R: Read, W: Write, E: Write>(
             }
             (status, solver.close())
         }
-        Err(refused) => {
-            match manner {
-                Manner::Work(listings) => listings.destroy_empty(),
-                Manner::Look => {}
-            }
-            (refuse(refused.fault, out, told), refused.disk)
-        }
+        Err(refused) => (refuse(refused.fault, out, told), refused.disk),
     }
 }
 

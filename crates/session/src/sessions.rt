@@ -1,23 +1,14 @@
 //! The commands `session` and `look`: lines of standard input, answered on the table of a file.
 
 use crate::files::{TO_CHANGE, TO_READ, disk_over, refused_opening};
-use crate::line_by_line::{look_over, session_over};
+use crate::line_by_line::{Lines, lines_over};
 use crate::open::{Purpose, opened};
 use crate::program::status_of_refused;
 use file_disk::FileDisk;
 use printed_lines::refused::Refused;
 use recover::TableFile;
 use std::alloc::Global;
-use std::io::{self, BufWriter, Read, Write};
-
-/// What is answered over a disk, and whether it may change the table.
-#[derive(Clone, Copy, PartialEq, Eq, Drop)]
-enum Lines {
-    /// All lines of a session.
-    Session,
-    /// Those that ask alone.
-    Look,
-}
+use std::io::{self, BufWriter};
 
 /// A session over the table of a file, on standard input and output. A quiet one says nothing on standard error of what is refused.
 pub fn session_of_file(rt: &HostRuntime, alloc: Global, name: &str, is_quiet: bool) -> u8 {
@@ -47,41 +38,25 @@ fn answer(rt: &HostRuntime, alloc: Global, disk: FileDisk, lines: Lines, is_quie
     let Ok(mut out) = BufWriter::new(alloc, io::writer(rt)) else {
         return status_of_refused(rt, Refused::OutOfMemory);
     };
-    if is_quiet {
-        answer_over(
+    let mut input = rt.stdin();
+    let (status, _disk) = if is_quiet {
+        lines_over::<TableFile<FileDisk>, _, _, _>(
             alloc,
             disk,
             lines,
-            &mut rt.stdin(),
+            &mut input,
             &mut out,
             &mut io::sink(),
         )
     } else {
-        answer_over(
+        lines_over::<TableFile<FileDisk>, _, _, _>(
             alloc,
             disk,
             lines,
-            &mut rt.stdin(),
+            &mut input,
             &mut out,
             &mut rt.stderr(),
         )
-    }
-}
-
-/// The same over any input and output.
-fn answer_over<R: Read, W: Write, E: Write>(
-    alloc: Global,
-    disk: FileDisk,
-    lines: Lines,
-    input: &mut R,
-    out: &mut W,
-    told: &mut E,
-) -> u8 {
-    let (status, _disk) = match lines {
-        Lines::Session => {
-            session_over::<TableFile<FileDisk>, _, _, _>(alloc, disk, input, out, told)
-        }
-        Lines::Look => look_over::<TableFile<FileDisk>, _, _, _>(alloc, disk, input, out, told),
     };
     status
 }
