@@ -128,9 +128,14 @@ class Tables(Case):
             rbgtable.Table(self.file("earlier", bytes(data)), WHERE)
         self.assertEqual((raised.exception.code, raised.exception.status), ("E5", 1))
 
-    def test_a_table_that_is_taken(self):
+    def test_many_look_and_none_while_a_session_works(self):
         path = self.table("take")
-        with rbgtable.Table(path, WHERE):
+        with rbgtable.Table(path, WHERE) as one, rbgtable.Table(path, WHERE) as other:
+            self.assertEqual(one.value(0), other.value(0))
+        with subprocess.Popen([WHERE, "session", "--", path], stdin=subprocess.PIPE, stdout=subprocess.PIPE) as session:
+            session.stdin.write(b"status\n")
+            session.stdin.flush()
+            self.assertTrue(session.stdout.readline())
             with self.assertRaises(rbgtable.Refused) as raised:
                 rbgtable.Table(path, WHERE)
             self.assertEqual(raised.exception.status, 4)
