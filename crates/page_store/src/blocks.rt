@@ -71,8 +71,11 @@ fn turn_block(
     if !noted {
         return false;
     }
-    let mut goes_on = false;
     let start = BLOCK * block;
+    if start >= marks.len() {
+        return false;
+    }
+    let mut goes_on = false;
     for page in start..start + BLOCK {
         let here = turn_page(marks, page, fresh, released, waiting);
         goes_on = either(goes_on, here);
@@ -122,8 +125,11 @@ fn commit_block(marks: &mut Vec<Mark>, block: usize, noted: bool, holders: &[Hol
     if !noted {
         return false;
     }
-    let mut goes_on = false;
     let start = BLOCK * block;
+    if start >= marks.len() {
+        return false;
+    }
+    let mut goes_on = false;
     for page in start..start + BLOCK {
         let here = commit_page(marks, page, holders);
         goes_on = either(goes_on, here);

@@ -1,5 +1,5 @@
 use Rattle.std.proofs.Common.{◌≡◌, ℕ, ◌+◌, ◌*◌, arith, subst}
-use Rattle.page_store.proofs.Turning.{turned_idle, part_none, part_then, part_idle}
+use Rattle.page_store.proofs.Turning.{turned_idle, part_none, part_then, part_idle, past_rests}
 use Rattle.page_store.specs.Blocks.{ArePartTurned}
 use Rattle.page_store.specs.declared.marks.Mark.{Mark}
 use Rattle.page_store.specs.Marks.{turned}
@@ -15,6 +15,10 @@ loop-page-preserved c =
 
 pub returns-then-not-noted : goal.returns-then-not-noted
 returns-then-not-noted c = part_idle _ _ _ _ (turned_idle c.args.fresh c.args.released c.args.waiting) (c.requires.rest c.if-not-noted.true)
+
+pub returns-then-start-len : goal.returns-then-start-len
+returns-then-start-len c =
+    part_idle _ _ _ _ (turned_idle c.args.fresh c.args.released c.args.waiting) (λ p low high. past_rests c.args.marks.now.items p (omega (arith, low, c.if-start-len.true, c.len.ensures)))
 
 pub returns : goal.returns
 returns c =
