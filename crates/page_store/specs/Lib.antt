@@ -1,5 +1,4 @@
 pub use Rattle.sector_disk.specs.Disk
-pub mod Blocks
 pub mod Cache
 pub mod Causes
 pub mod Holds

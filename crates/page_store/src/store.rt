@@ -1,20 +1,18 @@
 //! A store of pages on a disk, with a mark for each page in memory.
 ghost use Rattle.std.specs.Prelude.{◌≡◌, ◌≤◌, ◌<◌, ◌*◌, ℕ, length, IfOk, IfErr};
 ghost use Rattle.page_store.specs.declared.marks.Mark.TheVariants.{Committed, Waiting};
-ghost use Rattle.page_store.specs.Blocks.{AreNoted};
 ghost use Rattle.page_store.specs.Cache.{IsCacheOf};
 ghost use Rattle.page_store.specs.Causes.{StoreOpenCause};
 ghost use Rattle.page_store.specs.Holds.{holds_of, holders_at, none as none_of};
 ghost use Rattle.page_store.specs.Marks.{mark as mark_of};
 ghost use Rattle.page_store.specs.Store.{store_of, IsSoundStore, IsOpened, IsRefusedStore};
 
-use crate::blocks::{all_noted, put_mark, turn, turn_committed};
 use crate::cache::PageCache;
 use crate::holds::{Hold, Holders};
 use crate::limits::MAX_PAGES;
 use crate::marks::{
     count_free, end_hold, find_any, free_left, grown_holders, grown_marks, is_kept, let_go,
-    take_hold,
+    put_mark, take_hold, turn, turn_committed,
 };
 use crate::page::{get_page, put_page};
 use crate::room::make_room;
@@ -32,8 +30,6 @@ pub struct PageStore<D: SectorDisk> {
     disk: D,
     root: Root,
     marks: Vec<Mark>,
-    /// In which blocks of pages something may be going on.
-    noted: Vec<bool>,
     /// Which holds are taken.
     taken: Holders,
     /// Which holds need each page.
@@ -45,7 +41,6 @@ pub struct PageStore<D: SectorDisk> {
     /// Pages that need not be read again.
     cache: PageCache,
     ghost sound: { IsSoundStore (store_of (D.disk disk) (D.failures disk) root.bytes marks.items closed (holds_of taken holders.items)) },
-    ghost blocks: { AreNoted marks.items noted.items },
     ghost cached: { IsCacheOf (store_of (D.disk disk) (D.failures disk) root.bytes marks.items closed (holds_of taken holders.items)) cache },
 }
 
@@ -95,15 +90,13 @@ impl<D: SectorDisk> PageStore<D> {
         let capacity = (disk.sectors() / 8).min(u64::from(MAX_PAGES));
         match (
             unmarked(alloc, capacity),
-            all_noted(alloc),
             unheld(alloc, capacity),
             PageCache::new(alloc, pages),
         ) {
-            (Ok(marks), Ok(noted), Ok(holders), Ok(cache)) => Ok(PageStore {
+            (Ok(marks), Ok(holders), Ok(cache)) => Ok(PageStore {
                 disk,
                 root,
                 marks,
-                noted,
                 taken: Holders::none(),
                 holders,
                 next: 0,
@@ -164,18 +157,12 @@ impl<D: SectorDisk> Pages for PageStore<D> {
         if page as usize >= self.marks.len() || self.marks[page as usize] != Mark::Waiting {
             return Err(PageFault::Damaged);
         }
-        put_mark(&mut self.marks, &mut self.noted, page, Mark::Committed);
+        put_mark(&mut self.marks, page, Mark::Committed);
         Ok(())
     }
 
     fn seal(&mut self) {
-        turn(
-            &mut self.marks,
-            &mut self.noted,
-            Mark::Fresh,
-            Mark::Released,
-            Mark::Free,
-        );
+        turn(&mut self.marks, Mark::Fresh, Mark::Released, Mark::Free);
         self.cache.clear();
     }
 
@@ -221,7 +208,7 @@ impl<D: SectorDisk> Pages for PageStore<D> {
             Some(page) => page,
             None => return Err(PageFault::TableFull),
         };
-        put_mark(&mut self.marks, &mut self.noted, page, Mark::Fresh);
+        put_mark(&mut self.marks, page, Mark::Fresh);
         self.next = page;
         Ok(page)
     }
@@ -250,7 +237,7 @@ impl<D: SectorDisk> Pages for PageStore<D> {
 
     fn release(&mut self, page: u32) {
         let now = let_go(self.marks[page as usize]);
-        put_mark(&mut self.marks, &mut self.noted, page, now);
+        put_mark(&mut self.marks, page, now);
         self.cache.forget(page);
     }
 
@@ -261,7 +248,7 @@ impl<D: SectorDisk> Pages for PageStore<D> {
         match publish(&mut self.disk, root) {
             Ok(()) => {
                 self.root = Root { bytes: *root };
-                turn_committed(&mut self.marks, &mut self.noted, &self.holders);
+                turn_committed(&mut self.marks, &self.holders);
                 Ok(())
             }
             Err(fault) => {
@@ -308,13 +295,7 @@ impl<D: SectorDisk> Pages for PageStore<D> {
     }
 
     fn discard(&mut self) {
-        turn(
-            &mut self.marks,
-            &mut self.noted,
-            Mark::Free,
-            Mark::Committed,
-            Mark::Waiting,
-        );
+        turn(&mut self.marks, Mark::Free, Mark::Committed, Mark::Waiting);
         self.cache.clear();
     }
 
