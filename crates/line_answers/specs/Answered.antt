@@ -130,4 +130,5 @@ module _ (Stores : ℕ → Layout) where
   IsReplied asked.Help old new status line = (new ≡ old) × (status ≡ 0) × (line ≡ codes "usage" ++ 10 ∷ [])
   IsReplied asked.Status old new status line = (new ≡ old) × (status ≡ 0) × SaysStatus old line
   IsReplied (asked.Work units) old new status line = IsWorkReplied (units_in units) old new status line
-  IsReplied (asked.Question about) old new status line = IsAsked Stores old new × IsAnsweredOrRefused (IsAnswerTo about) (QuestionCause about old new) old status line
+  IsReplied (asked.Question about) old new status line =
+      IsAsked Stores old new × IsAnsweredOrRefused (IsAnswerTo about) (QuestionCause about old new) old status line

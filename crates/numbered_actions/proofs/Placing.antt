@@ -7,8 +7,8 @@ use Rattle.rbg_text.specs.Lex.{cons_tokens}
 use Rattle.rbg_text.specs.View.{token_view}
 use Rattle.rbg_text.specs.aid.View.{with_front}
 use Rattle.numbered_actions.specs.declared.lexemes.Lexeme.{Lexeme}
-use Rattle.numbered_actions.specs.Placed.{IsPlaced, Stand}
-use Rattle.numbered_actions.specs.Listed.{Begins}
+use Rattle.numbered_actions.specs.Placed.{IsLexeme, Stand}
+use Rattle.numbered_actions.specs.Listed.{AreTokensFrom}
 use Rattle.numbered_actions.specs.Tokens.{tokens_of}
 
 -- a text is what stands before a part, and the part
@@ -81,7 +81,7 @@ pub one_more_placed : (text old new : Text) (found longer : List Lexeme) (l : Le
     → longer ≡ found ++ l ∷ [] → (more : List Lexeme) → Stand text more new → Stand text (longer ++ more) text
 one_more_placed text old new found longer l last next t before there token at bytes gap more_found more stand =
     let begins : drop (next - length (token_text t)) text ≡ drop l.at text = ap (λ n. drop n text) (sym at) in
-    let placed : IsPlaced text l old new = record {
+    let placed : IsLexeme text l old new = record {
       between = subst (Gap old) begins there.between;
       takes = subst (λ u. Takes (drop l.at text) u new) (sym token) (subst (λ s. Takes s t new) begins there.takes);
       bytes_are = bytes ∙ ap (λ s. take (length (token_text t)) s) (sym begins) ∙ there.bytes_are ∙ ap token_text (sym token);
@@ -100,7 +100,7 @@ stand_drop text ls tail zero stand = (tail, stand)
 stand_drop text [] tail (suc k) stand = (tail, stand)
 stand_drop text (l ∷ more) tail (suc k) stand = stand_drop text more stand.0 k stand.2
 
-pub stand_begins : (text : Text) (l : Lexeme) (more : List Lexeme) (tail : Text) → Stand text (l ∷ more) tail → Begins (drop l.at text) (tokens_of (l ∷ more))
+pub stand_begins : (text : Text) (l : Lexeme) (more : List Lexeme) (tail : Text) → Stand text (l ∷ more) tail → AreTokensFrom (drop l.at text) (tokens_of (l ∷ more))
 stand_begins text l more tail stand = (stand.0, stand.1.takes, stand_splits text more stand.0 stand.2)
 
 -- a token more that was lexed

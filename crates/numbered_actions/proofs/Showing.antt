@@ -11,8 +11,8 @@ use Rattle.numbered_actions.specs.declared.stretches.Stretch.{Stretch}
 use Rattle.numbered_actions.specs.Written.{Spot, Cut, cut_at}
 use Rattle.numbered_actions.specs.Placed.{Stand}
 use Rattle.numbered_actions.specs.Tokens.{tokens_of, tokens_from, cut_of}
-use Rattle.numbered_actions.specs.Listed.{Begins, Shows, last, further, one_line, IsActionLine, AreActionLines}
-use Rattle.numbered_actions.specs.aid.Lines.{with_gap, line_of, IsLineOf}
+use Rattle.numbered_actions.specs.Listed.{AreTokensFrom, Shows, last, further, one_line, IsActionLine, AreActionLines}
+use Rattle.numbered_actions.specs.aid.Lines.{with_gap, line_of, IsLineOfStretch}
 use Rattle.numbered_actions.proofs.Placing.{stand_drop, stand_begins}
 use Rattle.numbered_actions.proofs.Cutting.{each_begins, each_fits}
 
@@ -72,7 +72,7 @@ action_line text tokens s l number stand at begins within fits =
     let placed : Stand text (l ∷ more) there.0 = subst (λ ls. Stand text ls there.0) here there.1 in
     record {
       at = l.at;
-      begins = subst (λ ls. Begins (drop l.at text) (tokens_of ls)) (sym here) (stand_begins text l more there.0 placed);
+      begins = subst (λ ls. AreTokensFrom (drop l.at text) (tokens_of ls)) (sym here) (stand_begins text l more there.0 placed);
       shown = l.bytes.now ++ flat_map with_gap (take n more);
       shows = subst (λ ts. Shows (drop l.at text) ts (l.bytes.now ++ flat_map with_gap (take n more))) (sym (cut_off tokens s l here begins fits))
           (shown text l more there.0 n placed);
@@ -88,7 +88,7 @@ got f (y ∷ xs) (suc k) x at lt = got f xs k x at (omega (arith, lt))
 pub one_line_more : (text : Text) (tokens : List Lexeme) (actions : List Stretch) (spots : List Spot) (i : ℕ) (lines longer : List ℕ) (s : Stretch)
     → Stand text tokens text → map (cut_of tokens) actions ≡ map cut_at spots → All (λ stretch. stretch.to ≤ length tokens) actions
     → s ≡ get_or actions i s → i < length actions → AreActionLines text (take i (map (cut_of tokens) actions)) 1 lines
-    → (line : List ℕ) × IsLineOf text tokens s (i + 1) line × (longer ≡ lines ++ line)
+    → (line : List ℕ) × IsLineOfStretch text tokens s (i + 1) line × (longer ≡ lines ++ line)
     → AreActionLines text (take (i + 1) (map (cut_of tokens) actions)) 1 longer
 one_line_more text tokens actions spots i lines longer s stand cuts fits at lt before (line, is_line, more) =
     let next : i + 1 ≡ 1 + i = omega arith in

@@ -21,9 +21,9 @@ abbrev pub place_of : Text → ℕ → LineColumn
 place_of text at = fold behind_byte (record { line = 1; column = 1 }) (take at text)
 
 -- the text begins with the first of these tokens, and all of them are its tokens to the end
-abbrev pub Begins : Text → Tokens → Type 0
-Begins text [] = ⊥
-Begins text (t ∷ more) = (rest : Text) × Takes text t rest × Splits rest more
+abbrev pub AreTokensFrom : Text → Tokens → Type 0
+AreTokensFrom text [] = ⊥
+AreTokensFrom text (t ∷ more) = (rest : Text) × Takes text t rest × Splits rest more
 
 -- what stands between two tokens, in one line: as it is, or one blank where a line ends in it
 abbrev pub one_line : Text → List ℕ
@@ -42,7 +42,7 @@ head_of text number at = decimal number ++ 32 ∷ (decimal (place_of text at).li
 -- the line of an action: its number, where it begins in the text, and its tokens
 pub record IsActionLine (text : Text) (cut : Cut) (number : ℕ) (line : List ℕ) : Type 0 where
   pub at : ℕ
-  pub begins : Begins (drop at text) cut.here
+  pub begins : AreTokensFrom (drop at text) cut.here
   pub shown : List ℕ
   pub shows : Shows (drop at text) (take (length cut.here - length cut.behind) cut.here) shown
   pub written : line ≡ head_of text number at ++ (shown ++ 10 ∷ [])

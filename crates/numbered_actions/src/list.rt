@@ -9,7 +9,7 @@ ghost use Rattle.numbered_actions.specs.Listed.{ListsActions, AreActionLines, he
 ghost use Rattle.numbered_actions.specs.Placed.{Stand};
 ghost use Rattle.numbered_actions.specs.Tokens.{tokens_of, cut_of};
 ghost use Rattle.numbered_actions.specs.Written.{Spot, spots_of, cut_at};
-ghost use Rattle.numbered_actions.specs.aid.Lines.{line_of, IsLineOf};
+ghost use Rattle.numbered_actions.specs.aid.Lines.{line_of, IsLineOfStretch};
 
 use crate::lexemes::{Lexeme, lexemes};
 use crate::lines::{LineColumn, line_column, put_tokens};
@@ -98,7 +98,7 @@ fn put_action(
 ) -> Result<(), AllocError>
     requires some { action.from < action.to }
     requires within { action.to ≤ length tokens.now }
-    ensures { IfOk result (λ _. (line : List ℕ) × IsLineOf text.now tokens.now action number line × (lines.new.items ≡ lines.old.items ++ line)) }
+    ensures { IfOk result (λ _. (line : List ℕ) × IsLineOfStretch text.now tokens.now action number line × (lines.new.items ≡ lines.old.items ++ line)) }
 {
     let first = &tokens[action.from];
     let more = &tokens[action.from + 1..action.to];

@@ -15,6 +15,6 @@ abbrev pub line_of : Text → ℕ → Lexeme → List Lexeme → List ℕ
 line_of text number first more = head_of text number first.at ++ ((first.bytes.now ++ flat_map with_gap more) ++ 10 ∷ [])
 
 -- the line of the action that the stretch cuts
-abbrev pub IsLineOf : Text → List Lexeme → Stretch → ℕ → List ℕ → Type 0
-IsLineOf text tokens action number line = (first : Lexeme) × (first ≡ get_or tokens action.from first)
+abbrev pub IsLineOfStretch : Text → List Lexeme → Stretch → ℕ → List ℕ → Type 0
+IsLineOfStretch text tokens action number line = (first : Lexeme) × (first ≡ get_or tokens action.from first)
     × (line ≡ line_of text number first (take (action.to - (action.from + 1)) (drop (action.from + 1) tokens)))
