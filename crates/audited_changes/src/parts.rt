@@ -1,12 +1,11 @@
 //! The parts of a table as lists, and the moves of its positions.
-use game_table::Source;
+use game_table::{MAX_POSITIONS, Source};
 use legal_moves::MoveSource;
 use position_pack::Packed;
 use rbg_game::roles::{Player, Role};
 use retrograde::Record;
 use std::alloc::Global;
 use table::{MemTable, Table};
-use table_work::MAX_POSITIONS;
 
 /// An edge: a move leads to the one number from the other.
 #[derive(Clone, Copy, PartialEq, Eq, Debug, Drop)]
@@ -69,7 +68,7 @@ fn put_number(table: &mut MemTable, number: u32, parts: &mut Parts) -> anyhow::R
 pub fn worked(alloc: Global, source: &Source, units: u32) -> anyhow::Result<Parts> {
     let mut table = MemTable::new(alloc, &source.start())?;
     if table.counts().known <= MAX_POSITIONS {
-        table_work::work(alloc, source.moves(), &mut table, units)?;
+        game_table::work(alloc, source.moves(), &mut table, units)?;
     }
     let mut parts = Parts {
         positions: Vec::new(alloc),

@@ -2,6 +2,7 @@
 use crate::parts::{Edge, Parts};
 use audit::Verdict;
 use game_file::GameFile;
+use game_table::MAX_POSITIONS;
 use page_store::PageStore;
 use position_pack::{Packed, PackingKind};
 use retrograde::Record;
@@ -9,7 +10,6 @@ use sector_disk::MemDisk;
 use solver::{FileSolver, SolverFault};
 use std::alloc::Global;
 use table::Table;
-use table_work::MAX_POSITIONS;
 use tree_file::TreeFile;
 
 /// A table in a file on a disk in memory.

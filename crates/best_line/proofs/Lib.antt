@@ -1,3 +1,5 @@
+pub mod FoundLemmas
+pub mod FaultLemmas
 pub mod Passing
 pub mod ListLemmas
 pub mod Joining

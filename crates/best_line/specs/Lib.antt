@@ -1,9 +1,16 @@
+pub use Rattle.legal_moves.specs.Compiled
+pub use Rattle.legal_moves.specs.Listed
+pub use Rattle.legal_moves.specs.Moves as LegalMovesMoves
+pub use Rattle.legal_moves.specs.Sources
 pub use Rattle.retrograde.specs.Changes
 pub use Rattle.retrograde.specs.Sound
 pub use Rattle.retrograde.specs.Stored
 pub use Rattle.retrograde.specs.View
 pub use Rattle.table.specs.Faults
 pub use Rattle.table.specs.Memory
+pub mod Moves
+pub mod KnownCauses
+pub mod Order
 pub mod Values
 pub mod Rows
 pub mod Lines

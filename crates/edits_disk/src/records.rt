@@ -1,6 +1,6 @@
 //! The record that a table in a file keeps of a position, as bytes.
 ghost use Rattle.std.specs.Prelude.{◌≡◌, length, IfSome};
-ghost use Rattle.record_bytes.specs.Bytes.{IsRecord};
+ghost use Rattle.game_file.specs.Bytes.{IsRecord};
 
 use retrograde::Record;
 
@@ -9,5 +9,5 @@ pub fn read_record(bytes: &[u8]) -> Option<Record>
     requires { length bytes.now ≡ 16 }
     ensures { IfSome result (IsRecord bytes.now) }
 {
-    record_bytes::read_record(bytes)
+    game_file::read_record(bytes)
 }

@@ -3,14 +3,13 @@ ghost use Rattle.std.specs.Prelude.{◌≡◌, ◌↔◌, ◌^◌, ◌≤◌, tr
 ghost use Rattle.legal_moves.specs.Compiled.{compiled_game, packing_kind, compiled_goal};
 ghost use Rattle.legal_moves.specs.Sources.{IsWideAt, graph_of};
 ghost use Rattle.retrograde.specs.Sound.{IsLocallySound};
-ghost use Rattle.table_work.specs.Work.{AreDone, StopsWith};
+ghost use Rattle.game_table.specs.Work.{AreDone, StopsWith};
 ghost use Rattle.game_table.specs.Tables.{ArePositions, IsWorkOf};
 
-use game_table::Source;
+use game_table::{Source, StepFault};
 use legal_moves::MoveSource;
 use std::alloc::Global;
 use table::{Table, TableFault};
-use table_work::StepFault;
 
 /// `done` of `work`.
 pub fn work<M: MoveSource, T: Table>(
@@ -26,7 +25,7 @@ pub fn work<M: MoveSource, T: Table>(
     ensures { IfOk result (λ done. AreDone (M.graph source.now) (M.is_wide source.now) units (T.stored table.old) done
         (T.stored table.new)) }
 {
-    table_work::work(alloc, source, table, units)
+    game_table::work(alloc, source, table, units)
 }
 
 /// `cause` of `work`.
@@ -42,7 +41,7 @@ pub fn refused_work<M: MoveSource, T: Table>(
     requires sound { IsLocallySound (M.graph source.now) (M.is_wide source.now) (T.stored table.old) }
     ensures { IfErr result (StopsWith (M.graph source.now) (M.is_wide source.now) (T.stored table.old) asked) }
 {
-    table_work::work(alloc, source, table, asked)
+    game_table::work(alloc, source, table, asked)
 }
 
 /// `works` of `Source::work`.

@@ -1,6 +1,9 @@
 pub use Rattle.retrograde.specs.Stored
 pub use Rattle.root_pair.specs.Root
 pub use Rattle.sector_disk.specs.Disk
+pub mod Bytes
+pub mod Numbers
+pub mod Fields
 pub mod Kept
 pub mod State
 pub mod Stops

@@ -1,2 +1,6 @@
+pub mod Records
+pub mod Goals
+pub mod Packings
+pub mod Words
 pub mod Loading
 pub mod Growing

@@ -10,9 +10,10 @@ pub use Rattle.rbg_read.specs.Reading
 pub use Rattle.rbg_text.specs.Token
 pub use Rattle.retrograde.specs.Sound
 pub use Rattle.retrograde.specs.Stored
+pub use Rattle.retrograde.specs.View
 pub use Rattle.table.specs.Faults
 pub use Rattle.table.specs.Fitting
-pub use Rattle.table_work.specs.Work
+pub mod Work
 pub mod Tables
 pub mod Texts
 pub mod aid

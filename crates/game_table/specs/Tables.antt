@@ -6,7 +6,7 @@ use Rattle.position_pack.specs.Shape.{shape_of}
 use Rattle.position_pack.specs.Packings.{length_by}
 use Rattle.legal_moves.specs.Sources.{IsPositionBytes, IsWideAt, graph_of}
 use Rattle.retrograde.specs.Stored.{Stored}
-use Rattle.table_work.specs.Work.{AreDone}
+use Rattle.game_table.specs.Work.{AreDone}
 
 -- each stored position is the bytes of a position of the game, by the packing of this kind
 abbrev pub ArePositions : PackingKind → Game → Stored (List ℕ) → Type 0

@@ -5,6 +5,9 @@
 pub mod laws;
 mod packings;
 mod source;
+mod steps;
 mod texts;
 
+pub use frontier::{MAX_POSITIONS, StepFault};
 pub use source::Source;
+pub use steps::work;

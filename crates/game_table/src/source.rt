@@ -12,11 +12,12 @@ ghost use Rattle.rbg_game.specs.Goals.{points_of};
 ghost use Rattle.retrograde.specs.Stored.{IsTable};
 ghost use Rattle.retrograde.specs.Sound.{IsLocallySound};
 ghost use Rattle.frontier.specs.Causes.{Leaves};
-ghost use Rattle.table_work.specs.Work.{StopsWith};
+ghost use Rattle.game_table.specs.Work.{StopsWith};
 ghost use Rattle.game_table.specs.Tables.{ArePositions, packed_length, IsWorkOf};
 ghost use Rattle.table.specs.Faults.{NeedsNoPage};
 ghost use Rattle.rbg_game.specs.declared.limits.TheConstants.{MAX_TEXT_BYTES};
 
+use crate::StepFault;
 use crate::packings::are_packed;
 use legal_moves::{Compiled, MoveSource};
 use position_pack::{Packed, PackingKind};
@@ -27,7 +28,6 @@ use rbg_read::read::read_game;
 use std::alloc::Global;
 use std::marker::Model;
 use table::{Table, TableFault};
-use table_work::StepFault;
 
 /// A game made ready for the search for moves.
 #[derive(Drop)]
@@ -141,6 +141,6 @@ impl Source {
         ensures ahead { OnOk result (T.goes_on table.old table.new) }
         ensures left { IfErr result (Leaves (T.goes_on table.old table.new) (T.fails table.old table.new)) }
     {
-        table_work::work(alloc, &self.compiled, table, units)
+        crate::work(alloc, &self.compiled, table, units)
     }
 }

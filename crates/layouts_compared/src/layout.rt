@@ -1,7 +1,7 @@
 //! The three layouts of a file, each on a disk in memory.
 
 use best_line::Row;
-use flat_table::FlatTable;
+use earlier_layouts::FlatTable;
 use game_file::GameFile;
 use page_store::PageStore;
 use sector_disk::MemDisk;

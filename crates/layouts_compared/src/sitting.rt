@@ -2,11 +2,11 @@
 
 use crate::layout::Layout;
 use audit::Verdict;
-use line_answers::input::{Asked, Question};
-use line_answers::questions::put_answer;
 use page_store::MOST_CACHED;
-use printed_lines::replies::row_lines;
 use retrograde::Counts;
+use session_lines::input::{Asked, Question};
+use session_lines::questions::put_answer;
+use session_lines::replies::row_lines;
 use solver::{FileSolver, Units};
 use std::alloc::Global;
 use std::io::Write;

@@ -3,7 +3,7 @@ ghost use Rattle.std.specs.Prelude.{◌≤◌};
 
 use crate::standing::is_right_in;
 use crate::watched::WatchedDisk;
-use flat_table::FlatTable;
+use earlier_layouts::FlatTable;
 use game_file::GameFile;
 use rand::{Rng, RngExt};
 use rand_pcg::Pcg32;

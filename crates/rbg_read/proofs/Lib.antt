@@ -1,3 +1,11 @@
+mod Walking
+mod Steps
+mod Numbering
+mod Numbers
+mod Lengths
+mod Placing
+mod Showing
+mod Cutting
 pub mod Collected
 pub mod Defaults
 pub mod EveryText

@@ -1,3 +1,5 @@
+pub mod Walk
+pub mod Lines
 pub mod Build
 pub mod Depths
 pub mod Flat

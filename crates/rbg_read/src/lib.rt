@@ -1,5 +1,6 @@
 //! Reads game texts: the tokens are grouped into sections, the sections are checked, and the game is
-//! built. `read::read_game` answers the game, or the first cause for which the text is none.
+//! built. `read::read_game` answers the game, or the first cause for which the text is none. `numbered` finds the actions that have
+//! numbers where they stand in the text.
 #![tactic(auto)]
 
 mod build;
@@ -9,6 +10,7 @@ pub mod laws;
 mod limits;
 mod names;
 mod nodes;
+pub mod numbered;
 mod numbers;
 mod parts;
 pub mod read;

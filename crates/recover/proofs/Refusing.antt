@@ -9,7 +9,7 @@ use Rattle.game_file.specs.Kept.{Kept, Layout, Older, in_any}
 use Rattle.game_file.specs.State.{State}
 use Rattle.game_file.specs.declared.fault.FileFault.{FileFault}
 use Rattle.game_file.specs.declared.fault.FileFault.TheVariants as file
-use Rattle.layout_moves.specs.Moving.{MoveOnCause}
+use Rattle.earlier_layouts.specs.Moving.{MoveOnCause}
 use Rattle.solver.specs.declared.fault.SolverFault.{SolverFault}
 use Rattle.solver.specs.declared.fault.SolverFault.TheVariants.{Disk as DiskFailed, NotATable, AlreadyATable, Damaged, OldLayout, TooSmall, TableFull}
 use Rattle.solver.specs.declared.fault.SolverFault.TheVariants.{OutOfMemory, Closed, Game, NoGame, GameAlready, KeeperChooses, TooWide}

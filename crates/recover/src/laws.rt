@@ -7,7 +7,7 @@ ghost use Rattle.solver.specs.Histories.{Sitting, History, HistoryFrom};
 ghost use Rattle.tree_table.specs.Held.{StoresTrees};
 ghost use Rattle.game_file.specs.Kept.{Kept};
 ghost use Rattle.recover.specs.Migrating.{EitherLayout, IsMigrated};
-ghost use Rattle.flat_table.specs.Held.{Stores};
+ghost use Rattle.earlier_layouts.specs.Held.{Stores};
 
 use crate::TableFile;
 use sector_disk::MemDisk;

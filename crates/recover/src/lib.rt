@@ -15,7 +15,7 @@ pub type TableFile<D> = tree_file::TreeFile<page_store::PageStore<D>, 3>;
 pub type SecondFile<D> = tree_file::TreeFile<page_store::PageStore<D>, 2>;
 
 /// The file of the first layout.
-pub type FirstFile<D> = flat_table::FlatTable<D>;
+pub type FirstFile<D> = earlier_layouts::FlatTable<D>;
 
 /// A solver over such a file.
 pub type Solver<D> = FileSolver<TableFile<D>>;

@@ -5,8 +5,8 @@ ghost use Rattle.recover.specs.Migrating.{AreLayouts, EitherLayout, IsCurrent, I
 ghost use Rattle.recover.specs.aid.Steps.{IsMovedFrom, IsNotMovedFrom, IsReadSince};
 ghost use Rattle.sector_disk.specs.Disk.{Disk};
 
+use earlier_layouts::EarlierFile;
 use game_file::GameFile;
-use layout_moves::EarlierFile;
 use sector_disk::SectorDisk;
 use solver::{FileSolver, Refused, SolverFault};
 use std::alloc::Global;

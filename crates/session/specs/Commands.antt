@@ -22,9 +22,9 @@ use Rattle.solver.specs.Machine.{load}
 use Rattle.solver.specs.Opening.{IsCreated, IsOpened, OpenCause, CreateCause}
 use Rattle.solver.specs.Queries.{Tells}
 use Rattle.solver.specs.Runs.{IsTurnWithCause}
-use Rattle.printed_lines.specs.Verdicts.{IsVerdictLine}
-use Rattle.line_answers.specs.Answered.{status_of_fault, status_of_reply}
-use Rattle.line_answers.specs.Told.{fault_line, IsReplyLine}
+use Rattle.session_lines.specs.Verdicts.{IsVerdictLine}
+use Rattle.session_lines.specs.Answered.{status_of_fault, status_of_reply}
+use Rattle.session_lines.specs.Told.{fault_line, IsReplyLine}
 use Rattle.session.specs.declared.commands.FileCommand.{FileCommand}
 use Rattle.session.specs.declared.commands.FileCommand.TheVariants as asked
 

@@ -2,19 +2,19 @@
 ghost use Rattle.std.specs.Prelude.{◌≡◌, List, ℕ, false, Some, None, OnOk};
 ghost use Rattle.std.specs.Io.KnownBytes.{Appends};
 ghost use Rattle.game_file.specs.Calls.{IsAsked};
-ghost use Rattle.line_answers.specs.Answered.{status_of_reply};
-ghost use Rattle.printed_lines.specs.Verdicts.{IsVerdictLine};
+ghost use Rattle.session_lines.specs.Answered.{status_of_reply};
+ghost use Rattle.session_lines.specs.Verdicts.{IsVerdictLine};
 ghost use Rattle.session.specs.Commands.{Came, refused as refused_for, replied, audited as audited_as, IsDoneOnFile};
 ghost use Rattle.session.specs.Commands.{IsAudited, IsPrinted, IsLineOf, refusal_in, refusal_of, status_of_came, status_of_verdict};
 ghost use Rattle.solver.specs.Solvers.{state, IsReady};
 
 use audit::Verdict;
 use game_file::GameFile;
-pub use line_answers::puts::{put_line, put_refused, put_reply, status_of};
-use line_answers::turns::reply_to;
-use printed_lines::verdicts::put_verdict;
 use rbg_game::goal::Goal;
 use retrograde::Counts;
+pub use session_lines::puts::{put_line, put_refused, put_reply, status_of};
+use session_lines::turns::reply_to;
+use session_lines::verdicts::put_verdict;
 use solver::{Command, FileSolver, Reply, SolverFault};
 use std::alloc::Global;
 use std::io::{self, Write};

@@ -2,10 +2,10 @@
 
 use crate::moves_by_line::moves_by_line;
 use crate::program::{read_start, status_of_refused, tell, tell_game_fault};
-use printed_lines::actions::actions_to;
-use printed_lines::moves::{moves_at, moves_to};
-use printed_lines::refused::Refused;
-use printed_lines::rulebook::Rulebook;
+use session_lines::actions::actions_to;
+use session_lines::moves::{moves_at, moves_to};
+use session_lines::refused::Refused;
+use session_lines::rulebook::Rulebook;
 use std::alloc::Global;
 use std::io::{self, BufReader, BufWriter, ErrorKind};
 

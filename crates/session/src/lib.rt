@@ -19,6 +19,7 @@ mod table_words;
 pub mod words;
 mod wrong_names;
 
-pub use line_answers::{input, questions, turns};
-pub use printed_lines::{actions, moves, refused, replies, rulebook, verdicts};
 pub use program::run;
+pub use session_lines::{
+    actions, input, moves, questions, refused, replies, rulebook, turns, verdicts,
+};

@@ -2,12 +2,12 @@
 
 use crate::commands::said_refused;
 use game_file::Versions;
-use line_answers::advice::tell_fault;
-use line_answers::input::{Asked, Line};
-use line_answers::listings::put_listing;
-use line_answers::looked::Looked;
-use line_answers::looks::put_looked;
-use line_answers::questions::put_answer;
+use session_lines::advice::tell_fault;
+use session_lines::input::{Asked, Line};
+use session_lines::listings::put_listing;
+use session_lines::looked::Looked;
+use session_lines::looks::put_looked;
+use session_lines::questions::put_answer;
 use solver::{FileSolver, Listing, SolverFault};
 use std::alloc::Global;
 use std::io::{ErrorKind, Read, Write};

@@ -5,8 +5,8 @@ ghost use Rattle.recover.specs.Migrating.{AreLayouts};
 ghost use Rattle.session.specs.Commands.{Came, IsBrought, IsPrinted, brought as brought_to, refusal_of, word_of_migration};
 
 use crate::commands::{Outcome, put_line, said_refused};
+use earlier_layouts::EarlierFile;
 use game_file::GameFile;
-use layout_moves::EarlierFile;
 use recover::{Migration, migrate};
 use sector_disk::SectorDisk;
 use std::alloc::Global;

@@ -2,12 +2,12 @@
 ghost use Rattle.std.specs.Prelude.{◌≡◌, ◌⊎◌, ◌∷◌, [], ◌++◌, ℕ, List, OnOk};
 ghost use Rattle.std.specs.Io.KnownBytes.{Appends};
 ghost use Rattle.legal_moves.specs.Compiled.{compiled_game};
-ghost use Rattle.printed_lines.specs.Answers.{TellsMovesAt};
+ghost use Rattle.session_lines.specs.Answers.{TellsMovesAt};
 
-use printed_lines::refusals::write_refused;
-use printed_lines::refused::Refused;
-use printed_lines::rulebook::Rulebook;
 use rbg_game::limits::MAX_TEXT_BYTES;
+use session_lines::refusals::write_refused;
+use session_lines::refused::Refused;
+use session_lines::rulebook::Rulebook;
 use std::alloc::Global;
 use std::io::{self, Read, Write};
 

@@ -5,8 +5,8 @@ use crate::line_by_line::{Lines, lines_over};
 use crate::open::{Purpose, opened};
 use crate::program::status_of_refused;
 use file_disk::FileDisk;
-use printed_lines::refused::Refused;
 use recover::TableFile;
+use session_lines::refused::Refused;
 use std::alloc::Global;
 use std::io::{self, BufWriter};
 

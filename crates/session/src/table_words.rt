@@ -3,9 +3,9 @@
 use crate::words::{game_word, named, required_word};
 use clap::builder::ValueParser;
 use clap::{Arg, ArgAction, Command};
-use line_answers::input::SESSION_LINES;
-use line_answers::looked::LOOK_LINES;
 use rbg_game::limits::MAX_POINTS;
+use session_lines::input::SESSION_LINES;
+use session_lines::looked::LOOK_LINES;
 use std::alloc::{AllocError, Global};
 
 const CREATE_ABOUT: &str = "Makes an empty table in a file";

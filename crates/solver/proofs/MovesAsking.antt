@@ -14,11 +14,11 @@ use Rattle.table.specs.declared.fault.TableFault.{TableFault}
 use Rattle.table.specs.declared.fault.TableFault.TheVariants as table
 use Rattle.best_line.specs.Values.{IsValue}
 use Rattle.best_line.specs.declared.answers.Value.{Value}
-use Rattle.known_moves.specs.Causes.{FaultOfTable}
-use Rattle.known_moves.specs.Moves.{AreKnownMoves}
-use Rattle.known_moves.specs.declared.fault.KnownMovesFault.{KnownMovesFault}
-use Rattle.known_moves.specs.declared.fault.KnownMovesFault.TheVariants as moves
-use Rattle.known_moves.specs.declared.known.KnownMoves.{KnownMoves}
+use Rattle.best_line.specs.KnownCauses.{FaultOfTable}
+use Rattle.best_line.specs.Moves.{AreKnownMoves}
+use Rattle.best_line.specs.declared.known_fault.KnownMovesFault.{KnownMovesFault}
+use Rattle.best_line.specs.declared.known_fault.KnownMovesFault.TheVariants as moves
+use Rattle.best_line.specs.declared.known.KnownMoves.{KnownMoves}
 use Rattle.game_file.specs.Causes.{FileTableCause}
 use Rattle.game_file.specs.Kept.{Kept}
 use Rattle.game_file.specs.State.{State}

@@ -20,7 +20,7 @@ use Rattle.table.specs.declared.fault.TableFault.TheVariants as table
 use Rattle.frontier.specs.Causes.{Leaves as LeavesUnit}
 use Rattle.frontier.specs.declared.fault.StepFault.{StepFault}
 use Rattle.frontier.specs.declared.fault.StepFault.TheVariants as step
-use Rattle.table_work.specs.Work.{StopsWith}
+use Rattle.game_table.specs.Work.{StopsWith}
 use Rattle.game_table.specs.aid.Laws.{starts_are_positions, sound_tables_fit}
 use Rattle.game_table.specs.Tables.{packed_length, IsWorkOf}
 use Rattle.game_file.specs.Calls.{IsPut, IsNotPut, IsNothingPut}

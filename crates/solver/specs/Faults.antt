@@ -9,8 +9,8 @@ use Rattle.game_file.specs.declared.fault.FileFault.{FileFault}
 use Rattle.game_file.specs.declared.fault.FileFault.TheVariants as file
 use Rattle.best_line.specs.declared.fault.LineFault.{LineFault}
 use Rattle.best_line.specs.declared.fault.LineFault.TheVariants as line
-use Rattle.known_moves.specs.declared.fault.KnownMovesFault.{KnownMovesFault}
-use Rattle.known_moves.specs.declared.fault.KnownMovesFault.TheVariants as moves
+use Rattle.best_line.specs.declared.known_fault.KnownMovesFault.{KnownMovesFault}
+use Rattle.best_line.specs.declared.known_fault.KnownMovesFault.TheVariants as moves
 use Rattle.audit.specs.declared.fault.AuditFault.{AuditFault}
 use Rattle.audit.specs.declared.fault.AuditFault.TheVariants as audit
 use Rattle.solver.specs.declared.fault.SolverFault.{SolverFault}

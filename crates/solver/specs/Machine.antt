@@ -13,7 +13,7 @@ use Rattle.retrograde.specs.Sound.{IsLocallySound}
 use Rattle.retrograde.specs.Stored.{loaded}
 use Rattle.frontier.specs.declared.fault.StepFault.{StepFault}
 use Rattle.frontier.specs.declared.fault.StepFault.TheVariants as step
-use Rattle.table_work.specs.Work.{AreDone, StopsWith}
+use Rattle.game_table.specs.Work.{AreDone, StopsWith}
 use Rattle.game_file.specs.Kept.{Kept}
 use Rattle.game_file.specs.State.{State}
 use Rattle.solver.specs.declared.fault.SolverFault.{SolverFault}

@@ -6,8 +6,8 @@ use Rattle.legal_moves.specs.Sources.{IsPositionBytes}
 use Rattle.retrograde.specs.Stored.{view_of}
 use Rattle.retrograde.specs.View.{HasNumber}
 use Rattle.best_line.specs.declared.answers.Value.{Value}
-use Rattle.known_moves.specs.Moves.{AreKnownMoves}
-use Rattle.known_moves.specs.declared.known.KnownMoves.{KnownMoves}
+use Rattle.best_line.specs.Moves.{AreKnownMoves}
+use Rattle.best_line.specs.declared.known.KnownMoves.{KnownMoves}
 use Rattle.game_file.specs.Kept.{Kept}
 use Rattle.game_file.specs.State.{State}
 use Rattle.solver.specs.declared.fault.SolverFault.{SolverFault}

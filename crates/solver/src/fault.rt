@@ -1,10 +1,9 @@
 //! Why a command is refused.
 
 use audit::AuditFault;
-use best_line::LineFault;
+use best_line::{KnownMovesFault, LineFault};
 use frontier::StepFault;
 use game_file::FileFault;
-use known_moves::KnownMovesFault;
 use rbg_read::fault::GameFault;
 use std::alloc::{AllocError, AllocFailed};
 use table::TableFault;

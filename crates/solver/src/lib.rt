@@ -16,8 +16,8 @@ mod run;
 mod version_rows;
 mod with_game;
 
+pub use best_line::{KnownMove, KnownMoves};
 pub use commands::FileSolver;
 pub use fault::{Refused, SolverFault};
-pub use known_moves::{KnownMove, KnownMoves};
 pub use listing::Listing;
 pub use replies::{Command, Reply, Units, Worked};

@@ -7,9 +7,8 @@ ghost use Rattle.solver.specs.Solvers.{state, IsReady};
 
 use crate::needs::{game_at, game_in};
 use crate::{FileSolver, SolverFault};
-use best_line::Value;
+use best_line::{KnownMoves, Value, known_moves, told_of};
 use game_file::GameFile;
-use known_moves::{KnownMoves, known_moves, told_of};
 
 impl<F: GameFile> FileSolver<F> {
     /// The moves of the position with this number, of a drawn or a lost one too: each successor once, by ascending bytes, with a

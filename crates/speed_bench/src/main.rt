@@ -4,6 +4,7 @@
 ghost use Rattle.rbg_game.specs.Meaning.{game_of};
 ghost use Rattle.rbg_game.specs.Sound.{IsSoundGame};
 
+use game_table::{MAX_POSITIONS, StepFault, work};
 use legal_moves::compiled::Compiled;
 use legal_moves::source::MoveSource;
 use position_pack::PackingKind;
@@ -15,7 +16,6 @@ use std::fs;
 use std::io::{self, Read};
 use std::process::ExitCode;
 use table::{MemTable, Table};
-use table_work::{MAX_POSITIONS, StepFault, work};
 
 /// As many bytes as are read of a game text.
 const READ_LIMIT: u64 = 65_537;

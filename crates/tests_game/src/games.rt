@@ -1,6 +1,6 @@
 //! Games made ready for their moves, with their tables.
 use audit::{Verdict, audit};
-use game_table::Source;
+use game_table::{MAX_POSITIONS, Source, StepFault, work};
 use legal_moves::MoveSource;
 use position_pack::PackingKind;
 use rbg_game::roles::Player;
@@ -8,7 +8,6 @@ use retrograde::Record;
 use std::alloc::Global;
 use std::test::Fail;
 use table::{MemTable, Table};
-use table_work::{MAX_POSITIONS, StepFault, work};
 use test_aids::expect;
 
 /// A game and its table in memory.

@@ -2,10 +2,10 @@
 
 use crate::call_tests::{command_says, expect_said, session_says, take};
 use game_file::Versions;
-use printed_lines::replies::row_lines;
 use recover::TableFile;
 use sector_disk::MemDisk;
 use session::commands::FileCommand;
+use session_lines::replies::row_lines;
 use solver::{FileSolver, Listing, SolverFault, Units};
 use std::alloc::Global;
 use std::test::Fail;

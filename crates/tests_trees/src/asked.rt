@@ -2,16 +2,16 @@
 
 use crate::pages::opened;
 use crate::seen::Seen;
+use btree::find::{Entry, get, next_after};
+use btree::page::Widths;
+use btree::put::put;
+use btree::walk::{WalkFault, walk};
 use page_store::{PageFault, PageStore, Pages};
 use sector_disk::MemDisk;
 use std::alloc::{AllocError, Global};
 use std::fmt::Debug;
 use std::test::Fail;
 use test_aids::expect;
-use tree_page::Widths;
-use tree_put::put;
-use tree_read::{Entry, get, next_after};
-use tree_walk::{WalkFault, walk};
 
 /// How long keys and values are.
 pub const SHORT: Widths = Widths { key: 2, value: 1 };

@@ -1,6 +1,7 @@
 //! Tables in memory are copied onto trees of pages.
 use crate::take_tests::{ORDER, expect_order, expect_same, worked};
-use game_table::Source;
+use earlier_layouts::{CopyFault, copy_table};
+use game_table::{MAX_POSITIONS, Source};
 use page_store::{PageStore, Pages};
 use position_pack::PackingKind;
 use root_pair::create;
@@ -8,8 +9,6 @@ use sector_disk::MemDisk;
 use std::alloc::Global;
 use std::test::Fail;
 use table::{MemTable, Table, TableFault};
-use table_copy::{CopyFault, copy_table};
-use table_work::MAX_POSITIONS;
 use test_aids::{TAKE, expect};
 use tree_table::{FIRST_WITH_GOALS, TreeTable, empty_slot};
 

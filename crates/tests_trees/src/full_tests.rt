@@ -1,14 +1,14 @@
 //! Keys are put until no page is free, and the store goes back to its last commit.
 
 use crate::pages::{empty_disk, opened};
+use btree::find::get;
+use btree::page::Widths;
+use btree::put::put;
 use page_store::{PageFault, PageStore, Pages};
 use sector_disk::MemDisk;
 use std::alloc::Global;
 use std::test::Fail;
 use test_aids::expect;
-use tree_page::Widths;
-use tree_put::put;
-use tree_read::get;
 
 /// How long keys and values are: a leaf has room for 15 entries of 258 bytes.
 const WIDE: Widths = Widths { key: 2, value: 256 };

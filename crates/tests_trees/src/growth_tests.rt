@@ -3,16 +3,16 @@
 
 use crate::pages::{empty_disk, opened};
 use crate::seen::Seen;
+use btree::find::{Entry, get, next_after};
+use btree::page::Widths;
+use btree::put::put;
+use btree::walk::walk;
 use page_store::{PageFault, PageStore, Pages};
 use sector_disk::MemDisk;
 use std::alloc::Global;
 use std::collections::BTreeMap;
 use std::test::Fail;
 use test_aids::expect;
-use tree_page::Widths;
-use tree_put::put;
-use tree_read::{Entry, get, next_after};
-use tree_walk::walk;
 
 /// How long keys and values are.
 const LONG: Widths = Widths { key: 8, value: 4 };

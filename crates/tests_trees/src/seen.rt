@@ -1,11 +1,11 @@
 //! What a walk tells is kept.
 ghost use Rattle.std.specs.Prelude.{◌≡◌, List, map, ⊤};
-ghost use Rattle.tree_page.specs.Page.{Item};
-ghost use Rattle.tree_read.specs.declared.entry.Entry.{Entry};
+ghost use Rattle.btree.specs.Page.{Item};
+ghost use Rattle.btree.specs.declared.find.entry.Entry.{Entry};
 
+use btree::find::{Entry, copied};
+use btree::walk::{Refused, Visitor};
 use std::alloc::Global;
-use tree_read::{Entry, copied};
-use tree_walk::{Refused, Visitor};
 
 /// The entries that were told of.
 #[derive(Drop)]

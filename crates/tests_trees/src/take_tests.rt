@@ -1,6 +1,6 @@
 //! The game of takes, worked on trees of pages.
 use audit::{Verdict, audit};
-use game_table::Source;
+use game_table::{MAX_POSITIONS, Source, work};
 use page_store::{PageStore, Pages};
 use position_pack::PackingKind;
 use root_pair::create;
@@ -8,7 +8,6 @@ use sector_disk::MemDisk;
 use std::alloc::Global;
 use std::test::Fail;
 use table::{MemTable, Table};
-use table_work::{MAX_POSITIONS, work};
 use test_aids::{TAKE, expect};
 use tree_table::{TreeTable, empty_slot};
 

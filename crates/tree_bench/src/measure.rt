@@ -1,13 +1,13 @@
 //! The measuring: all keys are put, each is read, and all are gone through in order.
 
 use crate::keys::{key_of, value_of};
+use btree::find::{get, next_after};
+use btree::page::{Kind, Widths, item_at, kind_of};
+use btree::put::put;
 use byteorder::{BigEndian, ByteOrder};
 use page_store::{PageFault, Pages};
 use std::fmt::{self, Display, Formatter, Write};
 use std::time::Instant;
-use tree_page::{Kind, Widths, item_at, kind_of};
-use tree_put::put;
-use tree_read::{get, next_after};
 
 /// How long keys and values are.
 const WIDTHS: Widths = Widths { key: 8, value: 4 };

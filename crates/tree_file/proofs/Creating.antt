@@ -14,7 +14,7 @@ use Rattle.page_store.specs.Causes.{StoreOpenCause}
 use Rattle.page_store.specs.declared.fault.PageFault.{PageFault}
 use Rattle.page_store.specs.declared.fault.PageFault.TheVariants as page
 use Rattle.page_store.specs.Store.{Store, IsOpened as IsFound, IsRefusedStore}
-use Rattle.root_slot.specs.Fields.{commits_in, layout_in, SaysPages}
+use Rattle.game_file.specs.Fields.{commits_in, layout_in, SaysPages}
 use Rattle.game_file.specs.declared.fault.FileFault.{FileFault}
 use Rattle.game_file.specs.declared.fault.FileFault.TheVariants.{Disk as DiskFailed, NotATable, AlreadyATable, Damaged, OldLayout, TooSmall, TableFull, OutOfMemory, Closed, Inconsistent}
 use Rattle.game_file.specs.Calls.{IsOpenedFile, IsNotOpened, IsCreatedFile, IsNotCreated}

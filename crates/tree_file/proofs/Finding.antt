@@ -15,17 +15,17 @@ use Rattle.retrograde.specs.Changes.{counts_of}
 use Rattle.retrograde.specs.Stored.{Stored, IsTable}
 use Rattle.table.specs.declared.fault.TableFault.{TableFault}
 use Rattle.table.specs.declared.fault.TableFault.TheVariants as table
-use Rattle.root_slot.specs.Fields.{goal_numbered}
-use Rattle.root_slot.specs.aid.Packings.{some_number}
+use Rattle.game_file.specs.Fields.{goal_numbered}
+use Rattle.game_file.specs.aid.Packings.{some_number}
 use Rattle.game_file.specs.Faults.{of_pages, of_table}
 use Rattle.game_file.specs.Kept.{Kept, kept_as}
-use Rattle.tree_map.specs.Entries.{Ascend}
-use Rattle.tree_map.specs.Tree.{IsMap}
-use Rattle.tree_map.specs.aid.Laws.{none_contained}
-use Rattle.tree_map.specs.aid.Order.{ascend_none}
-use Rattle.tree_map.specs.aid.Unchanged.{grew_before}
-use Rattle.tree_page.specs.Page.{Item}
-use Rattle.tree_page.specs.declared.widths.Widths.{Widths}
+use Rattle.btree.specs.Entries.{Ascend}
+use Rattle.btree.specs.Tree.{IsMap}
+use Rattle.btree.specs.aid.Laws.{none_contained}
+use Rattle.btree.specs.aid.Order.{ascend_none}
+use Rattle.btree.specs.aid.Unchanged.{grew_before}
+use Rattle.btree.specs.Page.{Item}
+use Rattle.btree.specs.declared.page.widths.Widths.{Widths}
 use Rattle.tree_table.specs.declared.slot.TreeSlot.{TreeSlot}
 use Rattle.tree_table.specs.declared.tree.Tree.{Tree}
 use Rattle.tree_table.specs.Entries.{AreEntriesOf}
@@ -35,13 +35,13 @@ use Rattle.tree_table.specs.Keeping.{IsOneOf}
 use Rattle.tree_table.specs.Slot.{slot_in, SaysTrees}
 use Rattle.tree_table.specs.Trees.{root_of}
 use Rattle.tree_table.specs.Working.{HoldsForest}
-use Rattle.tree_check.specs.Causes.{CheckEntriesCause}
-use Rattle.tree_check.specs.Counted.{AreAsMany}
-use Rattle.tree_check.specs.Spelling.{SpellTable}
-use Rattle.tree_check.specs.aid.AsMany.{spelled_as_many}
-use Rattle.tree_forest.specs.Walked.{AreWalked, CanBeWalked, ForestCause}
-use Rattle.tree_forest.specs.aid.Marking.{reads_as_before}
-use Rattle.tree_forest.specs.aid.OneTree.{one_tree}
+use Rattle.tree_file.specs.Causes.{CheckEntriesCause}
+use Rattle.tree_file.specs.Counted.{AreAsMany}
+use Rattle.tree_file.specs.Spelling.{SpellTable}
+use Rattle.tree_file.specs.aid.AsMany.{spelled_as_many}
+use Rattle.tree_file.specs.Walked.{AreWalked, CanBeWalked, ForestCause}
+use Rattle.tree_file.specs.aid.Marking.{reads_as_before}
+use Rattle.tree_file.specs.aid.OneTree.{one_tree}
 use Rattle.page_store.specs.Pages.{AllWait}
 use Rattle.tree_file.specs.aid.Reading.{NoGameReadCause, IsReadGame}
 

@@ -15,7 +15,7 @@ use Rattle.page_store.specs.Spelling.{IsCalm}
 use Rattle.page_store.specs.Store.{Store, IsRemarked, IsSoundStore, IsStoreGrown, StoreGrows, reads}
 use Rattle.page_store.specs.aid.Carrying.{saved_in_spells, saved_spells}
 use Rattle.page_store.specs.aid.Works.{closes_same, closes_then, works_same}
-use Rattle.root_slot.specs.Fields.{commits_in, goal_numbered, layout_in, number_of_packing, packing_in, SaysPages}
+use Rattle.game_file.specs.Fields.{commits_in, goal_numbered, layout_in, number_of_packing, packing_in, SaysPages}
 use Rattle.game_file.specs.Faults.{of_pages}
 use Rattle.game_file.specs.Growing.{FileGrowCause, GrowsAhead, IsGrownFile, IsNotGrown, LeavesEitherSize}
 use Rattle.game_file.specs.Kept.{Kept, goal_kept, kept_as, packing_kept, text_kept}

@@ -1,3 +1,13 @@
+pub mod Making
+pub mod CheckPassing
+pub mod Refusing
+pub mod Spelled
+pub mod Taking
+pub mod Winners
+mod Told
+mod ForestPassing
+mod Walks
+mod Forests
 mod Passing
 mod Saving
 mod Loading

@@ -4,7 +4,7 @@ use Rattle.std.specs.Prelude.{OnErr}
 use Rattle.std.specs.Option.{is_some}
 use Rattle.rbg_game.specs.Goals.{points_of}
 use Rattle.rbg_game.specs.declared.goal.Goal.{Goal}
-use Rattle.root_slot.specs.Fields.{number_of_goal, HasPlaceFor}
+use Rattle.game_file.specs.Fields.{number_of_goal, HasPlaceFor}
 use Rattle.sector_disk.specs.Disk.{Grew}
 use Rattle.sector_disk.specs.aid.Moments.{leaves_more, leaves_now}
 use Rattle.page_store.specs.Store.{Store, IsRemarked, reads}

@@ -8,7 +8,7 @@ use Rattle.sector_disk.specs.aid.Moments.{goes_on_trans, leaves_then, leaves_mor
 use Rattle.root_pair.specs.Root.{HoldsRoot}
 use Rattle.page_store.specs.Page.{page as bytes_of}
 use Rattle.page_store.specs.Store.{Store, IsOpened as IsOpenedStore, IsSoundStore, reads}
-use Rattle.root_slot.specs.Fields.{capacity_in, layout_in, SaysPages}
+use Rattle.game_file.specs.Fields.{capacity_in, layout_in, SaysPages}
 use Rattle.game_file.specs.declared.fault.FileFault.{FileFault}
 use Rattle.game_file.specs.declared.fault.FileFault.TheVariants.{Disk as DiskFailed, NotATable, AlreadyATable, Damaged, OldLayout, TooSmall}
 use Rattle.game_file.specs.declared.fault.FileFault.TheVariants.{TableFull, OutOfMemory, Closed, Inconsistent}

@@ -17,8 +17,8 @@ use Rattle.page_store.specs.Spelling.{IsCalm}
 use Rattle.page_store.specs.Store.{Store, IsSoundStore, Commits, IsCommitted, IsUnchanged, SavedAs, StopLeaves, reads}
 use Rattle.page_store.specs.aid.Carrying.{saved_spells}
 use Rattle.retrograde.specs.Changes.{counts_of}
-use Rattle.root_slot.specs.Fields.{commits_in, goal_number_in, goal_numbered, layout_in, number_of_packing, packing_in, SaysPages}
-use Rattle.root_slot.specs.aid.Goals.{goal_has_place}
+use Rattle.game_file.specs.Fields.{commits_in, goal_number_in, goal_numbered, layout_in, number_of_packing, packing_in, SaysPages}
+use Rattle.game_file.specs.aid.Goals.{goal_has_place}
 use Rattle.game_file.specs.Faults.{of_pages}
 use Rattle.game_file.specs.declared.fault.FileFault.TheVariants.{Disk as DiskFailed}
 use Rattle.game_file.specs.Kept.{Kept, goal_kept}

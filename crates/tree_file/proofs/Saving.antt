@@ -10,7 +10,7 @@ use Rattle.game_file.specs.Causes.{FileCommitCause}
 use Rattle.game_file.specs.Faults.{of_pages}
 use Rattle.game_file.specs.declared.fault.FileFault.{FileFault}
 use Rattle.game_file.specs.declared.fault.FileFault.TheVariants.{OutOfMemory, TableFull}
-use Rattle.tree_map.specs.aid.Unchanged.{grew_before}
+use Rattle.btree.specs.aid.Unchanged.{grew_before}
 use Rattle.sector_disk.specs.aid.Moments.{goes_on_trans}
 use Rattle.page_store.specs.declared.marks.Mark.TheVariants.{Waiting}
 use Rattle.page_store.specs.Marks.{mark, rests}
@@ -18,8 +18,8 @@ use Rattle.page_store.specs.Spelling.{IsCalm}
 use Rattle.page_store.specs.aid.Works.{closes_same, closes_then}
 use Rattle.page_store.specs.Store.{Store, IsSoundStore, StoreWorks, StoreCloses, IsRemarked, reads}
 use Rattle.retrograde.specs.Stored.{Stored, IsTable}
-use Rattle.root_slot.specs.Fields.{commits_in, goal_numbered, layout_in, HasPlaceFor, SaysPages}
-use Rattle.root_slot.specs.aid.Goals.{goal_has_place}
+use Rattle.game_file.specs.Fields.{commits_in, goal_numbered, layout_in, HasPlaceFor, SaysPages}
+use Rattle.game_file.specs.aid.Goals.{goal_has_place}
 use Rattle.game_file.specs.Calls.{IsPut, IsNotPut, IsNothingPut}
 use Rattle.game_file.specs.Kept.{Kept, goal_kept, kept_as, packing_kept, text_kept}
 use Rattle.game_file.specs.State.{GoesAhead, count_behind}

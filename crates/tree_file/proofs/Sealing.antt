@@ -10,10 +10,10 @@ use Rattle.page_store.specs.Page.{page}
 use Rattle.page_store.specs.Spelling.{IsCalm}
 use Rattle.page_store.specs.Store.{Store, IsSoundStore, IsRemarked, reads}
 use Rattle.page_store.specs.aid.Marking.{OnlyMarks}
-use Rattle.root_slot.specs.Fields.{commits_in, goal_numbered, layout_in}
-use Rattle.root_slot.specs.aid.Packings.{one_packing}
+use Rattle.game_file.specs.Fields.{commits_in, goal_numbered, layout_in}
+use Rattle.game_file.specs.aid.Packings.{one_packing}
 use Rattle.game_file.specs.Kept.{Kept, kept_as}
-use Rattle.tree_map.specs.aid.Laws.{none_contained}
+use Rattle.btree.specs.aid.Laws.{none_contained}
 use Rattle.tree_table.specs.declared.slot.TreeSlot.{TreeSlot}
 use Rattle.tree_table.specs.declared.tree.Tree.{Tree}
 use Rattle.tree_table.specs.Entries.{AreEntriesOf}

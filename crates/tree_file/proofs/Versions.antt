@@ -12,7 +12,7 @@ use Rattle.page_store.specs.Store.{Store, IsSoundStore, IsHoldTaken, IsLetGo}
 use Rattle.page_store.specs.aid.Carrying.{let_go_calm}
 use Rattle.page_store.specs.Spelling.{IsCalm}
 use Rattle.retrograde.specs.Stored.{Stored}
-use Rattle.root_slot.specs.Fields.{commits_in}
+use Rattle.game_file.specs.Fields.{commits_in}
 use Rattle.game_file.specs.Kept.{Kept as KeptTable, goal_kept, packing_kept, text_kept}
 use Rattle.tree_table.specs.declared.slot.TreeSlot.{TreeSlot}
 use Rattle.tree_table.specs.Keeping.{IsKeptInTrees, IsStill, StandsInTrees, slot_or_bare}

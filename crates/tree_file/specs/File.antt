@@ -4,7 +4,7 @@ use Rattle.page_store.specs.declared.marks.Mark.TheVariants.{Free}
 use Rattle.page_store.specs.Marks.{mark}
 use Rattle.page_store.specs.Spelling.{IsCalm}
 use Rattle.page_store.specs.Store.{IsSoundStore, reads}
-use Rattle.root_slot.specs.Fields.{commits_in, goal_numbered, layout_in, SaysPages}
+use Rattle.game_file.specs.Fields.{commits_in, goal_numbered, layout_in, SaysPages}
 use Rattle.retrograde.specs.declared.records.Counts.{Counts}
 use Rattle.game_file.specs.Kept.{Kept, kept_as}
 use Rattle.game_file.specs.State.{State}

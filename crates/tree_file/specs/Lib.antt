@@ -1,7 +1,10 @@
+pub use Rattle.btree.specs.Page
 pub use Rattle.game_file.specs.Calls as GameFileCalls
 pub use Rattle.game_file.specs.Causes as GameFileCauses
-pub use Rattle.game_file.specs.Growing as GameFileGrowing
+pub use Rattle.game_file.specs.Fields
+pub use Rattle.game_file.specs.Growing
 pub use Rattle.game_file.specs.Kept
+pub use Rattle.game_file.specs.Numbers
 pub use Rattle.game_file.specs.Stops
 pub use Rattle.page_store.specs.Causes as PageStoreCauses
 pub use Rattle.page_store.specs.Marks
@@ -9,13 +12,17 @@ pub use Rattle.page_store.specs.Pages
 pub use Rattle.page_store.specs.Store
 pub use Rattle.retrograde.specs.Stored
 pub use Rattle.root_pair.specs.Root
-pub use Rattle.root_slot.specs.Fields
 pub use Rattle.sector_disk.specs.Disk
+pub use Rattle.tree_table.specs.Entries
 pub use Rattle.tree_table.specs.Held
 pub use Rattle.tree_table.specs.InTrees
 pub use Rattle.tree_table.specs.Keeping
 pub use Rattle.tree_table.specs.Slot
 pub use Rattle.tree_table.specs.Working
+pub mod Counted
+pub mod Spelling
+pub mod Causes
+pub mod Walked
 pub mod File
 pub mod Calls
 pub mod InFile

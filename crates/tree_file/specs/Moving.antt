@@ -2,7 +2,7 @@
 use Rattle.std.specs.Prelude.{◌≡◌, ◌≢◌, ◌⊎◌, ℕ, ◌≤◌, List, true, false, IsTrue}
 use Rattle.sector_disk.specs.Disk.{Picture, Disk, Grew, LeavesOnly}
 use Rattle.root_pair.specs.Root.{HoldsRoot}
-use Rattle.root_slot.specs.Fields.{commits_in}
+use Rattle.game_file.specs.Fields.{commits_in}
 use Rattle.page_store.specs.Page.{page}
 use Rattle.page_store.specs.Store.{SameHeader}
 use Rattle.game_file.specs.declared.fault.FileFault.{FileFault}

@@ -2,7 +2,7 @@
 use Rattle.std.specs.Prelude.{◌≤◌, ◌<◌, List, ℕ}
 use Rattle.sector_disk.specs.Disk.{Picture}
 use Rattle.root_pair.specs.Root.{HoldsRoot}
-use Rattle.root_slot.specs.Fields.{layout_in}
+use Rattle.game_file.specs.Fields.{layout_in}
 
 -- the root names a layout before this one, of which there were tables: 0 is none's
 abbrev pub IsOlderRoot : ℕ → List ℕ → Type 0

@@ -5,7 +5,7 @@ use Rattle.page_store.specs.Marks.{mark}
 use Rattle.page_store.specs.Pages.{AllWait}
 use Rattle.page_store.specs.Spelling.{IsCalm}
 use Rattle.page_store.specs.Store.{Store, IsShortened, reads}
-use Rattle.root_slot.specs.Fields.{commits_in, layout_in, SaysPages}
+use Rattle.game_file.specs.Fields.{commits_in, layout_in, SaysPages}
 use Rattle.game_file.specs.declared.fault.FileFault.{FileFault}
 use Rattle.game_file.specs.declared.fault.FileFault.TheVariants.{Damaged, OldLayout}
 use Rattle.game_file.specs.Kept.{Kept}

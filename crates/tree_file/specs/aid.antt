@@ -1,3 +1,11 @@
+pub mod Counting
+pub mod AsMany
+pub mod Right
+pub mod CheckReading
+pub mod Marking
+pub mod One
+pub mod OneTree
+pub mod Told
 pub mod Backed
 pub mod Frames
 pub mod Whole

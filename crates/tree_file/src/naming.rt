@@ -1,9 +1,9 @@
 //! The slot of a root that names a game, or none.
 ghost use Rattle.std.specs.Prelude.{◌≡◌, ◌≤◌, IfSome};
-ghost use Rattle.root_slot.specs.Fields.{commits_in, layout_in, number_of_packing, packing_in, SaysPages};
+ghost use Rattle.game_file.specs.Fields.{commits_in, layout_in, number_of_packing, packing_in, SaysPages};
 ghost use Rattle.tree_file.specs.File.{NamesSlot};
 
-use root_slot::put_long;
+use game_file::put_long;
 use tree_table::{TreeSlot, empty_slot, game_slot};
 
 /// The slot of this layout, which is one that has goals, for so many pages, after so many commits, that names the game of this slot, or

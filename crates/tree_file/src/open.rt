@@ -4,19 +4,17 @@ ghost use Rattle.sector_disk.specs.Disk.{size, GoesOn, LeavesOnly, MayLeave};
 ghost use Rattle.page_store.specs.Store.{StoreWorks};
 ghost use Rattle.page_store.specs.aid.Marking.{OnlyMarks};
 ghost use Rattle.tree_table.specs.Slot.{SaysTrees};
-ghost use Rattle.root_slot.specs.Fields.{commits_in};
+ghost use Rattle.game_file.specs.Fields.{commits_in};
 ghost use Rattle.page_store.specs.declared.limits.TheConstants.{MIN_PAGES};
 ghost use Rattle.tree_file.specs.Opening.{IsFoundInFile, IsRootRead, RootCause};
 ghost use Rattle.page_store.specs.Pages.{AllWait};
 ghost use Rattle.tree_file.specs.aid.Reading.{IsReadFor, NoGameReadCause};
 
-use game_file::FileFault;
+use crate::{check_entries, walk_trees};
+use game_file::{FileFault, word_at};
 use page_chain::read_chain;
 use page_store::{MIN_PAGES, Pages};
-use root_slot::word_at;
 use std::alloc::Global;
-use tree_check::check_entries;
-use tree_forest::walk_trees;
 use tree_table::{FIRST_WITH_GOALS, Slot, TreeSlot, read_slot};
 
 /// How many pages a store has: so many as the slot says, or as there is room for where its layout does not say so.

@@ -1,7 +1,7 @@
 -- A slot that names no page names the pages of no text and of an empty table.
 use Rattle.std.proofs.Common.{inl, ℕ, ◌+◌, ◌≤◌, List, [], length, refl, arith}
 use Rattle.page_store.specs.Store.{Store, reads}
-use Rattle.tree_map.specs.aid.Laws.{none_contained}
+use Rattle.btree.specs.aid.Laws.{none_contained}
 use Rattle.tree_table.specs.declared.tree.Tree.{Tree}
 use Rattle.tree_table.specs.declared.tree.Tree.TheVariants.{Positions, Records, Edges, Order}
 use Rattle.tree_table.specs.Forest.{IsTreeOf}
@@ -9,7 +9,7 @@ use Rattle.tree_table.specs.Trees.{root_of}
 use Rattle.position_pack.specs.declared.kind.PackingKind.{PackingKind}
 use Rattle.position_pack.specs.declared.kind.PackingKind.TheVariants.{Bytes}
 use Rattle.page_chain.specs.Chain.{IsChain}
-use Rattle.tree_map.specs.Changes.{AreHeld}
+use Rattle.btree.specs.Changes.{AreHeld}
 use Rattle.tree_table.specs.Entries.{AreEntriesOf}
 use Rattle.tree_table.specs.Working.{bare_slot, text_slot, HoldsTable}
 use Rattle.table.specs.Records.{nothing}

@@ -6,11 +6,11 @@ use Rattle.std.proofs.Math.Bool.{or-true}
 use Rattle.std.specs.Option.{is_some}
 use Rattle.std.proofs.lemmas.Option.{slice_get_within}
 use Rattle.std.proofs.lemmas.List.{length-set}
-use Rattle.tree_page.specs.Page.{Item}
-use Rattle.tree_map.specs.Entries.{find_entry, put_entry}
-use Rattle.tree_map.specs.aid.Putting.{a_put_is_found, others_are_found}
+use Rattle.btree.specs.Page.{Item}
+use Rattle.btree.specs.Entries.{find_entry, put_entry}
+use Rattle.btree.specs.aid.Putting.{a_put_is_found, others_are_found}
 use Rattle.tree_table.specs.Entries.{number_key, edge_key, AreByNumber, AreByPosition, AreByEdge}
-use Rattle.record_bytes.specs.Bytes.{IsNumber}
+use Rattle.game_file.specs.Bytes.{IsNumber}
 use Rattle.tree_table.specs.aid.Lists.{set_cases, push_cases, push_keeps, push_last, push_long}
 use Rattle.tree_table.specs.aid.Numbers.{same_number, same_edge}
 use Rattle.tree_table.proofs.Puts.{found_now, keys_same}

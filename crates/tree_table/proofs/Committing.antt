@@ -13,7 +13,7 @@ use Rattle.page_store.specs.aid.Carrying.{committed_calm as carried_calm}
 use Rattle.page_store.specs.Spelling.{IsCalm}
 use Rattle.page_store.specs.Store.{Store, reads, IsCommitted}
 use Rattle.retrograde.specs.Stored.{Stored}
-use Rattle.tree_page.specs.Page.{Item}
+use Rattle.btree.specs.Page.{Item}
 use Rattle.tree_table.specs.declared.slot.TreeSlot.{TreeSlot}
 use Rattle.tree_table.specs.declared.tree.Tree.{Tree}
 use Rattle.tree_table.specs.Forest.{IsForest}
@@ -23,7 +23,7 @@ use Rattle.tree_table.specs.Working.{work_of, table_now, bare_slot, HoldsForest,
 use Rattle.table.specs.Records.{nothing}
 use Rattle.tree_table.specs.aid.Keeping.{forest_rests}
 use Rattle.tree_table.specs.aid.Standing.{stands_held}
-use Rattle.tree_map.specs.aid.Laws.{a_map_is_prepared}
+use Rattle.btree.specs.aid.Laws.{a_map_is_prepared}
 use Rattle.tree_table.proofs.Bare.{bare_holds}
 use Rattle.tree_table.proofs.Holding.{holds_itself}
 

@@ -4,7 +4,7 @@ use Rattle.std.specs.Result.{IsErr, IfErr, IsErrAnd}
 use Rattle.page_store.specs.Store.{Store, StoreWorks}
 use Rattle.table.specs.declared.fault.TableFault.{TableFault}
 use Rattle.table.specs.declared.fault.TableFault.TheVariants.{Disk, Damaged, TableFull, OutOfMemory, Closed}
-use Rattle.tree_map.specs.aid.Unchanged.{grew_before}
+use Rattle.btree.specs.aid.Unchanged.{grew_before}
 use Rattle.tree_table.specs.declared.slot.TreeSlot.{TreeSlot}
 use Rattle.tree_table.specs.Causes.{ReadCause, ChangeCause}
 

@@ -4,13 +4,13 @@ use Rattle.std.specs.Prelude.{All}
 use Rattle.std.specs.List.{flat_map}
 use Rattle.std.proofs.lemmas.List.Elements.{All-head, All-tail, All-weaker}
 use Rattle.std.proofs.Math.Nat.{mul-le-mul_left}
-use Rattle.tree_page.specs.aid.Items.{length-items}
-use Rattle.tree_page.specs.declared.kind.Kind.TheVariants.{Leaf, Inner}
-use Rattle.tree_page.specs.declared.widths.Widths.{Widths}
-use Rattle.tree_page.specs.Page.{Item, items_in, child_of, count_in}
-use Rattle.tree_map.specs.Entries.{first_key}
-use Rattle.tree_map.specs.Tree.{entries_below, pages_below, IsTree, IsMap}
-use Rattle.tree_map.specs.aid.Keeping.{few_pages}
+use Rattle.btree.specs.aid.Items.{length-items}
+use Rattle.btree.specs.declared.page.kind.Kind.TheVariants.{Leaf, Inner}
+use Rattle.btree.specs.declared.page.widths.Widths.{Widths}
+use Rattle.btree.specs.Page.{Item, items_in, child_of, count_in}
+use Rattle.btree.specs.Entries.{first_key}
+use Rattle.btree.specs.Tree.{entries_below, pages_below, IsTree, IsMap}
+use Rattle.btree.specs.aid.Keeping.{few_pages}
 use Rattle.std.proofs.Common.{inl, inr, Some}
 
 all_few : (f : Item → List Item) (ps : Item → List ℕ) (cs : List Item) → All (λ c. length (f c) ≤ 4092 * length (ps c)) cs → length (flat_map f cs) ≤ 4092 * length (flat_map ps cs)

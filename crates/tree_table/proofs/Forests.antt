@@ -6,9 +6,9 @@ use Rattle.page_store.specs.declared.fault.PageFault.TheVariants as page
 use Rattle.page_store.specs.declared.marks.Mark.{Mark}
 use Rattle.page_store.specs.declared.marks.Mark.TheVariants.{Committed, Fresh, Free}
 use Rattle.page_store.specs.Marks.{mark}
-use Rattle.tree_page.specs.Page.{Item}
-use Rattle.tree_page.specs.declared.widths.Widths.{Widths}
-use Rattle.tree_map.specs.Changes.{HoldsMap, AreHeld, TakePlace, MapReadCause, MapPutCause}
+use Rattle.btree.specs.Page.{Item}
+use Rattle.btree.specs.declared.page.widths.Widths.{Widths}
+use Rattle.btree.specs.Changes.{HoldsMap, AreHeld, TakePlace, MapReadCause, MapPutCause}
 use Rattle.tree_table.specs.declared.slot.TreeSlot.{TreeSlot}
 use Rattle.tree_table.specs.declared.tree.Tree.{Tree}
 use Rattle.tree_table.specs.Trees.{key_width, value_width, root_of}
@@ -17,7 +17,7 @@ use Rattle.tree_table.specs.Working.{HasForest, HoldsForest, forest_there}
 use Rattle.tree_table.specs.aid.Faults.{fault_of}
 use Rattle.page_chain.specs.aid.Resting.{a_chain_rests_on_its_pages}
 use Rattle.page_chain.specs.Chain.{IsChain}
-use Rattle.tree_map.specs.aid.Keeping.{another_map_stays, not_taken}
+use Rattle.btree.specs.aid.Keeping.{another_map_stays, not_taken}
 use Rattle.tree_table.specs.declared.tree.Tree.TheVariants.{Positions, Records, Edges, Order}
 use Rattle.tree_table.specs.declared.tree.Roots.{Roots}
 use Rattle.tree_table.specs.Forest.{AreApart, IsTreeOf}

@@ -2,7 +2,7 @@
 use Rattle.std.proofs.Common.{◌≡◌, ℕ, List, Option, Some, None, true, false, sym}
 use Rattle.std.specs.Option.{is_some}
 use Rattle.arrayvec.specs.ArrayVec.{ArrayVec}
-use Rattle.tree_read.specs.Answers.{found_bytes}
+use Rattle.btree.specs.Answers.{found_bytes}
 
 -- where something was found
 pub some_found : (o : Option (ArrayVec ℕ)) (found : Option (List ℕ)) → true ≡ is_some o → found_bytes o ≡ found → (v : List ℕ) × (found ≡ Some v)

@@ -17,7 +17,7 @@ use Rattle.tree_table.specs.Trees.{root_of}
 use Rattle.tree_table.specs.Working.{work_of, table_now, HoldsTable, HoldsWork}
 use Rattle.tree_table.specs.aid.Growing.{grown_mark}
 use Rattle.tree_table.specs.aid.Keeping.{forest_fits_more, forest_rests}
-use Rattle.tree_map.specs.aid.Laws.{a_map_is_prepared}
+use Rattle.btree.specs.aid.Laws.{a_map_is_prepared}
 use Rattle.tree_table.proofs.Holding.{holds_itself}
 
 -- the pages of a table that is held are there

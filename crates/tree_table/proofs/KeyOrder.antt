@@ -4,7 +4,7 @@ use Rattle.std.proofs.lemmas.Bool.Decides.{nat_tests}
 use Rattle.std.specs.Ordering.{nat_cmp, ordering_then}
 use Rattle.std.specs.declared.cmp.Ordering.{Ordering}
 use Rattle.std.specs.declared.cmp.Ordering.TheVariants.{Less, Equal, Greater}
-use Rattle.tree_page.specs.Page.{key_cmp}
+use Rattle.btree.specs.Page.{key_cmp}
 use Rattle.tree_table.specs.Entries.{number_key}
 use Rattle.tree_table.specs.aid.Numbers.{key_long}
 

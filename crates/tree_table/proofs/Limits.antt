@@ -8,8 +8,8 @@ use Rattle.retrograde.specs.declared.records.State.{State}
 use Rattle.retrograde.specs.declared.records.State.TheVariants.{Known, Expanded, Settled, Processed}
 use Rattle.retrograde.specs.Stored.{Stored, IsTable, is_expanded, is_settled, is_processed}
 use Rattle.retrograde.specs.Changes.{counts_of}
-use Rattle.record_bytes.specs.Numbers.{AreWithinLimits}
-use Rattle.record_bytes.specs.declared.sizes.Sizes.{Sizes}
+use Rattle.game_file.specs.Numbers.{AreWithinLimits}
+use Rattle.game_file.specs.declared.sizes.Sizes.{Sizes}
 
 one_le : (a b : Bool) → (a ≡ true → b ≡ true) → cond a 1 0 ≤ cond b 1 0
 one_le true b so = let e : ◌≡◌ {A = ℕ} (cond b 1 0) 1 = ap (λ (x : Bool). cond x 1 0) (so refl) in omega (arith, e)

@@ -11,7 +11,7 @@ use Rattle.page_chain.specs.Causes.{ChainWriteCause}
 use Rattle.page_chain.specs.declared.page.TheConstants.{PAYLOAD}
 use Rattle.table.specs.declared.fault.TableFault.{TableFault}
 use Rattle.table.specs.declared.fault.TableFault.TheVariants.{Disk, Damaged, TableFull, OutOfMemory, Closed}
-use Rattle.tree_map.specs.aid.Unchanged.{grew_before}
+use Rattle.btree.specs.aid.Unchanged.{grew_before}
 use Rattle.tree_table.specs.Causes.{ChangeCause, HasNoTable, StartCause}
 use Rattle.tree_table.specs.aid.Faults.{fault_of}
 use Rattle.page_store.specs.aid.Carrying.{saved_spells}
@@ -20,7 +20,7 @@ use Rattle.position_pack.specs.declared.kind.PackingKind.{PackingKind}
 use Rattle.game_file.specs.Kept.{Kept, kept_as}
 use Rattle.game_file.specs.aid.Loading.{loaded_is_table}
 use Rattle.game_file.specs.Stops.{LeavesTable}
-use Rattle.root_slot.specs.Fields.{layout_in, goal_numbered, number_of_goal, HasPlaceFor, SaysPages}
+use Rattle.game_file.specs.Fields.{layout_in, goal_numbered, number_of_goal, HasPlaceFor, SaysPages}
 use Rattle.tree_table.specs.declared.slot.TreeSlot.{TreeSlot}
 use Rattle.tree_table.specs.Held.{StoresTrees}
 use Rattle.tree_table.specs.Keeping.{IsKeptInTrees, IsSizedSlot, IsVacant, IsWorkedOn}

@@ -12,14 +12,14 @@ use Rattle.byteorder.specs.Endian.{big_number}
 use Rattle.page_store.specs.Store.{Store, reads}
 use Rattle.retrograde.specs.Edges.{IsAfter, IsNextEdge, HasNoMoreEdges}
 use Rattle.retrograde.specs.Stored.{Stored}
-use Rattle.record_bytes.specs.Bytes.{IsNumber}
-use Rattle.tree_page.specs.Page.{Item, key_cmp}
-use Rattle.tree_page.specs.declared.widths.Widths.{Widths}
-use Rattle.tree_map.specs.Entries.{Ascend, find_entry, next_after}
-use Rattle.tree_map.specs.Next.{IsNextEntry}
-use Rattle.tree_map.specs.Tree.{IsMap}
-use Rattle.tree_map.specs.aid.Next.{the_next_is_the_least, no_next_is_greater}
-use Rattle.tree_map.specs.aid.Order.{ascend_none, same_key}
+use Rattle.game_file.specs.Bytes.{IsNumber}
+use Rattle.btree.specs.Page.{Item, key_cmp}
+use Rattle.btree.specs.declared.page.widths.Widths.{Widths}
+use Rattle.btree.specs.Entries.{Ascend, find_entry, next_after}
+use Rattle.btree.specs.Next.{IsNextEntry}
+use Rattle.btree.specs.Tree.{IsMap}
+use Rattle.btree.specs.aid.Next.{the_next_is_the_least, no_next_is_greater}
+use Rattle.btree.specs.aid.Order.{ascend_none, same_key}
 use Rattle.tree_table.specs.declared.slot.TreeSlot.{TreeSlot}
 use Rattle.tree_table.specs.declared.tree.Tree.TheVariants.{Edges}
 use Rattle.tree_table.specs.Entries.{number_key, edge_key}

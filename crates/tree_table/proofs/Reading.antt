@@ -6,10 +6,10 @@ use Rattle.page_store.specs.Store.{Store}
 use Rattle.retrograde.specs.declared.records.Record.{Record}
 use Rattle.retrograde.specs.Stored.{Stored, HasRecord}
 use Rattle.retrograde.specs.Changes.{fresh_record}
-use Rattle.record_bytes.specs.Bytes.{IsCell, IsNumber}
-use Rattle.record_bytes.specs.aid.Records.{one_cell}
-use Rattle.tree_page.specs.Page.{Item}
-use Rattle.tree_map.specs.Entries.{find_entry}
+use Rattle.game_file.specs.Bytes.{IsCell, IsNumber}
+use Rattle.game_file.specs.aid.Records.{one_cell}
+use Rattle.btree.specs.Page.{Item}
+use Rattle.btree.specs.Entries.{find_entry}
 use Rattle.tree_table.specs.declared.slot.TreeSlot.{TreeSlot}
 use Rattle.tree_table.specs.declared.tree.Tree.TheVariants.{Positions, Records, Order}
 use Rattle.tree_table.specs.Entries.{number_key, AreByNumber}

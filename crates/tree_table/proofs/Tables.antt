@@ -7,10 +7,10 @@ use Rattle.retrograde.specs.declared.records.Counts.{Counts}
 use Rattle.retrograde.specs.declared.records.Record.{Record}
 use Rattle.retrograde.specs.Stored.{Stored, HasRecord, is_expanded, is_processed}
 use Rattle.retrograde.specs.Changes.{fresh_record, with_position, with_record, with_edge, with_settled}
-use Rattle.record_bytes.specs.Bytes.{IsCell, IsNumber, IsPlainCell}
-use Rattle.record_bytes.specs.declared.sizes.Sizes.{Sizes}
-use Rattle.tree_page.specs.Page.{Item}
-use Rattle.tree_map.specs.Entries.{find_entry, put_entry}
+use Rattle.game_file.specs.Bytes.{IsCell, IsNumber, IsPlainCell}
+use Rattle.game_file.specs.declared.sizes.Sizes.{Sizes}
+use Rattle.btree.specs.Page.{Item}
+use Rattle.btree.specs.Entries.{find_entry, put_entry}
 use Rattle.position_pack.specs.declared.kind.PackingKind.{PackingKind}
 use Rattle.tree_table.specs.declared.slot.TreeSlot.{TreeSlot}
 use Rattle.tree_table.specs.declared.tree.Roots.{Roots}

@@ -6,7 +6,7 @@ use Rattle.page_store.specs.Store.{Store}
 use Rattle.retrograde.specs.Stored.{Stored}
 use Rattle.table.specs.declared.fault.TableFault.{TableFault}
 use Rattle.table.specs.declared.fault.TableFault.TheVariants.{Disk, Damaged, TableFull, OutOfMemory, Closed}
-use Rattle.tree_page.specs.Page.{Item}
+use Rattle.btree.specs.Page.{Item}
 use Rattle.tree_table.specs.declared.slot.TreeSlot.{TreeSlot}
 use Rattle.tree_table.specs.declared.tree.Tree.{Tree}
 use Rattle.tree_table.specs.Working.{HasForest, HasTable, HoldsForest, HoldsTable}

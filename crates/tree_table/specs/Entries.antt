@@ -2,10 +2,10 @@
 use Rattle.std.specs.Prelude.{◌≡◌, ℕ, ◌<◌, ◌++◌, Bool, true, List, length, zip, slice_get, Some, IsSome}
 use Rattle.byteorder.specs.Endian.{big_bytes}
 use Rattle.retrograde.specs.Stored.{Stored}
-use Rattle.record_bytes.specs.declared.sizes.Sizes.{Sizes}
-use Rattle.record_bytes.specs.Bytes.{IsCell, IsNumber}
-use Rattle.tree_page.specs.Page.{Item}
-use Rattle.tree_map.specs.Entries.{find_entry}
+use Rattle.game_file.specs.declared.sizes.Sizes.{Sizes}
+use Rattle.game_file.specs.Bytes.{IsCell, IsNumber}
+use Rattle.btree.specs.Page.{Item}
+use Rattle.btree.specs.Entries.{find_entry}
 use Rattle.tree_table.specs.declared.tree.Tree.{Tree}
 use Rattle.tree_table.specs.declared.tree.Tree.TheVariants.{Positions, Records, Edges, Order}
 

@@ -1,9 +1,9 @@
 -- The pages of a game's text and of the four trees of its table. `bytes` are what each page reads as.
 use Rattle.std.specs.Prelude.{◌≡◌, ◌≢◌, ℕ, List, Contains}
 use Rattle.page_chain.specs.Chain.{IsChain}
-use Rattle.tree_page.specs.Page.{Item}
-use Rattle.tree_page.specs.declared.widths.Widths.{Widths}
-use Rattle.tree_map.specs.Tree.{IsMap}
+use Rattle.btree.specs.Page.{Item}
+use Rattle.btree.specs.declared.page.widths.Widths.{Widths}
+use Rattle.btree.specs.Tree.{IsMap}
 use Rattle.tree_table.specs.declared.tree.Tree.{Tree}
 use Rattle.tree_table.specs.declared.tree.Roots.{Roots}
 use Rattle.tree_table.specs.Trees.{key_width, value_width, root_of}

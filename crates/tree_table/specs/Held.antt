@@ -5,9 +5,9 @@ use Rattle.root_pair.specs.Root.{HoldsRoot}
 use Rattle.page_store.specs.Page.{page}
 use Rattle.retrograde.specs.Stored.{IsTable}
 use Rattle.retrograde.specs.Changes.{counts_of}
-use Rattle.root_slot.specs.Fields.{layout_in, first_in, sizes_in, SaysPages}
+use Rattle.game_file.specs.Fields.{layout_in, first_in, sizes_in, SaysPages}
 use Rattle.game_file.specs.Kept.{Kept}
-use Rattle.tree_page.specs.Page.{Item}
+use Rattle.btree.specs.Page.{Item}
 use Rattle.tree_table.specs.declared.tree.Tree.{Tree}
 use Rattle.tree_table.specs.Entries.{AreEntriesOf}
 use Rattle.tree_table.specs.Forest.{IsForest}

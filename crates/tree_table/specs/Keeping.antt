@@ -6,7 +6,7 @@ use Rattle.page_store.specs.Marks.{mark, needs, is_past, IsNeeded}
 use Rattle.page_store.specs.Store.{Store, StoreWorks, IsSafe, reads}
 use Rattle.retrograde.specs.Changes.{counts_of}
 use Rattle.retrograde.specs.Stored.{Stored, IsTable}
-use Rattle.tree_page.specs.Page.{Item}
+use Rattle.btree.specs.Page.{Item}
 use Rattle.tree_table.specs.declared.slot.TreeSlot.{TreeSlot}
 use Rattle.game_file.specs.Kept.{Kept}
 use Rattle.tree_table.specs.declared.tree.Tree.{Tree}
@@ -15,7 +15,7 @@ use Rattle.tree_table.specs.Forest.{IsForest}
 use Rattle.tree_table.specs.Held.{KeepsOnPages}
 use Rattle.tree_table.specs.Slot.{IsEmptyTreeSlot}
 use Rattle.tree_table.specs.Working.{HoldsTable, bare_slot}
-use Rattle.root_slot.specs.Fields.{layout_in, goal_numbered, HasPlaceFor, SaysPages}
+use Rattle.game_file.specs.Fields.{layout_in, goal_numbered, HasPlaceFor, SaysPages}
 use Rattle.position_pack.specs.declared.limits.TheConstants.{MAX_PACKED}
 use Rattle.rbg_game.specs.declared.limits.TheConstants.{MAX_POINTS, MAX_TEXT_BYTES}
 use Rattle.page_store.specs.declared.limits.TheConstants.{MIN_PAGES}

@@ -8,13 +8,13 @@ pub use Rattle.page_store.specs.Store
 pub use Rattle.retrograde.specs.Changes
 pub use Rattle.retrograde.specs.Edges
 pub use Rattle.retrograde.specs.Stored
-pub use Rattle.root_slot.specs.Fields
+pub use Rattle.game_file.specs.Fields
 pub use Rattle.sector_disk.specs.Disk
 pub use Rattle.table.specs.Records
-pub use Rattle.record_bytes.specs.Bytes
-pub use Rattle.tree_map.specs.Entries as TreeMapEntries
-pub use Rattle.tree_page.specs.Page
-pub use Rattle.tree_read.specs.Answers
+pub use Rattle.game_file.specs.Bytes
+pub use Rattle.btree.specs.Entries as TreeMapEntries
+pub use Rattle.btree.specs.Page
+pub use Rattle.btree.specs.Answers
 pub mod Trees
 pub mod Entries
 pub mod Forest

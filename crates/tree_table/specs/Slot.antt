@@ -2,8 +2,8 @@
 use Rattle.std.specs.Prelude.{◌≡◌, ◌≤◌, List, ℕ, Option, None, Some}
 use Rattle.position_pack.specs.declared.kind.PackingKind.{PackingKind}
 use Rattle.rbg_game.specs.declared.limits.TheConstants.{MAX_POINTS}
-use Rattle.root_slot.specs.Fields.{word_at, packing_in, number_of_packing, kind_in, first_in, sizes_in, goal_number_in, goal_numbered, AreZero}
-use Rattle.record_bytes.specs.Numbers.{AreWithinLimits}
+use Rattle.game_file.specs.Fields.{word_at, packing_in, number_of_packing, kind_in, first_in, sizes_in, goal_number_in, goal_numbered, AreZero}
+use Rattle.game_file.specs.Numbers.{AreWithinLimits}
 use Rattle.tree_table.specs.declared.slot.TreeSlot.{TreeSlot}
 use Rattle.tree_table.specs.declared.tree.Roots.{Roots}
 

@@ -6,9 +6,9 @@ use Rattle.byteorder.specs.Endian.{big_number}
 use Rattle.retrograde.specs.declared.records.Record.{Record}
 use Rattle.retrograde.specs.Stored.{Stored}
 use Rattle.table.specs.Records.{state_in, winner_in}
-use Rattle.record_bytes.specs.declared.sizes.Sizes.{Sizes}
-use Rattle.tree_page.specs.Page.{Item, items_of, count_in, child_of}
-use Rattle.tree_map.specs.Entries.{find_entry}
+use Rattle.game_file.specs.declared.sizes.Sizes.{Sizes}
+use Rattle.btree.specs.Page.{Item, items_of, count_in, child_of}
+use Rattle.btree.specs.Entries.{find_entry}
 use Rattle.tree_table.specs.declared.slot.TreeSlot.{TreeSlot}
 use Rattle.tree_table.specs.declared.tree.Tree.{Tree}
 use Rattle.tree_table.specs.declared.tree.Tree.TheVariants.{Records, Edges, Order}

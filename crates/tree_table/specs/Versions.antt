@@ -6,7 +6,7 @@ use Rattle.page_store.specs.Holds.{SameHolds, needed_by}
 use Rattle.page_store.specs.Store.{Store, IsHeldBy, reads}
 use Rattle.retrograde.specs.Changes.{counts_of}
 use Rattle.retrograde.specs.Stored.{Stored}
-use Rattle.tree_page.specs.Page.{Item}
+use Rattle.btree.specs.Page.{Item}
 use Rattle.tree_table.specs.declared.slot.TreeSlot.{TreeSlot}
 use Rattle.tree_table.specs.declared.tree.Tree.{Tree}
 use Rattle.tree_table.specs.Entries.{AreEntriesOf}

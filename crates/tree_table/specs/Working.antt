@@ -9,9 +9,9 @@ use Rattle.retrograde.specs.Stored.{Stored}
 use Rattle.retrograde.specs.Changes.{counts_of}
 use Rattle.table.specs.declared.fault.TableFault.{TableFault}
 use Rattle.table.specs.declared.fault.TableFault.TheVariants.{Disk, Damaged, TableFull, OutOfMemory, Closed}
-use Rattle.tree_page.specs.Page.{Item}
-use Rattle.tree_map.specs.Changes.{AreHeld}
-use Rattle.tree_map.specs.Entries.{put_entry}
+use Rattle.btree.specs.Page.{Item}
+use Rattle.btree.specs.Changes.{AreHeld}
+use Rattle.btree.specs.Entries.{put_entry}
 use Rattle.tree_table.specs.declared.slot.TreeSlot.{TreeSlot}
 use Rattle.tree_table.specs.declared.tree.Tree.{Tree}
 use Rattle.tree_table.specs.Trees.{with_at}

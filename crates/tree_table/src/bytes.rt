@@ -1,16 +1,16 @@
 //! Numbers, edges and cells as bytes of entries.
 ghost use Rattle.std.specs.Prelude.{◌≡◌, ◌≤◌, ◌<◌, ◌^◌, ◌++◌, ℕ, List, Some, IfSome, IfNone, length};
 ghost use Rattle.retrograde.specs.declared.records.Record.{Record};
-ghost use Rattle.record_bytes.specs.Bytes.{IsCell, IsNumber, IsPlainCell};
+ghost use Rattle.game_file.specs.Bytes.{IsCell, IsNumber, IsPlainCell};
 ghost use Rattle.tree_table.specs.Entries.{number_key, edge_key};
 ghost use Rattle.tree_table.specs.aid.Keys.{key_behind};
 ghost use Rattle.position_pack.specs.declared.limits.TheConstants.{MAX_PACKED};
 
+use btree::find::{Bytes, copied};
 use byteorder::{BigEndian, ByteOrder};
+use game_file::{RECORD_BYTES, read_record, record_bytes};
 use position_pack::Packed;
-use record_bytes::{RECORD_BYTES, read_record, record_bytes};
 use retrograde::Record;
-use tree_read::{Bytes, copied};
 
 /// How many bytes a number takes.
 const NUMBER_BYTES: usize = 4;

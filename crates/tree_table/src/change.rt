@@ -5,7 +5,7 @@ ghost use Rattle.page_store.specs.Store.{StoreWorks};
 ghost use Rattle.retrograde.specs.Changes.{fresh_record, with_position, with_record, with_edge, with_settled};
 ghost use Rattle.retrograde.specs.Stored.{Stored};
 ghost use Rattle.table.specs.declared.fault.TableFault.TheVariants.{Disk, TableFull};
-ghost use Rattle.tree_page.specs.Page.{Item};
+ghost use Rattle.btree.specs.Page.{Item};
 ghost use Rattle.tree_table.specs.declared.tree.Tree.{Tree};
 ghost use Rattle.tree_table.specs.Causes.{HasNoForest, HasNoTable, ChangeCause};
 ghost use Rattle.tree_table.specs.Trees.{key_width, value_width, root_of, with_root};
@@ -18,11 +18,11 @@ use crate::fault::table_fault;
 use crate::read::{cell_at, value_at};
 use crate::slot::TreeSlot;
 use crate::tree::{Tree, widths_of};
+use btree::put::put;
 use page_store::Pages;
 use position_pack::Packed;
 use retrograde::{Counts, Record, State};
 use table::TableFault;
-use tree_put::put;
 
 /// Puts this value at this key of this tree. Answers the slot with the tree's new root. The first entry of a tree takes one page.
 fn put_in<P: Pages>(

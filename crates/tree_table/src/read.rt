@@ -3,9 +3,9 @@ ghost use Rattle.std.specs.Prelude.{◌≡◌, ◌↔◌, ◌≤◌, ◌<◌, �
 ghost use Rattle.page_store.specs.Store.{StoreWorks, IsUnchanged};
 ghost use Rattle.retrograde.specs.Edges.{IsAfter, IsNextEdge, HasNoMoreEdges};
 ghost use Rattle.retrograde.specs.Stored.{Stored, HasRecord};
-ghost use Rattle.tree_page.specs.Page.{Item};
-ghost use Rattle.tree_map.specs.Entries.{find_entry, next_after as next_in};
-ghost use Rattle.tree_read.specs.Answers.{found_bytes, found_entry};
+ghost use Rattle.btree.specs.Page.{Item};
+ghost use Rattle.btree.specs.Entries.{find_entry, next_after as next_in};
+ghost use Rattle.btree.specs.Answers.{found_bytes, found_entry};
 ghost use Rattle.tree_table.specs.declared.tree.Tree.{Tree};
 ghost use Rattle.tree_table.specs.Causes.{IsNoForest, IsNoTable, ReadCause};
 ghost use Rattle.tree_table.specs.Working.{HasForest, HasTable};
@@ -15,10 +15,10 @@ use crate::bytes::{Cell, cell_in, edge_in, key_behind, number_in, number_key};
 use crate::fault::table_fault;
 use crate::slot::TreeSlot;
 use crate::tree::{Tree, widths_of};
+use btree::find::{Bytes, Entry, get, next_after};
 use page_store::Pages;
 use position_pack::Packed;
 use table::TableFault;
-use tree_read::{Bytes, Entry, get, next_after};
 
 /// What stands at this key of this tree.
 pub fn value_at<P: Pages>(

@@ -6,7 +6,7 @@ ghost use Rattle.page_store.specs.Spelling.{IsCalm};
 ghost use Rattle.page_store.specs.Store.{Store, StoreWorks, StoreCloses, IsCommitted, reads};
 ghost use Rattle.game_file.specs.Kept.{Kept};
 ghost use Rattle.game_file.specs.Stops.{LeavesEither, LeavesTable};
-ghost use Rattle.root_slot.specs.Fields.{commits_in, layout_in, HasPlaceFor, SaysPages};
+ghost use Rattle.game_file.specs.Fields.{commits_in, layout_in, HasPlaceFor, SaysPages};
 ghost use Rattle.tree_table.specs.Held.{StoresTrees};
 ghost use Rattle.tree_table.specs.Keeping.{IsKeptInTrees, IsStill, IsWorkedOn};
 ghost use Rattle.tree_table.specs.Slot.{slot_in, IsNoTreeSlot, SaysTrees};
@@ -14,8 +14,8 @@ ghost use Rattle.tree_table.specs.Versions.{KeepsHolds};
 ghost use Rattle.tree_table.specs.Working.{HoldsTable};
 
 use crate::slot::{Slot, TreeSlot, game_slot, read_slot};
+use game_file::word_at;
 use page_store::{PageFault, Pages};
-use root_slot::word_at;
 
 /// Commits the table that this slot names in the place of the one that the committed root names. The new root has the layout of the
 /// old one, and tells this count of commits. A stop of the power since the work began leaves the old table or the new one; after `Ok` the new is

@@ -2,18 +2,17 @@
 ghost use Rattle.std.specs.Prelude.{◌≡◌, ◌+◌, ◌≤◌, ◌<◌, ℕ, Option, Some, slice_index, IfSome, IfNone};
 ghost use Rattle.position_pack.specs.declared.kind.PackingKind.{PackingKind};
 ghost use Rattle.rbg_game.specs.declared.limits.TheConstants.{MAX_POINTS};
-ghost use Rattle.root_slot.specs.Fields.{word_at as word_in, layout_in, packing_in, commits_in, capacity_in, goal_number_in};
-ghost use Rattle.root_slot.specs.Fields.{number_of_packing as number_of, AreZero, HasPlaceFor, SaysPages};
+ghost use Rattle.game_file.specs.Fields.{word_at as word_in, layout_in, packing_in, commits_in, capacity_in, goal_number_in};
+ghost use Rattle.game_file.specs.Fields.{number_of_packing as number_of, AreZero, HasPlaceFor, SaysPages};
 ghost use Rattle.tree_table.specs.Slot.{roots_in, slot_in, IsEmptyTreeSlot, IsGameTreeSlot, IsNoTreeSlot, SaysTrees};
 
 use crate::tree::Roots;
+use game_file::{
+    Sizes, are_within_limits, are_zero, long_at, number_of_packing, packing_numbered, put_long,
+    put_word, sizes_in, word_at,
+};
 use position_pack::PackingKind;
 use rbg_game::limits::MAX_POINTS;
-use record_bytes::Sizes;
-use root_slot::{
-    are_within_limits, are_zero, long_at, number_of_packing, packing_numbered, put_long, put_word,
-    sizes_in, word_at,
-};
 
 /// The first layout whose slot says how many pages there are, and may name a goal.
 pub const FIRST_WITH_GOALS: u32 = 3;

@@ -3,7 +3,7 @@ ghost use Rattle.std.specs.Prelude.{◌≡◌, ◌≤◌};
 ghost use Rattle.tree_table.specs.Trees.{key_width, value_width, root_of, with_root};
 ghost use Rattle.position_pack.specs.declared.limits.TheConstants.{MAX_PACKED};
 
-use tree_page::Widths;
+use btree::page::Widths;
 
 /// Which of the four trees of a table.
 #[derive(Clone, Copy, PartialEq, Eq, Debug, Drop)]

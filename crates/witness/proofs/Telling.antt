@@ -18,7 +18,7 @@ use Rattle.retrograde.specs.declared.records.Counts.{Counts}
 use Rattle.retrograde.specs.Sound.{IsLocallySound}
 use Rattle.retrograde.specs.Stored.{view_of}
 use Rattle.retrograde.specs.View.{IsFinished}
-use Rattle.table_work.specs.Work.{AreDone, StopsWith}
+use Rattle.game_table.specs.Work.{AreDone, StopsWith}
 use Rattle.frontier.specs.Causes.{IsRefusal}
 use Rattle.frontier.specs.declared.fault.StepFault.{StepFault}
 use Rattle.frontier.specs.declared.fault.StepFault.TheVariants as step

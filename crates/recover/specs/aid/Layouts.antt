@@ -2,9 +2,9 @@
 use Rattle.std.specs.Prelude.{◌≡◌, ℕ, ◌<◌, ◌≤◌, List, Option, None, Some}
 use Rattle.std.proofs.Common.{arith}
 use Rattle.sector_disk.specs.Disk.{Picture}
-use Rattle.root_slot.specs.Fields.{layout_in}
+use Rattle.game_file.specs.Fields.{layout_in}
 use Rattle.game_file.specs.Kept.{Kept}
-use Rattle.flat_table.specs.Held.{KeepsTable, Stores, IsOlder}
+use Rattle.earlier_layouts.specs.Held.{KeepsTable, Stores, IsOlder}
 use Rattle.tree_table.specs.Held.{StoresTrees}
 use Rattle.tree_file.specs.Older.{IsOlderTable}
 use Rattle.recover.specs.Migrating.{AreLayouts}

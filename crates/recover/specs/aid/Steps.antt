@@ -5,7 +5,7 @@ use Rattle.game_file.specs.Calls.{IsNotOpened}
 use Rattle.game_file.specs.Kept.{Layout, Older}
 use Rattle.game_file.specs.State.{State, GoesFrom}
 use Rattle.game_file.specs.declared.fault.FileFault.{FileFault}
-use Rattle.layout_moves.specs.Moving.{MoveOnCause}
+use Rattle.earlier_layouts.specs.Moving.{MoveOnCause}
 use Rattle.solver.specs.declared.fault.SolverFault.{SolverFault}
 use Rattle.solver.specs.Faults.{file_fault}
 use Rattle.solver.specs.Opening.{IsOpened, OpenCause, LayoutCause}

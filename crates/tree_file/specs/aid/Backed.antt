@@ -6,7 +6,7 @@ use mathlib.Core.HLevel.{Unit-prop}
 use denote.Struct.Props.{props}
 use Rattle.page_store.specs.declared.marks.Mark.TheVariants.{Waiting}
 use Rattle.page_store.specs.Marks.{mark}
-use Rattle.root_slot.specs.Fields.{commits_in, layout_in}
+use Rattle.game_file.specs.Fields.{commits_in, layout_in}
 use Rattle.tree_table.specs.declared.slot.TreeSlot.{TreeSlot}
 use Rattle.tree_table.specs.Keeping.{IsStill, IsSizedSlot, StandsFor, AreSized}
 use Rattle.tree_table.specs.aid.Standing.{still_stands_for, was_honest}

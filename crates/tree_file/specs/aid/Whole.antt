@@ -14,7 +14,7 @@ use Rattle.page_store.specs.Store.{Store, IsSoundStore, StoreWorks, reads}
 use Rattle.page_store.specs.aid.Carrying.{saved_spells}
 use Rattle.page_store.specs.aid.Counting.{rest_free}
 use Rattle.retrograde.specs.Stored.{Stored, IsTable}
-use Rattle.root_slot.specs.Fields.{commits_in, layout_in, goal_numbered, SaysPages}
+use Rattle.game_file.specs.Fields.{commits_in, layout_in, goal_numbered, SaysPages}
 use Rattle.table.specs.declared.fault.TableFault.{TableFault}
 use Rattle.table.specs.declared.fault.TableFault.TheVariants.{Disk as DiskFailed, Damaged, TableFull, OutOfMemory, Closed}
 use Rattle.game_file.specs.Calls.{IsAsked}

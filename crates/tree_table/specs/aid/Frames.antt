@@ -10,10 +10,10 @@ use Rattle.retrograde.specs.Stored.{Stored}
 use Rattle.retrograde.specs.Changes.{counts_of}
 use Rattle.table.specs.declared.fault.TableFault.{TableFault}
 use Rattle.table.specs.declared.fault.TableFault.TheVariants.{Disk, Damaged, TableFull, OutOfMemory, Closed}
-use Rattle.tree_map.specs.aid.Unchanged.{grew_before, unchanged_refl, unchanged_then, unchanged_reads}
+use Rattle.btree.specs.aid.Unchanged.{grew_before, unchanged_refl, unchanged_then, unchanged_reads}
 use Rattle.page_store.specs.declared.marks.Mark.{Mark}
-use Rattle.tree_page.specs.Page.{Item}
-use Rattle.tree_map.specs.Changes.{AreHeld}
+use Rattle.btree.specs.Page.{Item}
+use Rattle.btree.specs.Changes.{AreHeld}
 use Rattle.tree_table.specs.declared.slot.TreeSlot.{TreeSlot}
 use Rattle.tree_table.specs.declared.tree.Tree.{Tree}
 use Rattle.tree_table.specs.Forest.{IsForest}

@@ -9,8 +9,8 @@ use Rattle.page_store.specs.Marks.{mark, committed, needs, rests, IsNeeded}
 use Rattle.page_store.specs.Spelling.{IsCalm}
 use Rattle.page_store.specs.Store.{Store, IsStoreGrown, reads}
 use Rattle.game_file.specs.Kept.{Kept}
-use Rattle.root_slot.specs.Fields.{sizes_in, first_in}
-use Rattle.tree_page.specs.Page.{Item}
+use Rattle.game_file.specs.Fields.{sizes_in, first_in}
+use Rattle.btree.specs.Page.{Item}
 use Rattle.tree_table.specs.declared.slot.TreeSlot.{TreeSlot}
 use Rattle.tree_table.specs.declared.tree.Roots.{Roots}
 use Rattle.tree_table.specs.declared.tree.Tree.{Tree}

@@ -12,17 +12,17 @@ use Rattle.page_store.specs.Store.{Store, reads, StoreWorks, Commits, IsSafe, Is
 use Rattle.page_store.specs.aid.Carrying.{commit_carries, stop_leaves}
 use Rattle.page_store.specs.aid.Works.{still_needed}
 use Rattle.sector_disk.specs.aid.Moments.{still_honest}
-use Rattle.tree_map.specs.aid.Unchanged.{unchanged_reads}
+use Rattle.btree.specs.aid.Unchanged.{unchanged_reads}
 use Rattle.page_chain.specs.aid.Resting.{a_chain_rests_on_its_pages, a_chain_fits_more}
 use Rattle.position_pack.specs.declared.kind.PackingKind.{PackingKind}
 use Rattle.retrograde.specs.Stored.{Stored, IsTable}
-use Rattle.root_slot.specs.Fields.{layout_in, first_in, sizes_in, SaysPages}
+use Rattle.game_file.specs.Fields.{layout_in, first_in, sizes_in, SaysPages}
 use Rattle.game_file.specs.Kept.{Kept, kept_as}
 use Rattle.game_file.specs.Stops.{LeavesEither, LeavesNow, LeavesTable}
-use Rattle.tree_page.specs.Page.{Item}
-use Rattle.tree_page.specs.declared.widths.Widths.{Widths}
-use Rattle.tree_map.specs.Tree.{IsMap}
-use Rattle.tree_map.specs.aid.Laws.{a_map_rests_on_its_pages, a_map_is_prepared}
+use Rattle.btree.specs.Page.{Item}
+use Rattle.btree.specs.declared.page.widths.Widths.{Widths}
+use Rattle.btree.specs.Tree.{IsMap}
+use Rattle.btree.specs.aid.Laws.{a_map_rests_on_its_pages, a_map_is_prepared}
 use Rattle.tree_table.specs.declared.slot.TreeSlot.{TreeSlot}
 use Rattle.tree_table.specs.declared.tree.Tree.{Tree}
 use Rattle.tree_table.specs.declared.tree.Roots.{Roots}

@@ -3,7 +3,7 @@ use Rattle.std.proofs.Common.{◌≡◌, ℕ, ◌^◌, ◌<◌, List, [], ◌++�
 use Rattle.std.proofs.lemmas.List.{append-nil, drop_at}
 use Rattle.byteorder.specs.Endian.{big_number}
 use Rattle.byteorder.specs.Numbers.{length-bytes_high_first, big_number-reads_back}
-use Rattle.record_bytes.specs.Bytes.{IsNumber}
+use Rattle.game_file.specs.Bytes.{IsNumber}
 use Rattle.tree_table.specs.Entries.{number_key, edge_key}
 
 pub key_long : (n : ℕ) → length (number_key n) ≡ 4

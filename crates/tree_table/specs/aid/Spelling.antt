@@ -19,14 +19,14 @@ use Rattle.retrograde.specs.declared.records.State.{State}
 use Rattle.retrograde.specs.declared.records.State.TheVariants.{Known, Expanded, Settled, Processed}
 use Rattle.retrograde.specs.declared.records.Record.{Record}
 use Rattle.retrograde.specs.Stored.{Stored}
-use Rattle.record_bytes.specs.declared.sizes.Sizes.{Sizes}
-use Rattle.record_bytes.specs.Bytes.{state_byte, winner_byte, IsRecord, IsCell}
-use Rattle.tree_page.specs.declared.kind.Kind.TheVariants.{Inner}
-use Rattle.tree_page.specs.declared.widths.Widths.{Widths}
-use Rattle.tree_page.specs.Page.{Item, items_in, items_of, count_in, child_of}
-use Rattle.tree_map.specs.Entries.{find_entry, first_key}
-use Rattle.tree_map.specs.Tree.{entries_below, IsTree, IsMap}
-use Rattle.tree_map.specs.aid.Laws.{contains_root}
+use Rattle.game_file.specs.declared.sizes.Sizes.{Sizes}
+use Rattle.game_file.specs.Bytes.{state_byte, winner_byte, IsRecord, IsCell}
+use Rattle.btree.specs.declared.page.kind.Kind.TheVariants.{Inner}
+use Rattle.btree.specs.declared.page.widths.Widths.{Widths}
+use Rattle.btree.specs.Page.{Item, items_in, items_of, count_in, child_of}
+use Rattle.btree.specs.Entries.{find_entry, first_key}
+use Rattle.btree.specs.Tree.{entries_below, IsTree, IsMap}
+use Rattle.btree.specs.aid.Laws.{contains_root}
 use Rattle.tree_table.specs.declared.slot.TreeSlot.{TreeSlot}
 use Rattle.tree_table.specs.declared.tree.Tree.{Tree}
 use Rattle.tree_table.specs.declared.tree.Tree.TheVariants.{Records, Edges, Order}

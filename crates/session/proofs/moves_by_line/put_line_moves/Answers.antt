@@ -1,5 +1,5 @@
 use Rattle.std.proofs.Common.{inl, inr, [], ◌∷◌}
-use Rattle.printed_lines.proofs.Appending.{appends_then}
+use Rattle.session_lines.proofs.Appending.{appends_then}
 use Rattle.session.proofs.moves_by_line.put_line_moves.Goals as goal
 
 pub returns-in-Ok : goal.returns-in-Ok

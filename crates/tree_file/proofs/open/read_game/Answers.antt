@@ -1,6 +1,6 @@
 use Rattle.std.proofs.Common.{refl}
 use Rattle.tree_file.proofs.Finding.{chain_cause, forest_cause, entries_cause, table_read}
-use Rattle.tree_forest.specs.aid.Marking.{only_then}
+use Rattle.tree_file.specs.aid.Marking.{only_then}
 use Rattle.tree_file.proofs.Marking.{passed_on, reads_only}
 use Rattle.tree_file.proofs.open.read_game.Goals as goal
 

@@ -1,7 +1,7 @@
 use Rattle.std.proofs.Common.{Option, subst}
 use Rattle.tree_table.specs.declared.slot.TreeSlot.{TreeSlot}
 use Rattle.tree_table.specs.Slot.{SaysTrees}
-use Rattle.tree_forest.specs.aid.Marking.{only_none}
+use Rattle.tree_file.specs.aid.Marking.{only_none}
 use Rattle.tree_file.proofs.open.read_named.Goals as goal
 
 pub read_game-requires : goal.read_game-requires

@@ -1,5 +1,5 @@
 use Rattle.std.proofs.Common.{◌∙◌, ap, sym}
-use Rattle.root_slot.specs.Fields.{layout_in}
+use Rattle.game_file.specs.Fields.{layout_in}
 use Rattle.tree_file.proofs.Sealing.{no_root}
 use Rattle.tree_file.proofs.open.read_root.Goals as goal
 

@@ -2,7 +2,7 @@ use Rattle.std.proofs.Common.{◌≡◌, inl, ℕ, false, List, length, None, sy
 use Rattle.sector_disk.specs.aid.Moments.{leaves_more, goes_on_trans, still_honest}
 use Rattle.retrograde.specs.Stored.{loaded}
 use Rattle.rbg_game.specs.Goals.{points_of}
-use Rattle.root_slot.specs.Fields.{layout_in, number_of_goal, HasPlaceFor}
+use Rattle.game_file.specs.Fields.{layout_in, number_of_goal, HasPlaceFor}
 use Rattle.game_file.specs.Kept.{kept_as}
 use Rattle.game_file.specs.Stops.{LeavesTable}
 use Rattle.page_store.specs.aid.Works.{closes_then}

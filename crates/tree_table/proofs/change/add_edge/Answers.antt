@@ -3,14 +3,14 @@ use Rattle.sector_disk.specs.aid.Moments.{still_honest}
 use Rattle.page_store.specs.Store.{reads}
 use Rattle.page_store.specs.aid.Works.{works_then}
 use Rattle.retrograde.specs.Changes.{with_edge}
-use Rattle.record_bytes.specs.declared.sizes.Sizes.{Sizes}
-use Rattle.tree_map.specs.aid.Unchanged.{unchanged_reads}
+use Rattle.game_file.specs.declared.sizes.Sizes.{Sizes}
+use Rattle.btree.specs.aid.Unchanged.{unchanged_reads}
 use Rattle.tree_table.specs.declared.tree.Tree.TheVariants.{Edges}
 use Rattle.tree_table.specs.Causes.{IsNoForest, HasNoForest, HasNoTable}
 use Rattle.tree_table.specs.Entries.{edge_key}
 use Rattle.tree_table.specs.Trees.{root_of}
 use Rattle.tree_table.specs.Working.{HoldsForest, HoldsTable, forest_there, with_entry}
-use Rattle.tree_map.specs.Entries.{find_entry}
+use Rattle.btree.specs.Entries.{find_entry}
 use Rattle.tree_table.specs.aid.Frames.{forest_still}
 use Rattle.tree_table.proofs.Faults.{passed_on, change_for, change_since, read_then}
 use Rattle.tree_table.proofs.Few.{map_few}

@@ -1,6 +1,6 @@
 use Rattle.std.proofs.Common.{◌≡◌, ◌∙◌, ◌+◌, ap, sym, subst, length, arith}
 use Rattle.retrograde.specs.Changes.{fresh_record, with_position}
-use Rattle.record_bytes.specs.Bytes.{IsCell}
+use Rattle.game_file.specs.Bytes.{IsCell}
 use Rattle.tree_table.specs.declared.tree.Roots.{Roots}
 use Rattle.tree_table.specs.declared.tree.Tree.TheVariants.{Positions, Records}
 use Rattle.tree_table.specs.Trees.{root_of}

@@ -5,9 +5,9 @@ use Rattle.page_store.specs.Marks.{free_count}
 use Rattle.page_store.specs.Store.{Store}
 use Rattle.table.specs.declared.fault.TableFault.{TableFault}
 use Rattle.table.specs.declared.fault.TableFault.TheVariants.{TableFull}
-use Rattle.tree_page.specs.declared.widths.Widths.{Widths}
-use Rattle.tree_map.specs.Changes.{MapPutCause}
-use Rattle.tree_map.specs.Entries.{put_entry}
+use Rattle.btree.specs.declared.page.widths.Widths.{Widths}
+use Rattle.btree.specs.Changes.{MapPutCause}
+use Rattle.btree.specs.Entries.{put_entry}
 use Rattle.tree_table.specs.declared.tree.Roots.{Roots}
 use Rattle.tree_table.specs.declared.tree.Tree.{Tree}
 use Rattle.tree_table.specs.declared.tree.Tree.TheVariants.{Positions, Records, Edges, Order}

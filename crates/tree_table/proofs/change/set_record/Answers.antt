@@ -2,8 +2,8 @@ use Rattle.std.proofs.Common.{◌≡◌, ◌∙◌, length, sym, ap, subst, arit
 use Rattle.sector_disk.specs.aid.Moments.{still_honest}
 use Rattle.page_store.specs.aid.Works.{works_then}
 use Rattle.retrograde.specs.Changes.{with_record}
-use Rattle.record_bytes.specs.Bytes.{IsCell}
-use Rattle.tree_map.specs.aid.Unchanged.{unchanged_reads}
+use Rattle.game_file.specs.Bytes.{IsCell}
+use Rattle.btree.specs.aid.Unchanged.{unchanged_reads}
 use Rattle.tree_table.specs.declared.tree.Tree.TheVariants.{Records}
 use Rattle.tree_table.specs.Causes.{IsNoTable, HasNoForest, HasNoTable}
 use Rattle.tree_table.specs.Entries.{number_key}

@@ -1,8 +1,8 @@
 use Rattle.std.proofs.Common.{◌∙◌, ℕ, List, sym, ap, subst}
-use Rattle.record_bytes.specs.Bytes.{IsCell}
+use Rattle.game_file.specs.Bytes.{IsCell}
 use Rattle.retrograde.specs.declared.records.Record.{Record}
-use Rattle.tree_map.specs.Entries.{find_entry}
-use Rattle.tree_read.specs.Answers.{found_bytes}
+use Rattle.btree.specs.Entries.{find_entry}
+use Rattle.btree.specs.Answers.{found_bytes}
 use Rattle.tree_table.specs.declared.tree.Tree.TheVariants.{Records}
 use Rattle.tree_table.specs.Causes.{IsNoForest, IsNoTable}
 use Rattle.tree_table.proofs.Faults.{passed_on, read_for}

@@ -1,10 +1,10 @@
 use Rattle.std.proofs.Common.{◌≡◌, ◌∙◌, ◌++◌, ◌<◌, ◌≤◌, ◌^◌, ℕ, Some, false, true, length, sym, ap, subst, arith}
-use Rattle.record_bytes.specs.Bytes.{IsNumber}
+use Rattle.game_file.specs.Bytes.{IsNumber}
 use Rattle.tree_table.specs.Causes.{IsNoForest, IsNoTable}
 use Rattle.tree_table.proofs.Faults.{passed_on, read_for}
-use Rattle.tree_page.specs.Page.{Item}
-use Rattle.tree_map.specs.Entries.{next_after as next_in}
-use Rattle.tree_read.specs.Answers.{found_entry}
+use Rattle.btree.specs.Page.{Item}
+use Rattle.btree.specs.Entries.{next_after as next_in}
+use Rattle.btree.specs.Answers.{found_entry}
 use Rattle.tree_table.specs.declared.tree.Tree.TheVariants.{Edges}
 use Rattle.tree_table.specs.aid.Keys.{key_behind}
 use Rattle.tree_table.proofs.NextEdges.{no_more, is_edge, of_another, within, next_edge, later}

@@ -1,7 +1,7 @@
 use Rattle.std.proofs.Common.{◌∙◌, ℕ, List, sym, ap, subst, arith}
-use Rattle.record_bytes.specs.Bytes.{IsNumber}
-use Rattle.tree_map.specs.Entries.{find_entry}
-use Rattle.tree_read.specs.Answers.{found_bytes}
+use Rattle.game_file.specs.Bytes.{IsNumber}
+use Rattle.btree.specs.Entries.{find_entry}
+use Rattle.btree.specs.Answers.{found_bytes}
 use Rattle.tree_table.specs.declared.tree.Tree.TheVariants.{Positions}
 use Rattle.tree_table.specs.Causes.{IsNoForest, IsNoTable}
 use Rattle.tree_table.proofs.Faults.{passed_on, read_for}

@@ -6,10 +6,10 @@ use Rattle.page_store.specs.declared.fault.PageFault.{PageFault}
 use Rattle.page_store.specs.declared.fault.PageFault.TheVariants.{Disk, NotATable, Damaged, TableFull, OutOfMemory, Closed}
 use Rattle.game_file.specs.Kept.{Kept}
 use Rattle.game_file.specs.Stops.{LeavesTable}
-use Rattle.record_bytes.specs.Numbers.{AreWithinLimits}
+use Rattle.game_file.specs.Numbers.{AreWithinLimits}
 use Rattle.position_pack.specs.declared.kind.PackingKind.{PackingKind}
-use Rattle.root_slot.specs.Fields.{layout_in, packing_in, number_of_packing, goal_numbered, HasPlaceFor, SaysPages}
-use Rattle.tree_map.specs.aid.Unchanged.{unchanged_refl}
+use Rattle.game_file.specs.Fields.{layout_in, packing_in, number_of_packing, goal_numbered, HasPlaceFor, SaysPages}
+use Rattle.btree.specs.aid.Unchanged.{unchanged_refl}
 use Rattle.tree_table.specs.declared.slot.TreeSlot.{TreeSlot}
 use Rattle.tree_table.specs.Held.{StoresTrees}
 use Rattle.tree_table.specs.Keeping.{IsKeptInTrees, IsWorkedOn}

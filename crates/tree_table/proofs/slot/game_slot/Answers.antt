@@ -1,9 +1,9 @@
 use Rattle.std.proofs.Common.{◌≡◌, ◌∙◌, ◌≤◌, ℕ, sym, subst, arith}
 use Rattle.std.specs.Prelude.{slice_index}
-use Rattle.root_slot.specs.Fields.{word_at, long_at, capacity_in, goal_number_in, kind_in, HasPlaceFor}
-use Rattle.root_slot.specs.aid.Goals.{goal_is}
-use Rattle.root_slot.specs.aid.Packings.{kind_is}
-use Rattle.root_slot.specs.aid.Words.{long_same, word_same}
+use Rattle.game_file.specs.Fields.{word_at, long_at, capacity_in, goal_number_in, kind_in, HasPlaceFor}
+use Rattle.game_file.specs.aid.Goals.{goal_is}
+use Rattle.game_file.specs.aid.Packings.{kind_is}
+use Rattle.game_file.specs.aid.Words.{long_same, word_same}
 use Rattle.tree_table.specs.Slot.{slot_in}
 use Rattle.tree_table.proofs.slot.game_slot.Goals as goal
 

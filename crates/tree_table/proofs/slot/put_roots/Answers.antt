@@ -1,5 +1,5 @@
 use Rattle.std.proofs.Common.{◌≡◌, ◌∙◌, arith}
-use Rattle.root_slot.specs.Fields.{word_at}
+use Rattle.game_file.specs.Fields.{word_at}
 use Rattle.tree_table.specs.Slot.{roots_in}
 use Rattle.tree_table.proofs.slot.put_roots.Goals as goal
 

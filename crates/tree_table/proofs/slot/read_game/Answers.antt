@@ -1,8 +1,8 @@
 use Rattle.std.proofs.Common.{◌≡◌, ◌∙◌, sym, ap, subst, arith}
-use Rattle.root_slot.specs.Fields.{goal_numbered, number_of_packing, packing_in}
-use Rattle.root_slot.specs.aid.Packings.{kind_is}
-use Rattle.record_bytes.specs.Numbers.{AreWithinLimits}
-use Rattle.record_bytes.specs.declared.sizes.Sizes.{Sizes}
+use Rattle.game_file.specs.Fields.{goal_numbered, number_of_packing, packing_in}
+use Rattle.game_file.specs.aid.Packings.{kind_is}
+use Rattle.game_file.specs.Numbers.{AreWithinLimits}
+use Rattle.game_file.specs.declared.sizes.Sizes.{Sizes}
 use Rattle.tree_table.proofs.slot.read_game.Goals as goal
 
 pub returns-clause-says : goal.returns-clause-says

@@ -1,6 +1,6 @@
 use Rattle.std.proofs.Common.{ap, subst, Option, Err, refl}
 use Rattle.legal_moves.specs.declared.compiled.Compiled.{Compiled}
-use Rattle.known_moves.specs.declared.fault.KnownMovesFault.{KnownMovesFault}
+use Rattle.best_line.specs.declared.known_fault.KnownMovesFault.{KnownMovesFault}
 use Rattle.solver.specs.State.{IsSourceOf}
 use Rattle.solver.proofs.MovesAsking.{moves_found, wide_number, no_position, not_sound, moves_cause, moves_numbered}
 use Rattle.solver.proofs.Loading.{same_source}

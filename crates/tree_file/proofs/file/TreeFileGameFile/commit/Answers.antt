@@ -1,7 +1,7 @@
 use Rattle.std.proofs.Common.{◌≡◌, ℕ, List, length, false, Some, IsTrue, refl, sym, ◌∙◌, ap, subst, arith}
 use mathlib.Core.Logic.{∥∥₁_elim, ∥∥₁_prop}
 use Rattle.sector_disk.specs.aid.Moments.{goes_on_trans}
-use Rattle.root_slot.specs.Fields.{commits_in, goal_numbered, layout_in, HasPlaceFor}
+use Rattle.game_file.specs.Fields.{commits_in, goal_numbered, layout_in, HasPlaceFor}
 use Rattle.game_file.specs.declared.fault.FileFault.{FileFault}
 use Rattle.game_file.specs.Causes.{FileCommitCause}
 use Rattle.game_file.specs.Kept.{kept_as}

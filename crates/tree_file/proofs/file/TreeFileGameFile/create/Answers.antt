@@ -1,7 +1,7 @@
 use Rattle.std.proofs.Common.{◌≡◌, ◌/◌, ◌∙◌, ℕ, ap, sym, subst}
 use Rattle.std.specs.Prelude.{min}
 use Rattle.sector_disk.specs.aid.Moments.{still_honest}
-use Rattle.root_slot.specs.Fields.{commits_in, SaysPages}
+use Rattle.game_file.specs.Fields.{commits_in, SaysPages}
 use Rattle.game_file.specs.State.{pages_of}
 use Rattle.game_file.specs.declared.fault.FileFault.{FileFault}
 use Rattle.game_file.specs.Causes.{FileCreateCause}

@@ -5,7 +5,7 @@ use Rattle.game_file.specs.Faults.{of_pages}
 use Rattle.game_file.specs.Growing.{FileGrowCause, IsGrownFile, IsNotGrown}
 use Rattle.game_file.specs.State.{count_behind}
 use Rattle.game_file.specs.aid.Growing.{asked_not_grown}
-use Rattle.root_slot.specs.Fields.{commits_in}
+use Rattle.game_file.specs.Fields.{commits_in}
 use Rattle.tree_table.specs.Held.{StoresTrees}
 use Rattle.tree_table.specs.InTrees.{work_in}
 use Rattle.tree_table.specs.aid.Standing.{still_then}

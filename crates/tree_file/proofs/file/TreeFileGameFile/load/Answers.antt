@@ -1,6 +1,6 @@
 use Rattle.std.proofs.Common.{◌≡◌, ◌⊎◌, ℕ, List, length, false, Option, None, Some, IsTrue, refl, sym, ◌∙◌, ap, subst, arith}
 use Rattle.rbg_game.specs.Goals.{points_of}
-use Rattle.root_slot.specs.Fields.{number_of_goal, HasPlaceFor}
+use Rattle.game_file.specs.Fields.{number_of_goal, HasPlaceFor}
 use Rattle.retrograde.specs.Stored.{loaded}
 use Rattle.game_file.specs.declared.fault.FileFault.{FileFault}
 use Rattle.game_file.specs.Calls.{IsPut, IsNotPut}

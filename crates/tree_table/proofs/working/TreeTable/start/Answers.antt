@@ -1,6 +1,6 @@
 use Rattle.std.proofs.Common.{ℕ, List, length, None, Some, subst}
 use Rattle.rbg_game.specs.Goals.{points_of}
-use Rattle.root_slot.specs.Fields.{layout_in}
+use Rattle.game_file.specs.Fields.{layout_in}
 use Rattle.retrograde.specs.Stored.{loaded}
 use Rattle.game_file.specs.Kept.{kept_as}
 use Rattle.game_file.specs.Stops.{LeavesEither}

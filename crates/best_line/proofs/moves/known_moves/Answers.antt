@@ -1,0 +1,176 @@
+use Rattle.std.proofs.Common.{◌∙◌, ap, subst, sym, refl, ℕ, List, Err}
+use Rattle.position_pack.specs.Packings.{IsPacked}
+use Rattle.retrograde.specs.Stored.{Stored, IsTable, view_of}
+use Rattle.legal_moves.specs.Compiled.{compiled_game, packing_kind}
+use Rattle.legal_moves.specs.declared.fault.MoveFault.{MoveFault}
+use Rattle.legal_moves.proofs.SourceLemmas.{at_by_packed, packed_by_at}
+use Rattle.best_line.proofs.Passing.{passed_on, not_this, ok_differs}
+use Rattle.best_line.specs.aid.Found.{AreToldMoves}
+use Rattle.best_line.proofs.FaultLemmas.{inconsistent_is_narrow, of_table_after, search_is_consistent, search_is_wide, search_of_none, table_is_none}
+use Rattle.best_line.proofs.FoundLemmas.{are_successors, each_known, positions_of}
+use Rattle.best_line.proofs.moves.known_moves.Goals as goal
+
+pub moves-requires : goal.moves-requires
+moves-requires g c =
+    let v = c.args.compiled.now in
+    let x = c.in_ok-packed.packed.items in
+    let form = c.packing.ensures in
+    let here = at_by_packed (packing_kind v) (compiled_game v) c.packing.result.now x c.in-Some.at form (subst (IsPacked c.packing.result.now c.in-Some.at) c.deref.ensures.0 c.in-Some.ensures) in
+    record { at = here.position_is }
+
+pub told_moves-requires-clause-positions : goal.told_moves-requires-clause-positions
+told_moves-requires-clause-positions g c =
+    let v = c.args.compiled.now in
+    let x = c.in_ok-packed.packed.items in
+    let form = c.packing.ensures in
+    let here = at_by_packed (packing_kind v) (compiled_game v) c.packing.result.now x c.in-Some.at form (subst (IsPacked c.packing.result.now c.in-Some.at) c.deref.ensures.0 c.in-Some.ensures) in
+    positions_of (compiled_game v) c.in-Some.at c.in_ok-found.found c.requires.compiled.sound here.position_is c.in_ok-found.ensures.exact.words
+
+pub returns-clause-moves : goal.returns-clause-moves
+returns-clause-moves g c = λ honest table.
+    let v = c.args.compiled.now in
+    let x = c.in_ok-packed.packed.items in
+    let form = c.packing.ensures in
+    let here = at_by_packed (packing_kind v) (compiled_game v) c.packing.result.now x c.in-Some.at form (subst (IsPacked c.packing.result.now c.in-Some.at) c.deref.ensures.0 c.in-Some.ensures) in
+    let h = c.in_ok-packed.ensures.honest.0 honest in
+    let same = c.in_ok-packed.ensures.same honest in
+    let table' = subst (λ (t : Stored (List ℕ)). IsTable t) (sym same) table in
+    let kind = packing_kind v in
+    let game = compiled_game v in
+    let view = view_of (g.T.Table.stored c.args.table.now) in
+    let told =
+    subst (λ (t : Stored (List ℕ)). AreToldMoves kind game (view_of t) c.in_ok-found.found c.in_ok-moves.moves.items) same (c.in_ok-moves.ensures.told h table') in
+    record {
+      bytes = x;
+      number_is = c.in_ok-packed.ensures.position honest;
+      at = c.in-Some.at;
+      at_is = here;
+      mover_is = refl;
+      successors = are_successors kind game view c.requires.compiled.sound x c.in-Some.at here c.in_ok-found.found c.in_ok-moves.moves.items told c.in_ok-found.ensures.exact.successors;
+      each = each_known kind game view c.requires.compiled.sound x c.in-Some.at here c.in_ok-found.found c.in_ok-moves.moves.items told c.in_ok-found.ensures.shortest;
+    }
+
+pub returns-in_default-clause-none : goal.returns-in_default-clause-none
+returns-in_default-clause-none g c = λ honest is.
+    let v = c.args.compiled.now in
+    let x = c.in_ok-packed.packed.items in (
+      x,
+      c.in_ok-packed.ensures.position honest,
+      λ position.
+          c.in_default.ensures position.0
+          (subst (IsPacked c.packing.result.now position.0) (sym c.deref.ensures.0)
+          (packed_by_at (packing_kind v) (compiled_game v) c.packing.result.now x position.0 c.packing.ensures position.1)),
+    )
+
+pub returns-in_default-clause-wide : goal.returns-in_default-clause-wide
+returns-in_default-clause-wide g c = λ honest is. absurd (inconsistent_is_narrow is)
+
+pub returns-in_err-packed-clause-none : goal.returns-in_err-packed-clause-none
+returns-in_err-packed-clause-none g c = λ honest is. absurd ((table_is_none _).0 (not_this c.from_residual.result _ _ c.from_residual.ensures is))
+
+pub returns-in_err-packed-clause-wide : goal.returns-in_err-packed-clause-wide
+returns-in_err-packed-clause-wide g c = λ honest is. absurd ((table_is_none _).1 (not_this c.from_residual.result _ _ c.from_residual.ensures is))
+
+pub returns-in_err-packed-clause-room : goal.returns-in_err-packed-clause-room
+returns-in_err-packed-clause-room g c = passed_on _ c.from_residual.result _ c.from_residual.ensures c.in_err-packed.ensures.room
+
+pub returns-in_err-packed-clause-fault : goal.returns-in_err-packed-clause-fault
+returns-in_err-packed-clause-fault g c = passed_on _ c.from_residual.result _ c.from_residual.ensures c.in_err-packed.ensures.fault
+
+pub returns-in_err-found-clause-none : goal.returns-in_err-found-clause-none
+returns-in_err-found-clause-none g c = λ honest is. absurd (search_is_consistent _ (not_this c.from_residual-in_err-found.result _ _ c.from_residual-in_err-found.ensures is))
+
+pub returns-in_err-found-clause-wide : goal.returns-in_err-found-clause-wide
+returns-in_err-found-clause-wide g c = λ honest is.
+    let v = c.args.compiled.now in
+    let x = c.in_ok-packed.packed.items in
+    let form = c.packing.ensures in
+    let here = at_by_packed (packing_kind v) (compiled_game v) c.packing.result.now x c.in-Some.at form (subst (IsPacked c.packing.result.now c.in-Some.at) c.deref.ensures.0 c.in-Some.ensures) in
+    let wide = search_is_wide _ (not_this c.from_residual-in_err-found.result _ _ c.from_residual-in_err-found.ensures is) in
+    (x, c.in_ok-packed.ensures.position honest, (c.in-Some.at, here, c.in_err-found.ensures.wide (ap (λ (f : MoveFault). Err f) wide)))
+
+pub returns-in_err-found-clause-room : goal.returns-in_err-found-clause-room
+returns-in_err-found-clause-room g c = passed_on _ c.from_residual-in_err-found.result _ c.from_residual-in_err-found.ensures (search_of_none _ _)
+
+pub returns-in_err-found-clause-fault : goal.returns-in_err-found-clause-fault
+returns-in_err-found-clause-fault g c = passed_on _ c.from_residual-in_err-found.result _ c.from_residual-in_err-found.ensures (search_of_none _ _)
+
+pub returns-in_err-moves-clause-none : goal.returns-in_err-moves-clause-none
+returns-in_err-moves-clause-none g c = λ honest is. absurd (c.in_err-moves.ensures.searched.0 (not_this c.from_residual-in_err-moves.result _ _ c.from_residual-in_err-moves.ensures is))
+
+pub returns-in_err-moves-clause-wide : goal.returns-in_err-moves-clause-wide
+returns-in_err-moves-clause-wide g c = λ honest is. absurd (c.in_err-moves.ensures.searched.1 (not_this c.from_residual-in_err-moves.result _ _ c.from_residual-in_err-moves.ensures is))
+
+pub returns-in_err-moves-clause-room : goal.returns-in_err-moves-clause-room
+returns-in_err-moves-clause-room g c = passed_on _ c.from_residual-in_err-moves.result _ c.from_residual-in_err-moves.ensures c.in_err-moves.ensures.room
+
+pub returns-in_err-moves-clause-fault : goal.returns-in_err-moves-clause-fault
+returns-in_err-moves-clause-fault g c =
+    passed_on _ c.from_residual-in_err-moves.result _ c.from_residual-in_err-moves.ensures
+    (of_table_after _ _ _ (λ f fails. g.met.T.Table.fails_since _ _ _ _ (g.met.T.Table.stays_goes_on _ _ c.in_ok-packed.ensures.stays) fails) c.in_err-moves.ensures.fault)
+
+pub returns-clause-none : goal.returns-clause-none
+returns-clause-none g c = λ honest is. absurd (ok_differs _ _ is)
+
+pub returns-clause-wide : goal.returns-clause-wide
+returns-clause-wide g c = λ honest is. absurd (ok_differs _ _ is)
+
+pub returns-in_err-packed-clause-same : goal.returns-in_err-packed-clause-same
+returns-in_err-packed-clause-same g c = λ h. c.in_err-packed.ensures.same h
+
+pub returns-in_err-packed-clause-honest : goal.returns-in_err-packed-clause-honest
+returns-in_err-packed-clause-honest g c = (λ h. c.in_err-packed.ensures.honest.0 h, λ h. c.in_err-packed.ensures.honest.1 h)
+
+pub returns-in_err-packed-clause-counts : goal.returns-in_err-packed-clause-counts
+returns-in_err-packed-clause-counts g c = c.in_err-packed.ensures.counts
+
+pub returns-in_err-packed-clause-stays : goal.returns-in_err-packed-clause-stays
+returns-in_err-packed-clause-stays g c = c.in_err-packed.ensures.stays
+
+pub returns-in_default-clause-same : goal.returns-in_default-clause-same
+returns-in_default-clause-same g c = λ h. c.in_ok-packed.ensures.same h
+
+pub returns-in_default-clause-honest : goal.returns-in_default-clause-honest
+returns-in_default-clause-honest g c = (λ h. c.in_ok-packed.ensures.honest.0 h, λ h. c.in_ok-packed.ensures.honest.1 h)
+
+pub returns-in_default-clause-counts : goal.returns-in_default-clause-counts
+returns-in_default-clause-counts g c = c.in_ok-packed.ensures.counts
+
+pub returns-in_default-clause-stays : goal.returns-in_default-clause-stays
+returns-in_default-clause-stays g c = c.in_ok-packed.ensures.stays
+
+pub returns-in_err-found-clause-same : goal.returns-in_err-found-clause-same
+returns-in_err-found-clause-same g c = λ h. c.in_ok-packed.ensures.same h
+
+pub returns-in_err-found-clause-honest : goal.returns-in_err-found-clause-honest
+returns-in_err-found-clause-honest g c = (λ h. c.in_ok-packed.ensures.honest.0 h, λ h. c.in_ok-packed.ensures.honest.1 h)
+
+pub returns-in_err-found-clause-counts : goal.returns-in_err-found-clause-counts
+returns-in_err-found-clause-counts g c = c.in_ok-packed.ensures.counts
+
+pub returns-in_err-found-clause-stays : goal.returns-in_err-found-clause-stays
+returns-in_err-found-clause-stays g c = c.in_ok-packed.ensures.stays
+
+pub returns-in_err-moves-clause-same : goal.returns-in_err-moves-clause-same
+returns-in_err-moves-clause-same g c = λ h. c.in_err-moves.ensures.same (c.in_ok-packed.ensures.honest.0 h) ∙ c.in_ok-packed.ensures.same h
+
+pub returns-in_err-moves-clause-honest : goal.returns-in_err-moves-clause-honest
+returns-in_err-moves-clause-honest g c = (λ h. c.in_err-moves.ensures.honest.0 (c.in_ok-packed.ensures.honest.0 h), λ h. c.in_ok-packed.ensures.honest.1 (c.in_err-moves.ensures.honest.1 h))
+
+pub returns-in_err-moves-clause-counts : goal.returns-in_err-moves-clause-counts
+returns-in_err-moves-clause-counts g c = c.in_err-moves.ensures.counts ∙ c.in_ok-packed.ensures.counts
+
+pub returns-in_err-moves-clause-stays : goal.returns-in_err-moves-clause-stays
+returns-in_err-moves-clause-stays g c = g.met.T.Table.stays_then _ _ _ c.in_ok-packed.ensures.stays c.in_err-moves.ensures.stays
+
+pub returns-clause-same : goal.returns-clause-same
+returns-clause-same g c = λ h. c.in_ok-moves.ensures.same (c.in_ok-packed.ensures.honest.0 h) ∙ c.in_ok-packed.ensures.same h
+
+pub returns-clause-honest : goal.returns-clause-honest
+returns-clause-honest g c = (λ h. c.in_ok-moves.ensures.honest.0 (c.in_ok-packed.ensures.honest.0 h), λ h. c.in_ok-packed.ensures.honest.1 (c.in_ok-moves.ensures.honest.1 h))
+
+pub returns-clause-counts : goal.returns-clause-counts
+returns-clause-counts g c = c.in_ok-moves.ensures.counts ∙ c.in_ok-packed.ensures.counts
+
+pub returns-clause-stays : goal.returns-clause-stays
+returns-clause-stays g c = g.met.T.Table.stays_then _ _ _ c.in_ok-packed.ensures.stays c.in_ok-moves.ensures.stays

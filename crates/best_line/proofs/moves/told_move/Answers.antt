@@ -1,0 +1,102 @@
+use Rattle.std.proofs.Common.{◌∙◌, ap, subst, sym, refl}
+use Rattle.rbg_game.specs.Games.{Game}
+use Rattle.rbg_game.specs.Positions.{IsPositionOf}
+use Rattle.rbg_game.specs.Sound.{IsSoundGame}
+use Rattle.position_pack.specs.Packings.{Form, packed_by}
+use Rattle.position_pack.specs.Texts.{text_of}
+use Rattle.retrograde.specs.Stored.{view_of}
+use Rattle.legal_moves.specs.Compiled.{compiled_game, packing_kind}
+use Rattle.best_line.proofs.Passing.{passed_on}
+use Rattle.best_line.proofs.FaultLemmas.{memory_is_none, table_is_none}
+use Rattle.best_line.proofs.FoundLemmas.{position_found, told_is}
+use Rattle.best_line.proofs.moves.told_move.Goals as goal
+
+pub show-requires-clause-sound : goal.show-requires-clause-sound
+show-requires-clause-sound g c = subst IsSoundGame (sym c.game.ensures) c.requires.compiled.sound
+
+pub show-requires-clause-position : goal.show-requires-clause-position
+show-requires-clause-position g c =
+    subst (λ (game : Game). IsPositionOf game c.successor_of-next.result) (sym c.game.ensures)
+    (position_found (compiled_game c.args.compiled.now) c.args.moves.now c.args.k c.successor_of-next.result c.requires.index c.successor_of-next.ensures)
+
+pub returns-clause-told : goal.returns-clause-told
+returns-clause-told g c = λ honest table.
+    let game = compiled_game c.args.compiled.now in
+    told_is (packing_kind c.args.compiled.now) game (view_of (g.T.Table.stored c.args.table.now)) _ c.successor_of-next.result _ c.successor_of-next.ensures
+    c.in_ok-word.ensures (c.pack-packed.ensures ∙ ap (λ (f : Form). packed_by f.kind f.shape c.successor_of-next.result) c.packing.ensures)
+    (c.in_ok-text.ensures ∙ ap (λ (g : Game). text_of g c.successor_of-next.result) c.game.ensures) (c.in_ok-told.ensures.told honest table)
+
+pub returns-in_err-word-clause-same : goal.returns-in_err-word-clause-same
+returns-in_err-word-clause-same g c = λ h. refl
+
+pub returns-in_err-word-clause-honest : goal.returns-in_err-word-clause-honest
+returns-in_err-word-clause-honest g c = (λ h. h, λ h. h)
+
+pub returns-in_err-word-clause-counts : goal.returns-in_err-word-clause-counts
+returns-in_err-word-clause-counts g c = refl
+
+pub returns-in_err-word-clause-stays : goal.returns-in_err-word-clause-stays
+returns-in_err-word-clause-stays g c = g.met.T.Table.stays_here _
+
+pub returns-in_err-word-clause-room : goal.returns-in_err-word-clause-room
+returns-in_err-word-clause-room g c = passed_on _ c.from_residual.result _ c.from_residual.ensures tt
+
+pub returns-in_err-word-clause-fault : goal.returns-in_err-word-clause-fault
+returns-in_err-word-clause-fault g c = passed_on _ c.from_residual.result _ c.from_residual.ensures tt
+
+pub returns-in_err-word-clause-searched : goal.returns-in_err-word-clause-searched
+returns-in_err-word-clause-searched g c = passed_on _ c.from_residual.result _ c.from_residual.ensures memory_is_none
+
+pub returns-in_err-text-clause-same : goal.returns-in_err-text-clause-same
+returns-in_err-text-clause-same g c = λ h. refl
+
+pub returns-in_err-text-clause-honest : goal.returns-in_err-text-clause-honest
+returns-in_err-text-clause-honest g c = (λ h. h, λ h. h)
+
+pub returns-in_err-text-clause-counts : goal.returns-in_err-text-clause-counts
+returns-in_err-text-clause-counts g c = refl
+
+pub returns-in_err-text-clause-stays : goal.returns-in_err-text-clause-stays
+returns-in_err-text-clause-stays g c = g.met.T.Table.stays_here _
+
+pub returns-in_err-text-clause-room : goal.returns-in_err-text-clause-room
+returns-in_err-text-clause-room g c = passed_on _ c.from_residual-in_err-text.result _ c.from_residual-in_err-text.ensures tt
+
+pub returns-in_err-text-clause-fault : goal.returns-in_err-text-clause-fault
+returns-in_err-text-clause-fault g c = passed_on _ c.from_residual-in_err-text.result _ c.from_residual-in_err-text.ensures tt
+
+pub returns-in_err-text-clause-searched : goal.returns-in_err-text-clause-searched
+returns-in_err-text-clause-searched g c = passed_on _ c.from_residual-in_err-text.result _ c.from_residual-in_err-text.ensures memory_is_none
+
+pub returns-in_err-told-clause-same : goal.returns-in_err-told-clause-same
+returns-in_err-told-clause-same g c = λ h. c.in_err-told.ensures.same h
+
+pub returns-in_err-told-clause-honest : goal.returns-in_err-told-clause-honest
+returns-in_err-told-clause-honest g c = (λ h. c.in_err-told.ensures.honest.0 h, λ h. c.in_err-told.ensures.honest.1 h)
+
+pub returns-in_err-told-clause-counts : goal.returns-in_err-told-clause-counts
+returns-in_err-told-clause-counts g c = c.in_err-told.ensures.counts
+
+pub returns-in_err-told-clause-stays : goal.returns-in_err-told-clause-stays
+returns-in_err-told-clause-stays g c = c.in_err-told.ensures.stays
+
+pub returns-in_err-told-clause-room : goal.returns-in_err-told-clause-room
+returns-in_err-told-clause-room g c = passed_on _ c.from_residual-in_err-told.result _ c.from_residual-in_err-told.ensures c.in_err-told.ensures.room
+
+pub returns-in_err-told-clause-fault : goal.returns-in_err-told-clause-fault
+returns-in_err-told-clause-fault g c = passed_on _ c.from_residual-in_err-told.result _ c.from_residual-in_err-told.ensures c.in_err-told.ensures.fault
+
+pub returns-in_err-told-clause-searched : goal.returns-in_err-told-clause-searched
+returns-in_err-told-clause-searched g c = passed_on _ c.from_residual-in_err-told.result _ c.from_residual-in_err-told.ensures (table_is_none _)
+
+pub returns-clause-same : goal.returns-clause-same
+returns-clause-same g c = λ h. c.in_ok-told.ensures.same h
+
+pub returns-clause-honest : goal.returns-clause-honest
+returns-clause-honest g c = (λ h. c.in_ok-told.ensures.honest.0 h, λ h. c.in_ok-told.ensures.honest.1 h)
+
+pub returns-clause-counts : goal.returns-clause-counts
+returns-clause-counts g c = c.in_ok-told.ensures.counts
+
+pub returns-clause-stays : goal.returns-clause-stays
+returns-clause-stays g c = c.in_ok-told.ensures.stays

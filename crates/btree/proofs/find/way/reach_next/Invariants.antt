@@ -1,0 +1,6 @@
+use Rattle.btree.specs.Answers.{found_bytes}
+use Rattle.btree.proofs.Reaching.{IsReaching}
+use Rattle.btree.proofs.find.way.reach_next.Given as goal
+
+abbrev pub invariant-loop : goal.invariant-loop
+invariant-loop g l = IsReaching l.fn.widths (g.P.Pages.store l.fn.store) (g.P.Pages.store l.store) l.fn.root l.fn.key l.counter l.page (found_bytes l.next)

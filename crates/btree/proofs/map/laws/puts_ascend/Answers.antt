@@ -1,0 +1,5 @@
+use Rattle.btree.specs.aid.Putting.{puts_ascend as law}
+use Rattle.btree.proofs.map.laws.puts_ascend.Goals as goal
+
+pub returns : goal.returns
+returns c = law

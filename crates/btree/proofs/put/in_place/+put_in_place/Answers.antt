@@ -1,0 +1,66 @@
+use Rattle.std.proofs.Common.{◌≡◌, ◌<◌, ◌∷◌, [], Some, IsTrue, length, sym, subst}
+use Rattle.page_store.specs.declared.marks.Mark.TheVariants.{Fresh}
+use Rattle.page_store.specs.Marks.{mark}
+use Rattle.page_store.specs.Store.{Store, reads}
+use Rattle.page_store.specs.aid.Works.{works_refl, works_same}
+use Rattle.btree.specs.declared.page.kind.Kind.TheVariants.{Leaf, Inner}
+use Rattle.btree.specs.Page.{Item, IsPage, child_of, items_in}
+use Rattle.btree.specs.Entries.{Ascend, first_key, put_entry}
+use Rattle.btree.specs.Tree.{entries_below}
+use Rattle.btree.specs.aid.Growing.{AreWritten, IsGrowing, IsGrown}
+use Rattle.btree.specs.aid.Spots.{LeadsTo, IsSpot}
+use Rattle.btree.specs.declared.put.in_place.Spot.{Spot}
+use Rattle.btree.proofs.InPlace.{of_both, grown_by, leaf_in_place, inner_in_place}
+use Rattle.btree.proofs.put.in_place.+put_in_place.Goals as goal
+
+pub returns-then-levels-eq0-clause-works : goal.returns-then-levels-eq0-clause-works
+returns-then-levels-eq0-clause-works g t c = works_refl _
+
+pub returns-in-None-clause-works : goal.returns-in-None-clause-works
+returns-in-None-clause-works g t c = works_same c.spot_at.ensures.same
+
+pub returns-in-Some-Leaf-clause-grown : goal.returns-in-Some-Leaf-clause-grown
+returns-in-Some-Leaf-clause-grown g t c = λ honest d top growing leads first.
+    let w = c.args.widths in
+    let key = c.args.key.now in
+    let value = c.args.value.now in
+    let q = c.args.page in
+    let old : Store = g.P.Pages.store c.args.store.now in
+    let mid : Store = g.P.Pages.store c.spot_at.new.store in
+    let new : Store = g.P.Pages.store c.put_on_copy.new.store in
+    let same : mid ≡ old = c.spot_at.ensures.same in
+    let now : IsTrue mid.disk.honest = subst (λ (s : Store). IsTrue s.disk.honest) (sym same) honest in
+    of_both (λ done. IsTrue done → (t : Item) → child_of t ≡ q → Ascend (items_in w Leaf (reads mid q)) → first_key (items_in w Leaf (reads mid q)) ≡ Some t.0
+    → AreWritten w Leaf q (put_entry (items_in w Leaf (reads mid q)) key value) (t ∷ []) mid new)
+    (λ done. IsTrue done → IsPage w Leaf (reads mid q)) (λ done. IsTrue done → IsGrown w key value d q (top ∷ []) old new) c.put_on_copy.result
+    (λ done written leaf is. subst (λ (s : Store). IsGrown w key value d q (top ∷ []) s new) same
+    (leaf_in_place w key value q top mid new now leads d (subst (λ (s : Store). IsGrowing w d q s) (sym same) growing)
+    (subst (λ (s : Store). first_key (entries_below w (reads s) d q) ≡ Some top.0) (sym same) first) (leaf is) (λ ascend f. written is top leads ascend f)))
+    (c.put_on_copy.ensures.written now) (c.put_on_copy.ensures.leaf now)
+
+pub returns-in-Some-Below-clause-grown : goal.returns-in-Some-Below-clause-grown
+returns-in-Some-Below-clause-grown g t c = λ honest d top growing leads first.
+    let w = c.args.widths in
+    let key = c.args.key.now in
+    let value = c.args.value.now in
+    let q = c.args.page in
+    let child = c.in-Some-Below.child in
+    let old : Store = g.P.Pages.store c.args.store.now in
+    let mid : Store = g.P.Pages.store c.spot_at.new.store in
+    let new : Store = g.P.Pages.store c.put_in_place.new.store in
+    let same : mid ≡ old = c.spot_at.ensures.same in
+    let now : IsTrue mid.disk.honest = subst (λ (s : Store). IsTrue s.disk.honest) (sym same) honest in
+    let seen : IsPage w Inner (reads old q) × LeadsTo w (reads old q) key child =
+    subst (λ (s : Spot). IsSpot w (reads old q) key s) c.in-Some-Below.field-0-is (c.in-Some-Below.ensures.seen honest) in
+    let there : IsPage w Inner (reads mid q) × LeadsTo w (reads mid q) key child =
+    subst (λ (s : Store). IsPage w Inner (reads s q) × LeadsTo w (reads s q) key child) (sym same) seen in
+    grown_by c.put_in_place.result (IsGrown w key value d q (top ∷ []) old new)
+    (λ e t. IsGrowing w e child mid × (child_of t ≡ child) × (first_key (entries_below w (reads mid) e child) ≡ Some t.0))
+    (λ e t. IsGrown w key value e child (t ∷ []) mid new)
+    (λ e t given. c.put_in_place.ensures.grown now e t given.0 given.1 given.2)
+    (λ grow. subst (λ (s : Store). IsGrown w key value d q (top ∷ []) s new) same
+    (inner_in_place w key value q top mid new now leads child c.put_in_place.ensures.works
+    (subst (λ (s : Store). mark s.marks q ≡ Fresh) (sym same) (c.is_fresh-fresh.ensures.0 c.if-not-fresh.false))
+    c.in-Some-Below.ensures.is_page (subst (λ (s : Store). q < length s.marks) (sym same) c.in-Some-Below.ensures.there) there.1
+    (λ e t is at from. grow e t (is, at, from)) d (subst (λ (s : Store). IsGrowing w d q s) (sym same) growing)
+    (subst (λ (s : Store). first_key (entries_below w (reads s) d q) ≡ Some top.0) (sym same) first) there.0))

@@ -1,0 +1,288 @@
+use Rattle.std.proofs.Common.{◌≡◌, ◌≤◌, ◌<◌, ◌+◌, ◌-◌, ◌*◌, ◌∙◌, ◌∷◌, ◌++◌, [], ℕ, List, Some, length, take, drop, sym, ap, subst, Fits, w64, arith}
+use Rattle.std.proofs.lemmas.Result.{IfOk-weaker}
+use Rattle.byteorder.specs.Endian.{big_bytes}
+use Rattle.page_store.specs.Store.{Store}
+use Rattle.page_store.specs.aid.Works.{works_then}
+use Rattle.btree.specs.declared.page.kind.Kind.{Kind}
+use Rattle.btree.specs.declared.page.kind.Kind.TheVariants.{Leaf, Inner}
+use Rattle.btree.specs.declared.page.widths.Widths.{Widths}
+use Rattle.btree.specs.Page.{Item, IsPage, behind_of, count_in, item_width, items_in, items_of, least_of}
+use Rattle.btree.specs.Entries.{first_key}
+use Rattle.btree.specs.aid.Growing.{AreWritten}
+use Rattle.btree.specs.aid.PutItems.{listed}
+use Rattle.btree.proofs.PutFailing.{passed_on, write_fails}
+use Rattle.btree.proofs.Fitting.{width_word, few_items, more_word, total_word, key_word, key_within, head_first, key_long}
+use Rattle.btree.proofs.Listing.{mul-mono, narrow}
+use Rattle.btree.proofs.Writing.{leads_back, first_of, written_one}
+use Rattle.btree.proofs.put.write.write_spliced.Goals as goal
+
+some : (kind : Kind) (n : ℕ) → least_of kind ≤ n → 1 ≤ n
+some Leaf n enough = enough
+some Inner n enough = omega (arith, enough)
+
+-- the items are listed, as on one page
+as_listed : (key n m : ℕ) (none first : List ℕ) (k : List ℕ) (q : ℕ) → n ≡ 0 → items_of key 4 m first ≡ items_of key 4 n none ++ (k, big_bytes 4 q) ∷ []
+    → items_of key 4 m first ≡ (k, big_bytes 4 q) ∷ []
+as_listed key n m none first k q empty more = more ∙ ap (λ (n : ℕ). items_of key 4 n none ++ (k, big_bytes 4 q) ∷ []) empty
+
+-- how many items there are, and how many bytes
+full_word : (w : Widths) (kind : Kind) (b from count to n all : ℕ) → b ≡ behind_of w kind → from + count ≤ to + 1 → to ≤ n → n ≤ 4092 → all ≡ n
+    → Fits w64 ((from + count + (all - to)) * (w.key + b))
+full_word w kind b from count to n all is one_more within few same =
+    let less = mul-mono (from + count + (all - to)) 4093 (w.key + b) (omega (arith, one_more, within, few, same)) in
+    omega (arith, less, narrow w kind, is)
+
+as_wide : (w : Widths) (kind : Kind) (b from count to n all : ℕ) → b ≡ behind_of w kind → all ≡ n
+    → (from + count + (all - to)) * (w.key + b) ≡ (from + count + (n - to)) * item_width w kind
+as_wide w kind b from count to n all is same = λ i. (from + count + (same i - to)) * (w.key + is i)
+
+-- one item, or two
+none_whole : (wide n : ℕ) (bytes : List ℕ) → n ≡ 0 → bytes ≡ [] → length bytes ≡ n * wide
+none_whole wide n bytes none nothing =
+    let product : n * wide ≡ 0 * wide = ap (λ (n : ℕ). n * wide) none in
+    omega (arith, product, ap length nothing)
+
+none_is_few : (n : ℕ) → n ≡ 0 → n ≤ 1
+none_is_few n none = omega (arith, none)
+
+one_is_few : (n m : ℕ) → m ≡ n + 1 → n ≡ 0 → m ≤ 2
+one_is_few n m more none = omega (arith, more, none)
+
+one_is_some : (n m : ℕ) → m ≡ n + 1 → 1 ≤ m
+one_is_some n m more = omega (arith, more)
+
+two_is_few : (n : ℕ) → n ≡ 2 → n ≤ 2
+two_is_few n two = omega (arith, two)
+
+two_is_some : (n : ℕ) → n ≡ 2 → 1 ≤ n
+two_is_some n two = omega (arith, two)
+
+pub returns-clause-written : goal.returns-clause-written
+returns-clause-written g c =
+    let w = c.args.widths in
+    let kind = c.args.kind in
+    let items = c.args.items.now in
+    let was = items_in w kind c.args.bytes.now in
+    let now = c.splice_in.new.page in
+    let old = g.P.Pages.store c.args.store.now in
+    let new = g.P.Pages.store c.write_page.new.self in
+    let first = c.in_ok-first.ensures in
+    let wrote = c.in_ok-write_page.ensures in
+    let q = c.in_ok-first.first in
+    let few = (g.met.P.Pages.sound c.args.store.now).few in
+    let list : List Item = take c.args.from was ++ (listed w kind items.count items.bytes.items ++ drop c.args.to was) in
+    let key : List ℕ = take (4 + w.key - 4) (drop 4 now) in
+    let amount : 4 + w.key - 4 ≡ w.key = omega arith in
+    let top : Item = (key, big_bytes 4 q) in
+    let are : items_in w kind now ≡ list = c.splice_in.ensures.items ∙ ap (λ (bs : List ℕ). take c.args.from was ++ (items_of w.key (behind_of w kind) items.count bs ++ drop c.args.to was)) c.deref.ensures.0 in
+    subst (λ (tops : List Item). AreWritten w kind c.args.page list tops old new)
+    (sym (as_listed w.key c.no_few_items-tops.result.count c.lead_to.new.items.count c.no_few_items-tops.result.bytes.items c.lead_to.new.items.bytes.items key q c.no_few_items-tops.ensures.count c.lead_to.ensures.listed))
+    (written_one w kind c.args.page old list q top (g.P.Pages.store c.renewed.new.store) new
+    (leads_back q (omega (arith, first.there, few)))
+    (sym (ap first_key are) ∙ first_of w.key (behind_of w kind) (count_in now) (drop 4 now) (some kind (count_in now) c.splice_in.ensures.page.enough) ∙ ap (λ (n : ℕ). Some (take n (drop 4 now))) (sym amount))
+    first.place first.works first.is_page first.there (λ honest. subst (IsPage w kind) (sym (wrote.written honest)) c.splice_in.ensures.page)
+    (λ honest. ap (items_in w kind) (wrote.written honest) ∙ are) wrote.others wrote.marks)
+
+pub overflow_add-total : goal.overflow_add-total
+overflow_add-total g c =
+    let few = few_items c.args.widths c.args.kind (count_in c.args.bytes.now) c.requires.form.fits in
+    more_word c.args.from c.args.items.now.count c.args.to (count_in c.args.bytes.now) c.requires.one_more c.requires.within few
+
+pub overflow_sub-total : goal.overflow_sub-total
+overflow_sub-total g c =
+    subst (λ (n : ℕ). c.args.to ≤ n) (sym c.count_of.ensures) c.requires.within
+
+pub overflow_add-total-2 : goal.overflow_add-total-2
+overflow_add-total-2 g c =
+    let few = few_items c.args.widths c.args.kind (count_in c.args.bytes.now) c.requires.form.fits in
+    total_word c.args.from c.args.items.now.count c.args.to (count_in c.args.bytes.now) c.count_of.result c.requires.one_more c.requires.within few c.count_of.ensures
+
+pub overflow_add-widths : goal.overflow_add-widths
+overflow_add-widths g c =
+    width_word c.args.widths c.args.kind c.behind_of.result c.behind_of.ensures
+
+pub overflow_mul-total : goal.overflow_mul-total
+overflow_mul-total g c =
+    let few = few_items c.args.widths c.args.kind (count_in c.args.bytes.now) c.requires.form.fits in
+    full_word c.args.widths c.args.kind c.behind_of.result c.args.from c.args.items.now.count c.args.to (count_in c.args.bytes.now) c.count_of.result c.behind_of.ensures c.requires.one_more c.requires.within few c.count_of.ensures
+
+pub write_split-requires-clause-is_page : goal.write_split-requires-clause-is_page
+write_split-requires-clause-is_page g c =
+    c.requires.is_page
+
+pub write_split-requires-clause-there : goal.write_split-requires-clause-there
+write_split-requires-clause-there g c =
+    c.requires.there
+
+pub write_split-requires-clause-form : goal.write_split-requires-clause-form
+write_split-requires-clause-form g c =
+    c.requires.form
+
+pub write_split-requires-clause-order : goal.write_split-requires-clause-order
+write_split-requires-clause-order g c =
+    c.requires.order
+
+pub write_split-requires-clause-within : goal.write_split-requires-clause-within
+write_split-requires-clause-within g c =
+    c.requires.within
+
+pub write_split-requires-clause-few : goal.write_split-requires-clause-few
+write_split-requires-clause-few g c =
+    c.requires.few
+
+pub write_split-requires-clause-one_more : goal.write_split-requires-clause-one_more
+write_split-requires-clause-one_more g c =
+    c.requires.one_more
+
+pub write_split-requires-clause-whole : goal.write_split-requires-clause-whole
+write_split-requires-clause-whole g c =
+    c.requires.whole
+
+pub write_split-requires-clause-full : goal.write_split-requires-clause-full
+write_split-requires-clause-full g c =
+    subst (λ (n : ℕ). 4092 < n) (as_wide c.args.widths c.args.kind c.behind_of.result c.args.from c.args.items.now.count c.args.to (count_in c.args.bytes.now) c.count_of.result c.behind_of.ensures c.count_of.ensures) c.if-total-widths-gt-ROOM.true
+
+pub returns-then-total-widths-gt-ROOM-clause-written : goal.returns-then-total-widths-gt-ROOM-clause-written
+returns-then-total-widths-gt-ROOM-clause-written g c =
+    c.write_split.ensures.written
+
+pub returns-then-total-widths-gt-ROOM-clause-whole : goal.returns-then-total-widths-gt-ROOM-clause-whole
+returns-then-total-widths-gt-ROOM-clause-whole g c =
+    c.write_split.ensures.whole
+
+pub returns-then-total-widths-gt-ROOM-clause-open : goal.returns-then-total-widths-gt-ROOM-clause-open
+returns-then-total-widths-gt-ROOM-clause-open g c =
+    c.write_split.ensures.open
+
+pub returns-then-total-widths-gt-ROOM-clause-works : goal.returns-then-total-widths-gt-ROOM-clause-works
+returns-then-total-widths-gt-ROOM-clause-works g c =
+    c.write_split.ensures.works
+
+pub returns-then-total-widths-gt-ROOM-clause-still : goal.returns-then-total-widths-gt-ROOM-clause-still
+returns-then-total-widths-gt-ROOM-clause-still g c =
+    c.write_split.ensures.still
+
+pub returns-then-total-widths-gt-ROOM-clause-cause : goal.returns-then-total-widths-gt-ROOM-clause-cause
+returns-then-total-widths-gt-ROOM-clause-cause g c =
+    c.write_split.ensures.cause
+
+pub returns-then-total-widths-gt-ROOM-clause-some : goal.returns-then-total-widths-gt-ROOM-clause-some
+returns-then-total-widths-gt-ROOM-clause-some g c =
+    IfOk-weaker c.write_split.result (λ tops. tops.count ≡ 2) (λ tops. 1 ≤ tops.count) (λ tops two. two_is_some tops.count two) c.write_split.ensures.two
+
+pub returns-then-total-widths-gt-ROOM-clause-few : goal.returns-then-total-widths-gt-ROOM-clause-few
+returns-then-total-widths-gt-ROOM-clause-few g c =
+    IfOk-weaker c.write_split.result (λ tops. tops.count ≡ 2) (λ tops. tops.count ≤ 2) (λ tops two. two_is_few tops.count two) c.write_split.ensures.two
+
+pub renewed-requires-clause-is_page : goal.renewed-requires-clause-is_page
+renewed-requires-clause-is_page g c =
+    c.requires.is_page
+
+pub renewed-requires-clause-there : goal.renewed-requires-clause-there
+renewed-requires-clause-there g c =
+    c.requires.there
+
+pub returns-in_err-first-clause-works : goal.returns-in_err-first-clause-works
+returns-in_err-first-clause-works g c =
+    c.renewed.ensures.works
+
+pub returns-in_err-first-clause-still : goal.returns-in_err-first-clause-still
+returns-in_err-first-clause-still g c =
+    passed_on _ c.from_residual.result _ c.from_residual.ensures (λ other. c.renewed.ensures.closed)
+
+pub returns-in_err-first-clause-cause : goal.returns-in_err-first-clause-cause
+returns-in_err-first-clause-cause g c =
+    passed_on _ c.from_residual.result _ c.from_residual.ensures c.in_err-first.ensures.cause
+
+pub splice_in-requires-clause-page : goal.splice_in-requires-clause-page
+splice_in-requires-clause-page g c =
+    c.requires.form
+
+pub splice_in-requires-clause-order : goal.splice_in-requires-clause-order
+splice_in-requires-clause-order g c =
+    c.requires.order
+
+pub splice_in-requires-clause-within : goal.splice_in-requires-clause-within
+splice_in-requires-clause-within g c =
+    c.requires.within
+
+pub splice_in-requires-clause-few : goal.splice_in-requires-clause-few
+splice_in-requires-clause-few g c =
+    c.requires.few
+
+pub splice_in-requires-clause-enough : goal.splice_in-requires-clause-enough
+splice_in-requires-clause-enough g c =
+    c.requires.enough
+
+pub splice_in-requires-clause-whole : goal.splice_in-requires-clause-whole
+splice_in-requires-clause-whole g c =
+    ap length c.deref.ensures.0 ∙ c.requires.whole
+
+pub splice_in-requires-clause-room : goal.splice_in-requires-clause-room
+splice_in-requires-clause-room g c =
+    subst (λ (n : ℕ). n ≤ 4092) (as_wide c.args.widths c.args.kind c.behind_of.result c.args.from c.args.items.now.count c.args.to (count_in c.args.bytes.now) c.count_of.result c.behind_of.ensures c.count_of.ensures) c.if-total-widths-gt-ROOM.false
+
+pub write_page-requires : goal.write_page-requires
+write_page-requires g c =
+    c.in_ok-first.ensures.fresh
+
+pub returns-in_err-write_page-clause-still : goal.returns-in_err-write_page-clause-still
+returns-in_err-write_page-clause-still g c =
+    passed_on _ c.from_residual-in_err-write_page.result _ c.from_residual-in_err-write_page.ensures
+    (λ other. ap (λ (s : Store). s.closed) (c.in_err-write_page.ensures.untouched other) ∙ c.in_ok-first.ensures.closed)
+
+pub returns-in_err-write_page-clause-cause : goal.returns-in_err-write_page-clause-cause
+returns-in_err-write_page-clause-cause g c =
+    let store = g.P.Pages.store in
+    passed_on _ c.from_residual-in_err-write_page.result _ c.from_residual-in_err-write_page.ensures
+    (write_fails (store c.args.store.now) (store c.renewed.new.store) (store c.write_page.new.self) _ c.in_ok-first.ensures.works c.in_ok-first.ensures.closed c.in_err-write_page.ensures.cause)
+
+pub overflow_add-widths-2 : goal.overflow_add-widths-2
+overflow_add-widths-2 g c =
+    key_word c.args.widths
+
+pub slice_bounds-lead_to-end : goal.slice_bounds-lead_to-end
+slice_bounds-lead_to-end g c =
+    key_within c.args.widths
+
+pub slice_bounds-lead_to-count : goal.slice_bounds-lead_to-count
+slice_bounds-lead_to-count g c =
+    head_first c.args.widths.key
+
+pub slice_bounds-lead_to-start : goal.slice_bounds-lead_to-start
+slice_bounds-lead_to-start g c =
+    head_first c.args.widths.key
+
+pub lead_to-requires-clause-key : goal.lead_to-requires-clause-key
+lead_to-requires-clause-key g c =
+    key_long c.args.widths c.splice_in.new.page c.splice_in.ensures.page.long
+
+pub lead_to-requires-clause-few : goal.lead_to-requires-clause-few
+lead_to-requires-clause-few g c =
+    none_is_few c.no_few_items-tops.result.count c.no_few_items-tops.ensures.count
+
+pub lead_to-requires-clause-whole : goal.lead_to-requires-clause-whole
+lead_to-requires-clause-whole g c =
+    none_whole (item_width c.args.widths Inner) c.no_few_items-tops.result.count c.no_few_items-tops.result.bytes.items c.no_few_items-tops.ensures.count c.no_few_items-tops.ensures.bytes
+
+pub returns-clause-some : goal.returns-clause-some
+returns-clause-some g c =
+    one_is_some c.no_few_items-tops.result.count c.lead_to.new.items.count c.lead_to.ensures.count
+
+pub returns-clause-few : goal.returns-clause-few
+returns-clause-few g c =
+    one_is_few c.no_few_items-tops.result.count c.lead_to.new.items.count c.lead_to.ensures.count c.no_few_items-tops.ensures.count
+
+pub returns-clause-whole : goal.returns-clause-whole
+returns-clause-whole g c =
+    c.lead_to.ensures.whole
+
+pub returns-clause-open : goal.returns-clause-open
+returns-clause-open g c =
+    c.in_ok-write_page.ensures.open
+
+pub returns-in_err-write_page-clause-works : goal.returns-in_err-write_page-clause-works
+returns-in_err-write_page-clause-works g c = works_then c.in_ok-first.ensures.works c.write_page.ensures.works
+
+pub returns-clause-works : goal.returns-clause-works
+returns-clause-works g c = works_then c.in_ok-first.ensures.works c.write_page.ensures.works

@@ -1,0 +1,5 @@
+use Rattle.btree.proofs.Descending.{IsDescending}
+use Rattle.btree.proofs.walk.depth.depth_of.Given as goal
+
+abbrev pub invariant-loop-depth : goal.invariant-loop-depth
+invariant-loop-depth g l = IsDescending l.fn.widths (g.P.Pages.store l.fn.store) (g.P.Pages.store l.store) l.fn.root l.depth l.page

@@ -1,0 +1,14 @@
+-- What is answered, in the words of the map.
+use Rattle.std.specs.Prelude.{ℕ, List, Option}
+use Rattle.std.specs.Option.{option_map}
+use Rattle.arrayvec.specs.ArrayVec.{ArrayVec}
+use Rattle.btree.specs.Page.{Item}
+use Rattle.btree.specs.declared.find.entry.Entry.{Entry}
+
+-- the bytes that were found, if any
+abbrev pub found_bytes : Option (ArrayVec ℕ) → Option (List ℕ)
+found_bytes found = option_map (λ v. v.items) found
+
+-- the entry that was found, if any
+abbrev pub found_entry : Option Entry → Option Item
+found_entry found = option_map (λ e. (e.key.items, e.value.items)) found

@@ -1,0 +1,13 @@
+pub use Rattle.page_store.specs.Marks
+pub use Rattle.page_store.specs.Spelling
+pub use Rattle.page_store.specs.Store
+pub use Rattle.sector_disk.specs.Disk
+pub mod Page
+pub mod Place
+pub mod Changes
+pub mod Entries
+pub mod Next
+pub mod Tree
+pub mod Answers
+pub mod Walking
+pub mod aid

@@ -1,0 +1,11 @@
+//! Maps that are trees of pages are read: the value at a key, and the entry with the next greater key.
+
+mod ahead;
+mod entry;
+mod leaf;
+mod look;
+mod read;
+mod way;
+
+pub use entry::{Bytes, Entry, copied};
+pub use read::{get, next_after};

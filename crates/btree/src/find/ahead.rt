@@ -1,0 +1,83 @@
+//! A page on the way to the next entry is looked at: where it stands, if it is in memory, and else as it is read.
+ghost use Rattle.std.specs.Prelude.{IfOk, IfErr, IfSome, IfNone, IsTrue};
+ghost use Rattle.page_store.specs.Store.{reads, StoreWorks, IsUnchanged};
+ghost use Rattle.btree.specs.Page.{IsPage};
+ghost use Rattle.btree.specs.declared.page.kind.Kind.{Kind};
+ghost use Rattle.btree.specs.aid.Ahead.{SeesAhead};
+ghost use Rattle.btree.specs.aid.Seen.{SeenCause};
+
+use crate::find::entry::{Bytes, Entry};
+use crate::find::leaf::entry_after;
+use crate::find::way::step;
+use crate::page::{Kind, Widths, kind_of};
+use page_store::{PageFault, Pages};
+
+/// What a page says of the entries behind a key.
+#[derive(Drop)]
+pub enum Ahead {
+    /// It is a leaf, and this is the next of its entries, if there is one.
+    Next(Option<Entry>),
+    /// It leads to this page, behind which this key comes, if there is one.
+    Below(u32, Option<Bytes>),
+}
+
+/// What these bytes say, if they are a page of a tree.
+fn ahead_in(widths: Widths, bytes: &[u8; 4096], key: &[u8]) -> Option<Ahead>
+    ensures some { IfSome result (λ ahead. SeesAhead widths bytes.now key.now ahead) }
+    ensures none { IfNone result ((kind : Kind) → IsPage widths kind bytes.now → ⊥) }
+{
+    match kind_of(widths, bytes) {
+        None => None,
+        Some(Kind::Leaf) => Some(Ahead::Next(entry_after(widths, bytes, key))),
+        Some(Kind::Inner) => {
+            let (child, behind) = step(widths, bytes, key);
+            Some(Ahead::Below(child, behind))
+        }
+    }
+}
+
+/// What the page says, after it was read.
+fn ahead_far<P: Pages>(
+    store: &mut P,
+    widths: Widths,
+    page: u32,
+    key: &[u8],
+) -> Result<Ahead, PageFault>
+    ensures seen { IsTrue (P.store store.old).disk.honest
+        → IfOk result (λ ahead. SeesAhead widths (reads (P.store store.old) page) key.now ahead) }
+    ensures unchanged { IsUnchanged (P.store store.old) (P.store store.new) }
+    ensures works { StoreWorks (P.store store.old) (P.store store.new) }
+    ensures cause { IfErr result (SeenCause widths page (P.store store.old) (P.store store.new)) }
+{
+    let mut bytes = [0; 4096];
+    store.read_page(page, &mut bytes)?;
+    match ahead_in(widths, &bytes, key) {
+        Some(ahead) => Ok(ahead),
+        None => Err(PageFault::Damaged),
+    }
+}
+
+/// What the page says.
+pub fn ahead_at<P: Pages>(
+    store: &mut P,
+    widths: Widths,
+    page: u32,
+    key: &[u8],
+) -> Result<Ahead, PageFault>
+    ensures seen { IsTrue (P.store store.old).disk.honest
+        → IfOk result (λ ahead. SeesAhead widths (reads (P.store store.old) page) key.now ahead) }
+    ensures unchanged { IsUnchanged (P.store store.old) (P.store store.new) }
+    ensures works { StoreWorks (P.store store.old) (P.store store.new) }
+    ensures cause { IfErr result (SeenCause widths page (P.store store.old) (P.store store.new)) }
+{
+    if !store.touch(page) {
+        return ahead_far(store, widths, page, key);
+    }
+    match store.bytes_of(page) {
+        Some(bytes) => match ahead_in(widths, bytes, key) {
+            Some(ahead) => Ok(ahead),
+            None => Err(PageFault::Damaged),
+        },
+        None => ahead_far(store, widths, page, key),
+    }
+}

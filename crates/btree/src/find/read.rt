@@ -1,0 +1,70 @@
+//! A map is asked for a key.
+ghost use Rattle.std.specs.Prelude.{◌≡◌, ℕ, List, IfOk, IfErr, IsTrue};
+ghost use Rattle.page_store.specs.Store.{StoreWorks, IsUnchanged};
+ghost use Rattle.btree.specs.Page.{Item};
+ghost use Rattle.btree.specs.Changes.{HoldsMap, MapReadCause};
+ghost use Rattle.btree.specs.Entries.{find_entry, next_after as next_in};
+ghost use Rattle.btree.specs.Answers.{found_bytes, found_entry};
+
+use crate::find::entry::{Bytes, Entry};
+use crate::find::look::{Seen, look_at};
+use crate::find::way::reach_next;
+use crate::map::MAX_LEVELS;
+use crate::page::Widths;
+use page_store::{PageFault, Pages};
+
+/// The value at this key in the map below this root. `Damaged` only where below it is no map, or the disk is not honest.
+pub fn get<P: Pages>(
+    store: &mut P,
+    widths: Widths,
+    root: u32,
+    key: &[u8],
+) -> Result<Option<Bytes>, PageFault>
+    ensures found { IsTrue (P.store store.old).disk.honest → IfOk result (λ found. (pages : List ℕ) (es : List Item)
+        → HoldsMap widths (P.store store.old) root pages es → found_bytes found ≡ find_entry es key.now) }
+    ensures unchanged { IsUnchanged (P.store store.old) (P.store store.new) }
+    ensures works { StoreWorks (P.store store.old) (P.store store.new) }
+    ensures cause { IfErr result (MapReadCause widths root (P.store store.old) (P.store store.new)) }
+{
+    if root == 0 {
+        return Ok(None);
+    }
+    let mut page = root;
+    for _ in 0..MAX_LEVELS {
+        match look_at(store, widths, page, key)? {
+            Seen::Value(value) => return Ok(value),
+            Seen::Child(child) => page = child,
+        }
+    }
+    Err(PageFault::Damaged)
+}
+
+/// The entry with the least key that is greater than this one, in the map below this root. `Damaged` only where below it
+/// is no map, or the disk is not honest.
+pub fn next_after<P: Pages>(
+    store: &mut P,
+    widths: Widths,
+    root: u32,
+    key: &[u8],
+) -> Result<Option<Entry>, PageFault>
+    ensures found { IsTrue (P.store store.old).disk.honest → IfOk result (λ found. (pages : List ℕ) (es : List Item)
+        → HoldsMap widths (P.store store.old) root pages es → found_entry found ≡ next_in es key.now) }
+    ensures unchanged { IsUnchanged (P.store store.old) (P.store store.new) }
+    ensures works { StoreWorks (P.store store.old) (P.store store.new) }
+    ensures cause { IfErr result (MapReadCause widths root (P.store store.old) (P.store store.new)) }
+{
+    if root == 0 {
+        return Ok(None);
+    }
+    let (ahead, behind) = reach_next(store, widths, root, key)?;
+    if let Some(entry) = ahead {
+        return Ok(Some(entry));
+    }
+    let Some(next) = behind else {
+        return Ok(None);
+    };
+    match get(store, widths, root, &next)? {
+        Some(value) => Ok(Some(Entry { key: next, value })),
+        None => Err(PageFault::Damaged),
+    }
+}

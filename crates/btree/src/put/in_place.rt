@@ -1,0 +1,183 @@
+//! An entry is put on its leaf alone, where no page on the way to it has to change.
+ghost use Rattle.std.specs.Prelude.{◌≡◌, ◌≢◌, ◌≤◌, ◌<◌, ◌+◌, ◌-◌, ◌*◌, ◌∷◌, [], ℕ, false, length, Some, IfOk, IfErr, IfSome, IfNone, OnSome, IsTrue};
+ghost use Rattle.page_store.specs.declared.marks.Mark.TheVariants.{Fresh};
+ghost use Rattle.page_store.specs.Marks.{mark as mark_of};
+ghost use Rattle.page_store.specs.Store.{reads, StoreWorks};
+ghost use Rattle.btree.specs.declared.page.kind.Kind.{Kind};
+ghost use Rattle.btree.specs.declared.page.kind.Kind.TheVariants.{Leaf, Inner};
+ghost use Rattle.btree.specs.Page.{Item, child_of, count_in, item_width, items_in, IsPage};
+ghost use Rattle.btree.specs.declared.page.kind.TheConstants.{ROOM};
+ghost use Rattle.btree.specs.Entries.{Ascend, first_key, put_entry};
+ghost use Rattle.btree.specs.Tree.{entries_below};
+ghost use Rattle.btree.specs.aid.Causes.{WriteCause};
+ghost use Rattle.btree.specs.aid.Growing.{AreWritten, IsGrowing, IsGrown};
+ghost use Rattle.btree.specs.aid.Spots.{LeadsTo, IsSpot};
+
+use crate::page::{Kind, ROOM, Widths, count_of, item_at, kind_of, place_of};
+use crate::put::items::{new_entry, places_of, splice_in};
+use byteorder::{BigEndian, ByteOrder};
+use page_store::{PageFault, Pages};
+
+/// What a page is to a key.
+#[derive(Drop)]
+pub enum Spot {
+    /// The leaf where it belongs.
+    Leaf,
+    /// A page that leads to this one.
+    Below(u32),
+}
+
+/// The child where the key belongs.
+fn child_in(widths: Widths, bytes: &[u8; 4096], key: &[u8]) -> u32
+    requires { IsPage widths Inner bytes.now }
+    ensures { LeadsTo widths bytes.now key.now result }
+{
+    let at = place_of(widths, Kind::Inner, bytes, key).saturating_sub(1);
+    let (_, child) = item_at(widths, Kind::Inner, bytes, at);
+    BigEndian::read_u32(child)
+}
+
+/// What these bytes are to the key, if they are a page of a tree.
+fn spot_in(widths: Widths, bytes: &[u8; 4096], key: &[u8]) -> Option<Spot>
+    ensures { IfSome result (λ spot. IsSpot widths bytes.now key.now spot) }
+{
+    match kind_of(widths, bytes) {
+        None => None,
+        Some(Kind::Leaf) => Some(Spot::Leaf),
+        Some(Kind::Inner) => Some(Spot::Below(child_in(widths, bytes, key))),
+    }
+}
+
+/// What the page is to the key, if it is in memory.
+fn spot_at<P: Pages>(store: &mut P, widths: Widths, page: u32, key: &[u8]) -> Option<Spot>
+    ensures seen { IsTrue (P.store store.old).disk.honest
+        → IfSome result (λ spot. IsSpot widths (reads (P.store store.old) page) key.now spot) }
+    ensures is_page { OnSome result (1 ≤ page) }
+    ensures there { OnSome result (page < length (P.store store.old).marks) }
+    ensures same { P.store store.new ≡ P.store store.old }
+{
+    if !store.touch(page) {
+        return None;
+    }
+    match store.bytes_of(page) {
+        Some(bytes) => spot_in(widths, bytes, key),
+        None => None,
+    }
+}
+
+/// Whether a leaf has room for an entry more, in the place of its items from one place up to another.
+fn has_room(widths: Widths, bytes: &[u8; 4096], from: usize, to: usize) -> bool
+    requires form { IsPage widths Leaf bytes.now }
+    requires order { from ≤ to }
+    requires within { to ≤ count_in bytes.now }
+    ensures { IsTrue result → (from + 1 + (count_in bytes.now - to)) * item_width widths Leaf ≤ ROOM }
+{
+    let total = from + 1 + (count_of(bytes) - to);
+    total * (widths.key + widths.value) <= ROOM
+}
+
+/// Puts the entry behind the first one on these bytes of the page, if they are a leaf and have room for it, and writes them. Answers
+/// whether it did.
+fn put_on<P: Pages>(
+    store: &mut P,
+    widths: Widths,
+    page: u32,
+    bytes: &mut [u8; 4096],
+    key: &[u8],
+    value: &[u8],
+) -> Result<bool, PageFault>
+    requires key { length key.now ≡ widths.key }
+    requires value { length value.now ≡ widths.value }
+    requires fresh { mark_of (P.store store.old).marks page ≡ Fresh }
+    requires is_page { 1 ≤ page }
+    requires there { page < length (P.store store.old).marks }
+    ensures written { IfOk result (λ done. IsTrue done → (top : Item) → child_of top ≡ page → Ascend (items_in widths Leaf bytes.old)
+        → first_key (items_in widths Leaf bytes.old) ≡ Some top.0
+        → AreWritten widths Leaf page (put_entry (items_in widths Leaf bytes.old) key.now value.now) (top ∷ [])
+        (P.store store.old) (P.store store.new)) }
+    ensures leaf { IfOk result (λ done. IsTrue done → IsPage widths Leaf bytes.old) }
+    ensures same { IfOk result (λ done. done ≡ false → P.store store.new ≡ P.store store.old) }
+    ensures open { IfOk result (λ done. IsTrue done → (P.store store.new).closed ≡ false) }
+    ensures works { StoreWorks (P.store store.old) (P.store store.new) }
+    ensures still { IfErr result (λ fault. fault ≢ PageFault.Disk → (P.store store.new).closed ≡ (P.store store.old).closed) }
+    ensures cause { IfErr result (WriteCause (P.store store.old) (P.store store.new)) }
+{
+    let Some(Kind::Leaf) = kind_of(widths, bytes) else {
+        return Ok(false);
+    };
+    let (from, to) = places_of(widths, bytes, key);
+    if from == 0 || !has_room(widths, bytes, from, to) {
+        return Ok(false);
+    }
+    let entry = new_entry(widths, key, value);
+    splice_in(widths, Kind::Leaf, bytes, from, to, 1, &entry.bytes);
+    store.write_page(page, bytes)?;
+    Ok(true)
+}
+
+/// The same on a copy of the page, if it is in memory. It stands by itself, since the copy is made as it begins.
+fn put_on_copy<P: Pages>(
+    store: &mut P,
+    widths: Widths,
+    page: u32,
+    key: &[u8],
+    value: &[u8],
+) -> Result<bool, PageFault>
+    requires key { length key.now ≡ widths.key }
+    requires value { length value.now ≡ widths.value }
+    requires fresh { mark_of (P.store store.old).marks page ≡ Fresh }
+    requires is_page { 1 ≤ page }
+    requires there { page < length (P.store store.old).marks }
+    ensures written { IsTrue (P.store store.old).disk.honest → IfOk result (λ done. IsTrue done → (top : Item) → child_of top ≡ page
+        → Ascend (items_in widths Leaf (reads (P.store store.old) page))
+        → first_key (items_in widths Leaf (reads (P.store store.old) page)) ≡ Some top.0
+        → AreWritten widths Leaf page (put_entry (items_in widths Leaf (reads (P.store store.old) page)) key.now value.now) (top ∷ [])
+        (P.store store.old) (P.store store.new)) }
+    ensures leaf { IsTrue (P.store store.old).disk.honest
+        → IfOk result (λ done. IsTrue done → IsPage widths Leaf (reads (P.store store.old) page)) }
+    ensures same { IfOk result (λ done. done ≡ false → P.store store.new ≡ P.store store.old) }
+    ensures open { IfOk result (λ done. IsTrue done → (P.store store.new).closed ≡ false) }
+    ensures works { StoreWorks (P.store store.old) (P.store store.new) }
+    ensures still { IfErr result (λ fault. fault ≢ PageFault.Disk → (P.store store.new).closed ≡ (P.store store.old).closed) }
+    ensures cause { IfErr result (WriteCause (P.store store.old) (P.store store.new)) }
+{
+    let mut bytes = match store.bytes_of(page) {
+        Some(lent) => *lent,
+        None => return Ok(false),
+    };
+    put_on(store, widths, page, &mut bytes, key, value)
+}
+
+/// Puts this value at this key below this page, which has so many levels below it at most, where that changes the leaf alone: each page
+/// on the way is in memory and was handed out since the last commit, and the leaf has room, and entries before this one. Answers whether
+/// it did; if not, nothing has changed.
+pub fn put_in_place<P: Pages>(
+    store: &mut P,
+    widths: Widths,
+    page: u32,
+    levels: usize,
+    key: &[u8],
+    value: &[u8],
+) -> Result<bool, PageFault>
+    requires key { length key.now ≡ widths.key }
+    requires value { length value.now ≡ widths.value }
+    ensures grown { IsTrue (P.store store.old).disk.honest → (d : ℕ) (top : Item) → IsGrowing widths d page (P.store store.old)
+        → child_of top ≡ page → first_key (entries_below widths (reads (P.store store.old)) d page) ≡ Some top.0
+        → IfOk result (λ done. IsTrue done
+        → IsGrown widths key.now value.now d page (top ∷ []) (P.store store.old) (P.store store.new)) }
+    ensures same { IfOk result (λ done. done ≡ false → P.store store.new ≡ P.store store.old) }
+    ensures open { IfOk result (λ done. IsTrue done → (P.store store.new).closed ≡ false) }
+    ensures works { StoreWorks (P.store store.old) (P.store store.new) }
+    ensures still { IfErr result (λ fault. fault ≢ PageFault.Disk → (P.store store.new).closed ≡ (P.store store.old).closed) }
+    ensures cause { IfErr result (WriteCause (P.store store.old) (P.store store.new)) }
+{
+    let fresh = store.is_fresh(page);
+    if levels == 0 || !fresh {
+        return Ok(false);
+    }
+    match spot_at(store, widths, page, key) {
+        None => Ok(false),
+        Some(Spot::Leaf) => put_on_copy(store, widths, page, key, value),
+        Some(Spot::Below(child)) => put_in_place(store, widths, child, levels - 1, key, value),
+    }
+}

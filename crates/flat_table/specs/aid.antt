@@ -1,9 +1,0 @@
-pub mod Bytes
-pub mod Calls
-pub mod Causes
-pub mod Drafts
-pub mod ReadLaws
-pub mod Reading
-pub mod Steps
-pub mod StoredLaws
-pub mod Whole

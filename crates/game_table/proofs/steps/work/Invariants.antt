@@ -1,0 +1,19 @@
+use Rattle.std.proofs.Common.{◌≡◌, ◌↔◌, ◌^◌, ◌≤◌}
+use Rattle.retrograde.specs.Stored.{IsTable}
+use Rattle.retrograde.specs.Sound.{IsLocallySound}
+use Rattle.game_table.specs.Work.{Works}
+use Rattle.game_table.proofs.steps.work.Given as goal
+
+abbrev pub invariant-loop-done : goal.invariant-loop-done
+invariant-loop-done g l = record {
+  limit : (g.T.Table.counted l.table).known ≤ 2 ^ 24;
+  honest : g.T.Table.is_honest l.fn.table ↔ g.T.Table.is_honest l.table;
+  ahead : g.T.Table.goes_on l.fn.table l.table;
+  source : l.source ≡ l.fn.source;
+  sound : g.T.Table.is_honest l.fn.table → IsLocallySound (g.M.GameGraph.graph l.fn.source) (g.M.GameGraph.is_wide l.fn.source) (g.T.Table.stored l.fn.table)
+      → IsLocallySound (g.M.GameGraph.graph l.fn.source) (g.M.GameGraph.is_wide l.fn.source) (g.T.Table.stored l.table);
+  works : g.T.Table.is_honest l.fn.table → IsLocallySound (g.M.GameGraph.graph l.fn.source) (g.M.GameGraph.is_wide l.fn.source) (g.T.Table.stored l.fn.table)
+      → Works (g.M.GameGraph.graph l.fn.source) (g.M.GameGraph.is_wide l.fn.source) (g.T.Table.stored l.fn.table) l.done (g.T.Table.stored l.table);
+  fits : g.T.Table.is_honest l.fn.table → IsTable (g.T.Table.stored l.fn.table) → IsTable (g.T.Table.stored l.table);
+  idle : l.done ≡ 0 → l.table ≡ l.fn.table;
+}

@@ -1,5 +1,0 @@
-mod OneReply
-mod AskLemmas
-mod Telling
-mod Replying
-pub mod LookLemmas

@@ -1,9 +1,0 @@
-use Rattle.line_answers.proofs.listings.begin.Goals as goal
-
-pub returns-in-Ok-clause-begun : goal.returns-in-Ok-clause-begun
-returns-in-Ok-clause-begun g c = (
-  c.in_ok-listing.listing,
-  c.in-Ok.ensures.items,
-  c.in_ok-listing.ensures.first,
-  λ ready honest kept is. c.in_ok-listing.ensures.begun ready honest kept is,
-)

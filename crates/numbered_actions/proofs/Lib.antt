@@ -1,8 +1,0 @@
-mod Walking
-mod Steps
-mod Numbering
-mod Numbers
-mod Lengths
-mod Placing
-mod Showing
-mod Cutting

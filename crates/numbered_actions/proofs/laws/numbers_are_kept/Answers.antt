@@ -1,5 +1,0 @@
-use Rattle.numbered_actions.proofs.Numbers.{numbers_kept}
-use Rattle.numbered_actions.proofs.laws.numbers_are_kept.Goals as goal
-
-pub returns : goal.returns
-returns c = numbers_kept

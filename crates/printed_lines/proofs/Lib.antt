@@ -1,8 +1,0 @@
-pub mod Appending
-mod KnownLemmas
-mod LineLemmas
-mod WritingLemmas
-mod AnswerLemmas
-mod Asked
-mod Telling
-mod Listing

@@ -1,4 +1,0 @@
-pub use Rattle.retrograde.specs.Stored
-pub mod Bytes
-pub mod Numbers
-pub mod aid

@@ -1,3 +1,0 @@
-pub use Rattle.record_bytes.specs.Numbers
-pub mod Fields
-pub mod aid

@@ -1,3 +1,0 @@
-pub mod Goals
-pub mod Packings
-pub mod Words

@@ -1,0 +1,9 @@
+use Rattle.session_lines.proofs.listings.begin.Goals as goal
+
+pub returns-in-Ok-clause-begun : goal.returns-in-Ok-clause-begun
+returns-in-Ok-clause-begun g c = (
+  c.in_ok-listing.listing,
+  c.in-Ok.ensures.items,
+  c.in_ok-listing.ensures.first,
+  λ ready honest kept is. c.in_ok-listing.ensures.begun ready honest kept is,
+)

@@ -1,0 +1,17 @@
+use Rattle.std.proofs.Common.{inr}
+use Rattle.session_lines.proofs.Replying.{replied_by}
+use Rattle.session_lines.proofs.listings.put_next_of_last.Goals as goal
+
+pub returns-clause-replied : goal.returns-clause-replied
+returns-clause-replied g c = λ ready honest.
+    replied_by _ _ _ c.put_next-written.result
+    (λ status text told. inr (record {
+      others = c.pop.new.self.items;
+      listing = c.in-Some.listing;
+      moved = c.put_next-written.new.listing;
+      was = c.in-Some.ensures.items;
+      is = c.push_reserved.ensures.items;
+      same = c.put_next-written.ensures.same;
+      told = told;
+    }))
+    (c.put_next-written.ensures.replied ready honest)

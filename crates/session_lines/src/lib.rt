@@ -1,0 +1,22 @@
+//! What a line of a session asks for, how it is answered, and the lines that are printed: moves, values, how far a table is, verdicts.
+#![tactic(auto)]
+
+pub mod actions;
+pub mod advice;
+pub mod input;
+pub mod known;
+mod lines;
+pub mod listings;
+pub mod looked;
+pub mod looks;
+mod move_lines;
+pub mod moves;
+mod numbers;
+pub mod puts;
+pub mod questions;
+pub mod refusals;
+pub mod refused;
+pub mod replies;
+pub mod rulebook;
+pub mod turns;
+pub mod verdicts;

@@ -1,0 +1,170 @@
+//! What a session replies to the lines about listings. They act on the listing that was begun last.
+
+ghost use Rattle.std.specs.Prelude.{◌≡◌, ◌⊎◌, ◌∷◌, [], ◌++◌, ℕ, List, IfOk, IfErr, OnOk, OnErr, IsSome, IsTrue, Some, true, false};
+ghost use Rattle.std.specs.Io.KnownBytes.{Appends};
+ghost use Rattle.game_file.specs.Calls.{IsAsked};
+ghost use Rattle.game_file.specs.Kept.{Kept};
+ghost use Rattle.retrograde.specs.Stored.{Stored, IsTable};
+ghost use Rattle.solver.specs.Listings.{BeginCause, NextCause};
+ghost use Rattle.solver.specs.Solvers.{state, IsReady};
+ghost use Rattle.solver.specs.Units.{units_in};
+ghost use Rattle.solver.specs.declared.listing.Listing.{Listing};
+ghost use Rattle.solver.specs.declared.fault.SolverFault.{SolverFault};
+ghost use Rattle.session_lines.specs.Answered.{status_of_fault};
+ghost use Rattle.session_lines.specs.Listed.{IsNextText, IsNextTold, IsNoneOpen, IsNext, IsListingReplied};
+ghost use Rattle.session_lines.specs.Told.{fault_line};
+
+use crate::input::ListingLine;
+use crate::questions::{put_done, put_fault};
+use crate::replies::row_lines;
+use game_file::Versions;
+use solver::{FileSolver, Listing, SolverFault, Units};
+use std::alloc::{AllocFailed, Global};
+use std::io::{self, Write};
+
+/// Writes the reply to a line about listings at once, and gives the exit status that belongs to it. `begin` puts a listing behind
+/// those that are open; `next` and `end` act on the last one, and where none is open they are answered `usage`.
+pub fn put_listing<F: Versions, W: Write, E: Write>(
+    alloc: Global,
+    solver: &mut FileSolver<F>,
+    listings: &mut Vec<Listing<F::Version>>,
+    line: ListingLine,
+    out: &mut W,
+    told: &mut E,
+) -> io::Result<u8>
+    ensures ready { IsReady solver.old → IsReady solver.new }
+    ensures asked { IsReady solver.old → IsTrue (state solver.old).disk.honest → IsAsked F.stores (state solver.old) (state solver.new) }
+    ensures replied { IsReady solver.old → IsTrue (state solver.old).disk.honest → IfOk result (λ status. (text : List ℕ)
+        × IsListingReplied F.state F.is_version line (F.is_used_up solver.old.file) solver.old.file solver.new.file
+        listings.old.items listings.new.items status text
+        × Appends (W.contents out.old) (W.contents out.new) text) }
+{
+    match line {
+        ListingLine::Begin => match begin(solver, listings) {
+            Ok(()) => put_done(out, b"listing\n"),
+            Err(fault) => put_fault(fault, out, told),
+        },
+        ListingLine::Next(count) => put_next_of_last(alloc, solver, listings, count, out, told),
+        ListingLine::End => {
+            if end(solver, listings) {
+                put_done(out, b"ended\n")
+            } else {
+                put_done(out, b"usage\n")
+            }
+        }
+    }
+}
+
+/// Ends the listing that was begun last, and answers whether one was open.
+fn end<F: Versions>(solver: &mut FileSolver<F>, listings: &mut Vec<Listing<F::Version>>) -> bool
+    ensures ready { IsReady solver.old → IsReady solver.new }
+    ensures state { IsReady solver.old → IsTrue (state solver.old).disk.honest → state solver.new ≡ state solver.old }
+    ensures ended { result ≡ true → (listing : Listing F.Version) × (listings.old.items ≡ listings.new.items ++ listing ∷ [])
+        × ((table : Stored (List ℕ)) → ¬ F.is_version listing.version table solver.new.file) }
+    ensures none { result ≡ false → (listings.old.items ≡ []) × (listings.new.items ≡ []) × (solver.new ≡ solver.old) }
+{
+    match listings.pop() {
+        Some(listing) => {
+            solver.list_end(listing);
+            true
+        }
+        None => false,
+    }
+}
+
+/// Begins a listing, and puts it behind those that are open: E9, S1, S9. Where there is no room for it, it is ended, and E8 answered.
+fn begin<F: Versions>(
+    solver: &mut FileSolver<F>,
+    listings: &mut Vec<Listing<F::Version>>,
+) -> Result<(), SolverFault>
+    ensures ready { IsReady solver.old → IsReady solver.new }
+    ensures state { IsReady solver.old → IsTrue (state solver.old).disk.honest → state solver.new ≡ state solver.old }
+    ensures begun { OnOk result ((listing : Listing F.Version) × (listings.new.items ≡ listings.old.items ++ listing ∷ [])
+        × (listing.next ≡ 0)
+        × (IsReady solver.old → IsTrue (state solver.old).disk.honest → (kept : Kept) → (state solver.old).kept ≡ Some kept
+        → F.is_version listing.version kept.table solver.new.file)) }
+    ensures refused { OnErr result (listings.new.items ≡ listings.old.items) }
+    ensures cause { IfErr result (λ why. BeginCause (state solver.old) (F.is_used_up solver.old.file) why ⊎ (why ≡ SolverFault.OutOfMemory)) }
+{
+    let listing = solver.list_begin()?;
+    match listings.push(listing) {
+        Ok(()) => Ok(()),
+        Err(AllocFailed { value }) => {
+            solver.list_end(value);
+            Err(SolverFault::OutOfMemory)
+        }
+    }
+}
+
+/// The lines of the next rows of a listing, or `done` where none is left: E9, E1, E8. Where there are rows and no room for their lines,
+/// E8 is answered behind them.
+fn next_text<F: Versions>(
+    alloc: Global,
+    solver: &mut FileSolver<F>,
+    listing: &mut Listing<F::Version>,
+    count: Units,
+) -> Result<Vec<u8>, SolverFault>
+    ensures ready { IsReady solver.old → IsReady solver.new }
+    ensures asked { IsReady solver.old → IsAsked F.stores (state solver.old) (state solver.new) }
+    ensures lasts { F.lasts solver.old.file solver.new.file }
+    ensures same { listing.new.version ≡ listing.old.version }
+    ensures text { IsReady solver.old → IsTrue (state solver.old).disk.honest → (table : Stored (List ℕ)) → IsTable table
+        → F.is_version listing.old.version table solver.old.file
+        → IfOk result (λ text. IsNextText table listing.old.next listing.new.next (units_in count) text.items (state solver.old).kept) }
+    ensures cause { (table : Stored (List ℕ)) → IsReady solver.old → IsSome (state solver.old).kept
+        → F.is_version listing.old.version table solver.old.file → IfErr result (NextCause (state solver.old) (state solver.new)) }
+{
+    let rows = solver.list_next(listing, count)?;
+    if rows.is_empty() {
+        return Ok(b"done\n".to_vec(alloc)?);
+    }
+    Ok(row_lines(alloc, solver.needs_game()?, &rows)?)
+}
+
+/// Writes the lines of the next rows, or `done`, or the refusal.
+fn put_next<F: Versions, W: Write, E: Write>(
+    alloc: Global,
+    solver: &mut FileSolver<F>,
+    listing: &mut Listing<F::Version>,
+    count: Units,
+    out: &mut W,
+    told: &mut E,
+) -> io::Result<u8>
+    ensures ready { IsReady solver.old → IsReady solver.new }
+    ensures asked { IsReady solver.old → IsAsked F.stores (state solver.old) (state solver.new) }
+    ensures lasts { F.lasts solver.old.file solver.new.file }
+    ensures same { listing.new.version ≡ listing.old.version }
+    ensures replied { IsReady solver.old → IsTrue (state solver.old).disk.honest → IfOk result (λ status. (line : List ℕ)
+        × (IsSome (state solver.old).kept → (table : Stored (List ℕ)) → IsTable table → F.is_version listing.old.version table solver.old.file
+        → IsNextTold F.state F.is_version (units_in count) solver.old.file solver.new.file table listing.old.next listing.new.next status line)
+        × Appends (W.contents out.old) (W.contents out.new) line) }
+{
+    match next_text(alloc, solver, listing, count) {
+        Ok(text) => put_done(out, &text),
+        Err(fault) => put_fault(fault, out, told),
+    }
+}
+
+/// Writes the lines of the next rows of the listing that was begun last, or the refusal; `usage` where none is open.
+fn put_next_of_last<F: Versions, W: Write, E: Write>(
+    alloc: Global,
+    solver: &mut FileSolver<F>,
+    listings: &mut Vec<Listing<F::Version>>,
+    count: Units,
+    out: &mut W,
+    told: &mut E,
+) -> io::Result<u8>
+    ensures ready { IsReady solver.old → IsReady solver.new }
+    ensures asked { IsReady solver.old → IsAsked F.stores (state solver.old) (state solver.new) }
+    ensures replied { IsReady solver.old → IsTrue (state solver.old).disk.honest → IfOk result (λ status. (text : List ℕ)
+        × (IsNoneOpen listings.old.items listings.new.items status text
+        ⊎ IsNext F.state F.is_version (units_in count) solver.old.file solver.new.file listings.old.items listings.new.items status text)
+        × Appends (W.contents out.old) (W.contents out.new) text) }
+{
+    let Some(mut listing) = listings.pop() else {
+        return put_done(out, b"usage\n");
+    };
+    let written = put_next(alloc, solver, &mut listing, count, out, told);
+    listings.push_reserved(listing);
+    written
+}

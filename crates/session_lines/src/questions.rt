@@ -1,0 +1,206 @@
+//! What a session replies to its lines.
+
+ghost use Rattle.std.specs.Prelude.{◌≡◌, ◌⊎◌, ℕ, List, true, IfOk, IfErr, OnOk, IsErrOf};
+ghost use Rattle.std.specs.Io.KnownBytes.{Appends};
+ghost use Rattle.game_file.specs.Calls.{IsAsked};
+ghost use Rattle.solver.specs.Machine.{work as work_on};
+ghost use Rattle.solver.specs.Runs.{IsTurnWithCause};
+ghost use Rattle.solver.specs.Queries.{Tells, NumberCause, LineCause, ShowCause, FindCause};
+ghost use Rattle.solver.specs.Solvers.{state, IsReady};
+ghost use Rattle.solver.specs.Units.{units_in};
+ghost use Rattle.session_lines.specs.Answered.{IsValueLine, AreRowLines, IsPlayLine, IsShownLine, IsFoundLine, IsAnswerTo, QuestionCause};
+ghost use Rattle.session_lines.specs.Answered.{status_of_fault, IsDoneFor, IsReplied, IsWorkReplied};
+ghost use Rattle.session_lines.specs.Told.{fault_line};
+
+use crate::advice::{tell_fault, tell_full};
+use crate::input::{Asked, Question, SESSION_LINES};
+use crate::puts::{put_line, put_refused, put_reply, status_of};
+use crate::replies::{found_line, numbers_line, put_status, row_lines, value_line};
+use crate::turns::reply_to;
+use game_file::GameFile;
+use solver::{Command, FileSolver, Reply, SolverFault, Units};
+use std::alloc::Global;
+use std::io::{self, Write};
+
+/// Writes the reply to a line at once, and gives the exit status that belongs to it: 0, or that of the
+/// refusal. A line without a word has no reply, and neither has `quit`. What a refusal means goes to `told`. A line about listings is
+/// answered `usage`, as where none are kept: whoever keeps them answers it by `put_listing`.
+pub fn put_answer<F: GameFile, W: Write, E: Write>(
+    alloc: Global,
+    solver: &mut FileSolver<F>,
+    asked: Asked<'_>,
+    out: &mut W,
+    told: &mut E,
+) -> io::Result<u8>
+    ensures ready { IsReady solver.old → IsReady solver.new }
+    ensures done { IsReady solver.old → IsDoneFor F.stores asked.entry (state solver.old) (state solver.new) }
+    ensures replied { IsReady solver.old → IfOk result (λ status. (line : List ℕ)
+        × IsReplied F.stores asked.entry (state solver.old) (state solver.new) status line
+        × Appends (W.contents out.old) (W.contents out.new) line) }
+{
+    match asked {
+        Asked::Nothing | Asked::Quit => Ok(0),
+        Asked::Usage | Asked::Listing(_) => put_done(out, b"usage\n"),
+        Asked::Help => {
+            let status = put_done(out, b"usage\n")?;
+            let _told = writeln!(told, "{SESSION_LINES}");
+            Ok(status)
+        }
+        Asked::Status => {
+            put_status(out, solver.status())?;
+            out.flush()?;
+            Ok(0)
+        }
+        Asked::Work(units) => put_worked(alloc, solver, units, out, told),
+        Asked::Question(question) => match text_of(alloc, solver, question) {
+            Ok(text) => put_done(out, &text),
+            Err(fault) => put_fault(fault, out, told),
+        },
+    }
+}
+
+/// Writes a line at once that is no refusal.
+pub fn put_done<W: Write>(out: &mut W, line: &[u8]) -> io::Result<u8>
+    ensures status { IfOk result (λ status. status ≡ 0) }
+    ensures line { OnOk result (Appends (W.contents out.old) (W.contents out.new) line.now) }
+{
+    put_line(out, line)?;
+    Ok(0)
+}
+
+/// Writes a refusal, and gives its status.
+pub fn put_fault<W: Write, E: Write>(
+    fault: SolverFault,
+    out: &mut W,
+    told: &mut E,
+) -> io::Result<u8>
+    ensures status { IfOk result (λ status. status ≡ status_of_fault fault) }
+    ensures line { OnOk result (Appends (W.contents out.old) (W.contents out.new) (fault_line fault)) }
+{
+    put_refused(out, fault)?;
+    tell_fault(told, fault);
+    Ok(status_of(fault))
+}
+
+/// Works, and writes the reply.
+fn put_worked<F: GameFile, W: Write, E: Write>(
+    alloc: Global,
+    solver: &mut FileSolver<F>,
+    units: Units,
+    out: &mut W,
+    told: &mut E,
+) -> io::Result<u8>
+    ensures ready { IsReady solver.old → IsReady solver.new }
+    ensures done { IsReady solver.old
+        → ((reply : Reply) × IsTurnWithCause F.stores (work_on (units_in units)) reply (state solver.old) (state solver.new))
+        ⊎ ((state solver.new) ≡ (state solver.old)) }
+    ensures worked { IsReady solver.old → IfOk result (λ status. (line : List ℕ)
+        × IsWorkReplied F.stores (units_in units) (state solver.old) (state solver.new) status line
+        × Appends (W.contents out.old) (W.contents out.new) line) }
+{
+    match reply_to(alloc, solver, Command::Work(units)) {
+        Reply::Refused(SolverFault::TableFull) => {
+            put_refused(out, SolverFault::TableFull)?;
+            tell_full(told, solver.capacity());
+            Ok(status_of(SolverFault::TableFull))
+        }
+        Reply::Refused(fault) => put_fault(fault, out, told),
+        reply => {
+            put_reply(out, reply)?;
+            Ok(0)
+        }
+    }
+}
+
+/// The text that answers a question, in whole lines.
+pub(crate) fn text_of<F: GameFile>(
+    alloc: Global,
+    solver: &mut FileSolver<F>,
+    question: Question<'_>,
+) -> Result<Vec<u8>, SolverFault>
+    ensures ready { IsReady solver.old → IsReady solver.new }
+    ensures asked { IsReady solver.old → IsAsked F.stores (state solver.old) (state solver.new) }
+    ensures text { IsReady solver.old → IfOk result (λ text. Tells (IsAnswerTo question.entry text.items) (state solver.old)) }
+    ensures cause { IsReady solver.old → IfErr result (QuestionCause question.entry (state solver.old) (state solver.new)) }
+{
+    match question {
+        Question::Value(number) => value_of(alloc, solver, number),
+        Question::List(from, count) => rows_of(alloc, solver, from, count),
+        Question::Line(number) => play_of(alloc, solver, number),
+        Question::Show(number) => shown(solver, number),
+        Question::Find(text) => found(alloc, solver, text),
+    }
+}
+
+/// The line of a position's value.
+fn value_of<F: GameFile>(
+    alloc: Global,
+    solver: &mut FileSolver<F>,
+    number: u32,
+) -> Result<Vec<u8>, SolverFault>
+    ensures ready { IsReady solver.old → IsReady solver.new }
+    ensures asked { IsReady solver.old → IsAsked F.stores (state solver.old) (state solver.new) }
+    ensures text { IsReady solver.old → IfOk result (λ text. Tells (IsValueLine number text.items) (state solver.old)) }
+    ensures cause { IsReady solver.old → IfErr result (NumberCause number (state solver.old) (state solver.new)) }
+{
+    let value = solver.value(number)?;
+    Ok(value_line(alloc, solver.needs_game()?, value)?)
+}
+
+/// The lines of a list.
+fn rows_of<F: GameFile>(
+    alloc: Global,
+    solver: &mut FileSolver<F>,
+    from: u32,
+    count: Units,
+) -> Result<Vec<u8>, SolverFault>
+    ensures ready { IsReady solver.old → IsReady solver.new }
+    ensures asked { IsReady solver.old → IsAsked F.stores (state solver.old) (state solver.new) }
+    ensures text { IsReady solver.old → IfOk result (λ text. Tells (AreRowLines from (units_in count) text.items) (state solver.old)) }
+    ensures cause { IsReady solver.old → IfErr result (NumberCause from (state solver.old) (state solver.new)) }
+{
+    let rows = solver.list(from, count)?;
+    Ok(row_lines(alloc, solver.needs_game()?, &rows)?)
+}
+
+/// The line of a best line's numbers.
+fn play_of<F: GameFile>(
+    alloc: Global,
+    solver: &mut FileSolver<F>,
+    number: u32,
+) -> Result<Vec<u8>, SolverFault>
+    ensures ready { IsReady solver.old → IsReady solver.new }
+    ensures asked { IsReady solver.old → IsAsked F.stores (state solver.old) (state solver.new) }
+    ensures text { IsReady solver.old → IfOk result (λ text. Tells (IsPlayLine number text.items) (state solver.old)) }
+    ensures cause { IsReady solver.old → IfErr result (LineCause number (state solver.old) (state solver.new)) }
+{
+    let numbers = solver.line(number)?;
+    Ok(numbers_line(alloc, &numbers)?)
+}
+
+/// The line of a position's text.
+fn shown<F: GameFile>(solver: &mut FileSolver<F>, number: u32) -> Result<Vec<u8>, SolverFault>
+    ensures ready { IsReady solver.old → IsReady solver.new }
+    ensures asked { IsReady solver.old → IsAsked F.stores (state solver.old) (state solver.new) }
+    ensures text { IsReady solver.old → IfOk result (λ text. Tells (IsShownLine number text.items) (state solver.old)) }
+    ensures cause { IsReady solver.old → IfErr result (ShowCause number (state solver.old) (state solver.new)) }
+{
+    let mut line = solver.show(number)?;
+    line.push(b'\n')?;
+    Ok(line)
+}
+
+/// The line of the number of the position with this text.
+fn found<F: GameFile>(
+    alloc: Global,
+    solver: &mut FileSolver<F>,
+    text: &[u8],
+) -> Result<Vec<u8>, SolverFault>
+    ensures ready { IsReady solver.old → IsReady solver.new }
+    ensures asked { IsReady solver.old → IsAsked F.stores (state solver.old) (state solver.new) }
+    ensures text { IsReady solver.old → IfOk result (λ line. Tells (IsFoundLine text.now line.items) (state solver.old)) }
+    ensures cause { IsReady solver.old → IfErr result (FindCause text.now (state solver.old) (state solver.new)) }
+{
+    let number = solver.find(text)?;
+    Ok(found_line(alloc, number)?)
+}

@@ -1,9 +1,0 @@
-pub use Rattle.retrograde.specs.Changes
-pub use Rattle.retrograde.specs.Stored
-pub use Rattle.table.specs.InMemory
-pub use Rattle.table.specs.Memory
-pub use Rattle.record_bytes.specs.Bytes
-pub use Rattle.record_bytes.specs.Numbers
-pub mod Spelled
-pub mod Length
-pub mod aid

@@ -1,5 +1,0 @@
-pub mod Items
-pub mod Laws
-pub mod Parts
-pub mod Reading
-pub mod Writing

@@ -1,6 +1,0 @@
-pub mod Making
-pub mod Passing
-pub mod Refusing
-pub mod Spelled
-pub mod Taking
-pub mod Winners

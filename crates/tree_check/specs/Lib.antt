@@ -1,9 +1,0 @@
-pub use Rattle.page_store.specs.Store
-pub use Rattle.retrograde.specs.Stored
-pub use Rattle.record_bytes.specs.Numbers
-pub use Rattle.tree_page.specs.Page
-pub use Rattle.tree_table.specs.Working
-pub mod Counted
-pub mod Spelling
-pub mod Causes
-pub mod aid

@@ -1,4 +1,0 @@
-pub mod Counting
-pub mod AsMany
-pub mod Right
-pub mod Reading

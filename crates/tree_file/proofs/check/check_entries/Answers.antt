@@ -1,0 +1,89 @@
+use Rattle.std.proofs.Common.{◌≡◌, ℕ, ◌<◌, inl, inr, List, length, sym, subst, arith}
+use Rattle.std.specs.Prelude.{slice_index_or}
+use Rattle.std.proofs.lemmas.Bool.{cases_eq}
+use Rattle.page_store.specs.aid.Works.{works_then}
+use Rattle.btree.specs.Page.{Item}
+use Rattle.tree_table.specs.declared.tree.Tree.{Tree}
+use Rattle.tree_file.specs.aid.Right.{IsRightNumber, IsRightPlaced, AreRight}
+use Rattle.tree_file.specs.declared.places.Placed.{Placed}
+use Rattle.tree_file.specs.declared.places.Placed.TheVariants.{Nowhere}
+use Rattle.tree_file.proofs.Making.{right_spell}
+use Rattle.tree_file.proofs.CheckPassing.{passed_on, check_since, plain_check, read_more, told_before}
+use Rattle.tree_file.proofs.Refusing.{not_spelled}
+use Rattle.tree_file.proofs.Taking.{its_place, right_there, right_so}
+use Rattle.tree_file.proofs.check.check_entries.Goals as goal
+
+pub returns-in_err-placed-clause-cause : goal.returns-in_err-placed-clause-cause
+returns-in_err-placed-clause-cause g c =
+    passed_on _ c.from_residual.result _ c.from_residual.ensures
+    (not_spelled c.args.slot.now (g.P.Pages.store c.args.store.now) (g.P.Pages.store c.find_places.new.store) _ c.in_err-placed.ensures.cause)
+
+pub loop-number-init : goal.loop-number-init
+loop-number-init g c = record {
+  read = record { works = c.in_ok-placed.ensures.works; unchanged = c.in_ok-placed.ensures.unchanged };
+  numbers = λ honest text entries h i low. absurd (omega (arith, low));
+}
+
+pub returns-in_err-check_number-clause-unchanged : goal.returns-in_err-check_number-clause-unchanged
+returns-in_err-check_number-clause-unchanged g c =
+    (read_more _ _ _ c.loop-number.invariant.read c.in_err-check_number.ensures.works c.in_err-check_number.ensures.unchanged).unchanged
+
+pub returns-in_err-check_number-clause-works : goal.returns-in_err-check_number-clause-works
+returns-in_err-check_number-clause-works g c = works_then c.loop-number.invariant.read.works c.in_err-check_number.ensures.works
+
+pub returns-in_err-check_number-clause-cause : goal.returns-in_err-check_number-clause-cause
+returns-in_err-check_number-clause-cause g c =
+    let slot = c.args.slot.now in
+    let old = g.P.Pages.store c.args.store.now in
+    let mid = g.P.Pages.store c.loop-number.store in
+    let new = g.P.Pages.store c.check_number.new.store in
+    let number = c.loop-number.number in
+    let items = c.in_ok-placed.placed.items in
+    let within : number < length items = omega (arith, c.loop-number-test.true, c.in_ok-placed.ensures.long) in
+    let place : c.index.result.now ≡ slice_index_or items number Nowhere = its_place items number c.index.result.now within c.index.ensures in
+    passed_on _ c.from_residual-in_err-check_number.result _ c.from_residual-in_err-check_number.ensures
+    (not_spelled slot old new _
+    (check_since (λ entries. IsRightPlaced slot.sizes entries number c.index.result.now)
+    (λ entries. AreRight slot.sizes entries 0 slot.sizes.counts.known) slot old mid new _
+    c.loop-number.invariant.read
+    (λ honest text entries h right.
+    subst (λ (p : Placed). IsRightPlaced slot.sizes entries number p) (sym place)
+    (right_so slot.sizes entries items (c.in_ok-placed.ensures.places honest text entries h) number within right c.loop-number-test.true))
+    (plain_check (λ entries. IsRightPlaced slot.sizes entries number c.index.result.now) slot mid new _ c.in_err-check_number.ensures.cause)))
+
+pub loop-number-preserved : goal.loop-number-preserved
+loop-number-preserved g c =
+    let slot = c.args.slot.now in
+    let old = g.P.Pages.store c.args.store.now in
+    let mid = g.P.Pages.store c.loop-number.store in
+    let number = c.loop-number.number in
+    let items = c.in_ok-placed.placed.items in
+    let within : number < length items = omega (arith, c.loop-number-test.true, c.in_ok-placed.ensures.long) in
+    let place : c.index.result.now ≡ slice_index_or items number Nowhere = its_place items number c.index.result.now within c.index.ensures in
+    record {
+      read = read_more _ _ _ c.loop-number.invariant.read c.in_ok-check_number.ensures.works c.in_ok-check_number.ensures.unchanged;
+      numbers = λ honest text entries h i low. elim (cases_eq i number) [
+        | inl is ↦
+            let at = told_before (λ es. IsRightPlaced slot.sizes es number c.index.result.now) slot old mid
+            c.loop-number.invariant.read c.in_ok-check_number.ensures.right honest text entries h in
+            subst (λ (m : ℕ). IsRightNumber slot.sizes entries m) (sym is)
+            (right_there slot.sizes entries items (c.in_ok-placed.ensures.places honest text entries h) number within
+            (subst (λ (p : Placed). IsRightPlaced slot.sizes entries number p) place at))
+        | inr before ↦ c.loop-number.invariant.numbers honest text entries h i (omega (arith, low, before))
+      ];
+    }
+
+pub returns-clause-table : goal.returns-clause-table
+returns-clause-table g c = λ honest text entries h many.
+    let sizes = c.args.slot.now.sizes in
+    let right : AreRight sizes entries 0 sizes.counts.known = record {
+      places = (c.in_ok-placed.ensures.places honest text entries h).are.known;
+      numbers = λ i first low. c.loop-number.invariant.numbers honest text entries h i (omega (arith, low, c.loop-number-test.false));
+    } in
+    right_spell sizes entries c.requires.limits many right
+
+pub returns-clause-unchanged : goal.returns-clause-unchanged
+returns-clause-unchanged g c = c.loop-number.invariant.read.unchanged
+
+pub returns-clause-works : goal.returns-clause-works
+returns-clause-works g c = c.loop-number.invariant.read.works

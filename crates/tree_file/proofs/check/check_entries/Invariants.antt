@@ -1,0 +1,10 @@
+use Rattle.std.proofs.Common.{ℕ, ◌<◌}
+use Rattle.tree_file.specs.aid.CheckReading.{TellsOfEntries, IsAfterReads}
+use Rattle.tree_file.specs.aid.Right.{IsRightNumber}
+use Rattle.tree_file.proofs.check.check_entries.Given as goal
+
+abbrev pub invariant-loop-number : goal.invariant-loop-number
+invariant-loop-number g l = record {
+  read : IsAfterReads (g.P.Pages.store l.fn.store) (g.P.Pages.store l.store);
+  numbers : TellsOfEntries l.fn.slot (g.P.Pages.store l.fn.store) (λ entries. (i : ℕ) → i < l.number → IsRightNumber l.fn.slot.sizes entries i);
+}

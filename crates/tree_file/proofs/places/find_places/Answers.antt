@@ -1,0 +1,110 @@
+use Rattle.std.proofs.Common.{◌≡◌, ◌∙◌, ℕ, List, sym, subst, arith}
+use Rattle.page_store.specs.aid.Works.{works_refl, works_then}
+use Rattle.tree_table.specs.declared.tree.Tree.TheVariants.{Order}
+use Rattle.tree_table.specs.Entries.{number_key}
+use Rattle.tree_file.specs.aid.Right.{IsNumberAt, AreRight, AreMarkedByPlaces}
+use Rattle.tree_file.proofs.CheckPassing.{passed_on, check_since, plain_check, read_here, read_more, told_before}
+use Rattle.tree_file.proofs.Taking.{none_placed, placed_more, placed_twice, place_known, place_missing, take_long}
+use Rattle.tree_file.proofs.places.find_places.Goals as goal
+
+pub returns-in_err-placed-clause-works : goal.returns-in_err-placed-clause-works
+returns-in_err-placed-clause-works g c = works_refl (g.P.Pages.store c.args.store.now)
+
+pub loop-place-init : goal.loop-place-init
+loop-place-init g c = record {
+  read = read_here (g.P.Pages.store c.args.store.now);
+  long = c.in_ok-placed.ensures.long;
+  so_far = λ honest text entries h. none_placed c.args.slot.now.sizes entries c.in_ok-placed.placed.items c.in_ok-placed.ensures.none;
+}
+
+pub returns-in_err-number-clause-unchanged : goal.returns-in_err-number-clause-unchanged
+returns-in_err-number-clause-unchanged g c =
+    (read_more _ _ _ c.loop-place.invariant.read c.in_err-number.ensures.works c.in_err-number.ensures.unchanged).unchanged
+
+pub returns-in_err-number-clause-works : goal.returns-in_err-number-clause-works
+returns-in_err-number-clause-works g c = works_then c.loop-place.invariant.read.works c.in_err-number.ensures.works
+
+pub returns-in_err-number-clause-cause : goal.returns-in_err-number-clause-cause
+returns-in_err-number-clause-cause g c =
+    let slot = c.args.slot.now in
+    let old = g.P.Pages.store c.args.store.now in
+    let mid = g.P.Pages.store c.loop-place.store in
+    let new = g.P.Pages.store c.number_at.new.store in
+    passed_on _ c.from_residual-in_err-number.result _ c.from_residual-in_err-number.ensures
+    (check_since (λ entries. (n : ℕ) × IsNumberAt (entries Order) c.number_key.result n)
+    (λ entries. AreRight slot.sizes entries 0 slot.sizes.counts.known) slot old mid new _
+    c.loop-place.invariant.read
+    (λ honest text entries h right.
+    let (n, at) = place_missing slot.sizes entries c.loop-place.place c.loop-place-test.true right in
+    (n, subst (λ (k : List ℕ). IsNumberAt (entries Order) k n) (sym c.number_key.ensures) at))
+    (plain_check (λ entries. (n : ℕ) × IsNumberAt (entries Order) c.number_key.result n) slot mid new _ c.in_err-number.ensures.cause))
+
+pub returns-then-number-counts-clause-unchanged : goal.returns-then-number-counts-clause-unchanged
+returns-then-number-counts-clause-unchanged g c =
+    (read_more _ _ _ c.loop-place.invariant.read c.in_ok-number.ensures.works c.in_ok-number.ensures.unchanged).unchanged
+
+pub returns-then-number-counts-clause-works : goal.returns-then-number-counts-clause-works
+returns-then-number-counts-clause-works g c = works_then c.loop-place.invariant.read.works c.in_ok-number.ensures.works
+
+pub returns-then-number-counts-clause-cause : goal.returns-then-number-counts-clause-cause
+returns-then-number-counts-clause-cause g c = λ honest text entries h right.
+    let slot = c.args.slot.now in
+    let old = g.P.Pages.store c.args.store.now in
+    let mid = g.P.Pages.store c.loop-place.store in
+    let at = told_before (λ es. IsNumberAt (es Order) c.number_key.result c.in_ok-number.number) slot old mid
+    c.loop-place.invariant.read c.in_ok-number.ensures.number honest text entries h in
+    let here : IsNumberAt (entries Order) (number_key c.loop-place.place) c.in_ok-number.number =
+    subst (λ (k : List ℕ). IsNumberAt (entries Order) k c.in_ok-number.number) c.number_key.ensures at in
+    let low = place_known slot.sizes entries c.loop-place.place c.in_ok-number.number here c.loop-place-test.true right in
+    omega (arith, low, c.if-number-counts.true)
+
+pub returns-then-not-is_new-clause-unchanged : goal.returns-then-not-is_new-clause-unchanged
+returns-then-not-is_new-clause-unchanged g c =
+    (read_more _ _ _ c.loop-place.invariant.read c.in_ok-number.ensures.works c.in_ok-number.ensures.unchanged).unchanged
+
+pub returns-then-not-is_new-clause-works : goal.returns-then-not-is_new-clause-works
+returns-then-not-is_new-clause-works g c = works_then c.loop-place.invariant.read.works c.in_ok-number.ensures.works
+
+pub returns-then-not-is_new-clause-cause : goal.returns-then-not-is_new-clause-cause
+returns-then-not-is_new-clause-cause g c = λ honest text entries h right.
+    let slot = c.args.slot.now in
+    let old = g.P.Pages.store c.args.store.now in
+    let mid = g.P.Pages.store c.loop-place.store in
+    let at = told_before (λ es. IsNumberAt (es Order) c.number_key.result c.in_ok-number.number) slot old mid
+    c.loop-place.invariant.read c.in_ok-number.ensures.number honest text entries h in
+    let here : IsNumberAt (entries Order) (number_key c.loop-place.place) c.in_ok-number.number =
+    subst (λ (k : List ℕ). IsNumberAt (entries Order) k c.in_ok-number.number) c.number_key.ensures at in
+    placed_twice slot.sizes entries c.loop-place.place c.in_ok-number.number c.loop-place.placed.items
+    (c.loop-place.invariant.so_far honest text entries h) here c.loop-place.invariant.long (omega (arith, c.if-number-counts.false))
+    c.take_place-is_new.result c.take_place-is_new.new.placed.items
+    (rw c.placed_at.ensures at c.take_place-is_new.ensures.free) c.take_place-is_new.ensures.taken
+    c.loop-place-test.true c.if-not-is_new.true right
+
+pub loop-place-preserved : goal.loop-place-preserved
+loop-place-preserved g c =
+    let slot = c.args.slot.now in
+    let old = g.P.Pages.store c.args.store.now in
+    let mid = g.P.Pages.store c.loop-place.store in
+    record {
+      read = read_more _ _ _ c.loop-place.invariant.read c.in_ok-number.ensures.works c.in_ok-number.ensures.unchanged;
+      long =
+          take_long c.in_ok-number.number c.placed_at.result c.loop-place.placed.items c.take_place-is_new.new.placed.items c.take_place-is_new.result
+          c.take_place-is_new.ensures.free c.take_place-is_new.ensures.taken c.if-not-is_new.false
+          ∙ c.loop-place.invariant.long;
+      so_far = λ honest text entries h.
+          let at = told_before (λ es. IsNumberAt (es Order) c.number_key.result c.in_ok-number.number) slot old mid
+          c.loop-place.invariant.read c.in_ok-number.ensures.number honest text entries h in
+          let here : IsNumberAt (entries Order) (number_key c.loop-place.place) c.in_ok-number.number =
+          subst (λ (k : List ℕ). IsNumberAt (entries Order) k c.in_ok-number.number) c.number_key.ensures at in
+          placed_more slot.sizes entries c.loop-place.place c.in_ok-number.number c.loop-place.placed.items
+          (c.loop-place.invariant.so_far honest text entries h) here c.loop-place.invariant.long (omega (arith, c.if-number-counts.false))
+          c.take_place-is_new.result c.take_place-is_new.new.placed.items
+          (rw c.placed_at.ensures at c.take_place-is_new.ensures.free) c.take_place-is_new.ensures.taken
+          c.if-not-is_new.false;
+    }
+
+pub returns-clause-places : goal.returns-clause-places
+returns-clause-places g c = λ honest text entries h.
+    let slot = c.args.slot.now in
+    let end : c.loop-place.place ≡ slot.sizes.counts.settled = omega (arith, c.loop-place-test.false, c.loop-place.auto.place-end) in
+    subst (λ (k : ℕ). AreMarkedByPlaces slot.sizes entries k c.loop-place.placed.items) end (c.loop-place.invariant.so_far honest text entries h)

@@ -1,4 +1,0 @@
-mod Told
-mod Passing
-mod Walks
-mod Forests

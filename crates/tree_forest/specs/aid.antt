@@ -1,4 +1,0 @@
-pub mod Marking
-pub mod One
-pub mod OneTree
-pub mod Told

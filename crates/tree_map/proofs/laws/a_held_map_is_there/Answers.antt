@@ -1,5 +1,0 @@
-use Rattle.tree_map.specs.aid.Laws.{a_held_map_is_there as law}
-use Rattle.tree_map.proofs.laws.a_held_map_is_there.Goals as goal
-
-pub returns : goal.returns
-returns c = law

@@ -1,9 +1,0 @@
-pub use Rattle.page_store.specs.Marks
-pub use Rattle.page_store.specs.Spelling
-pub use Rattle.page_store.specs.Store
-pub use Rattle.tree_page.specs.Page
-pub mod Changes
-pub mod Entries
-pub mod Next
-pub mod Tree
-pub mod aid

@@ -1,4 +1,0 @@
-pub mod Causes
-pub mod Growing
-pub mod Items
-pub mod Spots

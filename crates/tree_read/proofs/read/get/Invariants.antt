@@ -1,5 +1,0 @@
-use Rattle.tree_read.proofs.Going.{IsGoing}
-use Rattle.tree_read.proofs.read.get.Given as goal
-
-abbrev pub invariant-loop : goal.invariant-loop
-invariant-loop g l = IsGoing l.fn.widths (g.P.Pages.store l.fn.store) (g.P.Pages.store l.store) l.fn.root l.fn.key l.counter l.page

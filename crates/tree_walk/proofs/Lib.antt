@@ -1,7 +1,0 @@
-mod Descending
-mod Failing
-mod Marking
-mod Passing
-mod Rooting
-mod Telling
-mod Walking

@@ -1,5 +1,0 @@
-use Rattle.tree_walk.proofs.Descending.{IsDescending}
-use Rattle.tree_walk.proofs.depth.depth_of.Given as goal
-
-abbrev pub invariant-loop-depth : goal.invariant-loop-depth
-invariant-loop-depth g l = IsDescending l.fn.widths (g.P.Pages.store l.fn.store) (g.P.Pages.store l.store) l.fn.root l.depth l.page

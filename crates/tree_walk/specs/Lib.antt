@@ -1,9 +1,0 @@
-pub use Rattle.page_store.specs.Marks
-pub use Rattle.page_store.specs.Store
-pub use Rattle.sector_disk.specs.Disk
-pub use Rattle.tree_map.specs.Changes
-pub use Rattle.tree_map.specs.Entries
-pub use Rattle.tree_map.specs.Tree
-pub use Rattle.tree_page.specs.Page
-pub mod Walking
-pub mod aid

@@ -1,3 +1,0 @@
-pub mod Passing
-pub mod Taking
-pub mod Telling
