@@ -1,5 +1,5 @@
 //! A move of a known position.
-use best_line::Value;
+use crate::Value;
 use legal_moves::Modifier;
 use position_pack::Packed;
 use rbg_game::roles::Role;

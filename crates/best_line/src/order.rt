@@ -2,8 +2,8 @@
 ghost use Rattle.std.specs.Prelude.{◌≡◌, IfOk};
 ghost use Rattle.best_line.specs.Order.{IsBestFirst, rank_of};
 
+use crate::Value;
 use crate::known::{KnownMove, KnownMoves};
-use best_line::Value;
 use rbg_game::roles::Role;
 use std::alloc::AllocError;
 

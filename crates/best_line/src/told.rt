@@ -4,7 +4,7 @@ ghost use Rattle.retrograde.specs.Stored.{IsTable, view_of};
 ghost use Rattle.table.specs.Faults.{NeedsNoPage};
 ghost use Rattle.best_line.specs.Moves.{IsKnownAs};
 
-use best_line::{Value, value};
+use crate::{Value, value};
 use position_pack::Packed;
 use table::{Table, TableFault};
 

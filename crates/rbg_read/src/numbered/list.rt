@@ -11,12 +11,12 @@ ghost use Rattle.rbg_read.specs.Tokens.{tokens_of, cut_of};
 ghost use Rattle.rbg_read.specs.Written.{Spot, spots_of, cut_at};
 ghost use Rattle.rbg_read.specs.aid.Lines.{line_of, IsLineOfStretch};
 
+use crate::fault::GameFault;
 use crate::numbered::lexemes::{Lexeme, lexemes};
 use crate::numbered::lines::{LineColumn, line_column, put_tokens};
 use crate::numbered::stretches::{Stretch, numbered_actions};
+use crate::read::read_game;
 use rbg_game::game::Game;
-use rbg_read::fault::GameFault;
-use rbg_read::read::read_game;
 use rbg_text::fault::ReadError;
 use std::alloc::{AllocError, Global};
 
