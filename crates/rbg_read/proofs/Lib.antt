@@ -1,7 +1,7 @@
 mod Walking
 mod Steps
 mod Numbering
-mod Numbers
+mod ActionNumbers
 mod Lengths
 mod Placing
 mod Showing
