@@ -29,7 +29,7 @@ def faults_of(project: Project, booklet: Booklet, text: str) -> list[str]:
     for module in OPEN:
         path = project.root / "crates" / "solver" / "src" / f"{module}.rt"
         for crate, place, name in cited(path.read_text(encoding="utf-8")):
-            file = file_of(crate, place)
+            file = file_of(project, crate, place)
             if crate in project.crates and not is_defined(sections.get(file, ""), name):
                 found.append(f"a contract in crates/solver/src/{module}.rt cites `{name}`, whose definition in {file} is not printed.")
     return found
@@ -57,10 +57,11 @@ def by_file(text: str) -> dict[str, str]:
     return sections
 
 
-def file_of(crate: str, place: str) -> str:
+def file_of(project: Project, crate: str, place: str) -> str:
     parts = place.split(".")
     if parts[0] == "declared":
-        return f"crates/{crate}/src/{parts[1]}.rt"
+        end = next((end for end in range(len(parts), 1, -1) if (crate, ".".join(parts[1:end])) in project.sources), 2)
+        return f"crates/{crate}/src/{'/'.join(parts[1:end])}.rt"
     return f"crates/{crate}/specs/{'/'.join(parts)}.antt"
 
 

@@ -44,6 +44,11 @@ def crates_in_order(text: str) -> list[str]:
     return order
 
 
+def inside(module: str, name: str) -> str:
+    """The path of the module of this name in a module."""
+    return name if module in ("lib", "main") else f"{module}.{name}"
+
+
 class Project:
     def __init__(self, root: Path) -> None:
         self.root = root
@@ -73,11 +78,13 @@ class Project:
             self.specs[crate, name] = module
             for made in module.definitions:
                 made.resolve = lambda made, module=module: self.resolve_spec(made, module)
-        for path in sorted((folder / "src").glob("*.rt")):
+        texts: dict[str, str] = {}
+        for path in sorted((folder / "src").rglob("*.rt")):
             place = path.relative_to(self.root).as_posix()
-            self.sources[crate, path.stem] = rust.read_source(crate, path.stem, place, path.read_text(encoding="utf-8"))
-        lib = folder / "src" / "lib.rt"
-        self.exports[crate] = rust.exports_of(lib.read_text(encoding="utf-8") if lib.exists() else "")
+            module = ".".join(path.relative_to(folder / "src").with_suffix("").parts)
+            texts[module] = path.read_text(encoding="utf-8")
+            self.sources[crate, module] = rust.read_source(crate, module, place, texts[module])
+        self.exports[crate] = rust.exports_of(texts)
 
     def declare(self, source: Source) -> None:
         """Makes definitions of the types of a source, and of the ghost members of its traits."""
@@ -150,7 +157,10 @@ class Project:
 
     def declared(self, path: list[str], one: Import) -> dict[str, object]:
         """Names of a type of the program, of its variants, of its constants, or of a trait."""
-        crate, module, name = path[1], path[4], path[5]
+        crate = path[1]
+        # a module may stand in another: the longest path that is one
+        end = next((end for end in range(len(path) - 1, 4, -1) if (crate, ".".join(path[4:end])) in self.sources), 5)
+        module, name = ".".join(path[4:end]), path[end]
         if any(there == "Ghosts" for there, _ in one.names):
             return {here: Bounded((Trait(crate, module, name),)) for _, here in one.names}
         if name == "TheConstants":
@@ -158,7 +168,7 @@ class Project:
         made = self.types.get((crate, module, name))
         if made is None:
             return {}
-        if path[6:] == ["TheVariants"]:
+        if path[end + 1 :] == ["TheVariants"]:
             variants = {word: Constructor((made,)) for word in made.constructors}
             if one.alias:
                 return {one.alias: Namespace(variants.get)}
@@ -205,18 +215,20 @@ class Project:
 
     def rust_path(self, source: Source, path: list[str], seen: tuple[str, ...] = ()) -> object:
         crate, module, rest = source.crate, source.module, path
-        if path[0] in ("crate", "super"):
+        if path[0] == "crate":
             module, rest = "lib", path[1:]
+        elif path[0] == "super":
+            module, rest = module.rpartition(".")[0] or "lib", path[1:]
         elif path[0] == "self":
             rest = path[1:]
-        elif (crate, path[0]) in self.sources and module in ("lib", "main") and len(path) > 1:
-            pass  # a module of this crate, even where a crate has the same name
+        elif (crate, inside(module, path[0])) in self.sources and len(path) > 1:
+            pass  # a module of this one, even where a crate has the same name
         elif path[0] in self.crates:
             crate, module, rest = path[0], "lib" if (path[0], "lib") in self.sources else "main", path[1:]
         else:
             return EXTERNAL
-        if len(rest) > 1 and (crate, rest[0]) in self.sources:
-            module, rest = rest[0], rest[1:]
+        while len(rest) > 1 and (crate, inside(module, rest[0])) in self.sources:
+            module, rest = inside(module, rest[0]), rest[1:]
         found = self.sources.get((crate, module))
         return self.rust_name(found, rest[0], seen) if found is not None and rest else EXTERNAL
 

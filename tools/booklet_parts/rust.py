@@ -51,13 +51,17 @@ class Exports:
         return module in self.modules or (module, name) in self.names
 
 
-def exports_of(lib: str) -> Exports:
-    """What the text of a crate's lib.rt hands on."""
-    modules = {"lib", "main", *re.findall(r"^pub mod (\w+);", lib, re.M)}
-    names: set[tuple[str, str]] = set()
-    for path, name, group in re.findall(r"^pub use ([\w:]+)::(?:(\w+)|\{([^}]*)\});", lib, re.M):
-        handed = [name] if name else [part.split(" as ")[0].strip() for part in group.split(",")]
-        names |= {(path.split("::")[-1], one) for one in handed}
+def exports_of(texts: dict[str, str]) -> Exports:
+    """What the sources of a crate hand on, each by the path of its module."""
+    modules, names = {"lib", "main"}, set()
+    for module in sorted(texts, key=lambda module: (module not in ("lib", "main"), module.count("."), module)):
+        if module not in modules:
+            continue
+        before = "" if module in ("lib", "main") else f"{module}."
+        modules |= {before + name for name in re.findall(r"^pub mod (\w+);", texts[module], re.M)}
+        for path, name, group in re.findall(r"^pub use ([\w:]+)::(?:(\w+)|\{([^}]*)\});", texts[module], re.M):
+            handed = [name] if name else [part.split(" as ")[0].strip() for part in group.split(",")]
+            names |= {(before + path.removeprefix("crate::").replace("::", "."), one) for one in handed}
     return Exports(modules, names)
 
 

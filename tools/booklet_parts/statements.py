@@ -68,6 +68,11 @@ def is_public(statement: Statement) -> bool:
     return around.is_public if around is not None and around.kind == "trait" else statement.item.is_public
 
 
+def module_of(path: str) -> str:
+    """The module of this source."""
+    return ".".join(Path(path).with_suffix("").parts[3:])
+
+
 def is_exported(project: Project, statement: Statement) -> bool:
     """Whether another crate can call it: by a public module, or by a name, its own or its type's, that the crate hands on."""
     source, around = statement.source, statement.around
@@ -78,7 +83,7 @@ def is_exported(project: Project, statement: Statement) -> bool:
         return around.is_public and exports.has(source.module, around.name)
     head = source.lines[around.start]
     of = project.rust_name(source, rust.public_name(head))
-    in_module = Path(of.path).stem if isinstance(of, Definition) else source.module
+    in_module = module_of(of.path) if isinstance(of, Definition) else source.module
     return exports.has(in_module, rust.public_name(head)) and (statement.item.is_public or rust.trait_name(head) != "")
 
 
