@@ -1,1 +1,0 @@
-use Rattle.tree_table.proofs.working.TreeTableTable.packed.Goals as goal
