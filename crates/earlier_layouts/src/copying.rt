@@ -91,6 +91,7 @@ fn table_on<P: Pages>(store: P, slot: TreeSlot, text: Vec<u8>) -> TreeTable<P>
         slot,
         text,
         torn: false,
+        seen: None,
     }
 }
 

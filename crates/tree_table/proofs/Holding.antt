@@ -14,9 +14,11 @@ use Rattle.table.specs.declared.fault.TableFault.{TableFault}
 use Rattle.table.specs.declared.fault.TableFault.TheVariants.{Disk, Damaged, TableFull, OutOfMemory, Closed}
 use Rattle.tree_table.specs.declared.slot.TreeSlot.{TreeSlot}
 use Rattle.tree_table.specs.Causes.{HasNoTable, IsNoTable, ReadCause, ChangeCause}
+use Rattle.tree_table.specs.declared.last.Seen.{Seen}
+use Rattle.tree_table.specs.Last.{IsSeenIn}
 use Rattle.tree_table.specs.Spelled.{table_in}
 use Rattle.tree_table.specs.Working.{Work, work_of, table_now, IsHonestWork, HoldsTable, HoldsWork, table_there, WorkStays, WorkGoesOn, NoAnswerCause, WorkFails}
-use Rattle.tree_table.specs.aid.Frames.{honest_before, holds_still}
+use Rattle.tree_table.specs.aid.Frames.{honest_before, holds_still, table_same}
 use Rattle.tree_table.specs.aid.Spelling.{table_is}
 
 -- a table in memory is a set of one value: two ways in which two are the same are one
@@ -27,6 +29,11 @@ stored_prop s t = hlevel props
 pub holds_itself : (slot : TreeSlot) (text : List ℕ) (table : Stored (List ℕ)) (store : Store) → slot.sizes.counts.known ≤ 2 ^ 24 → HoldsTable slot text table store
     → HoldsTable slot text (table_in slot (reads store)) store
 holds_itself slot text table store few h = subst (λ (t : Stored (List ℕ)). HoldsTable slot text t store) (sym (table_is slot text table store few h)) h
+
+-- what holds of what is there, if anything is
+kept_some : {X : Type 0} {P Q : X → Type 0} (o : Option X) → ((x : X) → P x → Q x) → IfSome o P → IfSome o Q
+kept_some (Some x) keeps is = keeps x is
+kept_some None keeps is = tt
 
 -- a call that writes
 module _ (a b : Work) (now : Stored (List ℕ)) (few : b.slot.sizes.counts.known ≤ 2 ^ 24) (works : StoreWorks a.store b.store) (torn : b.torn ≡ a.torn) (text : b.text ≡ a.text)
@@ -42,6 +49,13 @@ module _ (a b : Work) (now : Stored (List ℕ)) (few : b.slot.sizes.counts.known
   pub now_stored : (IsHonestWork a → ∥ HoldsWork a ∥₁) → IsHonestWork a → table_now b ≡ now
   now_stored holds honest = ∥∥₁_elim (holds honest) (stored_prop (table_now b) now) (λ (h : HoldsWork a). table_is b.slot b.text now b.store few (changed honest h))
 
+  -- the cell that was seen last is still that of its number
+  pub now_seen : (o : Option Seen) → ((s : Seen) → IsSeenIn (table_now a) s → IsSeenIn now s) → (IsHonestWork a → ∥ HoldsWork a ∥₁)
+      → (IsHonestWork a → IfSome o (IsSeenIn (table_now a))) → IsHonestWork b → IfSome o (IsSeenIn (table_now b))
+  now_seen o keeps holds last honest =
+      let before = honest_before {a = a} {b = b} works torn honest in
+      subst (λ (t : Stored (List ℕ)). IfSome o (IsSeenIn t)) (sym (now_stored holds before)) (kept_some o keeps (last before))
+
   pub now_goes_on : b.store.closed ≡ a.store.closed → b.slot.sizes.text ≡ a.slot.sizes.text → b.slot.packing ≡ a.slot.packing → b.slot.goal ≡ a.slot.goal
       → WorkGoesOn a b
   now_goes_on still long packing goal =
@@ -52,6 +66,13 @@ pub still_held : (a b : Work) → WorkStays a b → (IsHonestWork a → ∥ Hold
 still_held a b stays holds honest =
     let before = honest_before {a = a} {b = b} stays.works stays.torn honest in
     ∥∥₁_elim (holds before) ∥∥₁_prop (λ (h : HoldsWork a). ∣ holds_still a b stays before.disk h ∣₁)
+
+-- the cell that was seen last is the one that it was
+pub still_seen : (a b : Work) (o : Option Seen) → WorkStays a b → (IsHonestWork a → IfSome o (IsSeenIn (table_now a))) → IsHonestWork b
+    → IfSome o (IsSeenIn (table_now b))
+still_seen a b o stays last honest =
+    let before = honest_before {a = a} {b = b} stays.works stays.torn honest in
+    subst (λ (t : Stored (List ℕ)). IfSome o (IsSeenIn t)) (sym (table_same a b stays before.disk)) (last before)
 
 -- why one fails
 pub read_fails_so : (a b : Work) (fault : TableFault) → WorkStays a b → ReadCause IsNoTable a.slot a.store b.store fault → WorkFails a b fault

@@ -10,6 +10,7 @@ mod KeyOrder
 mod Reading
 mod NextEdges
 pub mod Holding
+mod Seeing
 pub mod Limits
 mod Committing
 mod Loading

@@ -22,6 +22,7 @@ pub mod Spelled
 pub mod Slot
 pub mod Held
 pub mod Keeping
+pub mod Last
 pub mod Working
 pub mod Causes
 pub mod InTrees

@@ -3,6 +3,7 @@ pub mod Frames
 pub mod Growing
 pub mod Keeping
 pub mod Keys
+pub mod Last
 pub mod Lists
 pub mod Numbers
 pub mod OneTable

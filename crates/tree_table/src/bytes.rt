@@ -69,7 +69,7 @@ pub fn edge_in(bytes: &[u8]) -> Option<(u32, u32)>
 }
 
 /// A copy of the bytes of a position.
-fn position_of(bytes: &[u8]) -> Packed
+pub fn position_of(bytes: &[u8]) -> Packed
     requires { length bytes.now ≤ MAX_PACKED }
     ensures { result.items ≡ bytes.now }
 {

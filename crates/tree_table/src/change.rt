@@ -3,7 +3,7 @@ ghost use Rattle.std.specs.Prelude.{◌≡◌, ◌≢◌, ◌+◌, ◌≤◌, �
 ghost use Rattle.page_store.specs.Marks.{free_count};
 ghost use Rattle.page_store.specs.Store.{StoreWorks};
 ghost use Rattle.retrograde.specs.Changes.{fresh_record, with_position, with_record, with_edge, with_settled};
-ghost use Rattle.retrograde.specs.Stored.{Stored};
+ghost use Rattle.retrograde.specs.Stored.{Stored, HasRecord};
 ghost use Rattle.table.specs.declared.fault.TableFault.TheVariants.{Disk, TableFull};
 ghost use Rattle.btree.specs.Page.{Item};
 ghost use Rattle.tree_table.specs.declared.tree.Tree.{Tree};
@@ -13,9 +13,9 @@ ghost use Rattle.tree_table.specs.Working.{HoldsForest, HoldsTable, with_entry};
 ghost use Rattle.tree_table.specs.aid.Slots.{IsSameButRoots, IsSameFrame, counts_with, recounted};
 ghost use Rattle.position_pack.specs.declared.limits.TheConstants.{MAX_PACKED};
 
-use crate::bytes::{cell_bytes, key_behind, number_key};
+use crate::bytes::{Cell, cell_bytes, key_behind, number_key};
 use crate::fault::table_fault;
-use crate::read::{cell_at, value_at};
+use crate::read::value_at;
 use crate::slot::TreeSlot;
 use crate::tree::{Tree, widths_of};
 use btree::put::put;
@@ -130,28 +130,31 @@ fn counts_with(counts: Counts, was: State, is: State) -> Counts
     }
 }
 
-/// Writes the record of a number.
+/// Writes the record of a number, whose cell this was.
 pub fn set_record<P: Pages>(
     store: &mut P,
     slot: TreeSlot,
     number: u32,
+    was: &Cell,
     kept: Record,
 ) -> Result<TreeSlot, TableFault>
     requires some { 1 ≤ slot.sizes.packed }
     requires short { slot.sizes.packed ≤ MAX_PACKED }
     requires few { slot.sizes.counts.known ≤ 16777216 }
     requires known { number < slot.sizes.counts.known }
+    requires long { length was.now.position.items ≡ slot.sizes.packed }
     ensures slot { IfOk result (IsSameFrame slot) }
     ensures known { IfOk result (λ next. next.sizes.counts.known ≡ slot.sizes.counts.known) }
     ensures table { IsTrue (P.store store.old).disk.honest → (text : List ℕ) (table : Stored (List ℕ))
         → HoldsTable slot text table (P.store store.old)
+        → slice_get table.positions number ≡ Some was.now.position.items
+        → HasRecord table number was.now.kept
         → IfOk result (λ next. HoldsTable next text (with_record table number kept) (P.store store.new)) }
     ensures works { StoreWorks (P.store store.old) (P.store store.new) }
     ensures open { OnOk result ((P.store store.new).closed ≡ (P.store store.old).closed) }
     ensures still { IfErr result (λ fault. fault ≢ Disk → (P.store store.new).closed ≡ (P.store store.old).closed) }
     ensures cause { IfErr result (ChangeCause HasNoTable slot (P.store store.old) (P.store store.new)) }
 {
-    let was = cell_at(store, &slot, number)?;
     let key = number_key(number);
     let cell = cell_bytes(&was.position, &kept);
     let mut slot = put_in(store, slot, Tree::Records, &key, &cell)?;

@@ -29,6 +29,7 @@ impl<P: Pages> TreeTable<P> {
         ensures untouched { IfErr result (λ fault. fault ≢ PageFault.Disk → (work_in self.new).store ≡ (work_in self.old).store) }
         ensures cause { IfErr result (GrowCause (work_in self.old).store (work_in self.new).store) }
     {
+        self.seen = None;
         let torn = self.torn;
         self.torn = true;
         let result = self.store.grow(alloc, pages, root);

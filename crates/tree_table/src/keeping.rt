@@ -91,6 +91,7 @@ impl<P: Pages> TreeTable<P> {
             slot: slot_or_bare(game),
             text,
             torn: false,
+            seen: None,
         }
     }
 
@@ -110,6 +111,7 @@ impl<P: Pages> TreeTable<P> {
         ensures others { IsRemarked (work_in self.old).store (work_in self.new).store }
     {
         self.torn = true;
+        self.seen = None;
         self.store.discard();
         self.slot = slot_or_bare(game);
         self.torn = false;
@@ -152,6 +154,7 @@ impl<P: Pages> TreeTable<P> {
         ensures closes { StoreCloses (work_in self.old).store (work_in self.new).store }
         ensures cause { IfErr result (StoreCommitCause (work_in self.old).store (work_in self.new).store) }
     {
+        self.seen = None;
         let torn = self.torn;
         self.torn = true;
         let result = commit(&mut self.store, commits, &self.slot);
@@ -209,6 +212,7 @@ impl<P: Pages> TreeTable<P> {
     {
         self.torn = true;
         let slot = load(alloc, &mut self.store, commits, &text, packing, goal, start)?;
+        self.seen = None;
         self.slot = slot;
         self.text = text;
         self.torn = false;

@@ -28,6 +28,7 @@ impl<P: Pages> TreeTable<P> {
         ensures text { (work_in self.new).text ≡ (work_in self.old).text }
         ensures torn { (work_in self.new).torn ≡ (work_in self.old).torn }
     {
+        self.seen = None;
         self.store.hold()
     }
 
@@ -38,6 +39,7 @@ impl<P: Pages> TreeTable<P> {
         ensures text { (work_in self.new).text ≡ (work_in self.old).text }
         ensures torn { (work_in self.new).torn ≡ (work_in self.old).torn }
     {
+        self.seen = None;
         self.store.let_go(hold);
     }
 

@@ -1,15 +1,19 @@
 //! A game's table on trees of pages.
-ghost use Rattle.std.specs.Prelude.{◌≡◌, ◌↔◌, ◌≤◌, ◌^◌, [], false, IsTrue};
+ghost use Rattle.std.specs.Prelude.{◌≡◌, ◌↔◌, ◌≤◌, ◌^◌, [], false, length, IfSome, IsTrue};
 ghost use Rattle.tree_table.specs.Working.{HoldsWork, IsHonestWork, bare_slot as bare, table_now, work_of};
+ghost use Rattle.tree_table.specs.Last.{IsSeenIn};
+ghost use Rattle.tree_table.specs.aid.Last.{long_prop, last_prop};
 ghost use Rattle.table.specs.Records.{nothing};
 ghost use Rattle.tree_table.specs.Working as work;
 ghost use Rattle.tree_table.specs.aid.Frames as frames;
 ghost use Rattle.position_pack.specs.declared.limits.TheConstants.{MAX_PACKED};
 ghost use Rattle.rbg_game.specs.declared.limits.TheConstants.{MAX_POINTS};
 
-use crate::change::{add_edge, add_position, push_settled, set_record};
+use crate::bytes::position_of;
+use crate::change::{add_edge, add_position, push_settled};
 use crate::keeping::bare_slot;
-use crate::read::{cell_at, edge_after, number_of, settled_at};
+use crate::last::Seen;
+use crate::read::{edge_after, number_of, settled_at};
 use crate::slot::TreeSlot;
 use page_store::Pages;
 use position_pack::Packed;
@@ -28,12 +32,17 @@ pub struct TreeTable<P: Pages> {
     pub text: Vec<u8>,
     /// A call that writes has stopped half way.
     pub torn: bool,
+    /// The cell that was looked at or written last, so that it need not be looked for again.
+    pub seen: Option<Seen>,
     ghost some: { 1 ≤ slot.sizes.packed },
     ghost short: { slot.sizes.packed ≤ MAX_PACKED },
     ghost few: { slot.sizes.counts.known ≤ 2 ^ 24 },
     ghost points: { slot.goal ≤ MAX_POINTS },
     ghost holds: { IsHonestWork (work_of slot text.items torn (P.store store))
         → ∥ HoldsWork (work_of slot text.items torn (P.store store)) ∥₁ },
+    ghost long: { IfSome seen (λ s. length s.cell.position.items ≡ slot.sizes.packed) } by { long_prop seen slot.sizes.packed },
+    ghost last: { IsHonestWork (work_of slot text.items torn (P.store store))
+        → IfSome seen (IsSeenIn (table_now (work_of slot text.items torn (P.store store)))) } by { last_prop seen (work_of slot text.items torn (P.store store)) },
 }
 
 impl<P: Pages> TreeTable<P> {
@@ -52,6 +61,7 @@ impl<P: Pages> TreeTable<P> {
             slot: bare_slot(packed),
             text: Vec::new(alloc),
             torn: false,
+            seen: None,
         }
     }
 }
@@ -94,13 +104,19 @@ impl<P: Pages> Table for TreeTable<P> {
     }
 
     fn packed(&mut self, number: u32) -> Result<Packed, TableFault> {
-        let cell = cell_at(&mut self.store, &self.slot, number)?;
-        Ok(cell.position)
+        self.see(number)?;
+        match &self.seen {
+            Some(seen) => Ok(position_of(&seen.cell.position)),
+            None => unreachable!(),
+        }
     }
 
     fn record(&mut self, number: u32) -> Result<Record, TableFault> {
-        let cell = cell_at(&mut self.store, &self.slot, number)?;
-        Ok(cell.kept)
+        self.see(number)?;
+        match &self.seen {
+            Some(seen) => Ok(seen.cell.kept),
+            None => unreachable!(),
+        }
     }
 
     fn add(&mut self, packed: &Packed) -> Result<u32, TableFault> {
@@ -117,11 +133,8 @@ impl<P: Pages> Table for TreeTable<P> {
     }
 
     fn set_record(&mut self, number: u32, kept: Record) -> Result<(), TableFault> {
-        let torn = self.torn;
-        self.torn = true;
-        self.slot = set_record(&mut self.store, self.slot, number, kept)?;
-        self.torn = torn;
-        Ok(())
+        self.see(number)?;
+        self.set_seen(number, kept)
     }
 
     fn add_edge(&mut self, successor: u32, predecessor: u32) -> Result<(), TableFault> {

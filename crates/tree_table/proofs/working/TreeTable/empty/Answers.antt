@@ -25,6 +25,8 @@ invariant_of-result g c =
           (subst (λ (s : TreeSlot). HoldsTable s c.new.result.items nothing store) is
           (subst (λ (x : List ℕ). HoldsTable (bare_slot c.args.packed) x nothing store) (sym c.new.ensures.items)
           (bare_holds c.args.packed store c.requires.some c.requires.short))) ∣₁;
+      long = tt;
+      last = λ honest. tt;
     }
 
 pub returns-clause-nothing : goal.returns-clause-nothing

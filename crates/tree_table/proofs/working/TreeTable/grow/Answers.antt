@@ -22,6 +22,8 @@ invariant_of-self g c =
           ∥∥₁_elim (self.holds (record { disk = was; whole = honest.whole })) ∥∥₁_prop (λ (h : HoldsWork (work_of self.slot self.text.items self.torn old)).
           ∣ grow_work root c.args.pages self.slot self.text.items self.torn old new c.grow-result.result self.few c.requires.calm c.requires.more told.ok
           told.kept_marks (told.kept_pages was) h ∣₁);
+      long = tt;
+      last = λ honest. tt;
     }
 
 pub returns-clause-calm : goal.returns-clause-calm

@@ -1,6 +1,6 @@
 use Rattle.tree_table.specs.Working.{work_of}
 use Rattle.tree_table.proofs.Faults.{passed_on}
-use Rattle.tree_table.proofs.Holding.{only_read, still_held}
+use Rattle.tree_table.proofs.Holding.{only_read, still_held, still_seen}
 use Rattle.tree_table.proofs.Versions.{version_there}
 use Rattle.tree_table.proofs.working.TreeTable.kept_record.Goals as goal
 
@@ -16,6 +16,8 @@ invariant_of-self g c =
       few = self.few;
       points = self.points;
       holds = still_held (work_of self.slot self.text.items self.torn old) (work_of self.slot self.text.items self.torn new) stays self.holds;
+      long = self.long;
+      last = still_seen (work_of self.slot self.text.items self.torn old) (work_of self.slot self.text.items self.torn new) self.seen stays self.last;
     }
 
 pub returns-in_err-cell-clause-cause : goal.returns-in_err-cell-clause-cause

@@ -28,6 +28,8 @@ invariant_of-self g c =
           ∥∥₁_elim (c.requires.stands was) ∥∥₁_prop (λ (stands : StandsFor game text old).
           ∣ subst (λ (s : TreeSlot). HoldsWork (work_of s text false new)) is
           (stands_holds game text new c.requires.sized calm (still_stands_for game text old new was still stands)) ∣₁);
+      long = tt;
+      last = λ honest. tt;
     }
 
 pub returns-clause-held : goal.returns-clause-held

@@ -23,6 +23,8 @@ invariant_of-self g c =
           let was = was_honest told.time honest.disk in
           ∥∥₁_elim (self.holds (record { disk = was; whole = honest.whole })) ∥∥₁_prop (λ (h : HoldsWork (work_of self.slot self.text.items self.torn old)).
           ∣ commit_work self.slot self.text.items self.torn old new c.commit-result.result self.few told.committed told.kept_marks (told.kept_pages was) h ∣₁);
+      long = tt;
+      last = λ honest. tt;
     }
 
 pub returns-clause-stands : goal.returns-clause-stands

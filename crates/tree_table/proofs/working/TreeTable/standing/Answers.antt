@@ -21,4 +21,6 @@ invariant_of-result g c =
       holds = λ honest.
           ∥∥₁_elim (c.requires.stands honest.disk) ∥∥₁_prop (λ (stands : StandsFor game text store).
           ∣ subst (λ (s : TreeSlot). HoldsWork (work_of s text false store)) is (stands_holds game text store c.requires.sized c.requires.calm stands) ∣₁);
+      long = tt;
+      last = λ honest. tt;
     }

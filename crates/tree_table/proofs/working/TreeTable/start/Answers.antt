@@ -24,6 +24,8 @@ invariant_of-self-2 g c =
       holds = λ honest.
           ∣ holds_itself slot c.args.text.items (loaded c.args.start.now.items) new told.sized.few
           (subst (λ (x : List ℕ). HoldsTable slot x (loaded c.args.start.now.items) new) c.deref.ensures.value (told.holds (was_honest c.load.ensures.time honest.disk))) ∣₁;
+      long = tt;
+      last = λ honest. tt;
     }
 
 pub returns-clause-stop : goal.returns-clause-stop

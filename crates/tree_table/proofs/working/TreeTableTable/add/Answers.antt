@@ -1,8 +1,10 @@
-use Rattle.std.proofs.Common.{◌≤◌, ◌^◌, refl, arith}
+use Rattle.std.proofs.Common.{◌≤◌, ◌^◌, refl, arith, ◌≡◌, ℕ, length, sym, subst}
 use Rattle.retrograde.specs.Changes.{with_position}
 use Rattle.tree_table.specs.Working.{work_of, table_now, HoldsTable, HoldsWork, IsHonestWork}
 use Rattle.tree_table.specs.aid.Frames.{memory_fails, stays_goes_on, stays_here}
-use Rattle.tree_table.proofs.Holding.{now_held, now_stored, now_goes_on}
+use Rattle.std.specs.Option.{IfSome}
+use Rattle.tree_table.proofs.Seeing.{seen_with_position}
+use Rattle.tree_table.proofs.Holding.{now_held, now_stored, now_seen, now_goes_on}
 use Rattle.tree_table.proofs.working.TreeTableTable.add.Goals as goal
 
 pub returns-then-len-self-clause-fault : goal.returns-then-len-self-clause-fault
@@ -25,6 +27,8 @@ invariant_of-self-2 g c =
       few = few;
       points = omega (arith, self.points, done.slot.goal);
       holds = now_held old new now few done.works refl refl changed self.holds;
+      long = subst (λ (n : ℕ). IfSome self.seen (λ s. length s.cell.position.items ≡ n)) (sym done.slot.packed) self.long;
+      last = now_seen old new now few done.works refl refl changed self.seen (seen_with_position (table_now old) c.args.packed.now.items) self.holds self.last;
     }
 
 pub returns-clause-added : goal.returns-clause-added

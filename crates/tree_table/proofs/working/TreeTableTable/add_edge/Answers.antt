@@ -1,8 +1,10 @@
-use Rattle.std.proofs.Common.{◌≤◌, ◌^◌, refl, sym, subst, arith}
+use Rattle.std.proofs.Common.{◌≤◌, ◌^◌, refl, sym, subst, arith, ◌≡◌, ℕ, length}
 use Rattle.retrograde.specs.declared.records.Counts.{Counts}
 use Rattle.retrograde.specs.Changes.{with_edge}
 use Rattle.tree_table.specs.Working.{work_of, table_now, HoldsTable, HoldsWork, IsHonestWork}
-use Rattle.tree_table.proofs.Holding.{now_held, now_stored, now_goes_on}
+use Rattle.std.specs.Option.{IfSome}
+use Rattle.tree_table.proofs.Seeing.{seen_with_edge}
+use Rattle.tree_table.proofs.Holding.{now_held, now_stored, now_seen, now_goes_on}
 use Rattle.tree_table.proofs.working.TreeTableTable.add_edge.Goals as goal
 
 pub invariant_of-self-2 : goal.invariant_of-self-2
@@ -22,6 +24,8 @@ invariant_of-self-2 g c =
       few = few;
       points = omega (arith, self.points, done.slot.goal);
       holds = now_held old new now few done.works refl refl changed self.holds;
+      long = subst (λ (n : ℕ). IfSome self.seen (λ s. length s.cell.position.items ≡ n)) (sym done.slot.packed) self.long;
+      last = now_seen old new now few done.works refl refl changed self.seen (seen_with_edge (table_now old) c.args.successor c.args.predecessor) self.holds self.last;
     }
 
 pub returns-clause-added : goal.returns-clause-added

@@ -1,6 +1,6 @@
 use mathlib.Core.Logic.{∥∥₁_elim}
 use Rattle.tree_table.specs.Working.{work_of, table_now, work_there, HoldsWork}
-use Rattle.tree_table.proofs.Holding.{only_read, still_held, read_refused, read_without_page, ok_prop, some_prop, none_prop}
+use Rattle.tree_table.proofs.Holding.{only_read, still_held, still_seen, read_refused, read_without_page, ok_prop, some_prop, none_prop}
 use Rattle.tree_table.proofs.Holding.{next_prop, no_more_prop}
 use Rattle.tree_table.proofs.working.TreeTableTable.next_edge.Goals as goal
 
@@ -16,6 +16,8 @@ invariant_of-self g c =
       few = self.few;
       points = self.points;
       holds = still_held (work_of self.slot self.text.items self.torn old) (work_of self.slot self.text.items self.torn new) stays self.holds;
+      long = self.long;
+      last = still_seen (work_of self.slot self.text.items self.torn old) (work_of self.slot self.text.items self.torn new) self.seen stays self.last;
     }
 
 pub returns-clause-next : goal.returns-clause-next

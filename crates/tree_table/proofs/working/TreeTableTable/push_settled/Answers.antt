@@ -1,7 +1,9 @@
-use Rattle.std.proofs.Common.{◌≤◌, ◌^◌, refl, arith}
+use Rattle.std.proofs.Common.{◌≤◌, ◌^◌, refl, arith, ◌≡◌, ℕ, length, sym, subst}
 use Rattle.retrograde.specs.Changes.{with_settled}
 use Rattle.tree_table.specs.Working.{work_of, table_now, HoldsTable, HoldsWork, IsHonestWork}
-use Rattle.tree_table.proofs.Holding.{now_held, now_stored, now_goes_on}
+use Rattle.std.specs.Option.{IfSome}
+use Rattle.tree_table.proofs.Seeing.{seen_with_settled}
+use Rattle.tree_table.proofs.Holding.{now_held, now_stored, now_seen, now_goes_on}
 use Rattle.tree_table.proofs.working.TreeTableTable.push_settled.Goals as goal
 
 pub invariant_of-self-2 : goal.invariant_of-self-2
@@ -21,6 +23,8 @@ invariant_of-self-2 g c =
       few = few;
       points = omega (arith, self.points, done.slot.goal);
       holds = now_held old new now few done.works refl refl changed self.holds;
+      long = subst (λ (n : ℕ). IfSome self.seen (λ s. length s.cell.position.items ≡ n)) (sym done.slot.packed) self.long;
+      last = now_seen old new now few done.works refl refl changed self.seen (seen_with_settled (table_now old) c.args.number) self.holds self.last;
     }
 
 pub returns-clause-pushed : goal.returns-clause-pushed

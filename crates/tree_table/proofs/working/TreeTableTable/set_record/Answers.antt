@@ -1,50 +1,16 @@
-use Rattle.std.proofs.Common.{◌≤◌, ◌^◌, refl, arith}
-use Rattle.retrograde.specs.Changes.{with_record}
-use Rattle.tree_table.specs.Working.{work_of, table_now, HoldsTable, HoldsWork, IsHonestWork}
-use Rattle.tree_table.proofs.Holding.{now_held, now_stored, now_goes_on}
+use Rattle.std.proofs.lemmas.Result.{IfErr-weaker}
+use Rattle.tree_table.specs.Working.{WorkGoesOn, WorkFails}
+use Rattle.tree_table.specs.InTrees.{work_in}
+use Rattle.tree_table.specs.aid.Frames.{stays_goes_on, goes_on_then, fails_since}
+use Rattle.tree_table.proofs.Committing.{on_ok}
 use Rattle.tree_table.proofs.working.TreeTableTable.set_record.Goals as goal
-
-pub invariant_of-self-2 : goal.invariant_of-self-2
-invariant_of-self-2 g c =
-    let self = c.args.self.now in
-    let text = self.text.items in
-    let old = work_of self.slot text self.torn (g.P.Pages.store self.store) in
-    let new = work_of c.in_ok-self.field-0 text self.torn (g.P.Pages.store c.set_record.new.store) in
-    let done = c.in_ok-self.ensures in
-    let now = with_record (table_now old) c.args.number c.args.kept in
-    let few : c.in_ok-self.field-0.sizes.counts.known ≤ 2 ^ 24 = omega (arith, done.known, self.few) in
-    let changed : IsHonestWork old → HoldsWork old → HoldsTable c.in_ok-self.field-0 text now (g.P.Pages.store c.set_record.new.store) =
-    λ honest h. done.table honest.disk text (table_now old) h in
-    record {
-      some = omega (arith, self.some, done.slot.packed);
-      short = omega (arith, self.short, done.slot.packed);
-      few = few;
-      points = omega (arith, self.points, done.slot.goal);
-      holds = now_held old new now few done.works refl refl changed self.holds;
-    }
-
-pub returns-clause-set : goal.returns-clause-set
-returns-clause-set g c = λ honest.
-    let self = c.args.self.now in
-    let text = self.text.items in
-    let old = work_of self.slot text self.torn (g.P.Pages.store self.store) in
-    let new = work_of c.in_ok-self.field-0 text self.torn (g.P.Pages.store c.set_record.new.store) in
-    let done = c.in_ok-self.ensures in
-    let now = with_record (table_now old) c.args.number c.args.kept in
-    let few : c.in_ok-self.field-0.sizes.counts.known ≤ 2 ^ 24 = omega (arith, done.known, self.few) in
-    let changed : IsHonestWork old → HoldsWork old → HoldsTable c.in_ok-self.field-0 text now (g.P.Pages.store c.set_record.new.store) =
-    λ honest h. done.table honest.disk text (table_now old) h in
-    now_stored old new now few done.works refl refl changed self.holds honest
 
 pub returns-clause-ahead : goal.returns-clause-ahead
 returns-clause-ahead g c =
-    let self = c.args.self.now in
-    let text = self.text.items in
-    let old = work_of self.slot text self.torn (g.P.Pages.store self.store) in
-    let new = work_of c.in_ok-self.field-0 text self.torn (g.P.Pages.store c.set_record.new.store) in
-    let done = c.in_ok-self.ensures in
-    let now = with_record (table_now old) c.args.number c.args.kept in
-    let few : c.in_ok-self.field-0.sizes.counts.known ≤ 2 ^ 24 = omega (arith, done.known, self.few) in
-    let changed : IsHonestWork old → HoldsWork old → HoldsTable c.in_ok-self.field-0 text now (g.P.Pages.store c.set_record.new.store) =
-    λ honest h. done.table honest.disk text (table_now old) h in
-    now_goes_on old new now few done.works refl refl changed done.open done.slot.text done.slot.packing done.slot.goal
+    on_ok (WorkGoesOn (work_in c.see.new.self) (work_in c.set_seen.new.self)) (WorkGoesOn (work_in c.args.self.now) (work_in c.set_seen.new.self))
+    c.set_seen.result (λ ahead. goes_on_then (stays_goes_on c.in_ok-see.ensures.stays) ahead) c.set_seen.ensures.ahead
+
+pub returns-clause-fault : goal.returns-clause-fault
+returns-clause-fault g c =
+    IfErr-weaker c.set_seen.result (WorkFails (work_in c.see.new.self) (work_in c.set_seen.new.self)) (WorkFails (work_in c.args.self.now) (work_in c.set_seen.new.self))
+    (λ fault fails. fails_since fault (stays_goes_on c.in_ok-see.ensures.stays) fails) c.set_seen.ensures.fault

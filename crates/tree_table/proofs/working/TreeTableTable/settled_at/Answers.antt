@@ -2,7 +2,7 @@ use Rattle.std.proofs.Common.{Some}
 use mathlib.Core.Logic.{∥∥₁_elim}
 use Rattle.std.specs.Prelude.{slice_get}
 use Rattle.tree_table.specs.Working.{work_of, table_now, work_there, HoldsWork}
-use Rattle.tree_table.proofs.Holding.{only_read, still_held, read_refused, read_without_page, number_prop, ok_prop}
+use Rattle.tree_table.proofs.Holding.{only_read, still_held, still_seen, read_refused, read_without_page, number_prop, ok_prop}
 use Rattle.tree_table.proofs.working.TreeTableTable.settled_at.Goals as goal
 
 pub invariant_of-self : goal.invariant_of-self
@@ -17,6 +17,8 @@ invariant_of-self g c =
       few = self.few;
       points = self.points;
       holds = still_held (work_of self.slot self.text.items self.torn old) (work_of self.slot self.text.items self.torn new) stays self.holds;
+      long = self.long;
+      last = still_seen (work_of self.slot self.text.items self.torn old) (work_of self.slot self.text.items self.torn new) self.seen stays self.last;
     }
 
 pub returns-clause-number : goal.returns-clause-number

@@ -1,0 +1,65 @@
+use Rattle.std.proofs.Common.{◌≡◌, ◌≤◌, ◌^◌, ℕ, List, length, refl, sym, ◌∙◌, subst, arith}
+use Rattle.std.specs.Option.{IfSome}
+use Rattle.retrograde.specs.Changes.{with_record}
+use Rattle.retrograde.specs.Stored.{Stored}
+use Rattle.tree_table.specs.declared.last.Seen.{Seen}
+use Rattle.tree_table.specs.Last.{IsSeenIn}
+use Rattle.tree_table.specs.Working.{work_of, table_now, HoldsTable, HoldsWork, IsHonestWork}
+use Rattle.tree_table.specs.aid.Frames.{honest_before}
+use Rattle.tree_table.proofs.Holding.{now_held, now_stored, now_goes_on}
+use Rattle.tree_table.proofs.Seeing.{IsCellAt, was_seen, long_seen, seen_with_record}
+use Rattle.tree_table.proofs.working.TreeTable.set_seen.Goals as goal
+
+pub invariant_of-self-2 : goal.invariant_of-self-2
+invariant_of-self-2 g c =
+    let self = c.args.self.now in
+    let text = self.text.items in
+    let old = work_of self.slot text self.torn (g.P.Pages.store self.store) in
+    let new = work_of c.in_ok-self.field-0 text self.torn (g.P.Pages.store c.set_record.new.store) in
+    let done = c.in_ok-self.ensures in
+    let now = with_record (table_now old) c.args.number c.args.kept in
+    let few : c.in_ok-self.field-0.sizes.counts.known ≤ 2 ^ 24 = omega (arith, done.known, self.few) in
+    let was : IsHonestWork old → IsCellAt (table_now old) c.args.number c.in-Some.field-0.cell = was_seen (table_now old) self.seen c.in-Some.field-0 c.args.number old (sym c.take.ensures.value ∙ c.in-Some.is) c.requires.seen self.last in
+    let changed : IsHonestWork old → HoldsWork old → HoldsTable c.in_ok-self.field-0 text now (g.P.Pages.store c.set_record.new.store) =
+    λ honest h. done.table honest.disk text (table_now old) h (was honest).0 (was honest).1 in
+    let seen : Seen = record { number = c.args.number; cell = record { position = c.in-Some.field-0.cell.position; kept = c.args.kept } } in
+    record {
+      some = omega (arith, self.some, done.slot.packed);
+      short = omega (arith, self.short, done.slot.packed);
+      few = few;
+      points = omega (arith, self.points, done.slot.goal);
+      holds = now_held old new now few done.works refl refl changed self.holds;
+      long = long_seen self.seen c.in-Some.field-0 self.slot.sizes.packed (sym c.take.ensures.value ∙ c.in-Some.is) self.long ∙ sym done.slot.packed;
+      last = λ honest.
+          let before = honest_before {a = old} {b = new} done.works refl honest in
+          subst (λ (t : Stored (List ℕ)). IsSeenIn t seen) (sym (now_stored old new now few done.works refl refl changed self.holds before))
+          (seen_with_record (table_now old) c.args.number c.in-Some.field-0.cell c.args.kept (was before));
+    }
+
+pub returns-clause-set : goal.returns-clause-set
+returns-clause-set g c = λ honest.
+    let self = c.args.self.now in
+    let text = self.text.items in
+    let old = work_of self.slot text self.torn (g.P.Pages.store self.store) in
+    let new = work_of c.in_ok-self.field-0 text self.torn (g.P.Pages.store c.set_record.new.store) in
+    let done = c.in_ok-self.ensures in
+    let now = with_record (table_now old) c.args.number c.args.kept in
+    let few : c.in_ok-self.field-0.sizes.counts.known ≤ 2 ^ 24 = omega (arith, done.known, self.few) in
+    let was : IsHonestWork old → IsCellAt (table_now old) c.args.number c.in-Some.field-0.cell = was_seen (table_now old) self.seen c.in-Some.field-0 c.args.number old (sym c.take.ensures.value ∙ c.in-Some.is) c.requires.seen self.last in
+    let changed : IsHonestWork old → HoldsWork old → HoldsTable c.in_ok-self.field-0 text now (g.P.Pages.store c.set_record.new.store) =
+    λ honest h. done.table honest.disk text (table_now old) h (was honest).0 (was honest).1 in
+    now_stored old new now few done.works refl refl changed self.holds honest
+
+pub returns-clause-ahead : goal.returns-clause-ahead
+returns-clause-ahead g c =
+    let self = c.args.self.now in
+    let text = self.text.items in
+    let old = work_of self.slot text self.torn (g.P.Pages.store self.store) in
+    let new = work_of c.in_ok-self.field-0 text self.torn (g.P.Pages.store c.set_record.new.store) in
+    let done = c.in_ok-self.ensures in
+    let now = with_record (table_now old) c.args.number c.args.kept in
+    let few : c.in_ok-self.field-0.sizes.counts.known ≤ 2 ^ 24 = omega (arith, done.known, self.few) in
+    let was : IsHonestWork old → IsCellAt (table_now old) c.args.number c.in-Some.field-0.cell = was_seen (table_now old) self.seen c.in-Some.field-0 c.args.number old (sym c.take.ensures.value ∙ c.in-Some.is) c.requires.seen self.last in
+    let changed : IsHonestWork old → HoldsWork old → HoldsTable c.in_ok-self.field-0 text now (g.P.Pages.store c.set_record.new.store) =
+    λ honest h. done.table honest.disk text (table_now old) h (was honest).0 (was honest).1 in
+    now_goes_on old new now few done.works refl refl changed done.open done.slot.text done.slot.packing done.slot.goal
