@@ -22,7 +22,7 @@ pub use bytes::{Cell, cell_in, number_in, number_key};
 pub use keeping::bare_slot;
 pub use last::Seen;
 pub use read::value_at;
-pub use saving::{commit, discard};
+pub use saving::commit;
 pub use slot::{FIRST_WITH_GOALS, Slot, TreeSlot, empty_slot, game_slot, read_slot};
 pub use tree::{Roots, Tree, widths_of};
 pub use working::TreeTable;

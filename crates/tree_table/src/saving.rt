@@ -1,19 +1,17 @@
-//! What has become of a table is committed, or given up.
-ghost use Rattle.std.specs.Prelude.{◌≡◌, ◌≢◌, ◌≤◌, ℕ, List, length, false, Option, Some, OnOk, OnErr, IfErr, IfSome, IfNone, IsTrue};
+//! What has become of a table is committed.
+ghost use Rattle.std.specs.Prelude.{◌≡◌, ◌≢◌, ◌≤◌, ℕ, List, length, false, Option, Some, OnOk, OnErr, IfErr, IsTrue};
 ghost use Rattle.sector_disk.specs.Disk.{GoesOn, size};
 ghost use Rattle.page_store.specs.Causes.{StoreCommitCause};
-ghost use Rattle.page_store.specs.Spelling.{IsCalm};
 ghost use Rattle.page_store.specs.Store.{Store, StoreWorks, StoreCloses, IsCommitted, reads};
 ghost use Rattle.game_file.specs.Kept.{Kept};
 ghost use Rattle.game_file.specs.Stops.{LeavesEither, LeavesTable};
 ghost use Rattle.game_file.specs.Fields.{commits_in, layout_in, HasPlaceFor, SaysPages};
 ghost use Rattle.tree_table.specs.Held.{StoresTrees};
 ghost use Rattle.tree_table.specs.Keeping.{IsKeptInTrees, IsStill, IsWorkedOn};
-ghost use Rattle.tree_table.specs.Slot.{slot_in, IsNoTreeSlot, SaysTrees};
+ghost use Rattle.tree_table.specs.Slot.{slot_in};
 ghost use Rattle.tree_table.specs.Versions.{KeepsHolds};
-ghost use Rattle.tree_table.specs.Working.{HoldsTable};
 
-use crate::slot::{Slot, TreeSlot, game_slot, read_slot};
+use crate::slot::{TreeSlot, game_slot};
 use game_file::word_at;
 use page_store::{PageFault, Pages};
 
@@ -53,21 +51,4 @@ pub fn commit<P: Pages>(store: &mut P, commits: u64, slot: &TreeSlot) -> Result<
     let layout = word_at(&store.root().bytes, 0);
     let root = game_slot(layout, store.capacity(), commits, slot);
     store.commit(&root)
-}
-
-/// Gives up what was done since the last commit, and answers what the committed root says. It takes no memory and always
-/// answers, of a closed store too.
-pub fn discard<P: Pages>(store: &mut P) -> Option<Slot>
-    ensures says { IfSome result (λ slot. SaysTrees (P.store store.new).root slot.game) }
-    ensures none { IfNone result (IsNoTreeSlot (P.store store.new).root) }
-    ensures kept { (begun : Store) (was : Option Kept) → IsTrue begun.disk.honest → IsKeptInTrees begun was
-        → StoreWorks begun (P.store store.old) → IsKeptInTrees (P.store store.new) was }
-    ensures calm { (begun : Store) → IsCalm begun → StoreWorks begun (P.store store.old) → IsCalm (P.store store.new) }
-    ensures holds { (begun : Store) (was : Kept) → IsTrue begun.disk.honest → IsCalm begun → IsKeptInTrees begun (Some was)
-        → StoreWorks begun (P.store store.old) → HoldsTable (slot_in (P.store store.new).root) was.text was.table (P.store store.new) }
-    ensures works { StoreWorks (P.store store.old) (P.store store.new) }
-{
-    store.discard();
-    let root = store.root();
-    read_slot(&root.bytes)
 }
