@@ -14,7 +14,7 @@ use std::alloc::Global;
 /// The sectors of 1,024 pages.
 const SECTORS: u64 = 8_192;
 
-/// So many changes are made at most.
+/// This many changes are made at most.
 const CHANGES: u64 = 6;
 
 /// What was tried.
@@ -26,7 +26,7 @@ struct Tally {
     read: u64,
 }
 
-/// Changes tables of these games, and their texts, in so many rounds. Prints what was tried, and at the first answer that may not be the
+/// Changes tables of these games, and their texts, in this many rounds. Prints what was tried, and at the first answer that may not be the
 /// seed and the round, with which it can be repeated. Answers whether there was none.
 pub fn fuzz(
     rt: &HostRuntime,

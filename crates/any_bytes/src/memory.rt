@@ -205,7 +205,7 @@ fn answer_to<F: GameFile>(
     }
 }
 
-/// So many units.
+/// This many units.
 fn units(count: u32) -> Result<Units, SolverFault> {
     match Units::new(count) {
         Some(units) => Ok(units),

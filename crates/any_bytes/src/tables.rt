@@ -6,7 +6,7 @@ use sector_disk::{MemDisk, SectorDisk};
 use solver::{FileSolver, SolverFault, Units};
 use std::alloc::Global;
 
-/// A disk of so many sectors with the table of this game, so many times 256 units of it worked, or as many as there are.
+/// A disk of this many sectors with the table of this game, after this many times 256 units of work, or fewer where it is finished.
 pub fn worked(alloc: Global, text: &[u8], sectors: u64, times: u64) -> anyhow::Result<MemDisk> {
     Ok(worked_on::<TableFile<MemDisk>>(alloc, MemDisk::new(alloc, sectors)?, text, times)?)
 }
@@ -32,7 +32,7 @@ where
     }
 }
 
-/// Loads a game, and works so many times 256 units of it.
+/// Loads a game, and works this many times 256 units of it.
 fn load_and_work<F: GameFile>(
     solver: &mut FileSolver<F>,
     text: &[u8],

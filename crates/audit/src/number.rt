@@ -128,7 +128,7 @@ fn is_lower(reason: Option<Reason>) -> bool
     matches!(reason, Some(Reason::A1 | Reason::A2))
 }
 
-/// The lowest condition that fails at a number to which so many edges that are moves lead.
+/// The lowest condition that fails at a number to which this many edges that are moves lead.
 pub fn failing<M: MoveSource, T: Table>(
     alloc: Global,
     source: &M,

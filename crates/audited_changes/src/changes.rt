@@ -4,7 +4,7 @@ use rbg_game::roles::Player;
 use retrograde::{Record, State};
 use std::alloc::Global;
 
-/// One thing that a table has otherwise.
+/// One change to a table.
 #[derive(Clone, Copy, PartialEq, Eq, Debug, Drop)]
 pub enum Change {
     Nothing,

@@ -45,7 +45,7 @@ fn is_alike(
     Ok(found == wanted)
 }
 
-/// Whether each change of this table, the first of each so many, is judged alike.
+/// Whether each change of this table, one in each group of this many, is judged alike.
 fn are_alike(
     rt: &HostRuntime,
     text: &[u8],
@@ -70,7 +70,7 @@ fn are_alike(
     Ok(tally.right > 0 && tally.right < tally.opened)
 }
 
-/// Whether each change of the table of this game after so many units, the first of each so many, is judged alike; and how many
+/// Whether each change of the table of this game after this many units, one in each group of this many, is judged alike; and how many
 /// positions that table knows.
 fn are_alike_after(
     rt: &HostRuntime,

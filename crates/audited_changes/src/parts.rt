@@ -64,7 +64,7 @@ fn put_number(table: &mut MemTable, number: u32, parts: &mut Parts) -> anyhow::R
     put_edges(table, number, &mut parts.edges)
 }
 
-/// The table of this game after so many units of work.
+/// The table of this game after this many units of work.
 pub fn worked(alloc: Global, source: &Source, units: u32) -> anyhow::Result<Parts> {
     let mut table = MemTable::new(alloc, &source.start())?;
     if table.counts().known <= MAX_POSITIONS {

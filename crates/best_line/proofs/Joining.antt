@@ -12,7 +12,7 @@ either_list (y ∷ xs) ys zero x h = inl h
 either_list (y ∷ xs) ys (suc k) x h =
     ⊎_elim (λ early. inl early) (λ (j, place, at). inr (j, omega (arith, place), at)) (either_list xs ys k x h)
 
--- so many rows there are of both
+-- this many rows there are of both
 joined_length : (from one two known a b : ℕ) → a ≡ min one (known - from) → b ≡ min two (known - (from + a)) → a + b ≡ min (one + two) (known - from)
 joined_length from one two known a b first then = omega arith
 

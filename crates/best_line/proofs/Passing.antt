@@ -88,7 +88,7 @@ pub some_here : {A : Type 0} (C : Type 0) (found : Option A) → IsSome found �
 some_here C None some = absurd (let is : false ≡ true = some in cc)
 some_here C (Some x) some = tt
 
--- so many rows there are, where the loop has come to its end
+-- this many rows there are, where the loop has come to its end
 pub so_many : (from m rows number k count known : ℕ) → from + rows ≡ number → from + m ≤ number → (from ≤ from + m → number ≤ from + m) → m ≡ min count (k - from)
     → k ≡ known → rows ≡ min count (known - from)
 so_many from m rows number k count known is past until few same =

@@ -12,7 +12,7 @@ ghost use Rattle.best_line.specs.Laws.{IsSo};
 use retrograde::GameGraph;
 
 /// A value that a table that agrees with itself gives a position is so: who is said to win it does, in
-/// so many moves and no fewer, and nobody wins what is said to be drawn.
+/// this many moves and no fewer, and nobody wins what is said to be drawn.
 pub fn values_are_so<M: GameGraph>()
     ensures { (game : M) (stored : Stored (List ℕ)) (i : ℕ) (x : List ℕ) (value : Value)
         → IsLocallySound (M.graph game) (M.is_wide game) stored → HasNumber (view_of stored) i x

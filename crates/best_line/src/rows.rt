@@ -9,7 +9,7 @@ use crate::values::value;
 use std::alloc::Global;
 use table::{Table, TableFault};
 
-/// The rows of so many numbers, ascending from the one given, or of fewer where the known positions end
+/// The rows of this many numbers, ascending from the one given, or of fewer where the known positions end
 /// before.
 ///
 /// The first number is below the count of known positions, and the rows are 1 to 256. A fault is the

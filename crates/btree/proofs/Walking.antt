@@ -44,7 +44,7 @@ module _ (w : Widths) where
   abbrev pub IsBranch : (ℕ → List ℕ) → ℕ → Item → Type 0
   IsBranch bytes d c = IsTree w bytes d (child_of c) × (first_key (entries_below w bytes d (child_of c)) ≡ Some c.0)
 
--- of the items of a page, the children of so many are walked
+-- of the items of a page, the children of this many are walked
 pub record AreOver (w : Widths) (bytes : ℕ → List ℕ) (d page : ℕ) (items : List Item) (k : ℕ) (old now : StoreStated) (last between : List ℕ) (told more : List Item → Type 0) : Type 0 where
   pub branches : All (IsBranch w bytes d) (take k items)
   pub passed : ArePassed (page ∷ flat_map (pages_at w bytes d) (take k items)) (flat_map (entries_at w bytes d) (take k items)) old now last between told more

@@ -36,7 +36,7 @@ behind_of w Inner = 4
 abbrev pub item_width : Widths → Kind → ℕ
 item_width w kind = w.key + behind_of w kind
 
--- so many items, with keys of this length, and so many bytes behind each key
+-- this many items, read one after another: each a key of this length, and this many bytes behind it
 abbrev pub items_of : ℕ → ℕ → ℕ → List ℕ → List Item
 items_of key behind zero bytes = []
 items_of key behind (suc n) bytes = (take key bytes, take behind (drop key bytes)) ∷ items_of key behind n (drop (key + behind) bytes)

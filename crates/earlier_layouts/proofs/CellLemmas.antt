@@ -99,7 +99,7 @@ cell_refused packed bytes one more stored all cells whole table less long known 
         let within : j < length stored.positions = slice_get_within stored.positions j z.0 at in
         absurd (omega (arith, same, within))
 
--- what is left of so many cells
+-- what is left of this many cells
 pub room_for : (known n width left : ℕ) → n < known → left ≡ (known - n) * width → width ≤ left
 room_for known n width left less is =
     let count : known - n ≡ suc (known - (n + 1)) = omega arith in
@@ -112,7 +112,7 @@ left_after known n width left after less is split =
     let long : left ≡ suc (known - (n + 1)) * width = is ∙ ap (λ (k : ℕ). k * width) count in
     omega (arith, long)
 
--- the first of so many cells is within them
+-- the first of this many cells is within them
 pub first_within : (known width long : ℕ) → 1 ≤ known → long ≡ known * width → width ≤ long
 first_within known width long started is =
     let count : known ≡ suc (known - 1) = omega arith in

@@ -19,7 +19,7 @@ use Rattle.game_file.specs.State.{State, GoesFrom, pages_of}
 use Rattle.game_file.specs.Stops.{OldOrEmpty}
 use Rattle.earlier_layouts.proofs.Opening.{grew_from}
 
--- so many pages as a disk has room for a picture with no fewer sectors has
+-- this many pages as a disk has room for a picture with no fewer sectors has
 room_in : (sectors : ℕ) (picture : Picture) → sectors ≤ length picture → min (sectors / 8) 1048576 ≤ capacity_of picture
 room_in sectors picture no_shorter =
     le-min ((le-div_iff_mul-le (omega arith)).1 (omega (arith, min-le_left (sectors / 8) 1048576, div-mul-le_self sectors 8, no_shorter)))

@@ -32,7 +32,7 @@ abbrev pub KeepsTable : List ℕ → ℕ → Option Kept → (ℕ → List ℕ) 
 KeepsTable root capacity None bytes = IsEmptySlot root
 KeepsTable root capacity (Some kept) bytes = KeepsGame root capacity kept bytes
 
--- the picture is a table in so many pages, 16 or more, for which it has room: it begins as each does, its gate picks a slot, and what that
+-- the picture is a table in this many pages, 16 or more, for which it has room: it begins as each does, its gate picks a slot, and what that
 -- slot and the pages named from it spell is this. A slot of this layout does not say how many pages there are
 pub record Stores (pages : ℕ) (picture : Picture) (kept : Option Kept) : Type 0 where
   pub root : List ℕ

@@ -7,7 +7,7 @@ use Rattle.page_store.specs.Marks.{free_count}
 use Rattle.page_store.specs.Store.{Store}
 use Rattle.page_chain.specs.declared.page.TheConstants.{PAYLOAD}
 
--- the disk failed; fewer pages are free than so many bytes take; the store was closed; or memory is short
+-- the disk failed; fewer pages are free than this many bytes take; the store was closed; or memory is short
 abbrev pub SaveCause : ℕ → Store → Store → PageFault → Type 0
 SaveCause long old new Disk = Grew old.failures new.failures
 SaveCause long old new TableFull = PAYLOAD * free_count old.marks < long

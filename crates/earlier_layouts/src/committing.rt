@@ -19,7 +19,7 @@ use tree_table::{TreeSlot, empty_slot, game_slot};
 /// The layout that is written.
 const LAYOUT: u32 = 3;
 
-/// Commits the table that this slot names, in so many pages as there are and with this count of commits, in the place of that of layout 1
+/// Commits the table that this slot names, in this many pages as there are and with this count of commits, in the place of that of layout 1
 /// from which it was copied.
 pub fn commit_slot<P: Pages>(store: &mut P, commits: u64, slot: &TreeSlot) -> Result<(), FileFault>
     ensures moved { (begun : Store) (game : Loaded) → IsCopied slot.now begun game (P.store store.old)
@@ -38,7 +38,7 @@ pub fn commit_slot<P: Pages>(store: &mut P, commits: u64, slot: &TreeSlot) -> Re
     }
 }
 
-/// The slot of layout 3 and so many pages in which no game is loaded, after so many commits.
+/// The slot of layout 3 and this many pages in which no game is loaded, after this many commits.
 fn empty_root(pages: u32, commits: u64) -> [u8; 512]
     ensures layout { layout_in result ≡ 3 }
     ensures pages { SaysPages result pages }
@@ -50,7 +50,7 @@ fn empty_root(pages: u32, commits: u64) -> [u8; 512]
     root
 }
 
-/// Commits the table of no game, in so many pages as there are and with this count of commits, in the place of that of layout 1.
+/// Commits the table of no game, in this many pages as there are and with this count of commits, in the place of that of layout 1.
 pub fn commit_empty<P: Pages>(store: &mut P, commits: u64) -> Result<(), FileFault>
     requires whole { IsFile (file_of (P.store store.old) None) }
     requires open { (P.store store.old).closed ≡ false }

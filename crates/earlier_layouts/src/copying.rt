@@ -46,7 +46,7 @@ fn first_page(pages: &[u32]) -> u32
     pages.first().copied().unwrap_or(0)
 }
 
-/// The slot of a text of so many bytes, from this page on, and of no position; there is no goal.
+/// The slot of a text of this many bytes, from this page on, and of no position; there is no goal.
 fn slot_of(packing: PackingKind, first: u32, text: u32, packed: u32) -> TreeSlot
     ensures { result ≡ text_slot packing 0 first text packed }
 {

@@ -54,7 +54,7 @@ pub struct FlatTable<D: SectorDisk> {
 impl<D: SectorDisk> FlatTable<D> {
     ghost use Rattle.earlier_layouts.specs.InFile.{file_in};
 
-    /// Reads the whole table that this disk stores, after a sync, with so many pages in memory: E1, E2, E4, E8.
+    /// Reads the whole table that this disk stores, after a sync, with this many pages in memory: E1, E2, E4, E8.
     fn read(alloc: Global, disk: D, pages: usize) -> Result<Self, Refused<D>>
         requires { pages ≤ 64 }
         ensures whole { IfOk result (λ t. IsFile (file_in t) × (t.draft ≡ None)) }

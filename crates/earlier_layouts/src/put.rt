@@ -78,7 +78,7 @@ fn pages_in(game: &Option<Game>) -> &[u32]
 }
 
 /// The bytes of a text and a table. `Inconsistent` where the table's parts do not fit together or its positions have
-/// not so many bytes.
+/// not this many bytes.
 fn bytes_of(
     alloc: Global,
     text: &[u8],

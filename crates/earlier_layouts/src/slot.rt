@@ -87,7 +87,7 @@ pub fn empty_slot() -> [u8; 512]
     root
 }
 
-/// The slot of a table with a game, after so many commits. All bytes without a field are zero.
+/// The slot of a table with a game, after this many commits. All bytes without a field are zero.
 pub fn game_slot(commits: u64, game: &GameSlot) -> [u8; 512]
     ensures layout { layout_in result ≡ 1 }
     ensures packing { packing_in result ≡ number_of game.now.packing }

@@ -122,7 +122,7 @@ fn release_all<P: Pages>(store: &mut P, pages: &[u32])
     }
 }
 
-/// The slot that names a chain of these pages, after so many commits.
+/// The slot that names a chain of these pages, after this many commits.
 fn slot_of(commits: u64, pages: &[u32], packing: PackingKind, sizes: Sizes) -> [u8; 512]
     ensures commits { commits_in result ≡ commits }
     ensures names { IsSlotOf (first_of pages.now) packing sizes result }

@@ -6,7 +6,7 @@ use Rattle.game_file.specs.State.{State, GoesAhead}
 use Rattle.game_file.specs.Stops.{LeavesNow}
 use Rattle.solver.specs.Machine.{WorksOnTable}
 
--- at some moment from the one state to the other so many units are done on the table that was there, or the table is finished by then,
+-- at some moment from the one state to the other this many units are done on the table that was there, or the table is finished by then,
 -- and a stop at that moment leaves the table with these units alone
 pub record LeavesTheFirst (Stores : ℕ → Layout) (units : ℕ) (was is : State) : Type 0 where
   pub mid : State

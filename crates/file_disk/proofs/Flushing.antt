@@ -128,7 +128,7 @@ puts_then pages count bytes old mid new done first second = record {
 pub puts_none : (pages : List WaitingPage) (count : ℕ) (bytes old : List ℕ) → Puts pages count bytes old old true
 puts_none pages count bytes old = record { same = record { same_length = refl; shown = λ k. refl }; stays = λ is p s p_lt s_lt was. was }
 
--- a part fits where so many bytes do
+-- a part fits where this many bytes do
 pub part_fits : (part bytes : List ℕ) (from count first end : ℕ) → part ≡ bytes_at bytes from count → from + count ≤ length bytes
     → first + count ≤ end → first + length part ≤ end
 part_fits part bytes from count first end is within fits =

@@ -16,7 +16,7 @@ page_at pages place = slice_index_or pages place no_page
 abbrev pub has_sector : WaitingPage → ℕ → Bool
 has_sector page sector = slice_index_or page.has sector false
 
--- the place of a page among so many, if it has one
+-- the place of a page among this many, if it has one
 abbrev pub place_of : List WaitingPage → ℕ → ℕ → Option ℕ
 place_of pages zero page = None
 place_of pages (suc count) page = if (page_at pages count).number == page then Some count else place_of pages count page

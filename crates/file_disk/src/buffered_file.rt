@@ -30,7 +30,7 @@ pub struct BufferedFile<F: ByteFile> {
 }
 
 impl<F: ByteFile + Drop> BufferedFile<F> {
-    /// Its sectors are the file's length divided by 512, rounded down. It has room for so many pages that wait, and takes no memory later.
+    /// Its sectors are the file's length divided by 512, rounded down. It has room for this many pages that wait, and takes no memory later.
     pub fn new(alloc: Global, file: F, room: usize) -> Result<Self, FileRefused>
         requires some { 0 < room }
         requires fits { 4096 * room < 2 ^ 63 }
@@ -179,7 +179,7 @@ impl<F: ByteFile + Drop> BufferedFile<F> {
         done
     }
 
-    /// Makes it longer: so many sectors, and the new ones are zeros. A file that others have made longer is left alone.
+    /// Makes it longer: this many sectors, and the new ones are zeros. A file that others have made longer is left alone.
     pub fn extend(&mut self, sectors: u64) -> bool
         requires { self.old.sectors ≤ sectors }
         ensures longer { OnTrue result (self.new.sectors ≡ sectors) }

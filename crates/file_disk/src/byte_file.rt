@@ -26,7 +26,7 @@ pub trait ByteFile {
         ensures lasts { IsTrue (honest self.old) → durable self.new ≡ durable self.old }
         ensures same_honest { honest self.new ≡ honest self.old };
 
-    /// Writes these bytes from this place on, where there are so many already. One that is not done may leave anything there.
+    /// Writes these bytes from this place on, where there are this many already. One that is not done may leave anything there.
     fn write_at(&mut self, at: u64, from: &[u8]) -> bool
         ensures written { IsTrue (honest self.old) → at + length from.now ≤ length (content self.old)
             → OnTrue result (bytes_at (content self.new) at (length from.now) ≡ from.now) }
@@ -41,7 +41,7 @@ pub trait ByteFile {
         ensures unchanged { IsTrue (honest self.old) → content self.new ≡ content self.old }
         ensures same_honest { honest self.new ≡ honest self.old };
 
-    /// Makes it so many bytes long: bytes at its end are cut off, or zeros are put there.
+    /// Makes it this many bytes long: bytes at its end are cut off, or zeros are put there.
     fn set_len(&mut self, bytes: u64) -> bool
         ensures resized { IsTrue (honest self.old) → OnTrue result (IsResized bytes (content self.old) (content self.new)) }
         ensures kept { IsTrue (honest self.old) → KeepsUpTo bytes (content self.old) (content self.new) }

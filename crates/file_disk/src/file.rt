@@ -11,7 +11,7 @@ use std::alloc::Global;
 use std::fs::File;
 use std::marker::Model;
 
-/// So many pages may wait to be written.
+/// This many pages may wait to be written.
 const ROOM: usize = 256;
 
 /// A disk over an open file that nobody else writes, through the buffers of `BufferedFile`, with a count of what failed. No call takes

@@ -8,7 +8,7 @@ ghost use Rattle.file_disk.specs.aid.Waiting.{AreInside, AreInFile, IsInFile, Is
 use crate::byte_file::ByteFile;
 use crate::waiting_writes::WaitingWrites;
 
-/// Writes so many sectors that wait side by side, by one call.
+/// Writes this many sectors that wait side by side, by one call.
 fn put_slots<F: ByteFile>(
     file: &mut F,
     waiting: &WaitingWrites,
@@ -75,7 +75,7 @@ fn put_page<F: ByteFile>(file: &mut F, waiting: &WaitingWrites, place: usize) ->
     true
 }
 
-/// Writes so many whole pages that stand and lie side by side.
+/// Writes this many whole pages that stand and lie side by side.
 fn put_run<F: ByteFile>(file: &mut F, waiting: &WaitingWrites, place: usize, run: usize) -> bool
     requires some { 0 < run }
     requires run { IsRun waiting.now.pages.items waiting.now.count place run }

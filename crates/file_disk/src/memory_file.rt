@@ -28,7 +28,7 @@ impl MemoryFile {
         }
     }
 
-    /// The call behind so many fails, and is not carried out.
+    /// The call behind this many fails, and is not carried out.
     pub fn fail_after(&mut self, calls: u64)
         ensures bytes { self.new.bytes ≡ self.old.bytes }
         ensures synced { self.new.synced ≡ self.old.synced }
@@ -52,7 +52,7 @@ fn strikes(ahead: &mut Option<u64>) -> bool {
     }
 }
 
-/// Whether so many bytes from this place on are there.
+/// Whether this many bytes from this place on are there.
 fn has_part(bytes: &Vec<u8>, at: u64, count: usize) -> bool
     ensures { result ≡ true → at + count ≤ length bytes.now.items }
 {

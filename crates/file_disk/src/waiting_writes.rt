@@ -18,11 +18,11 @@ fn put_sector(bytes: &mut Vec<u8>, slot: usize, from: &[u8; 512])
     put_bytes(bytes, 512 * slot, from);
 }
 
-/// Pages of which sectors wait, in the order in which they came, so many at most. The memory for all of them is taken once.
+/// Pages of which sectors wait, in the order in which they came, this many at most. The memory for all of them is taken once.
 #[derive(Drop)]
 pub struct WaitingWrites {
     pub pages: Vec<WaitingPage>,
-    /// So many of these places are taken.
+    /// This many of these places are taken.
     pub count: usize,
     /// The bytes of all places, one behind the other.
     pub bytes: Vec<u8>,
@@ -35,7 +35,7 @@ pub struct WaitingWrites {
 }
 
 impl WaitingWrites {
-    /// No page, and room for so many.
+    /// No page, and room for this many.
     pub fn new(alloc: Global, room: usize) -> Result<Self, AllocError>
         requires { 4096 * room < 2 ^ 63 }
         ensures none { IfOk result (λ w. w.count ≡ 0) }

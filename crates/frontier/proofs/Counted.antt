@@ -34,6 +34,6 @@ module _ (read first now : Counts) (same : read ≡ first) (still : now ≡ firs
       pub grew : read.known ≤ after.known
       grew = omega (arith, known_read, known_now, known_after)
 
-      -- so many are known more
+      -- this many are known more
       pub more_known : (old new : ℕ) → first.known ≡ old → last.known ≡ new → new ≡ old + (after.known - read.known)
       more_known old new old_is new_is = omega (arith, known_read, known_now, known_after, grew)

@@ -49,7 +49,7 @@ sizes_in root = record {
   edges = long_at root 60;
 }
 
--- the bytes from one place on up to another are zero
+-- the bytes from one place up to another are zero
 abbrev pub AreZero : ℕ → ℕ → List ℕ → Type 0
 AreZero from to root = (k : ℕ) → from ≤ k → k < to → slice_index root k ≡ 0
 
@@ -57,7 +57,7 @@ AreZero from to root = (k : ℕ) → from ≤ k → k < to → slice_index root 
 abbrev pub capacity_in : List ℕ → ℕ
 capacity_in root = word_at root 68
 
--- a slot of layout 3 says that there are so many pages; those of earlier layouts say nothing of it
+-- a slot of layout 3 says that there are this many pages; one of an earlier layout says nothing of it
 abbrev pub SaysPages : List ℕ → ℕ → Type 0
 SaysPages root pages = 3 ≤ layout_in root → capacity_in root ≡ pages
 
@@ -78,6 +78,6 @@ goal_number_in root = if nat_lt (layout_in root) 3 then 0 else word_at root 72
 abbrev pub HasPlaceFor : ℕ → ℕ → Type 0
 HasPlaceFor layout number = (3 ≤ layout) ⊎ (number ≡ 0)
 
--- so many pages are used of a picture: those that it has room for, 1,048,576 at most
+-- this many pages are used of a picture: those that it has room for, 1,048,576 at most
 abbrev pub capacity_of : Picture → ℕ
 capacity_of picture = min (length picture / 8) MAX_PAGES

@@ -18,18 +18,18 @@ pub record GrowsAhead (old new : State) : Type 0 where
   pub no_fewer : old.capacity ≤ new.capacity
   pub closes : ClosesByWrites old.closed old.disk.failed_writes new.closed new.disk.failed_writes
 
--- so many pages are not more than there are, or more than a table may have
+-- this many pages are not more than there are, or more than a table may have
 abbrev pub IsNoGrowth : ℕ → ℕ → Type 0
 IsNoGrowth pages capacity = (pages ≤ capacity) ⊎ (MAX_PAGES < pages)
 
 module _ (Stores : ℕ → Layout) where
-  -- from the one moment to the other a stop leaves what was kept, in as many pages as there were or in so many
+  -- between the two moments a stop leaves what was kept, in as many pages as before or in this many
   abbrev pub LeavesEitherSize : ℕ → State → State → Type 0
   LeavesEitherSize pages old new =
       LeavesOnly old.disk new.disk (λ picture. Stores old.capacity picture old.kept ⊎ Stores pages picture old.kept)
 
-  -- the file has so many pages now, by one commit more, and what was kept still is; a stop meanwhile leaves it in as many pages as there
-  -- were or in so many
+  -- the file has this many pages now, by one commit more, and what was kept still is; a stop meanwhile leaves it in as many pages as there
+  -- were or in this many
   pub record IsGrownFile (pages : ℕ) (old new : State) : Type 0 where
     pub commits : new.commits ≡ count_behind old.commits
     pub counts : new.counts ≡ old.counts
@@ -42,7 +42,7 @@ module _ (Stores : ℕ → Layout) where
     pub leaves : IsTrue old.disk.honest → LeavesEitherSize pages old new
 
   -- the file has as many pages as before, and what was kept still is; a stop leaves it so; where a write, a sync or an extension failed, it
-  -- leaves it in as many pages as there were or in so many
+  -- leaves it in as many pages as there were or in this many
   pub record IsNotGrown (pages : ℕ) (old new : State) : Type 0 where
     pub commits : new.commits ≡ old.commits
     pub counts : new.counts ≡ old.counts
@@ -54,7 +54,7 @@ module _ (Stores : ℕ → Layout) where
     pub leaves : IsTrue old.disk.honest → new.closed ≡ false → LeavesTable (Stores old.capacity) old.disk new.disk old.kept
     pub either : IsTrue old.disk.honest → old.closed ≡ false → LeavesEitherSize pages old new
 
--- `grow`: the disk failed; so many pages are no growth; memory ran out, which needs no cause; or the file was closed
+-- `grow`: the disk failed; this many pages are no growth; memory ran out, which needs no cause; or the file was closed
 abbrev pub FileGrowCause : ℕ → State → State → FileFault → Type 0
 FileGrowCause pages old new DiskFailed = Grew old.failures new.failures
 FileGrowCause pages old new TooSmall = IsNoGrowth pages old.capacity

@@ -37,7 +37,7 @@ abbrev pub counts_kept : Option Kept → Option Counts
 counts_kept None = None
 counts_kept (Some kept) = Some (counts_of kept.table)
 
--- which picture of a disk stores which table, or that none of a game is there: each layout of a file says it in its own way
+-- which table a picture of a disk stores, or that it stores the empty one; each layout says so in its own way
 abbrev pub Layout : Type 1
 Layout = Picture → Option Kept → Type 0
 

@@ -31,7 +31,7 @@ pub trait GameFile: Table {
     /// The disk that it is on.
     type Device: SectorDisk;
 
-    /// Which pictures of the disk store which table in so many pages: the layout of the file.
+    /// Which pictures of the disk store which table in this many pages: the layout of the file.
     ghost stores: { ℕ → Layout };
 
     /// Which pictures of the disk hold a table of an earlier layout, which is not opened.
@@ -55,7 +55,7 @@ pub trait GameFile: Table {
         ensures cause { IfErr result (λ back. FileCreateCause (Self.Device.disk disk) (Self.Device.failures disk)
             (Self.Device.failures back.disk) back.fault) };
 
-    /// Opens the table that this disk stores, after a sync: E1, E2, E4, E5, E8. Of its pages so many, 64 at most, are kept in memory once
+    /// Opens the table that this disk stores, after a sync: E1, E2, E4, E5, E8. Of its pages this many, 64 at most, are kept in memory once
     /// they were read or written, 0 for none.
     fn open_with_cache(
         alloc: Global,
@@ -158,7 +158,7 @@ pub trait GameFile: Table {
         ensures still { (was : Self) (fault : TableFault) → is_whole was → Self.fails was self.old fault → fault ≢ TableFault.Disk
             → (state self.new).closed ≡ (state was).closed };
 
-    /// Makes the file one of so many pages, by one commit that keeps what is kept: E9, then E6 unless that is more than there are and at
+    /// Makes the file one of this many pages, by one commit that keeps what is kept: E9, then E6 unless that is more than there are and at
     /// most 1,048,576, and then E1, E8. The new pages are there from the commit on, and free. A command that is going on is given up.
     /// After a refusal the disk may be longer, which does no harm. A layout that does not say how many pages there are answers E8.
     fn grow(&mut self, pages: u32) -> Result<(), FileFault>

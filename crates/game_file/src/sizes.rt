@@ -2,7 +2,7 @@
 
 use retrograde::Counts;
 
-/// How much of each there is in a table's bytes.
+/// How much a table has of each part.
 #[derive(Clone, Copy, PartialEq, Eq, Debug, Drop)]
 pub struct Sizes {
     /// Bytes of the game text.

@@ -16,6 +16,6 @@ ArePositions kind game stored = (i : ℕ) (x : List ℕ) → slice_get stored.po
 abbrev pub packed_length : PackingKind → Game → ℕ
 packed_length kind game = length_by kind (shape_of game)
 
--- so many units were asked of the old table and these done, all or to its end, and the new one agrees with itself
+-- of the units asked of the old table these were done: all, or as many as were left to do; and the new table agrees with itself
 abbrev pub IsWorkOf : PackingKind → Option ℕ → Game → ℕ → Stored (List ℕ) → ℕ → Stored (List ℕ) → Type 0
 IsWorkOf kind goal game units old done new = AreDone (graph_of kind goal game) (IsWideAt kind game) units old done new

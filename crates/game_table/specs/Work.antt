@@ -13,7 +13,7 @@ use Rattle.frontier.specs.Causes.{HasUnitCause}
 abbrev pub Works : Graph (List ℕ) → (List ℕ → Type 0) → Stored (List ℕ) → ℕ → Stored (List ℕ) → Type 0
 Works graph IsWide old units new = UnitsOfWork packed_cmp graph IsWide (2 ^ 24) (view_of old) units (view_of new)
 
--- so many units were asked of the old table and these done, all or to its end, and the new one is locally sound again
+-- of the units asked of the old table these were done: all, or as many as were left to do; and the new table is locally sound again
 pub record AreDone (graph : Graph (List ℕ)) (IsWide : List ℕ
     → Type 0) (units : ℕ) (old : Stored (List ℕ)) (done : ℕ) (new : Stored (List ℕ)) : Type 0 where
   pub works : Works graph IsWide old done new

@@ -113,7 +113,7 @@ impl Source {
         are_packed(self.compiled.packing(), table)
     }
 
-    /// Does so many units of work on a table of the game, or fewer where the table is finished by then, and answers how
+    /// Does this many units of work on a table of the game, or fewer where the table is finished by then, and answers how
     /// many. It is asked of a table within the limit of 16,777,216 positions. After an error the caller gives the table up.
     ///
     /// Of a table that does not agree with itself nothing is said but that it stays within the limit, that its parts still

@@ -54,7 +54,7 @@ fn unit<M: MoveSource, T: Table>(
     Ok(false)
 }
 
-/// Does so many units of work, or fewer where the table is finished by then, and answers how many.
+/// Does this many units of work, or fewer where the table is finished by then, and answers how many.
 ///
 /// It is asked of a table within the limit of 16,777,216 positions. After an error the caller gives the
 /// table up: the cause is that of the unit that failed, after those before it. `Inconsistent` comes

@@ -9,13 +9,13 @@ use std::alloc::Global;
 use std::fmt::{self, Display, Formatter, Write};
 use std::str::from_utf8;
 
-/// So many bytes of a difference are told.
+/// This many bytes of a difference are told.
 const SHOWN: usize = 200;
 
 /// What came of a game.
 #[derive(Drop)]
 pub enum Outcome {
-    /// All answers were equal, and so many positions are known.
+    /// All answers were equal, and this many positions are known.
     Equal(u32),
     Differs(Difference),
     /// All answers were equal, but not what the files of layout 2 and 3 hold.
@@ -41,8 +41,8 @@ impl Display for Difference {
     }
 }
 
-/// Loads the game of this text into a table of layout 1, one of layout 2, and two of layout 3 of which one keeps so many pages in memory,
-/// two at most; does up to so many units of work in each, and compares all that they say, and what the files with trees hold. Two more
+/// Loads the game of this text into a table of layout 1, one of layout 2, and two of layout 3 of which one keeps this many pages in memory,
+/// two at most; does up to this many units of work in each, and compares all that they say, and what the files with trees hold. Two more
 /// tables, of layouts 1 and 2, come into layout 3 behind the first commands, and have to say the same.
 pub fn compare(alloc: Global, text: &[u8], most: u32, pages: usize) -> anyhow::Result<Outcome> {
     let flat = told_of::<Flat>(alloc, text, most, MOST_CACHED)?;

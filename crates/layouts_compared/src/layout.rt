@@ -35,7 +35,7 @@ pub trait Layout: GameFile {
     /// Begins a listing of the table as it is now.
     fn begin_rows(solver: &mut FileSolver<Self>) -> Result<Self::Rows, SolverFault>;
 
-    /// The next rows of a listing, so many or up to the last, which is the 256th at most.
+    /// The next rows of a listing: this many, 256 at most, or up to the last.
     fn next_rows(
         alloc: Global,
         solver: &mut FileSolver<Self>,
@@ -51,7 +51,7 @@ pub trait Layout: GameFile {
 #[derive(Drop)]
 pub struct TakenRows {
     rows: Vec<Row>,
-    /// So many of them were given.
+    /// This many of them were given.
     given: usize,
 }
 

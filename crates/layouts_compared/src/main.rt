@@ -26,7 +26,7 @@ fn main(rt: HostRuntime) -> ExitCode {
     }
 }
 
-/// Compares game by game, with so many units of work at most and one table with so many pages in memory, and prints a
+/// Compares game by game, with this many units of work at most and one table with this many pages in memory, and prints a
 /// line for each. It ends at the first difference. Answers
 /// whether there was none.
 fn run(rt: &HostRuntime) -> anyhow::Result<bool> {

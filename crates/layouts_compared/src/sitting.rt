@@ -11,16 +11,16 @@ use solver::{FileSolver, Units};
 use std::alloc::Global;
 use std::io::Write;
 
-/// So many units are asked for in turn.
+/// This many units are asked for in turn.
 const STEPS: [u32; 4] = [1, 7, 97, 256];
 
-/// So many commands are between two openings.
+/// This many commands are between two openings.
 const COMMANDS: usize = 16;
 
-/// So many of these are done before a listing is begun.
+/// This many of these are done before a listing is begun.
 const BEFORE: usize = 2;
 
-/// So many rows of a listing are asked for behind the others in turn: 240 between two openings, and so no more than 256.
+/// This many rows of a listing are asked for behind the others in turn: 240 between two openings, and so no more than 256.
 const ROWS: [u32; 4] = [3, 1, 40, 17];
 
 /// What one table said, and what is left of it.
@@ -36,7 +36,7 @@ pub struct Told<D> {
     pub disk: D,
 }
 
-/// Loads the game of this text into an empty table with so many pages in memory, does up to so many units of work, and asks on
+/// Loads the game of this text into an empty table with this many pages in memory, does up to this many units of work, and asks on
 /// the way and at the end.
 pub fn told_of<F: Layout + Drop>(
     alloc: Global,
@@ -86,7 +86,7 @@ where
     told_at_end(alloc, solver, said)
 }
 
-/// A new table with the game of this text and so many pages in memory.
+/// A new table with the game of this text and this many pages in memory.
 fn loaded<F: Layout + Drop>(
     alloc: Global,
     text: &[u8],
@@ -100,7 +100,7 @@ where
     Ok(solver)
 }
 
-/// Does up to so many units of work, from this command on, and asks on the way. The table is stopped and opened now and then.
+/// Does up to this many units of work, from this command on, and asks on the way. The table is stopped and opened now and then.
 fn worked<F: Layout + Drop>(
     alloc: Global,
     mut solver: FileSolver<F>,
@@ -143,7 +143,7 @@ where
     })
 }
 
-/// An empty table with so many pages in memory.
+/// An empty table with this many pages in memory.
 fn begun<F: Layout>(alloc: Global, pages: usize) -> anyhow::Result<FileSolver<F>>
 where
     F::Device: Drop,
@@ -155,7 +155,7 @@ where
     }
 }
 
-/// The table on this disk, with so many of its pages in memory.
+/// The table on this disk, with this many of its pages in memory.
 fn opened<F: Layout>(alloc: Global, disk: F::Device, pages: usize) -> anyhow::Result<FileSolver<F>>
 where
     F::Device: Drop,
@@ -166,7 +166,7 @@ where
     }
 }
 
-/// As many commands as there are between two openings, from this one on, but no more once the table is finished or so many units are done.
+/// As many commands as there are between two openings, from this one on, but no more once the table is finished or this many units are done.
 /// Behind the first two a listing is begun, and behind each later one it gives some rows.
 fn some_steps<F: Layout>(
     alloc: Global,
@@ -245,7 +245,7 @@ fn known_of(counts: Option<Counts>) -> u32 {
     }
 }
 
-/// Whether the table is finished, or so many units are done.
+/// Whether the table is finished, or this many units are done.
 fn is_done(counts: Option<Counts>, most: u32) -> bool {
     match counts {
         Some(counts) => {

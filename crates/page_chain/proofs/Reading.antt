@@ -66,7 +66,7 @@ one_marked at old new works shown leaves closed marked = record { works = works;
       | inr other ↦ inl (marked.others p other)
     ]
 
--- so many pages are read, and the next one is known
+-- this many pages are read, and the next one is known
 pub record IsRead (old now : Store) (first count next : ℕ) (pages content : List ℕ) : Type 0 where
   pub only : OnlyMarks old now
   pub many : length pages ≡ count
@@ -175,7 +175,7 @@ read_chain {old} {now} {first} {count} {next} {pages} {content} long cut read en
       is = (λ i. take (same i) (read.holds honest i)) ∙ sym is;
     }
 
--- where there is a chain the last page of so many ends it
+-- where there is a chain the last page of this many ends it
 pub chain_ends : {old now : Store} {first count next : ℕ} {pages content : List ℕ} (long : ℕ) → IsRead old now first count next pages content
     → long ≤ 4092 * count → 4092 * count < long + 4092 → IsTrue old.disk.honest
     → (ps other : List ℕ) → length other ≡ long → IsChain (length old.marks) first ps other (reads old) → next ≡ 0

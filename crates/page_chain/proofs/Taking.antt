@@ -19,7 +19,7 @@ use Rattle.page_chain.proofs.Linking.{once_more, none_once, none_contained, cont
 pub hands_out_refl : (store : Store) → HandsOut store store
 hands_out_refl store = record { works = works_refl store; disk = refl; failures = refl; closed = refl; others = λ p. inl refl }
 
--- so many pages are taken so far
+-- this many pages are taken so far
 pub record IsTaken (old now : Store) (count : ℕ) (pages : List ℕ) : Type 0 where
   pub out : HandsOut old now
   pub taken : AreTaken old now count pages

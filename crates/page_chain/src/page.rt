@@ -11,7 +11,7 @@ pub const PAYLOAD: usize = 4_092;
 /// How many bytes the number of the next page takes.
 const NUMBER: usize = 4;
 
-/// How many pages so many bytes take.
+/// How many pages this many bytes take.
 pub fn pages_for(size: usize) -> usize
     ensures enough { size ≤ PAYLOAD * result }
     ensures no_more { PAYLOAD * result < size + PAYLOAD }

@@ -23,8 +23,8 @@ pub struct Chain {
     pub content: Vec<u8>,
 }
 
-/// Reads so many bytes from the chain that begins at this page, and marks each of its pages. `Damaged` where from
-/// there on is no chain that has exactly the pages that so many bytes need, each once, and all of them unmarked. It
+/// Reads this many bytes from the chain that begins at this page, and marks each of its pages. `Damaged` where from
+/// there on is no chain that has exactly the pages that this many bytes need, each once, and all of them unmarked. It
 /// never closes the store.
 pub fn read_chain<P: Pages>(
     alloc: Global,

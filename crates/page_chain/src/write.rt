@@ -51,7 +51,7 @@ pub fn write_chain<P: Pages>(
     Ok(pages)
 }
 
-/// So many pages are handed out.
+/// This many pages are handed out.
 fn take_pages<P: Pages>(alloc: Global, store: &mut P, count: usize) -> Result<Vec<u32>, PageFault>
     requires { count ≤ free_count (P.store store.old).marks }
     ensures taken { IfOk result (λ pages. AreTaken (P.store store.old) (P.store store.new) count pages.items) }

@@ -17,7 +17,7 @@ length-bits (suc w) n = length-append (bits_of w (n / 2)) (n % 2 ∷ []) ∙ (le
 pub double : (w : ℕ) → 2 ^ suc w ≡ 2 * 2 ^ w
 double w = omega arith
 
--- the bits of two numbers, the second so many bits lower
+-- the bits of two numbers, the second this many bits lower
 pub bits_more : (c w a x : ℕ) → x < 2 ^ w → bits_of (c + w) (a * 2 ^ w + x) ≡ bits_of c a ++ bits_of w x
 bits_more c zero a x lt =
     let none : c + 0 ≡ c = omega arith in

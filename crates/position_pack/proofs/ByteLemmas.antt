@@ -158,7 +158,7 @@ low_made (suc n) xs bits = (low_first xs bits, low_made n (drop 8 xs) (bits_drop
 
 -- ---- whole bytes, with zeros behind the bits
 
--- so many zeros are behind the bits
+-- this many zeros are behind the bits
 abbrev pub zeros_behind : List ℕ → ℕ
 zeros_behind xs = 8 * ((length xs + 7) / 8) - length xs
 

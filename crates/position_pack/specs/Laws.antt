@@ -23,7 +23,7 @@ PositionsFit = (game : Game) (at : Position) → IsPositionOf game at ↔ Fits (
 abbrev pub GamesAreSmall : Type 0
 GamesAreSmall = (game : Game) → IsSoundGame game → IsSmall (shape_of game)
 
--- so many bits are the fewest: the greatest value is below that power of two, and below no lower one
+-- this many bits are the fewest: the greatest value is below that power of two, and below no lower one
 abbrev pub WidthsAreFewest : Type 0
 WidthsAreFewest = (most : ℕ) → most < 2 ^ 32 → (most < 2 ^ width most) × ((b : ℕ) → most < 2 ^ b → width most ≤ b)
 
@@ -45,7 +45,7 @@ BytesOrder =
     (kind : PackingKind) (shape : Shape) (x y : Position) → IsSmall shape → Fits shape x → Fits shape y
     → slice_cmp nat_cmp (packed_by kind shape x) (packed_by kind shape y) ≡ slice_cmp nat_cmp (fields_of x) (fields_of y)
 
--- all positions have so many bytes
+-- all positions have this many bytes
 abbrev pub BytesAreAsMany : Type 0
 BytesAreAsMany =
     (kind : PackingKind) (shape : Shape) (at : Position) → Fits shape at

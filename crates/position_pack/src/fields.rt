@@ -81,7 +81,7 @@ fn put_pieces(fields: &mut Fields, pieces: &[u8])
     }
 }
 
-/// The position with these fields, so many of which are pieces.
+/// The position with these fields, this many of which are pieces.
 pub fn position_of(fields: &[u32], vertices: usize) -> Option<Position>
     requires { AreInRange vertices fields.now }
     ensures { MatchOption result ⊥ (IsFieldsOf vertices fields.now) }

@@ -13,7 +13,7 @@ pub struct Reader {
     pub count: u32,
 }
 
-/// The number of the next bits, so many, the most significant first.
+/// The number of the next bits, this many, the most significant first.
 pub fn take(bytes: &[u8], reader: &mut Reader, width: u32) -> u32
     requires reader { IsReader bytes.now reader.old }
     requires width { width ≤ 32 }
@@ -38,7 +38,7 @@ pub fn take(bytes: &[u8], reader: &mut Reader, width: u32) -> u32
     value
 }
 
-/// The number of so many bits of the bytes, from a place on; bits past the last byte are left out.
+/// The number that bits of the bytes spell: this many bits, from a place on; bits past the last byte are left out.
 pub fn number_at(bytes: &[u8], place: usize, width: u32) -> u32
     requires place { place ≤ 65536 }
     requires width { width ≤ 32 }

@@ -26,7 +26,7 @@ pub fn new_writer() -> Writer
     }
 }
 
-/// Writes the lowest bits of a value, so many, the most significant first.
+/// Writes the lowest bits of a value, this many, the most significant first.
 pub fn put(writer: &mut Writer, width: u32, value: u32)
     requires writer { IsWriter writer.old }
     requires width { width ≤ 32 }

@@ -53,7 +53,7 @@ impl Deed {
 /// How far a deed came.
 #[derive(Clone, Copy, PartialEq, Eq, Debug)]
 pub struct Progress {
-    /// So many of its commands were answered.
+    /// This many of its commands were answered.
     pub done: usize,
     /// Why the next was refused, if one was.
     pub refused: Option<SolverFault>,
@@ -65,7 +65,7 @@ pub struct Given<'a> {
     pub alloc: Global,
     /// The text of the game of takes.
     pub text: &'a [u8],
-    /// So many pages, 64 at most, are kept in memory.
+    /// This many pages, 64 at most, are kept in memory.
     pub pages: usize,
 }
 

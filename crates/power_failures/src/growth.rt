@@ -10,7 +10,7 @@ const SECTORS: u64 = 128;
 /// The page that the first root names.
 const FIRST: u32 = 1;
 
-/// What a root of this store says: so many pages, and the one that it names, with this byte all over.
+/// What a root of this store says: this many pages, and the one that it names, with this byte all over.
 #[derive(Clone, Copy, PartialEq, Eq, Debug)]
 pub struct Said {
     pub pages: u8,
@@ -42,7 +42,7 @@ impl Said {
 /// How far it came.
 #[derive(Clone, Copy, PartialEq, Eq, Debug)]
 pub struct Growth {
-    /// So many of its three commits were answered.
+    /// This many of its three commits were answered.
     pub done: usize,
     /// Why the next was refused, if one was.
     pub refused: Option<PageFault>,
@@ -178,7 +178,7 @@ fn byte_of<P: Pages>(store: &mut P, page: u32) -> Option<u8> {
 }
 
 /// The pages and the byte of the root that is found on this disk, if the page that it names has that byte all over and there is room for
-/// so many pages; none else.
+/// this many pages; none else.
 pub fn found_on(alloc: Global, disk: MemDisk) -> Option<(u8, u8)> {
     let room = disk.sectors() / 8;
     match PageStore::open(alloc, disk) {

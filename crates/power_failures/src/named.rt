@@ -68,7 +68,7 @@ pub fn named_pages(alloc: Global, disk: &mut MemDisk) -> anyhow::Result<Vec<u32>
     Ok(named)
 }
 
-/// The pages of the tree with this root, of which the keys have so many bytes.
+/// The pages of the tree with this root, of which the keys have this many bytes.
 fn add_tree(
     alloc: Global,
     disk: &mut MemDisk,

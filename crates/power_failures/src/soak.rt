@@ -18,10 +18,10 @@ const SECTORS: u64 = 1_024;
 /// The sectors of the table that is never stopped, which is never full.
 const MODEL_SECTORS: u64 = 16_384;
 
-/// So many commands are given in a round at most.
+/// This many commands are given in a round at most.
 const COMMANDS: u32 = 24;
 
-/// So many of the last disk calls of an order are stopped at as often as all others.
+/// This many of the last disk calls of an order are stopped at as often as all others.
 const LAST_CALLS: u64 = 8;
 
 /// The file of a table that is never stopped, of the earlier layout.
@@ -44,7 +44,7 @@ impl Tally {
     }
 }
 
-/// Plays so many rounds with these games. Prints what was done, and at the first table that is not as it should be the seed and the
+/// Plays this many rounds with these games. Prints what was done, and at the first table that is not as it should be the seed and the
 /// round, with which it can be repeated. Answers whether there was none.
 pub fn soak(
     rt: &HostRuntime,
@@ -88,9 +88,9 @@ fn below<R: Rng>(random: &mut R, end: u64) -> u64
 enum Order {
     /// To load the game.
     Load,
-    /// To work so many units.
+    /// To work this many units.
     Work(Units),
-    /// To have so many pages.
+    /// To have this many pages.
     Grow(u32),
 }
 

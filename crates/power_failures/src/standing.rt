@@ -42,7 +42,7 @@ const WORKED: Counts = Counts {
     processed: 0,
 };
 
-/// What is found on this disk, of which the root tells so many pages.
+/// What is found on this disk, of which the root tells this many pages.
 fn found_on<F: GameFile>(alloc: Global, disk: F::Device, pages: u32) -> Standing
 where
     F::Device: Drop,
@@ -58,7 +58,7 @@ where
     }
 }
 
-/// Which table is so far and has so many pages.
+/// Which table is so far and has this many pages.
 fn standing_of(counts: Option<Counts>, pages: u32) -> Standing {
     match (counts, pages) {
         (None, 16) => Standing::Empty,
@@ -82,7 +82,7 @@ pub fn is_right_on(alloc: Global, disk: &MemDisk) -> anyhow::Result<bool> {
     Ok(is_right_in::<TableFile<MemDisk>>(alloc, disk.after_stop(alloc, 0)?, 64)?)
 }
 
-/// Whether the table of this disk is right, with so many of its pages, 64 at most, in memory.
+/// Whether the table of this disk is right, with this many of its pages, 64 at most, in memory.
 pub fn is_right_in<F: GameFile>(
     alloc: Global,
     disk: F::Device,

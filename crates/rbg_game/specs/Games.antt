@@ -2,7 +2,7 @@
 use Rattle.std.specs.Prelude.{ℕ, ◌==◌, List, Option, slice_get, option_and_then, option_map, unwrap_or, find}
 use Rattle.rbg_game.specs.Rules.{Regex}
 
--- along the label one comes to the vertex
+-- an arrow: its label, and the vertex that it leads to
 pub record Arrow : Type 0 where
   pub label : ℕ
   pub to : ℕ

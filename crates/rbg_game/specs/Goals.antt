@@ -3,7 +3,7 @@ use Rattle.std.specs.Prelude.{ℕ, ◌≤◌, Option, None, Some}
 use Rattle.rbg_game.specs.declared.limits.TheConstants.{MAX_POINTS}
 use Rattle.rbg_game.specs.declared.goal.Goal.{Goal}
 
--- so many points can be a goal
+-- this many points can be a goal
 abbrev pub CanBeGoal : ℕ → Type 0
 CanBeGoal points = (1 ≤ points) × (points ≤ MAX_POINTS)
 

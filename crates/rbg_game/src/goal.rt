@@ -4,7 +4,7 @@ ghost use Rattle.rbg_game.specs.declared.limits.TheConstants.{MAX_POINTS};
 
 use crate::limits::MAX_POINTS;
 
-/// A number of points, 1 to 1,000,000. In a table with a goal a player is ahead who has at least so many points while the other has fewer.
+/// A number of points, 1 to 1,000,000. In a table with a goal a player is ahead who has at least this many points while the other has fewer.
 #[derive(Clone, Copy, PartialEq, Eq, Debug, Drop)]
 pub struct Goal {
     points: u32,
@@ -17,7 +17,7 @@ impl Goal {
     ghost use Rattle.rbg_game.specs.declared.limits.TheConstants.{MAX_POINTS};
     ghost use Rattle.rbg_game.specs.Goals.{CanBeGoal, points_in};
 
-    /// The goal of so many points; none where that is not 1 to 1,000,000. It takes no memory.
+    /// The goal of this many points; none where that is not 1 to 1,000,000. It takes no memory.
     pub fn new(points: u32) -> Option<Goal>
         ensures points { IfSome result (λ goal. points_in goal ≡ points) }
         ensures some { IfSome result (λ goal. CanBeGoal points) }

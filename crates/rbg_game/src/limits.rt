@@ -3,7 +3,7 @@
 /// The most bytes of a text.
 pub const MAX_TEXT_BYTES: usize = 65_536;
 
-/// The most brackets of a text that stand within one another.
+/// How deep the brackets of a text may nest.
 pub const MAX_NESTING: usize = 64;
 
 /// The most vertices of a board.

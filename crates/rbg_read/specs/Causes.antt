@@ -190,7 +190,7 @@ has_large_number all =
 
 -- ---- G7: the parts of a tree are within the limits
 
--- a list of assignments is that many actions
+-- a list of assignments counts as one action each
 abbrev pub action_count : Base → ℕ
 action_count (syntax.assign first more) = length (first ∷ more)
 action_count _ = 1

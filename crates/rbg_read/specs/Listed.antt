@@ -16,7 +16,7 @@ abbrev pub behind_byte : LineColumn → ℕ → LineColumn
 behind_byte place b =
     if b == 10 then record { line = place.line + 1; column = 1 } else record { line = place.line; column = place.column + 1 }
 
--- the place of the byte behind so many others
+-- the place of the byte behind this many others
 abbrev pub place_of : Text → ℕ → LineColumn
 place_of text at = fold behind_byte (record { line = 1; column = 1 }) (take at text)
 

@@ -7,7 +7,7 @@ use thiserror::Error;
 /// Why a text is no game, in the order of the codes G1 to G10.
 #[derive(Clone, Copy, Debug, PartialEq, Eq, Drop, Error)]
 pub enum GameFault {
-    /// A byte begins no token, or the tokens are not in the grammar.
+    /// Some byte begins no token, or the tokens do not fit the grammar.
     #[error("the text is not in the grammar")]
     Syntax,
     /// A section stands twice, or one but the variables is missing.

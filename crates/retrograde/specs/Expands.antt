@@ -11,7 +11,7 @@ use Rattle.retrograde.specs.Successors.{IsSuccessorList}
 use Rattle.retrograde.specs.Changes.{fresh_record}
 use Rattle.retrograde.specs.Units.{IsNewFrom}
 
--- the record of an expanded position with so many successors
+-- the record of an expanded position with this many successors
 abbrev pub expanded_record : ℕ → Record
 expanded_record n = record { state = Expanded; winner = None; distance = 0; left = n; successors = n }
 

@@ -13,7 +13,7 @@ pub enum Event {
     Wrote(u64, [u8; 512]),
     /// A sync that succeeded.
     Synced,
-    /// It was made longer; so many sectors were there before.
+    /// It was made longer; this many sectors were there before.
     Extended(u64),
 }
 
@@ -62,7 +62,7 @@ fn clear_from(synced: &mut Vec<bool>, end: usize)
     }
 }
 
-/// How many of so many sectors are there after a stop.
+/// How many of this many sectors are there after a stop.
 pub fn lasting_sectors(events: &[Event], sectors: usize) -> usize
     ensures { (picture : Picture) → length picture ≡ sectors → result ≡ lasting_of (end_after None events.now) picture }
 {

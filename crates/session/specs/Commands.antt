@@ -125,7 +125,7 @@ module _ (Stores : ℕ → Layout) where
       ⊎ IsUnopened disk count why back now
   IsAudit disk count _ back now = ⊥
 
-  -- the table was opened, and has got so many pages, or either was refused
+  -- the table was opened, and has got this many pages, or either was refused
   abbrev pub IsGrow : ℕ → Disk → ℕ → Came → Disk → ℕ → Type 0
   IsGrow pages disk count grown back now =
       (was : State) × (is : State) × IsOpened Stores disk count was × GivesBack is back now × IsGrownFile Stores pages was is

@@ -28,7 +28,7 @@ pub enum FileCommand {
     Load(Vec<u8>, Option<Goal>),
     /// Says whether the table is right.
     Audit,
-    /// Gives the table so many pages, more than it has.
+    /// Gives the table this many pages, more than it has.
     Grow(u32),
 }
 

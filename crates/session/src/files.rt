@@ -38,7 +38,7 @@ const TO_COPY: &str =
 const TO_KEEP: &str =
     "a new name is kept only in a folder that may be read: give a file in such a folder";
 
-/// Makes a file of so many pages and the empty table in it. A table that is there is not touched, and with too few pages
+/// Makes a file of this many pages and the empty table in it. A table that is there is not touched, and with too few pages
 /// no file is made or changed.
 pub fn create_file(rt: &HostRuntime, alloc: Global, name: &str, pages: u32) -> u8 {
     match opened(rt, name, Purpose::Change) {
@@ -93,7 +93,7 @@ fn create_new(rt: &HostRuntime, alloc: Global, name: &str, pages: u32) -> u8 {
     outcome.status
 }
 
-/// Gives a file so many pages, and makes the empty table in it.
+/// Gives a file this many pages, and makes the empty table in it.
 fn made(
     rt: &HostRuntime,
     alloc: Global,
@@ -175,7 +175,7 @@ pub fn migrate_file(rt: &HostRuntime, alloc: Global, name: &str) -> u8 {
     outcome.status
 }
 
-/// Gives the table of a file so many pages.
+/// Gives the table of a file this many pages.
 pub fn grow_file(rt: &HostRuntime, alloc: Global, name: &str, pages: u32) -> u8 {
     match opened(rt, name, Purpose::Change) {
         Ok(file) => command_on_file(rt, alloc, name, file, FileCommand::Grow(pages)).status,

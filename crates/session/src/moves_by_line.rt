@@ -35,7 +35,7 @@ pub fn moves_by_line<R: Read + Drop, W: Write>(
     end_input(alloc, book, &line, out)
 }
 
-/// Puts a byte to the line, or answers the line that it ends; 0 where the line goes on. Of a line that is too long for a position so many
+/// Puts a byte to the line, or answers the line that it ends; 0 where the line goes on. Of a line that is too long for a position this many
 /// bytes are kept as show that it is.
 fn put_byte<W: Write>(
     alloc: Global,

@@ -6,7 +6,7 @@ use page_store::MAX_PAGES;
 const PAGE: u64 = 4_096;
 
 /// The pages that a word asks for, 1 to 1,048,576: their number, one to ten digits, or with K, M or G behind it a number of bytes, as many as
-/// 1,024 or that again each, which has room for so many pages.
+/// 1,024 or that again each, which has room for this many pages.
 pub fn pages_of(word: &str) -> Option<u32> {
     let (digits, unit) = unit_of(word);
     if !is_number(digits) {

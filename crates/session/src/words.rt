@@ -25,7 +25,7 @@ pub enum Words {
     Actions {
         game: String,
     },
-    /// A new table of so many pages in this file.
+    /// A new table of this many pages in this file.
     Create {
         file: String,
         pages: u32,
@@ -54,7 +54,7 @@ pub enum Words {
     Migrate {
         file: String,
     },
-    /// So many pages for the table of this file, more than it has.
+    /// This many pages for the table of this file, more than it has.
     Grow {
         file: String,
         pages: u32,

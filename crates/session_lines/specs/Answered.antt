@@ -36,7 +36,7 @@ pub record IsValueLine (number : ℕ) (text : List ℕ) (kept : Kept) : Type 0 w
   pub has : HasValueAt number value kept
   pub text_is : text ≡ value_text game value ++ 10 ∷ []
 
--- the rows from this number on, so many or up to the last, a line each
+-- the rows from this number on, a line each: this many, or up to the last
 pub record AreRowLines (from count : ℕ) (text : List ℕ) (kept : Kept) : Type 0 where
   pub game : Game
   pub of_game : IsGameOf game kept
@@ -105,7 +105,7 @@ IsAnsweredOrRefused Answers Cause old status line =
     ⊎ ((why : SolverFault) × (status ≡ status_of_fault why) × (line ≡ fault_line why) × Cause why)
 
 module _ (Stores : ℕ → Layout) where
-  -- so many units are asked for: their reply as a line, and what was done is the turn of that command; or there is no room for the
+  -- this many units are asked for: their reply as a line, and what was done is the turn of that command; or there is no room for the
   -- reply, and nothing was done
   pub record IsWorkReplied (units : ℕ) (old new : State) (status : ℕ) (line : List ℕ) : Type 0 where
     pub reply : Reply

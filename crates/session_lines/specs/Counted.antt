@@ -20,7 +20,7 @@ abbrev pub IsStatusLine : Option Counts → List ℕ → Type 0
 IsStatusLine None line = line ≡ codes "no game" ++ 10 ∷ []
 IsStatusLine (Some counts) line = IsCountsLine counts line
 
--- so many units were done, and how far the table is
+-- this many units were done, and how far the table is
 pub record IsWorkLine (units : ℕ) (counts : Counts) (line : List ℕ) : Type 0 where
   pub counts_line : List ℕ
   pub counts_are : IsCountsLine counts counts_line

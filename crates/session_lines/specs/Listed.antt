@@ -19,7 +19,7 @@ use Rattle.session_lines.specs.declared.input.ListingLine.TheVariants.{Begin, Ne
 use Rattle.session_lines.specs.Answered.{status_of_fault}
 use Rattle.session_lines.specs.Told.{fault_line}
 
--- the rows of this table from this place on, so many or up to the last, a line each, up to the next place; the players are those of the
+-- the rows of this table from this place on, a line each, this many or up to the last, and the next place; the players are those of the
 -- game that is loaded
 pub record AreNextLines (table : Stored (List ℕ)) (place next count : ℕ) (text : List ℕ) (kept : Kept) : Type 0 where
   pub game : Game
@@ -66,7 +66,7 @@ module _ {F Version : Type 0} (state : F → State) (IsVersion : Version → Sto
       ((status ≡ 0) × IsNextText table place next count line (state old).kept)
       ⊎ ((why : SolverFault) × (status ≡ status_of_fault why) × (line ≡ fault_line why) × NextCause (state old) (state new) why)
 
-  -- the listing that was begun last tells its next rows, so many or up to the last, and stands behind them; the others stay
+  -- the listing that was begun last tells its next rows, this many or up to the last, and goes on after them; the others stay
   pub record IsNext (count : ℕ) (old new : F) (before after : List (Listing Version)) (status : ℕ) (line : List ℕ) : Type 0 where
     pub others : List (Listing Version)
     pub listing : Listing Version

@@ -38,7 +38,7 @@ pub fn advice(fault: SolverFault) -> &'static str {
     }
 }
 
-/// Says that no page of a table with so many pages is free, and how it gets twice as many, or the most that there may be.
+/// Says that no page of a table with this many pages is free, and how it gets twice as many, or the most that there may be.
 pub fn tell_full<E: Write>(told: &mut E, pages: u32) {
     let more = pages.saturating_mul(2).min(MAX_PAGES);
     let _told = if pages < MAX_PAGES {

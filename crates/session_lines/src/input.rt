@@ -104,7 +104,7 @@ impl Line {
 pub enum Asked<'a> {
     /// The line has no word.
     Nothing,
-    /// So many units of work.
+    /// This many units of work.
     Work(Units),
     /// How far the table is.
     Status,
@@ -127,7 +127,7 @@ pub enum Question<'a> {
     Value(u32),
     /// A best line from the position with this number.
     Line(u32),
-    /// The values of so many positions, from the one with this number on.
+    /// The values of this many positions, from the one with this number on.
     List(u32, Units),
     /// The text of the position with this number.
     Show(u32),
@@ -140,7 +140,7 @@ pub enum Question<'a> {
 pub enum ListingLine {
     /// Begins one of the table of the last commit.
     Begin,
-    /// So many of its next rows.
+    /// This many of its next rows.
     Next(Units),
     /// Ends it.
     End,

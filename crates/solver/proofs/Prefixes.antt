@@ -139,7 +139,7 @@ module _ (Stores : ℕ → Layout) where
   IsInAGrowth (in_a_command turn moment from to) = ⊥
   IsInAGrowth (by_a_fault turn shut moment from to) = ⊥
 
-  -- what is left of a table in a sitting: it is stored in so many pages, and the sitting leads to it
+  -- what is left of a table in a sitting: it is stored in this many pages, and the sitting leads to it
   record IsLeft (in_doubt : Option Command) (last : State) (pages : ℕ) (picture : Picture) (kept : Option Kept) : Type 0 where
     may : DoesInDoubt in_doubt last.kept kept
     stores : Stores pages picture kept

@@ -9,8 +9,8 @@ use Rattle.solver.specs.declared.fault.SolverFault.{SolverFault}
 use Rattle.solver.specs.declared.fault.SolverFault.TheVariants.{Disk as DiskFailed, TooSmall, OutOfMemory, Closed}
 
 module _ (Stores : ℕ → Layout) where
-  -- a growth to so many pages, whatever it answers, from the state of the solver before it to the one after it: the table is kept. A stop
-  -- between the two moments leaves it in as many pages as there were or in so many, and a stop at the second in as many as there are then.
+  -- a growth to this many pages, whatever is answered, from the state of the solver before it to the one after it: the table is kept. A stop
+  -- between the two moments leaves it in as many pages as before or in this many, and a stop at the second in as many as there are then.
   -- A closed solver stays as it is.
   pub record IsGrowth (pages : ℕ) (was is : State) : Type 0 where
     pub ahead : GrowsAhead was is
@@ -19,7 +19,7 @@ module _ (Stores : ℕ → Layout) where
     pub at : IsTrue was.disk.honest → is.closed ≡ false → LeavesNow (Stores is.capacity) is.disk is.kept
     pub shut : was.closed ≡ true → is ≡ was
 
--- why it is refused: the disk failed; so many pages are no growth; memory ran out; or the solver was closed
+-- why it is refused: the disk failed; this many pages are no growth; memory ran out; or the solver was closed
 abbrev pub GrowthCause : ℕ → State → State → SolverFault → Type 0
 GrowthCause pages old new DiskFailed = Grew old.failures new.failures
 GrowthCause pages old new TooSmall = IsNoGrowth pages old.capacity

@@ -49,7 +49,7 @@ module _ (Stores : ℕ → Layout) where
     pub fails : (disk : Disk) (before now : ℕ) (fault : SolverFault) → IsTrue disk.honest → disk.now.contents ≡ picture
         → OpenCause Stores disk before now fault → IsUnlucky before now fault
 
-  -- whenever the power stops behind these sittings, the table that reopening gives is one that they lead to from this one: with every
+  -- whenever the power stops after these sittings, the table that reopening gives is one that they lead to from this one: with every
   -- command that was answered as it was answered, and in each sitting at most one that was not; and what it says is so
   abbrev pub HeadlineFrom : Option Kept → List Sitting → Picture → Type 0
   HeadlineFrom begins sittings picture = (kept : Option Kept) × LeadTo sittings begins kept × Reopens picture kept × IsExact kept

@@ -65,12 +65,12 @@ module _ (Stores : ℕ → Layout) where
     pub is_open : last.closed ≡ false
     pub ends : Ends last sitting.in_doubt left
 
-  -- an honest disk as it is found behind a stop: nothing can be left of it that the stop could not leave
+  -- an honest disk as it is found after a stop: nothing can be left of it that the stop could not leave
   pub record IsFound (left : Shown) (disk : Disk) : Type 0 where
     pub honest : IsTrue disk.honest
     pub as_left : (picture : Picture) → MayLeave disk.now picture → MayLeave left picture
 
-  -- the sittings of a table that began as this one, and what the disk shows behind them. It was made: `create` has answered Ok, and the
+  -- the sittings of a table that began as this one, and what the disk shows after them. It was made: `create` has answered Ok, and the
   -- first sitting goes on from there. It was left: whatever stop has come, the disk holds it. Or it was found, and opened. Another sitting
   -- opens what was left; and while it is opened a stop may come, or `open` is refused
   pub data HistoryFrom : Option Kept → List Sitting → Shown → Type 0 where

@@ -29,7 +29,7 @@ pub data Command : Type 0 where
   load : (text : List ℕ) (goal : Option ℕ) → Command
   work : (units : ℕ) → Command
 
--- where no game is loaded, the game that the text reads to is now, with this goal, its positions packed by bits, and its start is known
+-- no game was loaded, and now the game that the text reads to is, with this goal, its positions packed by bits, and its start known
 -- and no more
 pub record Loads (text : List ℕ) (goal : Option ℕ) (old new : Option Kept) : Type 0 where
   pub none : old ≡ None
@@ -37,7 +37,7 @@ pub record Loads (text : List ℕ) (goal : Option ℕ) (old new : Option Kept) :
   pub reads : Reads text game
   pub is : new ≡ Some (record { text = text; packing = Bits; goal = goal; table = loaded (graph_of Bits goal game).start })
 
--- so many units were asked of the old table and these done, or the new one is finished by then; it has these counts. Nothing is said
+-- this many units were asked of the old table and these were done, fewer only if the new one is finished; these are its counts. Nothing is said
 -- of a table that is not sound
 pub record WorksOnTable (units : ℕ) (old : Option Kept) (done : ℕ) (counts : Counts) (new : Option Kept) : Type 0 where
   pub was : Kept

@@ -41,7 +41,7 @@ pub record HasValueAt (number : ℕ) (value : Value) (kept : Kept) : Type 0 wher
   pub there : IsThere number kept
   pub value_is : IsValue (view_of kept.table) number value
 
--- these are the rows from this number on, so many or up to the last
+-- these are the rows from this number on: this many, or up to the last
 pub record HasRows (from count : ℕ) (rows : List Row) (kept : Kept) : Type 0 where
   pub there : IsThere from kept
   pub rows_are : AreRows (view_of kept.table) from count rows

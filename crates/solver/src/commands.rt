@@ -78,7 +78,7 @@ impl<F: GameFile> FileSolver<F> {
         FileSolver::open_with_cache(alloc, disk, MOST_CACHED)
     }
 
-    /// The same with so many of the file's pages, 64 at most, kept in memory once they were read or written, and 0 for none: `open` keeps
+    /// The same with this many of the file's pages, 64 at most, kept in memory once they were read or written, and 0 for none: `open` keeps
     /// 64. What is answered is the same, but for the calls of the disk.
     pub fn open_with_cache(
         alloc: Global,
@@ -154,7 +154,7 @@ impl<F: GameFile> FileSolver<F> {
         Ok(())
     }
 
-    /// Does so many units of work, or fewer where the table is finished by then, and commits them at once: E9, S1,
+    /// Does this many units of work, or fewer where the table is finished by then, and commits them at once: E9, S1,
     /// then S3 to S6, E1, E7, E8. Where no unit is done nothing is committed.
     pub fn work(&mut self, units: Units) -> Result<Worked, SolverFault>
         ensures ready { IsReady self.old → IsReady self.new }

@@ -19,7 +19,7 @@ impl<F: GameFile> FileSolver<F> {
         self.file.capacity()
     }
 
-    /// Makes the file one of so many pages, by one commit that keeps the table: E9, then E6 unless that is more than there are and at most
+    /// Makes the file one of this many pages, by one commit that keeps the table: E9, then E6 unless that is more than there are and at most
     /// 1,048,576, and then E1, E8. It needs no game. The new pages are free from the commit on. After a stop or a refusal the disk may be
     /// longer than that many pages take, which is no fault.
     pub fn grow(&mut self, pages: u32) -> Result<(), SolverFault>

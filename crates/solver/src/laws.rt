@@ -89,7 +89,7 @@ pub fn finished_leaves_the_drawn()
         → (i : ℕ) (x : List ℕ) → HasNumber (view_of kept.table) i x → ((view_of kept.table).value i ≡ None) ↔ Drawn (graph_in game kept) x }
 {}
 
-/// What is answered of a position of a locally sound table is so in the game: who is said to win it does, in so many moves
+/// What is answered of a position of a locally sound table is so in the game: who is said to win it does, in this many moves
 /// and no fewer, and nobody wins what is said to be drawn.
 pub fn a_value_is_so()
     ensures { (kept : Kept) (game : Game) → IsSound (Some kept) → Reads kept.text game → (i : ℕ) (x : List ℕ) (value : Value)

@@ -43,7 +43,7 @@ impl<F: Versions> FileSolver<F> {
         }
     }
 
-    /// The next rows of a listing, so many or up to the last; none where all were given: E9 first, then E1, E8. The rows are those of the
+    /// The next rows of a listing, this many or up to the last; none where all were given: E9 first, then E1, E8. The rows are those of the
     /// table of the beginning, with the values that they had then. A refusal leaves the listing where it stood.
     pub fn list_next(
         &mut self,

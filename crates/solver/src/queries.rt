@@ -68,7 +68,7 @@ impl<F: GameFile> FileSolver<F> {
         Ok(best_line::value(&mut self.file, number)?)
     }
 
-    /// The positions from this number on with their values, so many or up to the last: E9, S1, S7.
+    /// The positions from this number on with their values, this many or up to the last: E9, S1, S7.
     pub fn list(&mut self, from: u32, count: Units) -> Result<Vec<Row>, SolverFault>
         ensures ready { IsReady self.old → IsReady self.new }
         ensures lasts { F.lasts self.old.file self.new.file }

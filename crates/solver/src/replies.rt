@@ -17,7 +17,7 @@ impl Units {
     ghost use Rattle.std.specs.Prelude.{◌≡◌, ◌≤◌, ◌<◌, ◌⊎◌, IfSome, IfNone};
     ghost use Rattle.solver.specs.Units.{units_in};
 
-    /// So many; none where that is not 1 to 256.
+    /// This many; none where that is not 1 to 256.
     pub fn new(count: u32) -> Option<Units>
         ensures some { IfSome result (λ units. units_in units ≡ count) }
         ensures none { IfNone result ((count ≡ 0) ⊎ (256 < count)) }
@@ -51,7 +51,7 @@ pub struct Worked {
 pub enum Command {
     /// Loads the game of this text with this goal, if there is one.
     Load(Vec<u8>, Option<Goal>),
-    /// Does so many units of work, or fewer where the table is finished by then.
+    /// Does this many units of work, or fewer where the table is finished by then.
     Work(Units),
 }
 
@@ -60,7 +60,7 @@ pub enum Command {
 pub enum Reply {
     /// The game is loaded.
     Loaded,
-    /// So many units are done, and the table is so far then.
+    /// This many units are done, and these are the table's counts then.
     Worked(u32, Counts),
     /// The command is refused.
     Refused(SolverFault),

@@ -10,7 +10,7 @@ use game_file::Versions;
 use std::alloc::Global;
 use table::TableFault;
 
-/// The rows of a version from this number on, so many or up to the last; none where none is left. A value is by the record and the
+/// The rows of a version from this number on, this many or up to the last; none where none is left. A value is by the record and the
 /// counts of the version. A fault is the file's or want of memory. The file stays as it was.
 pub fn version_rows<F: Versions>(
     alloc: Global,

@@ -45,7 +45,7 @@ fn run(rt: &HostRuntime) -> io::Result<()> {
     solve(rt, alloc, game, limit)
 }
 
-/// Works so many units of the game, and prints how far its table came.
+/// Works this many units of the game, and prints how far its table came.
 fn solve(rt: &HostRuntime, alloc: Global, game: Game, limit: u32) -> io::Result<()>
     requires { IsSoundGame (game_of game) }
 {
@@ -56,7 +56,7 @@ fn solve(rt: &HostRuntime, alloc: Global, game: Game, limit: u32) -> io::Result<
     }
 }
 
-/// Works so many units on a new table in memory: how many were done, and how far it is.
+/// Works this many units on a new table in memory: how many were done, and how far it is.
 fn worked<M: MoveSource>(alloc: Global, source: &M, limit: u32) -> Result<(u32, Counts), StepFault>
     requires { M.is_sound source.now }
 {

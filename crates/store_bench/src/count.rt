@@ -14,7 +14,7 @@ use tree_file::TreeFile;
 /// A table in a file.
 pub type Count<D> = TreeFile<PageStore<D>, 3>;
 
-/// So many units are worked between two commits.
+/// This many units are worked between two commits.
 const UNITS: u32 = 256;
 
 /// The bytes of a position, as many as the count of `tools/bench_scale` has.
@@ -25,7 +25,7 @@ fn position(number: u32) -> Packed {
     bytes
 }
 
-/// A new table on this disk, with the first position in it, and so many pages in memory, 64 at most.
+/// A new table on this disk, with the first position in it, and this many pages in memory, 64 at most.
 pub fn begun<F: GameFile + Drop>(alloc: Global, disk: F::Device, pages: usize) -> anyhow::Result<F>
 where
     F::Device: Drop,
@@ -60,7 +60,7 @@ pub fn work<F: GameFile>(table: &mut F, last: u32) -> anyhow::Result<u32> {
     Ok(units)
 }
 
-/// A record of this state, with so many successors, none of them processed.
+/// A record of this state, with this many successors, none of them processed.
 fn record_of(state: State, distance: Option<u32>, successors: u32) -> Record {
     Record {
         state,
@@ -102,7 +102,7 @@ fn expand<T: Table>(table: &mut T, number: u32, last: u32) -> anyhow::Result<()>
     Ok(())
 }
 
-/// Settles a position, won in so many moves.
+/// Settles a position, won in this many moves.
 fn settle<T: Table>(
     table: &mut T,
     number: u32,

@@ -33,7 +33,7 @@ fn fits_state(kept: Record) -> bool
     }
 }
 
-/// Whether each record holds what one of its state may, and exactly so many, the first ones, are expanded.
+/// Whether each record holds what one of its state may, and exactly this many, the first ones, are expanded.
 fn records_fit(records: &[Record], expanded: u32) -> bool
     ensures { (result ≡ true) ↔ RecordsFit expanded records.now }
 {
@@ -75,7 +75,7 @@ fn take(marks: &mut Vec<bool>, number: u32) -> bool
     is_new
 }
 
-/// So many marks, none of them made.
+/// This many marks, none of them made.
 fn unmarked(alloc: Global, count: usize) -> Result<Vec<bool>, AllocError>
     ensures long { IfOk result (λ marks. length marks.items ≡ count) }
     ensures none { IfOk result (λ marks. (i : ℕ) → i < length marks.items → slice_index_or marks.items i false ≡ false) }
@@ -125,7 +125,7 @@ fn all_listed(records: &[Record], marks: &[bool]) -> bool
         || is_marked(marks, number))
 }
 
-/// Whether each position has so many bytes.
+/// Whether each position has this many bytes.
 pub fn are_long(positions: &[Packed], packed: u32) -> bool
     ensures { (result ≡ true) ↔ ((i : ℕ) (x : ArrayVec ℕ) → slice_get positions.now i ≡ Some x → length x.items ≡ packed) }
 {
@@ -134,7 +134,7 @@ pub fn are_long(positions: &[Packed], packed: u32) -> bool
         .all(|position| position.len() == packed as usize)
 }
 
-/// Whether records and settled order fit together, of which so many are expanded and processed.
+/// Whether records and settled order fit together, of which this many are expanded and processed.
 pub fn parts_fit(
     alloc: Global,
     records: &[Record],

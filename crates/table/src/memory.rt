@@ -133,7 +133,7 @@ impl MemTable {
         &self.positions
     }
 
-    /// Whether its parts fit together, and each position has so many bytes.
+    /// Whether its parts fit together, and each position has this many bytes.
     pub fn fits(&self, alloc: Global, packed: u32) -> Result<bool, AllocError>
         ensures { IfOk result (λ fits. (fits ≡ true) ↔ FitsTogether packed (stored_in self.now)) }
     {

@@ -7,7 +7,7 @@ use sector_disk::{MemDisk, SectorDisk};
 use std::test::Fail;
 use test_aids::expect;
 
-/// So many scripts, of so many calls each, on a file of so many sectors at first.
+/// How many scripts there are, how many calls each has, and how many sectors the file has at first.
 const SCRIPTS: u64 = 48;
 
 const CALLS: u64 = 80;
@@ -34,7 +34,7 @@ fn deed_of(number: u64) -> Deed {
     }
 }
 
-/// A file of zeros in memory, of which the call behind so many fails, with room for two pages that wait.
+/// A file of zeros in memory, of which the call behind this many fails, with room for two pages that wait.
 fn file_of(rt: &HostRuntime, calls: u64) -> Result<BufferedFile<MemoryFile>, Fail> {
     let bytes = vec![in rt.alloc(); 0; 512 * SECTORS as usize]?;
     let mut file = MemoryFile::new(rt.alloc(), bytes);

@@ -41,7 +41,7 @@ impl<D: SectorDisk> SectorDisk for CountedDisk<D> {
     }
 }
 
-/// Marks page 1, seals the store, and reads this page so many times.
+/// Marks page 1, seals the store, and reads this page this many times.
 fn read_often<P: Pages>(pages: &mut P, times: u64) -> Result<(), PageFault> {
     pages.mark(1)?;
     pages.seal();
@@ -52,8 +52,8 @@ fn read_often<P: Pages>(pages: &mut P, times: u64) -> Result<(), PageFault> {
     Ok(())
 }
 
-/// How many reads a disk has seen as a store with a cache of so many pages was opened on it, page 1 marked and the store
-/// sealed, and this page then read so many times.
+/// How many reads a disk has seen as a store with a cache of this many pages was opened on it, page 1 marked and the store
+/// sealed, and this page then read this many times.
 fn reads_of(alloc: Global, cached: usize, times: u64) -> Result<u64, Fail> {
     let inner = table_disk(alloc, 128, &[7; 512])?;
     let disk = CountedDisk { inner, reads: 0 };

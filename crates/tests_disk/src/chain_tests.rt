@@ -14,7 +14,7 @@ const SIXTEEN: u64 = 128;
 /// Sectors of a disk of 20 pages.
 const TWENTY: u64 = 160;
 
-/// A disk of so many sectors with a table on it.
+/// A disk of this many sectors with a table on it.
 fn disk_of(alloc: Global, sectors: u64) -> Result<MemDisk, Fail> {
     table_disk(alloc, sectors, &[7; 512])
 }
@@ -53,7 +53,7 @@ fn read_back<D: SectorDisk + Drop>(
     read_chain(alloc, &mut store, first, size)
 }
 
-/// How many pages so many bytes take, and whether they are read back.
+/// How many pages this many bytes take, and whether they are read back.
 fn told_back(alloc: Global, size: usize) -> Result<(usize, bool), Fail> {
     let content = content_of(alloc, size)?;
     let (disk, first) = written(alloc, &content)?;

@@ -10,7 +10,7 @@ use std::fmt::Debug;
 use std::fs::{File, OpenOptions};
 use std::test::Fail;
 
-/// A disk of so many sectors with a table on it that has this root.
+/// A disk of this many sectors with a table on it that has this root.
 pub fn table_disk(alloc: Global, sectors: u64, root: &[u8; 512]) -> Result<MemDisk, Fail> {
     let mut disk = MemDisk::new(alloc, sectors)?;
     create(&mut disk, root)?;

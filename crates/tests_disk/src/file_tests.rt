@@ -14,7 +14,7 @@ use test_aids::expect;
 /// A file that is used as a disk.
 #[derive(Clone, Copy, Drop)]
 struct FileRow {
-    /// It is made of so many of this byte.
+    /// It is made of this many of this byte.
     length: usize,
     byte: u8,
     read_only: bool,

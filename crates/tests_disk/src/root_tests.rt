@@ -91,7 +91,7 @@ fn run<D: SectorDisk>(disk: &mut D, script: &[(Deed, Answer)]) -> Result<(), Fai
 /// A table in whose first slot a root of sevens was put, and then one of eights in the other slot.
 const A_TABLE_OF_TWO: Script = &[(Create(7), Ok(Some(7))), (Publish(8), Ok(Some(8)))];
 
-/// Disks of so many sectors of zeros, and what is done to each.
+/// Disks of this many sectors of zeros, and what is done to each.
 const SCRIPTS: [(u64, Script); 7] = [
     (127, &[(Create(7), TOO_SMALL)]),
     (
@@ -184,7 +184,7 @@ fn found_after(deed: Deed, failing: u64, done: bool) -> Answer {
     }
 }
 
-/// What is found after a stop behind so many of its disk calls. Behind seven of `create` the header alone is not synced, and
+/// What is found after a stop behind this many of its disk calls. Behind seven of `create` the header alone is not synced, and
 /// begins as a table's where the digit is 1 or 2. Behind four of `publish` the gate alone is not synced. It was 1 and gets
 /// 0, and digit 3 fills it with the byte 1 + pick / 4.
 fn left_by_stop(deed: Deed, passed: u64, pick: u64) -> Answer {
@@ -218,7 +218,7 @@ fn a_deed_that_failed_left_what_was_there_or_what_it_put(rt: HostRuntime) -> Res
     Ok(())
 }
 
-/// Does a deed of which so many disk calls pass, and all others fail.
+/// Does a deed of which this many disk calls pass, and all others fail.
 fn stop_at(alloc: Global, deed: Deed, passed: u64) -> Result<MemDisk, Fail> {
     let mut fuse = FuseDisk::new(disk_for(alloc, deed)?, passed);
     run(&mut fuse, &[(deed, failing_answer(deed, passed))])?;
@@ -248,7 +248,7 @@ fn a_stop_at_each_disk_call_leaves_the_old_root_or_the_new(rt: HostRuntime) -> R
 /// A file on which there may be a table.
 #[derive(Clone, Copy, Drop)]
 struct FileRow {
-    /// It is made of so many of this byte.
+    /// It is made of this many of this byte.
     length: usize,
     byte: u8,
     /// What is done where it may only be read, then where it may be written, and then to the first disk again.
@@ -316,7 +316,7 @@ const FILES: [FileRow; 4] = [
 /// The file that these tests use.
 const PATH: &str = "roots.table";
 
-/// A new file of so many of a byte, as a disk that may only be read.
+/// A new file of this many of a byte, as a disk that may only be read.
 fn made(rt: &HostRuntime, length: usize, byte: u8) -> Result<FileDisk, Fail> {
     let bytes = vec![in rt.alloc(); byte; length]?;
     fs::write(rt, PATH, bytes.as_slice())?;

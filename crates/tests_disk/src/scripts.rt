@@ -26,7 +26,7 @@ pub enum Answer {
     Mixed,
     /// Written, synced or made longer.
     Done,
-    /// So many sectors.
+    /// This many sectors.
     Count(u64),
     /// The device failed.
     Fault,

@@ -55,7 +55,7 @@ fn a_stop_leaves_what_the_digits_pick(rt: HostRuntime) -> Result<(), Fail> {
     Ok(())
 }
 
-/// Writes threes all over so many sectors.
+/// Writes threes all over this many sectors.
 fn fill<D: SectorDisk>(disk: &mut D, sectors: u64) -> Result<(), Fail> {
     for at in 0..sectors {
         run(disk, &[(Write(at, 3), Done)])?;

@@ -22,7 +22,7 @@ enum Deed {
     IsItFresh,
     /// Takes a page, and tells whether it is that one.
     TakeIt,
-    /// Takes so many, and tells whether all are others.
+    /// Takes this many, and tells whether all are others.
     TakeOthers(u32),
     /// Takes as many as these are, and tells whether they are these in any order.
     Take(&'static [u32]),
@@ -79,7 +79,7 @@ fn take<P: Pages>(pages: &mut P, wanted: &[u32]) -> Result<Answer, PageFault> {
     ))
 }
 
-/// Takes so many pages, and tells whether none is this one.
+/// Takes this many pages, and tells whether none is this one.
 fn take_others<P: Pages>(pages: &mut P, it: u32, calls: u32) -> Result<Answer, PageFault> {
     let mut others = true;
     for _ in 0..calls {
@@ -215,7 +215,7 @@ const SCRIPTS: [&[(Deed, Answer)]; 6] = [
     ],
 ];
 
-/// Does each deed of a script on a store that was just opened, on a disk of so many sectors.
+/// Does each deed of a script on a store that was just opened, on a disk of this many sectors.
 fn run_on(alloc: Global, sectors: u64, script: &[(Deed, Answer)]) -> Result<(), Fail> {
     let mut pages = opened(alloc, table_disk(alloc, sectors, &[7; 512])?)?;
     run(&mut pages, script)
@@ -252,7 +252,7 @@ fn grow<P: Pages>(pages: &mut P, alloc: Global, count: u32, byte: u8) -> Result<
     pages.grow(alloc, count, &[byte; 512])
 }
 
-/// How many pages are free in a store on this disk that has so many.
+/// How many pages are free in a store on this disk that has this many.
 fn free_in(alloc: Global, disk: MemDisk, count: u32) -> Result<u32, Fail> {
     match PageStore::open(alloc, disk) {
         Ok(pages) => {

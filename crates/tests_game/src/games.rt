@@ -42,7 +42,7 @@ pub fn begun_by(alloc: Global, text: &str, kind: PackingKind) -> Result<Solving,
     Ok(Solving { source, table })
 }
 
-/// How many units of so many were done.
+/// How many units of this many were done.
 pub fn works<M: MoveSource, T: Table>(
     alloc: Global,
     source: &M,

@@ -1,4 +1,4 @@
-//! Who wins within so many moves, by the definition's recursion alone: plain, slow, and made of none of
+//! Who wins within this many moves, by the definition's recursion alone: plain, slow, and made of none of
 //! what it is to be compared with but the moves.
 ghost use Rattle.legal_moves.specs.Compiled.{IsSoundCompiled};
 

@@ -39,7 +39,7 @@ fn failing(alloc: Global, call: u64) -> Result<FlakyDisk<MemDisk>, Fail> {
     Ok(FlakyDisk::new(take_table(alloc)?, call, false))
 }
 
-/// The table of this disk with so many pages in memory, at most 64.
+/// The table of this disk with this many pages in memory, at most 64.
 fn opened_with<F: GameFile>(
     alloc: Global,
     disk: F::Device,
@@ -117,7 +117,7 @@ fn works_at_the_second_try<F: GameFile>(solver: &mut FileSolver<F>, call: u64) -
     expect(worked(solver), Ok(first), call)
 }
 
-/// The same over this disk with so many pages in memory; it gives the disk back.
+/// The same over this disk with this many pages in memory; it gives the disk back.
 fn worked_at_the_second_try_on<F: GameFile>(
     alloc: Global,
     disk: F::Device,

@@ -44,7 +44,7 @@ pub fn unfailing(disk: MemDisk) -> Disk {
     FlakyDisk::new(disk, u64::MAX, false)
 }
 
-/// A table in a file of this layout, on a new disk, with the game of this text where there is one, and so many units worked.
+/// A table in a file of this layout, on a new disk, with the game of this text where there is one, and this many units worked.
 fn made<F: GameFile + Drop>(
     alloc: Global,
     disk: F::Device,
@@ -120,7 +120,7 @@ pub fn counts_before(
     Ok(counts)
 }
 
-/// What the audit says of the table on this disk, once so many units more are worked.
+/// What the audit says of the table on this disk, once this many units more are worked.
 fn verdict_in<F: GameFile + Drop>(
     alloc: Global,
     disk: F::Device,

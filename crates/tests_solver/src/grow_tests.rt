@@ -30,7 +30,7 @@ const PICKS: [u64; 4] = [
     0x55_5555_5555,
 ];
 
-/// What a growth of the table on this disk to so many pages is answered; it gives the disk back.
+/// What a growth of the table on this disk to this many pages is answered; it gives the disk back.
 fn grown_on<F: GameFile>(
     alloc: Global,
     disk: F::Device,
@@ -56,7 +56,7 @@ where
     Ok((counts, said == Err(SolverFault::TooSmall)))
 }
 
-/// What a growth to so many pages is answered on this disk, no call of which fails.
+/// What a growth to this many pages is answered on this disk, no call of which fails.
 fn grown(
     alloc: Global,
     disk: MemDisk,

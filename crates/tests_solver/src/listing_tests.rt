@@ -27,7 +27,7 @@ fn half_worked(alloc: Global) -> Result<MemDisk, Fail> {
     Ok(disk)
 }
 
-/// So many units, or rows.
+/// This many units, or rows.
 fn units(count: u32) -> Result<Units, Fail> {
     match Units::new(count) {
         Some(units) => Ok(units),
@@ -35,7 +35,7 @@ fn units(count: u32) -> Result<Units, Fail> {
     }
 }
 
-/// Writes the lines of the next rows of a listing, so many or up to the last.
+/// Writes the lines of the next rows of a listing, this many or up to the last.
 fn put_next<F: Versions>(
     alloc: Global,
     solver: &mut FileSolver<F>,

@@ -8,7 +8,7 @@ use std::alloc::Global;
 use std::test::Fail;
 use test_aids::{TAKE, expect};
 
-/// To load the game of takes, or to work so many units.
+/// To load the game of takes, or to work this many units.
 #[derive(Clone, Copy)]
 enum Step {
     Load,
@@ -46,7 +46,7 @@ where
     Ok(disk)
 }
 
-/// The reply to so many units, after which seven positions are known and expanded.
+/// The reply to this many units, after which seven positions are known and expanded.
 fn worked(units: u32, settled: u32, processed: u32) -> Reply {
     let counts = Counts {
         known: 7,

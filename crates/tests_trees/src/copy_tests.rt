@@ -12,7 +12,7 @@ use table::{MemTable, Table, TableFault};
 use test_aids::{TAKE, expect};
 use tree_table::{FIRST_WITH_GOALS, TreeTable, empty_slot};
 
-/// A store of 64 pages, of which so many are free, on a disk with an empty table.
+/// A store of 64 pages, of which this many are free, on a disk with an empty table.
 fn store_of(alloc: Global, free: u32) -> Result<PageStore<MemDisk>, Fail> {
     let mut disk = MemDisk::new(alloc, 512)?;
     create(&mut disk, &empty_slot(FIRST_WITH_GOALS, 64))?;
@@ -36,7 +36,7 @@ fn loaded(alloc: Global) -> Result<(Source, MemTable), Fail> {
     Ok((source, memory))
 }
 
-/// Copies a table onto trees in a store with so many free pages.
+/// Copies a table onto trees in a store with this many free pages.
 fn copy_onto(
     alloc: Global,
     source: &Source,

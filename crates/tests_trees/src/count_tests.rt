@@ -9,10 +9,10 @@ use std::test::Fail;
 /// How many pages the disks have: enough for the greatest inner page and its children.
 const PAGES: u32 = 700;
 
-/// So many entries fill a leaf: each takes 3 bytes of 4,092.
+/// This many entries fill a leaf: each takes 3 bytes of 4,092.
 const FULL_LEAF: u16 = 1_364;
 
-/// So many children fill an inner page: each takes 6 bytes of 4,092.
+/// This many children fill an inner page: each takes 6 bytes of 4,092.
 const FULL_INNER: u16 = 682;
 
 /// The entry with this number.
@@ -29,7 +29,7 @@ fn pairs_upto(alloc: Global, count: u16) -> Result<Vec<Pair>, AllocError> {
     Ok(pairs)
 }
 
-/// The first bytes of a page of this kind that says that it has so many items.
+/// The first bytes of a page of this kind that says that it has this many items.
 fn head(alloc: Global, kind: u8, count: u16) -> Result<Vec<u8>, AllocError> {
     let mut bytes = Vec::new(alloc);
     let [high, low] = count.to_be_bytes();
@@ -37,7 +37,7 @@ fn head(alloc: Global, kind: u8, count: u16) -> Result<Vec<u8>, AllocError> {
     Ok(bytes)
 }
 
-/// A leaf that says that it has so many entries, and has the first ones.
+/// A leaf that says that it has this many entries, and has the first ones.
 fn leaf(alloc: Global, count: u16) -> Result<Vec<u8>, AllocError> {
     let mut bytes = head(alloc, 1, count)?;
     for number in 0..count {
@@ -49,7 +49,7 @@ fn leaf(alloc: Global, count: u16) -> Result<Vec<u8>, AllocError> {
     Ok(bytes)
 }
 
-/// A root that says that it has so many children: the pages from 2 on.
+/// A root that says that it has this many children: the pages from 2 on.
 fn root(alloc: Global, count: u16) -> Result<Vec<u8>, AllocError> {
     let mut bytes = head(alloc, 2, count)?;
     for number in 0..count {
@@ -61,7 +61,7 @@ fn root(alloc: Global, count: u16) -> Result<Vec<u8>, AllocError> {
     Ok(bytes)
 }
 
-/// A disk with a root of so many children, each a leaf of one entry.
+/// A disk with a root of this many children, each a leaf of one entry.
 fn disk_of_children(alloc: Global, count: u16) -> Result<MemDisk, Fail> {
     let mut disk = disk_with(alloc, PAGES, &[(1, &root(alloc, count)?)])?;
     for number in 0..count {

@@ -47,7 +47,7 @@ type Told = (
     Result<Option<u8>, PageFault>,
 );
 
-/// What is told of a tree of so many levels.
+/// What is told of a tree of this many levels.
 fn told(alloc: Global, levels: u32) -> Result<Told, Fail> {
     let mut store = deep_store(alloc, levels)?;
     let value = value_at(&mut store, 1, 0);

@@ -20,7 +20,7 @@ const LONG: Widths = Widths { key: 8, value: 4 };
 /// How many keys there are.
 const KEYS: u64 = 20_000;
 
-/// So many are put between two commits.
+/// This many are put between two commits.
 const BATCH: u64 = 256;
 
 /// How far a key is from the next: all eight bytes of keys differ.

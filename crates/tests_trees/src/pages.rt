@@ -9,14 +9,14 @@ use std::test::Fail;
 /// A page with its number: its first bytes, with zeros behind them.
 pub type Laid<'a> = (u32, &'a [u8]);
 
-/// A disk of so many pages of zeros with a root, all of it synced.
+/// A disk of this many pages of zeros with a root, all of it synced.
 pub fn empty_disk(alloc: Global, pages: u32) -> Result<MemDisk, Fail> {
     let mut disk = MemDisk::new(alloc, 8 * u64::from(pages))?;
     create(&mut disk, &[0; 512])?;
     Ok(disk)
 }
 
-/// A disk of so many pages, with these pages on it.
+/// A disk of this many pages, with these pages on it.
 pub fn disk_with(alloc: Global, size: u32, pages: &[Laid<'_>]) -> Result<MemDisk, Fail> {
     let mut disk = empty_disk(alloc, size)?;
     for (page, bytes) in pages {

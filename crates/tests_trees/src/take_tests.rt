@@ -40,7 +40,7 @@ fn on_trees(alloc: Global, source: &Source) -> Result<TreeTable<PageStore<MemDis
     Ok(table)
 }
 
-/// Does so many units of work, or fewer where the table is finished.
+/// Does this many units of work, or fewer where the table is finished.
 pub fn worked<T: Table>(
     alloc: Global,
     source: &Source,

@@ -16,7 +16,7 @@ use sector_disk::SectorDisk;
 use std::fs::OpenOptions;
 use std::process::ExitCode;
 
-/// The most keys: so many pages as they take are there to be had.
+/// The most keys: this many pages as they take are there to be had.
 const MOST_KEYS: u64 = 10_000_000;
 
 fn main(rt: HostRuntime) -> ExitCode {
@@ -51,7 +51,7 @@ fn run(rt: &HostRuntime) -> anyhow::Result<bool> {
     }
 }
 
-/// As many sectors as so many keys need at least.
+/// As many sectors as this many keys need at least.
 fn sectors_for(keys: u64) -> u64 {
     8 * (keys.min(MOST_KEYS) / 100 + 2_000)
 }

@@ -12,7 +12,7 @@ use std::time::Instant;
 /// How long keys and values are.
 const WIDTHS: Widths = Widths { key: 8, value: 4 };
 
-/// So many puts are between two commits.
+/// This many puts are between two commits.
 const BATCH: u64 = 256;
 
 /// How many levels a tree has at most.
@@ -63,7 +63,7 @@ pub struct Measured {
     pub counts: Counts,
 }
 
-/// Puts so many keys, reads each, and goes through all.
+/// Puts this many keys, reads each, and goes through all.
 pub fn measure<P: Pages>(rt: &HostRuntime, store: &mut P, keys: u64) -> anyhow::Result<Measured> {
     let start = Instant::now(rt)?;
     let root = put_all(store, keys)?;
@@ -96,7 +96,7 @@ fn slot_of(root: u32) -> [u8; 512] {
     slot
 }
 
-/// Puts so many keys, with a commit after each 256, and answers the root.
+/// Puts this many keys, with a commit after each 256, and answers the root.
 fn put_all<P: Pages>(store: &mut P, keys: u64) -> Result<u32, PageFault> {
     let mut root = 0;
     for number in 0..keys {

@@ -15,7 +15,7 @@ pub struct PlainDisk {
 }
 
 impl PlainDisk {
-    /// A disk of so many sectors of zeros.
+    /// A disk of this many sectors of zeros.
     pub fn new(alloc: Global, sectors: u64) -> Result<Self, AllocError> {
         let mut contents = Vec::new(alloc);
         for _ in 0..sectors {
@@ -28,7 +28,7 @@ impl PlainDisk {
     }
 }
 
-/// Puts sectors of zeros behind those that are there, up to so many, or as many as there is memory for.
+/// Puts sectors of zeros behind those that are there, up to this many, or as many as there is memory for.
 fn add_zeros(contents: &mut Vec<[u8; 512]>, sectors: u64) -> Result<(), AllocError>
     requires { length contents.old.items ≤ sectors }
     ensures longer { OnOk result (length contents.new.items ≡ sectors) }

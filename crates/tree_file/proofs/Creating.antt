@@ -43,13 +43,13 @@ pub grew_from : {before mid now : ℕ} → before ≤ mid → Grew mid now → G
 grew_from le (inl less) = inl (omega (arith, le, less))
 grew_from le (inr most) = inr most
 
--- a slot of this layout and so many pages, in which no game is loaded
+-- a slot of this layout and this many pages, in which no game is loaded
 pub record IsEmptyRoot (layout pages : ℕ) (root : List ℕ) : Type 0 where
   pub of_layout : layout_in root ≡ layout
   pub says : SaysPages root pages
   pub empty : IsEmptyTreeSlot root
 
--- a table with it, on a disk that has so many sectors, stores the empty table in as many pages as they have room for
+-- a table with it, on a disk that has this many sectors, stores the empty table in as many pages as they have room for
 pub made_stores : (layout sectors : ℕ) {root : List ℕ} → IsEmptyRoot layout (min (sectors / 8) 1048576) root → (picture : Picture)
     → IsMade root sectors picture → StoresTrees layout (min (sectors / 8) 1048576) picture None
 made_stores layout sectors {root} slot picture made =

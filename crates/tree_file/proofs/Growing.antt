@@ -35,7 +35,7 @@ use Rattle.tree_file.specs.aid.Whole.{again_goal, again_kept, again_packing, aga
 use Rattle.tree_file.proofs.Renewing.{keeps_under}
 use Rattle.tree_file.proofs.Saving.{calm_sealed}
 
--- a root of this layout that says so many pages, and names the game of this slot, or none
+-- a root of this layout that says this many pages, and names the game of this slot, or none
 pub record IsNamedIn (layout pages : ℕ) (game : Option TreeSlot) (root : List ℕ) : Type 0 where
   pub of_layout : layout_in root ≡ layout
   pub says : SaysPages root pages
@@ -71,11 +71,11 @@ spelled_same (Some slot) text old new calm names it =
     let table : table_in slot (reads new) ≡ table_in slot (reads old) = ap (λ (s : TreeSlot). table_in s (reads new)) names ∙ kept_spells new kept calm it in
     λ i. Some (kept_as text slot.packing (goal_numbered slot.goal) (table i))
 
--- a whole file whose store gets so many pages by a root that names the same
+-- a whole file whose store gets this many pages by a root that names the same
 module _ {layout : ℕ} (was new : File) (whole : IsWholeFile layout was) (root : List ℕ) (pages : ℕ) (named : IsNamedIn layout pages was.game root)
     (more : length was.work.store.marks < pages) (few : pages ≤ 1048576) (grows : StoreGrows root pages was.work.store new.work.store)
     (game : new.game ≡ was.game) (text : new.work.text ≡ was.work.text) where
-  -- a stop meanwhile leaves what was kept, in as many pages as there were or in so many
+  -- a stop meanwhile leaves what was kept, in as many pages as there were or in this many
   either_size : IsTrue was.work.store.disk.honest → was.work.store.closed ≡ false
       → LeavesEitherSize (StoresTrees layout) pages (state_of was) (state_of new)
   either_size honest is_open =

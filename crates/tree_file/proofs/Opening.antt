@@ -43,7 +43,7 @@ pub record IsReadOn (found now : Store) : Type 0 where
   pub leaves : IsTrue found.disk.honest → LeavesOnly found.disk now.disk (MayLeave found.disk.now)
   pub closed : now.closed ≡ found.closed
 
--- so many pages are within what a disk of so many sectors has room for
+-- this many pages are within what a disk of this many sectors has room for
 within_room : (pages sectors : ℕ) → 8 * pages ≤ sectors → pages ≤ 1048576 → pages ≤ min (sectors / 8) 1048576
 within_room pages sectors room few = le-min ((le-div_iff_mul-le (omega arith)).1 (omega (arith, room))) few
 

@@ -59,11 +59,11 @@ too_high count above wanted known small high es told such = omega (arith, high, 
 pub other_many : (count above wanted known : ℕ) → count ≢ wanted → (es : List Item) → AreTallied count above es → EdgesAre wanted known es → ⊥
 other_many count above wanted known other es told such = other (sym told.many ∙ such.0)
 
--- so many entries are not past counting
+-- this many entries are not past counting
 pub not_past : (front back : List Item) (entry : Item) (wanted : ℕ) → wanted < 2 ^ 64 → IsPastCount front entry → CountIs wanted (front ++ entry ∷ back) → ⊥
 not_past front back entry wanted small past such = omega (arith, small, past, such, length-append front (entry ∷ back))
 
--- and each of so many edges is one
+-- and each of this many edges is one
 pub not_refused : (front back : List Item) (entry : Item) (wanted known : ℕ) → wanted < 2 ^ 64 → IsNoEdge front entry
     → EdgesAre wanted known (front ++ entry ∷ back) → ⊥
 not_refused front back entry wanted known small (inl past) such = not_past front back entry wanted small past such.0

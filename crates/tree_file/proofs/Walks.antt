@@ -74,7 +74,7 @@ pub as_tree : (slot : TreeSlot) (t u : Tree) (old new : StoreStated) (r : Result
     → IfErr r (TreeCause slot u (IsAsMany slot.sizes u) old new) → IfErr r (TreeCause slot t (IsAsMany slot.sizes t) old new)
 as_tree slot t u old new r is cause = subst (λ (v : Tree). IfErr r (TreeCause slot v (IsAsMany slot.sizes v) old new)) (sym is) cause
 
--- and what is said of so many entries of as many
+-- and what is said of this many entries of as many
 pub as_count : (slot : TreeSlot) (t : Tree) (old new : StoreStated) (r : Result (Unit {0}) PageFault) (m n : ℕ) → m ≡ n
     → IfErr r (TreeCause slot t (CountIs m) old new) → IfErr r (TreeCause slot t (CountIs n) old new)
 as_count slot t old new r m n is cause = subst (λ (k : ℕ). IfErr r (TreeCause slot t (CountIs k) old new)) is cause

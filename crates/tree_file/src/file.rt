@@ -33,7 +33,7 @@ use sector_disk::SectorDisk;
 use std::alloc::Global;
 use tree_table::{FIRST_WITH_GOALS, TreeSlot, TreeTable, empty_slot};
 
-/// As many pages as so many sectors have room for, 1,048,576 at most.
+/// As many pages as this many sectors have room for, 1,048,576 at most.
 fn room_for(sectors: u64) -> u32
     ensures { result ≡ min (sectors / 8) MAX_PAGES }
 {
@@ -78,7 +78,7 @@ pub struct TreeFile<P: PagesOnDisk, const LAYOUT: u32> {
 impl<P: PagesOnDisk, const LAYOUT: u32> TreeFile<P, LAYOUT> {
     ghost use Rattle.tree_file.specs.InFile.{file_in};
 
-    /// The file, if it has so many pages, as it was made: a disk that gives another count than was written is damaged.
+    /// The file, if it has this many pages, as it was made: a disk that gives another count than was written is damaged.
     fn with_pages(self, pages: u32) -> Result<Self, Refused<P::Device>>
         ensures file { IfOk result (λ t. file_in t ≡ file_in self) }
         ensures pages { IfOk result (λ t. (state_of (file_in t)).capacity ≡ pages) }
@@ -96,7 +96,7 @@ impl<P: PagesOnDisk, const LAYOUT: u32> TreeFile<P, LAYOUT> {
         })
     }
 
-    /// Opens the table that this disk stores, after a sync, with so many pages in memory: E1, E2, E4, E5, E8.
+    /// Opens the table that this disk stores, after a sync, with this many pages in memory: E1, E2, E4, E5, E8.
     fn read(alloc: Global, disk: P::Device, pages: usize) -> Result<Self, Refused<P::Device>>
         requires { pages ≤ 64 }
         ensures whole { IfOk result (λ t. IsWholeFile LAYOUT (file_in t)) }

@@ -12,7 +12,7 @@ pub trait PagesOnDisk: Pages {
     /// The disk that it is on.
     type Device: SectorDisk;
 
-    /// Finds the root on the disk, which it syncs first. No page is marked; so many of them, 64 at most, are kept in memory once they
+    /// Finds the root on the disk, which it syncs first. No page is marked; this many of them, 64 at most, are kept in memory once they
     /// were read or written. `Disk`, `NotATable`, or `OutOfMemory`, with the disk.
     fn find(alloc: Global, disk: Self::Device, pages: usize) -> Result<Self, Refused<Self::Device>>
         requires { pages ≤ 64 }

@@ -22,7 +22,7 @@ fn page_fault(fault: WalkFault) -> PageFault
     }
 }
 
-/// Walks this tree, and looks that it has so many entries.
+/// Walks this tree, and looks that it has this many entries.
 fn walk_counted<P: Pages>(
     store: &mut P,
     slot: &TreeSlot,
@@ -48,7 +48,7 @@ fn walk_counted<P: Pages>(
     }
 }
 
-/// Walks the tree of the edges, and looks that there are so many, each between numbers below this one.
+/// Walks the tree of the edges, and looks that there are this many, each between numbers below this one.
 fn walk_edges<P: Pages>(
     store: &mut P,
     slot: &TreeSlot,

@@ -17,7 +17,7 @@ use page_store::{MIN_PAGES, Pages};
 use std::alloc::Global;
 use tree_table::{FIRST_WITH_GOALS, Slot, TreeSlot, read_slot};
 
-/// How many pages a store has: so many as the slot says, or as there is room for where its layout does not say so.
+/// How many pages a store has: as many as the slot says, or, where its layout does not say, as there is room for.
 fn pages_said(layout: u32, said: u32, room: u32) -> u32
     ensures said { 3 ≤ layout → result ≡ said }
     ensures unsaid { layout < 3 → result ≡ room }

@@ -24,7 +24,7 @@ pub enum Placed {
     Processed,
 }
 
-/// Nothing is said yet of so many numbers.
+/// Nothing is said yet of this many numbers.
 fn unplaced(alloc: Global, count: usize) -> Result<Vec<Placed>, AllocError>
     ensures long { IfOk result (λ placed. length placed.items ≡ count) }
     ensures none { IfOk result (λ placed. (i : ℕ) → slice_index_or placed.items i Nowhere ≡ Nowhere) }

@@ -29,11 +29,11 @@ use Rattle.tree_table.proofs.Puts.{one_more}
 abbrev pub slot_of : PackingKind → ℕ → ℕ → Sizes → Roots → TreeSlot
 slot_of p g f s r = record { packing = p; goal = g; first = f; sizes = s; roots = r }
 
--- so many positions are known
+-- this many positions are known
 abbrev pub known_as : Sizes → ℕ → Sizes
 known_as sizes n = record sizes { counts = record sizes.counts { known = n } }
 
--- so many positions are settled
+-- this many positions are settled
 abbrev pub settled_as : Sizes → ℕ → Sizes
 settled_as sizes n = record sizes { counts = record sizes.counts { settled = n } }
 
@@ -41,7 +41,7 @@ settled_as sizes n = record sizes { counts = record sizes.counts { settled = n }
 abbrev pub counted_as : Sizes → Counts → Sizes
 counted_as sizes c = record sizes { counts = c }
 
--- so many edges
+-- this many edges
 abbrev pub edges_as : Sizes → ℕ → Sizes
 edges_as sizes n = record sizes { edges = n }
 

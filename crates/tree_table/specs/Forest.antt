@@ -8,14 +8,14 @@ use Rattle.tree_table.specs.declared.tree.Tree.{Tree}
 use Rattle.tree_table.specs.declared.tree.Roots.{Roots}
 use Rattle.tree_table.specs.Trees.{key_width, value_width, root_of}
 
--- below this root, on these pages, is this tree of a table whose positions have so many bytes, with these entries
+-- below this root, on these pages, is this tree of a table whose positions have this many bytes, with these entries
 pub record IsTreeOf (packed : ℕ) (tree : Tree) (capacity root : ℕ) (pages : List ℕ) (es : List Item) (bytes : ℕ → List ℕ) : Type 0 where
   pub widths : Widths
   pub keys : widths.key ≡ key_width packed tree
   pub values : widths.value ≡ value_width packed tree
   pub map : IsMap widths capacity root pages es bytes
 
--- no page is among both
+-- no page is in both lists
 abbrev pub AreApart : List ℕ → List ℕ → Type 0
 AreApart pages others = (p : ℕ) → Contains pages p → Contains others p → ⊥
 

@@ -38,8 +38,8 @@ abbrev pub KeepsTrees : List ℕ → ℕ → Option Kept → (ℕ → List ℕ) 
 KeepsTrees root capacity None bytes = IsEmptyTreeSlot root
 KeepsTrees root capacity (Some kept) bytes = KeepsGameTrees root capacity kept bytes
 
--- the picture is a table of this layout in so many pages, which are 16 to 1,048,576: it begins as each does and has room for them, its gate
--- picks a slot of this layout, which says that there are so many if the layout says so at all, and what that slot and the pages named from
+-- the picture is a table of this layout in this many pages, 16 to 1,048,576: it begins as each table does and has room for them; its gate
+-- picks a slot of this layout, which says the same number if the layout says it at all; and what that slot and the pages named from
 -- it spell is this
 pub record StoresTrees (layout pages : ℕ) (picture : Picture) (kept : Option Kept) : Type 0 where
   pub root : List ℕ

@@ -15,7 +15,7 @@ use Rattle.tree_table.specs.declared.tree.Tree.TheVariants.{Records, Edges, Orde
 use Rattle.tree_table.specs.Trees.{key_width, value_width, root_of}
 use Rattle.tree_table.specs.Entries.{number_key, edge_key}
 
--- the entries below this page as its first byte tells its kind, so many levels down at most
+-- the entries below this page as its first byte tells its kind, this many levels down at most
 unfoldable pub entries_down : ℕ → ℕ → (ℕ → List ℕ) → ℕ → ℕ → List Item
 entries_down key value bytes zero page = []
 entries_down key value bytes (suc levels) page =

@@ -4,7 +4,7 @@ use Rattle.tree_table.specs.declared.tree.Tree.{Tree}
 use Rattle.tree_table.specs.declared.tree.Tree.TheVariants.{Positions, Records, Edges, Order}
 use Rattle.tree_table.specs.declared.tree.Roots.{Roots}
 
--- how many bytes a key has, where a position has so many: a position, a number, an edge, a place
+-- how many bytes a key of each tree has, given those of a position: a position, a number, an edge, a place
 abbrev pub key_width : ℕ → Tree → ℕ
 key_width packed Positions = packed
 key_width packed Records = 4

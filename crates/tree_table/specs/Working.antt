@@ -125,7 +125,7 @@ pub record WorkFails (old new : Work) (fault : TableFault) : Type 0 where
   pub text : new.text ≡ old.text
   pub cause : NoAnswerCause old new fault
 
--- the slot of a text of so many bytes, from this page on, and of no position; positions have this packing and so many bytes, and the goal
+-- the slot of a text of this many bytes, from this page on, and of no position; positions have this packing and this many bytes, and the goal
 -- this number
 abbrev pub text_slot : PackingKind → ℕ → ℕ → ℕ → ℕ → TreeSlot
 text_slot kind goal first text n = record {
@@ -136,6 +136,6 @@ text_slot kind goal first text n = record {
   roots = record { positions = 0; records = 0; edges = 0; order = 0 };
 }
 
--- the slot that names no page, for positions of so many bytes
+-- the slot that names no page, for positions of this many bytes
 abbrev pub bare_slot : ℕ → TreeSlot
 bare_slot n = text_slot Bytes 0 0 0 n

@@ -33,7 +33,7 @@ use rbg_game::goal::Goal;
 use std::alloc::Global;
 use table::TableFault;
 
-/// The slot of a text of so many bytes, from this page on, and of no position.
+/// The slot of a text of this many bytes, from this page on, and of no position.
 fn text_slot(packing: PackingKind, goal: u32, first: u32, text: u32, packed: u32) -> TreeSlot
     ensures { result ≡ text_slot packing goal first text packed }
 {

@@ -78,7 +78,7 @@ pub fn position_of(bytes: &[u8]) -> Packed
     position
 }
 
-/// The position of so many bytes and the record that these bytes are, where they are that.
+/// The position of this many bytes and the record that these bytes are, where they are that.
 pub fn cell_in(bytes: &[u8], packed: u32) -> Option<Cell>
     requires { packed ≤ MAX_PACKED }
     ensures some { IfSome result (λ cell. IsCell packed bytes.now (cell.position.items, cell.kept)) }

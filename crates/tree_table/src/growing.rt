@@ -13,7 +13,7 @@ use std::alloc::Global;
 impl<P: Pages> TreeTable<P> {
     ghost use Rattle.tree_table.specs.InTrees.{work_in};
 
-    /// Makes room for so many pages, more than there are, by one commit of this root, between commands: the table stays as it is.
+    /// Makes room for this many pages, more than there are, by one commit of this root, between commands: the table stays as it is.
     pub fn grow(&mut self, alloc: Global, pages: u32, root: &[u8; 512]) -> Result<(), PageFault>
         requires calm { IsCalm (work_in self.old).store }
         requires some { 1 ≤ length (work_in self.old).store.marks }

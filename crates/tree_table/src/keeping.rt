@@ -34,7 +34,7 @@ use retrograde::Counts;
 use std::alloc::Global;
 use table::TableFault;
 
-/// The slot that names no page, for positions of so many bytes.
+/// The slot that names no page, for positions of this many bytes.
 pub fn bare_slot(packed: u32) -> TreeSlot
     ensures { result ≡ bare packed }
 {

@@ -112,7 +112,7 @@ pub fn read_slot(root: &[u8; 512]) -> Option<Slot>
     })
 }
 
-/// What a slot of this layout has for so many pages: 0 where the layout does not say how many there are.
+/// What a slot of this layout has for this many pages: 0 where the layout does not say how many there are.
 fn number_of_pages(layout: u32, pages: u32) -> u32
     ensures said { 3 ≤ layout → result ≡ pages }
     ensures unsaid { layout < 3 → result ≡ 0 }
@@ -120,7 +120,7 @@ fn number_of_pages(layout: u32, pages: u32) -> u32
     if layout < FIRST_WITH_GOALS { 0 } else { pages }
 }
 
-/// The slot of a table of this layout and so many pages in which no game is loaded, after no commit.
+/// The slot of a table of this layout and this many pages in which no game is loaded, after no commit.
 pub fn empty_slot(layout: u32, pages: u32) -> [u8; 512]
     ensures layout { layout_in result ≡ layout }
     ensures pages { SaysPages result pages }
@@ -149,7 +149,7 @@ fn put_roots(root: &mut [u8; 512], roots: Roots)
     put_word(root, 56, roots.order);
 }
 
-/// The slot of a table of this layout and so many pages with a game, after so many commits. It names the goal where the layout has a
+/// The slot of a table of this layout and this many pages with a game, after this many commits. It names the goal where the layout has a
 /// place for it. All bytes without a field are zero.
 pub fn game_slot(layout: u32, pages: u32, commits: u64, slot: &TreeSlot) -> [u8; 512]
     ensures layout { layout_in result ≡ layout }

@@ -12,7 +12,7 @@ pub enum Tree {
     Positions,
     /// At each number its position and its record.
     Records,
-    /// The edges, each as the number that is led to and the number that leads there, with nothing behind.
+    /// The edges: at each the number that a move leads to, then the one that it leads from; with no value.
     Edges,
     /// At each place of the settled order the number there.
     Order,
@@ -55,7 +55,7 @@ impl Roots {
     }
 }
 
-/// How long keys and values of this tree are, where a position has so many bytes.
+/// How long keys and values of this tree are, where a position has this many bytes.
 pub fn widths_of(packed: u32, tree: Tree) -> Widths
     requires some { 1 ≤ packed }
     requires few { packed ≤ MAX_PACKED }

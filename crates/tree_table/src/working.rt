@@ -48,7 +48,7 @@ pub struct TreeTable<P: Pages> {
 impl<P: Pages> TreeTable<P> {
     ghost use Rattle.tree_table.specs.InTrees.{work_in};
 
-    /// The table of no game in this store, for positions of so many bytes.
+    /// The table of no game in this store, for positions of this many bytes.
     pub fn empty(alloc: Global, store: P, packed: u32) -> Self
         requires some { 1 ≤ packed }
         requires short { packed ≤ MAX_PACKED }

@@ -25,7 +25,7 @@ fn text() -> &'static [u8]
     b"#players = white(1), black(1)  #pieces = e  #board = v[e]{}  #rules = ->white ([$black=1] + [$white=1]) ->>"
 }
 
-/// So many units of work.
+/// This many units of work.
 fn units(count: u32) -> Units
     requires some { 1 ≤ count }
     requires few { count ≤ 256 }

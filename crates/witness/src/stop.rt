@@ -14,7 +14,7 @@ use std::alloc::Global;
 /// The sectors of 32 pages.
 const SECTORS: u64 = 256;
 
-/// Makes a table on a disk in memory, opens it, loads the small game and works on it until so many calls to the disk were done; then
+/// Makes a table on a disk in memory, opens it, loads the small game and works on it until this many calls to the disk were done; then
 /// the power stops, and of what was written and not synced the digits of `pick` say what is left. Opens what is left, loads the game
 /// if it is not there, works to the end, and asks who wins the start. Whenever the stop comes, and whatever it leaves, white wins it
 /// in two moves: no other answer is given, and it is refused for want of room alone.

@@ -12,7 +12,7 @@ LeadsFrom {P} graph stored x p = (z : P) × HasNumber (view_of stored) p z × (p
 abbrev pub IsMoveEdge : {P : Type 0} → Graph P → Stored P → ℕ → P → ℕ → Type 0
 IsMoveEdge graph stored i x p = (stored.has_edge i p ≡ true) × LeadsFrom graph stored x p
 
--- from so many of the numbers below p there is an edge to i that is a move
+-- from this many of the numbers below p there is an edge to i that is a move
 abbrev pub IsArriving : {P : Type 0} → Graph P → Stored P → ℕ → P → ℕ → ℕ → Type 0
 IsArriving graph stored i x zero n = n ≡ 0
 IsArriving graph stored i x (suc p) n =

@@ -25,7 +25,7 @@ module _ (kind : PackingKind) (game : Game) (view : View (List ℕ)) where
     pub shown_is : found.shown ≡ modifiers_of move
     pub told : IsKnownAs view move.packed.items move.number move.value
 
-  -- so many as were found, each in its place
+  -- as many as were found, each in its place
   pub record AreToldMoves (found : List ShownMove) (moves : List KnownMove) : Type 0 where
     pub as_many : length moves ≡ length found
     pub each : (k : ℕ) (move : KnownMove) → slice_get moves k ≡ Some move → IfSome (slice_get found k) (λ m. IsToldMove m move)

@@ -5,15 +5,15 @@ use Rattle.btree.specs.declared.page.widths.Widths.{Widths}
 use Rattle.btree.specs.Page.{Item, behind_of, item_width, items_of, least_of}
 use Rattle.btree.specs.declared.page.kind.TheConstants.{ROOM}
 
--- so many items, as bytes
+-- this many items, as bytes
 abbrev pub listed : Widths → Kind → ℕ → List ℕ → List Item
 listed w kind count bytes = items_of w.key (behind_of w kind) count bytes
 
--- there are as many bytes as so many items take
+-- there are as many bytes as this many items take
 abbrev pub AreWhole : Widths → Kind → ℕ → List ℕ → Type 0
 AreWhole w kind count bytes = length bytes ≡ count * item_width w kind
 
--- so many items are cut at this place into two parts, and each is enough for a page and fits on one
+-- this many items are cut at this place into two parts, and each is enough for a page and fits on one
 pub record IsCut (w : Widths) (kind : Kind) (count cut : ℕ) : Type 0 where
   pub front_enough : least_of kind ≤ cut
   pub back_enough : least_of kind ≤ count - cut

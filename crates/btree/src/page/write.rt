@@ -16,7 +16,7 @@ fn kind_byte(kind: Kind) -> u8
     }
 }
 
-/// The page of so many items, whose bytes stand one after another.
+/// The page of this many items, whose bytes stand one after another.
 pub fn page_of(widths: Widths, kind: Kind, count: usize, items: &[u8]) -> [u8; 4096]
     requires enough { least_of kind ≤ count }
     requires long { length items.now ≡ count * item_width widths kind }
@@ -32,7 +32,7 @@ pub fn page_of(widths: Widths, kind: Kind, count: usize, items: &[u8]) -> [u8; 4
     bytes
 }
 
-/// The page says that it has so many items, and its bytes stay but for that.
+/// The page says that it has this many items, and its bytes stay but for that.
 pub fn set_count(bytes: &mut [u8; 4096], count: usize)
     requires { count < 65536 }
     ensures count { count_in bytes.new ≡ count }

@@ -12,7 +12,7 @@ use crate::put::write::{write_led, write_spliced};
 use byteorder::{BigEndian, ByteOrder};
 use page_store::{PageFault, Pages};
 
-/// Puts this value at this key below this page, which has so many levels below it at most. Answers the items that lead
+/// Puts this value at this key below this page, which has this many levels below it at most. Answers the items that lead
 /// to what takes its place.
 pub fn put_below<P: Pages>(
     store: &mut P,

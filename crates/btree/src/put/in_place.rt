@@ -148,7 +148,7 @@ fn put_on_copy<P: Pages>(
     put_on(store, widths, page, &mut bytes, key, value)
 }
 
-/// Puts this value at this key below this page, which has so many levels below it at most, where that changes the leaf alone: each page
+/// Puts this value at this key below this page, which has this many levels below it at most, where that changes the leaf alone: each page
 /// on the way is in memory and was handed out since the last commit, and the leaf has room, and entries before this one. Answers whether
 /// it did; if not, nothing has changed.
 pub fn put_in_place<P: Pages>(

@@ -76,7 +76,7 @@ pub fn lead_to(widths: Widths, items: &mut FewItems, key: &[u8], page: u32)
     items.count += 1;
 }
 
-/// How many of so many items stay on the first of two pages. Where none of the page's old items is behind the new ones, all
+/// How many of this many items stay on the first of two pages. Where none of the page's old items is behind the new ones, all
 /// but as few as a page may have, so that pages that grow at their end are left full; and else half.
 fn cut_of(kind: Kind, count: usize, behind: usize) -> usize
     ensures end { behind ≡ 0 → result ≡ count - least_of kind }

@@ -13,7 +13,7 @@ use crate::walk::visitor::Visitor;
 use byteorder::{BigEndian, ByteOrder};
 use page_store::{PageFault, Pages};
 
-/// Walks the tree below this page, which has so many levels below it. Its keys have to ascend from the last one that was
+/// Walks the tree below this page, which has this many levels below it. Its keys have to ascend from the last one that was
 /// told. Answers its first key.
 pub fn walk_below<P: Pages, V: Visitor>(
     store: &mut P,

@@ -50,7 +50,7 @@ pub record ChangesOrder (old new : Stored (List ℕ)) : Type 0 where
   pub records : new.records ≡ old.records
   pub edges : new.has_edge ≡ old.has_edge
 
--- these bytes spell the settled order, of so many numbers, and nothing else is another
+-- these bytes spell the settled order, of this many numbers, and nothing else is another
 pub record AddsOrder (bytes : List ℕ) (count : ℕ) (old new : Stored (List ℕ)) : Type 0 where
   pub spelled : AreSpelled IsNumber bytes new.order
   pub counted : length new.order ≡ count

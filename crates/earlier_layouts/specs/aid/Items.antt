@@ -5,7 +5,7 @@ use Rattle.std.proofs.lemmas.List.{append-nil}
 use Rattle.game_file.specs.aid.Records.{same_fronts}
 use Rattle.earlier_layouts.specs.Spelled.{AreSpelled}
 
--- each item takes so many bytes, which are those of no other
+-- each item takes this many bytes, which are those of no other
 pub record IsFixed {A : Type 0} (IsOf : List ℕ → A → Type 0) (width : ℕ) : Type 0 where
   pub long : (bytes : List ℕ) (x : A) → IsOf bytes x → length bytes ≡ width
   pub one : (bytes : List ℕ) (x y : A) → IsOf bytes x → IsOf bytes y → x ≡ y

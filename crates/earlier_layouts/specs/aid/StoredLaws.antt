@@ -62,11 +62,11 @@ keeps_in_more root fewer more (Some kept) bytes le it = record {
   counts = it.counts;
 }
 
--- so many pages are within what a picture with room for them has
+-- this many pages are within what a picture with room for them has
 within_capacity : (picture : Picture) (c : ℕ) → 8 * c ≤ length picture → c ≤ 1048576 → c ≤ capacity_of picture
 within_capacity picture c room few = le-min ((le-div_iff_mul-le (omega arith)).1 (omega (arith, room))) few
 
--- a picture with this root whose pages spell this stores it in so many
+-- a picture with this root whose pages spell this stores it in this many
 pub spells_stores : (root : List ℕ) (c : ℕ) (kept : Option Kept) (picture : Picture) → 16 ≤ c → c ≤ 1048576
     → Spells root c (KeepsTable root c kept) picture → Stores c picture kept
 spells_stores root c kept picture enough few it =

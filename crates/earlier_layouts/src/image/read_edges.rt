@@ -55,7 +55,7 @@ fn read_edge<T: Table>(
     Ok(edge)
 }
 
-/// Adds so many edges to a table that has none.
+/// Adds this many edges to a table that has none.
 pub fn read_edges<T: Table>(table: &mut T, edges: usize, bytes: &[u8]) -> Result<(), BytesFault>
     requires honest { T.is_honest table.old }
     requires long { length bytes.now ≡ 8 * edges }
@@ -78,7 +78,7 @@ pub fn read_edges<T: Table>(table: &mut T, edges: usize, bytes: &[u8]) -> Result
     Ok(())
 }
 
-/// Adds a settled order of so many numbers to a table in which nothing is settled.
+/// Adds a settled order of this many numbers to a table in which nothing is settled.
 pub fn read_order<T: Table>(table: &mut T, settled: u32, bytes: &[u8]) -> Result<(), BytesFault>
     requires honest { T.is_honest table.old }
     requires long { length bytes.now ≡ 4 * settled }

@@ -21,7 +21,7 @@ pub struct Written {
     pub bytes: Vec<u8>,
 }
 
-/// The bytes of a game's text and table, where each position has so many bytes. Those that readers ignore are zero.
+/// The bytes of a game's text and table, where each position has this many bytes. Those that readers ignore are zero.
 pub fn write_table<T: Table>(
     alloc: Global,
     text: &[u8],

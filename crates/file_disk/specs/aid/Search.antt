@@ -8,7 +8,7 @@ abbrev pub IsFound : List WaitingPage → ℕ → ℕ → ℕ → Option ℕ →
 IsFound pages behind number least None = least ≡ 2 ^ 64 - 1
 IsFound pages behind number least (Some p) = (p < behind) × (number ≤ (page_at pages p).number) × ((page_at pages p).number ≡ least)
 
--- among so many places it is the first page from this number on
+-- among this many places it is the first page from this number on
 pub record IsLeast (pages : List WaitingPage) (behind number least : ℕ) (found : Option ℕ) : Type 0 where
   pub is : IsFound pages behind number least found
   pub others : (q : ℕ) → q < behind → ((page_at pages q).number < number) ⊎ (least ≤ (page_at pages q).number)

@@ -4,20 +4,20 @@ use Rattle.file_disk.specs.declared.waiting_page.WaitingPage.{WaitingPage}
 use Rattle.file_disk.specs.Bytes.{bytes_at, sector_of}
 use Rattle.file_disk.specs.Waiting.{page_at, has_sector, shown_of}
 
--- no two of so many places have the same page
+-- no two of this many places have the same page
 abbrev pub AreDistinct : List WaitingPage → ℕ → Type 0
 AreDistinct pages count = (p q : ℕ) → p < count → q < count → (page_at pages p).number ≡ (page_at pages q).number → p ≡ q
 
--- each of so many pages begins below 2 ^ 64
+-- each of this many pages begins below 2 ^ 64
 abbrev pub ArePlaced : List WaitingPage → ℕ → Type 0
 ArePlaced pages count = (p : ℕ) → p < count → 4096 * (page_at pages p).number < 2 ^ 64
 
--- each sector that waits ends within so many bytes
+-- each sector that waits ends within this many bytes
 abbrev pub AreInside : List WaitingPage → ℕ → ℕ → Type 0
 AreInside pages count end =
     (p s : ℕ) → p < count → s < 8 → has_sector (page_at pages p) s ≡ true → 512 * (8 * (page_at pages p).number + s + 1) ≤ end
 
--- from a place on so many whole pages stand side by side that lie side by side in the file
+-- from a place on this many whole pages stand side by side that lie side by side in the file
 pub record IsRun (pages : List WaitingPage) (count place run : ℕ) : Type 0 where
   pub within : place + run ≤ count
   pub next : (k : ℕ) → k < run → (page_at pages (place + k)).number ≡ (page_at pages place).number + k

@@ -26,7 +26,7 @@ pub record HandsOut (old new : Store) : Type 0 where
   pub closed : new.closed ≡ old.closed
   pub others : (p : ℕ) → (mark new.marks p ≡ mark old.marks p) ⊎ ((mark old.marks p ≡ Free) × (mark new.marks p ≡ Fresh))
 
--- so many free pages are handed out, and these are they
+-- this many free pages are handed out, and these are they
 pub record AreTaken (old new : Store) (count : ℕ) (pages : List ℕ) : Type 0 where
   pub many : length pages ≡ count
   pub within : (p : ℕ) → Contains pages p → (1 ≤ p) × (p < length old.marks)

@@ -16,7 +16,7 @@ pub record AreFields (greatest bytes fields : List ℕ) : Type 0 where
   pub within : AreAtMost greatest fields
   pub bytes_are : bytes ≡ bytes_of_bits (field_bits greatest fields)
 
--- so many pieces, at most 34 values, a vertex, a role and a place, each in the range of its type
+-- this many pieces, at most 34 values, a vertex, a role and a place, each in the range of its type
 pub record AreInRange (vertices : ℕ) (fields : List ℕ) : Type 0 where
   pub few_vertices : vertices ≤ 128
   pub long : vertices + 3 ≤ length fields
@@ -26,7 +26,7 @@ pub record AreInRange (vertices : ℕ) (fields : List ℕ) : Type 0 where
   pub role : slice_index fields (length fields - 2) ≤ 2
   pub place : slice_index fields (length fields - 1) < 65536
 
--- the fields are those of the position, which has so many pieces
+-- the fields are those of the position, which has this many pieces
 pub record IsFieldsOf (vertices : ℕ) (fields : List ℕ) (at : Position) : Type 0 where
   pub fields_are : fields_of at ≡ fields
   pub pieces_fit : length at.state.pieces.items ≡ vertices

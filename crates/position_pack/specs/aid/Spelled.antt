@@ -34,7 +34,7 @@ IsVertex game = IsWritten (vertex_name game) (λ k. k < length game.vertices)
 abbrev pub IsPiece : Game → List ℕ → ℕ → Type 0
 IsPiece game = IsWritten (piece_name game) (λ k. k < length game.pieces)
 
--- the text is what f writes for each number, with commas between: so many numbers, each allowed at its place
+-- the text is what f writes for each number, with commas between: this many numbers, each allowed at its place
 pub record AreWrittenWithCommas (f : ℕ → List ℕ) (Allowed : ℕ → ℕ → Type 0) (count : ℕ) (text all : List ℕ) : Type 0 where
   pub as_many : length all ≡ count
   pub allowed : (k : ℕ) → k < count → Allowed k (slice_index all k)

@@ -15,7 +15,7 @@ pub struct LineColumn {
     pub column: usize,
 }
 
-/// The line and the column of the byte behind so many others, or of the end of a shorter text.
+/// The line and the column of the byte behind this many others, or of the end of a shorter text.
 pub fn line_column(text: &[u8], at: usize) -> LineColumn
     ensures { result ≡ place_of text.now at }
 {

@@ -39,7 +39,7 @@ enum Within {
     Piece(usize),
     /// In an assignment.
     Assignment(usize),
-    /// In a brace, and in so many more braces within it.
+    /// In a brace, and in this many more braces within it.
     Braces(usize, usize),
 }
 

@@ -21,6 +21,6 @@ abbrev pub with_ended : {P : Type 0} → ℕ → Option Player → Stored P → 
 with_ended e None stored = with_record stored e (expanded_record 0)
 with_ended e (Some w) stored = with_settled (with_record stored e (won_record w)) e
 
--- number e is expanded: it has so many successors, and this player is ahead in it
+-- number e is expanded: it has this many successors, and this player is ahead in it
 abbrev pub with_expanded : {P : Type 0} → ℕ → ℕ → Option Player → Stored P → Stored P
 with_expanded e n ahead stored = if n == 0 then with_ended e ahead stored else with_record stored e (expanded_record n)

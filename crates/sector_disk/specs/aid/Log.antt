@@ -5,7 +5,7 @@ use Rattle.sector_disk.specs.Disk.{Picture}
 use Rattle.sector_disk.specs.Past.{undone, synced_after}
 use Rattle.sector_disk.specs.declared.log.Event.TheVariants.{Wrote, Synced, Extended}
 
--- all was synced after so many events, and not after any greater number of them
+-- all was synced after this many events, and not after any greater number of them
 pub record IsLastSyncOf (events : List Event) (last : ℕ) : Type 0 where
   pub within : last ≤ length events
   pub all : (k : ℕ) → IsTrue (synced_after (λ j. true) (take last events) k)

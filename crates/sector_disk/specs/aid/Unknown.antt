@@ -27,7 +27,7 @@ past events event old new back k le =
       lasting = lasting_of (end_after None (first i)) (contents i);
     }
 
--- so many extensions
+-- this many extensions
 pub length-grown : (sectors : ℕ) → length (grown sectors) ≡ sectors
 unfolding grown
 length-grown zero = refl

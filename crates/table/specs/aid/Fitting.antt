@@ -25,7 +25,7 @@ abbrev pub AllListed : List Record → List ℕ → Type 0
 AllListed records order =
     (i : ℕ) (r : Record) → slice_get records i ≡ Some r → is_settled r.state ≡ true → (k : ℕ) × (slice_get order k ≡ Some i)
 
--- records and settled order fit together, of which so many are expanded and processed
+-- records and settled order fit together, of which this many are expanded and processed
 pub record PartsFit (expanded processed : ℕ) (records : List Record) (order : List ℕ) : Type 0 where
   pub started : 0 < length records
   pub each : RecordsFit expanded records

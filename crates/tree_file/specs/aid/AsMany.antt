@@ -55,7 +55,7 @@ key_found q (e ∷ es) is = by_test (eq q e.0) refl (λ any. key_found q es any)
         let (value, found) = later rest in
         (value, ap (λ (b : Bool). cond b (Some e.1) (find_entry es q)) other ∙ found)
 
--- entries that ascend, and whose keys are exactly so many different ones, are so many
+-- ascending entries whose keys are exactly this many different ones are as many
 as_many : (es : List Item) (n : ℕ) (at : ℕ → List ℕ) → Ascend es → ((i j : ℕ) → i < n → j < n → at i ≡ at j → i ≡ j)
     → ((i : ℕ) → i < n → IsSome (find_entry es (at i)))
     → ((key value : List ℕ) → find_entry es key ≡ Some value → (i : ℕ) × (key ≡ at i) × (i < n)) → length es ≡ n

@@ -93,7 +93,7 @@ one_of key at (suc n) = elim (keys_tell key (at n)) [
   ]
 ]
 
--- so many entries have no key but the so many different ones that are found
+-- of this many entries each has one of the same number of different keys that are found
 pub no_other_key : (es : List Item) (n : ℕ) (at : ℕ → List ℕ) → length es ≡ n → ((i j : ℕ) → i < n → j < n → at i ≡ at j → i ≡ j)
     → ((i : ℕ) → i < n → IsSome (find_entry es (at i))) → (key : List ℕ) → IsSome (find_entry es key) → (i : ℕ) × (i < n) × (key ≡ at i)
 unfolding IsDistinct

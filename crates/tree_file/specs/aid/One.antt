@@ -17,11 +17,11 @@ use Rattle.tree_table.specs.Forest.{IsTreeOf}
 use Rattle.tree_table.specs.Trees.{root_of}
 use Rattle.tree_file.specs.Counted.{IsBetween}
 
--- so many entries
+-- this many entries
 abbrev pub CountIs : ℕ → List Item → Type 0
 CountIs wanted es = length es ≡ wanted
 
--- so many edges, each between numbers below this one
+-- this many edges, each between numbers below this one
 abbrev pub EdgesAre : ℕ → ℕ → List Item → Type 0
 EdgesAre wanted known es = (length es ≡ wanted) × All (IsBetween known) es
 

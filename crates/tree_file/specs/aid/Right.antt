@@ -26,7 +26,7 @@ pub record IsCellAt (packed : ℕ) (es : List Item) (i : ℕ) (cell : List ℕ �
   pub found : find_entry es (number_key i) ≡ Some value
   pub is : IsCell packed value cell
 
--- whether it is one of so many first places
+-- whether it is one of this many first places
 abbrev pub is_among : ℕ → Option ℕ → Bool
 is_among count None = false
 is_among count (Some k) = nat_lt k count
@@ -38,7 +38,7 @@ pub record FitsPlace (counts : Counts) (i : ℕ) (place : Option ℕ) (r : Recor
   pub settled : is_settled r.state ≡ is_some place
   pub processed : is_processed r.state ≡ is_among counts.processed place
 
--- what the settled order says of a number that has this place there, or none, where so many first places are processed
+-- what the settled order says of a number that has this place there, or none, where this many first places are processed
 abbrev pub placed_of : ℕ → Option ℕ → Placed
 placed_of processed None = Nowhere
 placed_of processed (Some k) = cond (nat_lt k processed) Processed Waiting
@@ -89,7 +89,7 @@ pub record IsRightNumber (sizes : Sizes) (entries : Tree → List Item) (i : ℕ
   pub is_place : IsPlaceOf sizes entries i place
   pub right : IsRightAt sizes entries i place
 
--- at each of so many first places of the settled order stands a number that is known
+-- at each of this many first places of the settled order stands a number that is known
 abbrev pub AreKnown : ℕ → Sizes → (Tree → List Item) → Type 0
 AreKnown count sizes entries =
     (k : ℕ) → k < count → (n : ℕ) × (n < sizes.counts.known) × IsNumberAt (entries Order) (number_key k) n
@@ -99,14 +99,14 @@ pub record AreRight (sizes : Sizes) (entries : Tree → List Item) (from to : �
   pub places : AreKnown sizes.counts.settled sizes entries
   pub numbers : (i : ℕ) → from ≤ i → i < to → IsRightNumber sizes entries i
 
--- places by number: at each number stands the one of so many first places that has it, if one has it; and each of these places has a
+-- places by number: at each number stands the one of this many first places that has it, if one has it; and each of these places has a
 -- known number
 pub record ArePlaces (sizes : Sizes) (entries : Tree → List Item) (count : ℕ) (places : List (Option ℕ)) : Type 0 where
   pub known : AreKnown count sizes entries
   pub each : (k i : ℕ) → k < count → i < length places → IsNumberAt (entries Order) (number_key k) i → slice_index_or places i None ≡ Some k
   pub only : (i k : ℕ) → slice_index_or places i None ≡ Some k → (k < count) × IsNumberAt (entries Order) (number_key k) i
 
--- what so many first places say of each number
+-- what this many first places say of each number
 pub record AreMarkedByPlaces (sizes : Sizes) (entries : Tree → List Item) (count : ℕ) (placed : List Placed) : Type 0 where
   pub places : List (Option ℕ)
   pub are : ArePlaces sizes entries count places

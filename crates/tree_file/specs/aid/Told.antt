@@ -7,7 +7,7 @@ use Rattle.tree_file.specs.Counted.{IsBetween}
 abbrev pub IsPastCount : List Item → Item → Type 0
 IsPastCount es item = 2 ^ 64 ≤ length es + 1
 
--- there are so many edges, and this is the least number that is above all their ends
+-- there are this many edges, and this is the least number that is above all their ends
 pub record AreTallied (count above : ℕ) (es : List Item) : Type 0 where
   pub many : length es ≡ count
   pub below : (n : ℕ) → n < 2 ^ 32 → above ≤ n → All (IsBetween n) es
