@@ -18,7 +18,7 @@ use Rattle.retrograde.proofs.Lowering.{get_set_same, get_set_other}
 use Rattle.audit.specs.aid.Edges.{LeadsFrom, IsMoveEdge, IsArriving, AreArrivals, CountsIf}
 use Rattle.audit.proofs.Lists.{contains_at, at_contains}
 
--- a count is no greater than the one behind it, nor than the numbers that are gone over
+-- a count is no greater than the one after it, nor than the numbers that are gone over
 count_more : (a : ℕ → Bool) (n : ℕ) → count_below n a ≤ count_below (suc n) a
 count_more a n =
     ⊎_elim (λ is. let e = counts_one a n is in omega (arith, e)) (λ is. let e = counts_none a n is in omega (arith, e)) (true_or_false (a n))
@@ -100,7 +100,7 @@ module _ {P : Type 0} (graph : Graph P) (stored : Stored P) (i : ℕ) (x : P) wh
       omega (arith, before, less))
       (true_or_false (stored.has_edge i p))
 
-  -- none comes from behind the expanded ones
+  -- none comes from after the expanded ones
   arriving_past : (k e p n : ℕ) → e + k ≡ p → expanded_count stored ≤ e → IsArriving graph stored i x e n → IsArriving graph stored i x p n
   arriving_past zero e p n sum all is = let same : e ≡ p = omega arith in subst (λ (q : ℕ). IsArriving graph stored i x q n) same is
   arriving_past (suc k) e p n sum all is =

@@ -5,7 +5,7 @@ use Rattle.retrograde.specs.Edges.{IsAfter, IsNextEdge, HasNoMoreEdges}
 use Rattle.retrograde.proofs.Counting.{true_or_false, counts_one, counts_none}
 use Rattle.retrograde.proofs.Adding.{count_past}
 
--- the least number that a look behind this one can give
+-- the least number that a look after this one can give
 abbrev pub bound_of : Option ℕ → ℕ
 bound_of None = 0
 bound_of (Some p) = suc p

@@ -1,4 +1,4 @@
--- Lists of rows, one behind the other.
+-- Lists of rows, one after another.
 use Rattle.std.proofs.Common.{◌≡◌, ◌∙◌, ℕ, zero, suc, ◌+◌, ◌-◌, ◌⊎◌, inl, inr, ⊎_elim, min, List, [], ◌∷◌, ◌++◌, length, Some, arith, slice_get, length-append}
 use Rattle.retrograde.specs.View.{View}
 use Rattle.best_line.specs.declared.answers.Row.{Row}

@@ -9,11 +9,11 @@ use Rattle.best_line.specs.declared.answers.Value.{Value}
 use Rattle.best_line.specs.declared.answers.Value.TheVariants.{Won, Drawn, Open}
 use Rattle.best_line.specs.declared.known.KnownMove.{KnownMove}
 
--- the rank of a loss, behind a draw (2^32) and what is open (2^32 + 1): the longer the loss, the better
+-- the rank of a loss, after a draw (2^32) and what is open (2^32 + 1): the longer the loss, the better
 abbrev pub rank_of_loss : ℕ → ℕ
 rank_of_loss moves = 8589934593 - moves
 
--- how far a value stands behind the best for who has the turn; to the keeper all are alike
+-- how far a value stands after the best for who has the turn; to the keeper all are alike
 abbrev pub rank_of : Role → Value → ℕ
 rank_of Keeper value = 0
 rank_of (Player First) (Won First moves) = moves

@@ -7,10 +7,10 @@ use crate::known::{KnownMove, KnownMoves};
 use rbg_game::roles::Role;
 use std::alloc::AllocError;
 
-/// The rank of a draw, behind all wins.
+/// The rank of a draw, after all wins.
 const DRAWN: u64 = 4_294_967_296;
 
-/// The rank of what is open, behind a draw.
+/// The rank of what is open, after a draw.
 const OPEN: u64 = 4_294_967_297;
 
 /// From the rank of a loss each move that it takes is taken off, so that the longest comes first.
@@ -29,7 +29,7 @@ impl KnownMoves {
     }
 }
 
-/// How far a value stands behind the best for who has the turn.
+/// How far a value stands after the best for who has the turn.
 fn rank_of(mover: Role, value: Value) -> u64
     ensures { result ≡ rank_of mover value }
 {

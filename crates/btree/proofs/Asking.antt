@@ -51,7 +51,7 @@ ends w store root key leaf next none reaches is pages es holds =
     sym (reached_next es key (items_in w Leaf leaf) next reached
     ∙ (λ i. option_or (sym (is (reached_ascends es key (items_in w Leaf leaf) next reached)) i) (no_first reached.after (reached.next_is ∙ none) i)))
 
--- the next entry is the first one behind the leaf
+-- the next entry is the first one after the leaf
 pub record IsBehind (es : List Item) (key next : List ℕ) : Type 0 where
   pub entry : Item
   pub has : entry.0 ≡ next

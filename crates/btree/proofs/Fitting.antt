@@ -49,7 +49,7 @@ more_word from count to n one_more within few = omega (arith, one_more, within, 
 pub total_word : (from count to n all : ℕ) → from + count ≤ to + 1 → to ≤ n → n ≤ 4092 → all ≡ n → Fits w64 (from + count + (all - to))
 total_word from count to n all one_more within few same = omega (arith, one_more, within, few, same)
 
--- a key behind the first bytes of a page
+-- a key after the first bytes of a page
 pub key_word : (w : Widths) → Fits w64 (4 + w.key)
 key_word w = omega (arith, w.key_fits)
 

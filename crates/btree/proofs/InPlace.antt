@@ -41,7 +41,7 @@ own_first w bytes zero q tree = first_of w.key w.value (count_in (bytes q)) (dro
 own_first w bytes (suc d) q tree =
     first_inner w bytes d q tree ∙ first_of w.key 4 (count_in (bytes q)) (drop 4 (bytes q)) (omega (arith, tree.0.enough))
 
--- the first of some items stays where others are put behind it
+-- the first of some items stays where others are put after it
 pub first_kept : (from : ℕ) (es fs : List Item) (k : List ℕ) → 1 ≤ from → first_key es ≡ Some k → first_key (take from es ++ fs) ≡ Some k
 first_kept zero es fs k some first = absurd (omega (arith, some))
 first_kept (suc n) [] fs k some first = absurd (cc)

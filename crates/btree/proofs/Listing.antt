@@ -178,7 +178,7 @@ module _ (key behind b from to count : ℕ) (page : List ℕ) (is : b ≡ behind
               ∙ splice key behind count from n rest (drop 4 page) first middle back to order (omega (arith, within)) (omega (arith, length-drop 4 page, long, fits))
               first_is whole back_is (from + n + rest) refl
 
--- bytes in the place of others on the page itself: what stood behind is moved from i to e, and the others stand from s on
+-- bytes in the place of others on the page itself: what stood after is moved from i to e, and the others stand from s on
 module _ (page moved new middle : List ℕ) (s e i j : ℕ) (head : 4 ≤ s) (long : e ≡ s + length middle) (room : e + (j - i) ≤ length page)
     (one : moved ≡ take e page ++ (take (j - i) (drop i page) ++ drop (e + (j - i)) page)) (two : new ≡ take s moved ++ (middle ++ drop e moved)) where
   abbrev tail : List ℕ

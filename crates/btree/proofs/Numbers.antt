@@ -32,7 +32,7 @@ equal_is x y same = grind (arith, nat_tests)
 greater_is : (x y : ℕ) → y < x → nat_cmp x y ≡ Greater
 greater_is x y high = grind (arith, nat_tests)
 
--- a digit in front decides, and else what is behind it
+-- a digit in front decides, and else what is after it
 digit_cmp : (m x y a b : ℕ) → a < m → b < m → ordering_then (nat_cmp x y) (nat_cmp a b) ≡ nat_cmp (x * m + a) (y * m + b)
 digit_cmp m x y a b low_a low_b = elim (cases_lt x y) [
   | inl less ↦

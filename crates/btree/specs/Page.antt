@@ -1,4 +1,4 @@
--- A page of a tree: its kind, how many items it holds, and the items one after another. What stands behind them is ignored.
+-- A page of a tree: its kind, how many items it holds, and the items one after another. What stands after them is ignored.
 use Rattle.std.specs.Prelude.{◌≡◌, ℕ, zero, suc, ◌+◌, ◌*◌, ◌≤◌, List, [], ◌∷◌, length, take, drop, slice_index}
 use Rattle.std.specs.declared.cmp.Ordering.{Ordering}
 use Rattle.std.specs.Cmp.Lexicographic.{slice_cmp}
@@ -9,7 +9,7 @@ use Rattle.btree.specs.declared.page.kind.Kind.TheVariants.{Leaf, Inner}
 use Rattle.btree.specs.declared.page.widths.Widths.{Widths}
 use Rattle.btree.specs.declared.page.kind.TheConstants.{ROOM}
 
--- a key, and what stands behind it: in a leaf its value, in an inner page the page of a child
+-- a key, and what stands after it: in a leaf its value, in an inner page the page of a child
 abbrev pub Item : Type 0
 Item = List ℕ × List ℕ
 
@@ -27,7 +27,7 @@ abbrev pub least_of : Kind → ℕ
 least_of Leaf = 1
 least_of Inner = 2
 
--- how many bytes stand behind a key
+-- how many bytes stand after a key
 abbrev pub behind_of : Widths → Kind → ℕ
 behind_of w Leaf = w.value
 behind_of w Inner = 4
@@ -36,7 +36,7 @@ behind_of w Inner = 4
 abbrev pub item_width : Widths → Kind → ℕ
 item_width w kind = w.key + behind_of w kind
 
--- this many items, read one after another: each a key of this length, and this many bytes behind it
+-- this many items, read one after another: each a key of this length, and this many bytes after it
 abbrev pub items_of : ℕ → ℕ → ℕ → List ℕ → List Item
 items_of key behind zero bytes = []
 items_of key behind (suc n) bytes = (take key bytes, take behind (drop key bytes)) ∷ items_of key behind n (drop (key + behind) bytes)

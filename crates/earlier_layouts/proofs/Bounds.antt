@@ -2,7 +2,7 @@
 use Rattle.std.specs.Prelude.{ℕ, suc, nat_lt, ◌==◌, ◌&&◌, ◌||◌, Option, Some, None, List, []}
 use Rattle.retrograde.specs.Stored.{Stored}
 
--- the least number that a look behind this one can give
+-- the least number that a look after this one can give
 abbrev pub bound_of : Option ℕ → ℕ
 bound_of None = 0
 bound_of (Some p) = suc p

@@ -63,7 +63,7 @@ module _ (old : Store) (game : Option Game) (whole : IsFile (file_of old game)) 
     either = λ honest is_open. leaves_more (λ picture left. inl left) (works_leave new works honest);
   }
 
-  -- a root of layout 3 is committed behind such calls
+  -- a root of layout 3 is committed after such calls
   module _ (root : List ℕ) (mid new : Store) (layout : layout_in root ≡ 3) (says : SaysPages root (length old.marks)) (works : StoreWorks old mid)
       (commits : Commits root mid new) where
     from : GoesFrom old.disk old.failures new.disk new.failures
@@ -214,7 +214,7 @@ root_cause old new page.TableFull cause = absurd cause
 root_cause old new page.OutOfMemory cause = absurd cause
 root_cause old new page.Closed cause = cause
 
--- why a table is not moved: a step fails behind others
+-- why a table is not moved: a step fails after others
 pub step_moves : (old mid new : Store) (game : Game) (fault : FileFault) → old.closed ≡ false → StoreWorks old mid → mid.closed ≡ old.closed
     → StepCause mid new fault → MoveCause (state_of (file_of old (Some game))) new.failures fault
 step_moves old mid new game file.Disk is_open works still cause = grew_since works.failures cause

@@ -1,4 +1,4 @@
--- What writing a part of a table puts behind bytes.
+-- What writing a part of a table puts after bytes.
 use Rattle.std.proofs.Common.{◌≡◌, ◌∙◌, sym, ap, subst, refl, ℕ, zero, suc, ◌+◌, ◌≤◌, ◌<◌, inl, inr, ⊎_elim, true, Option, None, Some, List, [], ◌∷◌, ◌++◌, length, take, slice_get, zip, Contains, arith, append_assoc, length-append}
 use Rattle.std.specs.List.Sorted.{IsStrictlySortedBy}
 use Rattle.std.specs.declared.cmp.Ordering.TheVariants.{Less}
@@ -59,7 +59,7 @@ writes_cell packed n stored front old new long so_far one =
     writes_next (IsPlainCell packed) (zip stored.positions stored.records) n one.cell front old new so_far
     (pair_at stored.positions stored.records n one.cell.0 one.cell.1 one.position one.recorded) written
 
--- a position, and behind it its record
+-- a position, and after it its record
 pub cell_written : (stored after : Stored (List ℕ)) (n : ℕ) (x slice : List ℕ) (r : Record) (old mid new : List ℕ) → slice_get stored.positions n ≡ Some x → after ≡ stored → HasRecord after n r
     → slice ≡ x → mid ≡ old ++ slice → WritesOne IsPlainRecord r mid new → WritesCell stored n old new
 cell_written stored after n x slice r old mid new position same recorded slice_is mid_is one = record {
@@ -80,7 +80,7 @@ take_all [] (suc n) long = refl
 take_all (x ∷ xs) zero long = absurd (omega arith)
 take_all {A} (x ∷ xs) (suc n) long = ap (λ (ys : List A). x ∷ ys) (take_all xs n (omega (arith, long)))
 
--- the least number that the next edge can have behind this one
+-- the least number that the next edge can have after this one
 abbrev pub bound_of : Option ℕ → ℕ
 bound_of None = 0
 bound_of (Some p) = suc p
@@ -169,6 +169,6 @@ module _ (stored : Stored (List ℕ)) (s : ℕ) (after : Option ℕ) (front old 
       narrower i q is (inl less) = ⊎_elim (λ lower. inl lower) (λ upper. let same : i ≡ s = omega (arith, less, upper) in inr (same, at_s i q is same)) (cases_lt i s)
       narrower i q is (inr same) = absurd (omega (arith, same.1))
 
--- what is behind makes it longer
+-- what is after makes it longer
 pub longer_one : {A : Type 0} (IsOf : List ℕ → A → Type 0) (x : A) (old new : List ℕ) → WritesOne IsOf x old new → length old ≤ length new
 longer_one IsOf x old new one = omega (arith, ap length one.is, length-append old one.behind)

@@ -29,7 +29,7 @@ pub record SpellsTable (sizes : Sizes) (bytes text : List ℕ) (stored : Stored 
   pub settled : length stored.order ≡ sizes.counts.settled
   pub order_is : AreSpelled IsNumber order stored.order
 
--- behind the text these bytes begin with each position and its record as it is written: what is ignored of it is zero
+-- after the text these bytes begin with each position and its record as it is written: what is ignored of it is zero
 pub record BeginsPlainly (packed : ℕ) (bytes text : List ℕ) (stored : Stored (List ℕ)) : Type 0 where
   pub cells : List ℕ
   pub rest : List ℕ

@@ -15,7 +15,7 @@ use Rattle.solver.specs.Steps.{IsDone}
 use Rattle.solver.specs.Units.{units_in}
 use Rattle.edits_solver.specs.Between.{LeavesTheFirst}
 
--- what is behind the same beginning
+-- what is after the same beginning
 behind : {X : Type 0} (begun xs ys : List X) → begun ++ xs ≡ begun ++ ys → xs ≡ ys
 behind [] xs ys is = is
 behind (x ∷ begun) xs ys is = behind begun xs ys cc

@@ -80,7 +80,7 @@ pub fn run_two<F: GameFile>(
     two_commands(solver, first, second, replies)
 }
 
-/// `done` of `FileSolver::work`, and of that what a stop leaves behind it.
+/// `done` of `FileSolver::work`, and of that what a stop leaves after it.
 pub fn work_alone<F: GameFile>(
     solver: &mut FileSolver<F>,
     units: Units,

@@ -25,7 +25,7 @@ before_change old new at from n same le =
     front : (b : List ℕ) → take n (drop from (take at b)) ≡ take n (drop from b)
     front b = part_of b 0 at from n le ∙ ap (λ (a : ℕ). take n (drop a b)) (omega arith)
 
--- and one behind it
+-- and one after it
 behind_change : (old new : List ℕ) (end from n : ℕ) → drop end new ≡ drop end old → end ≤ from → bytes_at new from n ≡ bytes_at old from n
 behind_change old new end from n same le =
     ap (λ (b : List ℕ). take n b) (sym (rest new) ∙ ap (λ (b : List ℕ). drop (from - end) b) same ∙ rest old)

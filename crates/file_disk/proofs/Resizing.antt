@@ -5,7 +5,7 @@ use Rattle.std.proofs.lemmas.List.{take-append-le, take-take, take_all, drop_at,
 use Rattle.file_disk.specs.Bytes.{bytes_at, IsResized, KeepsUpTo}
 use Rattle.file_disk.proofs.Filling.{before_change}
 
--- what is cut to this many bytes, with zeros behind it
+-- what is cut to this many bytes, with zeros after it
 pub resized_is : (old new : List ℕ) (bytes : ℕ) → new ≡ take bytes old ++ replicate (bytes - length old) 0 → IsResized bytes old new
 resized_is old new bytes is = record {
   long = long;

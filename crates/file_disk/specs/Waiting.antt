@@ -1,4 +1,4 @@
--- Sectors that were written and wait in memory: pages by their places, the bytes of all places one behind the other.
+-- Sectors that were written and wait in memory: pages by their places, the bytes of all places one after another.
 use Rattle.std.specs.Prelude.{◌≡◌, ◌⊎◌, ℕ, zero, suc, ◌+◌, ◌*◌, ◌/◌, ◌%◌, ◌<◌, ◌==◌, Bool, false, if◌then◌else◌, List, [], length}
 use Rattle.std.specs.Prelude.{slice_index_or, Option, None, Some}
 use Rattle.file_disk.specs.declared.waiting_page.WaitingPage.{WaitingPage}

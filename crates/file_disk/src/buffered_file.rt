@@ -210,7 +210,7 @@ impl<F: ByteFile + Drop> BufferedFile<F> {
         true
     }
 
-    /// Whether the file ends with its last sector, or behind it before there is room for one more.
+    /// Whether the file ends with its last sector, or after it before there is room for one more.
     fn ends_here(&self) -> bool
         ensures { IsTrue (F.honest self.now.file) → OnTrue result (length (F.content self.now.file) < 512 * (self.now.sectors + 1)) }
     {

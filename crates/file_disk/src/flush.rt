@@ -91,7 +91,7 @@ fn put_run<F: ByteFile>(file: &mut F, waiting: &WaitingWrites, place: usize, run
     put_slots(file, waiting, 8 * place, 8 * number, 8 * run)
 }
 
-/// Writes the pages from this place on that can go by one call, and tells the number behind them; none if that failed.
+/// Writes the pages from this place on that can go by one call, and tells the number after them; none if that failed.
 fn put_from<F: ByteFile>(file: &mut F, waiting: &WaitingWrites, place: usize) -> Option<u64>
     requires there { place < waiting.now.count }
     requires inside { IsTrue (F.honest file.old) → AreInside waiting.now.pages.items waiting.now.count (length (F.content file.old)) }

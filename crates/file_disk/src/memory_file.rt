@@ -28,7 +28,7 @@ impl MemoryFile {
         }
     }
 
-    /// The call behind this many fails, and is not carried out.
+    /// The call after this many fails, and is not carried out.
     pub fn fail_after(&mut self, calls: u64)
         ensures bytes { self.new.bytes ≡ self.old.bytes }
         ensures synced { self.new.synced ≡ self.old.synced }

@@ -24,7 +24,7 @@ pub struct WaitingWrites {
     pub pages: Vec<WaitingPage>,
     /// This many of these places are taken.
     pub count: usize,
-    /// The bytes of all places, one behind the other.
+    /// The bytes of all places, one after another.
     pub bytes: Vec<u8>,
     /// The place that was written last.
     last: usize,

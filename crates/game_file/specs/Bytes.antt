@@ -35,14 +35,14 @@ pub record IsPlainRecord (bytes : List ℕ) (r : Record) : Type 0 where
   pub third : slice_index bytes 2 ≡ 0
   pub fourth : slice_index bytes 3 ≡ 0
 
--- these bytes are a position of this many bytes, and behind it its record
+-- these bytes are a position of this many bytes, and after it its record
 pub record IsCell (packed : ℕ) (bytes : List ℕ) (cell : List ℕ × Record) : Type 0 where
   pub long : length cell.0 ≡ packed
   pub behind : List ℕ
   pub is : bytes ≡ cell.0 ++ behind
   pub is_record : IsRecord behind cell.1
 
--- these bytes are a position of this many bytes, and behind it its record as it is written
+-- these bytes are a position of this many bytes, and after it its record as it is written
 pub record IsPlainCell (packed : ℕ) (bytes : List ℕ) (cell : List ℕ × Record) : Type 0 where
   pub long : length cell.0 ≡ packed
   pub behind : List ℕ

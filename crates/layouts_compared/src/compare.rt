@@ -43,7 +43,7 @@ impl Display for Difference {
 
 /// Loads the game of this text into a table of layout 1, one of layout 2, and two of layout 3 of which one keeps this many pages in memory,
 /// two at most; does up to this many units of work in each, and compares all that they say, and what the files with trees hold. Two more
-/// tables, of layouts 1 and 2, come into layout 3 behind the first commands, and have to say the same.
+/// tables, of layouts 1 and 2, come into layout 3 after the first commands, and have to say the same.
 pub fn compare(alloc: Global, text: &[u8], most: u32, pages: usize) -> anyhow::Result<Outcome> {
     let flat = told_of::<Flat>(alloc, text, most, MOST_CACHED)?;
     let second = told_of::<Second>(alloc, text, most, MOST_CACHED)?;

@@ -20,7 +20,7 @@ const COMMANDS: usize = 16;
 /// This many of these are done before a listing is begun.
 const BEFORE: usize = 2;
 
-/// This many rows of a listing are asked for behind the others in turn: 240 between two openings, and so no more than 256.
+/// This many rows of a listing are asked for after the others in turn: 240 between two openings, and so no more than 256.
 const ROWS: [u32; 4] = [3, 1, 40, 17];
 
 /// What one table said, and what is left of it.
@@ -167,7 +167,7 @@ where
 }
 
 /// As many commands as there are between two openings, from this one on, but no more once the table is finished or this many units are done.
-/// Behind the first two a listing is begun, and behind each later one it gives some rows.
+/// After the first two a listing is begun, and after each later one it gives some rows.
 fn some_steps<F: Layout>(
     alloc: Global,
     solver: &mut FileSolver<F>,
@@ -184,7 +184,7 @@ fn some_steps<F: Layout>(
     told
 }
 
-/// The commands before the listing. Answers whether others come behind them.
+/// The commands before the listing. Answers whether others come after them.
 fn first_steps<F: Layout>(
     alloc: Global,
     solver: &mut FileSolver<F>,
@@ -201,7 +201,7 @@ fn first_steps<F: Layout>(
     Ok(true)
 }
 
-/// The commands beside the listing, each with some rows behind it.
+/// The commands beside the listing, each with some rows after it.
 fn later_steps<F: Layout>(
     alloc: Global,
     solver: &mut FileSolver<F>,
@@ -256,7 +256,7 @@ fn is_done(counts: Option<Counts>, most: u32) -> bool {
     }
 }
 
-/// The next command, and a few questions behind it.
+/// The next command, and a few questions after it.
 fn step<F: Layout>(
     alloc: Global,
     solver: &mut FileSolver<F>,

@@ -12,7 +12,7 @@ abbrev pub LeadsThrough : (ℕ → List ℕ) → ℕ → List ℕ → Type 0
 LeadsThrough bytes from [] = from ≡ 0
 LeadsThrough bytes from (p ∷ ps) = (from ≡ p) × LeadsThrough bytes (next_in (bytes p)) ps
 
--- what these pages hold behind the number of the next one, joined
+-- what these pages hold after the number of the next one, joined
 abbrev pub payloads : (ℕ → List ℕ) → List ℕ → List ℕ
 payloads bytes [] = []
 payloads bytes (p ∷ ps) = drop 4 (bytes p) ++ payloads bytes ps

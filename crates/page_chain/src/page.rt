@@ -5,7 +5,7 @@ ghost use Rattle.page_chain.specs.declared.page.TheConstants.{PAYLOAD};
 
 use byteorder::{BigEndian, ByteOrder};
 
-/// How many bytes of content a page has, behind the number of the next one.
+/// How many bytes of content a page has, after the number of the next one.
 pub const PAYLOAD: usize = 4_092;
 
 /// How many bytes the number of the next page takes.

@@ -90,7 +90,7 @@ fn write_pages<P: Pages>(store: &mut P, pages: &[u32], content: &[u8]) -> Result
     Ok(())
 }
 
-/// The page behind this one, 0 behind the last.
+/// The page after this one, 0 after the last.
 fn next_after(pages: &[u32], place: usize) -> u32
     requires { place < length pages.now }
     ensures { result ≡ slice_index pages.now (place + 1) }

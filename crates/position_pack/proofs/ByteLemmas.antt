@@ -10,7 +10,7 @@ use Rattle.position_pack.specs.Bits.{bits_of, first_byte, bytes_from, bytes_of_b
 use Rattle.position_pack.proofs.OrderLemmas.{cmp_parts}
 use Rattle.position_pack.proofs.BitLemmas.{length-bits, bits_cmp}
 
--- the bits of bytes, one behind the other
+-- the bits of bytes, one after another
 abbrev pub all_bits : List ℕ → List ℕ
 all_bits = flat_map (bits_of 8)
 
@@ -78,7 +78,7 @@ bytes_again (b ∷ bs) low =
     ap (bytes_from (suc (length bs))) (all_bits-cons b bs) ∙ ap (λ x. x ∷ bytes_from (length bs) (all_bits bs)) (one_byte b low.0)
     ∙ ap (λ xs. b ∷ xs) (bytes_again bs low.1)
 
--- bytes are made alike from bits that are the same, with zeros behind
+-- bytes are made alike from bits that are the same, with zeros after
 pub bytes_alike : (n : ℕ) (xs ys : List ℕ) → ((i : ℕ) → get_or xs i 0 ≡ get_or ys i 0) → bytes_from n xs ≡ bytes_from n ys
 bytes_alike zero xs ys same = refl
 bytes_alike (suc n) xs ys same =
@@ -156,9 +156,9 @@ pub low_made : (n : ℕ) (xs : List ℕ) → AreBits xs → AreLowBytes (bytes_f
 low_made zero xs bits = tt
 low_made (suc n) xs bits = (low_first xs bits, low_made n (drop 8 xs) (bits_drop 8 xs bits))
 
--- ---- whole bytes, with zeros behind the bits
+-- ---- whole bytes, with zeros after the bits
 
--- this many zeros are behind the bits
+-- this many zeros are after the bits
 abbrev pub zeros_behind : List ℕ → ℕ
 zeros_behind xs = 8 * ((length xs + 7) / 8) - length xs
 

@@ -10,7 +10,7 @@ use Rattle.position_pack.proofs.TellLemmas.{Lacks, lacks, before, commas}
 use Rattle.position_pack.proofs.WordLemmas.{not_cut}
 use Rattle.position_pack.proofs.ValueBytes.{one_more}
 
--- each word with a comma behind it
+-- each word with a comma after it
 abbrev pub followed : List (List ℕ) → List ℕ
 followed = flat_map (λ w. w ++ 44 ∷ [])
 
@@ -19,7 +19,7 @@ behind : (f : ℕ → List ℕ) (xs : List ℕ) (x : ℕ) → commas (map f (xs 
 behind f [] x = flat_map-cons (λ w. 44 ∷ w) (f x) []
 behind f (y ∷ ys) x = flat_map-cons (λ w. 44 ∷ w) (f y) (map f (ys ++ x ∷ []))
 
--- words with a comma behind each, and one word more, are a list with commas
+-- words with a comma after each, and one word more, are a list with commas
 joined : (f : ℕ → List ℕ) (xs : List ℕ) (x : ℕ) → with_commas (map f (xs ++ x ∷ [])) ≡ followed (map f xs) ++ f x
 joined f [] x = append-nil (f x)
 joined f (y ∷ ys) x =
@@ -44,7 +44,7 @@ last_here f (y ∷ []) (suc i) e = absurd (omega (arith, e))
 last_here f (y ∷ z ∷ ys) zero e = absurd (omega (arith, e))
 last_here f (y ∷ z ∷ ys) (suc i) e = last_here f (z ∷ ys) i (omega (arith, e))
 
--- the first i items are read, and the rest is what stands behind them: in whatever the text is the list of, too
+-- the first i items are read, and the rest is what stands after them: in whatever the text is the list of, too
 pub record IsReadTo (f : ℕ → List ℕ) (Allowed : ℕ → ℕ → Type 0) (count : ℕ) (text : List ℕ) (i : ℕ) (xs rest : List ℕ) : Type 0 where
   pub as_many : length xs ≡ i
   pub allowed : (k : ℕ) → k < i → Allowed k (get_or xs k 0)
@@ -61,7 +61,7 @@ module _ (f : ℕ → List ℕ) (Allowed : ℕ → ℕ → Type 0) (count : ℕ)
   no_comma_left i xs rest so_far lt none ys are =
       not_cut 44 rest _ _ none (so_far.others ys are ∙ from_here f ys i (omega (arith, lt, are.as_many)))
 
-  -- the word before the comma is the item there, and what stands behind it is the others
+  -- the word before the comma is the item there, and what stands after it is the others
   word_told : (i : ℕ) (xs rest word back : List ℕ) → HasNoComma f Allowed count → IsReadTo f Allowed count text i xs rest → suc i < count → IsSplitAt 44 rest word back → (ys : List ℕ) → AreWrittenWithCommas f Allowed count text ys → (word ≡ f (get_or ys i 0)) × (back ≡ with_commas (map f (drop (suc i) ys)))
   word_told i xs rest word back plain so_far lt cut ys are =
       before 44 word _ back _ (lacks 44 word (λ k h. cut.front_lacks k 0 h)) (plain i _ (omega (arith, lt)) (are.allowed i (omega (arith, lt)))) (sym cut.text_is ∙ so_far.others ys are ∙ from_here f ys i (omega (arith, lt, are.as_many)))

@@ -29,7 +29,7 @@ field_more (most ∷ greatest) (x ∷ fields) (suc k) lt here =
     ap (λ n. field_bits (take n (most ∷ greatest)) (x ∷ fields)) next ∙ ap (λ xs. bits_of (width most) x ++ xs) rest
     ∙ sym (append_assoc (bits_of (width most) x) (field_bits (take k greatest) fields) (bits_of (width (get_or greatest k 0)) (get_or fields k 0)))
 
--- behind the last field nothing is
+-- after the last field nothing is
 pub field_none : (greatest fields : List ℕ) (k : ℕ) → length fields ≤ k → field_bits (take (k + 1) greatest) fields ≡ field_bits (take k greatest) fields
 field_none [] fields zero le = refl
 field_none [] fields (suc k) le = let next : suc k + 1 ≡ suc (k + 1) = omega arith in ap (λ n. field_bits (take n []) fields) next
@@ -50,7 +50,7 @@ length-field_bits (most ∷ greatest) (x ∷ fields) =
     let three = sum_by-cons width most greatest in
     omega (arith, rest, one, two, three)
 
--- the value that was read, and then what is behind it
+-- the value that was read, and then what is after it
 pub next_sound : (greatest : List ℕ) (k v : ℕ) (bits rest : List ℕ) → k < length greatest → v ≤ get_or greatest k 0 → bits ≡ bits_of (width (get_or greatest k 0)) v ++ rest
     → (ys zs : List ℕ) → AreBehind (drop (k + 1) greatest) rest ys zs → AreBehind (drop k greatest) bits (v ∷ ys) zs
 next_sound greatest k v bits rest lt le is ys zs behind =
@@ -61,7 +61,7 @@ next_sound greatest k v bits rest lt le is ys zs behind =
       bits_are = append_assoc (bits_of (width most) v) (field_bits (drop (k + 1) greatest) ys) zs ∙ ap (λ xs. bits_of (width most) v ++ xs) behind.bits_are ∙ sym is;
     })
 
--- what was there is the value that was read, and behind it the rest
+-- what was there is the value that was read, and after it the rest
 pub record IsNext (most v : ℕ) (greatest rest ys zs : List ℕ) : Type 0 where
   pub others : List ℕ
   pub begins : ys ≡ v ∷ others
@@ -93,7 +93,7 @@ next_complete greatest k v bits rest lt word low is ys zs behind =
 pub sum_drop : (greatest : List ℕ) (k : ℕ) → k < length greatest → sum_by width (drop k greatest) ≡ width (get_or greatest k 0) + sum_by width (drop (k + 1) greatest)
 sum_drop greatest k lt = ap (sum_by width) (drop_more greatest k 0 lt) ∙ sum_by-cons width (get_or greatest k 0) (drop (k + 1) greatest)
 
--- the fields of bytes, from what is behind them
+-- the fields of bytes, from what is after them
 pub read_all : (greatest bytes fields zs : List ℕ) (z : ℕ) → ((i : ℕ) → get_or bytes i 0 < 256) → z < 8 → zs ≡ replicate z 0 → AreBehind greatest (all_bits bytes) fields zs → AreFields greatest bytes fields
 read_all greatest bytes fields zs z low few zeros behind =
     record {
@@ -101,7 +101,7 @@ read_all greatest bytes fields zs z low few zeros behind =
       bytes_are = unpadded bytes (field_bits greatest fields) z (low_bytes bytes low) few (sym behind.bits_are ∙ ap (λ xs. field_bits greatest fields ++ xs) zeros);
     }
 
--- what is behind the fields of bytes are zeros
+-- what is after the fields of bytes are zeros
 pub all_behind : (greatest bytes fields : List ℕ) → AreFields greatest bytes fields → AreBehind greatest (all_bits bytes) fields (replicate (zeros_behind (field_bits greatest fields)) 0)
 all_behind greatest bytes fields are =
     record {
@@ -128,7 +128,7 @@ none_left : (bits ys zs : List ℕ) → AreBehind [] bits ys zs → zs ≡ bits
 none_left bits [] zs behind = behind.bits_are
 none_left bits (y ∷ ys) zs behind = absurd behind.within
 
--- behind the last field are zeros
+-- after the last field are zeros
 pub held_zero : (greatest bits ys : List ℕ) (k count held z : ℕ) → length greatest ≤ k → held < 2 ^ count → bits ≡ bits_of count held → AreBehind (drop k greatest) bits ys (replicate z 0) → held ≡ 0
 held_zero greatest bits ys k count held z last low is behind =
     let same : replicate z 0 ≡ bits_of count held = none_left bits ys (replicate z 0) (subst (λ ms. AreBehind ms bits ys (replicate z 0)) (drop_none greatest k last) behind) ∙ is in

@@ -53,7 +53,7 @@ byte_behind bs b = sym (flat_map_more (bits_of 8) [] bs b)
 
 -- ---- writing
 
--- a value behind what is held
+-- a value after what is held
 pub put_behind : (bs : List ℕ) (count w held value n : ℕ) → n ≡ held * 2 ^ w + value % 2 ^ w
     → all_bits bs ++ bits_of (count + w) n ≡ (all_bits bs ++ bits_of count held) ++ bits_of w value
 put_behind bs count w held value n is =

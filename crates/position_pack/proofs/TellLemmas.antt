@@ -194,7 +194,7 @@ module _ (game : Game) (sound : IsSoundGame game) (proper : HasProperNames game)
   pub piece_comma : (k : ℕ) → k < length game.pieces → Lacks 44 (piece_name game k)
   piece_comma k lt = subst (Lacks 44) (sym (piece_is game.pieces k)) (no_comma _ (proper.pieces_plain k [] lt))
 
-  -- the text from its parts, one behind the other
+  -- the text from its parts, one after another
   pub nested : (a b c d e : List ℕ) → a ++ 32 ∷ b ++ 32 ∷ c ++ 32 ∷ d ++ 32 ∷ e ≡ a ++ (32 ∷ (b ++ (32 ∷ (c ++ (32 ∷ (d ++ (32 ∷ e)))))))
   nested a b c d e = simp append_assoc
 

@@ -26,13 +26,13 @@ abbrev pub greatest_of : Shape → List ℕ
 greatest_of shape =
     replicate shape.vertices (shape.pieces - 1) ++ shape.bounds ++ (shape.vertices - 1) ∷ 2 ∷ shape.actions ∷ []
 
--- each field in the fewest bits for its greatest value, one behind the other
+-- each field in the fewest bits for its greatest value, one after another
 abbrev pub field_bits : List ℕ → List ℕ → List ℕ
 field_bits [] fields = []
 field_bits (most ∷ greatest) [] = []
 field_bits (most ∷ greatest) (x ∷ fields) = bits_of (width most) x ++ field_bits greatest fields
 
--- the number of the first eight bits, the most significant first, with zeros behind the last
+-- the number of the first eight bits, the most significant first, with zeros after the last
 abbrev pub first_byte : List ℕ → ℕ
 first_byte bits =
     128 * get_or bits 0 0 + 64 * get_or bits 1 0 + 32 * get_or bits 2 0 + 16 * get_or bits 3 0

@@ -70,7 +70,7 @@ pub fn fields_of(at: &Position) -> Fields
     fields
 }
 
-/// Puts the pieces behind the fields.
+/// Puts the pieces after the fields.
 fn put_pieces(fields: &mut Fields, pieces: &[u8])
     requires { array_vec_len fields.old + length pieces.now ≤ 165 }
     ensures items { fields.new.items ≡ fields.old.items ++ pieces.now }
@@ -137,7 +137,7 @@ pub fn put_fields(greatest: &[u32], fields: &[u32]) -> Packed
     finish(writer)
 }
 
-/// The fields with these bytes: none where one is over its greatest value, or a bit behind the last
+/// The fields with these bytes: none where one is over its greatest value, or a bit after the last
 /// is not zero.
 pub fn take_fields(greatest: &[u32], bytes: &[u8]) -> Option<Fields>
     requires few { length greatest.now ≤ 165 }

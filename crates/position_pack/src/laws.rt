@@ -18,7 +18,7 @@ pub fn widths_are_fewest()
     ensures { WidthsAreFewest }
 {}
 
-/// The bits of a position by packing 2 fill whole bytes, with zeros behind them, fewer than eight.
+/// The bits of a position by packing 2 fill whole bytes, with zeros after them, fewer than eight.
 pub fn bits_are_padded()
     ensures { BitsArePadded }
 {}

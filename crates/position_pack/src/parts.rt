@@ -45,7 +45,7 @@ pub fn role_of(byte: u8) -> Option<Role>
     }
 }
 
-/// Puts more behind the bytes.
+/// Puts more after the bytes.
 pub fn put_bytes(bytes: &mut Packed, more: &[u8])
     requires { array_vec_len bytes.old + length more.now ≤ 240 }
     ensures items { bytes.new.items ≡ bytes.old.items ++ more.now }
@@ -54,7 +54,7 @@ pub fn put_bytes(bytes: &mut Packed, more: &[u8])
     let _room = bytes.try_extend_from_slice(more);
 }
 
-/// Puts three bytes for each value behind the bytes.
+/// Puts three bytes for each value after the bytes.
 pub fn put_values(bytes: &mut Packed, values: &[u32])
     requires { array_vec_len bytes.old + 3 * length values.now ≤ 240 }
     ensures items { bytes.new.items ≡ bytes.old.items ++ flat_map (bytes_high_first 3) values.now }

@@ -17,7 +17,7 @@ use rbg_game::position::{Position, SemiState};
 
 /// The position of this game that the text spells: none where the text is that of no position of
 /// the game. A position has one text, as `white 2 v e 0,0,3`; with a zero or a blank too many, a
-/// value over its bound, or anything behind it there is none. It takes no memory and always
+/// value over its bound, or anything after it there is none. It takes no memory and always
 /// answers.
 pub fn read_position(game: &Game, text: &[u8]) -> Option<Position>
     requires sound { IsSoundGame (game_of game.now) }

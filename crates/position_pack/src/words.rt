@@ -3,7 +3,7 @@
 ghost use Rattle.std.specs.Prelude.{◌≢◌, ℕ, All, List, MatchOption};
 ghost use Rattle.position_pack.specs.aid.Spelled.{IsSplitAt, AreWords};
 
-/// What stands before the first such byte and what behind it: none where the byte is not there.
+/// What stands before the first such byte and what after it: none where the byte is not there.
 pub fn cut(text: &[u8], byte: u8) -> Option<(&[u8], &[u8])>
     ensures { MatchOption result (All (λ b. b ≢ byte) text.now) (λ parts. IsSplitAt byte text.now parts.0.now parts.1.now) }
 {

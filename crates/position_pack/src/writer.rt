@@ -1,4 +1,4 @@
-//! Bits one behind the other, as bytes.
+//! Bits one after another, as bytes.
 
 ghost use Rattle.std.specs.Prelude.{◌≡◌, ◌+◌, ◌^◌, ◌≤◌, ◌<◌, ◌++◌, [], length};
 ghost use Rattle.position_pack.specs.Bits.{bits_of, bytes_of_bits};
@@ -45,7 +45,7 @@ pub fn put(writer: &mut Writer, width: u32, value: u32)
     writer.count = count;
 }
 
-/// The bytes, with zeros behind the last bit.
+/// The bytes, with zeros after the last bit.
 pub fn finish(mut writer: Writer) -> Packed
     requires writer { IsWriter writer }
     requires room { length (written writer) ≤ 1920 }

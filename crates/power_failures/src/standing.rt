@@ -1,4 +1,4 @@
-//! What is found on a disk behind a stop.
+//! What is found on a disk after a stop.
 
 use crate::named::told_pages;
 use crate::sweep::TELLING;

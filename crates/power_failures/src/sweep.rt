@@ -123,7 +123,7 @@ pub fn telling(alloc: Global, disk: &MemDisk) -> anyhow::Result<Vec<u8>> {
     Ok(told)
 }
 
-/// Puts the sectors of a disk behind these bytes.
+/// Puts the sectors of a disk after these bytes.
 fn add_sectors(disk: &mut MemDisk, told: &mut Vec<u8>) -> anyhow::Result<()> {
     let mut sector = [0; 512];
     for at in 0..disk.sectors() {

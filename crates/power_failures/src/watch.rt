@@ -54,7 +54,7 @@ fn watched(given: Given<'_>, disk: MemDisk, deed: Deed) -> anyhow::Result<(MemDi
     }
 }
 
-/// Both root slots and the gate, a sync, the header, a sync; and the sync of the opening behind it.
+/// Both root slots and the gate, a sync, the header, a sync; and the sync of the opening after it.
 fn is_creation(calls: &[Call]) -> bool {
     let wanted = [
         Call::Sync,

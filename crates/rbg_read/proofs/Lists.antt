@@ -60,7 +60,7 @@ pub map_turn : {X Y Z : Type 0} (f : X → Z) (g : Y → Z) (made more : List X)
 map_turn f g made more new ys i d below pushed same so_far =
     ap (map f) pushed ∙ map_push f made new ∙ ap (λ zs. map f made ++ zs ∷ []) same ∙ ap (λ zs. zs ++ g (get_or ys i d) ∷ []) so_far ∙ sym (map_more g ys i d below)
 
--- the same behind a list that was there
+-- the same after a list that was there
 pub turn_behind : {X Y Z : Type 0} (f : X → Z) (g : Y → Z) (made more : List X) (new : X) (old : List Z) (ys : List Y) (i : ℕ) (d : Y) → i < length ys → more ≡ made ++ new ∷ [] → f new ≡ g (get_or ys i d) → map f made ≡ old ++ map g (take i ys) → map f more ≡ old ++ map g (take (i + 1) ys)
 turn_behind f g made more new old ys i d below pushed same so_far =
     ap (map f) pushed ∙ map_push f made new ∙ ap (λ z. map f made ++ z ∷ []) same ∙ ap (λ zs. zs ++ g (get_or ys i d) ∷ []) so_far ∙ append_assoc old (map g (take i ys)) (g (get_or ys i d) ∷ []) ∙ ap (λ zs. old ++ zs) (sym (map_more g ys i d below))

@@ -21,7 +21,7 @@ length_actions (cat a b) = omega (arith, length-append (actions_of a) (actions_o
 length_actions (alt a b) = omega (arith, length-append (actions_of a) (actions_of b), length_actions a, length_actions b)
 length_actions (star a) = length_actions a
 
--- no action has a number behind the last
+-- no action has a number after the last
 none_behind : (e : Regex) (n k : ℕ) → n + count e ≤ k → action_at e n k ≡ None
 none_behind (one a) n k above = go (k == n) refl
   where

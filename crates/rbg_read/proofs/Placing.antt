@@ -74,7 +74,7 @@ stands text old here new last next t at_last size gap takes is =
       so_far = omega (arith, size, long_old, long_here, is);
     }
 
--- a token that is put behind the others
+-- a token that is put after the others
 pub one_more_placed : (text old new : Text) (found longer : List Lexeme) (l : Lexeme) (last next : ℕ) (t : Token)
     → ((more : List Lexeme) → Stand text more old → Stand text (found ++ more) text) → Stands text old last next t new → token_view l.token ≡ t
     → l.at ≡ next - length (token_text t) → l.bytes.now ≡ take (length (token_text t)) (drop l.at text) → l.gap.now ≡ take (l.at - last) (drop last text)

@@ -55,7 +55,7 @@ commas_behind said P each (x ∷ xs) rest h =
     let more = further_behind said P each xs rest one.1 in
     (All-cons P x xs one.0 more.0, more.1)
 
--- ---- what stands behind expressions and rules
+-- ---- what stands after expressions and rules
 
 mutual
   unfolding Fine

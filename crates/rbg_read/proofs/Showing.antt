@@ -84,7 +84,7 @@ got f [] k x at lt = absurd (omega (arith, lt))
 got f (y ∷ xs) zero x at lt = ap (λ z. Some (f z)) (sym at)
 got f (y ∷ xs) (suc k) x at lt = got f xs k x at (omega (arith, lt))
 
--- the line of the action at an index behind the others
+-- the line of the action at an index after the others
 pub one_line_more : (text : Text) (tokens : List Lexeme) (actions : List Stretch) (spots : List Spot) (i : ℕ) (lines longer : List ℕ) (s : Stretch)
     → Stand text tokens text → map (cut_of tokens) actions ≡ map cut_at spots → All (λ stretch. stretch.to ≤ length tokens) actions
     → s ≡ get_or actions i s → i < length actions → AreActionLines text (take i (map (cut_of tokens) actions)) 1 lines

@@ -178,7 +178,7 @@ vertices_pass [] rest = refl
 vertices_pass (after_comma v ∷ more) rest = vertex_passes v _ ∙ vertices_pass more rest
 vertices_pass (at_once v ∷ more) rest = vertex_passes v _ ∙ vertices_pass more rest
 
--- behind the rules a section begins, or the text ends
+-- after the rules a section begins, or the text ends
 behind_rules : (all : List Section) → found_from rules (g.text all) ≡ found_from elsewhere (g.text all)
 behind_rules [] = refl
 behind_rules (g.players first more ∷ all) = refl

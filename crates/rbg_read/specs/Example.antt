@@ -21,7 +21,7 @@ example_text =
     ++ codes "  + {$ coins == steps} {$ coins < steps} {$ coins > steps} {$ coins >= steps}\n"
     ++ codes "  ->black [$ steps = 2]* ->> // the end"
 
--- the variables, behind the two players
+-- the variables, after the two players
 abbrev pub coins : Expression
 coins = variable 2
 

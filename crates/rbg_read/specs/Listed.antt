@@ -11,12 +11,12 @@ use Rattle.rbg_read.specs.Reading.{Parses}
 use Rattle.rbg_read.specs.Written.{Cut, cut_at, spots_of}
 use Rattle.rbg_read.specs.declared.numbered.lines.LineColumn.{LineColumn}
 
--- the place behind a byte that stands at this one; a line feed ends a line
+-- the place after a byte that stands at this one; a line feed ends a line
 abbrev pub behind_byte : LineColumn → ℕ → LineColumn
 behind_byte place b =
     if b == 10 then record { line = place.line + 1; column = 1 } else record { line = place.line; column = place.column + 1 }
 
--- the place of the byte behind this many others
+-- the place of the byte after this many others
 abbrev pub place_of : Text → ℕ → LineColumn
 place_of text at = fold behind_byte (record { line = 1; column = 1 }) (take at text)
 

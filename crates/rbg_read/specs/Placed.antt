@@ -5,7 +5,7 @@ use Rattle.rbg_text.specs.View.{token_view}
 use Rattle.rbg_read.specs.declared.numbered.lexemes.Lexeme.{Lexeme}
 
 -- the token stands at its byte of the text: before it, from the part `tail` of the text on, are the blanks and comments that go with it, and
--- behind it is the part `rest`
+-- after it is the part `rest`
 pub record IsLexeme (text : Text) (lexeme : Lexeme) (tail rest : Text) : Type 0 where
   pub between : Gap tail (drop lexeme.at text)
   pub takes : Takes (drop lexeme.at text) (token_view lexeme.token) rest

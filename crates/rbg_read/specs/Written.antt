@@ -22,12 +22,12 @@ abbrev pub meaning : Names → Written → Regex
 meaning names (assigned a) = means.assignment names a
 meaning names (other b) = base_rules names b
 
--- an action where it stands: the tokens behind it are all those up to the end of the text
+-- an action where it stands: the tokens after it are all those up to the end of the text
 pub record Spot : Type 0 where
   pub written : Written
   pub behind : Tokens
 
--- the tokens of a text from an action on, and those behind it
+-- the tokens of a text from an action on, and those after it
 pub record Cut : Type 0 where
   pub here : Tokens
   pub behind : Tokens
@@ -40,7 +40,7 @@ abbrev pub further_assigned : List syntax.Assignment → Tokens → List Spot
 further_assigned [] rest = []
 further_assigned (a ∷ more) rest = record { written = assigned a; behind = further syntax.assignment more rest } ∷ further_assigned more rest
 
--- the actions that rules number, in the order of their text, where the tokens `rest` stand behind the rules: each assignment of a list,
+-- the actions that rules number, in the order of their text, where the tokens `rest` stand after the rules: each assignment of a list,
 -- a pattern as one, and every other
 abbrev mutual
   pub spots : syntax.Sum → Tokens → List Spot

@@ -83,7 +83,7 @@ pub fn is_past_a_limit(names: &Names, parts: &Parts) -> bool
         || action_count(parts.steps.as_slice()) > MAX_ACTIONS
 }
 
-/// The bounds, behind others.
+/// The bounds, after others.
 fn add_bounds(bounds: &mut Vec<u32>, declarations: &[Declaration]) -> Result<(), AllocError>
     requires { list_any (λ d. spec.has_large_bound (declaration_view d)) declarations.now ≡ false }
     ensures { IfOk result (λ _. bounds.new.items ≡ bounds.old.items ++ map (λ d. decimal d.bound.now) declarations.now) }

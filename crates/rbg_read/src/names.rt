@@ -69,7 +69,7 @@ pub fn has_repeat(names: &[&[u8]]) -> bool
     false
 }
 
-/// The names of players or variables, behind others.
+/// The names of players or variables, after others.
 fn add_declared<'a>(
     names: &mut Vec<&'a [u8]>,
     declarations: &[Declaration<'a>],
@@ -83,7 +83,7 @@ fn add_declared<'a>(
     Ok(())
 }
 
-/// The labels of arrows behind others, each once.
+/// The labels of arrows after others, each once.
 fn add_labels<'a>(labels: &mut Vec<&'a [u8]>, arrows: &[Arrow<'a>]) -> Result<(), AllocError>
     ensures { IfOk result (λ _. map (λ w. w.now) labels.new.items
         ≡ fold with_label (map (λ w. w.now) labels.old.items) (map (λ a. a.label.now) arrows.now)) }

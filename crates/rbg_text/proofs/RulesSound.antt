@@ -230,7 +230,7 @@ module _ (inner value : Parser (Unit {0})) (sums : Sound inner IsSum) (values : 
     ]
   ]
 
-  -- what stands behind a sign that came first
+  -- what stands after a sign that came first
   behind : (s : Sign) (i j : ParseState) → first i.tokens ≡ Some (Token.sign s) → Behind s (advance i) j → IsBase i j
   unfolding advance
   behind s i j h b = record { what = b.what; tokens = first_is i.tokens (Token.sign s) h ∙ b.tokens; steps = b.steps }

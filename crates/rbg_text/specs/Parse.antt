@@ -4,7 +4,7 @@ use Rattle.rbg_game.specs.declared.rules.Comparison.{Comparison}
 use Rattle.rbg_text.specs.Token.{Text}
 use Rattle.rbg_text.specs.Syntax.{Tokens}
 
--- A step of the rules in postfix order: an operator stands behind its operands, a set before its pieces.
+-- A step of the rules in postfix order: an operator stands after its operands, a set before its pieces.
 pub data ParseStep : Type 0 where
   number : Text → ParseStep
   variable : Text → ParseStep

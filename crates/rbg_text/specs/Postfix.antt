@@ -1,4 +1,4 @@
--- The steps of an expression in postfix order, behind the steps `out`.
+-- The steps of an expression in postfix order, after the steps `out`.
 use Rattle.std.specs.Prelude.{List, [], ◌∷◌, ◌++◌}
 use Rattle.rbg_text.specs.Syntax.{Expr, sum_of, plus, minus, Term, product_of, times, Factor, positive, negative, Atom, literal}
 use Rattle.rbg_text.specs.Syntax.{parenthesized, Assignment, Sum, branch, either, Concat, single, followed, Element, once, star, Base}

@@ -229,7 +229,7 @@ impl<'a> Lexer<'a> {
         }
     }
 
-    /// How many bytes of the text are left: those behind the last token, or from the byte on that
+    /// How many bytes of the text are left: those after the last token, or from the byte on that
     /// begins none.
     pub fn left(&self) -> usize
         ensures { result ≡ length self.now }

@@ -13,7 +13,7 @@ use std::alloc::Global;
 use std::marker::Model;
 use std::mem;
 
-/// A step of the rules in postfix order: an operator stands behind its operands, a set before its
+/// A step of the rules in postfix order: an operator stands after its operands, a set before its
 /// pieces.
 #[derive(Clone, Copy)]
 pub enum Step<'a> {

@@ -24,7 +24,7 @@ pub struct Vertex<'a> {
     pub arrows: Vec<Arrow<'a>>,
 }
 
-/// A section, with what stands behind its `=`. No list but that of the variables is empty.
+/// A section, with what stands after its `=`. No list but that of the variables is empty.
 #[derive(Drop)]
 pub enum Section<'a> {
     Players(Vec<Declaration<'a>>),

@@ -24,7 +24,7 @@ pub record Expands {P : Type 0} (cmp : P → P → Ordering) (graph : Graph P) (
   pub number : slice_get old.positions (expanded_count old) ≡ Some x
   pub successors : IsSuccessorList cmp graph x ys
   pub expanded : expanded_count new ≡ suc (expanded_count old)
-  -- behind the known positions stand, in order, those of them that were not known
+  -- after the known positions stand, in order, those of them that were not known
   pub known : (found : List P) × IsNewFrom cmp graph old.positions x found × (new.positions ≡ old.positions ++ found)
   -- each known position has a record, and no other is kept
   pub records : length new.records ≡ length new.positions

@@ -3,7 +3,7 @@ use Rattle.std.proofs.Common.{◌≡◌, ◌∙◌, ◌≤◌, length, ap, sym, 
 use Rattle.sector_disk.specs.Disk.{Picture, sector, Shown, MayLeave, SyncedMore, Disk, Steps, GoesOn, LeavesOnly}
 use Rattle.sector_disk.specs.aid.Moments.{leaves_step, leaves_then, leaves_more}
 
--- what a stop leaves behind a sync, it may leave before
+-- what a stop leaves after a sync, it may leave before
 pub left_before : {old new : Shown} → SyncedMore old new → (picture : Picture) → MayLeave new picture → MayLeave old picture
 left_before {old} {new} more picture left = record {
   no_shorter = omega (arith, more.lasting, left.no_shorter);
@@ -15,7 +15,7 @@ left_before {old} {new} more picture left = record {
 pub leaves_synced : {old new : Disk} → Steps old new → SyncedMore old.now new.now → LeavesOnly old new (MayLeave old.now)
 leaves_synced step more = leaves_step step (λ picture left. left) (left_before more)
 
--- a read behind it
+-- a read after it
 pub leaves_read : {old mid new : Disk} → LeavesOnly old mid (MayLeave old.now) → SyncedMore old.now mid.now → Steps mid new → new.now ≡ mid.now
     → LeavesOnly old new (MayLeave old.now)
 leaves_read first more step is =
@@ -25,7 +25,7 @@ leaves_read first more step is =
 pub same_read : {old mid new : Shown} → SyncedMore old mid → new ≡ mid → SyncedMore old new
 same_read {old} more is = subst (λ (s : Shown). SyncedMore old s) (sym is) more
 
--- more reads behind it
+-- more reads after it
 pub leaves_reads : {old mid new : Disk} → LeavesOnly old mid (MayLeave old.now) → SyncedMore old.now mid.now → GoesOn mid new → LeavesOnly mid new (MayLeave mid.now)
     → LeavesOnly old new (MayLeave old.now)
 leaves_reads first more goes_on then = leaves_then goes_on first (leaves_more (left_before more) then)

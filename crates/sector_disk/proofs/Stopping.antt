@@ -135,7 +135,7 @@ number_next synced place number next is number_is is_is next_is =
     sum_again (unsynced_below synced place) (one_if (synced place)) number next number_is (next_is ∙ ap (λ (b : Bool). (number + one_if b) % 32) is_is)
     ∙ ap (λ (k : ℕ). unsynced_below synced k % 32) more
 
--- the picture goes on behind a place that does not end it
+-- the picture goes on after a place that does not end it
 pub there_more : (pick lasting place number d : ℕ) (synced : ℕ → Bool) → number ≡ unsynced_below synced place % 32 → d ≡ digit pick number
     → (lasting ≤ place → d ≢ 0) → ((k : ℕ) → lasting ≤ k → k < place → digit pick (unsynced_below synced k) ≢ 0)
     → (k : ℕ) → lasting ≤ k → k < place + 1 → digit pick (unsynced_below synced k) ≢ 0

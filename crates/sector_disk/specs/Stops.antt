@@ -37,7 +37,7 @@ left_at pick synced before written k =
     else torn (digit pick (unsynced_below synced k)) ((k + pick / 4) % 256) (was_at before k) (sector written k)
 
 -- where the picture ends after the stop that a number picks: of the sectors that are new since the last sync the first with digit 0 is
--- not there, as at that sync, and none behind it is
+-- not there, as at that sync, and none after it is
 pub record IsEndOf (pick : ℕ) (synced : ℕ → Bool) (lasting written end : ℕ) : Type 0 where
   pub no_shorter : lasting ≤ end
   pub no_longer : end ≤ written

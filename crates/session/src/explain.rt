@@ -125,7 +125,7 @@ fn unfit(alloc: Global, text: &[u8], next: Placed<'_>) -> Result<Explanation, Al
     })
 }
 
-/// The first word behind a `#` that names no section, up to the place that was read.
+/// The first word after a `#` that names no section, up to the place that was read.
 fn unknown_section<'a>(placed: &[Placed<'a>], read: usize) -> Option<Titled<'a>> {
     for place in 1..placed.len() {
         if place > read {

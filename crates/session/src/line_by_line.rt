@@ -125,7 +125,7 @@ fn answer_all<F: Versions, R: Read, W: Write, E: Write>(
     4
 }
 
-/// Answers the lines that end in these bytes, and keeps what stands behind the last of them. Gives the status where the
+/// Answers the lines that end in these bytes, and keeps what stands after the last of them. Gives the status where the
 /// session ends.
 fn answer_chunk<F: Versions, W: Write, E: Write>(
     alloc: Global,

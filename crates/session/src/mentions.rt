@@ -90,7 +90,7 @@ pub fn is_sign(tokens: &[Placed<'_>], place: usize, sign: Sign) -> bool {
     }
 }
 
-/// The section that the word behind a `#` begins.
+/// The section that the word after a `#` begins.
 fn section_of(word: &[u8]) -> Within {
     match word {
         b"players" => Within::Players,

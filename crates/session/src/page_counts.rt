@@ -5,7 +5,7 @@ use page_store::MAX_PAGES;
 /// The bytes of a page.
 const PAGE: u64 = 4_096;
 
-/// The pages that a word asks for, 1 to 1,048,576: their number, one to ten digits, or with K, M or G behind it a number of bytes, as many as
+/// The pages that a word asks for, 1 to 1,048,576: their number, one to ten digits, or with K, M or G after it a number of bytes, as many as
 /// 1,024 or that again each, which has room for this many pages.
 pub fn pages_of(word: &str) -> Option<u32> {
     let (digits, unit) = unit_of(word);

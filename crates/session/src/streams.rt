@@ -6,7 +6,7 @@ use std::io;
 /// Three files that take the lowest descriptors which were free, while the program runs. A program may be started with
 /// standard input, output or error closed; the next file that is opened would then get its descriptor, and be read as commands or
 /// written with replies. Each is the folder `/`, opened to be read: nothing can be written to it, and it has no bytes to
-/// read. So whatever is opened behind them has a descriptor above 2, and a stream that was closed fails.
+/// read. So whatever is opened after them has a descriptor above 2, and a stream that was closed fails.
 #[derive(Drop)]
 pub struct Streams {
     first: File,

@@ -122,7 +122,7 @@ fn parsed<'a>(alloc: Global, words: &'a [String]) -> Result<Words, Error> {
     Ok(asked_in(alloc, &matches)?)
 }
 
-/// Whether what stands behind `--pages` is no number of pages.
+/// Whether what stands after `--pages` is no number of pages.
 fn has_no_pages(matches: &ArgMatches<'_>) -> bool {
     match matches.subcommand() {
         Some(("create" | "grow", inner)) => pages_in(inner).is_none(),
@@ -130,12 +130,12 @@ fn has_no_pages(matches: &ArgMatches<'_>) -> bool {
     }
 }
 
-/// The pages that stand behind `--pages`.
+/// The pages that stand after `--pages`.
 fn pages_in(matches: &ArgMatches<'_>) -> Option<u32> {
     pages_of(matches.get_str("pages").unwrap_or(""))
 }
 
-/// Whether what stands behind `--goal` is anything but one to ten digits.
+/// Whether what stands after `--goal` is anything but one to ten digits.
 fn has_signed_goal(matches: &ArgMatches<'_>) -> bool {
     match matches.subcommand() {
         Some(("load", inner)) => !is_number(inner.get_str("goal").unwrap_or("0")),
@@ -151,7 +151,7 @@ fn asked_in(alloc: Global, matches: &ArgMatches<'_>) -> Result<Words, AllocError
     }
 }
 
-/// What the command of this name asks for, with the words behind it.
+/// What the command of this name asks for, with the words after it.
 fn asked_for(alloc: Global, name: &str, inner: &ArgMatches<'_>) -> Result<Words, AllocError> {
     match name {
         "create" => Ok(Words::Create {

@@ -103,7 +103,7 @@ in_words line first rest asked is some other (few words _ are short say) =
 pub no_words : (line word rest : List ℕ) → IsFirstWord line word rest → word ≡ [] → AsksInWords line Nothing
 no_words line word rest is none = AsksInWords.few [] Nothing (line, refl, blank line word rest is none) (omega arith) tt refl
 
--- the first word is `find`, and this is behind it
+-- the first word is `find`, and this is after it
 pub finds : (line first rest behind : List ℕ) → IsFirstWord line first rest → first ≡ codes "find" → rest ≡ behind → BeginsWith line (codes "find") behind
 finds line first rest behind (inl it) is_find is = subst (λ r. BeginsWith line (codes "find") r) is (subst (λ w. BeginsWith line w rest) is_find it)
 finds line first rest behind (inr it) is_find is = absurd (omega (arith, ap length (sym it.0 ∙ is_find)))

@@ -8,7 +8,7 @@ use Rattle.session_lines.specs.Asked.{AsksInWords, BeginsWith, IsBlank, WritesNu
 use Rattle.session_lines.specs.Looked.{GameBehind, HasOtherWord, LooksInWords, MovesBehind, SayMoves, ValueIn, as_look}
 use Rattle.session_lines.specs.aid.Words.{IsFirstWord}
 
--- the first word is this one, and this is behind it
+-- the first word is this one, and this is after it
 word_is : (line first rest word behind : List ℕ) → IsFirstWord line first rest → first ≡ word → rest ≡ behind → word ≢ [] → BeginsWith line word behind
 word_is line first rest word behind (inl it) same is some = subst (BeginsWith line word) is (subst (λ w. BeginsWith line w rest) same it)
 word_is line first rest word behind (inr it) same is some = absurd (some (sym same ∙ it.0))

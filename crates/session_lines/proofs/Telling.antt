@@ -24,7 +24,7 @@ line_told number numbers text state told so is = λ honest. go state.kept (told 
     go None none so = none
     go (Some k) told so = record { numbers = numbers; told = told; so = so; text_is = is }
 
--- the lines of moves, best first, of the table that they are told of, in the game that is kept behind the question
+-- the lines of moves, best first, of the table that they are told of, in the game that is kept after the question
 pub moves_told : (number : ℕ) (game : Game) (known : KnownMoves) (sorted : List KnownMove) (text : List ℕ) (old new : State) → IsTrue old.disk.honest
     → Tells (HasMoves number known) old → (IsTrue old.disk.honest → new.kept ≡ old.kept) → OfKept (IsGameOf game) new.kept
     → IsBestFirst known.mover known.moves.items sorted → text ≡ known_lines game sorted → OfKept (AreMoveLines number text) old.kept

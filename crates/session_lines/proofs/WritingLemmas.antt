@@ -19,7 +19,7 @@ one_more_line game (m ∷ moves) (suc k) written line lt are is =
     let next = rw add-one at rest in
     rw add-one (are.0, are.1 ++ line, ap (λ w. w ++ line) are.2 ∙ append_assoc are.0 are.1 line, are.3, next)
 
--- memory ran out behind some lines
+-- memory ran out after some lines
 pub stopped : {X : Type 0} (game : Game) (moves : List ShownMove) (Written : List ℕ → Type 0) (r : Result X Stop) → IsErrAnd r (λ stop. stop ≡ Refused OutOfMemory)
     → ((k : ℕ) × (lines : List ℕ) × AreLines game (take k moves) lines × Written lines) → IfErr r (IsStoppedLine game moves Written)
 stopped game moves Written (Ok x) h lines = absurd h

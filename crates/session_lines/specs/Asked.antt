@@ -18,7 +18,7 @@ EndsWord (byte ∷ _) = byte ≡ 32
 abbrev pub IsBlank : List ℕ → Type 0
 IsBlank = All (λ byte. byte ≡ 32)
 
--- behind some spaces, or none, the line begins with this word, and this is left
+-- after some spaces, or none, the line begins with this word, and this is left
 pub record BeginsWith (line word rest : List ℕ) : Type 0 where
   pub blanks : List ℕ
   pub blank : IsBlank blanks
@@ -74,7 +74,7 @@ abbrev pub IsNotFind : List (List ℕ) → Type 0
 IsNotFind [] = Unit {0}
 IsNotFind (word ∷ _) = word ≢ codes "find"
 
--- what a line asks for whose first word is `find`: all that stands behind one space is the text of a position
+-- what a line asks for whose first word is `find`: all that stands after one space is the text of a position
 abbrev pub FindsIn : List ℕ → Asked → Type 0
 FindsIn line (Question (Find text)) = BeginsWith line (codes "find") (32 ∷ text.now)
 FindsIn line Usage = BeginsWith line (codes "find") []

@@ -34,7 +34,7 @@ pub record AreNextLines (table : Stored (List ℕ)) (place next count : ℕ) (te
 abbrev pub done_line : List ℕ
 done_line = codes "done" ++ 10 ∷ []
 
--- the next rows, a line each, and the place behind them, or `done` where none is left
+-- the next rows, a line each, and the place after them, or `done` where none is left
 abbrev pub IsNextText : Stored (List ℕ) → ℕ → ℕ → ℕ → List ℕ → Option Kept → Type 0
 IsNextText table place next count text kept =
     (AreRows (view_of table) place count [] × (next ≡ place) × (text ≡ done_line)) ⊎ OfKept (AreNextLines table place next count text) kept
@@ -44,7 +44,7 @@ abbrev pub IsNoneOpen : {Version : Type 0} → List (Listing Version) → List (
 IsNoneOpen before after status line = (before ≡ []) × (after ≡ []) × (status ≡ 0) × (line ≡ codes "usage" ++ 10 ∷ [])
 
 module _ {F Version : Type 0} (state : F → State) (IsVersion : Version → Stored (List ℕ) → F → Type 0) where
-  -- a listing of the table of the last commit, at its first row, stands behind those that were open, and is told
+  -- a listing of the table of the last commit, at its first row, stands after those that were open, and is told
   pub record IsBegun (old new : F) (before after : List (Listing Version)) (line : List ℕ) : Type 0 where
     pub listing : Listing Version
     pub behind : after ≡ before ++ listing ∷ []

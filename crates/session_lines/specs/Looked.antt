@@ -18,24 +18,24 @@ as_look asked.Help = Help
 as_look asked.Quit = Quit
 as_look asked.Usage = Usage
 
--- the words behind `moves` are one number, or `usage` is answered
+-- the words after `moves` are one number, or `usage` is answered
 abbrev pub SayMoves : List (List ℕ) → Looked → Type 0
 SayMoves words (Moves number) = (word : List ℕ) × (words ≡ word ∷ []) × WritesNumber word number
 SayMoves words Usage = (word : List ℕ) (number : ℕ) → words ≡ word ∷ [] → ¬ WritesNumber word number
 SayMoves words _ = ⊥
 
--- what `moves` asks for with this behind it; it takes one word
+-- what `moves` asks for with this after it; it takes one word
 pub data MovesBehind (rest : List ℕ) : Looked → Type 0 where
   many : (words : List (List ℕ)) (left : List ℕ) → StartsWith rest words left → length words ≡ 2 → MovesBehind rest Usage
   few : (words : List (List ℕ)) (looked : Looked) → HasWords rest words → length words ≤ 1 → SayMoves words looked → MovesBehind rest looked
 
--- what `game` asks for with this behind it; it takes no word
+-- what `game` asks for with this after it; it takes no word
 abbrev pub GameBehind : List ℕ → Looked → Type 0
 GameBehind rest Game = IsBlank rest
 GameBehind rest Usage = (word : List ℕ) × (left : List ℕ) × BeginsWith rest word left
 GameBehind rest _ = ⊥
 
--- what a line asks for whose first word is `value-of`: all that stands behind one space is the text of a position
+-- what a line asks for whose first word is `value-of`: all that stands after one space is the text of a position
 abbrev pub ValueIn : List ℕ → Looked → Type 0
 ValueIn line (ValueOf text) = BeginsWith line (codes "value-of") (32 ∷ text.now)
 ValueIn line Usage = BeginsWith line (codes "value-of") []

@@ -8,7 +8,7 @@ use Rattle.solver.specs.declared.fault.SolverFault.TheVariants.{KeeperChooses}
 use Rattle.solver.specs.Faults.{code_of}
 use Rattle.session_lines.specs.Counted.{IsWorkLine}
 
--- what stands behind the code: after S3 the number of the position from which the keeper has a choice
+-- what stands after the code: after S3 the number of the position from which the keeper has a choice
 abbrev pub behind_code : SolverFault → List ℕ
 behind_code (KeeperChooses number) = 32 ∷ decimal number
 behind_code _ = []

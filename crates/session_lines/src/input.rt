@@ -50,7 +50,7 @@ impl Line {
         }
     }
 
-    /// Puts a byte behind the line. One byte more than a line may have is kept, since it may belong to its end.
+    /// Puts a byte after the line. One byte more than a line may have is kept, since it may belong to its end.
     pub fn push(&mut self, byte: u8) -> Result<(), AllocError>
         ensures room { length self.old.bytes.items ≤ MAX_LINE_BYTES → self.old.is_too_long ≡ false
             → OnOk result ((self.new.bytes.items ≡ self.old.bytes.items ++ byte ∷ []) × (self.new.is_too_long ≡ false)) }
@@ -166,7 +166,7 @@ pub(crate) fn asked_by(line: &[u8]) -> Asked<'_>
     }
 }
 
-/// What a word asks for with what stands behind it.
+/// What a word asks for with what stands after it.
 fn words_asked<'a>(first: &[u8], rest: &[u8]) -> Asked<'a>
     ensures { SaysBehind first.now rest.now result }
 {
@@ -203,7 +203,7 @@ fn word_asked<'a>(word: &[u8]) -> Asked<'a>
     }
 }
 
-/// What a word asks for with a number behind it.
+/// What a word asks for with a number after it.
 fn one_asked<'a>(word: &[u8], number_word: &[u8]) -> Asked<'a>
     ensures { SayWords (word.now ∷ number_word.now ∷ []) result }
 {
@@ -231,7 +231,7 @@ fn one_asked<'a>(word: &[u8], number_word: &[u8]) -> Asked<'a>
     }
 }
 
-/// What a word asks for with two numbers behind it.
+/// What a word asks for with two numbers after it.
 fn two_asked<'a>(word: &[u8], from_word: &[u8], count_word: &[u8]) -> Asked<'a>
     ensures { SayWords (word.now ∷ from_word.now ∷ count_word.now ∷ []) result }
 {
@@ -248,7 +248,7 @@ fn two_asked<'a>(word: &[u8], from_word: &[u8], count_word: &[u8]) -> Asked<'a>
     }
 }
 
-/// The first word of a line, and what stands behind it; no word is empty.
+/// The first word of a line, and what stands after it; no word is empty.
 pub(crate) fn next_word(line: &[u8]) -> (&[u8], &[u8])
     ensures { IsFirstWord line.now result.0.now result.1.now }
 {

@@ -14,7 +14,7 @@ use legal_moves::moves::Modifier;
 use rbg_game::game::Game;
 use std::alloc::{AllocError, Global};
 
-/// Puts the number of a position behind a line, or `?` where it is not known.
+/// Puts the number of a position after a line, or `?` where it is not known.
 fn put_known_number(
     alloc: Global,
     line: &mut Vec<u8>,
@@ -28,7 +28,7 @@ fn put_known_number(
     }
 }
 
-/// Puts the modifiers of a word behind a line.
+/// Puts the modifiers of a word after a line.
 fn put_word(
     alloc: Global,
     line: &mut Vec<u8>,
@@ -44,7 +44,7 @@ fn put_word(
     Ok(())
 }
 
-/// Puts the number and the value of a position behind the text.
+/// Puts the number and the value of a position after the text.
 fn put_number_and_value(
     alloc: Global,
     text: &mut Vec<u8>,
@@ -58,7 +58,7 @@ fn put_number_and_value(
     put_value(alloc, text, game, known.value)
 }
 
-/// Puts the text of a position behind an arrow, and ends the line.
+/// Puts the text of a position after an arrow, and ends the line.
 fn put_end(text: &mut Vec<u8>, position: &[u8]) -> Result<(), AllocError>
     ensures { IfOk result (λ _. text.new.items ≡ text.old.items ++ (codes "=> " ++ (position.now ++ 10 ∷ []))) }
 {
@@ -67,7 +67,7 @@ fn put_end(text: &mut Vec<u8>, position: &[u8]) -> Result<(), AllocError>
     text.push(b'\n').map_err(AllocError::from)
 }
 
-/// Puts the line of a move behind the text: `NUMBER VALUE MOVE => POSITION`.
+/// Puts the line of a move after the text: `NUMBER VALUE MOVE => POSITION`.
 fn put_known_move(
     alloc: Global,
     text: &mut Vec<u8>,

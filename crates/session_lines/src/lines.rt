@@ -35,7 +35,7 @@ pub fn move_line(
     Ok(line)
 }
 
-/// The name of a vertex; there is none for a place behind the last.
+/// The name of a vertex; there is none for a place after the last.
 fn name_of_vertex(game: &Game, vertex: u8) -> &[u8]
     ensures { result.now ≡ vertex_name (game_of game.now) vertex }
 {
@@ -45,7 +45,7 @@ fn name_of_vertex(game: &Game, vertex: u8) -> &[u8]
     }
 }
 
-/// Puts a modifier behind a line, as `NUMBER@VERTEX` and a space.
+/// Puts a modifier after a line, as `NUMBER@VERTEX` and a space.
 pub(crate) fn put_modifier(
     alloc: Global,
     line: &mut Vec<u8>,

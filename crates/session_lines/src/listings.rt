@@ -22,7 +22,7 @@ use solver::{FileSolver, Listing, SolverFault, Units};
 use std::alloc::{AllocFailed, Global};
 use std::io::{self, Write};
 
-/// Writes the reply to a line about listings at once, and gives the exit status that belongs to it. `begin` puts a listing behind
+/// Writes the reply to a line about listings at once, and gives the exit status that belongs to it. `begin` puts a listing after
 /// those that are open; `next` and `end` act on the last one, and where none is open they are answered `usage`.
 pub fn put_listing<F: Versions, W: Write, E: Write>(
     alloc: Global,
@@ -72,7 +72,7 @@ fn end<F: Versions>(solver: &mut FileSolver<F>, listings: &mut Vec<Listing<F::Ve
     }
 }
 
-/// Begins a listing, and puts it behind those that are open: E9, S1, S9. Where there is no room for it, it is ended, and E8 answered.
+/// Begins a listing, and puts it after those that are open: E9, S1, S9. Where there is no room for it, it is ended, and E8 answered.
 fn begin<F: Versions>(
     solver: &mut FileSolver<F>,
     listings: &mut Vec<Listing<F::Version>>,
@@ -97,7 +97,7 @@ fn begin<F: Versions>(
 }
 
 /// The lines of the next rows of a listing, or `done` where none is left: E9, E1, E8. Where there are rows and no room for their lines,
-/// E8 is answered behind them.
+/// E8 is answered after them.
 fn next_text<F: Versions>(
     alloc: Global,
     solver: &mut FileSolver<F>,

@@ -99,7 +99,7 @@ fn looked_by(line: &[u8]) -> Looked<'_>
     }
 }
 
-/// What `moves` asks for with what stands behind it.
+/// What `moves` asks for with what stands after it.
 fn moves_looked<'a>(rest: &[u8]) -> Looked<'a>
     ensures { MovesBehind rest.now result }
 {
@@ -117,7 +117,7 @@ fn moves_looked<'a>(rest: &[u8]) -> Looked<'a>
     }
 }
 
-/// What `game` asks for with what stands behind it.
+/// What `game` asks for with what stands after it.
 fn game_looked<'a>(rest: &[u8]) -> Looked<'a>
     ensures { GameBehind rest.now result }
 {

@@ -44,7 +44,7 @@ pub fn put_reply<W: Write>(out: &mut W, reply: Reply) -> io::Result<()>
     }
 }
 
-/// Writes what stands behind the code of a refusal: the position at which the keeper can choose.
+/// Writes what stands after the code of a refusal: the position at which the keeper can choose.
 fn put_position<W: Write>(out: &mut W, fault: SolverFault) -> io::Result<()>
     ensures { OnOk result (Appends (W.contents out.old) (W.contents out.new) (behind_code fault)) }
 {
@@ -54,7 +54,7 @@ fn put_position<W: Write>(out: &mut W, fault: SolverFault) -> io::Result<()>
     }
 }
 
-/// Writes `refused` and the code at once; behind S3 the number of the position. It takes no memory.
+/// Writes `refused` and the code at once; after S3 the number of the position. It takes no memory.
 pub fn put_refused<W: Write>(out: &mut W, fault: SolverFault) -> io::Result<()>
     ensures { OnOk result (Appends (W.contents out.old) (W.contents out.new) (fault_line fault)) }
 {

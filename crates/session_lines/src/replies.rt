@@ -17,7 +17,7 @@ use retrograde::Counts;
 use std::alloc::{AllocError, Global};
 use std::io::{self, Write};
 
-/// The name of a variable by its place; there is none for a place behind the last.
+/// The name of a variable by its place; there is none for a place after the last.
 fn name_of_variable(game: &Game, place: usize) -> &[u8]
     ensures { result.now ≡ variable_name (game_of game.now) place }
 {
@@ -37,7 +37,7 @@ fn name_of_player(game: &Game, player: Player) -> &[u8]
     }
 }
 
-/// Puts a number behind a line.
+/// Puts a number after a line.
 pub(crate) fn put_number(alloc: Global, line: &mut Vec<u8>, number: u32) -> Result<(), AllocError>
     ensures { IfOk result (λ _. line.new.items ≡ line.old.items ++ decimal number) }
 {
@@ -45,7 +45,7 @@ pub(crate) fn put_number(alloc: Global, line: &mut Vec<u8>, number: u32) -> Resu
     line.extend_from_slice(number.as_bytes())
 }
 
-/// Puts the text of a value behind a line.
+/// Puts the text of a value after a line.
 pub(crate) fn put_value(
     alloc: Global,
     line: &mut Vec<u8>,
@@ -75,7 +75,7 @@ pub fn value_line(alloc: Global, game: &Game, value: Value) -> Result<Vec<u8>, A
     Ok(line)
 }
 
-/// Puts a line behind the text: the number of a position and its value.
+/// Puts a line after the text: the number of a position and its value.
 fn put_row(alloc: Global, text: &mut Vec<u8>, game: &Game, row: Row) -> Result<(), AllocError>
     ensures { IfOk result (λ _. text.new.items ≡ text.old.items ++ row_line (game_of game.now) row) }
 {
@@ -96,7 +96,7 @@ pub fn row_lines(alloc: Global, game: &Game, rows: &[Row]) -> Result<Vec<u8>, Al
     Ok(text)
 }
 
-/// Puts a space and a number behind a line.
+/// Puts a space and a number after a line.
 fn put_spaced(alloc: Global, line: &mut Vec<u8>, number: u32) -> Result<(), AllocError>
     ensures { IfOk result (λ _. line.new.items ≡ line.old.items ++ spaced number) }
 {

@@ -10,7 +10,7 @@ use Rattle.retrograde.proofs.Counting.{true_or_false}
 use Rattle.retrograde.proofs.Lowering.{AreLowered, below_keeps}
 use Rattle.settle.specs.aid.Stuck.{IsStuck, IsStuckAt}
 
--- the least number that a look behind this one can give
+-- the least number that a look after this one can give
 abbrev pub bound_of : Option ℕ → ℕ
 bound_of None = 0
 bound_of (Some p) = suc p

@@ -1,4 +1,4 @@
--- What is left behind the sittings of a history is a table that they lead to, and reopening gives it.
+-- What is left after the sittings of a history is a table that they lead to, and reopening gives it.
 use Rattle.std.proofs.Common.{◌≡◌, inl, inr, ℕ, List, [], ◌∷◌, ◌++◌, Option, None, refl, sym, subst}
 use Rattle.std.specs.Prelude.{IsTrue}
 use Rattle.sector_disk.specs.Disk.{Picture, Shown, Disk, MayLeave}

@@ -48,7 +48,7 @@ module _ (Stores : ℕ → Layout) where
       × Turns commands replies mid is
   Turns _ _ was is = ⊥
 
-  -- there are replies behind those that were there, one for each command, as the commands are answered one after another; a stop at
+  -- there are replies after those that were there, one for each command, as the commands are answered one after another; a stop at
   -- the first moment leaves the table that was there
   pub record IsRun (commands : List Asked) (before after : List Reply) (was is : State) : Type 0 where
     pub added : List Reply

@@ -33,7 +33,7 @@ impl<F: GameFile> FileSolver<F> {
         }
     }
 
-    /// Does these commands one after another, each as `load` and `work` do, and puts a reply for each behind those that are
+    /// Does these commands one after another, each as `load` and `work` do, and puts a reply for each after those that are
     /// there. Room for all replies is asked for first: where it is refused, nothing is done (E8). No commands are done at once.
     pub fn run(&mut self, commands: &[Command], replies: &mut Vec<Reply>) -> Result<(), SolverFault>
         ensures ready { IsReady self.old → IsReady self.new }

@@ -5,7 +5,7 @@ use Rattle.retrograde.specs.declared.records.Record.{Record}
 use Rattle.retrograde.specs.Changes.{fresh_record}
 use Rattle.retrograde.proofs.Adding.{count_push}
 
--- a fresh record, put behind or not, is not counted
+-- a fresh record, put after or not, is not counted
 pub count_fresh : (test : Record → Bool) → test fresh_record ≡ false → (xs ys zs : List Record) (r : Record) (b : Bool) → ys ≡ xs → r ≡ fresh_record
     → zs ≡ cond b (ys ++ r ∷ []) ys → count_by test xs ≡ count_by test zs
 count_fresh test fails xs ys zs r true same is made =

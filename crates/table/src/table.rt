@@ -123,7 +123,7 @@ pub trait Table {
         ensures room { IfErr result NeedsNoPage }
         ensures fault { IfErr result (fails self.old self.new) };
 
-    /// Puts a number behind the settled order.
+    /// Puts a number after the settled order.
     fn push_settled(&mut self, number: u32) -> Result<(), TableFault>
         requires { (counted self.old).settled < (counted self.old).known }
         ensures pushed { is_honest self.old → OnOk result (stored self.new ≡ with_settled (stored self.old) number) }

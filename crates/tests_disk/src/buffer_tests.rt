@@ -34,7 +34,7 @@ fn deed_of(number: u64) -> Deed {
     }
 }
 
-/// A file of zeros in memory, of which the call behind this many fails, with room for two pages that wait.
+/// A file of zeros in memory, of which the call after this many fails, with room for two pages that wait.
 fn file_of(rt: &HostRuntime, calls: u64) -> Result<BufferedFile<MemoryFile>, Fail> {
     let bytes = vec![in rt.alloc(); 0; 512 * SECTORS as usize]?;
     let mut file = MemoryFile::new(rt.alloc(), bytes);

@@ -90,7 +90,7 @@ fn pages_of_two<P: Pages>(alloc: Global, store: &mut P) -> Result<(u32, u32), Fa
     }
 }
 
-/// The first bytes of both pages of a chain, whether the last is zero behind them, and which page is the last.
+/// The first bytes of both pages of a chain, whether the last is zero after them, and which page is the last.
 fn two_pages<P: Pages>(alloc: Global, store: &mut P) -> Result<([[u8; 8]; 2], bool, u32), Fail> {
     let (first, second) = pages_of_two(alloc, store)?;
     let naming = bytes_of(store, first)?;

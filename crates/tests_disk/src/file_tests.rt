@@ -47,7 +47,7 @@ const FILES: [FileRow; 9] = [
         ],
         bytes: &[(511, 1), (512, 9), (1023, 9), (1024, 1)],
     },
-    // A longer one has zeros behind its whole sectors, also where other bytes stood or its last page was read.
+    // A longer one has zeros after its whole sectors, also where other bytes stood or its last page was read.
     FileRow {
         length: 1100,
         byte: 1,

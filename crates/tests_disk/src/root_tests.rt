@@ -19,9 +19,9 @@ enum Deed {
     Open,
     /// `publish`, with this byte all over the root.
     Publish(u8),
-    /// Sector 0 gets what a header begins with, and 255 behind it.
+    /// Sector 0 gets what a header begins with, and 255 after it.
     Header,
-    /// Sector 1 gets this byte, and 0x5b behind it.
+    /// Sector 1 gets this byte, and 0x5b after it.
     Gate(u8),
     /// This sector is read.
     Sector(u64),
@@ -184,8 +184,8 @@ fn found_after(deed: Deed, failing: u64, done: bool) -> Answer {
     }
 }
 
-/// What is found after a stop behind this many of its disk calls. Behind seven of `create` the header alone is not synced, and
-/// begins as a table's where the digit is 1 or 2. Behind four of `publish` the gate alone is not synced. It was 1 and gets
+/// What is found after a stop after this many of its disk calls. After seven of `create` the header alone is not synced, and
+/// begins as a table's where the digit is 1 or 2. After four of `publish` the gate alone is not synced. It was 1 and gets
 /// 0, and digit 3 fills it with the byte 1 + pick / 4.
 fn left_by_stop(deed: Deed, passed: u64, pick: u64) -> Answer {
     match (deed, passed, pick % 4) {
@@ -253,7 +253,7 @@ struct FileRow {
     byte: u8,
     /// What is done where it may only be read, then where it may be written, and then to the first disk again.
     scripts: [Script; 3],
-    /// Some of its bytes behind the second script.
+    /// Some of its bytes after the second script.
     bytes: &'static [(usize, u8)],
 }
 
@@ -329,7 +329,7 @@ fn written(rt: &HostRuntime, script: Script) -> Result<Vec<u8>, Fail> {
     Ok(fs::read(rt, PATH)?)
 }
 
-/// What is in that file after the scripts of a row: its bytes behind the second, where the first and the third are of a disk that may
+/// What is in that file after the scripts of a row: its bytes after the second, where the first and the third are of a disk that may
 /// only be read.
 fn scripted(rt: &HostRuntime, row: &FileRow) -> Result<Vec<u8>, Fail> {
     let [first, second, third] = row.scripts;

@@ -164,7 +164,7 @@ fn a_position_has_its_bytes_by_bits(rt: HostRuntime) -> Result<(), Fail> {
     Ok(())
 }
 
-/// Bytes of no position of takes by bits: a bit behind the last that is set, a role of 3, a place of 12, and other lengths.
+/// Bytes of no position of takes by bits: a bit after the last that is set, a role of 3, a place of 12, and other lengths.
 const NO_BYTES_BY_BITS: [&[u8]; 7] = [
     &[0x34, 0x81],
     &[0x34, 0xA0],

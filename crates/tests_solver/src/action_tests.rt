@@ -32,7 +32,7 @@ fn the_actions_of_a_game_are_printed(rt: HostRuntime) -> Result<(), Fail> {
     expect_actions(rt.alloc(), TAKE, 0, OF_TAKE)
 }
 
-/// A game with each kind of action, the sections of the board and the pieces behind its rules.
+/// A game with each kind of action, the sections of the board and the pieces after its rules.
 const EACH_KIND: &str = concat!(
     "#players = white(9), black(9) #variables = x(3)\n",
     "#rules = right* ({e, f} + {}) [ f ] [$ x = 1,\n",

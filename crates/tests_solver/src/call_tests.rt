@@ -121,7 +121,7 @@ fn no_listing_is_begun_where_no_game_is_loaded(rt: HostRuntime) -> Result<(), Fa
     expect_said(&said, 0, "refused S1\nusage\n", 1)
 }
 
-/// The game of takes with spaces behind its text, so that the text takes nine pages of 4,092 bytes.
+/// The game of takes with spaces after its text, so that the text takes nine pages of 4,092 bytes.
 fn long_take(alloc: Global) -> Result<FileCommand, Fail> {
     let mut text = Vec::new(alloc);
     text.extend_from_slice(TAKE.as_bytes())?;
@@ -280,7 +280,7 @@ fn points_in(words: &Words) -> Option<u32> {
     }
 }
 
-/// The points of the goal that is asked for with this behind `--goal`, or the status that the words end with.
+/// The points of the goal that is asked for with this after `--goal`, or the status that the words end with.
 fn goal_asked(alloc: Global, number: &str) -> Result<Result<Option<u32>, u8>, Fail> {
     let words = ["rbgsolve", "load", "a.table", "a.rbg", "--goal", number];
     match words_of(alloc, &spelled(alloc, &words)?) {

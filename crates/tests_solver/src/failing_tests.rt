@@ -1,4 +1,4 @@
-//! Each disk call of a migration fails in turn, and the power stops behind it.
+//! Each disk call of a migration fails in turn, and the power stops after it.
 
 use crate::files::{Earlier, Found, counts_before, found_on, made_in, migrated, unfailing};
 use recover::Migration;

@@ -97,7 +97,7 @@ fn after_a_failed_write_or_sync_all_is_closed_until_it_is_opened_again(
     rt: HostRuntime,
 ) -> Result<(), Fail> {
     let alloc = rt.alloc();
-    // the first write of a page, behind a read of one, and the last sync of the commit
+    // the first write of a page, after a read of one, and the last sync of the commit
     for call in [TO_OPEN + 8, TO_OPEN + TO_WORK + TO_COMMIT - 1] {
         let disk = closed_by_work_on::<InMemory>(alloc, failing(alloc, call)?, call)?.into_inner();
         expect(all_say(alloc, &disk, &[LOADED, WORKED])?, true, call)?;

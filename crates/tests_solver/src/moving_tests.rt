@@ -92,7 +92,7 @@ fn an_empty_table_moves_and_takes_a_goal(rt: HostRuntime) -> Result<(), Fail> {
     Ok(())
 }
 
-/// The game of takes with spaces behind it, 30,000 bytes of text: eight pages.
+/// The game of takes with spaces after it, 30,000 bytes of text: eight pages.
 fn long_text(alloc: Global) -> Result<String, Fail> {
     let mut text = String::new(alloc);
     text.push_str(TAKE)?;

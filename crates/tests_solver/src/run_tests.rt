@@ -29,7 +29,7 @@ fn commands(alloc: Global, steps: &[Step]) -> Result<Vec<Command>, Fail> {
     Ok(commands)
 }
 
-/// Opens the table, runs the commands and puts their replies behind those that are there; the disk.
+/// Opens the table, runs the commands and puts their replies after those that are there; the disk.
 fn run_on<F: GameFile>(
     alloc: Global,
     disk: F::Device,

@@ -65,7 +65,7 @@ fn pages_in(words: &Words) -> u32 {
     }
 }
 
-/// The pages that are asked for with this behind `--pages`, or the status that the words end with.
+/// The pages that are asked for with this after `--pages`, or the status that the words end with.
 fn pages_asked(alloc: Global, number: &str) -> Result<Result<u32, u8>, Fail> {
     let words = ["rbgsolve", "grow", "a.table", "--pages", number];
     match words_of(alloc, &spelled(alloc, &words)?) {

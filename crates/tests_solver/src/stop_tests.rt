@@ -16,7 +16,7 @@ const LOADED: u64 = 33;
 /// Those up to here work one unit too: 37, since to expand the start takes four pages.
 const WORKED_ONE: u64 = 70;
 
-/// Those up to here work two units more: 77, since to expand the position behind the start takes seven pages, and the first end two.
+/// Those up to here work two units more: 77, since to expand the position after the start takes seven pages, and the first end two.
 const WORKED_THREE: u64 = 147;
 
 /// More disk calls than the sitting makes. The five units that are left make 69 at most: to expand the other end takes two pages, and to

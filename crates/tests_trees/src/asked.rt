@@ -92,7 +92,7 @@ pub fn put_and_get<P: Pages>(store: &mut P, root: u32, key: u16) -> Result<Optio
     value_at(store, next, key)
 }
 
-/// Each entry of a map is found at its key, and as the next one behind the key before; and a key can be put.
+/// Each entry of a map is found at its key, and as the next one after the key before; and a key can be put.
 fn ask_map<P: Pages, R: Debug + Copy + Drop>(
     store: &mut P,
     root: u32,

@@ -40,7 +40,7 @@ fn deep_store(alloc: Global, levels: u32) -> Result<PageStore<MemDisk>, Fail> {
     Ok(store)
 }
 
-/// What is told of a tree: the value at key 0, the entry behind it, and what is found at key 0 once it is put.
+/// What is told of a tree: the value at key 0, the entry after it, and what is found at key 0 once it is put.
 type Told = (
     Result<Option<u8>, PageFault>,
     Result<Option<Pair>, PageFault>,

@@ -147,8 +147,8 @@ fn expect_old_values<P: Pages>(store: &mut P, batch: Batch) -> Result<(), Fail> 
     Ok(())
 }
 
-/// The map below the committed root has the entries of the plain one: each is found at its key, and as the next one behind
-/// the key before, and behind the last there is none.
+/// The map below the committed root has the entries of the plain one: each is found at its key, and as the next one after
+/// the key before, and after the last there is none.
 fn expect_same<P: Pages>(store: &mut P, plain: &BTreeMap<u64, u32>) -> Result<(), Fail> {
     let root = committed_root(store);
     let mut next = pair_after(store, root, &[])?;

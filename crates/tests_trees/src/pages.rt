@@ -6,7 +6,7 @@ use sector_disk::{MemDisk, SectorDisk};
 use std::alloc::Global;
 use std::test::Fail;
 
-/// A page with its number: its first bytes, with zeros behind them.
+/// A page with its number: its first bytes, with zeros after them.
 pub type Laid<'a> = (u32, &'a [u8]);
 
 /// A disk of this many pages of zeros with a root, all of it synced.
@@ -26,7 +26,7 @@ pub fn disk_with(alloc: Global, size: u32, pages: &[Laid<'_>]) -> Result<MemDisk
     Ok(disk)
 }
 
-/// Puts these bytes on the beginning of a page, and zeros behind them.
+/// Puts these bytes on the beginning of a page, and zeros after them.
 pub fn lay(disk: &mut MemDisk, page: u32, bytes: &[u8]) -> Result<(), Fail> {
     let first = 8 * u64::from(page);
     let mut rest = bytes;

@@ -42,7 +42,7 @@ pub struct Counts {
     pub pages: u32,
     /// How many keys were found with their values.
     pub found: u64,
-    /// How many were found one behind the other, in order.
+    /// How many were found one after another, in order.
     pub ascending: u64,
 }
 
@@ -122,7 +122,7 @@ fn count_found<P: Pages>(store: &mut P, root: u32, keys: u64) -> Result<u64, Pag
     Ok(found)
 }
 
-/// How many keys are found one behind the other, each greater than the one before.
+/// How many keys are found one after another, each greater than the one before.
 fn count_ascending<P: Pages>(store: &mut P, root: u32, keys: u64) -> Result<u64, PageFault> {
     let mut last = [0; 8];
     let mut next = next_after(store, WIDTHS, root, &[])?;

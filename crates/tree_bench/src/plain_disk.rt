@@ -28,7 +28,7 @@ impl PlainDisk {
     }
 }
 
-/// Puts sectors of zeros behind those that are there, up to this many, or as many as there is memory for.
+/// Puts sectors of zeros after those that are there, up to this many, or as many as there is memory for.
 fn add_zeros(contents: &mut Vec<[u8; 512]>, sectors: u64) -> Result<(), AllocError>
     requires { length contents.old.items ≤ sectors }
     ensures longer { OnOk result (length contents.new.items ≡ sectors) }

@@ -192,7 +192,7 @@ module _ (layout : ℕ) (disk : Disk) (count : ℕ) (cut now : Store) (at_first 
     kept = it.kept;
   }
 
-  -- what is found stands behind its file
+  -- what is found stands after its file
   pub found_backed : (commits : ℕ) (game : Option TreeSlot) (text : List ℕ) → IsFoundInFile commits game text now
       → IsBackedFile layout commits (file_of (work_of (slot_or_bare game) text false now) game)
   found_backed commits game text it = record {

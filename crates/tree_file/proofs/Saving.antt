@@ -229,7 +229,7 @@ module _ {layout : ℕ} (was new : File) (is : Kept) (whole : IsWholeFile layout
     either = either;
   }
 
--- it goes back behind a call that was refused: a later state of the same file
+-- it goes back after a call that was refused: a later state of the same file
 pub refused_ahead : (was : File) (left : Store) (new : File) → GoesOn was.work.store.disk left.disk → size left.disk ≡ size was.work.store.disk
     → was.work.store.failures ≤ left.failures → length left.marks ≡ length was.work.store.marks → StoreCloses was.work.store left
     → IsRemarked left new.work.store → IsStill left new.work.store → GoesAhead (state_of was) (state_of new)

@@ -54,7 +54,7 @@ number_cmp v w hv hw =
     ∙ (λ i. ordering_then (two_cmp (v / 65536) (w / 65536) (omega (arith, hv)) (omega (arith, hw)) i) (two_cmp (v % 65536) (w % 65536) (omega arith) (omega arith) i))
     ∙ half_cmp v w
 
--- and whatever is behind, if they differ
+-- and whatever is after, if they differ
 pub keys_cmp : (v w : ℕ) (a b : List ℕ) → v < 2 ^ 32 → w < 2 ^ 32 → key_cmp (number_key v ++ a) (number_key w ++ b) ≡ ordering_then (nat_cmp v w) (key_cmp a b)
 keys_cmp v w a b hv hw =
     cmp_parts (number_key v) (number_key w) a b (key_long v ∙ sym (key_long w)) ∙ ap (λ o. ordering_then o (key_cmp a b)) (number_cmp v w hv hw)

@@ -11,7 +11,7 @@ key_width packed Records = 4
 key_width packed Edges = 8
 key_width packed Order = 4
 
--- how many bytes stand behind a key: a number; a position and a record; none; a number
+-- how many bytes stand after a key: a number; a position and a record; none; a number
 abbrev pub value_width : ℕ → Tree → ℕ
 value_width packed Positions = 4
 value_width packed Records = packed + 16

@@ -43,7 +43,7 @@ pub fn number_in(bytes: &[u8]) -> Option<u32>
     }
 }
 
-/// The bytes of a number, and those of another behind, if there is one.
+/// The bytes of a number, and those of another after, if there is one.
 pub fn key_behind(first: u32, second: Option<u32>) -> Bytes
     ensures bytes { result.items ≡ key_behind first second }
     ensures small { IfSome second (λ n. n < 2 ^ 32) }
@@ -94,7 +94,7 @@ pub fn cell_in(bytes: &[u8], packed: u32) -> Option<Cell>
     Some(Cell { position, kept })
 }
 
-/// The bytes of a position, and behind them those of a record.
+/// The bytes of a position, and after them those of a record.
 pub fn cell_bytes(position: &Packed, kept: &Record) -> Bytes
     ensures { IsPlainCell (length position.now.items) result.items (position.now.items, kept.now) }
 {

@@ -193,7 +193,7 @@ pub fn add_edge<P: Pages>(
     Ok(slot)
 }
 
-/// Puts a number behind the settled order.
+/// Puts a number after the settled order.
 pub fn push_settled<P: Pages>(
     store: &mut P,
     slot: TreeSlot,

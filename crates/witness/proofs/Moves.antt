@@ -166,7 +166,7 @@ only_two next (w, move) =
 no_end : (S T : SemiState) (k : ℕ) → OfEnd S T k → is_switch (action_at rules 1 k) ≡ true → ⊥
 no_end S _ _ ends switches = cc
 
--- behind the last action there is none
+-- after the last action there is none
 pub play_is_over : (at : Position) → at.place ≡ 4 → HasNoMove witness_game at
 play_is_over at last next (w, move) =
     let is = Searched-by_move witness_game at w next move in

@@ -91,7 +91,7 @@ zeros_begin_no_table begins =
 module _ (Stores : ℕ → Layout) where
   -- ---- what is opened
 
-  -- behind a stop it is a table of the game or of none, and sound
+  -- after a stop it is a table of the game or of none, and sound
   pub reopened : (found : Disk) (count : ℕ) (state : State) (behind : IsFoundBehind Stores found)
       → ((sittings : List Sitting) (left : Shown) (picture : Picture) → History Stores sittings left → MayLeave left picture → Headline Stores sittings picture)
       → ((sittings : List Sitting) (old new : Option Kept) → LeadTo sittings old new → IsSound old → IsSound new)

@@ -24,7 +24,7 @@ witness_game = record {
   rules = cat_all (one (switch (Player First)) ∷ alt (sets 1 1) (sets 0 1) ∷ one (switch Keeper) ∷ []);
 }
 
--- the position behind this action, with these scores
+-- the position after this action, with these scores
 abbrev pub position_with : Role → ℕ → List ℕ → Position
 position_with mover place scores = record {
   state = record { mover = mover; pieces = record { items = 0 ∷ [] }; values = record { items = scores }; vertex = 0 };

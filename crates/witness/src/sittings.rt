@@ -92,7 +92,7 @@ fn use_solver<F: GameFile>(alloc: Global, solver: &mut FileSolver<F>, text: Vec<
     let _ = solver.run(&commands, &mut replies);
 }
 
-/// Opens what is found behind a stop, loads the game if it is not there, works to the end, and asks who wins the start.
+/// Opens what is found after a stop, loads the game if it is not there, works to the end, and asks who wins the start.
 pub fn value_of<F: GameFile>(alloc: Global, found: F::Device) -> Result<Value, SolverFault>
 where
     F::Device: Drop,

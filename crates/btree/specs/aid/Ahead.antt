@@ -1,4 +1,4 @@
--- What a page says of the entries behind a key, and where the way to the next entry ends.
+-- What a page says of the entries after a key, and where the way to the next entry ends.
 use Rattle.std.specs.Prelude.{◌≡◌, ℕ, List, Option}
 use Rattle.page_store.specs.Store.{Store}
 use Rattle.btree.specs.declared.page.kind.Kind.TheVariants.{Leaf, Inner}
@@ -10,7 +10,7 @@ use Rattle.btree.specs.aid.Steps.{IsStepDown, ReachesLeaf}
 use Rattle.btree.specs.declared.find.ahead.Ahead.{Ahead}
 use Rattle.btree.specs.declared.find.ahead.Ahead.TheVariants.{Next, Below}
 
--- a leaf says which of its entries comes next, and an inner page where the key belongs and which key is behind it
+-- a leaf says which of its entries comes next, and an inner page where the key belongs and which key is after it
 abbrev pub SeesAhead : Widths → List ℕ → List ℕ → Ahead → Type 0
 SeesAhead w bytes key (Next found) = IsPage w Leaf bytes
     × (Ascend (items_in w Leaf bytes) → found_entry found ≡ next_after (items_in w Leaf bytes) key)

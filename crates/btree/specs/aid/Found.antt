@@ -35,7 +35,7 @@ split_got (x ∷ es) zero e got = let same : x ≡ e = cc in λ k. same k ∷ es
 split_got (x ∷ es) (suc i) e got = ap (λ rest. x ∷ rest) (split_got es i e got)
 
 module _ (es : List Item) (key : List ℕ) (n : ℕ) (place : IsPlace es key n) where
-  -- behind its place a key is past
+  -- after its place a key is past
   pub place_past : Past (drop n es) key
   place_past = all_from (λ e. key_cmp key e.0 ≡ Less) n es place.past
 

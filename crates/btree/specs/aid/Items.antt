@@ -44,7 +44,7 @@ items-append key behind (suc m) n (suc total) a b sum long =
     (omega (arith, long, length-drop (key + behind) a)) in
     λ i. (front i, back i) ∷ rest i
 
--- what stands behind them does not count
+-- what stands after them does not count
 pub items-front : (key behind n : ℕ) (a b : List ℕ) → length a ≡ n * (key + behind)
     → items_of key behind n (a ++ b) ≡ items_of key behind n a
 items-front key behind zero a b long = refl

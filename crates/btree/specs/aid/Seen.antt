@@ -14,7 +14,7 @@ use Rattle.btree.specs.aid.Steps.{IsStepDown}
 use Rattle.btree.specs.declared.find.look.Seen.{Seen}
 use Rattle.btree.specs.declared.find.look.Seen.TheVariants.{Value, Child}
 
--- an inner page with these bytes leads to this child, whichever key is behind it
+-- an inner page with these bytes leads to this child, whichever key is after it
 abbrev pub LeadsOn : Widths → List ℕ → List ℕ → ℕ → Type 0
 LeadsOn w bytes key child = (next : Option (List ℕ)) × IsStepDown w bytes key child next
 

@@ -10,7 +10,7 @@ use Rattle.btree.specs.Changes.{HoldsMap}
 use Rattle.btree.specs.Entries.{Ascend}
 use Rattle.btree.specs.aid.Way.{BelongsHere}
 
--- from an inner page with these bytes to the child where the key belongs; `next` is the key behind that child
+-- from an inner page with these bytes to the child where the key belongs; `next` is the key after that child
 pub record IsStepDown (w : Widths) (bytes : List ℕ) (key : List ℕ) (page : ℕ) (next : Option (List ℕ)) : Type 0 where
   pub place : ℕ
   pub child : Item

@@ -36,7 +36,7 @@ pub record IsWay (w : Widths) (bytes : ℕ → List ℕ) (capacity : ℕ) (es : 
   pub next_is : first_key after ≡ next
   pub within : (p : ℕ) → Contains (pages_below w bytes depth page) p → (1 ≤ p) × (p < capacity)
 
--- here is the part of a map where a key belongs, and `next` is the first key behind it
+-- here is the part of a map where a key belongs, and `next` is the first key after it
 pub record BelongsHere (es : List Item) (key : List ℕ) (here : List Item) (next : Option (List ℕ)) : Type 0 where
   pub before : List Item
   pub after : List Item

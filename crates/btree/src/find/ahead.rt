@@ -12,12 +12,12 @@ use crate::find::way::step;
 use crate::page::{Kind, Widths, kind_of};
 use page_store::{PageFault, Pages};
 
-/// What a page says of the entries behind a key.
+/// What a page says of the entries after a key.
 #[derive(Drop)]
 pub enum Ahead {
     /// It is a leaf, and this is the next of its entries, if there is one.
     Next(Option<Entry>),
-    /// It leads to this page, behind which this key comes, if there is one.
+    /// It leads to this page, after which this key comes, if there is one.
     Below(u32, Option<Bytes>),
 }
 

@@ -29,7 +29,7 @@ fn key_at(widths: Widths, bytes: &[u8; 4096], place: usize) -> Option<Bytes>
     }
 }
 
-/// The child where the key belongs, and the key behind that child, if there is one.
+/// The child where the key belongs, and the key after that child, if there is one.
 pub fn step(widths: Widths, bytes: &[u8; 4096], key: &[u8]) -> (u32, Option<Bytes>)
     requires { IsPage widths Inner bytes.now }
     ensures { IsStepDown widths bytes.now key.now result.0 (found_bytes result.1) }
@@ -41,7 +41,7 @@ pub fn step(widths: Widths, bytes: &[u8; 4096], key: &[u8]) -> (u32, Option<Byte
 }
 
 /// Looks down from this root to the leaf where the key belongs. Answers the leaf's next entry, if it has one, and the first
-/// key of the entries behind the leaf.
+/// key of the entries after the leaf.
 pub fn reach_next<P: Pages>(
     store: &mut P,
     widths: Widths,

@@ -7,7 +7,7 @@ use crate::page::widths::Widths;
 /// How many bytes of a page tell its kind and the number of its items.
 pub const HEAD: usize = 4;
 
-/// How many bytes of items a page has room for, behind these.
+/// How many bytes of items a page has room for, after these.
 pub const ROOM: usize = 4_092;
 
 /// What a page is in its tree.
@@ -22,7 +22,7 @@ pub enum Kind {
 /// How many bytes the page of a child takes.
 const CHILD: usize = 4;
 
-/// How many bytes stand behind a key: a value, or the page of a child.
+/// How many bytes stand after a key: a value, or the page of a child.
 pub fn behind_of(widths: Widths, kind: Kind) -> usize
     ensures { result ≡ behind_of widths kind }
 {

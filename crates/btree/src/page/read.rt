@@ -37,7 +37,7 @@ pub fn kind_of(widths: Widths, bytes: &[u8; 4096]) -> Option<Kind>
     }
 }
 
-/// The item of a place: its key, and what stands behind it.
+/// The item of a place: its key, and what stands after it.
 pub fn item_at(widths: Widths, kind: Kind, bytes: &[u8; 4096], place: usize) -> (&[u8], &[u8])
     requires page { IsPage widths kind bytes.now }
     requires within { place < count_in bytes.now }

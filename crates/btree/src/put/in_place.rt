@@ -76,7 +76,7 @@ fn has_room(widths: Widths, bytes: &[u8; 4096], from: usize, to: usize) -> bool
     total * (widths.key + widths.value) <= ROOM
 }
 
-/// Puts the entry behind the first one on these bytes of the page, if they are a leaf and have room for it, and writes them. Answers
+/// Puts the entry after the first one on these bytes of the page, if they are a leaf and have room for it, and writes them. Answers
 /// whether it did.
 fn put_on<P: Pages>(
     store: &mut P,

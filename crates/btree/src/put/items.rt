@@ -51,7 +51,7 @@ pub fn no_few_items() -> FewItems
     }
 }
 
-/// Puts more behind the bytes.
+/// Puts more after the bytes.
 fn put_bytes<const N: usize>(bytes: &mut ArrayVec<u8, N>, more: &[u8])
     requires { array_vec_len bytes.old + length more.now ≤ N }
     ensures { bytes.new.items ≡ bytes.old.items ++ more.now }
@@ -76,7 +76,7 @@ pub fn lead_to(widths: Widths, items: &mut FewItems, key: &[u8], page: u32)
     items.count += 1;
 }
 
-/// How many of this many items stay on the first of two pages. Where none of the page's old items is behind the new ones, all
+/// How many of this many items stay on the first of two pages. Where none of the page's old items is after the new ones, all
 /// but as few as a page may have, so that pages that grow at their end are left full; and else half.
 fn cut_of(kind: Kind, count: usize, behind: usize) -> usize
     ensures end { behind ≡ 0 → result ≡ count - least_of kind }
@@ -160,7 +160,7 @@ fn move_by_copy(page: &mut [u8; 4096], start: usize, end: usize, to: usize)
     page[to..to + (end - start)].copy_from_slice(&was[start..end]);
 }
 
-/// The same on the page itself, where it has room. What stands behind its items is moved along or stays.
+/// The same on the page itself, where it has room. What stands after its items is moved along or stays.
 pub fn splice_in(
     widths: Widths,
     kind: Kind,

@@ -62,7 +62,7 @@ pub record AddsCell (packed : ℕ) (bytes : List ℕ) (old new : Stored (List �
   pub is_cell : IsCell packed bytes cell
   pub added : new ≡ with_record (with_position old cell.0) (length old.positions) cell.1
 
--- an edge comes behind the one before it, if there is one
+-- an edge comes after the one before it, if there is one
 abbrev pub IsPast : Option (ℕ × ℕ) → ℕ × ℕ → Type 0
 IsPast None edge = Unit {0}
 IsPast (Some before) edge = edge_cmp before edge ≡ Less

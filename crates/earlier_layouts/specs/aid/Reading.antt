@@ -22,7 +22,7 @@ pub record IsWhole (sizes : Sizes) (stored : Stored (List ℕ)) : Type 0 where
   pub fits : FitsTogether sizes.packed stored
   pub counts : counts_of stored ≡ sizes.counts
 
--- the bytes spell this table behind the text, and it is whole
+-- the bytes spell this table after the text, and it is whole
 pub record IsTableOf (sizes : Sizes) (bytes : List ℕ) (stored : Stored (List ℕ)) : Type 0 where
   pub spelled : SpellsTable sizes bytes (take sizes.text bytes) stored
   pub whole : IsWhole sizes stored

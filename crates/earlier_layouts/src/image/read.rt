@@ -34,7 +34,7 @@ fn read_into<T: Table>(table: &mut T, sizes: &Sizes, bytes: &[u8]) -> Result<(),
     read_order(table, sizes.counts.settled, order)
 }
 
-/// The table that these bytes spell behind the game's text. `Damaged` only where they spell none whose parts fit
+/// The table that these bytes spell after the game's text. `Damaged` only where they spell none whose parts fit
 /// together; not all of that is tested here.
 pub fn read_table(alloc: Global, sizes: &Sizes, bytes: &[u8]) -> Result<MemTable, BytesFault>
     requires limits { AreWithinLimits sizes.now }

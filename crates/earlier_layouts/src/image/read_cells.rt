@@ -72,7 +72,7 @@ fn read_cell<T: Table>(table: &mut T, packed: usize, cell: &[u8]) -> Result<(), 
     Ok(())
 }
 
-/// Adds the positions and records of the cells behind the first, where that one is in the table.
+/// Adds the positions and records of the cells after the first, where that one is in the table.
 pub fn read_cells<T: Table>(
     table: &mut T,
     packed: usize,

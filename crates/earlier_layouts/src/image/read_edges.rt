@@ -12,7 +12,7 @@ use crate::image::BytesFault;
 use byteorder::{BigEndian, ByteOrder};
 use table::Table;
 
-/// An edge comes behind the one before it, if there is one.
+/// An edge comes after the one before it, if there is one.
 fn is_past(before: Option<(u32, u32)>, edge: (u32, u32)) -> bool
     ensures { (result ≡ true) ↔ IsPast before edge }
 {
@@ -30,7 +30,7 @@ fn edge_of(bytes: &[u8]) -> (u32, u32)
     (BigEndian::read_u32(bytes), BigEndian::read_u32(&bytes[4..]))
 }
 
-/// Adds an edge, and answers it. `Damaged` where it does not come behind the one before it, or names a number that is
+/// Adds an edge, and answers it. `Damaged` where it does not come after the one before it, or names a number that is
 /// not known.
 fn read_edge<T: Table>(
     table: &mut T,

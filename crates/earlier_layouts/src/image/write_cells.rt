@@ -8,7 +8,7 @@ ghost use Rattle.earlier_layouts.specs.aid.Writing.{Writes, WritesOne, WritesCel
 use crate::image::push::{push_number, push_record};
 use table::{Table, TableFault};
 
-/// Puts the position and the record of a number behind other bytes.
+/// Puts the position and the record of a number after other bytes.
 fn write_cell<T: Table>(bytes: &mut Vec<u8>, number: u32, table: &mut T) -> Result<(), TableFault>
     requires { number < (T.counted table.old).known }
     ensures cell { T.is_honest table.old → OnOk result (WritesCell (T.stored table.old) number bytes.old.items bytes.new.items) }
@@ -24,7 +24,7 @@ fn write_cell<T: Table>(bytes: &mut Vec<u8>, number: u32, table: &mut T) -> Resu
     push_record(bytes, &kept)
 }
 
-/// Puts all positions with their records behind other bytes.
+/// Puts all positions with their records after other bytes.
 pub fn write_cells<T: Table>(bytes: &mut Vec<u8>, table: &mut T) -> Result<(), TableFault>
     ensures cells { T.is_honest table.old → length (T.stored table.old).records ≡ length (T.stored table.old).positions → (packed : ℕ)
         → ((x : List ℕ) (i : ℕ) → slice_get (T.stored table.old).positions i ≡ Some x → length x ≡ packed)
@@ -42,7 +42,7 @@ pub fn write_cells<T: Table>(bytes: &mut Vec<u8>, table: &mut T) -> Result<(), T
     Ok(())
 }
 
-/// Puts one number behind other bytes.
+/// Puts one number after other bytes.
 fn write_number(bytes: &mut Vec<u8>, number: u32) -> Result<(), TableFault>
     ensures bytes { OnOk result (WritesOne IsNumber number bytes.old.items bytes.new.items) }
     ensures memory { IfErr result (λ fault. fault ≡ OutOfMemory) }
@@ -50,7 +50,7 @@ fn write_number(bytes: &mut Vec<u8>, number: u32) -> Result<(), TableFault>
     push_number(bytes, number)
 }
 
-/// Puts the settled order behind other bytes.
+/// Puts the settled order after other bytes.
 pub fn write_order<T: Table>(bytes: &mut Vec<u8>, table: &mut T) -> Result<(), TableFault>
     ensures order { T.is_honest table.old → OnOk result (Writes IsNumber (T.stored table.old).order bytes.old.items bytes.new.items) }
     ensures same { T.is_honest table.old → OnOk result (T.stored table.new ≡ T.stored table.old) }

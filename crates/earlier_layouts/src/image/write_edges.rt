@@ -7,7 +7,7 @@ ghost use Rattle.earlier_layouts.specs.aid.Writing.{WritesOne, WritesEdges};
 use crate::image::push::push_number;
 use table::{Table, TableFault};
 
-/// Puts the bytes of an edge behind others.
+/// Puts the bytes of an edge after others.
 fn push_edge(bytes: &mut Vec<u8>, successor: u32, predecessor: u32) -> Result<(), TableFault>
     ensures bytes { OnOk result (WritesOne IsEdge (successor, predecessor) bytes.old.items bytes.new.items) }
     ensures memory { IfErr result (λ fault. fault ≡ OutOfMemory) }
@@ -16,7 +16,7 @@ fn push_edge(bytes: &mut Vec<u8>, successor: u32, predecessor: u32) -> Result<()
     push_number(bytes, predecessor)
 }
 
-/// Puts the edges to one number behind those to lower ones.
+/// Puts the edges to one number after those to lower ones.
 fn write_edges_to<T: Table>(
     bytes: &mut Vec<u8>,
     successor: u32,
@@ -39,7 +39,7 @@ fn write_edges_to<T: Table>(
     Ok(())
 }
 
-/// Puts all edges behind other bytes, ascending.
+/// Puts all edges after other bytes, ascending.
 pub fn write_edges<T: Table>(bytes: &mut Vec<u8>, table: &mut T) -> Result<(), TableFault>
     ensures edges { T.is_honest table.old
         → OnOk result (WritesEdges (T.stored table.old) (T.counted table.old).known 0 bytes.old.items bytes.new.items) }

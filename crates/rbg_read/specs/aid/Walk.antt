@@ -102,7 +102,7 @@ in_braces (sign CloseBrace) begun zero = rules
 in_braces (sign CloseBrace) begun (suc depth) = braces begun depth
 in_braces _ begun depth = braces begun depth
 
--- in what the token behind this one stands
+-- in what the token after this one stands
 abbrev pub next : Place → Token → Tokens → Tokens → Place
 next elsewhere t here behind = in_section t
 next hash t here behind = behind_hash t

@@ -39,7 +39,7 @@ pub fn lexemes(alloc: Global, text: &[u8]) -> Result<Vec<Lexeme<'_>>, ReadError>
     Ok(found)
 }
 
-/// The token that ends right before the byte `next`, behind one that ends right before the byte `last`.
+/// The token that ends right before the byte `next`, after one that ends right before the byte `last`.
 fn standing<'a>(text: &'a [u8], token: Token<'a>, last: usize, next: usize) -> Lexeme<'a>
     requires room { last + length (grammar.token_text (token_view token)) ≤ next }
     requires within { next ≤ length text.now }

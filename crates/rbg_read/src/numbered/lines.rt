@@ -15,7 +15,7 @@ pub struct LineColumn {
     pub column: usize,
 }
 
-/// The line and the column of the byte behind this many others, or of the end of a shorter text.
+/// The line and the column of the byte after this many others, or of the end of a shorter text.
 pub fn line_column(text: &[u8], at: usize) -> LineColumn
     ensures { result ≡ place_of text.now at }
 {
@@ -27,7 +27,7 @@ pub fn line_column(text: &[u8], at: usize) -> LineColumn
     place
 }
 
-/// The place behind a byte that stands at this one.
+/// The place after a byte that stands at this one.
 fn behind(place: LineColumn, byte: u8) -> LineColumn
     requires line { place.line < usize.MAX }
     requires column { place.column < usize.MAX }
@@ -48,7 +48,7 @@ fn behind(place: LineColumn, byte: u8) -> LineColumn
     }
 }
 
-/// Puts tokens behind a line, each with what stands before it.
+/// Puts tokens after a line, each with what stands before it.
 pub(crate) fn put_tokens(line: &mut Vec<u8>, tokens: &[Lexeme<'_>]) -> Result<(), AllocError>
     ensures { IfOk result (λ _. line.new.items ≡ line.old.items ++ flat_map with_gap tokens.now) }
 {
@@ -59,7 +59,7 @@ pub(crate) fn put_tokens(line: &mut Vec<u8>, tokens: &[Lexeme<'_>]) -> Result<()
     Ok(())
 }
 
-/// Puts what stands between two tokens behind a line, or one blank where a line ends there.
+/// Puts what stands between two tokens after a line, or one blank where a line ends there.
 fn put_gap(line: &mut Vec<u8>, gap: &[u8]) -> Result<(), AllocError>
     ensures { IfOk result (λ _. line.new.items ≡ line.old.items ++ one_line gap.now) }
 {

@@ -87,7 +87,7 @@ fn lines_of(
     Ok(lines)
 }
 
-/// Puts the line of an action behind the others.
+/// Puts the line of an action after the others.
 fn put_action(
     alloc: Global,
     lines: &mut Vec<u8>,
@@ -105,7 +105,7 @@ fn put_action(
     put_line(alloc, lines, text, number, first, more)
 }
 
-/// Puts the line of the action with these tokens behind the others.
+/// Puts the line of the action with these tokens after the others.
 fn put_line(
     alloc: Global,
     lines: &mut Vec<u8>,

@@ -25,17 +25,17 @@ pub struct Stretch {
 enum Within {
     /// In a section other than the rules.
     Elsewhere,
-    /// Behind the `#` of a section.
+    /// After the `#` of a section.
     Hash,
-    /// Behind the title of the rules.
+    /// After the title of the rules.
     Title,
     /// In the rules, between two actions.
     Rules,
-    /// Behind `->`.
+    /// After `->`.
     Arrow(usize),
-    /// Behind `[`.
+    /// After `[`.
     Bracket(usize),
-    /// Behind the piece in brackets.
+    /// After the piece in brackets.
     Piece(usize),
     /// In an assignment.
     Assignment(usize),
@@ -60,7 +60,7 @@ pub fn numbered_actions(alloc: Global, tokens: &[Lexeme<'_>]) -> Result<Vec<Stre
     Ok(found)
 }
 
-/// Puts the action that ended behind the others, if one did.
+/// Puts the action that ended after the others, if one did.
 fn put_ended(found: &mut Vec<Stretch>, action: Option<Stretch>) -> Result<(), AllocError>
     ensures { IfOk result (λ _. found.new.items ≡ found.old.items ++ as_list action) }
 {
@@ -129,7 +129,7 @@ fn ended_in_braces(token: Token<'_>, from: usize, depth: usize, place: usize) ->
     }
 }
 
-/// In what the token behind the one at this index stands.
+/// In what the token after the one at this index stands.
 fn next(within: Within, token: Token<'_>, place: usize) -> Within
     requires place { place < usize.MAX }
     requires depth { depth_of within < usize.MAX }

@@ -13,7 +13,7 @@ use Rattle.rbg_text.specs.declared.token.Sign.TheVariants.{OpenBrace, CloseBrace
 abbrev pub give : {X : Type 0} → X → Parser X
 give x = λ i. Some (x, i)
 
--- further items behind those so far, each with a comma before it
+-- further items after those so far, each with a comma before it
 unfoldable pub items : {X : Type 0} → Parser X → ℕ → List X → Parser (List X)
 items item zero xs = give xs
 items item (suc n) xs = do
@@ -74,7 +74,7 @@ abbrev pub is_name : Option Token → Bool
 is_name (Some (Token.name w)) = true
 is_name _ = false
 
--- further vertices behind those so far, each with a comma before it or without
+-- further vertices after those so far, each with a comma before it or without
 unfoldable pub vertices : ℕ → List WrittenVertex → Parser (List WrittenVertex)
 vertices zero xs = give xs
 vertices (suc n) xs = do
@@ -112,7 +112,7 @@ abbrev pub is_done : List Token → Bool
 is_done [] = true
 is_done (t ∷ ts) = false
 
--- sections behind those so far, up to the last token
+-- sections after those so far, up to the last token
 unfoldable pub sections : ℕ → List Said → Parser (List Said)
 sections zero all = λ i. if is_done i.tokens then give all i else fail i
 sections (suc n) all = λ i. if is_done i.tokens then give all i else (section >>= (λ s. sections n (all ++ s ∷ []))) i

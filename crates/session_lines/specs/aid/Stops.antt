@@ -15,7 +15,7 @@ IsStoppedLine game moves Written (Refused why) = (why ≡ OutOfMemory)
     × ((k : ℕ) × (lines : List ℕ) × AreLines game (take k moves) lines × Written lines)
 IsStoppedLine game moves Written Output = ⊤
 
--- the moves of the position are not all told, perhaps behind some lines, or the output failed
+-- the moves of the position are not all told, perhaps after some lines, or the output failed
 abbrev pub IsStopped : Game → Position → (List ℕ → Type 0) → Stop → Type 0
 IsStopped game at Written (Refused why) = (lines : List ℕ) × IsUntold game at why lines × Written lines
 IsStopped game at Written Output = ⊤

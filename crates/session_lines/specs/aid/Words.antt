@@ -8,7 +8,7 @@ use Rattle.session_lines.specs.Asked.{IsBlank, EndsWord, BeginsWith, StartsWith,
 abbrev pub IsFirstWord : List ℕ → List ℕ → List ℕ → Type 0
 IsFirstWord line word rest = BeginsWith line word rest ⊎ ((word ≡ []) × (rest ≡ []) × IsBlank line)
 
--- behind some spaces the line goes on with this, which does not begin with a space
+-- after some spaces the line goes on with this, which does not begin with a space
 pub record IsTrimmed (line rest : List ℕ) : Type 0 where
   pub blanks : List ℕ
   pub blank : IsBlank blanks
@@ -21,7 +21,7 @@ pub record IsSplit (line word rest : List ℕ) : Type 0 where
   pub solid : All (λ byte. byte ≢ 32) word
   pub ends : EndsWord rest
 
--- what the words ask for of which this is the first, with this behind it
+-- what the words ask for of which this is the first, with this after it
 pub data SaysBehind (first rest : List ℕ) : Asked → Type 0 where
   many : (words : List (List ℕ)) (left : List ℕ) → StartsWith rest words left → length words ≡ 3 → SaysBehind first rest Usage
   few : (words : List (List ℕ)) (asked : Asked) → HasWords rest words → length words ≤ 2 → SayWords (first ∷ words) asked

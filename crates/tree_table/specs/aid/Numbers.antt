@@ -9,7 +9,7 @@ use Rattle.tree_table.specs.Entries.{number_key, edge_key}
 pub key_long : (n : ℕ) → length (number_key n) ≡ 4
 key_long n = length-bytes_high_first 4 n
 
--- the number whose key it is, whatever is behind it
+-- the number whose key it is, whatever is after it
 pub key_read : (n : ℕ) (rest : List ℕ) → n < 2 ^ 32 → big_number 4 (number_key n ++ rest) ≡ n
 key_read n rest small = big_number-reads_back 4 n rest (omega (arith, small))
 

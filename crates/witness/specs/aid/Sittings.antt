@@ -35,7 +35,7 @@ module _ (Stores : ℕ → Layout) where
     pub own : IsOwnSitting sitting
     pub one : IsSitting Stores was sitting is.disk.now
 
-  -- an honest disk of 256 sectors, behind some sittings with a table that was made on it, in which the small game was loaded at most,
+  -- an honest disk of 256 sectors, after some sittings with a table that was made on it, in which the small game was loaded at most,
   -- and work was done
   pub record IsBehindSittings (disk : Disk) : Type 0 where
     pub honest : IsTrue disk.honest
@@ -44,7 +44,7 @@ module _ (Stores : ℕ → Layout) where
     pub own : AllByRecursion IsOwnSitting sittings
     pub history : History Stores sittings disk.now
 
-  -- an honest disk as it is found behind a stop of such a one
+  -- an honest disk as it is found after a stop of such a one
   pub record IsFoundBehind (found : Disk) : Type 0 where
     pub honest : IsTrue found.honest
     pub disk : Disk

@@ -4,7 +4,7 @@ use Rattle.position_pack.specs.aid.Streams.{left}
 use Rattle.position_pack.proofs.ByteLemmas.{all_bits}
 use Rattle.position_pack.proofs.reader.take.Given as goal
 
--- what is held and what is behind it are the bits that were left; no more than a byte is read too many
+-- what is held and what is after it are the bits that were left; no more than a byte is read too many
 abbrev pub invariant-loop-count : goal.invariant-loop-count
 invariant-loop-count l = record {
   wide : l.count < l.fn.width + 8;

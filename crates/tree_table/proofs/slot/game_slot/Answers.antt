@@ -19,7 +19,7 @@ returns-clause-commits c =
     (λ k low high. c.put_word-3.ensures.ahead k (omega (arith, high)) ∙ c.put_long-2.ensures.ahead k (omega (arith, high)) ∙ c.put_roots.ensures.ahead k (omega (arith, high)) ∙ c.put_sizes.ensures.ahead k (omega (arith, high)) ∙ c.put_word-2.ensures.ahead k (omega (arith, high)))
     ∙ c.put_long.ensures.is
 
--- what stands behind the fields that are put
+-- what stands after the fields that are put
 from_empty : (c : goal.After-put_word-3) (k : ℕ) → 68 ≤ k → slice_index c.put_long-2.new.root k ≡ slice_index c.empty_slot-root.result k
 from_empty c k low =
     c.put_long-2.ensures.behind k (omega (arith, low)) ∙ c.put_roots.ensures.behind k (omega (arith, low)) ∙ c.put_sizes.ensures.behind k (omega (arith, low)) ∙ c.put_word-2.ensures.behind k (omega (arith, low)) ∙ c.put_long.ensures.behind k (omega (arith, low))

@@ -8,7 +8,7 @@ use Rattle.btree.proofs.Listing.{narrow, middle_fits, back_fits, mul-mono, splic
 use Rattle.btree.proofs.Writing.{cut_is}
 use Rattle.btree.proofs.put.items.spliced.Goals as goal
 
--- where the items lie, behind the first bytes
+-- where the items lie, after the first bytes
 
 both_behind : (a b : ℕ) → a ≤ b → 4 + a ≤ 4 + b
 both_behind a b less = omega (arith, less)
