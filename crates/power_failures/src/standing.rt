@@ -58,7 +58,7 @@ where
     }
 }
 
-/// Which table is so far and has this many pages.
+/// Which table has these counts and this many pages.
 fn standing_of(counts: Option<Counts>, pages: u32) -> Standing {
     match (counts, pages) {
         (None, 16) => Standing::Empty,

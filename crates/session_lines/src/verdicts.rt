@@ -22,7 +22,7 @@ fn code_of(reason: Reason) -> &'static str
     }
 }
 
-/// Writes that a table which is so far is right.
+/// Writes that a table with these counts is right.
 fn put_right<W: Write>(out: &mut W, counts: Counts) -> io::Result<()>
     ensures { OnOk result ((line : List ℕ) × IsRightLine counts line × Appends (W.contents out.old) (W.contents out.new) line) }
 {
@@ -39,7 +39,7 @@ fn put_right<W: Write>(out: &mut W, counts: Counts) -> io::Result<()>
     }
 }
 
-/// Writes the verdict of a table that is so far.
+/// Writes the verdict of a table with these counts.
 pub fn put_verdict<W: Write>(out: &mut W, verdict: Verdict, counts: Counts) -> io::Result<()>
     ensures { OnOk result ((line : List ℕ) × IsVerdictLine counts verdict line × Appends (W.contents out.old) (W.contents out.new) line) }
 {
