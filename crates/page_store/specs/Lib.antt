@@ -1,4 +1,5 @@
 pub use Rattle.sector_disk.specs.Disk
+pub mod Blocks
 pub mod Cache
 pub mod Causes
 pub mod Holds

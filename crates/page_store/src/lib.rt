@@ -1,6 +1,7 @@
 //! Pages of 4,096 bytes on a table's disk: read, written and handed out, and a root that needs some of them.
 #![tactic(auto)]
 
+mod blocks;
 mod cache;
 mod fault;
 mod holds;

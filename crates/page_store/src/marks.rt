@@ -1,8 +1,8 @@
 //! What each page is used for.
 ghost use Rattle.std.specs.Prelude.{◌≡◌, ◌≢◌, ◌≤◌, ◌<◌, ℕ, false, length, IfOk, IfSome, IfNone};
-ghost use Rattle.page_store.specs.Marks.{mark as mark_of, turned as turned_of, keeps, let_go as let_go_of, free_one as free_one_of, Turned};
-ghost use Rattle.page_store.specs.Marks.{IsMarked, free_count, committed as committed_of, left as left_of};
-ghost use Rattle.page_store.specs.Marks.{AreCommitted, AreGrown, AreLeft, is_rooted as is_rooted_of};
+ghost use Rattle.page_store.specs.Marks.{mark as mark_of, turned as turned_of, keeps, let_go as let_go_of, free_one as free_one_of};
+ghost use Rattle.page_store.specs.Marks.{free_count, committed as committed_of, left as left_of};
+ghost use Rattle.page_store.specs.Marks.{AreGrown, AreLeft, is_rooted as is_rooted_of, rests as rests_of};
 ghost use Rattle.page_store.specs.Holds.{needed_by, with_need, any, holders_at};
 ghost use Rattle.page_store.specs.declared.marks.Mark.TheVariants.{Free};
 ghost use Rattle.page_store.specs.declared.limits.TheConstants.{MAX_PAGES};
@@ -28,7 +28,7 @@ pub enum Mark {
 }
 
 /// The mark after a turn.
-fn turned(mark: Mark, fresh: Mark, released: Mark, waiting: Mark) -> Mark
+pub fn turned(mark: Mark, fresh: Mark, released: Mark, waiting: Mark) -> Mark
     ensures { result ≡ turned_of fresh released waiting mark }
 {
     match mark {
@@ -38,15 +38,6 @@ fn turned(mark: Mark, fresh: Mark, released: Mark, waiting: Mark) -> Mark
         Mark::Released => released,
         Mark::Free => Mark::Free,
         Mark::Past => Mark::Past,
-    }
-}
-
-/// Gives the pages that were handed out, those that were released and those that wait other marks.
-pub fn turn(marks: &mut Vec<Mark>, fresh: Mark, released: Mark, waiting: Mark)
-    ensures { Turned fresh released waiting marks.old.items marks.new.items }
-{
-    for page in 0..marks.len() {
-        marks[page] = turned(marks[page], fresh, released, waiting);
     }
 }
 
@@ -108,7 +99,7 @@ pub fn grown_holders(
 }
 
 /// The mark after a commit of a page that these holds need.
-fn committed(mark: Mark, holders: Holders) -> Mark
+pub fn committed(mark: Mark, holders: Holders) -> Mark
     ensures { result ≡ committed_of holders mark }
 {
     match mark {
@@ -121,16 +112,6 @@ fn committed(mark: Mark, holders: Holders) -> Mark
             }
         }
         other => other,
-    }
-}
-
-/// What was handed out is needed, and what was released is free, or stays for the holds that need it.
-pub fn turn_committed(marks: &mut Vec<Mark>, holders: &[Holders])
-    requires { length holders.now ≡ length marks.old.items }
-    ensures { AreCommitted holders.now marks.old.items marks.new.items }
-{
-    for page in 0..marks.len() {
-        marks[page] = committed(marks[page], holders[page]);
     }
 }
 
@@ -213,6 +194,16 @@ pub fn is_kept(mark: Mark) -> bool
     }
 }
 
+/// Whether nothing is going on with a page of this mark.
+pub fn rests(mark: Mark) -> bool
+    ensures { result ≡ rests_of mark }
+{
+    match mark {
+        Mark::Committed | Mark::Free | Mark::Past => true,
+        Mark::Waiting | Mark::Fresh | Mark::Released => false,
+    }
+}
+
 /// One for a free page.
 fn free_one(mark: Mark) -> u32
     ensures { result ≡ free_one_of mark }
@@ -221,14 +212,6 @@ fn free_one(mark: Mark) -> u32
         Mark::Free => 1,
         _ => 0,
     }
-}
-
-/// Marks a page.
-pub fn put_mark(marks: &mut Vec<Mark>, page: u32, now: Mark)
-    requires { page < length marks.old.items }
-    ensures { IsMarked page now marks.old.items marks.new.items }
-{
-    marks[page as usize] = now;
 }
 
 /// The first free page from there on.

@@ -1,18 +1,20 @@
 //! A store of pages on a disk, with a mark for each page in memory.
 ghost use Rattle.std.specs.Prelude.{◌≡◌, ◌≤◌, ◌<◌, ◌*◌, ℕ, length, IfOk, IfErr};
 ghost use Rattle.page_store.specs.declared.marks.Mark.TheVariants.{Committed, Waiting};
+ghost use Rattle.page_store.specs.Blocks.{AreNoted};
 ghost use Rattle.page_store.specs.Cache.{IsCacheOf};
 ghost use Rattle.page_store.specs.Causes.{StoreOpenCause};
 ghost use Rattle.page_store.specs.Holds.{holds_of, holders_at, none as none_of};
 ghost use Rattle.page_store.specs.Marks.{mark as mark_of};
 ghost use Rattle.page_store.specs.Store.{store_of, IsSoundStore, IsOpened, IsRefusedStore};
 
+use crate::blocks::{all_noted, blocks_of, put_mark, turn, turn_committed};
 use crate::cache::PageCache;
 use crate::holds::{Hold, Holders};
 use crate::limits::MAX_PAGES;
 use crate::marks::{
     count_free, end_hold, find_any, free_left, grown_holders, grown_marks, is_kept, let_go,
-    put_mark, take_hold, turn, turn_committed,
+    take_hold,
 };
 use crate::page::{get_page, put_page};
 use crate::room::make_room;
@@ -30,6 +32,8 @@ pub struct PageStore<D: SectorDisk> {
     disk: D,
     root: Root,
     marks: Vec<Mark>,
+    /// In which blocks of pages something may be going on.
+    noted: Vec<bool>,
     /// Which holds are taken.
     taken: Holders,
     /// Which holds need each page.
@@ -41,6 +45,7 @@ pub struct PageStore<D: SectorDisk> {
     /// Pages that need not be read again.
     cache: PageCache,
     ghost sound: { IsSoundStore (store_of (D.disk disk) (D.failures disk) root.bytes marks.items closed (holds_of taken holders.items)) },
+    ghost blocks: { AreNoted marks.items noted.items },
     ghost cached: { IsCacheOf (store_of (D.disk disk) (D.failures disk) root.bytes marks.items closed (holds_of taken holders.items)) cache },
 }
 
@@ -90,13 +95,15 @@ impl<D: SectorDisk> PageStore<D> {
         let capacity = (disk.sectors() / 8).min(u64::from(MAX_PAGES));
         match (
             unmarked(alloc, capacity),
+            all_noted(alloc, capacity as u32),
             unheld(alloc, capacity),
             PageCache::new(alloc, pages),
         ) {
-            (Ok(marks), Ok(holders), Ok(cache)) => Ok(PageStore {
+            (Ok(marks), Ok(noted), Ok(holders), Ok(cache)) => Ok(PageStore {
                 disk,
                 root,
                 marks,
+                noted,
                 taken: Holders::none(),
                 holders,
                 next: 0,
@@ -157,18 +164,25 @@ impl<D: SectorDisk> Pages for PageStore<D> {
         if page as usize >= self.marks.len() || self.marks[page as usize] != Mark::Waiting {
             return Err(PageFault::Damaged);
         }
-        put_mark(&mut self.marks, page, Mark::Committed);
+        put_mark(&mut self.marks, &mut self.noted, page, Mark::Committed);
         Ok(())
     }
 
     fn seal(&mut self) {
-        turn(&mut self.marks, Mark::Fresh, Mark::Released, Mark::Free);
+        turn(
+            &mut self.marks,
+            &mut self.noted,
+            Mark::Fresh,
+            Mark::Released,
+            Mark::Free,
+        );
         self.cache.clear();
     }
 
     fn set_capacity(&mut self, pages: u32) {
         self.marks.truncate(pages as usize);
         self.holders.truncate(pages as usize);
+        self.noted.truncate(blocks_of(pages));
         self.cache.clear();
     }
 
@@ -208,7 +222,7 @@ impl<D: SectorDisk> Pages for PageStore<D> {
             Some(page) => page,
             None => return Err(PageFault::TableFull),
         };
-        put_mark(&mut self.marks, page, Mark::Fresh);
+        put_mark(&mut self.marks, &mut self.noted, page, Mark::Fresh);
         self.next = page;
         Ok(page)
     }
@@ -237,7 +251,7 @@ impl<D: SectorDisk> Pages for PageStore<D> {
 
     fn release(&mut self, page: u32) {
         let now = let_go(self.marks[page as usize]);
-        put_mark(&mut self.marks, page, now);
+        put_mark(&mut self.marks, &mut self.noted, page, now);
         self.cache.forget(page);
     }
 
@@ -248,7 +262,7 @@ impl<D: SectorDisk> Pages for PageStore<D> {
         match publish(&mut self.disk, root) {
             Ok(()) => {
                 self.root = Root { bytes: *root };
-                turn_committed(&mut self.marks, &self.holders);
+                turn_committed(&mut self.marks, &mut self.noted, &self.holders);
                 Ok(())
             }
             Err(fault) => {
@@ -273,6 +287,10 @@ impl<D: SectorDisk> Pages for PageStore<D> {
             Ok(holders) => holders,
             Err(_) => return Err(PageFault::OutOfMemory),
         };
+        let noted = match all_noted(alloc, pages) {
+            Ok(noted) => noted,
+            Err(_) => return Err(PageFault::OutOfMemory),
+        };
         if make_room(&mut self.disk, 8 * u64::from(pages)).is_err() {
             self.closed = true;
             return Err(PageFault::Disk);
@@ -282,6 +300,7 @@ impl<D: SectorDisk> Pages for PageStore<D> {
                 self.root = Root { bytes: *root };
                 self.marks = marks;
                 self.holders = holders;
+                self.noted = noted;
                 Ok(())
             }
             Err(fault) => {
@@ -295,7 +314,13 @@ impl<D: SectorDisk> Pages for PageStore<D> {
     }
 
     fn discard(&mut self) {
-        turn(&mut self.marks, Mark::Free, Mark::Committed, Mark::Waiting);
+        turn(
+            &mut self.marks,
+            &mut self.noted,
+            Mark::Free,
+            Mark::Committed,
+            Mark::Waiting,
+        );
         self.cache.clear();
     }
 

@@ -7,4 +7,4 @@ pub returns-clause-works : goal.returns-clause-works
 returns-clause-works g c = discarded_works _ _ (record { disk = refl; failures = refl; root = refl; closed = refl; holds = refl }) (search rules)
 
 pub invariant_of-self : goal.invariant_of-self
-invariant_of-self g c = record { sound = discarded_sound _ _ (record { disk = refl; failures = refl; root = refl; closed = refl; holds = refl }) (search rules) c.args.self.now.sound; cached = empty_cache _ _ c.clear.ensures }
+invariant_of-self g c = record { sound = discarded_sound _ _ (record { disk = refl; failures = refl; root = refl; closed = refl; holds = refl }) (search rules) c.args.self.now.sound; blocks = c.turn.ensures.noted; cached = empty_cache _ _ c.clear.ensures }

@@ -8,6 +8,7 @@ use Rattle.page_store.specs.aid.Works.{safe_saves, closes_same, closes_failed, g
 use Rattle.page_store.proofs.Growing.{not_err, below_saves, longer_reads, lengthened, lengthened_sound, grown_leaves, mid_rests, grown_after, grown_sound, grown_kept, closed_sound, longer_pages, held_pages}
 use Rattle.page_store.proofs.Keeping.{published_grew, was_honest}
 use Rattle.page_store.proofs.Caching.{carried}
+use Rattle.page_store.proofs.Turning.{all_are_noted}
 use Rattle.page_store.proofs.Passing.{is_read, no_read, counted_ok, counted_err}
 use Rattle.page_store.proofs.store.PageStorePages.grow.Goals as goal
 
@@ -47,9 +48,22 @@ returns-in-Err-clause-grows g c = record {
   held = λ honest place p held. refl;
 }
 
+pub returns-in-Err-all_noted-clause-grows : goal.returns-in-Err-all_noted-clause-grows
+returns-in-Err-all_noted-clause-grows g c = record {
+  goes_on = goes_on_refl _;
+  no_shorter = omega arith;
+  failures = omega arith;
+  closes = closes_same refl refl;
+  leaves = λ honest safe. leaves_now _ (λ picture left. inl (safe_saves _ safe picture left));
+  no_fewer = omega arith;
+  holds = same_holds refl;
+  held = λ honest place p held. refl;
+}
+
 pub invariant_of-self-then-is_err : goal.invariant_of-self-then-is_err
 invariant_of-self-then-is_err g c = record {
   sound = closed_sound _ _ c.args.self.now.sound c.make_room.ensures.no_shorter refl refl refl;
+  blocks = c.args.self.now.blocks;
   cached = carried _ _ _ _ c.args.self.now.cached (λ p held there. there) (was_honest c.make_room.ensures.time) (λ p held there kept. kept)
       (λ h p held there behind. longer_reads _ _ c.args.self.now.sound (c.make_room.ensures.longer h) p (c.args.self.now.cached.kept p held there).1);
 }
@@ -123,6 +137,7 @@ invariant_of-self-in-Ok-publish g c =
           (λ honest. c.in-Ok-publish.ensures.ok (still_honest c.make_room.ensures.time honest)
           (mid_rests _ _ (g.D.SectorDisk.disk c.publish.new.disk) c.args.root.now c.args.pages c.args.self.now.sound (omega (arith, room, c.from.ensures)) c.make_room.ensures.longer
           (λ h. not_err _ made (c.make_room.ensures.synced h)) c.make_room.ensures.time c.publish.ensures.time c.make_room.ensures.moments honest (c.args.self.now.sound.safe honest c.if-self.false)));
+      blocks = all_are_noted _ _ (omega (arith, c.in-Ok-all_noted.ensures.room, c.in-Ok.ensures.long)) c.in-Ok-all_noted.ensures.few c.in-Ok-all_noted.ensures.each;
       cached = carried _ _ _ _ c.args.self.now.cached (λ p held there. there) (was_honest (goes_on_trans c.make_room.ensures.time c.publish.ensures.time))
           (λ p held there kept. grown_kept c.args.self.now.holders.items c.args.pages _ _ c.requires.more (search rules) p kept)
           (λ h p held there behind. longer_pages _ (g.D.SectorDisk.disk c.make_room.new.disk) (g.D.SectorDisk.disk c.publish.new.disk) c.args.self.now.sound (c.make_room.ensures.longer h) (pages_behind (g.D.SectorDisk.disk c.make_room.new.disk) (g.D.SectorDisk.disk c.publish.new.disk) c.publish.ensures.others (still_honest c.make_room.ensures.time h)) p behind
@@ -135,6 +150,7 @@ invariant_of-self-then-is_read g c = record {
       c.make_room.ensures.time c.publish.ensures.time c.make_room.ensures.moments (λ honest. c.publish.ensures.unwritten honest (is_read _ _ c.in-Err-publish.is (c.is_read.ensures.0 c.if-is_read.true)))
       (c.publish.ensures.counted.read (is_read _ _ c.in-Err-publish.is (c.is_read.ensures.0 c.if-is_read.true)) ∙ counted_ok _ (sym c.is_err.ensures.value ∙ c.if-is_err.false) c.make_room.ensures.counted)
       (omega (arith, c.make_room.ensures.no_shorter, c.publish.ensures.same_size));
+  blocks = c.args.self.now.blocks;
   cached = carried _ _ _ _ c.args.self.now.cached (λ p held there. there) (was_honest (goes_on_trans c.make_room.ensures.time c.publish.ensures.time)) (λ p held there kept. kept)
       (λ h p held there behind. longer_pages _ (g.D.SectorDisk.disk c.make_room.new.disk) (g.D.SectorDisk.disk c.publish.new.disk) c.args.self.now.sound (c.make_room.ensures.longer h) (pages_behind (g.D.SectorDisk.disk c.make_room.new.disk) (g.D.SectorDisk.disk c.publish.new.disk) c.publish.ensures.others (still_honest c.make_room.ensures.time h)) p behind
       (c.args.self.now.cached.kept p held there).1);
@@ -175,6 +191,7 @@ returns-then-is_read-clause-cause g c = (
 pub invariant_of-self-in-Err-publish : goal.invariant_of-self-in-Err-publish
 invariant_of-self-in-Err-publish g c = record {
   sound = closed_sound _ _ c.args.self.now.sound (omega (arith, c.make_room.ensures.no_shorter, c.publish.ensures.same_size)) refl refl refl;
+  blocks = c.args.self.now.blocks;
   cached = carried _ _ _ _ c.args.self.now.cached (λ p held there. there) (was_honest (goes_on_trans c.make_room.ensures.time c.publish.ensures.time)) (λ p held there kept. kept)
       (λ h p held there behind. longer_pages _ (g.D.SectorDisk.disk c.make_room.new.disk) (g.D.SectorDisk.disk c.publish.new.disk) c.args.self.now.sound (c.make_room.ensures.longer h) (pages_behind (g.D.SectorDisk.disk c.make_room.new.disk) (g.D.SectorDisk.disk c.publish.new.disk) c.publish.ensures.others (still_honest c.make_room.ensures.time h)) p behind
       (c.args.self.now.cached.kept p held there).1);

@@ -2,6 +2,7 @@ use Rattle.std.proofs.Common.{refl, subst, List}
 use Rattle.page_store.specs.declared.holds.Holders.{Holders}
 use Rattle.page_store.proofs.Caching.{carried, left_kept}
 use Rattle.page_store.proofs.Holding.{let_go_sound}
+use Rattle.page_store.proofs.Turning.{left_noted}
 use Rattle.page_store.specs.Holds.{holds_of}
 use Rattle.page_store.specs.Marks.{AreLeft}
 use Rattle.page_store.specs.Store.{store_of, IsLetGo, Store}
@@ -26,5 +27,6 @@ invariant_of-self g c =
     } in
     record {
       sound = let_go_sound c.args.hold.place old new gone c.args.self.now.sound;
+      blocks = left_noted _ _ _ _ marks c.args.self.now.blocks;
       cached = carried old new _ _ c.args.self.now.cached (λ p held there. there) (λ h. h) (λ p held there. left_kept _ _ _ marks p) (λ h p held there behind. refl);
     }

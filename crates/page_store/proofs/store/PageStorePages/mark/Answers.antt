@@ -20,9 +20,10 @@ invariant_of-self g c =
     let found : c.index.result.now ≡ Waiting = search rules in
     let was : mark c.args.self.now.marks.items c.args.page ≡ Waiting = sym (c.index.ensures ∙ get_or_default _ _ _ Committed here) ∙ found in
     record {
-      sound = marked_sound _ _ _ _ (record { disk = refl; failures = refl; root = refl; closed = refl; holds = refl }) c.put_mark.ensures (sym (ap needs was)) (λ is. was) (sym (ap is_past was)) c.args.self.now.sound
+      sound = marked_sound _ _ _ _ (record { disk = refl; failures = refl; root = refl; closed = refl; holds = refl }) c.put_mark.ensures.marked (sym (ap needs was)) (λ is. was) (sym (ap is_past was)) c.args.self.now.sound
           (not_zero _ _ c.args.self.now.sound.system (waiting_apart _ was));
-      cached = carried _ _ _ _ c.args.self.now.cached (λ p held there. there) (λ h. h) (λ p held there. still_kept _ _ _ _ c.put_mark.ensures refl p) (λ h p held there behind. refl);
+      blocks = c.put_mark.ensures.noted;
+      cached = carried _ _ _ _ c.args.self.now.cached (λ p held there. there) (λ h. h) (λ p held there. still_kept _ _ _ _ c.put_mark.ensures.marked refl p) (λ h p held there behind. refl);
     }
 
 pub returns-clause-works : goal.returns-clause-works
@@ -30,7 +31,7 @@ returns-clause-works g c =
     let here : c.args.page < length c.args.self.now.marks.items = omega (arith, c.if-page-len.false, c.len.ensures) in
     let found : c.index.result.now ≡ Waiting = search rules in
     let was : mark c.args.self.now.marks.items c.args.page ≡ Waiting = sym (c.index.ensures ∙ get_or_default _ _ _ Committed here) ∙ found in
-    marked_works _ _ _ _ (record { disk = refl; failures = refl; root = refl; closed = refl; holds = refl }) c.put_mark.ensures (sym (ap needs was)) (λ is. was) (sym (ap is_past was))
+    marked_works _ _ _ _ (record { disk = refl; failures = refl; root = refl; closed = refl; holds = refl }) c.put_mark.ensures.marked (sym (ap needs was)) (λ is. was) (sym (ap is_past was))
 
 pub returns-then-self-clause-ok : goal.returns-then-self-clause-ok
 returns-then-self-clause-ok g c = tt
@@ -84,7 +85,7 @@ pub returns-then-page-len-clause-others : goal.returns-then-page-len-clause-othe
 returns-then-page-len-clause-others g c = record { disk = refl; failures = refl; root = refl; closed = refl; holds = refl }
 
 pub returns-clause-ok : goal.returns-clause-ok
-returns-clause-ok g c = c.put_mark.ensures
+returns-clause-ok g c = c.put_mark.ensures.marked
 
 pub returns-clause-open : goal.returns-clause-open
 returns-clause-open g c = c.if-self.false

@@ -17,10 +17,10 @@ returns-in-None-clause-works g c = works_refl _
 pub returns-clause-works : goal.returns-clause-works
 returns-clause-works g c =
     let was : mark c.args.self.now.marks.items c.in-Some.page ≡ Free = ap (λ (ms : List Mark). mark ms c.in-Some.page) (sym c.deref.ensures.value) ∙ c.in-Some.ensures.free in
-    marked_works _ _ _ _ (record { disk = refl; failures = refl; root = refl; closed = refl; holds = refl }) c.put_mark.ensures (sym (ap needs was)) (fresh_waits _) (sym (ap is_past was))
+    marked_works _ _ _ _ (record { disk = refl; failures = refl; root = refl; closed = refl; holds = refl }) c.put_mark.ensures.marked (sym (ap needs was)) (fresh_waits _) (sym (ap is_past was))
 
 pub invariant_of-self-clause-cached : goal.invariant_of-self-clause-cached
-invariant_of-self-clause-cached g c = carried _ _ _ _ c.args.self.now.cached (λ p held there. there) (λ h. h) (λ p held there. still_kept _ _ _ _ c.put_mark.ensures refl p) (λ h p held there behind. refl)
+invariant_of-self-clause-cached g c = carried _ _ _ _ c.args.self.now.cached (λ p held there. there) (λ h. h) (λ p held there. still_kept _ _ _ _ c.put_mark.ensures.marked refl p) (λ h p held there behind. refl)
 
 pub returns-then-self-clause-ok : goal.returns-then-self-clause-ok
 returns-then-self-clause-ok g c = tt
@@ -74,7 +74,7 @@ pub returns-in-None-clause-others : goal.returns-in-None-clause-others
 returns-in-None-clause-others g c = record { disk = refl; failures = refl; root = refl; closed = refl; holds = refl }
 
 pub returns-clause-ok : goal.returns-clause-ok
-returns-clause-ok g c = c.put_mark.ensures
+returns-clause-ok g c = c.put_mark.ensures.marked
 
 pub returns-clause-open : goal.returns-clause-open
 returns-clause-open g c = c.if-self.false

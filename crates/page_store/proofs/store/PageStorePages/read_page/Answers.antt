@@ -42,6 +42,7 @@ invariant_of-self-in-Break-1 g c = record {
   sound = sound_works _ _ c.args.self.now.sound
       (works_read _ _ c.get_page.ensures.time c.get_page.ensures.same_size c.get_page.ensures.cause.later (record { root = refl; marks = refl; closed = refl; shown = c.get_page.ensures.unchanged; failed_writes = c.get_page.ensures.spared; leaves = c.get_page.ensures.moments; holds = refl }))
       c.args.self.now.sound.system;
+  blocks = c.args.self.now.blocks;
   cached = carried _ _ _ _ c.args.self.now.cached c.give.ensures.others (was_honest c.get_page.ensures.time) (λ p held there kept. kept)
       (λ h p held there behind. ap (λ (s : Shown). page s.contents p) (c.get_page.ensures.unchanged h));
 }

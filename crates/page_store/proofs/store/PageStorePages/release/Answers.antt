@@ -10,15 +10,16 @@ pub returns-clause-works : goal.returns-clause-works
 returns-clause-works g c =
     let is : c.let_go-now.result ≡ let_go (mark c.args.self.now.marks.items c.args.page) =
     c.let_go-now.ensures ∙ ap let_go (c.index.ensures ∙ get_or_default _ _ _ Committed c.requires.within) in
-    marked_works _ _ _ _ (record { disk = refl; failures = refl; root = refl; closed = refl; holds = refl }) c.put_mark.ensures (ap needs is ∙ let_go_needs _) (λ waits. let_go_waits _ (sym is ∙ waits)) (ap is_past is ∙ let_go_past _)
+    marked_works _ _ _ _ (record { disk = refl; failures = refl; root = refl; closed = refl; holds = refl }) c.put_mark.ensures.marked (ap needs is ∙ let_go_needs _) (λ waits. let_go_waits _ (sym is ∙ waits)) (ap is_past is ∙ let_go_past _)
 
 pub invariant_of-self : goal.invariant_of-self
 invariant_of-self g c =
     let is : c.let_go-now.result ≡ let_go (mark c.args.self.now.marks.items c.args.page) =
     c.let_go-now.ensures ∙ ap let_go (c.index.ensures ∙ get_or_default _ _ _ Committed c.requires.within) in
     record {
-      sound = marked_sound _ _ _ _ (record { disk = refl; failures = refl; root = refl; closed = refl; holds = refl }) c.put_mark.ensures (ap needs is ∙ let_go_needs _) (λ waits. let_go_waits _ (sym is ∙ waits)) (ap is_past is ∙ let_go_past _) c.args.self.now.sound
+      sound = marked_sound _ _ _ _ (record { disk = refl; failures = refl; root = refl; closed = refl; holds = refl }) c.put_mark.ensures.marked (ap needs is ∙ let_go_needs _) (λ waits. let_go_waits _ (sym is ∙ waits)) (ap is_past is ∙ let_go_past _) c.args.self.now.sound
           (omega (arith, c.requires.is_page));
-      cached = carried _ _ _ _ c.args.self.now.cached (λ p held there. (c.forget.ensures p held there).1) (λ h. h) (λ p held there. marked_kept _ _ _ _ c.put_mark.ensures p (c.forget.ensures p held there).0)
+      blocks = c.put_mark.ensures.noted;
+      cached = carried _ _ _ _ c.args.self.now.cached (λ p held there. (c.forget.ensures p held there).1) (λ h. h) (λ p held there. marked_kept _ _ _ _ c.put_mark.ensures.marked p (c.forget.ensures p held there).0)
           (λ h p held there behind. refl);
     }

@@ -1,6 +1,7 @@
-use Rattle.std.proofs.Common.{refl, arith, sym, ◌∙◌}
+use Rattle.std.proofs.Common.{refl, arith}
 use Rattle.page_store.proofs.Growing.{are_cut, shortened, cut_sound}
 use Rattle.page_store.proofs.Caching.{empty_cache}
+use Rattle.page_store.proofs.Turning.{cut_noted}
 use Rattle.page_store.proofs.store.PageStorePages.set_capacity.Goals as goal
 
 pub returns-clause-marks : goal.returns-clause-marks
@@ -12,5 +13,9 @@ returns-clause-others g c = shortened _ _ _ refl refl refl refl refl c.truncate-
 pub invariant_of-self : goal.invariant_of-self
 invariant_of-self g c = record {
   sound = cut_sound _ _ _ (shortened _ _ _ refl refl refl refl refl c.truncate-2.ensures.items) c.truncate-2.ensures.items (are_cut _ _ _ c.requires.room c.truncate.ensures.items) c.requires.some c.requires.room c.args.self.now.sound;
+  blocks = cut_noted _ _ _ _ _ _ (are_cut _ _ _ c.requires.room c.truncate.ensures.items) c.requires.room c.blocks_of.ensures.room c.truncate-3.ensures.items c.args.self.now.blocks;
   cached = empty_cache _ _ c.clear.ensures;
 }
+
+pub blocks_of-requires : goal.blocks_of-requires
+blocks_of-requires g c = omega (arith, c.requires.room, c.args.self.now.blocks.room, c.args.self.now.blocks.few)

@@ -1,0 +1,10 @@
+use Rattle.std.proofs.Common.{ℕ}
+use Rattle.page_store.specs.declared.marks.Mark.{Mark}
+use Rattle.page_store.specs.Blocks.{AreBlocksTurned}
+use Rattle.page_store.specs.Holds.{holders_at}
+use Rattle.page_store.specs.Marks.{committed}
+use Rattle.page_store.proofs.blocks.turn_committed.Given as goal
+
+abbrev pub invariant-loop-block : goal.invariant-loop-block
+invariant-loop-block l =
+    AreBlocksTurned (λ (p : ℕ) (m : Mark). committed (holders_at l.holders p) m) l.block l.fn.marks.items l.fn.noted.items l.marks.items l.noted.items
