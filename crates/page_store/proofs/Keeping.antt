@@ -317,7 +317,7 @@ old_or_new old root safe picture (inr (holds, agrees)) = inr (record {
 pub published_reads : (old new : Shown) (root : List ℕ) → IsPublished root old new → (p : ℕ) → 1 ≤ p → page new.contents p ≡ page old.contents p
 published_reads old new root published p behind = page_same new.contents old.contents p (λ k within. published.pages k (omega (arith, behind, within.0)))
 
--- sectors behind the slots that read the same make the same pages
+-- sectors after the slots that read the same make the same pages
 pub pages_kept : (old new : Picture) → ((k : ℕ) → 4 ≤ k → sector new k ≡ sector old k) → (p : ℕ) → 1 ≤ p → page new p ≡ page old p
 pages_kept old new same p behind = page_same new old p (λ k within. same k (omega (arith, behind, within.0)))
 

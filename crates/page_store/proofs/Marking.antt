@@ -93,7 +93,7 @@ module _ {A : Type 0} (d : A) (g : ℕ → A → A) (start old : List A) (at : �
   pub each_ahead : (p : ℕ) → at + 1 ≤ p → slice_index_or (slice_set old at now) p d ≡ slice_index_or start p d
   each_ahead p high = get_or-set_other old at p now d (omega (arith, high)) ∙ ahead p (omega (arith, high))
 
--- all places have their new values, where a place behind the last one has the same
+-- all places have their new values, where a place after the last one has the same
 pub all_each : {A : Type 0} (d : A) (g : ℕ → A → A) (start new : List A) (at : ℕ) → length new ≡ length start → length start ≤ at
     → ((p : ℕ) → length start ≤ p → g p d ≡ d) → ((p : ℕ) → p < at → slice_index_or new p d ≡ g p (slice_index_or start p d)) → (p : ℕ)
     → slice_index_or new p d ≡ g p (slice_index_or start p d)

@@ -43,7 +43,7 @@ left_rests h Released is = cc
 left_rests h Free is = refl
 left_rests h Past is = past_or_free (any h)
 
--- nothing is going on behind the last page
+-- nothing is going on after the last page
 pub past_rests : (marks : List Mark) (p : ℕ) → length marks ≤ p → IsTrue (rests (mark marks p))
 past_rests marks p past = subst (λ (m : Mark). IsTrue (rests m)) (sym (get_or_past marks p Committed past)) refl
 
@@ -66,7 +66,7 @@ part_none turn at marks = record {
   rest = λ none p low high. absurd (omega (arith, low, high));
 }
 
--- one part is turned, and then the part behind it
+-- one part is turned, and then the part after it
 pub part_then : (turn : ℕ → Mark → Mark) (from mid upto : ℕ) (one other both : Bool) (old between new : List Mark) → from ≤ mid → mid ≤ upto
     → (both ≡ false → one ≡ false) → (both ≡ false → other ≡ false) → ArePartTurned turn from mid one old between
     → ArePartTurned turn mid upto other between new → ArePartTurned turn from upto both old new

@@ -3,7 +3,7 @@ use Rattle.std.specs.Prelude.{◌≡◌, ℕ, ◌*◌, ◌/◌, ◌≤◌, ◌<�
 use Rattle.page_store.specs.declared.marks.Mark.{Mark}
 use Rattle.page_store.specs.Marks.{mark, rests}
 
--- whether a block is noted; behind the last there is none
+-- whether a block is noted; after the last there is none
 abbrev pub noted_at : List Bool → ℕ → Bool
 noted_at noted k = slice_index_or noted k false
 

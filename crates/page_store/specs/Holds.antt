@@ -35,7 +35,7 @@ pub record Holds : Type 0 where
 abbrev pub holds_of : Holders → List Holders → Holds
 holds_of t h = record { taken = t; of = h }
 
--- which holds need a page; behind the last page none does
+-- which holds need a page; after the last page none does
 abbrev pub holders_at : List Holders → ℕ → Holders
 holders_at holders p = slice_index_or holders p none
 

@@ -6,7 +6,7 @@ use Rattle.page_store.specs.declared.holds.HoldPlace.{HoldPlace}
 use Rattle.page_store.specs.declared.holds.Holders.{Holders}
 use Rattle.page_store.specs.Holds.{any, with_need, holders_at}
 
--- the mark of a page; what lies behind the last page is never handed out
+-- the mark of a page; what lies after the last page is never handed out
 abbrev pub mark : List Mark → ℕ → Mark
 mark marks p = slice_index_or marks p Committed
 
@@ -28,7 +28,7 @@ keeps Released = false
 keeps Free = false
 keeps Past = false
 
--- it is a page that the committed root may need; behind the last page is none
+-- it is a page that the committed root may need; after the last page is none
 abbrev pub IsNeeded : List Mark → ℕ → Type 0
 IsNeeded marks p = (1 ≤ p) × (p < length marks) × IsTrue (needs (mark marks p))
 
@@ -119,13 +119,13 @@ rests Released = false
 rests Free = true
 rests Past = true
 
--- after growing to so many pages, where these holds need each page: as after a commit, and the new pages are free
+-- after growing to this many pages, where these holds need each page: as after a commit, and the new pages are free
 pub record AreGrown (holders : List Holders) (pages : ℕ) (old new : List Mark) : Type 0 where
   pub long : length new ≡ pages
   pub each : (p : ℕ) → p < length old → mark new p ≡ committed (holders_at holders p) (mark old p)
   pub added : (p : ℕ) → length old ≤ p → p < pages → mark new p ≡ Free
 
--- the first so many pages, each used as it was
+-- the first this many pages, each used as it was
 pub record AreCut (pages : ℕ) (old new : List Mark) : Type 0 where
   pub long : length new ≡ pages
   pub each : (p : ℕ) → p < pages → mark new p ≡ mark old p

@@ -22,7 +22,7 @@ pub record IsPrepared (named : ℕ → Type 0) (Spelt : (ℕ → List ℕ) → T
   pub spelled : SpelledBy named (reads store) Spelt
   pub kept : (p : ℕ) → named p → IsKept store.marks p
 
--- the picture has this root and room for so many pages, and its pages spell it
+-- the picture has this root and room for this many pages, and its pages spell it
 pub record Spells (root : List ℕ) (capacity : ℕ) (Spelt : (ℕ → List ℕ) → Type 0) (picture : Picture) : Type 0 where
   pub holds : HoldsRoot root picture
   pub room : 8 * capacity ≤ length picture
@@ -38,8 +38,8 @@ pub record IsCarried (root : List ℕ) (was_named : ℕ → Type 0) (Was : (ℕ 
   pub left : IsUnchanged mid new → Stands was_named Was new
   pub left_stop : IsUnchanged mid new → LeavesOnly old.disk new.disk (Spells old.root (length old.marks) Was)
 
--- a store grows from `old` to `new`, to so many pages and by this root: a stop since `old` leaves what stood there, under the old root or
--- under the new one with room for so many pages; it stands in `new`, after Ok and after a refusal that left the store open, and
+-- a store grows from `old` to `new`, to this many pages and by this root: a stop since `old` leaves what stood there, under the old root or
+-- under the new one with room for this many pages; it stands in `new`, after Ok and after a refusal that left the store open, and
 -- such a refusal leaves it under the old root
 pub record IsCarriedGrown (root : List ℕ) (pages : ℕ) (named : ℕ → Type 0) (Spelt : (ℕ → List ℕ) → Type 0) (old new : Store) : Type 0 where
   pub stop : LeavesOnly old.disk new.disk (λ picture. Spells old.root (length old.marks) Spelt picture ⊎ Spells root pages Spelt picture)

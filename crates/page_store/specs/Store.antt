@@ -38,7 +38,7 @@ reads store p = page store.disk.now.contents p
 abbrev pub IsHeldBy : HoldPlace → Store → ℕ → Type 0
 IsHeldBy place store p = (1 ≤ p) × IsTrue (needed_by (holders_at store.holds.of p) place)
 
--- the picture has this root, room for so many pages, and these pages with these bytes
+-- the picture has this root, room for this many pages, and these pages with these bytes
 pub record HasPages (root : List ℕ) (capacity : ℕ) (needed : ℕ → Type 0) (bytes : ℕ → List ℕ) (picture : Picture) : Type 0 where
   pub holds : HoldsRoot root picture
   pub room : 8 * capacity ≤ length picture
@@ -52,7 +52,7 @@ Saved store = HasPages store.root (length store.marks) (IsNeeded store.marks) (r
 abbrev pub SavedAs : List ℕ → Store → Picture → Type 0
 SavedAs root store = HasPages root (length store.marks) (λ p. 1 ≤ p) (reads store)
 
--- the picture has this root in its place, room for so many pages, and each page of the store as it reads
+-- the picture has this root in its place, room for this many pages, and each page of the store as it reads
 abbrev pub SavedIn : List ℕ → ℕ → Store → Picture → Type 0
 SavedIn root pages store = HasPages root pages (λ p. (1 ≤ p) × (p < length store.marks)) (reads store)
 
@@ -84,7 +84,7 @@ pub record IsSoundStore (store : Store) : Type 0 where
   pub safe : IsTrue store.disk.honest → store.closed ≡ false → IsSafe store
   pub holds : AreSoundHolds store.marks store.holds
 
--- what closes a store, or a file of a table, over a call: it was open or closed, and is; so many writes, syncs and extensions of its disk
+-- what closes a store, or a file of a table, over a call: it was open or closed, and is; this many writes, syncs and extensions of its disk
 -- had failed, and have. One that failed closes it, nothing else does, and it stays closed
 pub record ClosesByWrites (was : Bool) (before : ℕ) (is : Bool) (now : ℕ) : Type 0 where
   pub stays : is ≡ false → was ≡ false
@@ -127,7 +127,7 @@ pub record IsRemarked (old new : Store) : Type 0 where
   pub closed : new.closed ≡ old.closed
   pub holds : new.holds ≡ old.holds
 
--- a call without the disk: only the first so many pages are there, and the holds need each of them as they did
+-- a call without the disk: only the first this many pages are there, and the holds need each of them as they did
 pub record IsShortened (pages : ℕ) (old new : Store) : Type 0 where
   pub disk : new.disk ≡ old.disk
   pub failures : new.failures ≡ old.failures
@@ -177,8 +177,8 @@ pub record IsLengthened (old new : Store) : Type 0 where
   pub leaves : IsTrue old.disk.honest → IsSafe old → LeavesOnly old.disk new.disk (Saved old)
   pub failed_writes : new.disk.failed_writes ≡ old.disk.failed_writes
 
--- the store grows to so many pages, by this root, whatever is answered: the disk may be longer afterwards; a stop leaves what was saved
--- before, or this root, room for so many pages, and each page that was there as it reads; the holds stay, and their pages
+-- the store grows to this many pages, by this root, whatever is answered: the disk may be longer afterwards; a stop leaves what was saved
+-- before, or this root, room for this many pages, and each page that was there as it reads; the holds stay, and their pages
 pub record StoreGrows (root : List ℕ) (pages : ℕ) (old new : Store) : Type 0 where
   pub goes_on : GoesOn old.disk new.disk
   pub no_shorter : size old.disk ≤ size new.disk

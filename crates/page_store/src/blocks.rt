@@ -13,7 +13,7 @@ use std::alloc::{AllocError, Global};
 /// How many pages a block has.
 const BLOCK: usize = 256;
 
-/// How many blocks so many pages have.
+/// How many blocks this many pages have.
 pub fn blocks_of(pages: u32) -> usize
     requires { pages ≤ MAX_PAGES }
     ensures room { pages ≤ 256 * result }
@@ -22,7 +22,7 @@ pub fn blocks_of(pages: u32) -> usize
     (pages as usize).div_ceil(BLOCK)
 }
 
-/// The blocks of so many pages, each noted.
+/// The blocks of this many pages, each noted.
 pub fn all_noted(alloc: Global, pages: u32) -> Result<Vec<bool>, AllocError>
     requires { pages ≤ MAX_PAGES }
     ensures room { IfOk result (λ noted. pages ≤ 256 * length noted.items) }

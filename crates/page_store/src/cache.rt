@@ -13,7 +13,7 @@ pub struct KeptPage {
     bytes: [u8; 4096],
 }
 
-/// The pages that were read or written last. It holds so many at most, and where there is no cache none.
+/// The pages that were read or written last. It holds this many at most, and where there is no cache none.
 #[derive(Drop)]
 pub struct PageCache {
     /// The place of each page, the page that was used last first.
@@ -22,7 +22,7 @@ pub struct PageCache {
 }
 
 impl PageCache {
-    /// An empty cache for so many pages.
+    /// An empty cache for this many pages.
     pub fn new(alloc: Global, pages: usize) -> Result<PageCache, AllocError>
         ensures { IfOk result (λ cache. (p : ℕ) (bytes : List ℕ) → HoldsPage cache p bytes → ⊥) }
     {

@@ -27,7 +27,7 @@ pub fn commit_carries<Was: Spelling, Is: Spelling>()
 {}
 
 /// A store in which nothing is handed out or released grows: what its pages spell stands, and a stop leaves it under the old root, or
-/// under the new one with room for so many pages; after a refusal that left the store open, under the old.
+/// under the new one with room for this many pages; after a refusal that left the store open, under the old.
 pub fn grow_carries<S: Spelling>()
     ensures { (root : List ℕ) (pages : ℕ) (old new : Store) → IsTrue old.disk.honest → IsSafe old → IsSoundStore old
         → length old.marks < pages → IsCalm old → Stands S.named S.spelt old → StoreGrows root pages old new

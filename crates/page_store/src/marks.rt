@@ -53,7 +53,7 @@ fn grown_mark(marks: &[Mark], holders: &[Holders], page: u32) -> Mark
     committed(marks[page as usize], holders[page as usize])
 }
 
-/// The marks of so many pages, more than there are, once a store has grown.
+/// The marks of this many pages, more than there are, once a store has grown.
 pub fn grown_marks(
     alloc: Global,
     marks: &[Mark],
@@ -81,7 +81,7 @@ fn holders_of(holders: &[Holders], page: u32) -> Holders
     holders[page as usize]
 }
 
-/// Which holds need each of so many pages, no fewer than there are, once a store has grown.
+/// Which holds need each of this many pages, no fewer than there are, once a store has grown.
 pub fn grown_holders(
     alloc: Global,
     holders: &[Holders],

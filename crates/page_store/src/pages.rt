@@ -41,7 +41,7 @@ pub trait Pages {
         ensures marks { AreSealed (store self.old).marks (store self.new).marks }
         ensures others { IsRemarked (store self.old) (store self.new) };
 
-    /// While opening, before any page is marked: there are so many pages and no more, those that a root says.
+    /// While opening, before any page is marked: there are this many pages and no more, those that a root says.
     fn set_capacity(&mut self, pages: u32)
         requires some { 1 ≤ pages }
         requires room { pages ≤ length (store self.old).marks }
@@ -126,9 +126,9 @@ pub trait Pages {
         ensures cause { IfErr result (StoreCommitCause (store self.old) (store self.new)) }
         ensures closed { (store self.old).closed ≡ true → IsErrOf result PageFault.Closed };
 
-    /// Makes room for so many pages, more than there are: the disk is made longer where it is too short, all is synced, and then this root
+    /// Makes room for this many pages, more than there are: the disk is made longer where it is too short, all is synced, and then this root
     /// takes the place of the present one, as by `commit`. A stop within it leaves the present root and its pages, or the new root with
-    /// room for so many pages and all pages as they read; after `Ok` the new, and from then on alone the new pages are there, and free.
+    /// room for this many pages and all pages as they read; after `Ok` the new, and from then on alone the new pages are there, and free.
     /// After a refusal the disk may be longer, which does no harm.
     fn grow(&mut self, alloc: Global, pages: u32, root: &[u8; 512]) -> Result<(), PageFault>
         requires some { 1 ≤ length (store self.old).marks }

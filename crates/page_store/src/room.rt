@@ -4,7 +4,7 @@ ghost use Rattle.sector_disk.specs.Disk.{size, AgreesBelow, AllSynced, GoesOn, H
 
 use sector_disk::{DiskFault, SectorDisk};
 
-/// Makes a disk longer where it has fewer than so many sectors, and syncs. A stop within it leaves what was synced.
+/// Makes a disk longer where it has fewer than this many sectors, and syncs. A stop within it leaves what was synced.
 pub fn make_room<D: SectorDisk>(disk: &mut D, sectors: u64) -> Result<(), DiskFault>
     ensures room { OnOk result (sectors ≤ size (D.disk disk.new)) }
     ensures synced { IsTrue (D.disk disk.old).honest → OnOk result (AllSynced (D.disk disk.new).now) }

@@ -69,7 +69,7 @@ impl<D: SectorDisk> PageStore<D> {
         PageStore::open_with_cache(alloc, disk, MOST_CACHED)
     }
 
-    /// The same with a cache of so many pages, 0 for none.
+    /// The same with a cache of this many pages, 0 for none.
     pub fn open_with_cache(alloc: Global, disk: D, pages: usize) -> Result<Self, Refused<D>>
         requires { pages ≤ 64 }
         ensures ok { IfOk result (λ store. IsOpened (D.disk disk) (D.failures disk) (store_in store)) }
@@ -141,7 +141,7 @@ fn unmarked(alloc: Global, capacity: u64) -> Result<Vec<Mark>, AllocError>
     Ok(marks)
 }
 
-/// No hold needs any of so many pages.
+/// No hold needs any of this many pages.
 fn unheld(alloc: Global, capacity: u64) -> Result<Vec<Holders>, AllocError>
     requires { capacity ≤ MAX_PAGES }
     ensures length { IfOk result (λ holders. length holders.items ≡ capacity) }
