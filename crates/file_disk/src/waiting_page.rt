@@ -9,15 +9,13 @@ pub struct WaitingPage {
     pub has: [bool; 8],
 }
 
-/// The same with this sector.
-pub fn with_sector(has: [bool; 8], sector: usize) -> [bool; 8]
+/// This sector waits too. It is set where it stands: to copy all eight for one takes longer than to copy a sector.
+pub fn set_sector(has: &mut [bool; 8], sector: usize)
     requires { sector < 8 }
-    ensures its { slice_index_or result sector false ≡ true }
-    ensures others { (s : ℕ) → s ≢ sector → slice_index_or result s false ≡ slice_index_or has s false }
+    ensures its { slice_index_or has.new sector false ≡ true }
+    ensures others { (s : ℕ) → s ≢ sector → slice_index_or has.new s false ≡ slice_index_or has.old s false }
 {
-    let mut more = has;
-    more[sector] = true;
-    more
+    has[sector] = true;
 }
 
 /// Whether all eight sectors wait.

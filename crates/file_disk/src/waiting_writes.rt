@@ -6,7 +6,7 @@ ghost use Rattle.file_disk.specs.Waiting.{page_at, place_of, slot_of, shown_of, 
 ghost use Rattle.file_disk.specs.aid.Waiting.{AreDistinct, ArePlaced, AreInside, IsRun};
 
 use crate::put_bytes::put_bytes;
-use crate::waiting_page::{WaitingPage, is_whole, with_sector};
+use crate::waiting_page::{WaitingPage, is_whole, set_sector};
 use std::alloc::{AllocError, Global};
 
 /// Puts a sector over the one at this slot.
@@ -133,7 +133,7 @@ impl WaitingWrites {
         let sector = (at % 8) as usize;
         put_sector(&mut self.bytes, 8 * place + sector, from);
         let page = &mut self.pages[place];
-        page.has = with_sector(page.has, sector);
+        set_sector(&mut page.has, sector);
         self.last = place;
     }
 
