@@ -1,10 +1,10 @@
 -- Pages in a cache.
-use Rattle.std.proofs.Common.{◌≡◌, ◌≢◌, ◌⊎◌, inl, inr, ℕ, ◌-◌, ◌≤◌, Bool, true, false, cond, nat_eq, List, ◌∷◌, length, take, Contains, Option, Some, None, IsSome, Result, Ok, Err, OnOk, IsTrue, refl, sym, ◌∙◌, ap, subst, arith, ◌<◌, set, get_or}
+use Rattle.std.proofs.Common.{◌≡◌, ◌≢◌, ◌⊎◌, inl, inr, ℕ, ◌-◌, ◌≤◌, Bool, true, false, cond, nat_eq, List, ◌∷◌, length, take, slice_get, Contains, Option, Some, None, IsSome, Result, Ok, Err, OnOk, IsTrue, refl, sym, ◌∙◌, ap, subst, arith, ◌<◌, set, get_or}
 use Rattle.std.proofs.lemmas.Bool.{eqb-true, eq-eqb, false≢true, cases_lt, cases_eq}
 use Rattle.std.proofs.lemmas.List.{get_or_past, get_or_default, get_or-set_other}
 use Rattle.std.proofs.lemmas.Grind.{get_or-set_at}
 use Rattle.std.proofs.lemmas.Map.Views.{lookup-from_Contains}
-use Rattle.std.proofs.lemmas.Option.{same_Some}
+use Rattle.std.proofs.lemmas.Option.{same_Some, slice_get_within, get_or_from_slice_get}
 use Rattle.std.proofs.lemmas.Map.{lookup-remove_entry, none_passes_from_lookup}
 use Rattle.std.specs.Cmp.{nat_eq_equiv}
 use Rattle.std.specs.List.{IsDistinct}
@@ -89,6 +89,10 @@ pub found_there : (now es : Entries) (page : ℕ) (place : ℕ) → now ≡ es �
 found_there now es page place is found =
     let there = Contains-lookup (nat_eq page) es place (sym found) in
     subst (λ (xs : Entries). Contains xs (page, place)) (sym is) (subst (λ (q : ℕ). Contains es (q, place)) (sym (eqb-true page there.0 there.2)) there.1)
+
+-- the first entry is there
+pub first_there : (es : Entries) (page place : ℕ) → slice_get es 0 ≡ Some (page, place) → Contains es (page, place)
+first_there es page place is = (0, slice_get_within es 0 (page, place) is, get_or_from_slice_get es 0 (page, place) (page, place) is)
 
 -- a page goes to the front
 pub promoted_part : (now es new : Entries) (page : ℕ) → now ≡ es → new ≡ promoted (nat_eq page) es → (p : ℕ) (held : ℕ) → Contains new (p, held) → Contains now (p, held)
@@ -180,6 +184,14 @@ put_at_place was now kept page place it names numbered within p held there = by 
             holds = sym (ap (λ (k : KeptPage). k.bytes) other) ∙ there.holds;
           },
         )
+
+-- the page stands at its one place already
+pub one_named : (was : Entries) (page place : ℕ) → ((other : ℕ) → Contains was (page, other) → other ≡ place) → (p at : ℕ) → Contains was (p, at)
+    → AfterPut page place was p at
+one_named was page place only p at named = elim (cases_eq p page) [
+  | inl same ↦ inl (same, only at (subst (λ (q : ℕ). Contains was (q, at)) same named))
+  | inr other ↦ inr (other, named)
+]
 
 -- no place is named for the page, since memory was refused
 pub refused_place : (was now : Entries) (kept : List KeptPage) (page : ℕ) → ((p place : ℕ) → Contains now (p, place) → (p ≢ page) × Contains was (p, place))

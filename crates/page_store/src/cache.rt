@@ -1,6 +1,6 @@
 //! Pages in memory, so that they need not be read again.
-ghost use Rattle.std.specs.Prelude.{◌≡◌, ◌≢◌, ◌⊎◌, ◌≤◌, ◌<◌, ℕ, List, IsTrue, IfOk, IfSome, IfNone, length};
-ghost use Rattle.page_store.specs.Cache.{HoldsPage, OnlyForgets, HasPlace};
+ghost use Rattle.std.specs.Prelude.{◌≡◌, ◌≢◌, ◌⊎◌, ◌≤◌, ◌<◌, ℕ, List, Some, Contains, IsTrue, IfOk, IfSome, IfNone, length};
+ghost use Rattle.page_store.specs.Cache.{HoldsPage, OnlyForgets, HasPlace, entries_of, kept_at};
 
 use lru::LruCache;
 use std::alloc::{AllocError, Global};
@@ -21,6 +21,16 @@ pub struct PageCache {
     kept: Vec<KeptPage>,
 }
 
+/// The place of the page, if it is the one that was used last.
+fn last_place(places: &LruCache<u32, usize>, page: u32) -> Option<usize>
+    ensures { IfSome result (λ place. Contains places.now.entries (page, place)) }
+{
+    match places.peek_mru() {
+        Some((number, place)) if *number == page => Some(*place),
+        _ => None,
+    }
+}
+
 impl PageCache {
     /// An empty cache for this many pages.
     pub fn new(alloc: Global, pages: usize) -> Result<PageCache, AllocError>
@@ -36,8 +46,41 @@ impl PageCache {
         }
     }
 
+    /// Whether the page stands at this place.
+    fn stands_at(&self, page: u32, place: usize) -> bool
+        ensures { IsTrue result → (kept_at self.now.kept.items place).number ≡ Some page }
+    {
+        place < self.kept.len() && self.kept[place].number == Some(page)
+    }
+
+    /// Where the page is, if it is there and was used last. It has no other place.
+    fn place_of_last(&self, page: u32) -> Option<usize>
+        ensures there { IfSome result (HasPlace self.now page) }
+        ensures only { IfSome result (λ place. (other : ℕ) → Contains (entries_of self.now.places) (page, other) → other ≡ place) }
+    {
+        let Some(places) = &self.places else {
+            return None;
+        };
+        let _distinct = places.len();
+        match last_place(places, page) {
+            Some(place) if self.stands_at(page, place) => Some(place),
+            _ => None,
+        }
+    }
+
     /// Where the page is, if it is there.
     fn place_of(&self, page: u32) -> Option<usize>
+        ensures there { IfSome result (HasPlace self.now page) }
+        ensures none { IfNone result ((bytes : List ℕ) → HoldsPage self.now page bytes → ⊥) }
+    {
+        match self.place_of_last(page) {
+            Some(place) => Some(place),
+            None => self.place_of_any(page),
+        }
+    }
+
+    /// Where the page is, if it is there, whenever it was used.
+    fn place_of_any(&self, page: u32) -> Option<usize>
         ensures there { IfSome result (HasPlace self.now page) }
         ensures none { IfNone result ((bytes : List ℕ) → HoldsPage self.now page bytes → ⊥) }
     {
@@ -63,9 +106,7 @@ impl PageCache {
             return false;
         };
         *into = self.kept[place].bytes;
-        if let Some(places) = &mut self.places {
-            places.promote(&page);
-        }
+        let _used = self.touch(page);
         true
     }
 
@@ -73,10 +114,13 @@ impl PageCache {
     pub fn touch(&mut self, page: u32) -> bool
         ensures { OnlyForgets self.old self.new }
     {
-        match &mut self.places {
-            Some(places) => places.promote(&page),
-            None => false,
+        let Some(places) = &mut self.places else {
+            return false;
+        };
+        if last_place(places, page).is_some() {
+            return true;
         }
+        places.promote(&page)
     }
 
     /// The bytes of the page, if it is there.
@@ -128,6 +172,12 @@ impl PageCache {
         ensures { (p : ℕ) (held : List ℕ) → HoldsPage self.new p held
             → ((p ≡ page) × (held ≡ bytes.now)) ⊎ ((p ≢ page) × HoldsPage self.old p held) }
     {
+        if let Some(place) = self.place_of_last(page) {
+            let kept = &mut self.kept[place];
+            kept.number = Some(page);
+            kept.bytes = *bytes;
+            return Ok(());
+        }
         if self.places.is_none() {
             return Ok(());
         }

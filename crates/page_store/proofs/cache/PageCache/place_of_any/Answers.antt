@@ -5,7 +5,7 @@ use Rattle.std.specs.Option.{option_copied}
 use Rattle.page_store.specs.declared.cache.KeptPage.{KeptPage}
 use Rattle.page_store.specs.Cache.{entries_of, kept_at, no_page}
 use Rattle.page_store.proofs.Caching.{placed_there, found_place, stands}
-use Rattle.page_store.proofs.cache.PageCache.place_of.Goals as goal
+use Rattle.page_store.proofs.cache.PageCache.place_of_any.Goals as goal
 
 pub returns-in-Some-number-clause-there : goal.returns-in-Some-number-clause-there
 returns-in-Some-number-clause-there c =
