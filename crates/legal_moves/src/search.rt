@@ -208,10 +208,9 @@ impl Searcher<'_> {
             → IsWideFrom game e 0 (at_vertex state.now vertex) }
     {
         if self.tables[index].looks
-            && let Some(looks) = self.look(index, state, vertex)?
+            && let Some(legal) = self.look(index, state, vertex)?
         {
-            let table = &self.tables[index];
-            return Ok(table.ends.nullable || any_looks_last(&looks.looks, &table.lasts));
+            return Ok(legal);
         }
         let mut state = copied_state(state);
         state.vertex = vertex;
@@ -220,28 +219,37 @@ impl Searcher<'_> {
         Ok(ends.nullable || any_stands_last(&found.stands, &ends.last))
     }
 
-    /// All that a search of the pattern from here comes to, where it only looks; none if it meets an action that writes.
+    /// Whether some word of a pattern that only looks is legal from here; none if the search meets an action that writes. Where it cannot be
+    /// too wide, it ends at the first yes.
     #[cycle(search)]
-    fn look(&self, index: usize, state: &SemiState, vertex: u8) -> Result<Option<Looks>, MoveFault>
+    fn look(&self, index: usize, state: &SemiState, vertex: u8) -> Result<Option<bool>, MoveFault>
         requires ready { IsReady (game_of self.now.game.now) self.now.tables.now index }
         requires same { AreSame (inner_of (game_of self.now.game.now).rules) self.now.same.now }
         requires state { IsStateOf (game_of self.now.game.now) (at_vertex state.now vertex) }
         requires lacks { LacksSwitch (expression_at (game_of self.now.game.now) index) }
-        ensures found { let game = game_of self.now.game.now in let e = expression_at game index in IfOk result
-            (λ o. IfSome o (λ l. IsSearch game e 0 (at_vertex state.now vertex) (seen_from state.now l.looks.items))) }
+        ensures answer { let game = game_of self.now.game.now in let e = expression_at game index in IfOk result (λ o. IfSome o
+            (λ b. MatchBool b (IsLegal game e (at_vertex state.now vertex)) (¬ IsLegal game e (at_vertex state.now vertex)))) }
+        ensures narrow { let game = game_of self.now.game.now in let e = expression_at game index in IfOk result
+            (λ o. IfSome o (λ b. ¬ IsWideFrom game e 0 (at_vertex state.now vertex))) }
         ensures wide { let game = game_of self.now.game.now in let e = expression_at game index in result ≡ Err MoveFault.TooWide
             → IsWideFrom game e 0 (at_vertex state.now vertex) }
     {
-        let numbers = self.tables[index].steps.len() + 1;
+        let table = &self.tables[index];
+        let numbers = table.steps.len() + 1;
         let mut looks = Looks::begun(self.alloc, self.game.vertices.len(), numbers, vertex)?;
         let mut at = 0;
         while at < looks.looks.len() {
+            let Look { place, .. } = looks.looks[at];
+            if table.is_enough(place) {
+                return Ok(Some(true));
+            }
             if !self.look_on(index, state, &mut looks, at)? {
                 return Ok(None);
             }
             at += 1;
         }
-        Ok(Some(looks))
+        let legal = table.ends.nullable || any_looks_last(&looks.looks, &table.lasts);
+        Ok(Some(legal))
     }
 
     /// Adds what one action leads to from the look at the index; false if that action writes.
