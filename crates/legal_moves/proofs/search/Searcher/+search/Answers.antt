@@ -186,9 +186,9 @@ is_legal-returns-2-clause-answer t c =
           subst (λ b. MatchBool b (IsLegal game e S) (¬ IsLegal game e S)) (sym (w.result-is ∙ w.if-ends.true))
           (legal_by_nullable game tables index c.requires.ready T at_T c.requires.lacks S cs search null)
       | is_legal-else-ends w ↦
-          let configurations = w.deref-else-ends.ensures.value in
-          let last = w.deref-else-ends-2.ensures.value ∙ ap (λ x. x.ends.last.items) (sym c.index-self-index-2.is) in
-          let any = w.any_stands_last.ensures ∙ ap (λ xs. list_any (λ x. list_any (λ k. k == x.place) xs) w.deref-else-ends.result.now) last ∙ ap (λ xs. list_any (λ x. list_any (λ k. k == x.place) T.ends.last.items) xs) configurations ∙ sym (any_stand c.in_ok-found.found.boards.items c.in_ok-found.found.stands.items T.ends.last.items) in
+          let configurations = w.deref.ensures.value in
+          let last = w.deref-else-ends.ensures.value ∙ ap (λ x. x.ends.last.items) (sym c.index-self-index-2.is) in
+          let any = w.any_stands_last.ensures ∙ ap (λ xs. list_any (λ x. list_any (λ k. k == x.place) xs) w.deref.result.now) last ∙ ap (λ xs. list_any (λ x. list_any (λ k. k == x.place) T.ends.last.items) xs) configurations ∙ sym (any_stand c.in_ok-found.found.boards.items c.in_ok-found.found.stands.items T.ends.last.items) in
           subst (λ b. MatchBool b (IsLegal game e S) (¬ IsLegal game e S)) (sym w.result-is)
           (legal_by_any game tables index c.requires.ready T at_T c.requires.lacks S cs search w.any_stands_last.result any (table_is ∙ w.if-ends.false))
     ]
@@ -1155,9 +1155,9 @@ look-returns-clause-answer t c =
           let configurations = w.deref.ensures.value in
           let lasts = w.deref-else-table.ensures.value ∙ ap (λ x. x.lasts.items) (sym c.index-self-index.is) in
           let agree = any_agree (λ (l : Look). slice_index_or T.lasts.items l.place false) (λ l. list_any (λ k. k == l.place) T.ends.last.items) (λ l. (is_table game tables index c.requires.ready T at_T).lasts_are l.place) ls in
-          let any = w.any_looks_last.ensures ∙ ap (λ xs. list_any (λ x. slice_index_or xs x.place false) w.deref.result.now) lasts ∙ ap (λ xs. list_any (λ x. slice_index_or T.lasts.items x.place false) xs) configurations ∙ agree ∙ sym (any_look c.args.state.now ls T.ends.last.items) in
+          let any = w.any_looks_last-legal.ensures ∙ ap (λ xs. list_any (λ x. slice_index_or xs x.place false) w.deref.result.now) lasts ∙ ap (λ xs. list_any (λ x. slice_index_or T.lasts.items x.place false) xs) configurations ∙ agree ∙ sym (any_look c.args.state.now ls T.ends.last.items) in
           subst (λ b. MatchBool b (IsLegal game e S) (¬ IsLegal game e S)) (sym w.legal-is)
-          (legal_by_any game tables index c.requires.ready T at_T c.requires.lacks S cs search w.any_looks_last.result any (table_is ∙ w.if-table.false))
+          (legal_by_any game tables index c.requires.ready T at_T c.requires.lacks S cs search w.any_looks_last-legal.result any (table_is ∙ w.if-table.false))
     ]
 
 pub look-loop-at-smaller : goal.look-loop-at-smaller
