@@ -19,7 +19,7 @@ use crate::copies::copied_state;
 use crate::effect::{Glance, act, at_a_glance};
 use crate::fault::MoveFault;
 use crate::found::{Found, Stand};
-use crate::looks::{Look, Looks};
+use crate::looks::{Look, Looks, keep};
 use crate::marks::is_marked;
 use crate::table::{Step, Table};
 use rbg_game::game::Game;
@@ -47,7 +47,13 @@ pub struct Answer {
 impl Searcher<'_> {
     /// All configurations of an expression from a place and a semi-state.
     #[cycle(search)]
-    pub fn search(&self, index: usize, place: u16, state: SemiState) -> Result<Found, MoveFault>
+    pub fn search(
+        &self,
+        spare: &mut Vec<Looks>,
+        index: usize,
+        place: u16,
+        state: SemiState,
+    ) -> Result<Found, MoveFault>
         requires ready { IsReady (game_of self.now.game.now) self.now.tables.now index }
         requires same { AreSame (inner_of (game_of self.now.game.now).rules) self.now.same.now }
         requires state { IsStateOf (game_of self.now.game.now) state }
@@ -60,7 +66,7 @@ impl Searcher<'_> {
         let mut found = Found::begun(self.alloc, state)?;
         let mut at = 0;
         while at < found.stands.len() {
-            self.expand(index, place, &mut found, at)?;
+            self.expand(spare, index, place, &mut found, at)?;
             at += 1;
         }
         Ok(found)
@@ -70,6 +76,7 @@ impl Searcher<'_> {
     #[cycle(search)]
     fn expand(
         &self,
+        spare: &mut Vec<Looks>,
         index: usize,
         place: u16,
         found: &mut Found,
@@ -99,7 +106,7 @@ impl Searcher<'_> {
         let followers = self.tables[index].followers(from);
         let mut known = None;
         for number in followers {
-            self.attempt(index, found, at, *number, &mut known)?;
+            self.attempt(spare, index, found, at, *number, &mut known)?;
         }
         Ok(())
     }
@@ -108,6 +115,7 @@ impl Searcher<'_> {
     #[cycle(search)]
     fn attempt(
         &self,
+        spare: &mut Vec<Looks>,
         index: usize,
         found: &mut Found,
         at: usize,
@@ -133,7 +141,7 @@ impl Searcher<'_> {
             ⊎ IsFull game e number at (configurations_of found.old) }
     {
         let Stand { board, vertex, .. } = found.stands[at];
-        match self.glance_at(index, &found.boards[board], vertex, number, known)? {
+        match self.glance_at(spare, index, &found.boards[board], vertex, number, known)? {
             Glance::Fails => Ok(()),
             Glance::At(vertex) => found.add(Stand {
                 board,
@@ -195,7 +203,13 @@ impl Searcher<'_> {
     /// vertices alone.
     #[cycle(search)]
     #[inline(never)]
-    fn is_legal(&self, index: usize, state: &SemiState, vertex: u8) -> Result<bool, MoveFault>
+    fn is_legal(
+        &self,
+        spare: &mut Vec<Looks>,
+        index: usize,
+        state: &SemiState,
+        vertex: u8,
+    ) -> Result<bool, MoveFault>
         requires ready { IsReady (game_of self.now.game.now) self.now.tables.now index }
         requires same { AreSame (inner_of (game_of self.now.game.now).rules) self.now.same.now }
         requires state { IsStateOf (game_of self.now.game.now) (at_vertex state.now vertex) }
@@ -208,13 +222,13 @@ impl Searcher<'_> {
             → IsWideFrom game e 0 (at_vertex state.now vertex) }
     {
         if self.tables[index].looks
-            && let Some(legal) = self.look(index, state, vertex)?
+            && let Some(legal) = self.look(spare, index, state, vertex)?
         {
             return Ok(legal);
         }
         let mut state = copied_state(state);
         state.vertex = vertex;
-        let found = self.search(index, 0, state)?;
+        let found = self.search(spare, index, 0, state)?;
         let ends = &self.tables[index].ends;
         Ok(ends.nullable || any_stands_last(&found.stands, &ends.last))
     }
@@ -222,7 +236,13 @@ impl Searcher<'_> {
     /// Whether some word of a pattern that only looks is legal from here; none if the search meets an action that writes. Where it cannot be
     /// too wide, it ends at the first yes.
     #[cycle(search)]
-    fn look(&self, index: usize, state: &SemiState, vertex: u8) -> Result<Option<bool>, MoveFault>
+    fn look(
+        &self,
+        spare: &mut Vec<Looks>,
+        index: usize,
+        state: &SemiState,
+        vertex: u8,
+    ) -> Result<Option<bool>, MoveFault>
         requires ready { IsReady (game_of self.now.game.now) self.now.tables.now index }
         requires same { AreSame (inner_of (game_of self.now.game.now).rules) self.now.same.now }
         requires state { IsStateOf (game_of self.now.game.now) (at_vertex state.now vertex) }
@@ -236,19 +256,21 @@ impl Searcher<'_> {
     {
         let table = &self.tables[index];
         let numbers = table.steps.len() + 1;
-        let mut looks = Looks::begun(self.alloc, self.game.vertices.len(), numbers, vertex)?;
+        let mut looks = Looks::begun(self.alloc, spare, self.game.vertices.len(), numbers, vertex)?;
         let mut at = 0;
         while at < looks.looks.len() {
             let Look { place, .. } = looks.looks[at];
             if table.is_enough(place) {
+                keep(spare, looks);
                 return Ok(Some(true));
             }
-            if !self.look_on(index, state, &mut looks, at)? {
+            if !self.look_on(spare, index, state, &mut looks, at)? {
                 return Ok(None);
             }
             at += 1;
         }
         let legal = table.ends.nullable || any_looks_last(&looks.looks, &table.lasts);
+        keep(spare, looks);
         Ok(Some(legal))
     }
 
@@ -256,6 +278,7 @@ impl Searcher<'_> {
     #[cycle(search)]
     fn look_on(
         &self,
+        spare: &mut Vec<Looks>,
         index: usize,
         state: &SemiState,
         looks: &mut Looks,
@@ -284,7 +307,7 @@ impl Searcher<'_> {
         let mut known = None;
         for number in followers {
             let place = *number;
-            match self.glance_at(index, state, vertex, place, &mut known)? {
+            match self.glance_at(spare, index, state, vertex, place, &mut known)? {
                 Glance::Fails => {}
                 Glance::At(vertex) => looks.add(Look {
                     vertex,
@@ -302,6 +325,7 @@ impl Searcher<'_> {
     #[inline(always)]
     fn glance_at(
         &self,
+        spare: &mut Vec<Looks>,
         index: usize,
         state: &SemiState,
         vertex: u8,
@@ -325,7 +349,7 @@ impl Searcher<'_> {
         match self.tables[index].step(number) {
             Step::Act(action) => Ok(at_a_glance(self.game, action, state, vertex)),
             Step::Ask(positive, inner) => {
-                let holds = self.holds(*inner, state, vertex, known)?;
+                let holds = self.holds(spare, *inner, state, vertex, known)?;
                 Ok(if holds == *positive {
                     Glance::At(vertex)
                 } else {
@@ -339,6 +363,7 @@ impl Searcher<'_> {
     #[cycle(search)]
     fn holds(
         &self,
+        spare: &mut Vec<Looks>,
         index: usize,
         state: &SemiState,
         vertex: u8,
@@ -364,7 +389,7 @@ impl Searcher<'_> {
         {
             return Ok(answer.holds);
         }
-        let holds = self.is_legal(index, state, vertex)?;
+        let holds = self.is_legal(spare, index, state, vertex)?;
         *known = Some(Answer { pattern, holds });
         Ok(holds)
     }
