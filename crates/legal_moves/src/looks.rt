@@ -1,5 +1,6 @@
 //! What a search that only looks has come to: it writes nothing, and so the vertex alone changes.
-ghost use Rattle.std.specs.Prelude.{◌≡◌, ◌≤◌, ◌<◌, [], ◌∷◌, length, IfOk, OnOk, Err};
+ghost use Rattle.std.specs.Prelude.{◌≡◌, ◌≤◌, ◌<◌, [], ◌∷◌, length, slice_index_or, false, IfOk, OnOk, Err};
+ghost use Rattle.std.specs.List.{list_any};
 ghost use Rattle.legal_moves.specs.declared.limits.TheConstants.{WIDEST};
 
 use crate::fault::MoveFault;
@@ -120,4 +121,13 @@ impl Looks {
 /// Keeps the room of a search that is over for the next one. Where it cannot be kept it is given up.
 pub fn keep(spare: &mut Vec<Looks>, looks: Looks) {
     let _kept = spare.push(looks);
+}
+
+/// Whether the last action of some look is one that is marked.
+pub fn any_looks_last(looks: &[Look], lasts: &[bool]) -> bool
+    ensures { result ≡ list_any (λ l. slice_index_or lasts.now l.place false) looks.now }
+{
+    looks
+        .iter()
+        .any(|look| is_marked(lasts, usize::from(look.place)))
 }

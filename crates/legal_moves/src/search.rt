@@ -1,7 +1,6 @@
 //! The search for the configurations that valid actions lead to.
-ghost use Rattle.std.specs.Prelude.{◌≡◌, ◌==◌, ◌+◌, ◌≤◌, ◌<◌, ◌⊎◌, length, slice_index_or, false, Err, IsOk, IfOk, OnOk, IfSome, MatchBool};
+ghost use Rattle.std.specs.Prelude.{◌≡◌, ◌+◌, ◌≤◌, ◌<◌, ◌⊎◌, length, Err, IsOk, IfOk, OnOk, IfSome, MatchBool};
 ghost use Rattle.std.specs.Bool.{OnTrue};
-ghost use Rattle.std.specs.List.{list_any};
 ghost use Rattle.rbg_game.specs.Rules.{count, action_at};
 ghost use Rattle.rbg_game.specs.Meaning.{game_of};
 ghost use Rattle.rbg_game.specs.Sound.{LacksSwitch};
@@ -18,9 +17,8 @@ ghost use Rattle.legal_moves.specs.aid.Standing.{configurations_of, AreKept};
 use crate::copies::copied_state;
 use crate::effect::{Glance, act, at_a_glance};
 use crate::fault::MoveFault;
-use crate::found::{Found, Stand};
-use crate::looks::{Look, Looks, keep};
-use crate::marks::is_marked;
+use crate::found::{Found, Stand, any_stands_last};
+use crate::looks::{Look, Looks, any_looks_last, keep};
 use crate::table::{Step, Table};
 use rbg_game::game::Game;
 use rbg_game::position::SemiState;
@@ -393,22 +391,4 @@ impl Searcher<'_> {
         *known = Some(Answer { pattern, holds });
         Ok(holds)
     }
-}
-
-/// Whether the last action of some configuration is one of those.
-fn any_stands_last(stands: &[Stand], last: &[usize]) -> bool
-    ensures { result ≡ list_any (λ s. list_any (λ k. k == s.place) last.now) stands.now }
-{
-    stands
-        .iter()
-        .any(|stand| last.contains(&usize::from(stand.place)))
-}
-
-/// Whether the last action of some look is one that is marked.
-fn any_looks_last(looks: &[Look], lasts: &[bool]) -> bool
-    ensures { result ≡ list_any (λ l. slice_index_or lasts.now l.place false) looks.now }
-{
-    looks
-        .iter()
-        .any(|look| is_marked(lasts, usize::from(look.place)))
 }
