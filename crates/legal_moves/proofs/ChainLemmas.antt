@@ -8,7 +8,7 @@ use Rattle.legal_moves.specs.aid.Chains.{IsLatest, AreChained}
 use Rattle.legal_moves.specs.declared.chains.Chains.{Chains}
 use Rattle.legal_moves.proofs.GetLemmas.{slice_get-append, slice_get-push, slice_get-end, slice_get-within}
 
--- none below n that has the bucket is behind the latest
+-- none below n that has the bucket is after the latest
 pub latest_bounds : (buckets : List ℕ) (bucket n at : ℕ) → IsLatest buckets bucket n at → (i : ℕ) → i < n → slice_get buckets i ≡ Some bucket → i < at
 latest_bounds buckets bucket n zero h i less is = absurd (h i less is)
 latest_bounds buckets bucket n (suc k) h i less is = go (cases_lt k i)

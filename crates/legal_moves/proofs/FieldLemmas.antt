@@ -34,7 +34,7 @@ role_back (role.Player Second) = refl
 value_back : (v : ℕ) → v ≤ 1000000 → v / 65536 % 256 * 65536 + v / 256 % 256 * 256 + v % 256 ≡ v
 value_back v small = omega (arith, small)
 
--- an index into what is behind a part
+-- an index into what is after a part
 behind : (a b : List ℕ) (n i : ℕ) → length a ≡ n → slice_index (a ++ b) (n + i) ≡ slice_index b i
 behind [] b n i e = ap (slice_index b) (omega (arith, e))
 behind (x ∷ a) b n i e =
@@ -72,7 +72,7 @@ leads_second a b = go (nat_lt b a) refl (nat_lt a b) refl
     go false e true f = (λ h. ltb-true a b f, λ h. refl)
     go false e false f = (λ h. absurd (cc), λ h. absurd (omega (arith, h, ltb-false a b f)))
 
--- who alone has so many points
+-- who alone has this many points
 alone_first : (n a b : ℕ) → (alone_at n a b ≡ Some First) ↔ ((n ≤ a) × (b < n))
 alone_first n a b = go (nat_lt a n) refl (nat_lt b n) refl
   where

@@ -9,7 +9,7 @@ use Rattle.rbg_game.specs.Sound.{LacksSwitch, IsNoSwitch}
 use Rattle.rbg_game.specs.declared.position.SemiState.{SemiState}
 use Rattle.legal_moves.specs.Glushkov.{IsLast}
 use Rattle.legal_moves.specs.aid.Searches.{IsLegal}
-use Rattle.legal_moves.specs.aid.Configurations.{expression_at, IsReady, IsSearch}
+use Rattle.legal_moves.specs.aid.Configurations.{expression_at, IsReady, AreFound, IsSearch}
 use Rattle.legal_moves.specs.declared.table.Table.{Table}
 use Rattle.legal_moves.specs.Configurations.{Configuration}
 use Rattle.legal_moves.proofs.EffectLemmas.{option_or-cases, action_at-one}
@@ -111,3 +111,11 @@ module _ (game : Game) (tables : List Table) (index : ℕ) (ready : IsReady game
           let any = list_any-by (λ (c : Configuration). list_any (λ k. k == c.at.place) table.ends.last.items) cs f.index f.configuration f.is_at (any_contains table.ends.last.items f.configuration.at.place there) in
           let never : false ≡ true = is ∙ any in
           cc
+
+-- ---- a word ends at a configuration that was found, whether the search has ended or not
+
+module _ (game : Game) (tables : List Table) (index : ℕ) (ready : IsReady game tables index) (table : Table) (table_at : slice_get tables index ≡ Some table) (lacks : LacksSwitch (expression_at game index)) (S : SemiState) (cs : List Configuration) (found : AreFound game (expression_at game index) 0 S cs) where
+  pub legal_by_last : (i : ℕ) (c : Configuration) → slice_get cs i ≡ Some c → list_any (λ k. k == c.at.place) table.ends.last.items ≡ true → IsLegal game (expression_at game index) S
+  legal_by_last i c at any =
+      let last = (contains_ends game tables index ready table table_at c.at.place).0 (contains_any table.ends.last.items c.at.place any) in
+      legal-by_HasEnd game (expression_at game index) S (none_switches (expression_at game index) lacks) (inr (c.at.state, c.at.place, reached game (expression_at game index) 0 S cs found i c at, last))

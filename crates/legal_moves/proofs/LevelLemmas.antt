@@ -11,7 +11,7 @@ use Rattle.legal_moves.specs.Configurations.{Configuration}
 use Rattle.legal_moves.proofs.GetLemmas.{slice_get-within}
 use Rattle.legal_moves.proofs.FoundLemmas.{same_at}
 
--- the configuration at an index has so many actions before it
+-- the configuration at an index has this many actions before it
 pub data Level (cs : List Configuration) : ℕ → ℕ → Type 0 where
   first : Level cs 0 0
   later : (i : ℕ) (c : Configuration) (n : ℕ) → slice_get cs (suc i) ≡ Some c → Level cs c.parent n → Level cs (suc i) (suc n)

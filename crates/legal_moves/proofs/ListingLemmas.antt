@@ -159,7 +159,7 @@ module _ (P : ℕ → Type 0) (ks : List ℕ) (h : AreListed P ks) where
             absurd (omega (arith, same, below))
       ]
 
-  -- none behind the last
+  -- none after the last
   pub none_past : (m : ℕ) → past ks (length ks) ≤ m → ¬ P m
   none_past m from wanted =
       let found = h.all m wanted in

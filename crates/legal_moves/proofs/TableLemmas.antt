@@ -50,7 +50,7 @@ AreTables-push es e tables table h new = record {
         subst (λ zs. IsExpressionTable zs t x) (sym (ap (λ k. take k (es ++ e ∷ [])) q.0 ∙ take-all es e))
         (subst (λ z. IsExpressionTable es z x) (sym p.1) (subst (λ z. IsExpressionTable es table z) (sym q.1) new))
 
--- ---- one part behind another
+-- ---- one part after another
 
 count_along : (a b c d : ℕ) → a ≡ b + c → suc a ≡ suc b + c
 count_along a b c d h = omega (arith, h)

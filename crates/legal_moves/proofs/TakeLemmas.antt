@@ -30,7 +30,7 @@ walk_of : (t : List ℕ) (k : ℕ) → CanFollow take.rules 0 (t ++ k ∷ []) �
 walk_of [] k h = walk-by_CanFollow take.rules 0 k [] h
 walk_of (x ∷ t) k h = walk-by_CanFollow take.rules 0 x (t ++ k ∷ []) h
 
--- the semi-state behind the first action
+-- the semi-state after the first action
 abbrev after_1 : SemiState
 after_1 = record (start_of take).state { values = record { items = 0 ∷ 0 ∷ 3 ∷ [] } }
 

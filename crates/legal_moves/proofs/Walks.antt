@@ -9,7 +9,7 @@ use Rattle.legal_moves.proofs.GlushkovLemmas.{first_word, next_word, IsFirst-by_
 along : (u : List ℕ) (k : ℕ) (v : List ℕ) → (u ++ k ∷ []) ++ v ≡ u ++ k ∷ v
 along u k v = append_assoc u (k ∷ []) v
 
--- a word through k can be changed behind k to go on along the walk
+-- a word through k can be changed after k to go on along the walk
 extend : (e : Regex) (w : List ℕ) (k : ℕ) (u v : List ℕ) → IsWord e 1 (u ++ k ∷ v) → IsWalk e k w → (v' : List ℕ) × IsWord e 1 (u ++ k ∷ (w ++ v'))
 extend e [] k u v h walk = (v, h)
 extend e (l ∷ w) k u v h walk = go walk.0 (λ v' p. extend e w l (u ++ k ∷ []) v' p walk.1)

@@ -52,7 +52,7 @@ abbrev pub opponent : Player → Player
 opponent First = Second
 opponent Second = First
 
--- w is ahead: without a goal with more points than the other, and with one with at least so many points while the other has fewer
+-- w is ahead: without a goal with more points than the other, and with one with at least this many points while the other has fewer
 abbrev pub IsAhead : Option ℕ → Player → Position → Type 0
 IsAhead None w at = score (opponent w) at.state < score w at.state
 IsAhead (Some points) w at = (points ≤ score w at.state) × (score (opponent w) at.state < points)

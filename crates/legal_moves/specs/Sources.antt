@@ -52,7 +52,7 @@ value_in x i = slice_index x i * 65536 + slice_index x (i + 1) * 256 + slice_ind
 abbrev pub more_of : ℕ → ℕ → Option Player
 more_of first second = if nat_lt second first then Some First else if nat_lt first second then Some Second else None
 
--- who has at least so many points while the other has fewer
+-- who has at least this many points while the other has fewer
 abbrev pub alone_at : ℕ → ℕ → ℕ → Option Player
 alone_at points first second =
     if nat_lt first points then (if nat_lt second points then None else Some Second)
@@ -63,7 +63,7 @@ abbrev pub leader : Option ℕ → ℕ → ℕ → Option Player
 leader None first second = more_of first second
 leader (Some points) first second = alone_at points first second
 
--- the scores are behind the pieces
+-- the scores are after the pieces
 abbrev pub leader_in : PackingKind → Option ℕ → Game → List ℕ → Option Player
 leader_in Bytes goal game x = leader goal (value_in x (length game.vertices)) (value_in x (length game.vertices + 3))
 leader_in Bits goal game x =

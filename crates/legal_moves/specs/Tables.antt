@@ -19,7 +19,7 @@ actions_of (alt a b) = actions_of a ++ actions_of b
 actions_of (star a) = actions_of a
 
 abbrev mutual
-  -- the expressions of the patterns in one, each behind those inside of it
+  -- the expressions of the patterns in one, each after those inside of it
   pub inner_of : Regex → List Regex
   inner_of (one a) = inner_in a
   inner_of empty = []

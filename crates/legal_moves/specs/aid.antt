@@ -6,6 +6,7 @@ pub mod Ends
 pub mod Going
 pub mod Looking
 pub mod Marks
+pub mod Narrow
 pub mod Relations
 pub mod Repacked
 pub mod Standing

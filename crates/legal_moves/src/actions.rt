@@ -2,6 +2,7 @@
 ghost use Rattle.std.specs.Prelude.{◌≡◌, Some};
 ghost use Rattle.rbg_game.specs.Rules.{is_switch, is_modifier};
 ghost use Rattle.rbg_game.specs.Meaning.{action_of};
+ghost use Rattle.legal_moves.specs.aid.Narrow.{looks_alone};
 
 use rbg_game::rules::Action;
 
@@ -36,9 +37,16 @@ pub fn is_shown(action: &Action) -> bool
 }
 
 /// Whether the action changes the vertex alone, and asks no pattern.
-pub fn is_look(action: &Action) -> bool {
-    matches!(
-        action,
-        Action::Shift(_) | Action::On(_) | Action::Comparison(_, _, _)
-    )
+pub fn is_look(action: &Action) -> bool
+    ensures { result ≡ looks_alone (action_of action.now) }
+{
+    match action {
+        Action::Shift(_) => true,
+        Action::On(_) => true,
+        Action::Comparison(_, _, _) => true,
+        Action::Off(_) => false,
+        Action::Assignment(_, _) => false,
+        Action::Switch(_) => false,
+        Action::Pattern(_, _) => false,
+    }
 }

@@ -4,16 +4,19 @@ ghost use Rattle.rbg_game.specs.Rules.{Regex, cat_all, alt_all};
 ghost use Rattle.rbg_game.specs.Meaning.{action_of, regex_of};
 ghost use Rattle.legal_moves.specs.Glushkov.{is_nullable};
 ghost use Rattle.legal_moves.specs.Tables.{inner_of, inner_in, IsStep, AreTables};
+ghost use Rattle.legal_moves.specs.aid.Narrow.{AreFewLooks};
 ghost use Rattle.legal_moves.specs.aid.Tables.{IsAdded};
+ghost use Rattle.std.specs.Bool.{OnTrue};
 
 use crate::copies::copied_expression;
+use crate::limits::FEW_STEPS;
 use crate::marks::marks_of;
 use crate::relation::Relation;
 use crate::table::{Draft, Ends, Step, Table};
 use rbg_game::rules::{Action, Rules};
 use std::alloc::{AllocError, Global};
 
-/// Adds the table of an expression, behind those of the patterns in it, and gives its index.
+/// Adds the table of an expression, after those of the patterns in it, and gives its index.
 #[cycle(tables)]
 pub fn add_table(alloc: Global, tables: &mut Vec<Table>, rules: &Rules) -> Result<usize, AllocError>
     ensures { IfOk result (λ index. (es : List Regex) → AreTables es tables.old.items →
@@ -31,14 +34,23 @@ pub fn add_table(alloc: Global, tables: &mut Vec<Table>, rules: &Rules) -> Resul
     let index = tables.len();
     let lasts = marks_of(alloc, &ends.last)?;
     let looks = steps.iter().all(|step| step.is_look(tables));
+    let narrow = are_few_looks(&steps);
     tables.push(Table {
         steps,
         follows,
         ends,
         lasts,
         looks,
+        narrow,
     })?;
     Ok(index)
+}
+
+/// Whether there are few steps, each of which looks and asks no pattern.
+fn are_few_looks(steps: &[Step]) -> bool
+    ensures { OnTrue result (AreFewLooks steps.now) }
+{
+    steps.len() <= FEW_STEPS && steps.iter().all(|step| step.looks_alone())
 }
 
 #[cycle(tables)]

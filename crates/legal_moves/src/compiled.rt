@@ -168,7 +168,8 @@ impl Compiled {
         };
         let rules = self.tables.len() - 1;
         let state = copied_state(&at.state);
-        searcher.search(rules, at.place, state)
+        let mut spare = Vec::new(alloc);
+        searcher.search(&mut spare, rules, at.place, state)
     }
 }
 

@@ -45,7 +45,7 @@ pub fn leader_of(goal: Option<Goal>, first: u32, second: u32) -> Option<Player>
     }
 }
 
-/// The player who has at least so many points while the other has fewer.
+/// The player who has at least this many points while the other has fewer.
 fn alone_at(points: u32, first: u32, second: u32) -> Option<Player>
     ensures { result ≡ alone_at points first second }
 {

@@ -1,6 +1,7 @@
 //! The configurations that a search has found.
-ghost use Rattle.std.specs.Prelude.{◌≡◌, ℕ, ◌≤◌, ◌<◌, ◌↔◌, true, [], ◌∷◌, length, Some, slice_get, IfOk, OnOk, Err, IfSome};
+ghost use Rattle.std.specs.Prelude.{◌≡◌, ◌==◌, ℕ, ◌≤◌, ◌<◌, ◌↔◌, true, [], ◌∷◌, length, Some, slice_get, IfOk, OnOk, Err, IfSome};
 ghost use Rattle.std.specs.Bool.{OnTrue, OnFalse};
+ghost use Rattle.std.specs.List.{list_any};
 ghost use Rattle.std.specs.Option.{IfNone};
 ghost use Rattle.legal_moves.specs.aid.Configurations.{opening};
 ghost use Rattle.legal_moves.specs.aid.Looking.{at_vertex};
@@ -166,4 +167,13 @@ fn is_same_stand(left: Stand, right: Stand) -> bool
     ensures { (result ≡ true) ↔ IsSameStand left right }
 {
     left.board == right.board && left.vertex == right.vertex && left.place == right.place
+}
+
+/// Whether the last action of some configuration is one of those.
+pub fn any_stands_last(stands: &[Stand], last: &[usize]) -> bool
+    ensures { result ≡ list_any (λ s. list_any (λ k. k == s.place) last.now) stands.now }
+{
+    stands
+        .iter()
+        .any(|stand| last.contains(&usize::from(stand.place)))
 }

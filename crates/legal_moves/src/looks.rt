@@ -1,5 +1,6 @@
 //! What a search that only looks has come to: it writes nothing, and so the vertex alone changes.
-ghost use Rattle.std.specs.Prelude.{◌≡◌, ◌≤◌, ◌<◌, [], ◌∷◌, length, IfOk, OnOk, Err};
+ghost use Rattle.std.specs.Prelude.{◌≡◌, ◌≤◌, ◌<◌, [], ◌∷◌, length, slice_index_or, false, IfOk, OnOk, Err};
+ghost use Rattle.std.specs.List.{list_any};
 ghost use Rattle.legal_moves.specs.declared.limits.TheConstants.{WIDEST};
 
 use crate::fault::MoveFault;
@@ -33,9 +34,10 @@ pub struct Looks {
 impl Looks {
     ghost use Rattle.legal_moves.specs.aid.Looking.{AreMarked, IsNewLook, IsLookAdded};
 
-    /// The opening alone, with room for the marks of so many vertices.
+    /// The opening alone, with room for the marks of this many vertices.
     pub fn begun(
         alloc: Global,
+        spare: &mut Vec<Looks>,
         vertices: usize,
         numbers: usize,
         vertex: u8,
@@ -46,19 +48,52 @@ impl Looks {
         ensures opening { IfOk result (λ looks. looks.looks.items ≡ record { vertex = vertex; place = 0; parent = 0 } ∷ []) }
         ensures marked { IfOk result (AreMarked numbers) }
     {
-        let mut looks = Vec::with_capacity(alloc, ROOM)?;
-        let mut marks = vec![in alloc; false; vertices * numbers]?;
-        mark(&mut marks, usize::from(vertex) * numbers)?;
-        looks.push(Look {
+        let mut looks = Looks::room(alloc, spare, numbers)?;
+        looks.marks.resize(vertices * numbers, false)?;
+        mark(&mut looks.marks, usize::from(vertex) * numbers)?;
+        looks.looks.push(Look {
             vertex,
             place: 0,
             parent: 0,
         })?;
+        Ok(looks)
+    }
+
+    /// No looks, in the room of a search that is over, if there is one.
+    fn room(alloc: Global, spare: &mut Vec<Looks>, numbers: usize) -> Result<Looks, AllocError>
+        ensures numbers { IfOk result (λ looks. looks.numbers ≡ numbers) }
+        ensures looks { IfOk result (λ looks. looks.looks.items ≡ []) }
+        ensures marks { IfOk result (λ looks. looks.marks.items ≡ []) }
+    {
+        if let Some(over) = spare.pop() {
+            return Ok(over.emptied(numbers));
+        }
+        let looks = Vec::with_capacity(alloc, ROOM)?;
         Ok(Looks {
+            looks,
+            marks: Vec::new(alloc),
+            numbers,
+        })
+    }
+
+    /// The same room without looks.
+    fn emptied(self, numbers: usize) -> Looks
+        ensures numbers { result.numbers ≡ numbers }
+        ensures looks { result.looks.items ≡ [] }
+        ensures marks { result.marks.items ≡ [] }
+    {
+        let Looks {
+            mut looks,
+            mut marks,
+            numbers: _,
+        } = self;
+        looks.clear();
+        marks.clear();
+        Looks {
             looks,
             marks,
             numbers,
-        })
+        }
     }
 
     /// Adds a look if it is new.
@@ -81,4 +116,18 @@ impl Looks {
         self.looks.push(look)?;
         Ok(())
     }
+}
+
+/// Keeps the room of a search that is over for the next one. Where it cannot be kept it is given up.
+pub fn keep(spare: &mut Vec<Looks>, looks: Looks) {
+    let _kept = spare.push(looks);
+}
+
+/// Whether the last action of some look is one that is marked.
+pub fn any_looks_last(looks: &[Look], lasts: &[bool]) -> bool
+    ensures { result ≡ list_any (λ l. slice_index_or lasts.now l.place false) looks.now }
+{
+    looks
+        .iter()
+        .any(|look| is_marked(lasts, usize::from(look.place)))
 }

@@ -33,7 +33,7 @@ fn first_same(patterns: &[&Rules], number: usize) -> usize
     number
 }
 
-/// Lists the expressions of the patterns in the rules, each behind those inside of it.
+/// Lists the expressions of the patterns in the rules, each after those inside of it.
 #[cycle(patterns)]
 fn list_patterns<'a>(rules: &'a Rules, list: &mut Vec<&'a Rules>) -> Result<(), AllocError>
     ensures { OnOk result (map (λ r. regex_of r.now) list.new.items ≡ map (λ r. regex_of r.now) list.old.items

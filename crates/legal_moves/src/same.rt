@@ -5,7 +5,7 @@ ghost use Rattle.rbg_game.specs.Meaning.{expression_of, action_of, regex_of};
 
 use rbg_game::rules::{Action, Expr, Rules};
 
-/// Whether the two are the same, part by part. Who asks may rest on a yes alone.
+/// Whether the two are the same, part by part. Only `true` means anything.
 #[cycle(same)]
 pub fn are_same(left: &Rules, right: &Rules) -> bool
     ensures { OnTrue result (regex_of left.now ≡ regex_of right.now) }

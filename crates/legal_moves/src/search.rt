@@ -1,7 +1,6 @@
 //! The search for the configurations that valid actions lead to.
-ghost use Rattle.std.specs.Prelude.{◌≡◌, ◌==◌, ◌+◌, ◌≤◌, ◌<◌, ◌⊎◌, length, slice_index_or, false, Err, IsOk, IfOk, OnOk, IfSome, MatchBool};
+ghost use Rattle.std.specs.Prelude.{◌≡◌, ◌+◌, ◌≤◌, ◌<◌, ◌⊎◌, length, Err, IsOk, IfOk, OnOk, IfSome, MatchBool};
 ghost use Rattle.std.specs.Bool.{OnTrue};
-ghost use Rattle.std.specs.List.{list_any};
 ghost use Rattle.rbg_game.specs.Rules.{count, action_at};
 ghost use Rattle.rbg_game.specs.Meaning.{game_of};
 ghost use Rattle.rbg_game.specs.Sound.{LacksSwitch};
@@ -18,9 +17,8 @@ ghost use Rattle.legal_moves.specs.aid.Standing.{configurations_of, AreKept};
 use crate::copies::copied_state;
 use crate::effect::{Glance, act, at_a_glance};
 use crate::fault::MoveFault;
-use crate::found::{Found, Stand};
-use crate::looks::{Look, Looks};
-use crate::marks::is_marked;
+use crate::found::{Found, Stand, any_stands_last};
+use crate::looks::{Look, Looks, any_looks_last, keep};
 use crate::table::{Step, Table};
 use rbg_game::game::Game;
 use rbg_game::position::SemiState;
@@ -47,7 +45,13 @@ pub struct Answer {
 impl Searcher<'_> {
     /// All configurations of an expression from a place and a semi-state.
     #[cycle(search)]
-    pub fn search(&self, index: usize, place: u16, state: SemiState) -> Result<Found, MoveFault>
+    pub fn search(
+        &self,
+        spare: &mut Vec<Looks>,
+        index: usize,
+        place: u16,
+        state: SemiState,
+    ) -> Result<Found, MoveFault>
         requires ready { IsReady (game_of self.now.game.now) self.now.tables.now index }
         requires same { AreSame (inner_of (game_of self.now.game.now).rules) self.now.same.now }
         requires state { IsStateOf (game_of self.now.game.now) state }
@@ -60,7 +64,7 @@ impl Searcher<'_> {
         let mut found = Found::begun(self.alloc, state)?;
         let mut at = 0;
         while at < found.stands.len() {
-            self.expand(index, place, &mut found, at)?;
+            self.expand(spare, index, place, &mut found, at)?;
             at += 1;
         }
         Ok(found)
@@ -70,6 +74,7 @@ impl Searcher<'_> {
     #[cycle(search)]
     fn expand(
         &self,
+        spare: &mut Vec<Looks>,
         index: usize,
         place: u16,
         found: &mut Found,
@@ -99,7 +104,7 @@ impl Searcher<'_> {
         let followers = self.tables[index].followers(from);
         let mut known = None;
         for number in followers {
-            self.attempt(index, found, at, *number, &mut known)?;
+            self.attempt(spare, index, found, at, *number, &mut known)?;
         }
         Ok(())
     }
@@ -108,6 +113,7 @@ impl Searcher<'_> {
     #[cycle(search)]
     fn attempt(
         &self,
+        spare: &mut Vec<Looks>,
         index: usize,
         found: &mut Found,
         at: usize,
@@ -133,7 +139,7 @@ impl Searcher<'_> {
             ⊎ IsFull game e number at (configurations_of found.old) }
     {
         let Stand { board, vertex, .. } = found.stands[at];
-        match self.glance_at(index, &found.boards[board], vertex, number, known)? {
+        match self.glance_at(spare, index, &found.boards[board], vertex, number, known)? {
             Glance::Fails => Ok(()),
             Glance::At(vertex) => found.add(Stand {
                 board,
@@ -195,7 +201,13 @@ impl Searcher<'_> {
     /// vertices alone.
     #[cycle(search)]
     #[inline(never)]
-    fn is_legal(&self, index: usize, state: &SemiState, vertex: u8) -> Result<bool, MoveFault>
+    fn is_legal(
+        &self,
+        spare: &mut Vec<Looks>,
+        index: usize,
+        state: &SemiState,
+        vertex: u8,
+    ) -> Result<bool, MoveFault>
         requires ready { IsReady (game_of self.now.game.now) self.now.tables.now index }
         requires same { AreSame (inner_of (game_of self.now.game.now).rules) self.now.same.now }
         requires state { IsStateOf (game_of self.now.game.now) (at_vertex state.now vertex) }
@@ -208,46 +220,63 @@ impl Searcher<'_> {
             → IsWideFrom game e 0 (at_vertex state.now vertex) }
     {
         if self.tables[index].looks
-            && let Some(looks) = self.look(index, state, vertex)?
+            && let Some(legal) = self.look(spare, index, state, vertex)?
         {
-            let table = &self.tables[index];
-            return Ok(table.ends.nullable || any_looks_last(&looks.looks, &table.lasts));
+            return Ok(legal);
         }
         let mut state = copied_state(state);
         state.vertex = vertex;
-        let found = self.search(index, 0, state)?;
+        let found = self.search(spare, index, 0, state)?;
         let ends = &self.tables[index].ends;
         Ok(ends.nullable || any_stands_last(&found.stands, &ends.last))
     }
 
-    /// All that a search of the pattern from here comes to, where it only looks; none if it meets an action that writes.
+    /// Whether some word of a pattern that only looks is legal from here; none if the search meets an action that writes. Where it cannot be
+    /// too wide, it ends at the first yes.
     #[cycle(search)]
-    fn look(&self, index: usize, state: &SemiState, vertex: u8) -> Result<Option<Looks>, MoveFault>
+    fn look(
+        &self,
+        spare: &mut Vec<Looks>,
+        index: usize,
+        state: &SemiState,
+        vertex: u8,
+    ) -> Result<Option<bool>, MoveFault>
         requires ready { IsReady (game_of self.now.game.now) self.now.tables.now index }
         requires same { AreSame (inner_of (game_of self.now.game.now).rules) self.now.same.now }
         requires state { IsStateOf (game_of self.now.game.now) (at_vertex state.now vertex) }
         requires lacks { LacksSwitch (expression_at (game_of self.now.game.now) index) }
-        ensures found { let game = game_of self.now.game.now in let e = expression_at game index in IfOk result
-            (λ o. IfSome o (λ l. IsSearch game e 0 (at_vertex state.now vertex) (seen_from state.now l.looks.items))) }
+        ensures answer { let game = game_of self.now.game.now in let e = expression_at game index in IfOk result (λ o. IfSome o
+            (λ b. MatchBool b (IsLegal game e (at_vertex state.now vertex)) (¬ IsLegal game e (at_vertex state.now vertex)))) }
+        ensures narrow { let game = game_of self.now.game.now in let e = expression_at game index in IfOk result
+            (λ o. IfSome o (λ b. ¬ IsWideFrom game e 0 (at_vertex state.now vertex))) }
         ensures wide { let game = game_of self.now.game.now in let e = expression_at game index in result ≡ Err MoveFault.TooWide
             → IsWideFrom game e 0 (at_vertex state.now vertex) }
     {
-        let numbers = self.tables[index].steps.len() + 1;
-        let mut looks = Looks::begun(self.alloc, self.game.vertices.len(), numbers, vertex)?;
+        let table = &self.tables[index];
+        let numbers = table.steps.len() + 1;
+        let mut looks = Looks::begun(self.alloc, spare, self.game.vertices.len(), numbers, vertex)?;
         let mut at = 0;
         while at < looks.looks.len() {
-            if !self.look_on(index, state, &mut looks, at)? {
+            let Look { place, .. } = looks.looks[at];
+            if table.is_enough(place) {
+                keep(spare, looks);
+                return Ok(Some(true));
+            }
+            if !self.look_on(spare, index, state, &mut looks, at)? {
                 return Ok(None);
             }
             at += 1;
         }
-        Ok(Some(looks))
+        let legal = table.ends.nullable || any_looks_last(&looks.looks, &table.lasts);
+        keep(spare, looks);
+        Ok(Some(legal))
     }
 
     /// Adds what one action leads to from the look at the index; false if that action writes.
     #[cycle(search)]
     fn look_on(
         &self,
+        spare: &mut Vec<Looks>,
         index: usize,
         state: &SemiState,
         looks: &mut Looks,
@@ -276,7 +305,7 @@ impl Searcher<'_> {
         let mut known = None;
         for number in followers {
             let place = *number;
-            match self.glance_at(index, state, vertex, place, &mut known)? {
+            match self.glance_at(spare, index, state, vertex, place, &mut known)? {
                 Glance::Fails => {}
                 Glance::At(vertex) => looks.add(Look {
                     vertex,
@@ -294,6 +323,7 @@ impl Searcher<'_> {
     #[inline(always)]
     fn glance_at(
         &self,
+        spare: &mut Vec<Looks>,
         index: usize,
         state: &SemiState,
         vertex: u8,
@@ -317,7 +347,7 @@ impl Searcher<'_> {
         match self.tables[index].step(number) {
             Step::Act(action) => Ok(at_a_glance(self.game, action, state, vertex)),
             Step::Ask(positive, inner) => {
-                let holds = self.holds(*inner, state, vertex, known)?;
+                let holds = self.holds(spare, *inner, state, vertex, known)?;
                 Ok(if holds == *positive {
                     Glance::At(vertex)
                 } else {
@@ -331,6 +361,7 @@ impl Searcher<'_> {
     #[cycle(search)]
     fn holds(
         &self,
+        spare: &mut Vec<Looks>,
         index: usize,
         state: &SemiState,
         vertex: u8,
@@ -356,26 +387,8 @@ impl Searcher<'_> {
         {
             return Ok(answer.holds);
         }
-        let holds = self.is_legal(index, state, vertex)?;
+        let holds = self.is_legal(spare, index, state, vertex)?;
         *known = Some(Answer { pattern, holds });
         Ok(holds)
     }
-}
-
-/// Whether the last action of some configuration is one of those.
-fn any_stands_last(stands: &[Stand], last: &[usize]) -> bool
-    ensures { result ≡ list_any (λ s. list_any (λ k. k == s.place) last.now) stands.now }
-{
-    stands
-        .iter()
-        .any(|stand| last.contains(&usize::from(stand.place)))
-}
-
-/// Whether the last action of some look is one that is marked.
-fn any_looks_last(looks: &[Look], lasts: &[bool]) -> bool
-    ensures { result ≡ list_any (λ l. slice_index_or lasts.now l.place false) looks.now }
-{
-    looks
-        .iter()
-        .any(|look| is_marked(lasts, usize::from(look.place)))
 }

@@ -31,7 +31,7 @@ pub trait MoveSource: GameGraph {
         requires { is_sound self.now }
         ensures { result ≡ (Self.graph self.now).mover at.now.items };
 
-    /// The player who is ahead: the one with more points, or in a table with a goal the one who has at least so many while the other has fewer.
+    /// The player who is ahead: the one with more points, or in a table with a goal the one who has at least this many while the other has fewer.
     fn ahead(&self, at: &Packed) -> Option<Player>
         requires { is_sound self.now }
         ensures { result ≡ (Self.graph self.now).ahead at.now.items };

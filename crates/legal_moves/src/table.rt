@@ -1,7 +1,10 @@
 //! Expressions made ready for a search: the steps by their numbers, and which can follow which.
-ghost use Rattle.std.specs.Prelude.{◌≡◌, ◌-◌, ◌≤◌, length, ◌&&◌, ◌||◌, [], ◌∷◌, ◌++◌, if◌then◌else◌, IfOk, Some, slice_get, false};
+ghost use Rattle.std.specs.Prelude.{◌≡◌, ◌-◌, ◌≤◌, length, ◌&&◌, ◌||◌, [], ◌∷◌, ◌++◌, if◌then◌else◌, IfOk, Some, slice_get, slice_index_or, true, false};
+ghost use Rattle.std.specs.Bool.{OnTrue};
+ghost use Rattle.legal_moves.specs.aid.Narrow.{AreFewLooks};
 
 use crate::actions::{ends_move, is_look, is_shown};
+use crate::marks::is_marked;
 use crate::relation::{Followers, Relation};
 use rbg_game::rules::Action;
 use std::alloc::{AllocError, Global};
@@ -18,12 +21,23 @@ pub enum Step {
 impl Step {
     ghost use Rattle.std.specs.Prelude.{◌≡◌};
     ghost use Rattle.legal_moves.specs.aid.Tables.{switches, modifies};
+    ghost use Rattle.legal_moves.specs.aid.Narrow.{step_looks};
 
     pub fn is_switch(&self) -> bool
         ensures { result ≡ switches self.now }
     {
         match self {
             Step::Act(action) => ends_move(action),
+            Step::Ask(_, _) => false,
+        }
+    }
+
+    /// Whether it looks, and asks no pattern.
+    pub fn looks_alone(&self) -> bool
+        ensures { result ≡ step_looks self.now }
+    {
+        match self {
+            Step::Act(action) => is_look(action),
             Step::Ask(_, _) => false,
         }
     }
@@ -81,7 +95,7 @@ impl Ends {
         Ok(ends)
     }
 
-    /// Those of words with words of the next behind.
+    /// Those of words with words of the next after.
     pub fn then(self, next: Ends) -> Result<Ends, AllocError>
         ensures nullable { IfOk result (λ ends. ends.nullable ≡ self.nullable && next.nullable) }
         ensures first { IfOk result (λ ends. ends.first.items ≡
@@ -146,10 +160,21 @@ pub struct Table {
     pub lasts: Vec<bool>,
     /// Whether all steps only look, as far as was seen: a search that only looks is tried first then.
     pub looks: bool,
+    /// Whether no search of it is too wide, as far as was seen: one that only has to tell whether a word is legal may end at the first yes then.
+    pub narrow: bool,
+    ghost few: { narrow ≡ true → AreFewLooks steps.items },
 }
 
 impl Table {
     ghost use Rattle.legal_moves.specs.Listing.{list_at};
+
+    /// Whether a search that only has to tell whether a word is legal may end where this is the last action.
+    pub fn is_enough(&self, number: u16) -> bool
+        ensures few { OnTrue result (AreFewLooks self.now.steps.items) }
+        ensures last { OnTrue result (slice_index_or self.now.lasts.items number false ≡ true) }
+    {
+        self.narrow && is_marked(&self.lasts, usize::from(number))
+    }
 
     /// The step with this number.
     pub fn step(&self, number: u16) -> &Step

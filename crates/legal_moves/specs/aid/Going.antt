@@ -19,7 +19,7 @@ began [] = record {
 }
 began (c ∷ cs) = c.at.state
 
--- those before at are expanded, and none comes from one behind it
+-- those before at are expanded, and none comes from one after it
 pub record IsGoing (game : Game) (e : Regex) (place : ℕ) (S : SemiState) (cs : List Configuration) (at : ℕ) : Type 0 where
   pub found_are : AreFound game e place S cs
   pub parents_are : (i : ℕ) (c : Configuration) → slice_get cs i ≡ Some c → c.parent ≤ at

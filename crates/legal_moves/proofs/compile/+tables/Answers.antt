@@ -75,9 +75,12 @@ add_table-returns t c =
     let now = added.tables_are es tables in
     let related = related_along c.add_rules.new.draft.follows c.relate_all.new.self (0 ∷ []) c.in_ok-ends.ends.first.items (0 ∷ []) c.deref.result.now refl c.deref.ensures.value c.in_ok-relate_all.ensures in
     let lasts = subst (λ ks. (k : ℕ) → slice_index_or c.in_ok-lasts.lasts.items k false ≡ list_any (λ j. j == k) ks) c.deref-2.ensures.value c.in_ok-lasts.ensures in
-    let made = IsExpressionTable-made es e c.args.tables.now.items c.add_rules.new.tables.items (record { steps = c.new.result; follows = c.new-2.result }) c.add_rules.new.draft c.in_ok-ends.ends c.relate_all.new.self (record { steps = c.add_rules.new.draft.steps; follows = c.in_ok-follows.follows; ends = c.in_ok-ends.ends; lasts = c.in_ok-lasts.lasts; looks = c.all-looks.result }) tables added c.in_ok-ends.ensures.nullable c.new.ensures.items c.new-2.ensures refl refl related c.in_ok-follows.ensures lasts in
-    let count : c.len-index.result ≡ length c.add_rules.new.tables.items = omega arith in
-    (count ∙ now.as_many, AreTables-pushed (es ++ inner_of e) e c.add_rules.new.tables.items c.push.new.self.items (record { steps = c.add_rules.new.draft.steps; follows = c.in_ok-follows.follows; ends = c.in_ok-ends.ends; lasts = c.in_ok-lasts.lasts; looks = c.all-looks.result }) now made c.in_ok-push.ensures.items)
+    let count : c.len-index.result ≡ length c.add_rules.new.tables.items = omega arith in (
+      count ∙ now.as_many,
+      AreTables-pushed (es ++ inner_of e) e c.add_rules.new.tables.items c.push.new.self.items _ now
+          (IsExpressionTable-made es e c.args.tables.now.items c.add_rules.new.tables.items (record { steps = c.new.result; follows = c.new-2.result }) c.add_rules.new.draft c.in_ok-ends.ends c.relate_all.new.self _ tables added c.in_ok-ends.ensures.nullable c.new.ensures.items c.new-2.ensures refl refl related c.in_ok-follows.ensures lasts)
+          c.in_ok-push.ensures.items,
+    )
 
 pub step_of-returns-in_ok-index-in-Pattern : goal.step_of-returns-in_ok-index-in-Pattern
 step_of-returns-in_ok-index-in-Pattern t c =

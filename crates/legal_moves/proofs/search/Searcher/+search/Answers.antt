@@ -1,4 +1,4 @@
-use Rattle.std.proofs.Common.{slice_index, slice_index_or, inl, ◌≡◌, ◌==◌, ℕ, inr, false, ◌+◌, ◌-◌, ◌<◌, ◌≤◌, length, vec_len, Some, Err, get_or, slice_get, [], ◌∷◌, refl, sym, ap, ◌∙◌, subst, arith, length-append}
+use Rattle.std.proofs.Common.{true, slice_index, slice_index_or, inl, ◌≡◌, ◌==◌, ℕ, inr, false, ◌+◌, ◌-◌, ◌<◌, ◌≤◌, length, vec_len, Some, Err, get_or, slice_get, [], ◌∷◌, refl, sym, ap, ◌∙◌, subst, arith, length-append}
 use Rattle.rbg_game.specs.Positions.{IsStateOf}
 use Rattle.rbg_game.specs.Rules.{count}
 use Rattle.rbg_game.specs.Meaning.{game_of}
@@ -19,7 +19,7 @@ use Rattle.std.specs.List.{list_any}
 use Rattle.legal_moves.specs.Searches.{place_at}
 use Rattle.legal_moves.specs.aid.Searches.{IsLegal}
 use Rattle.legal_moves.proofs.WidthLemmas.{narrow_by_search}
-use Rattle.legal_moves.proofs.HoldsLemmas.{none_switches, legal_by_nullable, legal_by_any}
+use Rattle.legal_moves.proofs.HoldsLemmas.{none_switches, legal_by_nullable, legal_by_any, legal_by_last}
 use Rattle.legal_moves.proofs.GetLemmas.{slice_get-within}
 use Rattle.legal_moves.proofs.FoundLemmas.{count_whole, IsFollowed-end, IsFollowed-upto}
 use Rattle.legal_moves.proofs.ExpandLemmas.{ends_at, place_first, place_last, listed_next, skipped, past_not, number_from, number_upto, going_next, more_invalid, asked, turned, full, tried, tried_wide}
@@ -35,8 +35,10 @@ use Rattle.legal_moves.proofs.AnswerLemmas.{same_expression, answer_along}
 use Rattle.legal_moves.proofs.ReadyLemmas.{OnTrue-at, read_at, is_table, count_steps, act_plain, act_tells, act_narrow, ask_before, ask_lacks, ask_ready, ask_narrow, ask_wide, ask_some, ask_none, ask_look, beq_true, beq_same}
 use Rattle.legal_moves.proofs.Faults.{passed, for_want}
 use Rattle.legal_moves.proofs.MarkLemmas.{any_agree}
+use Rattle.legal_moves.proofs.NarrowLemmas.{table_is_narrow}
+use Rattle.legal_moves.specs.aid.Narrow.{AreFewLooks}
 use Rattle.legal_moves.proofs.search.Searcher.+search.Goals as goal
-use Rattle.legal_moves.proofs.search.Searcher.+search.Goals.{look_on-in-Fails, look_on-in-At+in_ok-add-in-At, expand-then-last-eq0, expand-else-last-eq0, is_legal-then-table, is_legal-else-table, is_legal-then-ends, is_legal-else-ends}
+use Rattle.legal_moves.proofs.search.Searcher.+search.Goals.{look_on-in-Fails, look_on-in-At+in_ok-add-in-At, expand-then-last-eq0, expand-else-last-eq0, look-then-table, look-else-table, is_legal-then-ends, is_legal-else-ends}
 
 pub glance_at-step-requires-clause-upto : goal.glance_at-step-requires-clause-upto
 glance_at-step-requires-clause-upto t c =
@@ -155,44 +157,16 @@ glance_at-returns-else-holds-positive-clause-narrow t c =
 pub is_legal-returns-clause-answer : goal.is_legal-returns-clause-answer
 is_legal-returns-clause-answer t c =
     let game = game_of c.args.self.now.game.now in
-    let tables = c.args.self.now.tables.now in
-    let index = c.args.index in
-    let e = expression_at game index in
-    let T = c.index-self-index-2.result in
-    let at_T = read_at tables index T c.requires.ready.within c.index-self-index-2.is in
-    let ls = c.in-Some.looks.looks.items in
-    let cs = seen_from c.args.state.now ls in
+    let e = expression_at game c.args.index in
     let S = at_vertex c.args.state.now c.args.vertex in
-    let search = subst (λ o. IfSome o (λ l. IsSearch game e 0 S (seen_from c.args.state.now l.looks.items))) c.in-Some.is c.in_ok-looks.ensures.found in
-    let table_is = ap (λ x. x.ends.nullable) c.index-self-index-2.is in
-    elim c.if-table.branch [
-      | is_legal-then-table w ↦
-          let null = table_is ∙ w.if-table.true in
-          subst (λ b. MatchBool b (IsLegal game e S) (¬ IsLegal game e S)) (sym (w.result-is ∙ w.if-table.true))
-          (legal_by_nullable game tables index c.requires.ready T at_T c.requires.lacks S cs search null)
-      | is_legal-else-table w ↦
-          let configurations = w.deref.ensures.value in
-          let lasts = w.deref-else-table.ensures.value ∙ ap (λ x. x.lasts.items) (sym c.index-self-index-2.is) in
-          let agree = any_agree (λ (l : Look). slice_index_or T.lasts.items l.place false) (λ l. list_any (λ k. k == l.place) T.ends.last.items) (λ l. (is_table game tables index c.requires.ready T at_T).lasts_are l.place) ls in
-          let any = w.any_looks_last.ensures ∙ ap (λ xs. list_any (λ x. slice_index_or xs x.place false) w.deref.result.now) lasts ∙ ap (λ xs. list_any (λ x. slice_index_or T.lasts.items x.place false) xs) configurations ∙ agree ∙ sym (any_look c.args.state.now ls T.ends.last.items) in
-          subst (λ b. MatchBool b (IsLegal game e S) (¬ IsLegal game e S)) (sym w.result-is)
-          (legal_by_any game tables index c.requires.ready T at_T c.requires.lacks S cs search w.any_looks_last.result any (table_is ∙ w.if-table.false))
-    ]
+    subst (λ o. IfSome o (λ b. MatchBool b (IsLegal game e S) (¬ IsLegal game e S))) c.in-Some.is c.in_ok-legal.ensures.answer
 
 pub is_legal-returns-clause-narrow : goal.is_legal-returns-clause-narrow
 is_legal-returns-clause-narrow t c =
     let game = game_of c.args.self.now.game.now in
-    let tables = c.args.self.now.tables.now in
-    let index = c.args.index in
-    let e = expression_at game index in
-    let T = c.index-self-index-2.result in
-    let at_T = read_at tables index T c.requires.ready.within c.index-self-index-2.is in
-    let ls = c.in-Some.looks.looks.items in
-    let cs = seen_from c.args.state.now ls in
+    let e = expression_at game c.args.index in
     let S = at_vertex c.args.state.now c.args.vertex in
-    let search = subst (λ o. IfSome o (λ l. IsSearch game e 0 S (seen_from c.args.state.now l.looks.items))) c.in-Some.is c.in_ok-looks.ensures.found in
-    let table_is = ap (λ x. x.ends.nullable) c.index-self-index-2.is in
-    λ ok. narrow_by_search game e 0 S cs search
+    λ ok. subst (λ o. IfSome o (λ b. ¬ IsWideFrom game e 0 S)) c.in-Some.is c.in_ok-legal.ensures.narrow
 
 pub is_legal-returns-2-clause-answer : goal.is_legal-returns-2-clause-answer
 is_legal-returns-2-clause-answer t c =
@@ -200,21 +174,21 @@ is_legal-returns-2-clause-answer t c =
     let tables = c.args.self.now.tables.now in
     let index = c.args.index in
     let e = expression_at game index in
-    let T = c.index-self-index-3.result in
-    let at_T = read_at tables index T c.requires.ready.within c.index-self-index-3.is in
+    let T = c.index-self-index-2.result in
+    let at_T = read_at tables index T c.requires.ready.within c.index-self-index-2.is in
     let cs = configurations_of c.in_ok-found.found in
     let search = subst (λ S. IsSearch game e 0 (at_vertex S c.args.vertex) cs) c.copied_state-state.ensures c.in_ok-found.ensures.found in
     let S = at_vertex c.args.state.now c.args.vertex in
-    let table_is = ap (λ x. x.ends.nullable) c.index-self-index-3.is in
+    let table_is = ap (λ x. x.ends.nullable) c.index-self-index-2.is in
     elim c.if-ends.branch [
       | is_legal-then-ends w ↦
           let null = table_is ∙ w.if-ends.true in
           subst (λ b. MatchBool b (IsLegal game e S) (¬ IsLegal game e S)) (sym (w.result-is ∙ w.if-ends.true))
           (legal_by_nullable game tables index c.requires.ready T at_T c.requires.lacks S cs search null)
       | is_legal-else-ends w ↦
-          let configurations = w.deref-else-ends.ensures.value in
-          let last = w.deref-else-ends-2.ensures.value ∙ ap (λ x. x.ends.last.items) (sym c.index-self-index-3.is) in
-          let any = w.any_stands_last.ensures ∙ ap (λ xs. list_any (λ x. list_any (λ k. k == x.place) xs) w.deref-else-ends.result.now) last ∙ ap (λ xs. list_any (λ x. list_any (λ k. k == x.place) T.ends.last.items) xs) configurations ∙ sym (any_stand c.in_ok-found.found.boards.items c.in_ok-found.found.stands.items T.ends.last.items) in
+          let configurations = w.deref.ensures.value in
+          let last = w.deref-else-ends.ensures.value ∙ ap (λ x. x.ends.last.items) (sym c.index-self-index-2.is) in
+          let any = w.any_stands_last.ensures ∙ ap (λ xs. list_any (λ x. list_any (λ k. k == x.place) xs) w.deref.result.now) last ∙ ap (λ xs. list_any (λ x. list_any (λ k. k == x.place) T.ends.last.items) xs) configurations ∙ sym (any_stand c.in_ok-found.found.boards.items c.in_ok-found.found.stands.items T.ends.last.items) in
           subst (λ b. MatchBool b (IsLegal game e S) (¬ IsLegal game e S)) (sym w.result-is)
           (legal_by_any game tables index c.requires.ready T at_T c.requires.lacks S cs search w.any_stands_last.result any (table_is ∙ w.if-ends.false))
     ]
@@ -225,12 +199,12 @@ is_legal-returns-2-clause-narrow t c =
     let tables = c.args.self.now.tables.now in
     let index = c.args.index in
     let e = expression_at game index in
-    let T = c.index-self-index-3.result in
-    let at_T = read_at tables index T c.requires.ready.within c.index-self-index-3.is in
+    let T = c.index-self-index-2.result in
+    let at_T = read_at tables index T c.requires.ready.within c.index-self-index-2.is in
     let cs = configurations_of c.in_ok-found.found in
     let search = subst (λ S. IsSearch game e 0 (at_vertex S c.args.vertex) cs) c.copied_state-state.ensures c.in_ok-found.ensures.found in
     let S = at_vertex c.args.state.now c.args.vertex in
-    let table_is = ap (λ x. x.ends.nullable) c.index-self-index-3.is in
+    let table_is = ap (λ x. x.ends.nullable) c.index-self-index-2.is in
     λ ok. narrow_by_search game e 0 S cs search
 
 pub look-begun-requires-clause-few : goal.look-begun-requires-clause-few
@@ -962,11 +936,11 @@ is_legal-returns-clause-wide t c = no_error
 pub is_legal-returns-2-clause-wide : goal.is_legal-returns-2-clause-wide
 is_legal-returns-2-clause-wide t c = no_error
 
-pub is_legal-returns-in_err-looks-clause-answer : goal.is_legal-returns-in_err-looks-clause-answer
-is_legal-returns-in_err-looks-clause-answer t c = refused _ c.from_residual.result _ c.from_residual.ensures.1
+pub is_legal-returns-in_err-legal-clause-answer : goal.is_legal-returns-in_err-legal-clause-answer
+is_legal-returns-in_err-legal-clause-answer t c = refused _ c.from_residual.result _ c.from_residual.ensures.1
 
-pub is_legal-returns-in_err-looks-clause-narrow : goal.is_legal-returns-in_err-looks-clause-narrow
-is_legal-returns-in_err-looks-clause-narrow t c = not_ok _ c.from_residual.result c.from_residual.ensures.1
+pub is_legal-returns-in_err-legal-clause-narrow : goal.is_legal-returns-in_err-legal-clause-narrow
+is_legal-returns-in_err-legal-clause-narrow t c = not_ok _ c.from_residual.result c.from_residual.ensures.1
 
 pub is_legal-returns-in_err-found-clause-answer : goal.is_legal-returns-in_err-found-clause-answer
 is_legal-returns-in_err-found-clause-answer t c = refused _ c.from_residual-in_err-found.result _ c.from_residual-in_err-found.ensures.1
@@ -974,17 +948,52 @@ is_legal-returns-in_err-found-clause-answer t c = refused _ c.from_residual-in_e
 pub is_legal-returns-in_err-found-clause-narrow : goal.is_legal-returns-in_err-found-clause-narrow
 is_legal-returns-in_err-found-clause-narrow t c = not_ok _ c.from_residual-in_err-found.result c.from_residual-in_err-found.ensures.1
 
-pub is_legal-returns-in_err-looks-clause-wide : goal.is_legal-returns-in_err-looks-clause-wide
-is_legal-returns-in_err-looks-clause-wide t c =
+pub is_legal-returns-in_err-legal-clause-wide : goal.is_legal-returns-in_err-legal-clause-wide
+is_legal-returns-in_err-legal-clause-wide t c =
     λ wide.
-    let fault = passed c.from_residual.result c.in_err-looks.field-0.0 c.from_residual.ensures.1 wide in
-    c.in_err-looks.ensures.wide (ap Err fault)
+    let fault = passed c.from_residual.result c.in_err-legal.field-0.0 c.from_residual.ensures.1 wide in
+    c.in_err-legal.ensures.wide (ap Err fault)
 
-pub look-returns-in_err-looks-clause-found : goal.look-returns-in_err-looks-clause-found
-look-returns-in_err-looks-clause-found t c = refused _ c.from_residual.result _ c.from_residual.ensures.1
+pub look-returns-in_err-looks-clause-answer : goal.look-returns-in_err-looks-clause-answer
+look-returns-in_err-looks-clause-answer t c = refused _ c.from_residual.result _ c.from_residual.ensures.1
 
-pub look-returns-in_err-look_on-clause-found : goal.look-returns-in_err-look_on-clause-found
-look-returns-in_err-look_on-clause-found t c = refused _ c.from_residual-in_err-look_on.result _ c.from_residual-in_err-look_on.ensures.1
+pub look-returns-in_err-looks-clause-narrow : goal.look-returns-in_err-looks-clause-narrow
+look-returns-in_err-looks-clause-narrow t c = refused _ c.from_residual.result _ c.from_residual.ensures.1
+
+pub look-returns-in_err-look_on-clause-answer : goal.look-returns-in_err-look_on-clause-answer
+look-returns-in_err-look_on-clause-answer t c = refused _ c.from_residual-in_err-look_on.result _ c.from_residual-in_err-look_on.ensures.1
+
+pub look-returns-in_err-look_on-clause-narrow : goal.look-returns-in_err-look_on-clause-narrow
+look-returns-in_err-look_on-clause-narrow t c = refused _ c.from_residual-in_err-look_on.result _ c.from_residual-in_err-look_on.ensures.1
+
+pub look-returns-then-is_enough-clause-wide : goal.look-returns-then-is_enough-clause-wide
+look-returns-then-is_enough-clause-wide t c = no_error
+
+pub look-returns-then-is_enough-clause-narrow : goal.look-returns-then-is_enough-clause-narrow
+look-returns-then-is_enough-clause-narrow t c =
+    let game = game_of c.args.self.now.game.now in
+    let tables = c.args.self.now.tables.now in
+    let index = c.args.index in
+    let T = c.index-self-index.result in
+    let at_T = read_at tables index T c.requires.ready.within c.index-self-index.is in
+    let few = subst (λ x. AreFewLooks x.steps.items) (sym c.index-self-index.is) (OnTrue-at c.is_enough.result _ c.if-is_enough.true c.is_enough.ensures.few) in
+    table_is_narrow game tables index c.requires.ready T at_T few (at_vertex c.args.state.now c.args.vertex) c.requires.state
+
+pub look-returns-then-is_enough-clause-answer : goal.look-returns-then-is_enough-clause-answer
+look-returns-then-is_enough-clause-answer t c =
+    let game = game_of c.args.self.now.game.now in
+    let tables = c.args.self.now.tables.now in
+    let index = c.args.index in
+    let T = c.index-self-index.result in
+    let at_T = read_at tables index T c.requires.ready.within c.index-self-index.is in
+    let ls = c.loop-at.looks.looks.items in
+    let S = at_vertex c.args.state.now c.args.vertex in
+    let inside : c.loop-at.at < length ls = omega arith in
+    let l = c.index.result.now in
+    let here = read_at ls c.loop-at.at l inside c.index.ensures in
+    let marked = subst (λ x. slice_index_or x.lasts.items l.place false ≡ true) (sym c.index-self-index.is) (OnTrue-at c.is_enough.result _ c.if-is_enough.true c.is_enough.ensures.last) in
+    let last = sym ((is_table game tables index c.requires.ready T at_T).lasts_are l.place) ∙ marked in
+    legal_by_last game tables index c.requires.ready T at_T c.requires.lacks S (seen_from c.args.state.now ls) c.loop-at.invariant.going.found_are c.loop-at.at (looked c.args.state.now l) (seen_at c.args.state.now ls c.loop-at.at l here) last
 
 pub look-returns-clause-wide : goal.look-returns-clause-wide
 look-returns-clause-wide t c = no_error
@@ -1037,8 +1046,11 @@ search-returns-in_err-found-clause-found t c = refused _ c.from_residual.result 
 pub search-returns-in_err-found-clause-kept : goal.search-returns-in_err-found-clause-kept
 search-returns-in_err-found-clause-kept t c = refused _ c.from_residual.result _ c.from_residual.ensures.1
 
-pub look-returns-then-not-branch-clause-found : goal.look-returns-then-not-branch-clause-found
-look-returns-then-not-branch-clause-found t c = tt
+pub look-returns-then-not-branch-clause-answer : goal.look-returns-then-not-branch-clause-answer
+look-returns-then-not-branch-clause-answer t c = tt
+
+pub look-returns-then-not-branch-clause-narrow : goal.look-returns-then-not-branch-clause-narrow
+look-returns-then-not-branch-clause-narrow t c = tt
 
 pub search-expand-requires : goal.search-expand-requires
 search-expand-requires t c =
@@ -1110,15 +1122,43 @@ search-returns-clause-found t c =
     let whole : length (configurations_of c.loop-at.found) ≤ c.loop-at.at = omega (arith, length-map c.loop-at.found.stands.items (stood c.loop-at.found.boards.items)) in
     record { found = c.loop-at.invariant.going.found_are; expanded = λ j n less. c.loop-at.invariant.going.expanded j n (omega (arith, less, whole)) }
 
-pub look-returns-clause-found : goal.look-returns-clause-found
-look-returns-clause-found t c =
-    let whole : length (seen_from c.args.state.now c.loop-at.looks.looks.items) ≤ c.loop-at.at = omega (arith, length-map c.loop-at.looks.looks.items (looked c.args.state.now)) in
-    record { found = c.loop-at.invariant.going.found_are; expanded = λ j n less. c.loop-at.invariant.going.expanded j n (omega (arith, less, whole)) }
+pub look-returns-clause-narrow : goal.look-returns-clause-narrow
+look-returns-clause-narrow t c =
+    let game = game_of c.args.self.now.game.now in
+    let ls = c.loop-at.looks.looks.items in
+    let whole : length (seen_from c.args.state.now ls) ≤ c.loop-at.at = omega (arith, length-map ls (looked c.args.state.now)) in
+    let going = c.loop-at.invariant.going in
+    narrow_by_search game (expression_at game c.args.index) 0 (at_vertex c.args.state.now c.args.vertex) (seen_from c.args.state.now ls)
+    (record { found = going.found_are; expanded = λ j n less. going.expanded j n (omega (arith, less, whole)) })
 
-pub search-loop-at-smaller : goal.search-loop-at-smaller
-search-loop-at-smaller t c =
-    let going = c.in_ok-expand.ensures.going in
-    omega (arith, going.within, going.found_are.few)
+pub look-returns-clause-answer : goal.look-returns-clause-answer
+look-returns-clause-answer t c =
+    let game = game_of c.args.self.now.game.now in
+    let tables = c.args.self.now.tables.now in
+    let index = c.args.index in
+    let e = expression_at game index in
+    let T = c.index-self-index.result in
+    let at_T = read_at tables index T c.requires.ready.within c.index-self-index.is in
+    let ls = c.loop-at.looks.looks.items in
+    let cs = seen_from c.args.state.now ls in
+    let S = at_vertex c.args.state.now c.args.vertex in
+    let whole : length cs ≤ c.loop-at.at = omega (arith, length-map ls (looked c.args.state.now)) in
+    let going = c.loop-at.invariant.going in
+    let search : IsSearch game e 0 S cs = record { found = going.found_are; expanded = λ j n less. going.expanded j n (omega (arith, less, whole)) } in
+    let table_is = ap (λ x. x.ends.nullable) c.index-self-index.is in
+    elim c.if-table.branch [
+      | look-then-table w ↦
+          let null = table_is ∙ w.if-table.true in
+          subst (λ b. MatchBool b (IsLegal game e S) (¬ IsLegal game e S)) (sym (w.legal-is ∙ w.if-table.true))
+          (legal_by_nullable game tables index c.requires.ready T at_T c.requires.lacks S cs search null)
+      | look-else-table w ↦
+          let configurations = w.deref.ensures.value in
+          let lasts = w.deref-else-table.ensures.value ∙ ap (λ x. x.lasts.items) (sym c.index-self-index.is) in
+          let agree = any_agree (λ (l : Look). slice_index_or T.lasts.items l.place false) (λ l. list_any (λ k. k == l.place) T.ends.last.items) (λ l. (is_table game tables index c.requires.ready T at_T).lasts_are l.place) ls in
+          let any = w.any_looks_last-legal.ensures ∙ ap (λ xs. list_any (λ x. slice_index_or xs x.place false) w.deref.result.now) lasts ∙ ap (λ xs. list_any (λ x. slice_index_or T.lasts.items x.place false) xs) configurations ∙ agree ∙ sym (any_look c.args.state.now ls T.ends.last.items) in
+          subst (λ b. MatchBool b (IsLegal game e S) (¬ IsLegal game e S)) (sym w.legal-is)
+          (legal_by_any game tables index c.requires.ready T at_T c.requires.lacks S cs search w.any_looks_last-legal.result any (table_is ∙ w.if-table.false))
+    ]
 
 pub look-loop-at-smaller : goal.look-loop-at-smaller
 look-loop-at-smaller t c =
