@@ -84,8 +84,8 @@ pub record IsSoundStore (store : Store) : Type 0 where
   pub safe : IsTrue store.disk.honest → store.closed ≡ false → IsSafe store
   pub holds : AreSoundHolds store.marks store.holds
 
--- when a call closes a store or a file: whether it was closed and is, and how many writes, syncs and extensions of its disk
--- had failed and have. One that fails closes it, nothing else does, and it stays closed
+-- what closes a store, or a file of a table, over a call: it was open or closed, and is; this many writes, syncs and extensions of its disk
+-- had failed, and have. One that failed closes it, nothing else does, and it stays closed
 pub record ClosesByWrites (was : Bool) (before : ℕ) (is : Bool) (now : ℕ) : Type 0 where
   pub stays : is ≡ false → was ≡ false
   pub none : is ≡ false → now ≡ before
