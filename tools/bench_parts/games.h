@@ -1,5 +1,6 @@
-/* For `graph.c`: its games. A position has a board, the role that has the turn (0 the keeper), who is ahead (0 nobody), whether a player has moved, and
- * in the count a number. Packed it has as many bytes as the program gives it by bits (docs/FORMAT.md), with the fields in an order that sorts successors as the program does. */
+/* For `graph.c`: its games. A position has a board, the role that has the turn (0 the keeper), who is ahead (0 nobody), whether a player
+ * has moved, and in the count a number. Packed it has as many bytes as the program gives it by bits (docs/FORMAT.md), with the fields in an
+ * order that sorts successors as the program does. */
 
 #define MOST_CELLS 32
 #define MOST_SUCCESSORS 64
