@@ -17,7 +17,7 @@ class Rows:
         self.workers, self.folder = everybody, everybody.folder
         self.quick, self.only = quick, only.lower()
         self.with_before = any(is_before for _, is_before in everybody.built["solver_main"])
-        self.failed = False
+        self.failed, self.printed = False, 0
 
     def is_wanted(self, what: str, who: str) -> bool:
         return self.only in f"{what}, {who}".lower()
@@ -56,6 +56,7 @@ class Rows:
             if self.is_wanted(what, who):
                 now, before = found.get((who, False)), found.get((who, True))
                 print(table.text(table.row(what, who, now, found.get(("LMDB", False)), before, self.with_before)), flush=True)
+                self.printed += 1
 
     def graph(self, graph: Graph) -> None:
         """The rows of one graph."""

@@ -147,6 +147,11 @@ class Command(Case):
         self.assertEqual(status, 1)
         self.assertIn("rook, the program: solver_main ended with status 4, and told refused E1", err)
 
+    def test_a_word_that_no_row_has(self):
+        status, _, err = self.ran("bench", "--quick", "--only", "chess", *self.built())
+        self.assertEqual(status, 1)
+        self.assertIn("no row could be measured that has 'chess'", err)
+
     def test_words(self):
         status, out, err = self.ran("bench", "--help")
         self.assertEqual((status, err), (0, ""))
