@@ -2,6 +2,7 @@
 from __future__ import annotations
 
 import os
+import resource
 import subprocess
 import sys
 import tempfile
@@ -44,6 +45,16 @@ def tell(message: str) -> None:
     print(f"bench: {message}", file=sys.stderr, flush=True)
 
 
+def awaited(process: subprocess.Popen) -> tuple[int, resource.struct_rusage]:
+    """How a process ended, and what it used; it does not outlive this one if that is ended meanwhile."""
+    try:
+        _, status, usage = os.wait4(process.pid, 0)
+    except BaseException:
+        process.kill()
+        raise
+    return status, usage
+
+
 def run(words: list[str], given: str = "", statuses: tuple[int, ...] = (0,)) -> Run:
     """Runs a program on these lines, until it ends with one of these; they and its output lie in files, so that nothing waits for another process."""
     with tempfile.TemporaryFile("w+") as lines, tempfile.TemporaryFile("w+") as out, tempfile.TemporaryFile("w+") as told:
@@ -51,7 +62,7 @@ def run(words: list[str], given: str = "", statuses: tuple[int, ...] = (0,)) -> 
         lines.seek(0)
         began = time.monotonic()
         process = subprocess.Popen(words, stdin=lines, stdout=out, stderr=told)
-        _, status, usage = os.wait4(process.pid, 0)
+        status, usage = awaited(process)
         clock = time.monotonic() - began
         process.returncode = os.waitstatus_to_exitcode(status)
         out.seek(0)
