@@ -17,7 +17,7 @@ pub type Count<D> = TreeFile<PageStore<D>, 3>;
 /// This many units are worked between two commits.
 const UNITS: u32 = 256;
 
-/// The bytes of a position, as many as the count of `tools/bench_scale` has.
+/// The bytes of a position, as many as the count of `tools/bench` has.
 fn position(number: u32) -> Packed {
     let mut bytes: Packed = ArrayVec::new();
     let _room = bytes.try_extend_from_slice(&[0; 10]);

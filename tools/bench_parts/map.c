@@ -1,7 +1,7 @@
 /* For `tools/bench trees`: puts the same keys as `tree_bench` into SQLite or LMDB, with a commit after each 256, and reads
  * each of them. Prints the microseconds of all puts and of all gets. Compiled with -DSQLITE -lsqlite3 or -DLMDB -llmdb.
  *
- *     bench_others KEYS FILE     FILE may be :memory: for SQLite
+ *     map KEYS FILE     FILE may be :memory: for SQLite
  */
 #include <stdint.h>
 #include <stdio.h>
@@ -13,7 +13,7 @@
 
 static void check(int good, const char *what) {
     if (!good) {
-        fprintf(stderr, "bench_others: %s failed\n", what);
+        fprintf(stderr, "map: %s failed\n", what);
         exit(1);
     }
 }
@@ -105,7 +105,7 @@ static int is_there(const unsigned char *key, const unsigned char *value) {
 
 int main(int count, char **words) {
     unsigned char key[8], value[4];
-    check(count == 3, "usage: bench_others KEYS FILE; it");
+    check(count == 3, "usage: map KEYS FILE: it");
     uint64_t keys = strtoull(words[1], 0, 10);
     start(words[2]);
     uint64_t from = now();

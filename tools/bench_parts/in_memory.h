@@ -1,17 +1,17 @@
-/* For `bench_graph.c`: the store in memory, which keeps nothing. */
+/* For `graph.c`: the store in memory, which keeps nothing. */
 
 typedef struct {
     uint32_t predecessor, next;
 } edge;
 
-static uint8_t *cells;
+static uint8_t *cell_room;
 static uint32_t *buckets, *chains, *first_edges, *order, room, edge_count, edge_room;
 static edge *all_edges;
 
-#define BUCKETS (1u << 22)
-
+static void open_store(const char *file) { (void)file; }
 static void begin(void) {}
 static void commit(void) {}
+static uint32_t checked(void) { return 0; }
 
 static void *grown(void *old, size_t size) {
     void *it = realloc(old, size);
@@ -19,37 +19,41 @@ static void *grown(void *old, size_t size) {
     return it;
 }
 
-static void start_store(const char *file) {
-    (void)file;
-    buckets = grown(0, BUCKETS * sizeof *buckets);
-    memset(buckets, 255, BUCKETS * sizeof *buckets);
-}
+static uint8_t *cell_at(uint32_t number) { return cell_room + (size_t)number * (size_t)(length + 16); }
 
-static uint32_t bucket_of(const uint8_t *packed) {
+/* There are as many buckets as there is room for positions, a power of two. */
+static uint32_t *bucket_of(const uint8_t *packed) {
     uint64_t mixed = 14695981039346656037u;
     for (int k = 0; k < length; k++) mixed = (mixed ^ packed[k]) * 1099511628211u;
-    return (uint32_t)(mixed >> 20) & (BUCKETS - 1);
+    return &buckets[(uint32_t)(mixed >> 20) & (room - 1)];
 }
 
-static uint8_t *cell_at(uint32_t number) { return cells + (size_t)number * (size_t)(length + 16); }
+static void link_in(const uint8_t *packed, uint32_t number) {
+    uint32_t *bucket = bucket_of(packed);
+    chains[number] = *bucket;
+    *bucket = number;
+}
+
+static void double_room(uint32_t known) {
+    room = room ? 2 * room : 1024;
+    cell_room = grown(cell_room, (size_t)room * (size_t)(length + 16));
+    buckets = grown(buckets, room * sizeof *buckets);
+    chains = grown(chains, room * sizeof *chains);
+    first_edges = grown(first_edges, room * sizeof *first_edges);
+    order = grown(order, room * sizeof *order);
+    memset(buckets, 255, room * sizeof *buckets);
+    for (uint32_t number = 0; number < known; number++) link_in(cell_at(number), number);
+}
 
 static uint32_t find(const uint8_t *packed) {
-    uint32_t number = buckets[bucket_of(packed)];
+    uint32_t number = *bucket_of(packed);
     while (number != NONE && memcmp(cell_at(number), packed, (size_t)length) != 0) number = chains[number];
     return number;
 }
 
 static void put_position(const uint8_t *packed, uint32_t number) {
-    if (number >= room) {
-        room = 2 * room + 1024;
-        cells = grown(cells, (size_t)room * (size_t)(length + 16));
-        chains = grown(chains, room * sizeof *chains);
-        first_edges = grown(first_edges, room * sizeof *first_edges);
-        order = grown(order, room * sizeof *order);
-    }
-    uint32_t *bucket = &buckets[bucket_of(packed)];
-    chains[number] = *bucket;
-    *bucket = number;
+    if (number == room) double_room(number);
+    link_in(packed, number);
     first_edges[number] = NONE;
 }
 
