@@ -1,13 +1,11 @@
 //! Works a count on a table in a file, with the moves known beforehand, so that the store alone is timed:
-//! `store_bench FILE LAST PAGES [by-sectors]`. The file has its size already. For each line of its input it does 256 units of work and
-//! answers as a session does. By sectors, the file is read and written sector by sector.
+//! `store_bench FILE LAST PAGES`. The file has its size already. For each line of its input it does 256 units of work and
+//! answers as a session does.
 #![tactic(auto)]
 
 mod count;
-mod sector_file;
 
 use crate::count::{Count, begun, work};
-use crate::sector_file::SectorFile;
 use file_disk::FileDisk;
 use game_file::GameFile;
 use std::fs::OpenOptions;
@@ -28,30 +26,18 @@ fn main(rt: HostRuntime) -> ExitCode {
 /// Does what the words of the command line say.
 fn run(rt: &HostRuntime) -> anyhow::Result<()> {
     let words: Vec<String> = std::env::args(rt)?.collect(rt.alloc())?;
-    let [_, path, last, pages, by_sectors @ ..] = words.as_slice() else {
-        return Ok(rt.eprintln("usage: store_bench FILE LAST PAGES [by-sectors]")?);
+    let [_, path, last, pages] = words.as_slice() else {
+        return Ok(rt.eprintln("usage: store_bench FILE LAST PAGES")?);
     };
     let last = last.parse::<u32>().unwrap_or(0);
     let pages = pages.parse::<usize>().unwrap_or(0).min(64);
     let file = OpenOptions::new().read(true).write(true).open(rt, path)?;
-    if by_sectors.is_empty() {
-        answer_all::<Count<FileDisk>>(rt, FileDisk::new(rt.alloc(), file)?, last, pages)
-    } else {
-        answer_all::<Count<SectorFile>>(rt, SectorFile::new(file)?, last, pages)
-    }
+    answer_all(rt, FileDisk::new(rt.alloc(), file)?, last, pages)
 }
 
 /// Makes a table on this disk, and answers each line of the input.
-fn answer_all<F: GameFile + Drop>(
-    rt: &HostRuntime,
-    disk: F::Device,
-    last: u32,
-    pages: usize,
-) -> anyhow::Result<()>
-where
-    F::Device: Drop,
-{
-    let mut table = begun::<F>(rt.alloc(), disk, pages.min(64))?;
+fn answer_all(rt: &HostRuntime, disk: FileDisk, last: u32, pages: usize) -> anyhow::Result<()> {
+    let mut table = begun::<Count<FileDisk>>(rt.alloc(), disk, pages)?;
     let mut chunk = [0; 4096];
     let mut input = rt.stdin();
     // an input that gave a byte in each turn would be read for longer than any machine runs
