@@ -10,6 +10,8 @@ invariant_of-result g c = record {
   few = c.requires.sized.few;
   points = c.requires.sized.points;
   holds = λ honest. ∣ holds_itself c.args.slot c.args.text.items nothing (g.P.Pages.store c.args.store) c.requires.sized.few (c.requires.holds honest.disk) ∣₁;
+  long = tt;
+  last = λ honest. tt;
 }
 
 pub returns-clause-nothing : goal.returns-clause-nothing
