@@ -9,7 +9,7 @@ use Rattle.retrograde.specs.Stored.{Stored, HasRecord, IsTable}
 use Rattle.retrograde.specs.Changes.{fresh_record, with_position, with_record, with_settled}
 use Rattle.earlier_layouts.specs.aid.CopyParts.{with_positions, with_order}
 
--- an item of the first this many stands at its place among all
+-- an item below this place of a list stands at its place in the whole list
 from_take : {X : Type 0} (xs : List X) (n i : ℕ) (x : X) → slice_get (take n xs) i ≡ Some x → (slice_get xs i ≡ Some x) × (i < n)
 from_take xs n i x at =
     let within : i < length (take n xs) = slice_get_within (take n xs) i x at in
@@ -20,7 +20,7 @@ from_take xs n i x at =
       below,
     )
 
--- the first this many and the next one
+-- the items below this place, and the one at it
 one_more : {X : Type 0} (xs : List X) (n : ℕ) (x : X) → slice_get xs n ≡ Some x → take (n + 1) xs ≡ take n xs ++ x ∷ []
 one_more xs n x at =
     let within : n < length xs = slice_get_within xs n x at in

@@ -48,7 +48,7 @@ holders_more holders h n p long below = elim (cases_lt p n) [
       inr (last, get_or-append_right holders (h ∷ []) n p none long past ∙ ap (λ (j : ℕ). holders_at (h ∷ []) j) first)
 ]
 
--- the first this many marks
+-- the marks of the pages below this number
 pub are_cut : (pages : ℕ) (old new : List Mark) → pages ≤ length old → new ≡ take pages old → AreCut pages old new
 are_cut pages old new room is = record {
   long = ap (λ (ms : List Mark). length ms) is ∙ length-take-le pages old room;
@@ -63,7 +63,7 @@ cut_needed pages old new room cut p needed = (
   subst (λ (m : Mark). IsTrue (needs m)) (cut.each p (omega (arith, needed.1, cut.long))) needed.2,
 )
 
--- the holds of the first this many pages
+-- the holds of the pages below this number
 cut_long : (pages : ℕ) (old new : List Holders) → pages ≤ length old → new ≡ take pages old → length new ≡ pages
 cut_long pages old new room is = ap (λ (hs : List Holders). length hs) is ∙ length-take-le pages old room
 

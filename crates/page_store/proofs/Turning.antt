@@ -4,7 +4,7 @@ use Rattle.std.proofs.Common.{refl, sym, ◌∙◌, ap, subst, arith}
 use Rattle.std.proofs.lemmas.List.{get_or-set_same, get_or-set_other, length-set, get_or_past, get_or-take, length-take}
 use Rattle.std.proofs.lemmas.Bool.{cases_lt, cases_eq}
 use Rattle.std.specs.Prelude.{slice_set}
-use Rattle.page_store.specs.Blocks.{noted_at, AreNoted, ArePartTurned, AreBlocksTurned}
+use Rattle.page_store.specs.Blocks.{noted_at, AreBlocksNoted, ArePartTurned, AreBlocksTurned}
 use Rattle.page_store.specs.declared.marks.Mark.{Mark}
 use Rattle.page_store.specs.declared.marks.Mark.TheVariants.{Committed, Waiting, Fresh, Released, Free, Past}
 use Rattle.page_store.specs.declared.holds.Holders.{Holders}
@@ -119,7 +119,7 @@ part_page turn at now goes_on old within is rest = record {
     it p low high = omega (arith, low, high)
 
 -- no block is gone through yet
-pub blocks_none : (turn : ℕ → Mark → Mark) (start : List Mark) (first : List Bool) → AreNoted start first → AreBlocksTurned turn 0 start first start first
+pub blocks_none : (turn : ℕ → Mark → Mark) (start : List Mark) (first : List Bool) → AreBlocksNoted start first → AreBlocksTurned turn 0 start first start first
 blocks_none turn start first of = record {
   same_length = refl;
   done = λ p low. absurd (omega (arith, low));
@@ -136,7 +136,7 @@ in_block b p low high = omega (arith, low, high)
 before_block : (b p : ℕ) → p < 256 * b → p / 256 ≢ b
 before_block b p low = omega (arith, low)
 
-module _ (turn : ℕ → Mark → Mark) (block : ℕ) (start : List Mark) (first : List Bool) (marks : List Mark) (noted : List Bool) (of : AreNoted start first)
+module _ (turn : ℕ → Mark → Mark) (block : ℕ) (start : List Mark) (first : List Bool) (marks : List Mark) (noted : List Bool) (of : AreBlocksNoted start first)
     (so_far : AreBlocksTurned turn block start first marks noted) where
   -- nothing is going on in the next block where it is not noted
   pub next_rests : noted_at noted block ≡ false → (p : ℕ) → 256 * block ≤ p → p < 256 * block + 256 → IsTrue (rests (mark marks p))
@@ -178,7 +178,7 @@ module _ (turn : ℕ → Mark → Mark) (block : ℕ) (start : List Mark) (first
     ]
 
     -- and what goes on is noted
-    pub blocks_noted : AreNoted marks noted
+    pub blocks_noted : AreBlocksNoted marks noted
     blocks_noted = record {
       room = omega (arith, so_far.same_length, so_far.same_blocks, of.room);
       few = omega (arith, so_far.same_blocks, of.few);
@@ -189,8 +189,8 @@ module _ (turn : ℕ → Mark → Mark) (block : ℕ) (start : List Mark) (first
     }
 
 -- a page is marked, and its block noted
-pub put_noted : (marks : List Mark) (noted : List Bool) (page : ℕ) (now : Mark) → page < length marks → AreNoted marks noted
-    → AreNoted (slice_set marks page now) (slice_set noted (page / 256) true)
+pub put_noted : (marks : List Mark) (noted : List Bool) (page : ℕ) (now : Mark) → page < length marks → AreBlocksNoted marks noted
+    → AreBlocksNoted (slice_set marks page now) (slice_set noted (page / 256) true)
 put_noted marks noted page now within of = record {
   room = omega (arith, length-set marks page now, length-set noted (page / 256) true, of.room);
   few = omega (arith, length-set noted (page / 256) true, of.few);
@@ -205,7 +205,7 @@ put_noted marks noted page now within of = record {
 
 -- all blocks are noted
 pub all_are_noted : (marks : List Mark) (noted : List Bool) → length marks ≤ 256 * length noted → length noted ≤ 4096
-    → ((k : ℕ) → k < length noted → noted_at noted k ≡ true) → AreNoted marks noted
+    → ((k : ℕ) → k < length noted → noted_at noted k ≡ true) → AreBlocksNoted marks noted
 all_are_noted marks noted room few each = record {
   room = room;
   few = few;
@@ -217,8 +217,8 @@ all_are_noted marks noted room few each = record {
 
 -- fewer pages are there, and fewer blocks
 pub cut_noted : (pages blocks : ℕ) (marks new : List Mark) (noted fewer : List Bool) → AreCut pages marks new → pages ≤ length marks → pages ≤ 256 * blocks
-    → fewer ≡ take blocks noted → AreNoted marks noted → AreNoted new fewer
-cut_noted pages blocks marks new noted fewer cut within room is of = subst (λ (ns : List Bool). AreNoted new ns) (sym is) (record {
+    → fewer ≡ take blocks noted → AreBlocksNoted marks noted → AreBlocksNoted new fewer
+cut_noted pages blocks marks new noted fewer cut within room is of = subst (λ (ns : List Bool). AreBlocksNoted new ns) (sym is) (record {
   room = omega (arith, cut.long, within, room, of.room, length-take blocks noted);
   few = omega (arith, of.few, length-take blocks noted);
   rest = λ p none. elim (cases_lt p pages) [
@@ -228,7 +228,7 @@ cut_noted pages blocks marks new noted fewer cut within room is of = subst (λ (
 })
 
 -- a hold is let go
-pub left_noted : (holders : List Holders) (marks new : List Mark) (noted : List Bool) → AreLeft holders marks new → AreNoted marks noted → AreNoted new noted
+pub left_noted : (holders : List Holders) (marks new : List Mark) (noted : List Bool) → AreLeft holders marks new → AreBlocksNoted marks noted → AreBlocksNoted new noted
 left_noted holders marks new noted gone of = record {
   room = omega (arith, gone.same_length, of.room);
   few = of.few;

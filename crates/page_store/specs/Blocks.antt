@@ -8,7 +8,7 @@ abbrev pub noted_at : List Bool → ℕ → Bool
 noted_at noted k = slice_index_or noted k false
 
 -- there is a block for each page, and no more of them than a table can have; nothing is going on with a page whose block is not noted
-pub record AreNoted (marks : List Mark) (noted : List Bool) : Type 0 where
+pub record AreBlocksNoted (marks : List Mark) (noted : List Bool) : Type 0 where
   pub room : length marks ≤ 256 * length noted
   pub few : length noted ≤ 4096
   pub rest : (p : ℕ) → noted_at noted (p / 256) ≡ false → IsTrue (rests (mark marks p))

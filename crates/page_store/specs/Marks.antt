@@ -125,7 +125,7 @@ pub record AreGrown (holders : List Holders) (pages : ℕ) (old new : List Mark)
   pub each : (p : ℕ) → p < length old → mark new p ≡ committed (holders_at holders p) (mark old p)
   pub added : (p : ℕ) → length old ≤ p → p < pages → mark new p ≡ Free
 
--- the first this many pages, each used as it was
+-- only the pages below this number, each used as it was
 pub record AreCut (pages : ℕ) (old new : List Mark) : Type 0 where
   pub long : length new ≡ pages
   pub each : (p : ℕ) → p < pages → mark new p ≡ mark old p

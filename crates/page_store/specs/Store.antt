@@ -84,8 +84,8 @@ pub record IsSoundStore (store : Store) : Type 0 where
   pub safe : IsTrue store.disk.honest → store.closed ≡ false → IsSafe store
   pub holds : AreSoundHolds store.marks store.holds
 
--- what closes a store, or a file of a table, over a call: it was open or closed, and is; this many writes, syncs and extensions of its disk
--- had failed, and have. One that failed closes it, nothing else does, and it stays closed
+-- when a call closes a store or a file: if and only if a write, a sync or an extension of its disk fails in it. Once closed it stays closed.
+-- Before and after the call: whether it is closed, and how many have failed
 pub record ClosesByWrites (was : Bool) (before : ℕ) (is : Bool) (now : ℕ) : Type 0 where
   pub stays : is ≡ false → was ≡ false
   pub none : is ≡ false → now ≡ before
@@ -127,7 +127,7 @@ pub record IsRemarked (old new : Store) : Type 0 where
   pub closed : new.closed ≡ old.closed
   pub holds : new.holds ≡ old.holds
 
--- a call without the disk: only the first this many pages are there, and the holds need each of them as they did
+-- a call without the disk: only the pages below this number are there, and the holds need each of them as they did
 pub record IsShortened (pages : ℕ) (old new : Store) : Type 0 where
   pub disk : new.disk ≡ old.disk
   pub failures : new.failures ≡ old.failures

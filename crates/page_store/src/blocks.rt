@@ -1,6 +1,6 @@
 //! Blocks of pages, and which of them a turn of the marks may leave out.
 ghost use Rattle.std.specs.Prelude.{◌≡◌, ◌≤◌, ◌<◌, ◌+◌, ◌*◌, ℕ, true, false, length, IfOk, IsTrue};
-ghost use Rattle.page_store.specs.Blocks.{noted_at, ArePartTurned, AreNoted};
+ghost use Rattle.page_store.specs.Blocks.{noted_at, ArePartTurned, AreBlocksNoted};
 ghost use Rattle.page_store.specs.Holds.{holders_at};
 ghost use Rattle.page_store.specs.Marks.{mark as mark_of, rests as rests_of, turned as turned_of, committed as committed_of};
 ghost use Rattle.page_store.specs.Marks.{IsMarked, Turned, AreCommitted};
@@ -35,9 +35,9 @@ pub fn all_noted(alloc: Global, pages: u32) -> Result<Vec<bool>, AllocError>
 /// Marks a page, and notes its block.
 pub fn put_mark(marks: &mut Vec<Mark>, noted: &mut Vec<bool>, page: u32, now: Mark)
     requires within { page < length marks.old.items }
-    requires noted { AreNoted marks.old.items noted.old.items }
+    requires noted { AreBlocksNoted marks.old.items noted.old.items }
     ensures marked { IsMarked page now marks.old.items marks.new.items }
-    ensures noted { AreNoted marks.new.items noted.new.items }
+    ensures noted { AreBlocksNoted marks.new.items noted.new.items }
 {
     marks[page as usize] = now;
     noted[page as usize / BLOCK] = true;
@@ -100,9 +100,9 @@ pub fn turn(
     released: Mark,
     waiting: Mark,
 )
-    requires { AreNoted marks.old.items noted.old.items }
+    requires { AreBlocksNoted marks.old.items noted.old.items }
     ensures turned { Turned fresh released waiting marks.old.items marks.new.items }
-    ensures noted { AreNoted marks.new.items noted.new.items }
+    ensures noted { AreBlocksNoted marks.new.items noted.new.items }
 {
     for block in 0..noted.len() {
         noted[block] = turn_block(marks, block, noted[block], fresh, released, waiting);
@@ -149,9 +149,9 @@ fn commit_block(marks: &mut Vec<Mark>, block: usize, noted: bool, holders: &[Hol
 /// What was handed out is needed, and what was released is free, or stays for the holds that need it.
 pub fn turn_committed(marks: &mut Vec<Mark>, noted: &mut Vec<bool>, holders: &[Holders])
     requires same_length { length holders.now ≡ length marks.old.items }
-    requires noted { AreNoted marks.old.items noted.old.items }
+    requires noted { AreBlocksNoted marks.old.items noted.old.items }
     ensures committed { AreCommitted holders.now marks.old.items marks.new.items }
-    ensures noted { AreNoted marks.new.items noted.new.items }
+    ensures noted { AreBlocksNoted marks.new.items noted.new.items }
 {
     for block in 0..noted.len() {
         noted[block] = commit_block(marks, block, noted[block], holders);

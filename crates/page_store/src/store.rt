@@ -1,7 +1,7 @@
 //! A store of pages on a disk, with a mark for each page in memory.
 ghost use Rattle.std.specs.Prelude.{◌≡◌, ◌≤◌, ◌<◌, ◌*◌, ℕ, length, IfOk, IfErr};
 ghost use Rattle.page_store.specs.declared.marks.Mark.TheVariants.{Committed, Waiting};
-ghost use Rattle.page_store.specs.Blocks.{AreNoted};
+ghost use Rattle.page_store.specs.Blocks.{AreBlocksNoted};
 ghost use Rattle.page_store.specs.Cache.{IsCacheOf};
 ghost use Rattle.page_store.specs.Causes.{StoreOpenCause};
 ghost use Rattle.page_store.specs.Holds.{holds_of, holders_at, none as none_of};
@@ -45,7 +45,7 @@ pub struct PageStore<D: SectorDisk> {
     /// Pages that need not be read again.
     cache: PageCache,
     ghost sound: { IsSoundStore (store_of (D.disk disk) (D.failures disk) root.bytes marks.items closed (holds_of taken holders.items)) },
-    ghost blocks: { AreNoted marks.items noted.items },
+    ghost blocks: { AreBlocksNoted marks.items noted.items },
     ghost cached: { IsCacheOf (store_of (D.disk disk) (D.failures disk) root.bytes marks.items closed (holds_of taken holders.items)) cache },
 }
 

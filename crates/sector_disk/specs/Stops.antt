@@ -9,7 +9,7 @@ pub record IsLastSync (disk : Disk) (moment : ℕ) : Type 0 where
   pub all : AllSynced (disk.was moment)
   pub later : (k : ℕ) → moment < k → k ≤ disk.clock → ¬ AllSynced (disk.was k)
 
--- how many of the first this many sectors are not synced
+-- how many of the sectors below this number are not synced
 abbrev pub unsynced_below : (ℕ → Bool) → ℕ → ℕ
 unsynced_below synced zero = 0
 unsynced_below synced (suc k) = unsynced_below synced k + (if synced k then 0 else 1)

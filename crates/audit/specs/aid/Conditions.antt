@@ -60,7 +60,7 @@ abbrev pub distance_before : {P : Type 0} → Stored P → ℕ → ℕ
 distance_before stored zero = 0
 distance_before stored (suc k) = distance_at stored (slice_get stored.order k)
 
--- of each number in the first this many places of the order, the distance of the one before it
+-- for each number that stands below this place of the order, the distance of the one before it
 abbrev pub AreFloors : {P : Type 0} → Stored P → ℕ → List ℕ → Type 0
 AreFloors stored places floors =
     (k i : ℕ) → k < places → slice_get stored.order k ≡ Some i → slice_get floors i ≡ Some (distance_before stored k)

@@ -16,7 +16,7 @@ pub record HasGoneOn {T : Type 0} (IsHonest : T → Type 0) (GoesOn : T → T �
   pub honest : IsHonest old ↔ IsHonest new
   pub ahead : GoesOn old new
 
--- the first this many positions with their records, and nothing else
+-- the positions below this number with their records, and nothing else
 abbrev pub with_positions : ℕ → Stored (List ℕ) → Stored (List ℕ)
 with_positions n source = record {
   positions = take n source.positions;
@@ -25,10 +25,10 @@ with_positions n source = record {
   order = [];
 }
 
--- all positions with their records, and the edges to the first this many numbers
+-- all positions with their records, and the edges to the numbers below this one
 abbrev pub with_edges : ℕ → Stored (List ℕ) → Stored (List ℕ)
 with_edges n source = record source { has_edge = λ i p. nat_lt i n && source.has_edge i p; order = [] }
 
--- all but the settled order, and the first this many places of that
+-- all but the settled order, and of that the places below this one
 abbrev pub with_order : ℕ → Stored (List ℕ) → Stored (List ℕ)
 with_order n source = record source { order = take n source.order }
