@@ -10,6 +10,7 @@ mod PutFailing
 mod Fitting
 mod InPlace
 mod Listing
+mod Elsewhere
 mod PutPlacing
 mod Rising
 mod PutRooting

@@ -17,6 +17,7 @@ pub mod Causes
 pub mod Growing
 pub mod PutItems
 pub mod Spots
+pub mod EntryPut
 pub mod Passing
 pub mod PageTaking
 pub mod Telling

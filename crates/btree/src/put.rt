@@ -2,6 +2,7 @@
 //! becomes two.
 
 mod below;
+mod entry;
 mod in_place;
 mod items;
 mod map;

@@ -1,5 +1,5 @@
 -- Pages in a cache.
-use Rattle.std.proofs.Common.{◌≡◌, ◌≢◌, ◌⊎◌, inl, inr, ℕ, ◌-◌, ◌≤◌, Bool, true, false, cond, nat_eq, List, ◌∷◌, length, take, slice_get, Contains, Option, Some, None, IsSome, Result, Ok, Err, OnOk, IsTrue, refl, sym, ◌∙◌, ap, subst, arith, ◌<◌, set, get_or}
+use Rattle.std.proofs.Common.{◌≡◌, ◌≢◌, ◌⊎◌, inl, inr, ℕ, ◌+◌, ◌-◌, ◌*◌, ◌≤◌, Bool, true, false, cond, nat_eq, List, ◌∷◌, length, take, slice_get, Contains, Option, Some, None, IsSome, Result, Ok, Err, OnOk, IsTrue, refl, sym, ◌∙◌, ap, subst, arith, ◌<◌, set, get_or, length-set}
 use Rattle.std.proofs.lemmas.Bool.{eqb-true, eq-eqb, false≢true, cases_lt, cases_eq}
 use Rattle.std.proofs.lemmas.List.{get_or_past, get_or_default, get_or-set_other}
 use Rattle.std.proofs.lemmas.Grind.{get_or-set_at}
@@ -9,20 +9,23 @@ use Rattle.std.proofs.lemmas.Map.{lookup-remove_entry, none_passes_from_lookup}
 use Rattle.std.specs.Cmp.{nat_eq_equiv}
 use Rattle.std.specs.List.{IsDistinct}
 use Rattle.std.specs.Map.{keys_of, lookup, lookup_entry, remove_entry}
-use Rattle.std.specs.Option.{option_map, option_map_or}
+use Rattle.std.specs.Option.{option_map, option_map_or, IfSome}
 use Rattle.lru.specs.LruCache.{LruCache, IsValid, put_entries, promoted}
 use Rattle.lru.proofs.CallerLemmas.{Contains-take, Contains-lookup_entry, Contains-lookup, Contains-remove_entry, Contains-promoted}
 use Rattle.lru.proofs.Pairs.{lookup-lookup_entry}
 use Rattle.lru.proofs.Splits.{Contains-cons, all_at}
+use Rattle.sector_disk.specs.Disk.{Picture, sector}
 use Rattle.page_store.specs.declared.marks.Mark.{Mark}
 use Rattle.page_store.specs.declared.marks.Mark.TheVariants.{Committed, Waiting, Fresh, Released, Free, Past}
 use Rattle.page_store.specs.declared.holds.Holders.{Holders}
 use Rattle.page_store.specs.Holds.{holders_at}
 use Rattle.page_store.specs.declared.cache.PageCache.{PageCache}
 use Rattle.page_store.specs.declared.cache.KeptPage.{KeptPage}
-use Rattle.page_store.specs.Cache.{HoldsPage, OnlyForgets, IsCacheOf, HoldsAt, IsPlaced, kept_at, no_page}
+use Rattle.page_store.specs.Cache.{HoldsPage, HasPlace, OnlyForgets, IsCacheOf, IsEditedAt, HoldsAt, IsPlaced, entries_of, kept_at, no_page}
 use Rattle.page_store.specs.Marks.{mark, keeps, committed, left, AreCommitted, AreLeft, IsMarked, IsKept}
+use Rattle.page_store.specs.Page.{HasSectors, IsWithin, IsElsewhere, StaysElsewhere, eighth, page as page_at}
 use Rattle.page_store.specs.Store.{Store, reads}
+use Rattle.page_store.proofs.Filling.{sectors_read, sectors_same, still_elsewhere}
 
 abbrev pub Entries : Type 0
 Entries = List (ℕ × ℕ)
@@ -193,6 +196,37 @@ one_named was page place only p at named = elim (cases_eq p page) [
   | inr other ↦ inr (other, named)
 ]
 
+-- a page is edited at its place
+pub edited_at : (Edits : List ℕ → List ℕ → Type 0) (from to : ℕ) (old new : PageCache) (page place : ℕ) (was it : KeptPage) → HasPlace old page place
+    → ((other : ℕ) → Contains (entries_of old.places) (page, other) → other ≡ place) → kept_at old.kept.items place ≡ was → it.number ≡ was.number
+    → entries_of new.places ≡ entries_of old.places → new.kept.items ≡ set old.kept.items place it → Edits was.bytes it.bytes
+    → StaysElsewhere from to was.bytes it.bytes → IsEditedAt Edits from to page place old new
+edited_at Edits from to old new page place was it placed only stood numbered names kept edits elsewhere = record {
+  was = was.bytes;
+  held = record { place = place; placed = placed; holds = ap (λ (k : KeptPage). k.bytes) stood };
+  within = omega (arith, within, ap (λ (ks : List KeptPage). length ks) kept, length-set old.kept.items place it);
+  edits = subst (λ (k : KeptPage). Edits was.bytes k.bytes) (sym here) edits;
+  elsewhere = subst (λ (k : KeptPage). StaysElsewhere from to was.bytes k.bytes) (sym here) elsewhere;
+  after = after;
+}
+  where
+    within : place < length old.kept.items
+    within = within_kept (entries_of old.places) old.kept.items page place placed
+
+    here : kept_at new.kept.items place ≡ it
+    here = ap (λ (ks : List KeptPage). kept_at ks place) kept ∙ get_or-set_at old.kept.items place place it no_page refl within
+
+    after : (p : ℕ) (held : List ℕ) → HoldsPage new p held
+        → ((p ≡ page) × (held ≡ (kept_at new.kept.items place).bytes)) ⊎ ((p ≢ page) × HoldsPage old p held)
+    after p held there =
+        let now : HoldsAt (entries_of old.places) (set old.kept.items place it) p held =
+        subst (λ (ks : List KeptPage). HoldsAt (entries_of old.places) ks p held) kept (subst (λ (es : Entries). HoldsAt es new.kept.items p held) names there) in
+        elim (put_at_place (entries_of old.places) (entries_of old.places) old.kept.items page place it (one_named (entries_of old.places) page place only)
+        (numbered ∙ sym (ap (λ (k : KeptPage). k.number) stood) ∙ placed.number) within p held now) [
+          | inl it_is ↦ inl (it_is.0, it_is.1 ∙ sym (ap (λ (k : KeptPage). k.bytes) here))
+          | inr else ↦ inr else
+        ]
+
 -- no place is named for the page, since memory was refused
 pub refused_place : (was now : Entries) (kept : List KeptPage) (page : ℕ) → ((p place : ℕ) → Contains now (p, place) → (p ≢ page) × Contains was (p, place))
     → (p : ℕ) (held : List ℕ) → HoldsAt now kept p held → (p ≢ page) × HoldsAt was kept p held
@@ -210,23 +244,35 @@ else_part was cache page bytes part p held (inr else) = inr (else.0, part p held
 -- what was true of each page of the cache stays true
 pub carried : (old new : Store) (was cache : PageCache) → IsCacheOf old was → OnlyForgets was cache → (IsTrue new.disk.honest → IsTrue old.disk.honest)
     → ((p : ℕ) (held : List ℕ) → HoldsPage cache p held → IsKept old.marks p → IsKept new.marks p)
-    → (IsTrue old.disk.honest → (p : ℕ) (held : List ℕ) → HoldsPage cache p held → 1 ≤ p → reads new p ≡ reads old p) → IsCacheOf new cache
+    → (IsTrue old.disk.honest → (p : ℕ) (held : List ℕ) → HoldsPage cache p held → 1 ≤ p → (k : ℕ) → IsWithin p k
+    → sector new.disk.now.contents k ≡ sector old.disk.now.contents k) → IsCacheOf new cache
 carried old new was cache of part honest kept same = record {
   kept = λ p held there. kept p held there (of.kept p held (part p held there));
   same = λ p held there h.
       let was_there = part p held there in
-      of.same p held was_there (honest h) ∙ sym (same (honest h) p held there (of.kept p held was_there).0);
+      sectors_same old.disk.now.contents new.disk.now.contents p held (same (honest h) p held there (of.kept p held was_there).0) (of.same p held was_there (honest h));
 }
+
+-- what a cache holds is what the page reads as
+pub held_reads : (store : Store) (cache : PageCache) → IsCacheOf store cache → (p : ℕ) (bytes : List ℕ) → HoldsPage cache p bytes → IsTrue store.disk.honest
+    → bytes ≡ reads store p
+held_reads store cache of p bytes there honest = sectors_read store.disk.now.contents p bytes (of.same p bytes there honest)
+
+-- what is said of what is there, if anything is
+pub kept_some : {X : Type 0} {P Q : X → Type 0} (o : Option X) → ((x : X) → P x → Q x) → IfSome o P → IfSome o Q
+kept_some (Some x) keeps is = keeps x is
+kept_some None keeps is = tt
 
 -- so is a part of it
 pub part_of : (store : Store) (was cache : PageCache) → IsCacheOf store was → OnlyForgets was cache → IsCacheOf store cache
-part_of store was cache of part = carried store store was cache of part (λ h. h) (λ p held there kept. kept) (λ h p held there behind. refl)
+part_of store was cache of part = carried store store was cache of part (λ h. h) (λ p held there kept. kept) (λ h p held there behind k within. refl)
 
 -- one page is put, and the others read as before
 pub added : (old new : Store) (was cache : PageCache) (page : ℕ) (bytes : List ℕ) → IsCacheOf old was
     → ((p : ℕ) (held : List ℕ) → HoldsPage cache p held → ((p ≡ page) × (held ≡ bytes)) ⊎ ((p ≢ page) × HoldsPage was p held))
     → (IsTrue new.disk.honest → IsTrue old.disk.honest) → new.marks ≡ old.marks → IsKept old.marks page
-    → (IsTrue old.disk.honest → bytes ≡ reads new page) → (IsTrue old.disk.honest → (p : ℕ) → p ≢ page → reads new p ≡ reads old p)
+    → (IsTrue old.disk.honest → HasSectors new.disk.now.contents page bytes)
+    → (IsTrue old.disk.honest → (p : ℕ) → p ≢ page → (k : ℕ) → IsWithin p k → sector new.disk.now.contents k ≡ sector old.disk.now.contents k)
     → IsCacheOf new cache
 added old new was cache page bytes of after honest marks kept same others = record {
   kept = λ p held there. subst (λ (ms : List Mark). IsKept ms p) (sym marks) (elim (after p held there) [
@@ -234,10 +280,39 @@ added old new was cache page bytes of after honest marks kept same others = reco
     | inr was_there ↦ of.kept p held was_there.1
   ]);
   same = λ p held there h. elim (after p held there) [
-    | inl put ↦ put.1 ∙ same (honest h) ∙ ap (λ (q : ℕ). reads new q) (sym put.0)
-    | inr was_there ↦ of.same p held was_there.1 (honest h) ∙ sym (others (honest h) p was_there.0)
+    | inl put ↦ subst (λ (bs : List ℕ). HasSectors new.disk.now.contents p bs) (sym put.1)
+        (subst (λ (q : ℕ). HasSectors new.disk.now.contents q bytes) (sym put.0) (same (honest h)))
+    | inr was_there ↦ sectors_same old.disk.now.contents new.disk.now.contents p held (others (honest h) p was_there.0) (of.same p held was_there.1 (honest h))
   ];
 }
+
+-- a page of the cache was edited, and has these bytes now
+module _ (old : Store) (was cache : PageCache) (Edits : List ℕ → List ℕ → Type 0) (from to page place : ℕ) (bytes : List ℕ) (of : IsCacheOf old was)
+    (edited : IsEditedAt Edits from to page place was cache) (at : bytes ≡ (kept_at cache.kept.items place).bytes) where
+  -- what was not edited of it is on the disk
+  pub edited_elsewhere : IsTrue old.disk.honest → (k : ℕ) → IsElsewhere from to k → sector old.disk.now.contents (8 * page + k) ≡ eighth k bytes
+  edited_elsewhere honest = still_elsewhere old.disk.now.contents page from to edited.was bytes (of.same page edited.was edited.held honest)
+      (subst (λ (bs : List ℕ). StaysElsewhere from to edited.was bs) (sym at) edited.elsewhere)
+
+  -- once all is on the disk it reads as it was edited
+  pub edited_reads : (new : Picture) → IsTrue old.disk.honest → HasSectors new page bytes → Edits (reads old page) (page_at new page)
+  edited_reads new honest has =
+      subst (λ (bs : List ℕ). Edits bs (page_at new page)) (held_reads old was of page edited.was edited.held honest)
+      (subst (λ (bs : List ℕ). Edits edited.was bs) (sym at ∙ sectors_read new page bytes has) edited.edits)
+
+  -- what the cache holds
+  pub edited_after : (p : ℕ) (held : List ℕ) → HoldsPage cache p held → ((p ≡ page) × (held ≡ bytes)) ⊎ ((p ≢ page) × HoldsPage was p held)
+  edited_after p held there = elim (edited.after p held there) [
+    | inl it ↦ inl (it.0, it.1 ∙ sym at)
+    | inr else ↦ inr else
+  ]
+
+  -- and without the page
+  pub edited_left : (later : PageCache) → ((p : ℕ) (held : List ℕ) → HoldsPage later p held → (p ≢ page) × HoldsPage cache p held) → OnlyForgets was later
+  edited_left later forgets p held there = elim (edited.after p held (forgets p held there).1) [
+    | inl it ↦ absurd ((forgets p held there).0 it.0)
+    | inr else ↦ else.1
+  ]
 
 -- `commit` keeps what the next root needs
 pub committed_kept : (holders : List Holders) (old new : List Mark) → AreCommitted holders old new → (p : ℕ) → IsKept old p → IsKept new p

@@ -15,7 +15,7 @@ use Rattle.page_store.specs.declared.holds.HoldPlace.{HoldPlace}
 use Rattle.page_store.specs.declared.holds.Holders.{Holders}
 use Rattle.page_store.specs.Holds.{Holds, SameHolds, none, any, needed_by, holders_at}
 use Rattle.page_store.specs.Marks.{mark, needs, keeps, is_past, stays, IsNeeded, IsKept, committed, AreCut, AreGrown}
-use Rattle.page_store.specs.Page.{page}
+use Rattle.page_store.specs.Page.{page, IsWithin}
 use Rattle.page_store.specs.aid.Page.{page_same}
 use Rattle.page_store.specs.Store.{Store, reads, Saved, SavedIn, IsHeldBy, IsSafe, AreSoundHolds, IsSoundStore, IsShortened, IsLengthened}
 use Rattle.page_store.specs.aid.Holding.{none_needs, need_any, need_within, held_within}
@@ -132,11 +132,15 @@ below_saves store safe sound picture left = record {
       left.same k (omega (arith, sound.fits, needed.1, within.1)) (safe.synced p needed k within));
 }
 
--- a page that was there reads on a longer disk as it did
+-- a sector of a page that was there reads on a longer disk as it did
+pub longer_sectors : (old : Store) (new : Shown) → IsSoundStore old → IsLonger old.disk.now new → (p : ℕ) → p < length old.marks
+    → (k : ℕ) → IsWithin p k → sector new.contents k ≡ sector old.disk.now.contents k
+longer_sectors old new sound longer p within k inside = longer.contents k (omega (arith, sound.fits, within, inside.1))
+
+-- and so does the page
 pub longer_reads : (old : Store) (new : Shown) → IsSoundStore old → IsLonger old.disk.now new → (p : ℕ) → p < length old.marks
     → page new.contents p ≡ reads old p
-longer_reads old new sound longer p within = page_same new.contents old.disk.now.contents p (λ k inside.
-    longer.contents k (omega (arith, sound.fits, within, inside.1)))
+longer_reads old new sound longer p within = page_same new.contents old.disk.now.contents p (longer_sectors old new sound longer p within)
 
 -- holds and marks that are as they were
 same_sound : (old new : Store) → new.marks ≡ old.marks → new.holds ≡ old.holds → AreSoundHolds old.marks old.holds → AreSoundHolds new.marks new.holds
@@ -310,11 +314,18 @@ closed_sound old new sound no_shorter marks holds closed =
     }
 
 -- a page that was there reads as it did once a root was published on the longer disk
+pub longer_within : (old : Store) (mid new : Disk) → IsSoundStore old → IsLonger old.disk.now mid.now
+    → ((k : ℕ) → 4 ≤ k → sector new.now.contents k ≡ sector mid.now.contents k)
+    → (p : ℕ) → 1 ≤ p → p < length old.marks → (k : ℕ) → IsWithin p k → sector new.now.contents k ≡ sector old.disk.now.contents k
+longer_within old mid new sound longer same p behind within k inside =
+    same k (omega (arith, behind, inside.0)) ∙ longer.contents k (omega (arith, sound.fits, within, inside.1))
+
+-- a page, so
 pub longer_pages : (old : Store) (mid new : Disk) → IsSoundStore old → IsLonger old.disk.now mid.now
     → ((k : ℕ) → 4 ≤ k → sector new.now.contents k ≡ sector mid.now.contents k)
     → (p : ℕ) → 1 ≤ p → p < length old.marks → page new.now.contents p ≡ reads old p
-longer_pages old mid new sound longer same p behind within = page_same new.now.contents old.disk.now.contents p (λ k inside.
-    same k (omega (arith, behind, inside.0)) ∙ longer.contents k (omega (arith, sound.fits, within, inside.1)))
+longer_pages old mid new sound longer same p behind within =
+    page_same new.now.contents old.disk.now.contents p (longer_within old mid new sound longer same p behind within)
 
 -- a page that a hold needs was there
 pub held_pages : (old : Store) (new : ℕ → List ℕ) → IsSoundStore old

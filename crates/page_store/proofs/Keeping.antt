@@ -134,6 +134,11 @@ not_held store place p q sound fresh held same =
 pub reads_else : (at : ℕ) (old new : Disk) → (IsTrue old.honest → KeepsThroughout (IsOutside at) old new) → IsTrue old.honest → (p : ℕ) → p ≢ at → page new.now.contents p ≡ page old.now.contents p
 reads_else at old new kept honest p other = page_same new.now.contents old.now.contents p (λ k within. (kept honest).keeps.contents k (apart p at k other within))
 
+-- the sectors of the other pages
+pub sectors_else : (at : ℕ) (old new : Disk) → (IsTrue old.honest → KeepsThroughout (IsOutside at) old new) → IsTrue old.honest → (p : ℕ) → p ≢ at
+    → (k : ℕ) → IsWithin p k → sector new.now.contents k ≡ sector old.now.contents k
+sectors_else at old new kept honest p other k within = (kept honest).keeps.contents k (apart p at k other within)
+
 -- a write of a handed out page
 module _ (old new : Store) (at : ℕ) (sound : IsSoundStore old) (fresh : mark old.marks at ≡ Fresh) (root : new.root ≡ old.root) (marks : new.marks ≡ old.marks)
     (holds : new.holds ≡ old.holds) (kept : IsTrue old.disk.honest → KeepsThroughout (IsOutside at) old.disk new.disk) where

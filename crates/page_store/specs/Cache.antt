@@ -1,10 +1,11 @@
 -- Pages in memory.
-use Rattle.std.specs.Prelude.{◌≡◌, ℕ, List, [], slice_index_or, Contains, Option, Some, None, IsTrue}
+use Rattle.std.specs.Prelude.{◌≡◌, ◌≢◌, ◌⊎◌, ℕ, ◌<◌, List, length, [], slice_index_or, Contains, Option, Some, None, IsTrue}
 use Rattle.lru.specs.LruCache.{LruCache}
 use Rattle.page_store.specs.declared.cache.KeptPage.{KeptPage}
 use Rattle.page_store.specs.declared.cache.PageCache.{PageCache}
 use Rattle.page_store.specs.Marks.{IsKept}
-use Rattle.page_store.specs.Store.{Store, reads}
+use Rattle.page_store.specs.Page.{HasSectors, StaysElsewhere}
+use Rattle.page_store.specs.Store.{Store}
 
 -- the names of the places: which page stands at which, none where there is no cache
 abbrev pub entries_of : Option (LruCache ℕ ℕ) → List (ℕ × ℕ)
@@ -42,8 +43,19 @@ HoldsPage cache = HoldsAt (entries_of cache.places) cache.kept.items
 abbrev pub OnlyForgets : PageCache → PageCache → Type 0
 OnlyForgets old new = (p : ℕ) (bytes : List ℕ) → HoldsPage new p bytes → HoldsPage old p bytes
 
--- each page in the cache is one that the next root may need, with the bytes that it reads as; so a page of a commit that
+-- the page, which the cache holds at this place, was edited there: other bytes, by the edit, and the same elsewhere; all else in the
+-- cache was there
+pub record IsEditedAt (Edits : List ℕ → List ℕ → Type 0) (from to page place : ℕ) (old new : PageCache) : Type 0 where
+  pub was : List ℕ
+  pub held : HoldsPage old page was
+  pub within : place < length new.kept.items
+  pub edits : Edits was (kept_at new.kept.items place).bytes
+  pub elsewhere : StaysElsewhere from to was (kept_at new.kept.items place).bytes
+  pub after : (p : ℕ) (bytes : List ℕ) → HoldsPage new p bytes
+      → ((p ≡ page) × (bytes ≡ (kept_at new.kept.items place).bytes)) ⊎ ((p ≢ page) × HoldsPage old p bytes)
+
+-- each page in the cache is one that the next root may need, with the bytes that its sectors have; so a page of a commit that
 -- was given up is in no cache
 pub record IsCacheOf (store : Store) (cache : PageCache) : Type 0 where
   pub kept : (p : ℕ) (bytes : List ℕ) → HoldsPage cache p bytes → IsKept store.marks p
-  pub same : (p : ℕ) (bytes : List ℕ) → HoldsPage cache p bytes → IsTrue store.disk.honest → bytes ≡ reads store p
+  pub same : (p : ℕ) (bytes : List ℕ) → HoldsPage cache p bytes → IsTrue store.disk.honest → HasSectors store.disk.now.contents p bytes

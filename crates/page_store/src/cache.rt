@@ -1,7 +1,8 @@
 //! Pages in memory, so that they need not be read again.
 ghost use Rattle.std.specs.Prelude.{◌≡◌, ◌≢◌, ◌⊎◌, ◌≤◌, ◌<◌, ℕ, List, Some, Contains, IsTrue, IfOk, IfSome, IfNone, length};
-ghost use Rattle.page_store.specs.Cache.{HoldsPage, OnlyForgets, HasPlace, entries_of, kept_at};
+ghost use Rattle.page_store.specs.Cache.{HoldsPage, OnlyForgets, HasPlace, IsEditedAt, entries_of, kept_at};
 
+use crate::edit::{PageEdit, Span};
 use lru::LruCache;
 use std::alloc::{AllocError, Global};
 use std::num::NonZeroUsize;
@@ -131,6 +132,28 @@ impl PageCache {
             Some(place) => Some(&self.kept[place].bytes),
             None => None,
         }
+    }
+
+    /// Edits the page where it stands, if it was used last and is one that the edit is for. Answers where, and in which bytes.
+    pub fn edit<E: PageEdit>(&mut self, page: u32, edit: &E) -> Option<(usize, Span)>
+        ensures edited { IfSome result (λ done. IsEditedAt (E.edits edit.now) done.1.from done.1.to page done.0 self.old self.new) }
+        ensures same { IfNone result (OnlyForgets self.old self.new) }
+    {
+        let Some(place) = self.place_of_last(page) else {
+            return None;
+        };
+        match edit.apply(&mut self.kept[place].bytes) {
+            Some(span) => Some((place, span)),
+            None => None,
+        }
+    }
+
+    /// The bytes at a place.
+    pub fn bytes_at(&self, place: usize) -> &[u8; 4096]
+        requires { place < length self.now.kept.items }
+        ensures { result.now ≡ (kept_at self.now.kept.items place).bytes }
+    {
+        &self.kept[place].bytes
     }
 
     /// A place for the page: its own, the next one, or that of the page that was not used for longest.

@@ -3,6 +3,7 @@
 
 mod blocks;
 mod cache;
+mod edit;
 mod fault;
 mod holds;
 pub mod laws;
@@ -13,6 +14,7 @@ mod pages;
 mod room;
 mod store;
 
+pub use edit::{PageEdit, Span};
 pub use fault::PageFault;
 pub use holds::{Hold, HoldPlace, Holders};
 pub use limits::{MAX_PAGES, MIN_PAGES};

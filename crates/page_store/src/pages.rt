@@ -11,7 +11,7 @@ ghost use Rattle.page_store.specs.Store.{IsCommitted, IsShortened, StoreGrows, I
 ghost use Rattle.page_store.specs.Holds.{needed_by};
 ghost use Rattle.page_store.specs.declared.holds.HoldPlace.{HoldPlace};
 
-use crate::{Hold, PageFault};
+use crate::{Hold, PageEdit, PageFault};
 use root_pair::Root;
 use std::alloc::Global;
 
@@ -96,6 +96,21 @@ pub trait Pages {
         requires { mark_of (store self.old).marks page ≡ Fresh }
         ensures written { IsTrue (store self.old).disk.honest → OnOk result (reads (store self.new) page ≡ from.now) }
         ensures others { IsTrue (store self.old).disk.honest → (p : ℕ) → p ≢ page → reads (store self.new) p ≡ reads (store self.old) p }
+        ensures marks { (store self.new).marks ≡ (store self.old).marks }
+        ensures open { OnOk result ((store self.new).closed ≡ false) }
+        ensures untouched { IfErr result (λ fault. fault ≢ PageFault.Disk → store self.new ≡ store self.old) }
+        ensures cause { IfErr result (PageWriteCause (store self.old) (store self.new)) }
+        ensures closed { (store self.old).closed ≡ true → IsErrOf result PageFault.Closed }
+        ensures works { StoreWorks (store self.old) (store self.new) };
+
+    /// Edits a page that was handed out since the last commit where it stands in memory, and writes what changed. It answers
+    /// whether it did: not where the page was not the last one used, or is not one that the edit is for; then all is as it was.
+    fn edit_page<E: PageEdit>(&mut self, page: u32, edit: &E) -> Result<bool, PageFault>
+        requires { mark_of (store self.old).marks page ≡ Fresh }
+        ensures edited { IsTrue (store self.old).disk.honest
+            → IfOk result (λ done. IsTrue done → E.edits edit.now (reads (store self.old) page) (reads (store self.new) page)) }
+        ensures others { IsTrue (store self.old).disk.honest → (p : ℕ) → p ≢ page → reads (store self.new) p ≡ reads (store self.old) p }
+        ensures left { IfOk result (λ done. done ≡ false → store self.new ≡ store self.old) }
         ensures marks { (store self.new).marks ≡ (store self.old).marks }
         ensures open { OnOk result ((store self.new).closed ≡ false) }
         ensures untouched { IfErr result (λ fault. fault ≢ PageFault.Disk → store self.new ≡ store self.old) }

@@ -10,6 +10,7 @@ ghost use Rattle.page_store.specs.Store.{store_of, IsSoundStore, IsOpened, IsRef
 
 use crate::blocks::{all_noted, blocks_of, put_mark, turn, turn_committed};
 use crate::cache::PageCache;
+use crate::edit::{PageEdit, Span};
 use crate::holds::{Hold, Holders};
 use crate::limits::MAX_PAGES;
 use crate::marks::{
@@ -235,13 +236,31 @@ impl<D: SectorDisk> Pages for PageStore<D> {
         if self.closed {
             return Err(PageFault::Closed);
         }
-        let written = put_page(&mut self.disk, page, from);
+        let written = put_page(&mut self.disk, page, from, Span::whole());
         self.closed = written.is_err();
         match written {
             Ok(done) => {
                 let _no_memory = self.cache.put(page, from);
                 Ok(done)
             }
+            Err(fault) => {
+                self.cache.forget(page);
+                Err(fault.into())
+            }
+        }
+    }
+
+    fn edit_page<E: PageEdit>(&mut self, page: u32, edit: &E) -> Result<bool, PageFault> {
+        if self.closed {
+            return Err(PageFault::Closed);
+        }
+        let Some((place, span)) = self.cache.edit(page, edit) else {
+            return Ok(false);
+        };
+        let done = put_page(&mut self.disk, page, self.cache.bytes_at(place), span);
+        self.closed = done.is_err();
+        match done {
+            Ok(()) => Ok(true),
             Err(fault) => {
                 self.cache.forget(page);
                 Err(fault.into())

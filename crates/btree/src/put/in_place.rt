@@ -13,8 +13,8 @@ ghost use Rattle.btree.specs.aid.Causes.{WriteCause};
 ghost use Rattle.btree.specs.aid.Growing.{AreWritten, IsGrowing, IsGrown};
 ghost use Rattle.btree.specs.aid.Spots.{LeadsTo, IsSpot};
 
-use crate::page::{Kind, ROOM, Widths, count_of, item_at, kind_of, place_of};
-use crate::put::items::{new_entry, places_of, splice_in};
+use crate::page::{Kind, Widths, item_at, kind_of, place_of};
+use crate::put::entry::EntryPut;
 use byteorder::{BigEndian, ByteOrder};
 use page_store::{PageFault, Pages};
 
@@ -65,58 +65,9 @@ fn spot_at<P: Pages>(store: &mut P, widths: Widths, page: u32, key: &[u8]) -> Op
     }
 }
 
-/// Whether a leaf has room for an entry more, in the place of its items from one place up to another.
-fn has_room(widths: Widths, bytes: &[u8; 4096], from: usize, to: usize) -> bool
-    requires form { IsPage widths Leaf bytes.now }
-    requires order { from ≤ to }
-    requires within { to ≤ count_in bytes.now }
-    ensures { IsTrue result → (from + 1 + (count_in bytes.now - to)) * item_width widths Leaf ≤ ROOM }
-{
-    let total = from + 1 + (count_of(bytes) - to);
-    total * (widths.key + widths.value) <= ROOM
-}
-
-/// Puts the entry after the first one on these bytes of the page, if they are a leaf and have room for it, and writes them. Answers
+/// Puts the entry after the first one of this page, if it is a leaf that was used last and has room for it, and writes what changed. Answers
 /// whether it did.
 fn put_on<P: Pages>(
-    store: &mut P,
-    widths: Widths,
-    page: u32,
-    bytes: &mut [u8; 4096],
-    key: &[u8],
-    value: &[u8],
-) -> Result<bool, PageFault>
-    requires key { length key.now ≡ widths.key }
-    requires value { length value.now ≡ widths.value }
-    requires fresh { mark_of (P.store store.old).marks page ≡ Fresh }
-    requires is_page { 1 ≤ page }
-    requires there { page < length (P.store store.old).marks }
-    ensures written { IfOk result (λ done. IsTrue done → (top : Item) → child_of top ≡ page → Ascend (items_in widths Leaf bytes.old)
-        → first_key (items_in widths Leaf bytes.old) ≡ Some top.0
-        → AreWritten widths Leaf page (put_entry (items_in widths Leaf bytes.old) key.now value.now) (top ∷ [])
-        (P.store store.old) (P.store store.new)) }
-    ensures leaf { IfOk result (λ done. IsTrue done → IsPage widths Leaf bytes.old) }
-    ensures same { IfOk result (λ done. done ≡ false → P.store store.new ≡ P.store store.old) }
-    ensures open { IfOk result (λ done. IsTrue done → (P.store store.new).closed ≡ false) }
-    ensures works { StoreWorks (P.store store.old) (P.store store.new) }
-    ensures still { IfErr result (λ fault. fault ≢ PageFault.Disk → (P.store store.new).closed ≡ (P.store store.old).closed) }
-    ensures cause { IfErr result (WriteCause (P.store store.old) (P.store store.new)) }
-{
-    let Some(Kind::Leaf) = kind_of(widths, bytes) else {
-        return Ok(false);
-    };
-    let (from, to) = places_of(widths, bytes, key);
-    if from == 0 || !has_room(widths, bytes, from, to) {
-        return Ok(false);
-    }
-    let entry = new_entry(widths, key, value);
-    splice_in(widths, Kind::Leaf, bytes, from, to, 1, &entry.bytes);
-    store.write_page(page, bytes)?;
-    Ok(true)
-}
-
-/// The same on a copy of the page, if it is in memory. It stands by itself, since the copy is made as it begins.
-fn put_on_copy<P: Pages>(
     store: &mut P,
     widths: Widths,
     page: u32,
@@ -141,11 +92,7 @@ fn put_on_copy<P: Pages>(
     ensures still { IfErr result (λ fault. fault ≢ PageFault.Disk → (P.store store.new).closed ≡ (P.store store.old).closed) }
     ensures cause { IfErr result (WriteCause (P.store store.old) (P.store store.new)) }
 {
-    let mut bytes = match store.bytes_of(page) {
-        Some(lent) => *lent,
-        None => return Ok(false),
-    };
-    put_on(store, widths, page, &mut bytes, key, value)
+    store.edit_page(page, &EntryPut { widths, key, value })
 }
 
 /// Puts this value at this key below this page, which has this many levels below it at most, where that changes the leaf alone: each page
@@ -177,7 +124,7 @@ pub fn put_in_place<P: Pages>(
     }
     match spot_at(store, widths, page, key) {
         None => Ok(false),
-        Some(Spot::Leaf) => put_on_copy(store, widths, page, key, value),
+        Some(Spot::Leaf) => put_on(store, widths, page, key, value),
         Some(Spot::Below(child)) => put_in_place(store, widths, child, levels - 1, key, value),
     }
 }

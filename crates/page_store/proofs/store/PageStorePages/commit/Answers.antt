@@ -91,17 +91,17 @@ returns-else-is_read-clause-kept_pages g c = λ honest. pages_kept _ _ (pages_be
 pub invariant_of-self-clause-cached : goal.invariant_of-self-clause-cached
 invariant_of-self-clause-cached g c =
     carried _ _ _ _ c.args.self.now.cached (λ p held there. there) (was_honest c.publish.ensures.time) (λ p held there. committed_kept _ _ _ c.turn_committed.ensures.committed p)
-    (λ h p held there behind. pages_kept _ _ ((pages_behind (g.D.SectorDisk.disk c.args.self.now.disk) (g.D.SectorDisk.disk c.publish.new.disk) c.publish.ensures.others) h) p behind)
+    (λ h p held there behind k within. (pages_behind (g.D.SectorDisk.disk c.args.self.now.disk) (g.D.SectorDisk.disk c.publish.new.disk) c.publish.ensures.others) h k (omega (arith, behind, within.0)))
 
 pub invariant_of-self-then-is_read-clause-cached : goal.invariant_of-self-then-is_read-clause-cached
 invariant_of-self-then-is_read-clause-cached g c =
     carried _ _ _ _ c.args.self.now.cached (λ p held there. there) (was_honest c.publish.ensures.time) (λ p held there kept. kept)
-    (λ h p held there behind. pages_kept _ _ ((pages_behind (g.D.SectorDisk.disk c.args.self.now.disk) (g.D.SectorDisk.disk c.publish.new.disk) c.publish.ensures.others) h) p behind)
+    (λ h p held there behind k within. (pages_behind (g.D.SectorDisk.disk c.args.self.now.disk) (g.D.SectorDisk.disk c.publish.new.disk) c.publish.ensures.others) h k (omega (arith, behind, within.0)))
 
 pub invariant_of-self-in-Err-clause-cached : goal.invariant_of-self-in-Err-clause-cached
 invariant_of-self-in-Err-clause-cached g c =
     carried _ _ _ _ c.args.self.now.cached (λ p held there. there) (was_honest c.publish.ensures.time) (λ p held there kept. kept)
-    (λ h p held there behind. pages_kept _ _ ((pages_behind (g.D.SectorDisk.disk c.args.self.now.disk) (g.D.SectorDisk.disk c.publish.new.disk) c.publish.ensures.others) h) p behind)
+    (λ h p held there behind k within. (pages_behind (g.D.SectorDisk.disk c.args.self.now.disk) (g.D.SectorDisk.disk c.publish.new.disk) c.publish.ensures.others) h k (omega (arith, behind, within.0)))
 
 pub returns-then-self-clause-after : goal.returns-then-self-clause-after
 returns-then-self-clause-after g c = λ honest. tt

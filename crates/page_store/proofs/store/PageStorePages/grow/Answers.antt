@@ -5,7 +5,7 @@ use Rattle.page_store.specs.declared.holds.Holders.{Holders}
 use Rattle.page_store.specs.Holds.{holders_at}
 use Rattle.page_store.specs.aid.Holding.{same_holds}
 use Rattle.page_store.specs.aid.Works.{safe_saves, closes_same, closes_failed, grew_since}
-use Rattle.page_store.proofs.Growing.{not_err, below_saves, longer_reads, lengthened, lengthened_sound, grown_leaves, mid_rests, grown_after, grown_sound, grown_kept, closed_sound, longer_pages, held_pages}
+use Rattle.page_store.proofs.Growing.{not_err, below_saves, longer_reads, longer_sectors, lengthened, lengthened_sound, grown_leaves, mid_rests, grown_after, grown_sound, grown_kept, closed_sound, longer_pages, longer_within, held_pages}
 use Rattle.page_store.proofs.Keeping.{published_grew, was_honest}
 use Rattle.page_store.proofs.Caching.{carried}
 use Rattle.page_store.proofs.Turning.{all_are_noted}
@@ -65,7 +65,7 @@ invariant_of-self-then-is_err g c = record {
   sound = closed_sound _ _ c.args.self.now.sound c.make_room.ensures.no_shorter refl refl refl;
   blocks = c.args.self.now.blocks;
   cached = carried _ _ _ _ c.args.self.now.cached (λ p held there. there) (was_honest c.make_room.ensures.time) (λ p held there kept. kept)
-      (λ h p held there behind. longer_reads _ _ c.args.self.now.sound (c.make_room.ensures.longer h) p (c.args.self.now.cached.kept p held there).1);
+      (λ h p held there behind. longer_sectors _ _ c.args.self.now.sound (c.make_room.ensures.longer h) p (c.args.self.now.cached.kept p held there).1);
 }
 
 pub returns-then-is_err-clause-grows : goal.returns-then-is_err-clause-grows
@@ -140,7 +140,7 @@ invariant_of-self-in-Ok-publish g c =
       blocks = all_are_noted _ _ (omega (arith, c.in-Ok-all_noted.ensures.room, c.in-Ok.ensures.long)) c.in-Ok-all_noted.ensures.few c.in-Ok-all_noted.ensures.each;
       cached = carried _ _ _ _ c.args.self.now.cached (λ p held there. there) (was_honest (goes_on_trans c.make_room.ensures.time c.publish.ensures.time))
           (λ p held there kept. grown_kept c.args.self.now.holders.items c.args.pages _ _ c.requires.more (search rules) p kept)
-          (λ h p held there behind. longer_pages _ (g.D.SectorDisk.disk c.make_room.new.disk) (g.D.SectorDisk.disk c.publish.new.disk) c.args.self.now.sound (c.make_room.ensures.longer h) (pages_behind (g.D.SectorDisk.disk c.make_room.new.disk) (g.D.SectorDisk.disk c.publish.new.disk) c.publish.ensures.others (still_honest c.make_room.ensures.time h)) p behind
+          (λ h p held there behind. longer_within _ (g.D.SectorDisk.disk c.make_room.new.disk) (g.D.SectorDisk.disk c.publish.new.disk) c.args.self.now.sound (c.make_room.ensures.longer h) (pages_behind (g.D.SectorDisk.disk c.make_room.new.disk) (g.D.SectorDisk.disk c.publish.new.disk) c.publish.ensures.others (still_honest c.make_room.ensures.time h)) p behind
           (c.args.self.now.cached.kept p held there).1);
     }
 
@@ -152,7 +152,7 @@ invariant_of-self-then-is_read g c = record {
       (omega (arith, c.make_room.ensures.no_shorter, c.publish.ensures.same_size));
   blocks = c.args.self.now.blocks;
   cached = carried _ _ _ _ c.args.self.now.cached (λ p held there. there) (was_honest (goes_on_trans c.make_room.ensures.time c.publish.ensures.time)) (λ p held there kept. kept)
-      (λ h p held there behind. longer_pages _ (g.D.SectorDisk.disk c.make_room.new.disk) (g.D.SectorDisk.disk c.publish.new.disk) c.args.self.now.sound (c.make_room.ensures.longer h) (pages_behind (g.D.SectorDisk.disk c.make_room.new.disk) (g.D.SectorDisk.disk c.publish.new.disk) c.publish.ensures.others (still_honest c.make_room.ensures.time h)) p behind
+      (λ h p held there behind. longer_within _ (g.D.SectorDisk.disk c.make_room.new.disk) (g.D.SectorDisk.disk c.publish.new.disk) c.args.self.now.sound (c.make_room.ensures.longer h) (pages_behind (g.D.SectorDisk.disk c.make_room.new.disk) (g.D.SectorDisk.disk c.publish.new.disk) c.publish.ensures.others (still_honest c.make_room.ensures.time h)) p behind
       (c.args.self.now.cached.kept p held there).1);
 }
 
@@ -193,7 +193,7 @@ invariant_of-self-in-Err-publish g c = record {
   sound = closed_sound _ _ c.args.self.now.sound (omega (arith, c.make_room.ensures.no_shorter, c.publish.ensures.same_size)) refl refl refl;
   blocks = c.args.self.now.blocks;
   cached = carried _ _ _ _ c.args.self.now.cached (λ p held there. there) (was_honest (goes_on_trans c.make_room.ensures.time c.publish.ensures.time)) (λ p held there kept. kept)
-      (λ h p held there behind. longer_pages _ (g.D.SectorDisk.disk c.make_room.new.disk) (g.D.SectorDisk.disk c.publish.new.disk) c.args.self.now.sound (c.make_room.ensures.longer h) (pages_behind (g.D.SectorDisk.disk c.make_room.new.disk) (g.D.SectorDisk.disk c.publish.new.disk) c.publish.ensures.others (still_honest c.make_room.ensures.time h)) p behind
+      (λ h p held there behind. longer_within _ (g.D.SectorDisk.disk c.make_room.new.disk) (g.D.SectorDisk.disk c.publish.new.disk) c.args.self.now.sound (c.make_room.ensures.longer h) (pages_behind (g.D.SectorDisk.disk c.make_room.new.disk) (g.D.SectorDisk.disk c.publish.new.disk) c.publish.ensures.others (still_honest c.make_room.ensures.time h)) p behind
       (c.args.self.now.cached.kept p held there).1);
 }
 

@@ -28,5 +28,5 @@ invariant_of-self g c =
     record {
       sound = taken_sound c.in-Some.place old new taken c.args.self.now.sound;
       blocks = c.args.self.now.blocks;
-      cached = carried old new _ _ c.args.self.now.cached (λ p held there. there) (λ h. h) (λ p held there kept. kept) (λ h p held there behind. refl);
+      cached = carried old new _ _ c.args.self.now.cached (λ p held there. there) (λ h. h) (λ p held there kept. kept) (λ h p held there behind k within. refl);
     }

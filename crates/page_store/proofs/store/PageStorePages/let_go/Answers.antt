@@ -28,5 +28,5 @@ invariant_of-self g c =
     record {
       sound = let_go_sound c.args.hold.place old new gone c.args.self.now.sound;
       blocks = left_noted _ _ _ _ marks c.args.self.now.blocks;
-      cached = carried old new _ _ c.args.self.now.cached (λ p held there. there) (λ h. h) (λ p held there. left_kept _ _ _ marks p) (λ h p held there behind. refl);
+      cached = carried old new _ _ c.args.self.now.cached (λ p held there. there) (λ h. h) (λ p held there. left_kept _ _ _ marks p) (λ h p held there behind k within. refl);
     }

@@ -23,7 +23,7 @@ invariant_of-self g c =
       sound = marked_sound _ _ _ _ (record { disk = refl; failures = refl; root = refl; closed = refl; holds = refl }) c.put_mark.ensures.marked (sym (ap needs was)) (λ is. was) (sym (ap is_past was)) c.args.self.now.sound
           (not_zero _ _ c.args.self.now.sound.system (waiting_apart _ was));
       blocks = c.put_mark.ensures.noted;
-      cached = carried _ _ _ _ c.args.self.now.cached (λ p held there. there) (λ h. h) (λ p held there. still_kept _ _ _ _ c.put_mark.ensures.marked refl p) (λ h p held there behind. refl);
+      cached = carried _ _ _ _ c.args.self.now.cached (λ p held there. there) (λ h. h) (λ p held there. still_kept _ _ _ _ c.put_mark.ensures.marked refl p) (λ h p held there behind k within. refl);
     }
 
 pub returns-clause-works : goal.returns-clause-works

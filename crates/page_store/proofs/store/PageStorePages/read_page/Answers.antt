@@ -1,11 +1,12 @@
-use Rattle.std.proofs.Common.{◌≡◌, ◌<◌, ◌∙◌, length, ap, refl, sym, arith}
+use Rattle.std.proofs.Common.{◌≡◌, ◌<◌, ◌∙◌, length, ap, refl, sym, subst, arith}
 use Rattle.std.proofs.lemmas.List.{get_or_default}
-use Rattle.sector_disk.specs.Disk.{Shown}
+use Rattle.sector_disk.specs.Disk.{Shown, sector}
 use Rattle.page_store.specs.declared.marks.Mark.TheVariants.{Committed}
 use Rattle.page_store.specs.Marks.{mark, keeps}
-use Rattle.page_store.specs.Page.{page}
+use Rattle.page_store.specs.Page.{HasSectors}
 use Rattle.page_store.specs.aid.Works.{works_refl}
-use Rattle.page_store.proofs.Caching.{carried, part_of, added}
+use Rattle.page_store.proofs.Caching.{carried, part_of, added, held_reads}
+use Rattle.page_store.proofs.Filling.{sectors_read}
 use Rattle.page_store.proofs.Keeping.{sound_works, works_read, was_honest}
 use Rattle.page_store.proofs.Passing.{passed_on, none_done, not_closed, unchanged_refl}
 use Rattle.page_store.proofs.store.PageStorePages.read_page.Goals as goal
@@ -17,7 +18,7 @@ pub returns-then-page-eq0-clause-works : goal.returns-then-page-eq0-clause-works
 returns-then-page-eq0-clause-works g c = works_refl _
 
 pub returns-then-give-clause-bytes : goal.returns-then-give-clause-bytes
-returns-then-give-clause-bytes g c = λ h. c.args.self.now.cached.same _ _ (c.give.ensures.found c.if-give.true) h
+returns-then-give-clause-bytes g c = λ h. held_reads _ _ c.args.self.now.cached _ _ (c.give.ensures.found c.if-give.true) h
 
 pub returns-then-give-clause-works : goal.returns-then-give-clause-works
 returns-then-give-clause-works g c = works_refl _
@@ -44,13 +45,13 @@ invariant_of-self-in-Break-1 g c = record {
       c.args.self.now.sound.system;
   blocks = c.args.self.now.blocks;
   cached = carried _ _ _ _ c.args.self.now.cached c.give.ensures.others (was_honest c.get_page.ensures.time) (λ p held there kept. kept)
-      (λ h p held there behind. ap (λ (s : Shown). page s.contents p) (c.get_page.ensures.unchanged h));
+      (λ h p held there behind k within. ap (λ (s : Shown). sector s.contents k) (c.get_page.ensures.unchanged h));
 }
 
 pub invariant_of-self-else-is_kept-clause-cached : goal.invariant_of-self-else-is_kept-clause-cached
 invariant_of-self-else-is_kept-clause-cached g c =
     carried _ _ _ _ c.args.self.now.cached c.give.ensures.others (was_honest c.get_page.ensures.time) (λ p held there kept. kept)
-    (λ h p held there behind. ap (λ (s : Shown). page s.contents p) (c.get_page.ensures.unchanged h))
+    (λ h p held there behind k within. ap (λ (s : Shown). sector s.contents k) (c.get_page.ensures.unchanged h))
 
 pub invariant_of-self-then-is_kept-clause-cached : goal.invariant_of-self-then-is_kept-clause-cached
 invariant_of-self-then-is_kept-clause-cached g c =
@@ -59,8 +60,8 @@ invariant_of-self-then-is_kept-clause-cached g c =
     sym (c.is_kept.ensures ∙ ap keeps (c.index.ensures ∙ get_or_default _ _ _ Committed here)) in
     added _ _ _ _ _ _ (part_of _ c.args.self.now.cache c.give.new.self c.args.self.now.cached c.give.ensures.others) c.put-no_memory.ensures (was_honest c.get_page.ensures.time) refl
     (omega (arith, c.if-page-eq0.false), here, keeps_it ∙ c.if-is_kept.true)
-    (λ h. c.in_ok-get_page.ensures.bytes h ∙ sym (ap (λ (s : Shown). page s.contents c.args.page) (c.get_page.ensures.unchanged h)))
-    (λ h p other. ap (λ (s : Shown). page s.contents p) (c.get_page.ensures.unchanged h))
+    (λ h. subst (λ (s : Shown). HasSectors s.contents c.args.page c.get_page.new.into) (sym (c.get_page.ensures.unchanged h)) (c.in_ok-get_page.ensures.bytes h))
+    (λ h p other k within. ap (λ (s : Shown). sector s.contents k) (c.get_page.ensures.unchanged h))
 
 pub returns-then-self-clause-bytes : goal.returns-then-self-clause-bytes
 returns-then-self-clause-bytes g c = λ honest. tt
@@ -151,7 +152,7 @@ pub returns-in_err-get_page-clause-closed : goal.returns-in_err-get_page-clause-
 returns-in_err-get_page-clause-closed g c = λ is. absurd (not_closed _ c.if-self.false is)
 
 pub returns-then-is_kept-clause-bytes : goal.returns-then-is_kept-clause-bytes
-returns-then-is_kept-clause-bytes g c = c.in_ok-get_page.ensures.bytes
+returns-then-is_kept-clause-bytes g c = λ h. sectors_read _ _ _ (c.in_ok-get_page.ensures.bytes h)
 
 pub returns-then-is_kept-clause-is_page : goal.returns-then-is_kept-clause-is_page
 returns-then-is_kept-clause-is_page g c = omega (arith, c.if-page-eq0.false)
@@ -176,7 +177,7 @@ pub returns-then-is_kept-clause-closed : goal.returns-then-is_kept-clause-closed
 returns-then-is_kept-clause-closed g c = λ is. absurd (not_closed _ c.if-self.false is)
 
 pub returns-else-is_kept-clause-bytes : goal.returns-else-is_kept-clause-bytes
-returns-else-is_kept-clause-bytes g c = c.in_ok-get_page.ensures.bytes
+returns-else-is_kept-clause-bytes g c = λ h. sectors_read _ _ _ (c.in_ok-get_page.ensures.bytes h)
 
 pub returns-else-is_kept-clause-is_page : goal.returns-else-is_kept-clause-is_page
 returns-else-is_kept-clause-is_page g c = omega (arith, c.if-page-eq0.false)

@@ -21,5 +21,5 @@ invariant_of-self g c =
           (omega (arith, c.requires.is_page));
       blocks = c.put_mark.ensures.noted;
       cached = carried _ _ _ _ c.args.self.now.cached (λ p held there. (c.forget.ensures p held there).1) (λ h. h) (λ p held there. marked_kept _ _ _ _ c.put_mark.ensures.marked p (c.forget.ensures p held there).0)
-          (λ h p held there behind. refl);
+          (λ h p held there behind k within. refl);
     }

@@ -2,7 +2,8 @@ use Rattle.std.proofs.Common.{refl, sym, ap, ◌∙◌}
 use Rattle.std.specs.Result.{is_err}
 use Rattle.page_store.specs.aid.Works.{works_refl, closes_same, closes_failed}
 use Rattle.page_store.proofs.Caching.{carried, added, fresh_kept, is_ok}
-use Rattle.page_store.proofs.Keeping.{reads_else, works_write, was_honest, not_system}
+use Rattle.page_store.proofs.Keeping.{reads_else, sectors_else, works_write, was_honest, not_system}
+use Rattle.page_store.proofs.Filling.{all_meant, sectors_read}
 use Rattle.page_store.proofs.Passing.{not_closed, counted_ok, counted_err}
 use Rattle.page_store.proofs.store.PageStorePages.write_page.Goals as goal
 
@@ -14,6 +15,9 @@ returns-in-Err-clause-others g c = λ h. reads_else _ _ _ c.put_page-written.ens
 
 pub returns-in-Ok-clause-others : goal.returns-in-Ok-clause-others
 returns-in-Ok-clause-others g c = λ h. reads_else _ _ _ c.put_page-written.ensures.kept h
+
+pub returns-in-Ok-clause-written : goal.returns-in-Ok-clause-written
+returns-in-Ok-clause-written g c = λ h. sym (sectors_read _ _ _ (is_ok _ _ c.in-Ok.is (c.put_page-written.ensures.written h (λ k elsewhere. absurd (all_meant _ _ c.whole.ensures.from c.whole.ensures.to k elsewhere)))))
 
 pub returns-in-Err-clause-works : goal.returns-in-Err-clause-works
 returns-in-Err-clause-works g c =
@@ -28,13 +32,13 @@ returns-in-Ok-clause-works g c =
 pub invariant_of-self-in-Err-clause-cached : goal.invariant_of-self-in-Err-clause-cached
 invariant_of-self-in-Err-clause-cached g c =
     carried _ _ _ _ c.args.self.now.cached (λ p held there. (c.forget.ensures p held there).1) (was_honest c.put_page-written.ensures.time) (λ p held there kept. kept)
-    (λ h p held there behind. reads_else _ _ _ c.put_page-written.ensures.kept h p (c.forget.ensures p held there).0)
+    (λ h p held there behind. sectors_else _ _ _ c.put_page-written.ensures.kept h p (c.forget.ensures p held there).0)
 
 pub invariant_of-self-clause-cached : goal.invariant_of-self-clause-cached
 invariant_of-self-clause-cached g c =
     added _ _ _ _ _ _ c.args.self.now.cached c.put-no_memory.ensures (was_honest c.put_page-written.ensures.time) refl
-    (fresh_kept _ _ (not_system _ _ c.args.self.now.sound.system c.requires) c.requires) (λ h. sym (is_ok _ _ c.in-Ok.is (c.put_page-written.ensures.written h)))
-    (reads_else _ _ _ c.put_page-written.ensures.kept)
+    (fresh_kept _ _ (not_system _ _ c.args.self.now.sound.system c.requires) c.requires) (λ h. is_ok _ _ c.in-Ok.is (c.put_page-written.ensures.written h (λ k elsewhere. absurd (all_meant _ _ c.whole.ensures.from c.whole.ensures.to k elsewhere))))
+    (sectors_else _ _ _ c.put_page-written.ensures.kept)
 
 pub returns-then-self-clause-written : goal.returns-then-self-clause-written
 returns-then-self-clause-written g c = λ honest. tt

@@ -1,0 +1,47 @@
+//! An entry is put on a leaf where the leaf stands in memory.
+ghost use Rattle.std.specs.Prelude.{◌≡◌, ◌≤◌, ◌+◌, ◌-◌, ◌*◌, length, IsTrue};
+ghost use Rattle.btree.specs.declared.page.kind.Kind.TheVariants.{Leaf};
+ghost use Rattle.btree.specs.declared.page.kind.TheConstants.{ROOM};
+ghost use Rattle.btree.specs.Page.{count_in, item_width, IsPage};
+ghost use Rattle.btree.specs.aid.EntryPut.{IsEntryPut};
+
+use crate::page::{Kind, ROOM, Widths, count_of, kind_of};
+use crate::put::items::{new_entry, places_of, splice_in};
+use page_store::{PageEdit, Span};
+
+/// This value is put at this key, on a leaf that has room for it and an entry before it.
+pub struct EntryPut<'a> {
+    pub widths: Widths,
+    pub key: &'a [u8],
+    pub value: &'a [u8],
+    ghost key_long: { length key.now ≡ widths.key },
+    ghost value_long: { length value.now ≡ widths.value },
+}
+
+/// Whether a leaf has room for an entry more, in the place of its items from one place up to another.
+fn has_room(widths: Widths, bytes: &[u8; 4096], from: usize, to: usize) -> bool
+    requires form { IsPage widths Leaf bytes.now }
+    requires order { from ≤ to }
+    requires within { to ≤ count_in bytes.now }
+    ensures { IsTrue result → (from + 1 + (count_in bytes.now - to)) * item_width widths Leaf ≤ ROOM }
+{
+    let total = from + 1 + (count_of(bytes) - to);
+    total * (widths.key + widths.value) <= ROOM
+}
+
+impl PageEdit for EntryPut<'_> {
+    ghost edits = { λ put was is. IsEntryPut put.widths put.key.now put.value.now was is };
+
+    fn apply(&self, page: &mut [u8; 4096]) -> Option<Span> {
+        let Some(Kind::Leaf) = kind_of(self.widths, page) else {
+            return None;
+        };
+        let (from, to) = places_of(self.widths, page, self.key);
+        if from == 0 || !has_room(self.widths, page, from, to) {
+            return None;
+        }
+        let entry = new_entry(self.widths, self.key, self.value);
+        let span = splice_in(self.widths, Kind::Leaf, page, from, to, 1, &entry.bytes);
+        Some(span)
+    }
+}
