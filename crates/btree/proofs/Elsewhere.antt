@@ -9,7 +9,7 @@ eighth_is k bytes some =
     let sum : 4 + (512 * k - 4) ≡ 512 * k = omega (arith, some) in
     ap (take 512) (sym (drop-drop (512 * k - 4) 4 bytes ∙ ap (λ (n : ℕ). drop n bytes) sum))
 
-module _ (page now front tail : List ℕ) (s to : ℕ) (head : 4 ≤ s) (order : s ≤ to) (within : to ≤ length page) (long : length front ≡ to - s)
+module _ (page now front : List ℕ) (s to : ℕ) (head : 4 ≤ s) (order : s ≤ to) (within : to ≤ length page) (long : length front ≡ to - s)
     (is : drop 4 now ≡ (take (s - 4) (drop 4 page) ++ front) ++ drop to page) where
   abbrev kept : List ℕ
   kept = take (s - 4) (drop 4 page)

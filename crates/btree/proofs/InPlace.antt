@@ -52,6 +52,11 @@ pub of_both : {X E : Type 0} (A B C : X → Type 0) (r : Result X E) → ((x : X
 of_both A B C (Ok x) both a b = both x a b
 of_both A B C (Err e) both a b = tt
 
+-- what is said where it was done
+pub of_done : {E A B : Type 0} (r : Result Bool E) → (A → B) → IfOk r (λ done. IsTrue done → A) → IfOk r (λ done. IsTrue done → B)
+of_done (Ok done) gives is = λ so. gives (is so)
+of_done (Err e) gives is = tt
+
 -- what an answer says of each tree, taken together
 pub grown_by : {E : Type 0} (r : Result Bool E) (C : Type 0) (G H : ℕ → Item → Type 0) → ((e : ℕ) (t : Item) → G e t → IfOk r (λ done. IsTrue done → H e t))
     → (((e : ℕ) (t : Item) → G e t → H e t) → C) → IfOk r (λ done. IsTrue done → C)

@@ -10,6 +10,7 @@ use crate::put::items::{new_entry, places_of, splice_in};
 use page_store::{PageEdit, Span};
 
 /// This value is put at this key, on a leaf that has room for it and an entry before it.
+#[derive(Drop)]
 pub struct EntryPut<'a> {
     pub widths: Widths,
     pub key: &'a [u8],

@@ -190,7 +190,8 @@ pub fn splice_in(
     let all = count_of(page);
     let start = HEAD + from * width;
     let end = start + bytes.len();
-    let (rest, last) = (HEAD + to * width, HEAD + all * width);
+    let rest = HEAD + to * width;
+    let last = HEAD + all * width;
     move_within(page, rest, last, end);
     page[start..end].copy_from_slice(bytes);
     set_count(page, from + count + (all - to));

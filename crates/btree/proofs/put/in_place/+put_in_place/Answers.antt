@@ -27,16 +27,16 @@ returns-in-Some-Leaf-clause-grown g t c = λ honest d top growing leads first.
     let q = c.args.page in
     let old : Store = g.P.Pages.store c.args.store.now in
     let mid : Store = g.P.Pages.store c.spot_at.new.store in
-    let new : Store = g.P.Pages.store c.put_on_copy.new.store in
+    let new : Store = g.P.Pages.store c.put_on.new.store in
     let same : mid ≡ old = c.spot_at.ensures.same in
     let now : IsTrue mid.disk.honest = subst (λ (s : Store). IsTrue s.disk.honest) (sym same) honest in
     of_both (λ done. IsTrue done → (t : Item) → child_of t ≡ q → Ascend (items_in w Leaf (reads mid q)) → first_key (items_in w Leaf (reads mid q)) ≡ Some t.0
     → AreWritten w Leaf q (put_entry (items_in w Leaf (reads mid q)) key value) (t ∷ []) mid new)
-    (λ done. IsTrue done → IsPage w Leaf (reads mid q)) (λ done. IsTrue done → IsGrown w key value d q (top ∷ []) old new) c.put_on_copy.result
+    (λ done. IsTrue done → IsPage w Leaf (reads mid q)) (λ done. IsTrue done → IsGrown w key value d q (top ∷ []) old new) c.put_on.result
     (λ done written leaf is. subst (λ (s : Store). IsGrown w key value d q (top ∷ []) s new) same
     (leaf_in_place w key value q top mid new now leads d (subst (λ (s : Store). IsGrowing w d q s) (sym same) growing)
     (subst (λ (s : Store). first_key (entries_below w (reads s) d q) ≡ Some top.0) (sym same) first) (leaf is) (λ ascend f. written is top leads ascend f)))
-    (c.put_on_copy.ensures.written now) (c.put_on_copy.ensures.leaf now)
+    (c.put_on.ensures.written now) (c.put_on.ensures.leaf now)
 
 pub returns-in-Some-Below-clause-grown : goal.returns-in-Some-Below-clause-grown
 returns-in-Some-Below-clause-grown g t c = λ honest d top growing leads first.

@@ -4,7 +4,7 @@ use Rattle.btree.specs.declared.page.kind.Kind.{Kind}
 use Rattle.btree.specs.declared.page.widths.Widths.{Widths}
 use Rattle.btree.specs.Page.{behind_of, count_in, item_width}
 use Rattle.btree.proofs.Fitting.{are_within, word, head_word, head_within, width_word, few_items}
-use Rattle.btree.proofs.Listing.{distribute, head_stays, page_listed}
+use Rattle.btree.proofs.Listing.{distribute, head_stays, page_listed, page_elsewhere}
 use Rattle.btree.proofs.put.items.splice_in.Goals as goal
 
 -- where the items lie that are put in
@@ -64,23 +64,23 @@ overflow_add-start c =
     let at = are_within c.args.widths c.args.kind c.behind_of.result c.args.from c.args.to (count_in c.args.page.now) c.count_of-all.result c.behind_of.ensures c.requires.order c.requires.within c.requires.page.fits c.count_of-all.ensures in
     head_word (c.args.from * (c.args.widths.key + c.behind_of.result)) at.front
 
-pub overflow_mul-to : goal.overflow_mul-to
-overflow_mul-to c =
+pub overflow_mul-rest : goal.overflow_mul-rest
+overflow_mul-rest c =
     let at = are_within c.args.widths c.args.kind c.behind_of.result c.args.from c.args.to (count_in c.args.page.now) c.count_of-all.result c.behind_of.ensures c.requires.order c.requires.within c.requires.page.fits c.count_of-all.ensures in
     word (c.args.to * (c.args.widths.key + c.behind_of.result)) at.upto
 
-pub overflow_add-to : goal.overflow_add-to
-overflow_add-to c =
+pub overflow_add-rest : goal.overflow_add-rest
+overflow_add-rest c =
     let at = are_within c.args.widths c.args.kind c.behind_of.result c.args.from c.args.to (count_in c.args.page.now) c.count_of-all.result c.behind_of.ensures c.requires.order c.requires.within c.requires.page.fits c.count_of-all.ensures in
     head_word (c.args.to * (c.args.widths.key + c.behind_of.result)) at.upto
 
-pub overflow_mul-all : goal.overflow_mul-all
-overflow_mul-all c =
+pub overflow_mul-last : goal.overflow_mul-last
+overflow_mul-last c =
     let at = are_within c.args.widths c.args.kind c.behind_of.result c.args.from c.args.to (count_in c.args.page.now) c.count_of-all.result c.behind_of.ensures c.requires.order c.requires.within c.requires.page.fits c.count_of-all.ensures in
     word (c.count_of-all.result * (c.args.widths.key + c.behind_of.result)) at.whole
 
-pub overflow_add-all : goal.overflow_add-all
-overflow_add-all c =
+pub overflow_add-last : goal.overflow_add-last
+overflow_add-last c =
     let at = are_within c.args.widths c.args.kind c.behind_of.result c.args.from c.args.to (count_in c.args.page.now) c.count_of-all.result c.behind_of.ensures c.requires.order c.requires.within c.requires.page.fits c.count_of-all.ensures in
     head_word (c.count_of-all.result * (c.args.widths.key + c.behind_of.result)) at.whole
 
@@ -157,3 +157,11 @@ returns-clause-items c =
     page_listed w.key (behind_of w c.args.kind) c.behind_of.result c.args.from c.args.to (count_in c.args.page.now) c.args.count c.count_of-all.result
     c.args.page.now c.move_within.new.page c.copy_from_slice.new.self c.args.bytes.now _ c.behind_of.ensures page.long c.requires.order c.requires.within page.fits c.count_of-all.ensures c.requires.whole c.requires.room
     c.move_within.ensures c.copy_from_slice.ensures.after refl _ _ c.set_count.ensures.items c.set_count.ensures.count
+
+pub returns-clause-elsewhere : goal.returns-clause-elsewhere
+returns-clause-elsewhere c =
+    let w = c.args.widths in
+    let page = c.requires.page in
+    page_elsewhere w.key (behind_of w c.args.kind) c.behind_of.result c.args.from c.args.to (count_in c.args.page.now) c.args.count c.count_of-all.result
+    c.args.page.now c.move_within.new.page c.copy_from_slice.new.self c.args.bytes.now _ c.behind_of.ensures page.long c.requires.order c.requires.within page.fits c.count_of-all.ensures c.requires.whole c.requires.room
+    c.move_within.ensures c.copy_from_slice.ensures.after refl _ c.set_count.ensures.items
