@@ -47,17 +47,6 @@ none_free (Released ∷ marks) none = omega (arith, none_free marks (λ p low. n
 none_free (Past ∷ marks) none = omega (arith, none_free marks (λ p low. none (suc p) (omega (arith, low))))
 none_free (Free ∷ marks) none = absurd (none 0 (omega arith) refl)
 
--- a page that counts for none is not free
-pub not_free : (m : Mark) → free_one m ≢ 1 → m ≢ Free
-not_free m other is = other (ap free_one is)
-
--- and where no page is free, from the first to the last
-pub none_found : (marks : List Mark) (from at : ℕ) → ((p : ℕ) → from ≤ p → p < at → mark marks p ≢ Free) → mark marks at ≢ Free → (p : ℕ) → from ≤ p → p < at + 1 → mark marks p ≢ Free
-none_found marks from at before here p low high = elim (cases_eq p at) [
-  | inl same ↦ subst (λ (q : ℕ). mark marks q ≢ Free) (sym same) here
-  | inr other ↦ before p low (omega (arith, high, other))
-]
-
 pub one_at_most : (m : Mark) → free_one m ≤ 1
 one_at_most Committed = omega arith
 one_at_most Waiting = omega arith
@@ -65,10 +54,6 @@ one_at_most Fresh = omega arith
 one_at_most Released = omega arith
 one_at_most Free = omega arith
 one_at_most Past = omega arith
-
-pub none_gives : {P Q : Type 0} (r : Option ℕ) → (P → Q) → IfNone r P → IfNone r Q
-none_gives None f given = f given
-none_gives (Some x) f given = given
 
 -- all pages have their new marks
 pub all_turned : (f r w : Mark) (start new : List Mark) (at : ℕ) → length new ≡ length start → length start ≤ at → ((p : ℕ) → p < at → mark new p ≡ turned f r w (mark start p)) → Turned f r w start new

@@ -12,6 +12,7 @@ mod marks;
 mod page;
 mod pages;
 mod room;
+mod search;
 mod store;
 
 pub use edit::{PageEdit, Span};

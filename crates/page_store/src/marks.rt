@@ -214,32 +214,6 @@ fn free_one(mark: Mark) -> u32
     }
 }
 
-/// The first free page from there on.
-fn find_free(marks: &[Mark], from: u32) -> Option<u32>
-    requires { length marks.now ≤ MAX_PAGES }
-    ensures free { IfSome result (λ page. mark_of marks.now page ≡ Mark.Free) }
-    ensures none { IfNone result ((page : ℕ) → from ≤ page → page < length marks.now → mark_of marks.now page ≢ Mark.Free) }
-{
-    for page in from as usize..marks.len() {
-        if free_one(marks[page]) == 1 {
-            return Some(page as u32);
-        }
-    }
-    None
-}
-
-/// A free page: the first from there on, or else the first of all.
-pub fn find_any(marks: &[Mark], from: u32) -> Option<u32>
-    requires { length marks.now ≤ MAX_PAGES }
-    ensures free { IfSome result (λ page. mark_of marks.now page ≡ Mark.Free) }
-    ensures none { IfNone result (free_count marks.now ≡ 0) }
-{
-    match find_free(marks, from) {
-        Some(page) => Some(page),
-        None => find_free(marks, 0),
-    }
-}
-
 /// How many pages are free.
 pub fn count_free(marks: &[Mark]) -> u32
     requires { length marks.now ≤ MAX_PAGES }

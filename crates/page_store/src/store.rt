@@ -14,11 +14,12 @@ use crate::edit::{PageEdit, Span};
 use crate::holds::{Hold, Holders};
 use crate::limits::MAX_PAGES;
 use crate::marks::{
-    count_free, end_hold, find_any, free_left, grown_holders, grown_marks, is_kept, let_go,
+    count_free, end_hold, free_left, grown_holders, grown_marks, is_kept, let_go,
     take_hold,
 };
 use crate::page::{get_page, put_page};
 use crate::room::make_room;
+use crate::search::Search;
 use crate::{Mark, PageFault, Pages};
 use root_pair::{Root, RootFault, publish};
 use sector_disk::SectorDisk;
@@ -39,8 +40,8 @@ pub struct PageStore<D: SectorDisk> {
     taken: Holders,
     /// Which holds need each page.
     holders: Vec<Holders>,
-    /// Where the search for a free page begins.
-    next: u32,
+    /// Where a free page is looked for.
+    search: Search,
     /// A write or a sync has failed.
     closed: bool,
     /// Pages that need not be read again.
@@ -107,7 +108,7 @@ impl<D: SectorDisk> PageStore<D> {
                 noted,
                 taken: Holders::none(),
                 holders,
-                next: 0,
+                search: Search::new(),
                 closed: false,
                 cache,
             }),
@@ -219,12 +220,11 @@ impl<D: SectorDisk> Pages for PageStore<D> {
         if self.closed {
             return Err(PageFault::Closed);
         }
-        let page = match find_any(&self.marks, self.next) {
+        let page = match self.search.find(&self.marks) {
             Some(page) => page,
             None => return Err(PageFault::TableFull),
         };
         put_mark(&mut self.marks, &mut self.noted, page, Mark::Fresh);
-        self.next = page;
         Ok(page)
     }
 
