@@ -14,8 +14,7 @@ use crate::edit::{PageEdit, Span};
 use crate::holds::{Hold, Holders};
 use crate::limits::MAX_PAGES;
 use crate::marks::{
-    count_free, end_hold, free_left, grown_holders, grown_marks, is_kept, let_go,
-    take_hold,
+    count_free, end_hold, free_left, grown_holders, grown_marks, is_kept, let_go, take_hold,
 };
 use crate::page::{get_page, put_page};
 use crate::room::make_room;

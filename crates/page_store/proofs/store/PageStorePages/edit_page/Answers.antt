@@ -22,7 +22,7 @@ invariant_of-self g c = record {
 pub invariant_of-self-in-Ok : goal.invariant_of-self-in-Ok
 invariant_of-self-in-Ok g c = record {
   sound = sound_works _ _ c.args.self.now.sound (works_write _ _ _ c.args.self.now.sound c.requires refl refl refl c.put_page-done.ensures.kept c.put_page-done.ensures.time c.put_page-done.ensures.same_size c.put_page-done.ensures.cause.later (λ closed. c.if-self.false)
-    (closes_same (c.is_err-self.ensures.value ∙ ap is_err c.in-Ok.is ∙ sym c.if-self.false) (counted_ok _ (ap is_err c.in-Ok.is) c.put_page-done.ensures.counted))) c.args.self.now.sound.system;
+      (closes_same (c.is_err-self.ensures.value ∙ ap is_err c.in-Ok.is ∙ sym c.if-self.false) (counted_ok _ (ap is_err c.in-Ok.is) c.put_page-done.ensures.counted))) c.args.self.now.sound.system;
   blocks = c.args.self.now.blocks;
   cached = added _ _ _ _ _ _ c.args.self.now.cached (edited_after _ _ _ _ _ _ _ _ _ c.args.self.now.cached c.in-Some.ensures.edited c.bytes_at.ensures) (was_honest c.put_page-done.ensures.time) refl
       (fresh_kept _ _ (not_system _ _ c.args.self.now.sound.system c.requires) c.requires)
@@ -33,7 +33,7 @@ invariant_of-self-in-Ok g c = record {
 pub invariant_of-self-in-Err : goal.invariant_of-self-in-Err
 invariant_of-self-in-Err g c = record {
   sound = sound_works _ _ c.args.self.now.sound (works_write _ _ _ c.args.self.now.sound c.requires refl refl refl c.put_page-done.ensures.kept c.put_page-done.ensures.time c.put_page-done.ensures.same_size c.put_page-done.ensures.cause.later (λ closed. c.if-self.false)
-    (closes_failed (c.is_err-self.ensures.value ∙ ap is_err c.in-Err.is) (counted_err _ (ap is_err c.in-Err.is) c.put_page-done.ensures.counted))) c.args.self.now.sound.system;
+      (closes_failed (c.is_err-self.ensures.value ∙ ap is_err c.in-Err.is) (counted_err _ (ap is_err c.in-Err.is) c.put_page-done.ensures.counted))) c.args.self.now.sound.system;
   blocks = c.args.self.now.blocks;
   cached = carried _ _ _ _ c.args.self.now.cached (edited_left _ _ _ _ _ _ _ _ _ c.args.self.now.cached c.in-Some.ensures.edited c.bytes_at.ensures c.forget.new.self c.forget.ensures) (was_honest c.put_page-done.ensures.time)
       (λ p held there kept. kept) (λ h p held there behind. sectors_else _ _ _ c.put_page-done.ensures.kept h p (c.forget.ensures p held there).0);
