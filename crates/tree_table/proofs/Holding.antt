@@ -6,7 +6,6 @@ use mathlib.Core.Logic.{∥∥₁_elim, ∥∥₁_prop}
 use mathlib.Core.HLevel.{Unit-prop}
 use denote.Struct.Props.{props}
 use Rattle.page_store.specs.Store.{Store, StoreWorks, IsUnchanged, reads}
-use Rattle.retrograde.specs.declared.records.Record.{Record}
 use Rattle.retrograde.specs.Edges.{IsAfter, IsNextEdge, HasNoMoreEdges}
 use Rattle.retrograde.specs.Stored.{Stored}
 use Rattle.table.specs.Faults.{NeedsNoPage}
@@ -103,21 +102,11 @@ pub ok_prop : {X E : Type 0} (P : X → Type 0) (r : Result X E) → ((x : X) �
 ok_prop P (Ok x) each = each x
 ok_prop P (Err e) each = Unit-prop
 
-pub some_prop : {X : Type 0} (P : X → Type 0) (o : Option X) → ((x : X) → IsProp (P x)) → IsProp (IfSome o P)
-some_prop P (Some x) each = each x
-some_prop P None each = Unit-prop
-
 pub none_prop : {X : Type 0} (P : Type 0) (o : Option X) → IsProp P → IsProp (IfNone o P)
 none_prop P (Some x) is = Unit-prop
 none_prop P None is = is
 
--- positions, records and numbers that were or were not there
-pub position_prop : (o p : Option (List ℕ)) → IsProp (o ≡ p)
-position_prop o p = hlevel props
-
-pub record_prop : (o p : Option Record) → IsProp (o ≡ p)
-record_prop o p = hlevel props
-
+-- numbers that were or were not there
 pub number_prop : (o p : Option ℕ) → IsProp (o ≡ p)
 number_prop o p = hlevel props
 

@@ -1,7 +1,7 @@
 //! A game's table on trees of pages.
 ghost use Rattle.std.specs.Prelude.{◌≡◌, ◌↔◌, ◌≤◌, ◌^◌, [], false, length, IfSome, IsTrue};
 ghost use Rattle.tree_table.specs.Working.{HoldsWork, IsHonestWork, bare_slot as bare, table_now, work_of};
-ghost use Rattle.tree_table.specs.Last.{IsSeenIn};
+ghost use Rattle.tree_table.specs.Last.{IsLastSeen};
 ghost use Rattle.tree_table.specs.aid.Last.{long_prop, last_prop};
 ghost use Rattle.table.specs.Records.{nothing};
 ghost use Rattle.tree_table.specs.Working as work;
@@ -41,8 +41,8 @@ pub struct TreeTable<P: Pages> {
     ghost holds: { IsHonestWork (work_of slot text.items torn (P.store store))
         → ∥ HoldsWork (work_of slot text.items torn (P.store store)) ∥₁ },
     ghost long: { IfSome seen (λ s. length s.cell.position.items ≡ slot.sizes.packed) } by { long_prop seen slot.sizes.packed },
-    ghost last: { IsHonestWork (work_of slot text.items torn (P.store store))
-        → IfSome seen (IsSeenIn (table_now (work_of slot text.items torn (P.store store)))) } by { last_prop seen (work_of slot text.items torn (P.store store)) },
+    ghost last: { IsLastSeen (work_of slot text.items torn (P.store store)) seen }
+        by { last_prop seen (work_of slot text.items torn (P.store store)) },
 }
 
 impl<P: Pages> TreeTable<P> {

@@ -7,19 +7,19 @@ use denote.Struct.Props.{props}
 use Rattle.retrograde.specs.declared.records.Record.{Record}
 use Rattle.retrograde.specs.Stored.{Stored}
 use Rattle.tree_table.specs.declared.last.Seen.{Seen}
-use Rattle.tree_table.specs.Last.{IsSeenIn}
+use Rattle.tree_table.specs.Last.{IsSeenIn, IsLastSeen}
 use Rattle.tree_table.specs.Working.{Work, table_now, IsHonestWork}
 
-position_prop : (o p : Option (List ℕ)) → IsProp (o ≡ p)
+pub position_prop : (o p : Option (List ℕ)) → IsProp (o ≡ p)
 position_prop o p = hlevel props
 
-record_prop : (o p : Option Record) → IsProp (o ≡ p)
+pub record_prop : (o p : Option Record) → IsProp (o ≡ p)
 record_prop o p = hlevel props
 
 number_prop : (m n : ℕ) → IsProp (m ≡ n)
 number_prop m n = hlevel props
 
-if_prop : {X : Type 0} (P : X → Type 0) (o : Option X) → ((x : X) → IsProp (P x)) → IsProp (IfSome o P)
+pub if_prop : {X : Type 0} (P : X → Type 0) (o : Option X) → ((x : X) → IsProp (P x)) → IsProp (IfSome o P)
 if_prop P (Some x) each = each x
 if_prop P None each = Unit-prop
 
@@ -32,5 +32,5 @@ seen_prop table s x y = λ k. record {
 pub long_prop : (o : Option Seen) (n : ℕ) → IsProp (IfSome o (λ s. length s.cell.position.items ≡ n))
 long_prop o n = if_prop (λ s. length s.cell.position.items ≡ n) o (λ s. number_prop (length s.cell.position.items) n)
 
-pub last_prop : (o : Option Seen) (w : Work) → IsProp (IsHonestWork w → IfSome o (IsSeenIn (table_now w)))
+pub last_prop : (o : Option Seen) (w : Work) → IsProp (IsLastSeen w o)
 last_prop o w f h = λ k honest. if_prop (IsSeenIn (table_now w)) o (seen_prop (table_now w)) (f honest) (h honest) k

@@ -7,7 +7,8 @@ use Rattle.tree_table.specs.Last.{IsSeenIn}
 use Rattle.tree_table.specs.Working.{work_of, table_now, work_there, HoldsWork}
 use Rattle.tree_table.specs.aid.Frames.{honest_before, stays_here, table_same}
 use Rattle.tree_table.proofs.Faults.{passed_on}
-use Rattle.tree_table.proofs.Holding.{only_read, read_fails_so, still_held, still_seen, position_prop, record_prop}
+use Rattle.tree_table.proofs.Holding.{only_read, read_fails_so, still_held, still_seen}
+use Rattle.tree_table.specs.aid.Last.{position_prop, record_prop}
 use Rattle.tree_table.proofs.working.TreeTable.see.Goals as goal
 
 pub returns-then-has_seen-clause-stays : goal.returns-then-has_seen-clause-stays

@@ -1,6 +1,7 @@
 use mathlib.Core.Logic.{∥∥₁_elim}
 use Rattle.tree_table.specs.Working.{work_of, table_now, work_there, HoldsWork}
-use Rattle.tree_table.proofs.Holding.{only_read, still_held, still_seen, read_refused, read_without_page, ok_prop, some_prop, none_prop}
+use Rattle.tree_table.proofs.Holding.{only_read, still_held, still_seen, read_refused, read_without_page, ok_prop, none_prop}
+use Rattle.tree_table.specs.aid.Last.{if_prop}
 use Rattle.tree_table.proofs.Holding.{next_prop, no_more_prop}
 use Rattle.tree_table.proofs.working.TreeTableTable.next_edge.Goals as goal
 
@@ -24,7 +25,7 @@ pub returns-clause-next : goal.returns-clause-next
 returns-clause-next g c = λ honest.
     let self = c.args.self.now in
     let old = work_of self.slot self.text.items self.torn (g.P.Pages.store self.store) in
-    ∥∥₁_elim (self.holds honest) (ok_prop _ c.edge_after.result (λ r. some_prop _ r (λ p. next_prop (table_now old) c.args.successor c.args.after p))) (λ (h : HoldsWork old). c.edge_after.ensures.next honest.disk self.text.items (table_now old) (work_there old h))
+    ∥∥₁_elim (self.holds honest) (ok_prop _ c.edge_after.result (λ r. if_prop _ r (λ p. next_prop (table_now old) c.args.successor c.args.after p))) (λ (h : HoldsWork old). c.edge_after.ensures.next honest.disk self.text.items (table_now old) (work_there old h))
 
 pub returns-clause-none : goal.returns-clause-none
 returns-clause-none g c = λ honest.

@@ -2,7 +2,8 @@ use Rattle.std.proofs.Common.{◌≡◌, ℕ, Some}
 use mathlib.Core.Logic.{∥∥₁_elim}
 use Rattle.std.specs.Prelude.{slice_get}
 use Rattle.tree_table.specs.Working.{work_of, table_now, work_there, HoldsWork}
-use Rattle.tree_table.proofs.Holding.{only_read, still_held, still_seen, read_refused, read_without_page, position_prop, ok_prop, some_prop, none_prop}
+use Rattle.tree_table.proofs.Holding.{only_read, still_held, still_seen, read_refused, read_without_page, ok_prop, none_prop}
+use Rattle.tree_table.specs.aid.Last.{if_prop, position_prop}
 use denote.Struct.Props.{props}
 use Rattle.tree_table.proofs.working.TreeTableTable.number_of.Goals as goal
 
@@ -26,7 +27,7 @@ pub returns-clause-found : goal.returns-clause-found
 returns-clause-found g c = λ honest.
     let self = c.args.self.now in
     let old = work_of self.slot self.text.items self.torn (g.P.Pages.store self.store) in
-    ∥∥₁_elim (self.holds honest) (ok_prop _ c.number_of.result (λ r. some_prop _ r (λ i. position_prop (slice_get (table_now old).positions i) (Some c.args.packed.now.items)))) (λ (h : HoldsWork old). c.number_of.ensures.found honest.disk self.text.items (table_now old) (work_there old h))
+    ∥∥₁_elim (self.holds honest) (ok_prop _ c.number_of.result (λ r. if_prop _ r (λ i. position_prop (slice_get (table_now old).positions i) (Some c.args.packed.now.items)))) (λ (h : HoldsWork old). c.number_of.ensures.found honest.disk self.text.items (table_now old) (work_there old h))
 
 pub returns-clause-unknown : goal.returns-clause-unknown
 returns-clause-unknown g c = λ honest.
