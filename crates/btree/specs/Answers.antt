@@ -1,5 +1,5 @@
 -- What is answered, in the words of the map.
-use Rattle.std.specs.Prelude.{ℕ, List, Option}
+use Rattle.std.specs.Prelude.{ℕ, Bool, true, false, List, Option, Some, None}
 use Rattle.std.specs.Option.{option_map}
 use Rattle.arrayvec.specs.ArrayVec.{ArrayVec}
 use Rattle.btree.specs.Page.{Item}
@@ -8,6 +8,11 @@ use Rattle.btree.specs.declared.find.entry.Entry.{Entry}
 -- the bytes that were found, if any
 abbrev pub found_bytes : Option (ArrayVec ℕ) → Option (List ℕ)
 found_bytes found = option_map (λ v. v.items) found
+
+-- the bytes that a buffer was filled with, if any were found
+abbrev pub filled_bytes : Bool → ArrayVec ℕ → Option (List ℕ)
+filled_bytes true into = Some into.items
+filled_bytes false into = None
 
 -- the entry that was found, if any
 abbrev pub found_entry : Option Entry → Option Item

@@ -8,4 +8,4 @@ mod read;
 mod way;
 
 pub use entry::{Bytes, Entry, copied};
-pub use read::{get, next_after};
+pub use read::{get, get_into, next_after};

@@ -9,7 +9,8 @@ use Rattle.btree.specs.declared.page.kind.Kind.TheVariants.{Leaf, Inner}
 use Rattle.btree.specs.declared.page.widths.Widths.{Widths}
 use Rattle.btree.specs.Page.{items_in, IsPage}
 use Rattle.btree.specs.Entries.{Ascend, find_entry}
-use Rattle.btree.specs.Answers.{found_bytes}
+use Rattle.arrayvec.specs.ArrayVec.{ArrayVec}
+use Rattle.btree.specs.Answers.{filled_bytes}
 use Rattle.btree.specs.aid.Steps.{IsStepDown}
 use Rattle.btree.specs.declared.find.look.Seen.{Seen}
 use Rattle.btree.specs.declared.find.look.Seen.TheVariants.{Value, Child}
@@ -18,11 +19,11 @@ use Rattle.btree.specs.declared.find.look.Seen.TheVariants.{Value, Child}
 abbrev pub LeadsOn : Widths → List ℕ → List ℕ → ℕ → Type 0
 LeadsOn w bytes key child = (next : Option (List ℕ)) × IsStepDown w bytes key child next
 
--- a leaf says what it has at the key, and an inner page where the key belongs
-abbrev pub Sees : Widths → List ℕ → List ℕ → Seen → Type 0
-Sees w bytes key (Value found) = IsPage w Leaf bytes
-    × (Ascend (items_in w Leaf bytes) → found_bytes found ≡ find_entry (items_in w Leaf bytes) key)
-Sees w bytes key (Child child) = IsPage w Inner bytes × LeadsOn w bytes key child
+-- a leaf says what it has at the key, with which the buffer is filled, and an inner page where the key belongs
+abbrev pub Sees : Widths → List ℕ → List ℕ → ArrayVec ℕ → Seen → Type 0
+Sees w bytes key into (Value found) = IsPage w Leaf bytes
+    × (Ascend (items_in w Leaf bytes) → filled_bytes found into ≡ find_entry (items_in w Leaf bytes) key)
+Sees w bytes key into (Child child) = IsPage w Inner bytes × LeadsOn w bytes key child
 
 -- the disk failed; the page is not there, or none of a tree, as far as the disk is honest; or the store is closed
 abbrev pub SeenCause : Widths → ℕ → Store → Store → PageFault → Type 0

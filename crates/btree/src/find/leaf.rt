@@ -3,25 +3,26 @@ ghost use Rattle.std.specs.Prelude.{◌≡◌};
 ghost use Rattle.btree.specs.Page.{items_in, IsPage};
 ghost use Rattle.btree.specs.declared.page.kind.Kind.TheVariants.{Leaf};
 ghost use Rattle.btree.specs.Entries.{Ascend, find_entry, next_after};
-ghost use Rattle.btree.specs.Answers.{found_bytes, found_entry};
+ghost use Rattle.btree.specs.Answers.{filled_bytes, found_entry};
 
-use crate::find::entry::{Bytes, Entry, copied};
+use crate::find::entry::{Bytes, Entry, copied, fill};
 use crate::page::{Kind, Widths, count_of, item_at, place_of};
 
-/// The value at this key, if the leaf has it.
-pub fn value_in(widths: Widths, leaf: &[u8; 4096], key: &[u8]) -> Option<Bytes>
+/// Whether the leaf has this key. The buffer is filled with the value there.
+pub fn value_in(widths: Widths, leaf: &[u8; 4096], key: &[u8], into: &mut Bytes) -> bool
     requires { IsPage widths Leaf leaf.now }
-    ensures { Ascend (items_in widths Leaf leaf.now) → found_bytes result ≡ find_entry (items_in widths Leaf leaf.now) key.now }
+    ensures { Ascend (items_in widths Leaf leaf.now) → filled_bytes result into.new ≡ find_entry (items_in widths Leaf leaf.now) key.now }
 {
     let place = place_of(widths, Kind::Leaf, leaf, key);
     if place == 0 {
-        return None;
+        return false;
     }
     let (found, value) = item_at(widths, Kind::Leaf, leaf, place - 1);
     if found == key {
-        Some(copied(value))
+        fill(into, value);
+        true
     } else {
-        None
+        false
     }
 }
 

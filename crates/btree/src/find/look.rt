@@ -15,8 +15,8 @@ use page_store::{PageFault, Pages};
 /// What a page says of a key.
 #[derive(Drop)]
 pub enum Seen {
-    /// It is a leaf, with this value there, if it has the key.
-    Value(Option<Bytes>),
+    /// It is a leaf, and has the key or not.
+    Value(bool),
     /// It leads to this page.
     Child(u32),
 }
@@ -31,14 +31,14 @@ fn child_in(widths: Widths, bytes: &[u8; 4096], key: &[u8]) -> u32
     BigEndian::read_u32(child)
 }
 
-/// What these bytes say of the key, if they are a page of a tree.
-fn seen_in(widths: Widths, bytes: &[u8; 4096], key: &[u8]) -> Option<Seen>
-    ensures some { IfSome result (λ seen. Sees widths bytes.now key.now seen) }
+/// What these bytes say of the key, if they are a page of a tree. The buffer is filled with a value that is found.
+fn seen_in(widths: Widths, bytes: &[u8; 4096], key: &[u8], into: &mut Bytes) -> Option<Seen>
+    ensures some { IfSome result (λ seen. Sees widths bytes.now key.now into.new seen) }
     ensures none { IfNone result ((kind : Kind) → IsPage widths kind bytes.now → ⊥) }
 {
     match kind_of(widths, bytes) {
         None => None,
-        Some(Kind::Leaf) => Some(Seen::Value(value_in(widths, bytes, key))),
+        Some(Kind::Leaf) => Some(Seen::Value(value_in(widths, bytes, key, into))),
         Some(Kind::Inner) => Some(Seen::Child(child_in(widths, bytes, key))),
     }
 }
@@ -49,42 +49,44 @@ fn look_far<P: Pages>(
     widths: Widths,
     page: u32,
     key: &[u8],
+    into: &mut Bytes,
 ) -> Result<Seen, PageFault>
     ensures seen { IsTrue (P.store store.old).disk.honest
-        → IfOk result (λ seen. Sees widths (reads (P.store store.old) page) key.now seen) }
+        → IfOk result (λ seen. Sees widths (reads (P.store store.old) page) key.now into.new seen) }
     ensures unchanged { IsUnchanged (P.store store.old) (P.store store.new) }
     ensures works { StoreWorks (P.store store.old) (P.store store.new) }
     ensures cause { IfErr result (SeenCause widths page (P.store store.old) (P.store store.new)) }
 {
     let mut bytes = [0; 4096];
     store.read_page(page, &mut bytes)?;
-    match seen_in(widths, &bytes, key) {
+    match seen_in(widths, &bytes, key, into) {
         Some(seen) => Ok(seen),
         None => Err(PageFault::Damaged),
     }
 }
 
-/// What the page says of the key.
+/// What the page says of the key. The buffer is filled with a value that is found.
 pub fn look_at<P: Pages>(
     store: &mut P,
     widths: Widths,
     page: u32,
     key: &[u8],
+    into: &mut Bytes,
 ) -> Result<Seen, PageFault>
     ensures seen { IsTrue (P.store store.old).disk.honest
-        → IfOk result (λ seen. Sees widths (reads (P.store store.old) page) key.now seen) }
+        → IfOk result (λ seen. Sees widths (reads (P.store store.old) page) key.now into.new seen) }
     ensures unchanged { IsUnchanged (P.store store.old) (P.store store.new) }
     ensures works { StoreWorks (P.store store.old) (P.store store.new) }
     ensures cause { IfErr result (SeenCause widths page (P.store store.old) (P.store store.new)) }
 {
     if !store.touch(page) {
-        return look_far(store, widths, page, key);
+        return look_far(store, widths, page, key, into);
     }
     match store.bytes_of(page) {
-        Some(bytes) => match seen_in(widths, bytes, key) {
+        Some(bytes) => match seen_in(widths, bytes, key, into) {
             Some(seen) => Ok(seen),
             None => Err(PageFault::Damaged),
         },
-        None => look_far(store, widths, page, key),
+        None => look_far(store, widths, page, key, into),
     }
 }

@@ -4,7 +4,7 @@ ghost use Rattle.page_store.specs.Store.{StoreWorks, IsUnchanged};
 ghost use Rattle.btree.specs.Page.{Item};
 ghost use Rattle.btree.specs.Changes.{HoldsMap, MapReadCause};
 ghost use Rattle.btree.specs.Entries.{find_entry, next_after as next_in};
-ghost use Rattle.btree.specs.Answers.{found_bytes, found_entry};
+ghost use Rattle.btree.specs.Answers.{filled_bytes, found_bytes, found_entry};
 
 use crate::find::entry::{Bytes, Entry};
 use crate::find::look::{Seen, look_at};
@@ -12,6 +12,34 @@ use crate::find::way::reach_next;
 use crate::map::MAX_LEVELS;
 use crate::page::Widths;
 use page_store::{PageFault, Pages};
+
+/// Whether the map below this root has this key. The buffer is filled with the value there. `Damaged` only where below it is no map, or
+/// the disk is not honest.
+pub fn get_into<P: Pages>(
+    store: &mut P,
+    widths: Widths,
+    root: u32,
+    key: &[u8],
+    into: &mut Bytes,
+) -> Result<bool, PageFault>
+    ensures found { IsTrue (P.store store.old).disk.honest → IfOk result (λ found. (pages : List ℕ) (es : List Item)
+        → HoldsMap widths (P.store store.old) root pages es → filled_bytes found into.new ≡ find_entry es key.now) }
+    ensures unchanged { IsUnchanged (P.store store.old) (P.store store.new) }
+    ensures works { StoreWorks (P.store store.old) (P.store store.new) }
+    ensures cause { IfErr result (MapReadCause widths root (P.store store.old) (P.store store.new)) }
+{
+    if root == 0 {
+        return Ok(false);
+    }
+    let mut page = root;
+    for _ in 0..MAX_LEVELS {
+        match look_at(store, widths, page, key, into)? {
+            Seen::Value(found) => return Ok(found),
+            Seen::Child(child) => page = child,
+        }
+    }
+    Err(PageFault::Damaged)
+}
 
 /// The value at this key in the map below this root. `Damaged` only where below it is no map, or the disk is not honest.
 pub fn get<P: Pages>(
@@ -26,17 +54,12 @@ pub fn get<P: Pages>(
     ensures works { StoreWorks (P.store store.old) (P.store store.new) }
     ensures cause { IfErr result (MapReadCause widths root (P.store store.old) (P.store store.new)) }
 {
-    if root == 0 {
-        return Ok(None);
+    let mut value = Bytes::new();
+    if get_into(store, widths, root, key, &mut value)? {
+        Ok(Some(value))
+    } else {
+        Ok(None)
     }
-    let mut page = root;
-    for _ in 0..MAX_LEVELS {
-        match look_at(store, widths, page, key)? {
-            Seen::Value(value) => return Ok(value),
-            Seen::Child(child) => page = child,
-        }
-    }
-    Err(PageFault::Damaged)
 }
 
 /// The entry with the least key that is greater than this one, in the map below this root. `Damaged` only where below it

@@ -8,8 +8,8 @@ returns-then-place-eq0 c = leaf_begins _ c.args.key.now c.place_of-place.result 
 
 pub returns-then-eq : goal.returns-then-eq
 returns-then-eq c =
-    leaf_has _ c.args.key.now c.item_at.result.0.now c.item_at.result.1.now c.place_of-place.result c.place_of-place.ensures.place c.if-place-eq0.false c.item_at.ensures.got c.copied.result.items
-    ((slice_eq-Decides Decides-eqb _ _ _ c.eq.ensures).0 c.if-eq.true) c.copied.ensures
+    leaf_has _ c.args.key.now c.item_at.result.0.now c.item_at.result.1.now c.place_of-place.result c.place_of-place.ensures.place c.if-place-eq0.false c.item_at.ensures.got c.fill.new.into.items
+    ((slice_eq-Decides Decides-eqb _ _ _ c.eq.ensures).0 c.if-eq.true) c.fill.ensures
 
 pub returns-else-eq : goal.returns-else-eq
 returns-else-eq c =

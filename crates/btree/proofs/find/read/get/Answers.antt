@@ -1,46 +1,12 @@
-use Rattle.std.proofs.Common.{subst}
-use Rattle.page_store.specs.Store.{reads}
-use Rattle.page_store.specs.aid.Works.{works_refl}
-use Rattle.btree.specs.Answers.{found_bytes}
-use Rattle.btree.specs.aid.Seen.{Sees}
-use Rattle.btree.specs.declared.find.look.Seen.{Seen}
-use Rattle.btree.proofs.Asking.{none_found}
-use Rattle.btree.proofs.Going.{sets_out, went_unchanged, went_works, ends_there, goes_on_to, unseen, too_far}
-use Rattle.btree.proofs.FindPassing.{passed_on}
+use Rattle.std.proofs.Common.{◌≡◌, Bool, subst}
+use Rattle.btree.specs.Answers.{filled_bytes}
+use Rattle.btree.specs.Entries.{find_entry}
 use Rattle.btree.proofs.find.read.get.Goals as goal
 
-pub returns-then-root-eq0-clause-found : goal.returns-then-root-eq0-clause-found
-returns-then-root-eq0-clause-found g c = λ honest. none_found c.args.widths (g.P.Pages.store c.args.store.now) c.args.root c.args.key.now c.if-root-eq0.true
+pub returns-then-branch-clause-found : goal.returns-then-branch-clause-found
+returns-then-branch-clause-found g c = λ honest pages es holds.
+    subst (λ (b : Bool). filled_bytes b c.get_into.new.into ≡ find_entry es c.args.key.now) c.if-branch.true (c.in_ok-get_into.ensures.found honest pages es holds)
 
-pub returns-then-root-eq0-clause-works : goal.returns-then-root-eq0-clause-works
-returns-then-root-eq0-clause-works g c = works_refl (g.P.Pages.store c.args.store.now)
-
-pub loop-init : goal.loop-init
-loop-init g c = sets_out c.args.widths (g.P.Pages.store c.args.store.now) c.args.root c.args.key.now c.if-root-eq0.false
-
-pub returns-in_err-value-clause-works : goal.returns-in_err-value-clause-works
-returns-in_err-value-clause-works g c = went_works _ _ _ _ _ _ _ _ c.loop.invariant c.in_err-value.ensures.unchanged c.in_err-value.ensures.works
-
-pub returns-in_err-value-clause-cause : goal.returns-in_err-value-clause-cause
-returns-in_err-value-clause-cause g c =
-    passed_on _ c.from_residual.result _ c.from_residual.ensures
-    (unseen _ _ _ (g.P.Pages.store c.look_at.new.store) _ _ _ _ c.loop.invariant c.in_err-value.ensures.unchanged c.in_err-value.ensures.works _ c.in_err-value.ensures.cause)
-
-pub returns-in-Value-clause-found : goal.returns-in-Value-clause-found
-returns-in-Value-clause-found g c = λ honest.
-    ends_there _ _ _ _ _ _ _ _ c.loop.invariant c.in_ok-value.ensures.unchanged c.in_ok-value.ensures.works (found_bytes c.in-Value.value)
-    (λ h. subst (λ (s : Seen). Sees c.args.widths (reads (g.P.Pages.store c.loop.store) c.loop.page) c.args.key.now s) c.in-Value.is (c.in_ok-value.ensures.seen h)) honest
-
-pub returns-in-Value-clause-unchanged : goal.returns-in-Value-clause-unchanged
-returns-in-Value-clause-unchanged g c = went_unchanged _ _ _ _ _ _ _ _ c.loop.invariant c.in_ok-value.ensures.unchanged c.in_ok-value.ensures.works
-
-pub returns-in-Value-clause-works : goal.returns-in-Value-clause-works
-returns-in-Value-clause-works g c = went_works _ _ _ _ _ _ _ _ c.loop.invariant c.in_ok-value.ensures.unchanged c.in_ok-value.ensures.works
-
-pub loop-preserved : goal.loop-preserved
-loop-preserved g c =
-    goes_on_to _ _ _ _ _ _ _ _ c.loop.invariant c.in_ok-value.ensures.unchanged c.in_ok-value.ensures.works c.in-Child.child
-    (λ h. subst (λ (s : Seen). Sees c.args.widths (reads (g.P.Pages.store c.loop.store) c.loop.page) c.args.key.now s) c.in-Child.is (c.in_ok-value.ensures.seen h))
-
-pub returns-clause-cause : goal.returns-clause-cause
-returns-clause-cause g c = too_far _ _ _ _ _ _ _ c.loop.invariant c.loop-test.false
+pub returns-else-branch-clause-found : goal.returns-else-branch-clause-found
+returns-else-branch-clause-found g c = λ honest pages es holds.
+    subst (λ (b : Bool). filled_bytes b c.get_into.new.into ≡ find_entry es c.args.key.now) c.if-branch.false (c.in_ok-get_into.ensures.found honest pages es holds)
