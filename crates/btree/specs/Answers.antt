@@ -14,6 +14,11 @@ abbrev pub filled_bytes : Bool → ArrayVec ℕ → Option (List ℕ)
 filled_bytes true into = Some into.items
 filled_bytes false into = None
 
+-- the entry that a buffer was filled with, if one was found
+abbrev pub filled_entry : Bool → Entry → Option Item
+filled_entry true into = Some (into.key.items, into.value.items)
+filled_entry false into = None
+
 -- the entry that was found, if any
 abbrev pub found_entry : Option Entry → Option Item
 found_entry found = option_map (λ e. (e.key.items, e.value.items)) found

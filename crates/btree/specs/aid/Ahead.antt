@@ -5,16 +5,18 @@ use Rattle.btree.specs.declared.page.kind.Kind.TheVariants.{Leaf, Inner}
 use Rattle.btree.specs.declared.page.widths.Widths.{Widths}
 use Rattle.btree.specs.Page.{Item, items_in, IsPage}
 use Rattle.btree.specs.Entries.{Ascend, next_after}
-use Rattle.btree.specs.Answers.{found_bytes, found_entry}
+use Rattle.btree.specs.Answers.{found_bytes, filled_entry}
 use Rattle.btree.specs.aid.Steps.{IsStepDown, ReachesLeaf}
 use Rattle.btree.specs.declared.find.ahead.Ahead.{Ahead}
+use Rattle.btree.specs.declared.find.entry.Entry.{Entry}
 use Rattle.btree.specs.declared.find.ahead.Ahead.TheVariants.{Next, Below}
 
--- a leaf says which of its entries comes next, and an inner page where the key belongs and which key is after it
-abbrev pub SeesAhead : Widths → List ℕ → List ℕ → Ahead → Type 0
-SeesAhead w bytes key (Next found) = IsPage w Leaf bytes
-    × (Ascend (items_in w Leaf bytes) → found_entry found ≡ next_after (items_in w Leaf bytes) key)
-SeesAhead w bytes key (Below child behind) = IsPage w Inner bytes × IsStepDown w bytes key child (found_bytes behind)
+-- a leaf says which of its entries comes next, with which the buffer is filled, and an inner page where the key belongs and which key is
+-- after it
+abbrev pub SeesAhead : Widths → List ℕ → List ℕ → Entry → Ahead → Type 0
+SeesAhead w bytes key into (Next found) = IsPage w Leaf bytes
+    × (Ascend (items_in w Leaf bytes) → filled_entry found into ≡ next_after (items_in w Leaf bytes) key)
+SeesAhead w bytes key into (Below child behind) = IsPage w Inner bytes × IsStepDown w bytes key child (found_bytes behind)
 
 -- a leaf where the key belongs was reached, which has this as the next entry
 pub record ReachesNext (w : Widths) (store : Store) (root : ℕ) (key : List ℕ) (entry : Option Item) (next : Option (List ℕ)) : Type 0 where

@@ -15,20 +15,20 @@ use page_store::{PageFault, Pages};
 /// What a page says of the entries after a key.
 #[derive(Drop)]
 pub enum Ahead {
-    /// It is a leaf, and this is the next of its entries, if there is one.
-    Next(Option<Entry>),
+    /// It is a leaf, and has a next entry or not.
+    Next(bool),
     /// It leads to this page, after which this key comes, if there is one.
     Below(u32, Option<Bytes>),
 }
 
-/// What these bytes say, if they are a page of a tree.
-fn ahead_in(widths: Widths, bytes: &[u8; 4096], key: &[u8]) -> Option<Ahead>
-    ensures some { IfSome result (λ ahead. SeesAhead widths bytes.now key.now ahead) }
+/// What these bytes say, if they are a page of a tree. The buffer is filled with an entry that is found.
+fn ahead_in(widths: Widths, bytes: &[u8; 4096], key: &[u8], into: &mut Entry) -> Option<Ahead>
+    ensures some { IfSome result (λ ahead. SeesAhead widths bytes.now key.now into.new ahead) }
     ensures none { IfNone result ((kind : Kind) → IsPage widths kind bytes.now → ⊥) }
 {
     match kind_of(widths, bytes) {
         None => None,
-        Some(Kind::Leaf) => Some(Ahead::Next(entry_after(widths, bytes, key))),
+        Some(Kind::Leaf) => Some(Ahead::Next(entry_after(widths, bytes, key, into))),
         Some(Kind::Inner) => {
             let (child, behind) = step(widths, bytes, key);
             Some(Ahead::Below(child, behind))
@@ -42,42 +42,44 @@ fn ahead_far<P: Pages>(
     widths: Widths,
     page: u32,
     key: &[u8],
+    into: &mut Entry,
 ) -> Result<Ahead, PageFault>
     ensures seen { IsTrue (P.store store.old).disk.honest
-        → IfOk result (λ ahead. SeesAhead widths (reads (P.store store.old) page) key.now ahead) }
+        → IfOk result (λ ahead. SeesAhead widths (reads (P.store store.old) page) key.now into.new ahead) }
     ensures unchanged { IsUnchanged (P.store store.old) (P.store store.new) }
     ensures works { StoreWorks (P.store store.old) (P.store store.new) }
     ensures cause { IfErr result (SeenCause widths page (P.store store.old) (P.store store.new)) }
 {
     let mut bytes = [0; 4096];
     store.read_page(page, &mut bytes)?;
-    match ahead_in(widths, &bytes, key) {
+    match ahead_in(widths, &bytes, key, into) {
         Some(ahead) => Ok(ahead),
         None => Err(PageFault::Damaged),
     }
 }
 
-/// What the page says.
+/// What the page says. The buffer is filled with an entry that is found.
 pub fn ahead_at<P: Pages>(
     store: &mut P,
     widths: Widths,
     page: u32,
     key: &[u8],
+    into: &mut Entry,
 ) -> Result<Ahead, PageFault>
     ensures seen { IsTrue (P.store store.old).disk.honest
-        → IfOk result (λ ahead. SeesAhead widths (reads (P.store store.old) page) key.now ahead) }
+        → IfOk result (λ ahead. SeesAhead widths (reads (P.store store.old) page) key.now into.new ahead) }
     ensures unchanged { IsUnchanged (P.store store.old) (P.store store.new) }
     ensures works { StoreWorks (P.store store.old) (P.store store.new) }
     ensures cause { IfErr result (SeenCause widths page (P.store store.old) (P.store store.new)) }
 {
     if !store.touch(page) {
-        return ahead_far(store, widths, page, key);
+        return ahead_far(store, widths, page, key, into);
     }
     match store.bytes_of(page) {
-        Some(bytes) => match ahead_in(widths, bytes, key) {
+        Some(bytes) => match ahead_in(widths, bytes, key, into) {
             Some(ahead) => Ok(ahead),
             None => Err(PageFault::Damaged),
         },
-        None => ahead_far(store, widths, page, key),
+        None => ahead_far(store, widths, page, key, into),
     }
 }

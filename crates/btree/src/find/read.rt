@@ -6,7 +6,7 @@ ghost use Rattle.btree.specs.Changes.{HoldsMap, MapReadCause};
 ghost use Rattle.btree.specs.Entries.{find_entry, next_after as next_in};
 ghost use Rattle.btree.specs.Answers.{filled_bytes, found_bytes, found_entry};
 
-use crate::find::entry::{Bytes, Entry};
+use crate::find::entry::{Bytes, Entry, no_entry};
 use crate::find::look::{Seen, look_at};
 use crate::find::way::reach_next;
 use crate::map::MAX_LEVELS;
@@ -79,15 +79,18 @@ pub fn next_after<P: Pages>(
     if root == 0 {
         return Ok(None);
     }
-    let (ahead, behind) = reach_next(store, widths, root, key)?;
-    if let Some(entry) = ahead {
+    let mut entry = no_entry();
+    let (found, behind) = reach_next(store, widths, root, key, &mut entry)?;
+    if found {
         return Ok(Some(entry));
     }
     let Some(next) = behind else {
         return Ok(None);
     };
-    match get(store, widths, root, &next)? {
-        Some(value) => Ok(Some(Entry { key: next, value })),
-        None => Err(PageFault::Damaged),
+    if get_into(store, widths, root, &next, &mut entry.value)? {
+        entry.key = next;
+        Ok(Some(entry))
+    } else {
+        Err(PageFault::Damaged)
     }
 }

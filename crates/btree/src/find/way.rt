@@ -5,7 +5,7 @@ ghost use Rattle.page_store.specs.Store.{StoreWorks, IsUnchanged};
 ghost use Rattle.btree.specs.Page.{items_in, IsPage};
 ghost use Rattle.btree.specs.declared.page.kind.Kind.TheVariants.{Inner};
 ghost use Rattle.btree.specs.Changes.{MapReadCause};
-ghost use Rattle.btree.specs.Answers.{found_bytes, found_entry};
+ghost use Rattle.btree.specs.Answers.{found_bytes, filled_entry};
 ghost use Rattle.btree.specs.aid.Ahead.{ReachesNext};
 ghost use Rattle.btree.specs.aid.Steps.{IsStepDown};
 
@@ -40,17 +40,18 @@ pub fn step(widths: Widths, bytes: &[u8; 4096], key: &[u8]) -> (u32, Option<Byte
     (BigEndian::read_u32(child), key_at(widths, bytes, at + 1))
 }
 
-/// Looks down from this root to the leaf where the key belongs. Answers the leaf's next entry, if it has one, and the first
-/// key of the entries after the leaf.
+/// Looks down from this root to the leaf where the key belongs. Answers whether the leaf has a next entry, with which the buffer is
+/// filled, and the first key of the entries after the leaf.
 pub fn reach_next<P: Pages>(
     store: &mut P,
     widths: Widths,
     root: u32,
     key: &[u8],
-) -> Result<(Option<Entry>, Option<Bytes>), PageFault>
+    into: &mut Entry,
+) -> Result<(bool, Option<Bytes>), PageFault>
     requires { root ≢ 0 }
     ensures reaches { IsTrue (P.store store.old).disk.honest
-        → IfOk result (λ r. ReachesNext widths (P.store store.old) root key.now (found_entry r.0) (found_bytes r.1)) }
+        → IfOk result (λ r. ReachesNext widths (P.store store.old) root key.now (filled_entry r.0 into.new) (found_bytes r.1)) }
     ensures unchanged { IsUnchanged (P.store store.old) (P.store store.new) }
     ensures works { StoreWorks (P.store store.old) (P.store store.new) }
     ensures cause { IfErr result (MapReadCause widths root (P.store store.old) (P.store store.new)) }
@@ -58,8 +59,8 @@ pub fn reach_next<P: Pages>(
     let mut page = root;
     let mut next = None;
     for _ in 0..MAX_LEVELS {
-        match ahead_at(store, widths, page, key)? {
-            Ahead::Next(entry) => return Ok((entry, next)),
+        match ahead_at(store, widths, page, key, into)? {
+            Ahead::Next(found) => return Ok((found, next)),
             Ahead::Below(child, behind) => {
                 page = child;
                 next = behind.or(next);

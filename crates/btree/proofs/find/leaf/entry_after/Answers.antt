@@ -5,7 +5,7 @@ use Rattle.btree.proofs.find.leaf.entry_after.Goals as goal
 
 pub returns-then-place-count_of : goal.returns-then-place-count_of
 returns-then-place-count_of c =
-    leaf_after _ c.args.key.now _ _ _ _ c.place_of-place.result c.place_of-place.ensures.place c.item_at.ensures.got c.copied.ensures c.copied-then-place-count_of.ensures
+    leaf_after _ c.args.key.now _ _ _ _ c.place_of-place.result c.place_of-place.ensures.place c.item_at.ensures.got c.fill.ensures c.fill-then-place-count_of.ensures
 
 pub returns-else-place-count_of : goal.returns-else-place-count_of
 returns-else-place-count_of c =
