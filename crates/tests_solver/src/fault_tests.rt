@@ -20,10 +20,12 @@ const TO_OPEN: u64 = 4 + 8 * 4;
 const TO_OPEN_UNCACHED: u64 = 4 + 8 * 8;
 
 /// The disk calls of seven units, each of which expands a position, without those of the commit. Each tree is one leaf, or empty at
-/// first. The leaf of the positions is read once, that of the records is in memory. A put writes its leaf: each of the six positions that
-/// come in is put into positions and records, each of the seven edges once, each of the seven records that are changed, and each of the
-/// two numbers that are settled.
-const TO_WORK: u64 = 8 * (1 + 6 * 2 + 7 + 7 + 2);
+/// first. The leaf of the positions is read once, that of the records is in memory. There are 28 puts: each of the six positions that come
+/// in is put into positions and records, each of the seven edges once, each of the seven records that are changed, and each of the two
+/// numbers that are settled. Five write the eight sectors of their leaf: the first one into each of the four trees, and that of the record
+/// of number 0, before which no entry stands. The others change a leaf where it stands, and write its first sector, in which all of its
+/// entries lie.
+const TO_WORK: u64 = 8 * (1 + 5) + (6 * 2 + 7 + 7 + 2 - 5);
 
 /// The same with no page in memory. A look at a tree reads its page, and a put reads and writes it; the first edge and the first settled
 /// number write alone. A unit reads the position (1 page; that of number 0 was seen as the table was opened), looks for the number of each
