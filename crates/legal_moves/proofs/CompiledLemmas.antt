@@ -1,5 +1,5 @@
 -- A compiled game: its tables, and the start.
-use Rattle.std.proofs.Common.{◌≡◌, ℕ, zero, suc, ◌-◌, ◌<◌, ◌≤◌, List, [], ◌∷◌, length, map, take, slice_get, slice_index, unwrap_or, refl, sym, ap, ◌∙◌, subst, arith, length-append}
+use Rattle.std.proofs.Common.{◌≡◌, ℕ, zero, suc, Some, ◌+◌, ◌-◌, ◌<◌, ◌≤◌, ◌⊎◌, inl, inr, List, [], ◌∷◌, ◌++◌, length, map, take, slice_get, slice_index, unwrap_or, refl, sym, ap, ◌∙◌, subst, arith, length-append}
 use Rattle.std.proofs.lemmas.List.{length-map, take_all}
 use Rattle.std.proofs.lemmas.List.Elements.{All-map, All-weaker}
 use Rattle.arrayvec.specs.ArrayVec.{ArrayVec}
@@ -7,18 +7,20 @@ use Rattle.rbg_game.specs.declared.game.Game.{Game as ProgramGame}
 use Rattle.rbg_game.specs.declared.roles.Role.TheVariants.{Keeper}
 use Rattle.rbg_game.specs.declared.position.Position.{Position}
 use Rattle.rbg_game.specs.Meaning.{game_of, vertex_of, variable_of}
-use Rattle.rbg_game.specs.Rules.{empty}
+use Rattle.rbg_game.specs.Rules.{Regex, one, empty, cat, alt, star, Action, shift, on, off, assignment, comparison, switch, pattern}
 use Rattle.rbg_game.specs.Games.{Game}
-use Rattle.rbg_game.specs.Sound.{IsSoundGame, IsSoundRegex, IsSoundVertex, whole_count}
+use Rattle.rbg_game.specs.Sound.{IsSoundGame, IsSoundRegex, IsSoundAction, IsSoundVertex, whole_count, inner_count}
 use Rattle.rbg_game.specs.Positions.{IsPositionOf}
 use Rattle.legal_moves.specs.Moves.{start_of}
-use Rattle.legal_moves.specs.Tables.{inner_of, AreTables}
+use Rattle.legal_moves.specs.Tables.{inner_of, inner_in, AreTables}
 use Rattle.legal_moves.specs.Configurations.{expressions_of, Configuration}
 use Rattle.legal_moves.specs.aid.Configurations.{expression_at, IsReady, IsSearch}
 use Rattle.legal_moves.specs.Searches.{IsWideFrom}
 use Rattle.rbg_game.specs.declared.position.SemiState.{SemiState}
 use Rattle.legal_moves.specs.declared.table.Table.{Table}
-use Rattle.legal_moves.proofs.GetLemmas.{slice_get-end}
+use Rattle.legal_moves.proofs.GetLemmas.{slice_get-push, slice_get-end}
+use Rattle.legal_moves.proofs.ReadyLemmas.{get_within}
+use Rattle.legal_moves.proofs.StepLemmas.{slice_get-append_cases}
 
 pub AreTables-none : (tables : List Table) → tables ≡ [] → AreTables [] tables
 AreTables-none tables none = record {
@@ -95,3 +97,56 @@ pub rules_wide : (game : Game) (tables : List Table) (n place : ℕ) (S T : Semi
 rules_wide game tables n place S T are many same h =
     subst (λ V. IsWideFrom game game.rules place V) same
     (subst (λ e. IsWideFrom game e place S) (ap (λ m. expression_at game (m - 1)) many ∙ rules_last game tables are) h)
+
+-- ---- each expression that is searched
+
+module _ (game : Game) where
+  -- it is sound, and has no more actions than that
+  abbrev IsSoundWithin : ℕ → Regex → Type 0
+  IsSoundWithin n d = IsSoundRegex game d × (whole_count d ≤ n)
+
+  within_both : (xs ys : List Regex) (m n : ℕ) → ((i : ℕ) (d : Regex) → slice_get xs i ≡ Some d → IsSoundWithin m d) → ((i : ℕ) (d : Regex) → slice_get ys i ≡ Some d → IsSoundWithin n d) → (i : ℕ) (d : Regex) → slice_get (xs ++ ys) i ≡ Some d → IsSoundWithin (m + n) d
+  within_both xs ys m n left right i d at = go (slice_get-append_cases xs ys i d at)
+    where
+      go : (slice_get xs i ≡ Some d) ⊎ ((j : ℕ) × (i ≡ length xs + j) × (slice_get ys j ≡ Some d)) → IsSoundWithin (m + n) d
+      go (inl h) = let r = left i d h in (r.0, omega (arith, r.1))
+      go (inr h) = let r = right h.0 d h.2 in (r.0, omega (arith, r.1))
+
+  within_push : (xs : List Regex) (e : Regex) (n : ℕ) → IsSoundWithin n e → ((i : ℕ) (d : Regex) → slice_get xs i ≡ Some d → IsSoundWithin n d) → (i : ℕ) (d : Regex) → slice_get (xs ++ e ∷ []) i ≡ Some d → IsSoundWithin n d
+  within_push xs e n last before i d at = go (slice_get-push xs e i d at)
+    where
+      go : (slice_get xs i ≡ Some d) ⊎ (i ≡ length xs) × (d ≡ e) → IsSoundWithin n d
+      go (inl h) = before i d h
+      go (inr h) = subst (IsSoundWithin n) (sym h.1) last
+
+  nothing_within : (n i : ℕ) (d : Regex) → slice_get [] i ≡ Some d → IsSoundWithin n d
+  nothing_within n i d at = absurd (cc)
+
+  mutual
+    sound_inner : (e : Regex) → IsSoundRegex game e → (i : ℕ) (d : Regex) → slice_get (inner_of e) i ≡ Some d → IsSoundWithin (whole_count e) d
+    sound_inner (one a) h i d at = let r = sound_in a h i d at in (r.0, omega (arith, r.1))
+    sound_inner empty h i d at = nothing_within 0 i d at
+    sound_inner (cat a b) h i d at = within_both (inner_of a) (inner_of b) (whole_count a) (whole_count b) (sound_inner a h.0) (sound_inner b h.1) i d at
+    sound_inner (alt a b) h i d at = within_both (inner_of a) (inner_of b) (whole_count a) (whole_count b) (sound_inner a h.0) (sound_inner b h.1) i d at
+    sound_inner (star a) h i d at = sound_inner a h i d at
+
+    sound_in : (a : Action) → IsSoundAction game a → (i : ℕ) (d : Regex) → slice_get (inner_in a) i ≡ Some d → IsSoundWithin (inner_count a) d
+    sound_in (pattern positive e) h i d at = within_push (inner_of e) e (whole_count e) (h.1, omega arith) (sound_inner e h.1) i d at
+    sound_in (shift l) h i d at = nothing_within 0 i d at
+    sound_in (on xs) h i d at = nothing_within 0 i d at
+    sound_in (off x) h i d at = nothing_within 0 i d at
+    sound_in (assignment v r) h i d at = nothing_within 0 i d at
+    sound_in (comparison a op b) h i d at = nothing_within 0 i d at
+    sound_in (switch r) h i d at = nothing_within 0 i d at
+
+  pub all_ready : (tables : List Table) → AreTables (expressions_of game) tables → IsSoundGame game → (i : ℕ) → i < length tables → IsReady game tables i
+  all_ready tables are sound i inside =
+      let there = get_within (expressions_of game) i (omega (arith, are.as_many, inside)) in
+      let good = within_push (inner_of game.rules) game.rules (whole_count game.rules) (sound.rules_are, omega arith) (sound_inner game.rules sound.rules_are) i (expression_at game i) there in
+      record {
+        sound = sound;
+        tables_are = are;
+        within = inside;
+        expression_is = good.0;
+        small = omega (arith, good.1, sound.few_actions);
+      }

@@ -47,3 +47,8 @@ all_zip-weaker R S f [] [] h = h
 all_zip-weaker R S f [] (y ∷ ys) h = absurd h
 all_zip-weaker R S f (x ∷ xs) [] h = absurd h
 all_zip-weaker R S f (x ∷ xs) (y ∷ ys) h = (f x y h.0, all_zip-weaker R S f xs ys h.1)
+
+pub slice_get-there : {A : Type 0} (xs : List A) (i : ℕ) → i < length xs → (x : A) × (slice_get xs i ≡ Some x)
+slice_get-there [] i h = absurd (omega (arith, h))
+slice_get-there (x ∷ xs) zero h = (x, refl)
+slice_get-there (x ∷ xs) (suc i) h = slice_get-there xs i (omega (arith, h))

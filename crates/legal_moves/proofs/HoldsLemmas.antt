@@ -1,5 +1,5 @@
 -- A pattern holds where its search says so.
-use Rattle.std.proofs.Common.{◌≡◌, ℕ, zero, suc, ◌+◌, ◌==◌, ◌||◌, ◌⊎◌, inl, inr, Bool, true, false, List, [], ◌∷◌, Option, Some, None, slice_get, Contains, refl, sym, ap, ◌∙◌, subst, arith}
+use Rattle.std.proofs.Common.{◌≡◌, ℕ, zero, suc, ◌+◌, ◌==◌, ◌||◌, ◌⊎◌, inl, inr, Bool, true, false, List, [], ◌∷◌, Option, Some, None, slice_get, slice_index_or, Contains, refl, sym, ap, ◌∙◌, subst, arith}
 use Rattle.std.specs.Bool.{MatchBool}
 use Rattle.std.specs.List.{list_any}
 use Rattle.std.proofs.lemmas.Bool.{eqb-true, eq-eqb}
@@ -53,7 +53,7 @@ none_switches e h k = go (action_at e 1 k) refl
 
 -- ---- an element that passes
 
-list_any-found : {A : Type 0} (test : A → Bool) (xs : List A) → list_any test xs ≡ true → (i : ℕ) × (x : A) × (slice_get xs i ≡ Some x) × (test x ≡ true)
+pub list_any-found : {A : Type 0} (test : A → Bool) (xs : List A) → list_any test xs ≡ true → (i : ℕ) × (x : A) × (slice_get xs i ≡ Some x) × (test x ≡ true)
 list_any-found test [] h = absurd (cc)
 list_any-found test (x ∷ xs) h = go (test x) refl h (list_any-found test xs)
   where
@@ -61,7 +61,7 @@ list_any-found test (x ∷ xs) h = go (test x) refl h (list_any-found test xs)
     go true is e rest = (0, x, refl, is)
     go false is e rest = let r = rest e in (suc r.0, r.1, r.2, r.3)
 
-list_any-by : {A : Type 0} (test : A → Bool) (xs : List A) (i : ℕ) (x : A) → slice_get xs i ≡ Some x → test x ≡ true → list_any test xs ≡ true
+pub list_any-by : {A : Type 0} (test : A → Bool) (xs : List A) (i : ℕ) (x : A) → slice_get xs i ≡ Some x → test x ≡ true → list_any test xs ≡ true
 list_any-by test [] i x at is = absurd (cc)
 list_any-by test (y ∷ xs) zero x at is = let same : y ≡ x = cc in ap (λ t. t || list_any test xs) (ap test same ∙ is)
 list_any-by test (y ∷ xs) (suc i) x at is = or_true (test y) (list_any test xs) (list_any-by test xs i x at is)
@@ -111,6 +111,17 @@ module _ (game : Game) (tables : List Table) (index : ℕ) (ready : IsReady game
           let any = list_any-by (λ (c : Configuration). list_any (λ k. k == c.at.place) table.ends.last.items) cs f.index f.configuration f.is_at (any_contains table.ends.last.items f.configuration.at.place there) in
           let never : false ≡ true = is ∙ any in
           cc
+
+-- ---- a number is marked where a word can end there
+
+module _ (game : Game) (tables : List Table) (index : ℕ) (ready : IsReady game tables index) (table : Table) (table_at : slice_get tables index ≡ Some table) where
+  pub last_by_mark : (k : ℕ) → slice_index_or table.lasts.items k false ≡ true → IsLast (expression_at game index) 1 k
+  last_by_mark k marked =
+      (contains_ends game tables index ready table table_at k).0 (contains_any table.ends.last.items k (sym ((is_table game tables index ready table table_at).lasts_are k) ∙ marked))
+
+  pub mark_by_last : (k : ℕ) → IsLast (expression_at game index) 1 k → slice_index_or table.lasts.items k false ≡ true
+  mark_by_last k last =
+      (is_table game tables index ready table table_at).lasts_are k ∙ any_contains table.ends.last.items k ((contains_ends game tables index ready table table_at k).1 last)
 
 -- ---- a word ends at a configuration that was found, whether the search has ended or not
 

@@ -1,5 +1,5 @@
 -- A search of shifts, sets and comparisons alone comes to few configurations, so that it is not too wide.
-use Rattle.std.proofs.Common.{◌≡◌, ℕ, zero, suc, ◌+◌, ◌-◌, ◌*◌, ◌<◌, ◌≤◌, ◌⊎◌, inl, inr, Bool, true, false, List, [], ◌∷◌, ◌++◌, length, map, get_or, Some, slice_get, All, Contains, refl, sym, ap, ◌∙◌, subst, arith, length-append}
+use Rattle.std.proofs.Common.{◌≡◌, ℕ, zero, suc, ◌+◌, ◌-◌, ◌*◌, ◌<◌, ◌≤◌, ◌⊎◌, inl, inr, true, false, List, [], ◌∷◌, ◌++◌, length, map, get_or, Some, slice_get, Contains, refl, sym, ap, ◌∙◌, subst, arith, length-append}
 use Rattle.std.proofs.Math.Nat.{suc-mul}
 use Rattle.std.proofs.lemmas.Bool.{cases_lt}
 use Rattle.std.proofs.lemmas.List.{length-map}
@@ -13,7 +13,6 @@ use Rattle.rbg_game.specs.declared.position.SemiState.{SemiState}
 use Rattle.legal_moves.specs.Effects.{Effect}
 use Rattle.legal_moves.specs.Searches.{place_at, Reaches, Searched, begun, gone, IsWideFrom, many, within}
 use Rattle.legal_moves.specs.Tables.{IsStep}
-use Rattle.legal_moves.specs.Configurations.{expressions_of}
 use Rattle.legal_moves.specs.aid.Configurations.{expression_at, IsReady}
 use Rattle.legal_moves.specs.aid.Looking.{at_vertex}
 use Rattle.legal_moves.specs.aid.Narrow.{looks_alone, step_looks, AreFewLooks}
@@ -83,7 +82,7 @@ in_pairs S n (suc v) w k less low = go (cases_lt w v) (in_pairs S n v w k)
 
 -- ---- actions that look alone change the vertex at most
 
-moved : (game : Game) (a : Action) (T U : SemiState) → looks_alone a ≡ true → Effect game a T U → U ≡ at_vertex T U.vertex
+pub moved : (game : Game) (a : Action) (T U : SemiState) → looks_alone a ≡ true → Effect game a T U → U ≡ at_vertex T U.vertex
 moved game (shift l) T U is h = h.2 ∙ sym (ap (λ X. at_vertex T X.vertex) h.2)
 moved game (on xs) T U is h = h.0 ∙ sym (ap (λ X. at_vertex T X.vertex) h.0)
 moved game (comparison a op b) T U is h = h.0 ∙ sym (ap (λ X. at_vertex T X.vertex) h.0)
@@ -138,7 +137,7 @@ step_alone es (Act x) a h is = subst (λ b. looks_alone b ≡ true) h.0 is
 step_alone es (Ask positive i) a h is = absurd (cc)
 
 module _ (game : Game) (tables : List Table) (index : ℕ) (ready : IsReady game tables index) (table : Table) (table_at : slice_get tables index ≡ Some table) (few : AreFewLooks table.steps.items) where
-  alone : (k : ℕ) (a : Action) → action_at (expression_at game index) 1 k ≡ Some a → looks_alone a ≡ true
+  pub alone : (k : ℕ) (a : Action) → action_at (expression_at game index) 1 k ≡ Some a → looks_alone a ≡ true
   alone k a at =
       let range = action_at-in_range (expression_at game index) 1 k a at in
       let many_steps = count_steps game tables index ready table table_at in

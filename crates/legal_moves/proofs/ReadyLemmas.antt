@@ -20,7 +20,9 @@ use Rattle.legal_moves.specs.Listing.{AreListed, list_at}
 use Rattle.legal_moves.specs.Searches.{IsWideFrom}
 use Rattle.legal_moves.specs.aid.Searches.{IsLegal}
 use Rattle.legal_moves.specs.Tables.{is_pattern, actions_of, IsStep, IsExpressionTable}
+use Rattle.legal_moves.specs.Jumps.{label_in}
 use Rattle.legal_moves.specs.aid.Tables.{switches, modifies}
+use Rattle.legal_moves.specs.aid.Walks.{step_label}
 use Rattle.legal_moves.specs.Configurations.{expressions_of}
 use Rattle.legal_moves.specs.aid.Configurations.{expression_at, IsReady, AsksTooMuch}
 use Rattle.rbg_game.specs.declared.rules.Action.{Action as ProgramAction}
@@ -42,7 +44,7 @@ take_at (suc n) [] i x h = absurd (cc)
 take_at (suc n) (y ∷ xs) zero x h = (omega arith, h)
 take_at (suc n) (y ∷ xs) (suc i) x h = let r = take_at n xs i x h in (omega (arith, r.0), r.1)
 
-get_within : (es : List Regex) (i : ℕ) → i < length es → slice_get es i ≡ Some (unwrap_or (slice_get es i) empty)
+pub get_within : (es : List Regex) (i : ℕ) → i < length es → slice_get es i ≡ Some (unwrap_or (slice_get es i) empty)
 get_within [] i h = absurd (omega (arith, h))
 get_within (e ∷ es) zero h = refl
 get_within (e ∷ es) (suc i) h = get_within es i (omega (arith, h))
@@ -54,6 +56,10 @@ step_switches es (Ask positive i) a h = sym (ap (λ b. is_switch (Some b)) h.2)
 pub step_modifies : (es : List Regex) (s : Step) (a : Action) → IsStep es s a → modifies s ≡ is_modifier (Some a)
 step_modifies es (Act x) a h = ap (λ b. is_modifier (Some b)) h.0
 step_modifies es (Ask positive i) a h = sym (ap (λ b. is_modifier (Some b)) h.2)
+
+step_labels : (es : List Regex) (s : Step) (a : Action) → IsStep es s a → step_label s ≡ label_in (Some a)
+step_labels es (Act x) a h = ap (λ b. label_in (Some b)) h.0
+step_labels es (Ask positive i) a h = sym (ap (λ b. label_in (Some b)) h.2)
 
 OnTrue-by : (r : Bool) (P Q : Type 0) → (P → Q) → OnTrue r P → OnTrue r Q
 OnTrue-by true P Q f h = f h
@@ -104,6 +110,9 @@ module _ (game : Game) (tables : List Table) (index : ℕ) (ready : IsReady game
       pub modifies_is : modifies step ≡ is_modifier (action_at (expression_at game index) 1 number)
       modifies_is = step_modifies (take index (expressions_of game)) step has_action.action has_action.step_is ∙ ap is_modifier (sym has_action.action_is)
 
+      pub label_there : step_label step ≡ label_in (action_at (expression_at game index) 1 number)
+      label_there = step_labels (take index (expressions_of game)) step has_action.action has_action.step_is ∙ ap label_in (sym has_action.action_is)
+
       good : IsSoundAction game has_action.action
       good = sound_at game (expression_at game index) 1 number has_action.action ready.expression_is has_action.action_is
 
@@ -142,7 +151,7 @@ module _ (game : Game) (tables : List Table) (index : ℕ) (ready : IsReady game
         pub act_tells : (S : SemiState) (g : Glance) → GlanceTells game (action_of x) S g → TellsAt game (expression_at game index) number S g
         act_tells S Fails h = act_never S h
         act_tells S (At v) h = (EffectAt-by_action game (expression_at game index) 1 number (action_of x) S (at_vertex S v) at_number h.0, subst IsLook (sym at_number) h.1)
-        act_tells S Writes h = subst IsNoPattern (sym at_number) h
+        act_tells S Writes h = subst IsNoPattern (sym at_number) h.0
 
         pub act_narrow : (S : SemiState) → ¬ AsksTooMuch game (expression_at game index) number S
         act_narrow S asks =

@@ -1,5 +1,5 @@
 -- The same positions by another packing.
-use Rattle.std.proofs.Common.{◌≡◌, ℕ, zero, suc, ◌<◌, List, [], ◌∷◌, ◌++◌, length, get_or, refl, ap, sym, ◌∙◌, subst, arith}
+use Rattle.std.proofs.Common.{◌≡◌, ℕ, zero, suc, ◌<◌, List, [], ◌∷◌, length, get_or, refl, ap, sym, ◌∙◌, subst, arith}
 use Rattle.std.specs.Prelude.{All, AllPairs, Contains}
 use Rattle.std.proofs.lemmas.List.{get_or_default}
 use Rattle.std.specs.Ordering.{nat_cmp}
@@ -13,7 +13,7 @@ use Rattle.position_pack.specs.declared.kind.PackingKind.TheVariants.{Bytes}
 use Rattle.position_pack.specs.Shape.{shape_of}
 use Rattle.position_pack.specs.Bytes.{bytes_of}
 use Rattle.position_pack.specs.Packings.{Form, form_of, packed_by, IsPacked}
-use Rattle.position_pack.proofs.ShapeLemmas.{small_shape, fits, is_position}
+use Rattle.position_pack.proofs.ShapeLemmas.{small_shape, is_position}
 use Rattle.position_pack.proofs.PackingLemmas.{packed_order}
 use Rattle.legal_moves.specs.Listed.{ListsExactly, IsSuccessorBytes}
 use Rattle.legal_moves.specs.Sources.{IsAt, IsMoveBetween}

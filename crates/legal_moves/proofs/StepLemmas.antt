@@ -23,7 +23,7 @@ length_actions (cat a b) = omega (arith, length-append (actions_of a) (actions_o
 length_actions (alt a b) = omega (arith, length-append (actions_of a) (actions_of b), length_actions a, length_actions b)
 length_actions (star a) = length_actions a
 
-slice_get-append_cases : {A : Type 0} (xs ys : List A) (k : ℕ) (x : A) → slice_get (xs ++ ys) k ≡ Some x → (slice_get xs k ≡ Some x) ⊎ ((j : ℕ) × (k ≡ length xs + j) × (slice_get ys j ≡ Some x))
+pub slice_get-append_cases : {A : Type 0} (xs ys : List A) (k : ℕ) (x : A) → slice_get (xs ++ ys) k ≡ Some x → (slice_get xs k ≡ Some x) ⊎ ((j : ℕ) × (k ≡ length xs + j) × (slice_get ys j ≡ Some x))
 slice_get-append_cases [] ys k x h = inr (k, omega arith, h)
 slice_get-append_cases (y ∷ xs) ys zero x h = inl h
 slice_get-append_cases (y ∷ xs) ys (suc k) x h = go (slice_get-append_cases xs ys k x h)
@@ -109,7 +109,7 @@ all_at P [] i x h is = absurd (cc)
 all_at P (y ∷ xs) zero x h is = let same : y ≡ x = cc in subst P same (All-head P y xs h)
 all_at P (y ∷ xs) (suc i) x h is = all_at P xs i x (All-tail P y xs h) is
 
-neighbour_within : (game : Game) (from l v : ℕ) → IsSoundGame game → neighbour game from l ≡ Some v → v < length game.vertices
+pub neighbour_within : (game : Game) (from l v : ℕ) → IsSoundGame game → neighbour game from l ≡ Some v → v < length game.vertices
 neighbour_within game from l v sound is = go (slice_get game.vertices from) refl is
   where
     leads : (vertex : Vertex) → slice_get game.vertices from ≡ Some vertex → (o : Option Arrow) → find (λ a. a.label == l) vertex.arrows ≡ o → option_map (λ a. a.to) o ≡ Some v → v < length game.vertices

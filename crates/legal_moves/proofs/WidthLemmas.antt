@@ -23,7 +23,7 @@ pair_of c = (c.at.state, c.at.place)
 same_position : (c d : Configuration) → pair_of c ≡ pair_of d → c.at ≡ d.at
 same_position c d e = ap (λ p. let x : Position = record { state = p.0; place = p.1 } in x) e
 
-slice_get-map : {A B : Type 0} (f : A → B) (xs : List A) (i : ℕ) (y : B) → slice_get (map f xs) i ≡ Some y → (x : A) × (slice_get xs i ≡ Some x) × (y ≡ f x)
+pub slice_get-map : {A B : Type 0} (f : A → B) (xs : List A) (i : ℕ) (y : B) → slice_get (map f xs) i ≡ Some y → (x : A) × (slice_get xs i ≡ Some x) × (y ≡ f x)
 slice_get-map f [] i y h = absurd (cc)
 slice_get-map f (x ∷ xs) zero y h = (x, refl, cc)
 slice_get-map f (x ∷ xs) (suc i) y h = slice_get-map f xs i y h
@@ -36,7 +36,7 @@ map_at f (y ∷ xs) (suc i) x h = map_at f xs i x h
 pub all_by_get : {A : Type 0} (P : A → Type 0) (xs : List A) → ((i : ℕ) (x : A) → slice_get xs i ≡ Some x → P x) → All P xs
 all_by_get P xs h k d inside = h k (get_or xs k d) (slice_get-get_or xs k d inside)
 
-pairs_by_get : {A : Type 0} (xs : List A) → ((i j : ℕ) (x y : A) → slice_get xs i ≡ Some x → slice_get xs j ≡ Some y → x ≡ y → i ≡ j) → AllPairs ◌≢◌ xs
+pub pairs_by_get : {A : Type 0} (xs : List A) → ((i j : ℕ) (x y : A) → slice_get xs i ≡ Some x → slice_get xs j ≡ Some y → x ≡ y → i ≡ j) → AllPairs ◌≢◌ xs
 pairs_by_get xs h i j d less inside =
     λ same.
     let ij = h i j (get_or xs i d) (get_or xs j d) (slice_get-get_or xs i d (omega arith)) (slice_get-get_or xs j d inside) same in

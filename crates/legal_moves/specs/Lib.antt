@@ -13,6 +13,7 @@ pub mod Listed
 pub mod Listing
 pub mod Tables
 pub mod Configurations
+pub mod Jumps
 pub mod Shown
 pub mod Made
 pub mod Compiled

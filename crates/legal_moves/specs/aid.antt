@@ -4,6 +4,7 @@ pub mod Chains
 pub mod Configurations
 pub mod Ends
 pub mod Going
+pub mod Leaping
 pub mod Looking
 pub mod Marks
 pub mod Narrow
@@ -12,3 +13,4 @@ pub mod Repacked
 pub mod Standing
 pub mod Searches
 pub mod Tables
+pub mod Walks

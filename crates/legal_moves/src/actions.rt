@@ -2,6 +2,7 @@
 ghost use Rattle.std.specs.Prelude.{◌≡◌, Some};
 ghost use Rattle.rbg_game.specs.Rules.{is_switch, is_modifier};
 ghost use Rattle.rbg_game.specs.Meaning.{action_of};
+ghost use Rattle.legal_moves.specs.Jumps.{label_in};
 ghost use Rattle.legal_moves.specs.aid.Narrow.{looks_alone};
 
 use rbg_game::rules::Action;
@@ -48,5 +49,20 @@ pub fn is_look(action: &Action) -> bool
         Action::Assignment(_, _) => false,
         Action::Switch(_) => false,
         Action::Pattern(_, _) => false,
+    }
+}
+
+/// The label of a shift; none for another action.
+pub fn label_of(action: &Action) -> Option<u8>
+    ensures { result ≡ label_in (Some (action_of action.now)) }
+{
+    match action {
+        Action::Shift(label) => Some(*label),
+        Action::On(_) => None,
+        Action::Off(_) => None,
+        Action::Assignment(_, _) => None,
+        Action::Comparison(_, _, _) => None,
+        Action::Switch(_) => None,
+        Action::Pattern(_, _) => None,
     }
 }

@@ -14,6 +14,7 @@ use crate::ends::ascending_ends;
 use crate::fault::MoveFault;
 use crate::fields::{byte_at, leader_of, role_with, value_at};
 use crate::found::Found;
+use crate::jumps::{Jumps, all_jumps};
 use crate::moves::Moves;
 use crate::patterns::same_patterns;
 use crate::search::Searcher;
@@ -39,6 +40,8 @@ pub struct Compiled {
     tables: Vec<Table>,
     /// For each pattern the number of the first that asks the same.
     same: Vec<usize>,
+    /// Of each table.
+    jumps: Vec<Jumps>,
     /// The goal of the table, if it has one.
     goal: Option<Goal>,
 }
@@ -89,12 +92,14 @@ impl Compiled {
         let mut tables = Vec::new(alloc);
         add_table(alloc, &mut tables, &game.rules)?;
         let same = same_patterns(alloc, &game.rules)?;
+        let jumps = all_jumps(alloc, &game, &tables)?;
         let packing = Packing::new(&game, kind);
         Ok(Compiled {
             game,
             packing,
             tables,
             same,
+            jumps,
             goal,
         })
     }
@@ -164,6 +169,7 @@ impl Compiled {
             game: &self.game,
             tables: &self.tables,
             same: &self.same,
+            jumps: &self.jumps,
             alloc,
         };
         let rules = self.tables.len() - 1;

@@ -128,6 +128,9 @@ pub fn at_a_glance(game: &Game, action: &Action, state: &SemiState, vertex: u8) 
                 Glance::Fails
             }
         }
-        _ => Glance::Writes,
+        Action::Off(_) => Glance::Writes,
+        Action::Assignment(_, _) => Glance::Writes,
+        Action::Switch(_) => Glance::Writes,
+        Action::Pattern(_, _) => unreachable!(),
     }
 }

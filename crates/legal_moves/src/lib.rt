@@ -12,7 +12,9 @@ mod ends;
 pub mod fault;
 mod fields;
 mod found;
+mod jumps;
 pub mod laws;
+mod leap;
 pub mod limits;
 mod looks;
 mod marks;
@@ -24,6 +26,7 @@ mod search;
 pub mod source;
 mod successor;
 mod table;
+mod writing;
 
 pub use compiled::Compiled;
 pub use fault::MoveFault;

@@ -1,7 +1,7 @@
 //! The search for the configurations that valid actions lead to.
 ghost use Rattle.std.specs.Prelude.{◌≡◌, ◌+◌, ◌≤◌, ◌<◌, ◌⊎◌, length, Err, IsOk, IfOk, OnOk, IfSome, MatchBool};
 ghost use Rattle.std.specs.Bool.{OnTrue};
-ghost use Rattle.rbg_game.specs.Rules.{count, action_at};
+ghost use Rattle.rbg_game.specs.Rules.{count};
 ghost use Rattle.rbg_game.specs.Meaning.{game_of};
 ghost use Rattle.rbg_game.specs.Sound.{LacksSwitch};
 ghost use Rattle.rbg_game.specs.Positions.{IsStateOf};
@@ -9,15 +9,17 @@ ghost use Rattle.legal_moves.specs.Searches.{IsWideFrom};
 ghost use Rattle.legal_moves.specs.aid.Searches.{IsLegal};
 ghost use Rattle.legal_moves.specs.aid.Configurations.{expression_at, IsReady, AsksTooMuch, IsSearch};
 ghost use Rattle.legal_moves.specs.Tables.{inner_of, AreSame};
+ghost use Rattle.legal_moves.specs.Jumps.{AreJumps};
 ghost use Rattle.legal_moves.specs.aid.Answers.{IsAnswerAt};
 ghost use Rattle.legal_moves.specs.aid.Going.{began, state_at, IsGoing, IsTried, IsFull};
-ghost use Rattle.legal_moves.specs.aid.Looking.{at_vertex, seen_from, AreMarked, IsNoPattern, TellsAt};
+ghost use Rattle.legal_moves.specs.aid.Looking.{at_vertex, seen_from, AreMarked, TellsAt};
 ghost use Rattle.legal_moves.specs.aid.Standing.{configurations_of, AreKept};
 
 use crate::copies::copied_state;
-use crate::effect::{Glance, act, at_a_glance};
+use crate::effect::{Glance, at_a_glance};
 use crate::fault::MoveFault;
 use crate::found::{Found, Stand, any_stands_last};
+use crate::jumps::Jumps;
 use crate::looks::{Look, Looks, any_looks_last, keep};
 use crate::table::{Step, Table};
 use rbg_game::game::Game;
@@ -31,6 +33,8 @@ pub struct Searcher<'a> {
     pub tables: &'a [Table],
     /// For each pattern the number of the first that asks the same.
     pub same: &'a [usize],
+    /// Of each table.
+    pub jumps: &'a [Jumps],
     pub alloc: Global,
 }
 
@@ -54,6 +58,7 @@ impl Searcher<'_> {
     ) -> Result<Found, MoveFault>
         requires ready { IsReady (game_of self.now.game.now) self.now.tables.now index }
         requires same { AreSame (inner_of (game_of self.now.game.now).rules) self.now.same.now }
+        requires jumps { AreJumps (game_of self.now.game.now) self.now.tables.now self.now.jumps.now }
         requires state { IsStateOf (game_of self.now.game.now) state }
         ensures found { let game = game_of self.now.game.now in let e = expression_at game index in IfOk result
             (λ f. IsSearch game e place state (configurations_of f)) }
@@ -82,6 +87,7 @@ impl Searcher<'_> {
     ) -> Result<(), MoveFault>
         requires ready { IsReady (game_of self.now.game.now) self.now.tables.now index }
         requires same { AreSame (inner_of (game_of self.now.game.now).rules) self.now.same.now }
+        requires jumps { AreJumps (game_of self.now.game.now) self.now.tables.now self.now.jumps.now }
         requires at { at < length found.old.stands.items }
         requires kept { AreKept found.old }
         requires going { let game = game_of self.now.game.now in let e = expression_at game index in IsGoing game e place
@@ -122,6 +128,7 @@ impl Searcher<'_> {
     ) -> Result<(), MoveFault>
         requires ready { IsReady (game_of self.now.game.now) self.now.tables.now index }
         requires same { AreSame (inner_of (game_of self.now.game.now).rules) self.now.same.now }
+        requires jumps { AreJumps (game_of self.now.game.now) self.now.tables.now self.now.jumps.now }
         requires at { at < length found.old.stands.items }
         requires kept { AreKept found.old }
         requires state { IsStateOf (game_of self.now.game.now) (state_at (configurations_of found.old) at) }
@@ -153,52 +160,8 @@ impl Searcher<'_> {
         }
     }
 
-    /// The same of an occurrence that is no pattern, on a copy of the semi-state.
-    fn write(
-        &self,
-        index: usize,
-        found: &mut Found,
-        at: usize,
-        number: u16,
-    ) -> Result<(), MoveFault>
-        requires ready { IsReady (game_of self.now.game.now) self.now.tables.now index }
-        requires at { at < length found.old.stands.items }
-        requires kept { AreKept found.old }
-        requires state { IsStateOf (game_of self.now.game.now) (state_at (configurations_of found.old) at) }
-        requires from { 1 ≤ number }
-        requires upto { number ≤ count (expression_at (game_of self.now.game.now) index) }
-        requires writes { IsNoPattern (action_at (expression_at (game_of self.now.game.now) index) 1 number) }
-        ensures kept { OnOk result (AreKept found.new) }
-        ensures tried { let game = game_of self.now.game.now in let e = expression_at game index in OnOk result
-            (IsTried game e number at (configurations_of found.old) (configurations_of found.new)) }
-        ensures wide { let game = game_of self.now.game.now in let e = expression_at game index in result ≡ Err MoveFault.TooWide
-            → IsFull game e number at (configurations_of found.old) }
-    {
-        let Stand { board, vertex, .. } = found.stands[at];
-        let mut state = copied_state(&found.boards[board]);
-        state.vertex = vertex;
-        let step = self.tables[index].step(number);
-        let valid = match step {
-            Step::Act(action) => act(self.game, action, &mut state),
-            Step::Ask(_, _) => unreachable!(),
-        };
-        if !valid {
-            return Ok(());
-        }
-        let vertex = state.vertex;
-        let board = found.number_of(state)?;
-        found.add(Stand {
-            board,
-            vertex,
-            place: number,
-            parent: at,
-            shows: step.is_modifier(),
-            ends: step.is_switch(),
-        })
-    }
-
-    /// Whether some word of the expression is legal from here, at this vertex. A pattern that only looks is searched by
-    /// vertices alone.
+    /// Whether some word of the expression is legal from here, at this vertex. A pattern with jumps is searched by them, and one that only
+    /// looks by vertices alone.
     #[cycle(search)]
     #[inline(never)]
     fn is_legal(
@@ -210,6 +173,7 @@ impl Searcher<'_> {
     ) -> Result<bool, MoveFault>
         requires ready { IsReady (game_of self.now.game.now) self.now.tables.now index }
         requires same { AreSame (inner_of (game_of self.now.game.now).rules) self.now.same.now }
+        requires jumps { AreJumps (game_of self.now.game.now) self.now.tables.now self.now.jumps.now }
         requires state { IsStateOf (game_of self.now.game.now) (at_vertex state.now vertex) }
         requires lacks { LacksSwitch (expression_at (game_of self.now.game.now) index) }
         ensures answer { let game = game_of self.now.game.now in let e = expression_at game index in IfOk result
@@ -219,6 +183,9 @@ impl Searcher<'_> {
         ensures wide { let game = game_of self.now.game.now in let e = expression_at game index in result ≡ Err MoveFault.TooWide
             → IsWideFrom game e 0 (at_vertex state.now vertex) }
     {
+        if let Some(holds) = self.leap(spare, index, state, vertex)? {
+            return Ok(holds);
+        }
         if self.tables[index].looks
             && let Some(legal) = self.look(spare, index, state, vertex)?
         {
@@ -243,6 +210,7 @@ impl Searcher<'_> {
     ) -> Result<Option<bool>, MoveFault>
         requires ready { IsReady (game_of self.now.game.now) self.now.tables.now index }
         requires same { AreSame (inner_of (game_of self.now.game.now).rules) self.now.same.now }
+        requires jumps { AreJumps (game_of self.now.game.now) self.now.tables.now self.now.jumps.now }
         requires state { IsStateOf (game_of self.now.game.now) (at_vertex state.now vertex) }
         requires lacks { LacksSwitch (expression_at (game_of self.now.game.now) index) }
         ensures answer { let game = game_of self.now.game.now in let e = expression_at game index in IfOk result (λ o. IfSome o
@@ -284,6 +252,7 @@ impl Searcher<'_> {
     ) -> Result<bool, MoveFault>
         requires ready { IsReady (game_of self.now.game.now) self.now.tables.now index }
         requires same { AreSame (inner_of (game_of self.now.game.now).rules) self.now.same.now }
+        requires jumps { AreJumps (game_of self.now.game.now) self.now.tables.now self.now.jumps.now }
         requires lacks { LacksSwitch (expression_at (game_of self.now.game.now) index) }
         requires at { at < length looks.old.looks.items }
         requires marked { AreMarked (count (expression_at (game_of self.now.game.now) index) + 1) looks.old }
@@ -332,6 +301,7 @@ impl Searcher<'_> {
     ) -> Result<Glance, MoveFault>
         requires ready { IsReady (game_of self.now.game.now) self.now.tables.now index }
         requires same { AreSame (inner_of (game_of self.now.game.now).rules) self.now.same.now }
+        requires jumps { AreJumps (game_of self.now.game.now) self.now.tables.now self.now.jumps.now }
         requires state { IsStateOf (game_of self.now.game.now) (at_vertex state.now vertex) }
         requires from { 1 ≤ number }
         requires upto { number ≤ count (expression_at (game_of self.now.game.now) index) }
@@ -369,6 +339,7 @@ impl Searcher<'_> {
     ) -> Result<bool, MoveFault>
         requires ready { IsReady (game_of self.now.game.now) self.now.tables.now index }
         requires same { AreSame (inner_of (game_of self.now.game.now).rules) self.now.same.now }
+        requires jumps { AreJumps (game_of self.now.game.now) self.now.tables.now self.now.jumps.now }
         requires state { IsStateOf (game_of self.now.game.now) (at_vertex state.now vertex) }
         requires lacks { LacksSwitch (expression_at (game_of self.now.game.now) index) }
         requires pattern { index < length self.now.same.now }

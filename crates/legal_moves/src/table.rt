@@ -3,7 +3,7 @@ ghost use Rattle.std.specs.Prelude.{◌≡◌, ◌-◌, ◌≤◌, length, ◌&&
 ghost use Rattle.std.specs.Bool.{OnTrue};
 ghost use Rattle.legal_moves.specs.aid.Narrow.{AreFewLooks};
 
-use crate::actions::{ends_move, is_look, is_shown};
+use crate::actions::{ends_move, is_look, is_shown, label_of};
 use crate::marks::is_marked;
 use crate::relation::{Followers, Relation};
 use rbg_game::rules::Action;
@@ -22,6 +22,7 @@ impl Step {
     ghost use Rattle.std.specs.Prelude.{◌≡◌};
     ghost use Rattle.legal_moves.specs.aid.Tables.{switches, modifies};
     ghost use Rattle.legal_moves.specs.aid.Narrow.{step_looks};
+    ghost use Rattle.legal_moves.specs.aid.Walks.{step_label};
 
     pub fn is_switch(&self) -> bool
         ensures { result ≡ switches self.now }
@@ -47,6 +48,16 @@ impl Step {
         match self {
             Step::Act(action) => is_look(action),
             Step::Ask(_, inner) => tables.get(*inner).is_some_and(|table| table.looks),
+        }
+    }
+
+    /// The label of a shift; none for another step.
+    pub fn label(&self) -> Option<u8>
+        ensures { result ≡ step_label self.now }
+    {
+        match self {
+            Step::Act(action) => label_of(action),
+            Step::Ask(_, _) => None,
         }
     }
 

@@ -5,6 +5,7 @@ use Rattle.rbg_game.specs.Games.{Game}
 use Rattle.rbg_game.specs.declared.position.SemiState.{SemiState}
 use Rattle.legal_moves.specs.Effects.{Effect, EffectAt}
 use Rattle.legal_moves.specs.aid.Marks.{IsMarkSet}
+use Rattle.legal_moves.specs.aid.Narrow.{looks_alone}
 use Rattle.legal_moves.specs.Tables.{is_pattern}
 use Rattle.legal_moves.specs.Configurations.{Configuration}
 use Rattle.legal_moves.specs.declared.effect.Glance.{Glance}
@@ -30,7 +31,7 @@ IsNoPattern (Some a) = is_pattern a ≡ false
 abbrev pub GlanceTells : Game → Action → SemiState → Glance → Type 0
 GlanceTells game a S Fails = (T : SemiState) → ¬ Effect game a S T
 GlanceTells game a S (At v) = Effect game a S (at_vertex S v) × IsLook (Some a)
-GlanceTells game a S Writes = IsNoPattern (Some a)
+GlanceTells game a S Writes = IsNoPattern (Some a) × (looks_alone a ≡ false)
 
 -- the same of an occurrence
 abbrev pub TellsAt : Game → Regex → ℕ → SemiState → Glance → Type 0

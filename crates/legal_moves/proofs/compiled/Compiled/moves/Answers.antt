@@ -1,4 +1,4 @@
-use Rattle.std.proofs.Common.{◌≡◌, ◌≤◌, Err, ap, sym, subst, length, All}
+use Rattle.std.proofs.Common.{◌≤◌, Err, ap, sym, subst, length, All}
 use Rattle.legal_moves.specs.aid.Standing.{configurations_of}
 use Rattle.legal_moves.specs.Compiled.{compiled_game}
 use Rattle.legal_moves.specs.Listed.{AreMoves, IsShortestMove}

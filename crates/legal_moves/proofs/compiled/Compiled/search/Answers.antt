@@ -5,6 +5,7 @@ use Rattle.rbg_game.specs.Sound.{IsSoundGame}
 use Rattle.rbg_game.specs.Positions.{IsStateOf, IsPositionOf}
 use Rattle.legal_moves.specs.Compiled.{compiled_game}
 use Rattle.legal_moves.specs.Searches.{IsWide}
+use Rattle.legal_moves.specs.Jumps.{AreJumps}
 use Rattle.legal_moves.specs.Tables.{inner_of, AreSame}
 use Rattle.legal_moves.specs.aid.Configurations.{IsReady, IsSearch}
 use Rattle.legal_moves.specs.aid.Standing.{configurations_of}
@@ -19,6 +20,7 @@ search-requires c =
     record {
       ready = subst (λ ts. IsReady game ts (c.len-rules.result - 1)) (sym c.deref.ensures.value) (subst (λ n. IsReady game c.self.inside.tables.items (n - 1)) (sym many) (rules_ready game c.self.inside.tables.items c.self.invariant.tables_are c.self.invariant.sound));
       same = subst (AreSame (inner_of game.rules)) (sym c.deref-2.ensures.value) c.self.invariant.same_are;
+      jumps = subst (λ ts. AreJumps game ts c.deref-3.result.now) (sym c.deref.ensures.value) (subst (AreJumps game c.self.inside.tables.items) (sym c.deref-3.ensures.value) c.self.invariant.jumps_are);
       state = subst (IsStateOf game) (sym c.copied_state-state.ensures) here.state_is;
     }
 

@@ -1,7 +1,6 @@
-use Rattle.std.proofs.Common.{◌≡◌, Err, length, map, ℕ, List, ap, sym, ◌∙◌, subst, arith, rules}
+use Rattle.std.proofs.Common.{◌≡◌, Err, map, ℕ, List, ap, sym, subst, arith, rules}
 use Rattle.std.proofs.lemmas.List.{length-map}
 use Rattle.arrayvec.specs.ArrayVec.{ArrayVec}
-use Rattle.rbg_game.specs.Sound.{IsSoundGame}
 use Rattle.rbg_game.specs.declared.position.Position.{Position}
 use Rattle.position_pack.specs.declared.kind.PackingKind.{PackingKind}
 use Rattle.position_pack.specs.Shape.{Shape}

@@ -74,7 +74,7 @@ glance_at-holds-requires t c =
     let before : c.in-Ask.inner < index = ask_before game tables index c.requires.ready T at_T c.args.number c.requires.from c.step.result.now at_step c.in-Ask.positive c.in-Ask.inner c.in-Ask.is in
     let es = inner_of game.rules in
     let pattern : c.in-Ask.inner < length c.args.self.now.same.now = omega (arith, before, c.requires.ready.within, c.requires.ready.tables_are.as_many, length-append es (game.rules ∷ []), c.requires.same.as_many) in
-    (omega (arith, before), (ask_ready game tables index c.requires.ready T at_T c.args.number c.requires.from c.step.result.now at_step c.in-Ask.positive c.in-Ask.inner c.in-Ask.is, (c.requires.same, (c.requires.state, (ask_lacks game tables index c.requires.ready T at_T c.args.number c.requires.from c.step.result.now at_step c.in-Ask.positive c.in-Ask.inner c.in-Ask.is, (pattern, c.requires.known))))))
+    (omega (arith, before), (ask_ready game tables index c.requires.ready T at_T c.args.number c.requires.from c.step.result.now at_step c.in-Ask.positive c.in-Ask.inner c.in-Ask.is, (c.requires.same, (c.requires.jumps, (c.requires.state, (ask_lacks game tables index c.requires.ready T at_T c.args.number c.requires.from c.step.result.now at_step c.in-Ask.positive c.in-Ask.inner c.in-Ask.is, (pattern, c.requires.known)))))))
 
 pub glance_at-returns-in_err-holds-in-Ask-clause-wide : goal.glance_at-returns-in_err-holds-in-Ask-clause-wide
 glance_at-returns-in_err-holds-in-Ask-clause-wide t c =
@@ -159,14 +159,14 @@ is_legal-returns-clause-answer t c =
     let game = game_of c.args.self.now.game.now in
     let e = expression_at game c.args.index in
     let S = at_vertex c.args.state.now c.args.vertex in
-    subst (λ o. IfSome o (λ b. MatchBool b (IsLegal game e S) (¬ IsLegal game e S))) c.in-Some.is c.in_ok-legal.ensures.answer
+    subst (λ o. IfSome o (λ b. MatchBool b (IsLegal game e S) (¬ IsLegal game e S))) c.in-Some-2.is c.in_ok-legal.ensures.answer
 
 pub is_legal-returns-clause-narrow : goal.is_legal-returns-clause-narrow
 is_legal-returns-clause-narrow t c =
     let game = game_of c.args.self.now.game.now in
     let e = expression_at game c.args.index in
     let S = at_vertex c.args.state.now c.args.vertex in
-    λ ok. subst (λ o. IfSome o (λ b. ¬ IsWideFrom game e 0 S)) c.in-Some.is c.in_ok-legal.ensures.narrow
+    λ ok. subst (λ o. IfSome o (λ b. ¬ IsWideFrom game e 0 S)) c.in-Some-2.is c.in_ok-legal.ensures.narrow
 
 pub is_legal-returns-2-clause-answer : goal.is_legal-returns-2-clause-answer
 is_legal-returns-2-clause-answer t c =
@@ -265,7 +265,7 @@ look_on-glance_at-requires t c =
     let at_k = slice_get-get_or ks i 0 c.loop-number-test.true in
     let next = listed_next game tables index c.requires.ready T at_T ks l.place p ks_is from_is i k at_k in
     let here = IsFollowed-upto game e 0 S now at (past ks i) k b now_b c.loop-number.invariant.here (λ m from_past less. skipped game tables index c.requires.ready T at_T ks l.place p ks_is from_is i k m at_k from_past less) in
-    (omega arith, (c.requires.ready, (c.requires.same, (c.loop-number.invariant.going.found_are.states_are at b now_b, (number_from e p k next, (number_upto e p k next, c.loop-number.invariant.known))))))
+    (omega arith, (c.requires.ready, (c.requires.same, (c.requires.jumps, (c.loop-number.invariant.going.found_are.states_are at b now_b, (number_from e p k next, (number_upto e p k next, c.loop-number.invariant.known)))))))
 
 pub look_on-returns-in_err-glance_at-clause-wide : goal.look_on-returns-in_err-glance_at-clause-wide
 look_on-returns-in_err-glance_at-clause-wide t c =
@@ -557,7 +557,7 @@ expand-attempt-requires t c =
     let here = IsFollowed-upto game e place S now at (past ks i) k b now_b c.loop-number.invariant.here (λ m from_past less. skipped game tables index c.requires.ready T at_T ks c.if-last-eq0.from p ks_is from_is i k m at_k from_past less) in
     let inside : at < length c.loop-number.found.stands.items = omega (arith, slice_get-within now at b now_b, length-map c.loop-number.found.stands.items (stood c.loop-number.found.boards.items)) in
     let state_is : b.at.state ≡ state_at now at = sym (state_of now at b now_b) in
-    (omega arith, (c.requires.ready, (c.requires.same, (inside, (c.loop-number.invariant.kept, (subst (IsStateOf game) state_is (c.loop-number.invariant.going.found_are.states_are at b now_b), (number_from e p k next, (number_upto e p k next, answer_along game cs now at c.loop-number.known (sym c.loop-number.invariant.before) c.loop-number.invariant.known))))))))
+    (omega arith, (c.requires.ready, (c.requires.same, (c.requires.jumps, (inside, (c.loop-number.invariant.kept, (subst (IsStateOf game) state_is (c.loop-number.invariant.going.found_are.states_are at b now_b), (number_from e p k next, (number_upto e p k next, answer_along game cs now at c.loop-number.known (sym c.loop-number.invariant.before) c.loop-number.invariant.known)))))))))
 
 pub expand-returns-in_err-attempt-clause-wide : goal.expand-returns-in_err-attempt-clause-wide
 expand-returns-in_err-attempt-clause-wide t c =
@@ -692,7 +692,7 @@ attempt-glance_at-requires t c =
     let B = c.index-2.result.now in
     let at_B = read_at boards s.board B (c.requires.kept.within c.args.at s at_s) c.index-2.ensures in
     let state_is = state_there boards stands c.args.at s B at_s at_B in
-    (omega arith, (c.requires.ready, (c.requires.same, (subst (IsStateOf game) state_is c.requires.state, (c.requires.from, (c.requires.upto, subst (λ S. IsAnswerAt game S c.args.known.now) state_is c.requires.known))))))
+    (omega arith, (c.requires.ready, (c.requires.same, (c.requires.jumps, (subst (IsStateOf game) state_is c.requires.state, (c.requires.from, (c.requires.upto, subst (λ S. IsAnswerAt game S c.args.known.now) state_is c.requires.known)))))))
 
 pub attempt-returns-in-At-clause-kept : goal.attempt-returns-in-At-clause-kept
 attempt-returns-in-At-clause-kept t c = c.add.ensures.kept
@@ -890,7 +890,7 @@ pub glance_at-returns-in-Act-clause-wide : goal.glance_at-returns-in-Act-clause-
 glance_at-returns-in-Act-clause-wide t c = no_error
 
 pub holds-is_legal-requires : goal.holds-is_legal-requires
-holds-is_legal-requires t c = (omega arith, (c.requires.ready, (c.requires.same, (c.requires.state, c.requires.lacks))))
+holds-is_legal-requires t c = (omega arith, (c.requires.ready, (c.requires.same, (c.requires.jumps, (c.requires.state, c.requires.lacks)))))
 
 pub holds-returns-in_err-holds-clause-known : goal.holds-returns-in_err-holds-clause-known
 holds-returns-in_err-holds-clause-known t c = refused _ c.from_residual.result _ c.from_residual.ensures.1
@@ -923,12 +923,12 @@ holds-returns-in_err-holds-clause-wide t c =
     c.in_err-holds.ensures.wide (ap Err fault)
 
 pub is_legal-look-requires : goal.is_legal-look-requires
-is_legal-look-requires t c = (omega arith, (c.requires.ready, (c.requires.same, (c.requires.state, c.requires.lacks))))
+is_legal-look-requires t c = (omega arith, (c.requires.ready, (c.requires.same, (c.requires.jumps, (c.requires.state, c.requires.lacks)))))
 
 pub is_legal-search-requires : goal.is_legal-search-requires
 is_legal-search-requires t c =
     let game = game_of c.args.self.now.game.now in
-    (omega arith, (c.requires.ready, (c.requires.same, subst (λ A. IsStateOf game (at_vertex A c.args.vertex)) (sym c.copied_state-state.ensures) c.requires.state)))
+    (omega arith, (c.requires.ready, (c.requires.same, (c.requires.jumps, subst (λ A. IsStateOf game (at_vertex A c.args.vertex)) (sym c.copied_state-state.ensures) c.requires.state))))
 
 pub is_legal-returns-clause-wide : goal.is_legal-returns-clause-wide
 is_legal-returns-clause-wide t c = no_error
@@ -936,11 +936,40 @@ is_legal-returns-clause-wide t c = no_error
 pub is_legal-returns-2-clause-wide : goal.is_legal-returns-2-clause-wide
 is_legal-returns-2-clause-wide t c = no_error
 
+pub is_legal-returns-in-Some-clause-answer : goal.is_legal-returns-in-Some-clause-answer
+is_legal-returns-in-Some-clause-answer t c =
+    let game = game_of c.args.self.now.game.now in
+    let e = expression_at game c.args.index in
+    let S = at_vertex c.args.state.now c.args.vertex in
+    subst (λ o. IfSome o (λ b. MatchBool b (IsLegal game e S) (¬ IsLegal game e S))) c.in-Some.is c.in_ok-holds.ensures.answer
+
+pub is_legal-returns-in-Some-clause-narrow : goal.is_legal-returns-in-Some-clause-narrow
+is_legal-returns-in-Some-clause-narrow t c =
+    let game = game_of c.args.self.now.game.now in
+    let e = expression_at game c.args.index in
+    let S = at_vertex c.args.state.now c.args.vertex in
+    λ ok. subst (λ o. IfSome o (λ b. ¬ IsWideFrom game e 0 S)) c.in-Some.is c.in_ok-holds.ensures.narrow
+
+pub is_legal-returns-in-Some-clause-wide : goal.is_legal-returns-in-Some-clause-wide
+is_legal-returns-in-Some-clause-wide t c = no_error
+
+pub is_legal-returns-in_err-holds-clause-answer : goal.is_legal-returns-in_err-holds-clause-answer
+is_legal-returns-in_err-holds-clause-answer t c = refused _ c.from_residual.result _ c.from_residual.ensures.1
+
+pub is_legal-returns-in_err-holds-clause-narrow : goal.is_legal-returns-in_err-holds-clause-narrow
+is_legal-returns-in_err-holds-clause-narrow t c = not_ok _ c.from_residual.result c.from_residual.ensures.1
+
+pub is_legal-returns-in_err-holds-clause-wide : goal.is_legal-returns-in_err-holds-clause-wide
+is_legal-returns-in_err-holds-clause-wide t c =
+    λ wide.
+    let fault = passed c.from_residual.result c.in_err-holds.field-0.0 c.from_residual.ensures.1 wide in
+    c.in_err-holds.ensures.wide (ap Err fault)
+
 pub is_legal-returns-in_err-legal-clause-answer : goal.is_legal-returns-in_err-legal-clause-answer
-is_legal-returns-in_err-legal-clause-answer t c = refused _ c.from_residual.result _ c.from_residual.ensures.1
+is_legal-returns-in_err-legal-clause-answer t c = refused _ c.from_residual-in_err-legal.result _ c.from_residual-in_err-legal.ensures.1
 
 pub is_legal-returns-in_err-legal-clause-narrow : goal.is_legal-returns-in_err-legal-clause-narrow
-is_legal-returns-in_err-legal-clause-narrow t c = not_ok _ c.from_residual.result c.from_residual.ensures.1
+is_legal-returns-in_err-legal-clause-narrow t c = not_ok _ c.from_residual-in_err-legal.result c.from_residual-in_err-legal.ensures.1
 
 pub is_legal-returns-in_err-found-clause-answer : goal.is_legal-returns-in_err-found-clause-answer
 is_legal-returns-in_err-found-clause-answer t c = refused _ c.from_residual-in_err-found.result _ c.from_residual-in_err-found.ensures.1
@@ -951,7 +980,7 @@ is_legal-returns-in_err-found-clause-narrow t c = not_ok _ c.from_residual-in_er
 pub is_legal-returns-in_err-legal-clause-wide : goal.is_legal-returns-in_err-legal-clause-wide
 is_legal-returns-in_err-legal-clause-wide t c =
     λ wide.
-    let fault = passed c.from_residual.result c.in_err-legal.field-0.0 c.from_residual.ensures.1 wide in
+    let fault = passed c.from_residual-in_err-legal.result c.in_err-legal.field-0.0 c.from_residual-in_err-legal.ensures.1 wide in
     c.in_err-legal.ensures.wide (ap Err fault)
 
 pub look-returns-in_err-looks-clause-answer : goal.look-returns-in_err-looks-clause-answer
@@ -1059,7 +1088,7 @@ search-expand-requires t c =
     let cs = configurations_of c.loop-at.found in
     let began_here = began_is game e c.args.place c.args.state cs c.loop-at.at c.loop-at.invariant.going in
     let inside : c.loop-at.at < length c.loop-at.found.stands.items = omega arith in
-    (omega arith, (c.requires.ready, (c.requires.same, (inside, (c.loop-at.invariant.kept, subst (λ S. IsGoing game e c.args.place S cs c.loop-at.at) (sym began_here) c.loop-at.invariant.going)))))
+    (omega arith, (c.requires.ready, (c.requires.same, (c.requires.jumps, (inside, (c.loop-at.invariant.kept, subst (λ S. IsGoing game e c.args.place S cs c.loop-at.at) (sym began_here) c.loop-at.invariant.going))))))
 
 pub search-loop-at-preserved : goal.search-loop-at-preserved
 search-loop-at-preserved t c =
@@ -1080,7 +1109,7 @@ look-look_on-requires t c =
     let cs = seen_from c.args.state.now c.loop-at.looks.looks.items in
     let began_here = began_is game e 0 S cs c.loop-at.at c.loop-at.invariant.going in
     let inside : c.loop-at.at < length c.loop-at.looks.looks.items = omega arith in
-    (omega arith, (c.requires.ready, (c.requires.same, (c.requires.lacks, (inside, (c.loop-at.invariant.marked, subst (λ B. IsGoing game e 0 B cs c.loop-at.at) (sym began_here) c.loop-at.invariant.going))))))
+    (omega arith, (c.requires.ready, (c.requires.same, (c.requires.jumps, (c.requires.lacks, (inside, (c.loop-at.invariant.marked, subst (λ B. IsGoing game e 0 B cs c.loop-at.at) (sym began_here) c.loop-at.invariant.going)))))))
 
 pub look-loop-at-preserved : goal.look-loop-at-preserved
 look-loop-at-preserved t c =

@@ -1,0 +1,62 @@
+//! The actions of a search that change more than the vertex.
+ghost use Rattle.std.specs.Prelude.{◌≡◌, ◌≤◌, ◌<◌, length, Err, OnOk};
+ghost use Rattle.rbg_game.specs.Rules.{count, action_at};
+ghost use Rattle.rbg_game.specs.Meaning.{game_of};
+ghost use Rattle.rbg_game.specs.Positions.{IsStateOf};
+ghost use Rattle.legal_moves.specs.aid.Configurations.{expression_at, IsReady};
+ghost use Rattle.legal_moves.specs.aid.Going.{state_at, IsTried, IsFull};
+ghost use Rattle.legal_moves.specs.aid.Looking.{IsNoPattern};
+ghost use Rattle.legal_moves.specs.aid.Standing.{configurations_of, AreKept};
+
+use crate::copies::copied_state;
+use crate::effect::act;
+use crate::fault::MoveFault;
+use crate::found::{Found, Stand};
+use crate::search::Searcher;
+use crate::table::Step;
+
+impl Searcher<'_> {
+    /// Adds what the occurrence with the number, which is no pattern, leads to from the configuration at the index, on a copy of the semi-state.
+    pub fn write(
+        &self,
+        index: usize,
+        found: &mut Found,
+        at: usize,
+        number: u16,
+    ) -> Result<(), MoveFault>
+        requires ready { IsReady (game_of self.now.game.now) self.now.tables.now index }
+        requires at { at < length found.old.stands.items }
+        requires kept { AreKept found.old }
+        requires state { IsStateOf (game_of self.now.game.now) (state_at (configurations_of found.old) at) }
+        requires from { 1 ≤ number }
+        requires upto { number ≤ count (expression_at (game_of self.now.game.now) index) }
+        requires writes { IsNoPattern (action_at (expression_at (game_of self.now.game.now) index) 1 number) }
+        ensures kept { OnOk result (AreKept found.new) }
+        ensures tried { let game = game_of self.now.game.now in let e = expression_at game index in OnOk result
+            (IsTried game e number at (configurations_of found.old) (configurations_of found.new)) }
+        ensures wide { let game = game_of self.now.game.now in let e = expression_at game index in result ≡ Err MoveFault.TooWide
+            → IsFull game e number at (configurations_of found.old) }
+    {
+        let Stand { board, vertex, .. } = found.stands[at];
+        let mut state = copied_state(&found.boards[board]);
+        state.vertex = vertex;
+        let step = self.tables[index].step(number);
+        let valid = match step {
+            Step::Act(action) => act(self.game, action, &mut state),
+            Step::Ask(_, _) => unreachable!(),
+        };
+        if !valid {
+            return Ok(());
+        }
+        let vertex = state.vertex;
+        let board = found.number_of(state)?;
+        found.add(Stand {
+            board,
+            vertex,
+            place: number,
+            parent: at,
+            shows: step.is_modifier(),
+            ends: step.is_switch(),
+        })
+    }
+}
