@@ -56,10 +56,6 @@ returns-clause-arrivals g c = λ honest table.
     omega (arith, expanded, known, expanded', known', few, c.min-from-end.ensures, c.loop-from-test.false, c.loop-from.auto.from-end) in
     subst (λ (p : ℕ). AreArrivals (g.M.GameGraph.graph c.args.source.now) stored p c.loop-from.arrivals.items) all (c.loop-from.invariant.arrivals honest table)
 
-pub returns-in_err-arrivals-clause-read : goal.returns-in_err-arrivals-clause-read
-returns-in_err-arrivals-clause-read g c =
-    unread g.met.T.Table.stays_here _
-
 pub returns-in_err-arrivals-clause-room : goal.returns-in_err-arrivals-clause-room
 returns-in_err-arrivals-clause-room g c =
     passed_on _ c.from_residual.result _ c.from_residual.ensures tt
@@ -92,10 +88,6 @@ returns-in_err-count_moves-clause-wide g c =
     let within' : c.loop-from.from < expanded_count (g.T.Table.stored c.loop-from.table) = subst (λ (t : Stored (List ℕ)). c.loop-from.from < expanded_count t) (sym same) within in
     subst (λ (t : Stored (List ℕ)). HasWide (g.M.GameGraph.is_wide c.args.source.now) t) same
     (c.in_err-count_moves.ensures.wide h within' (ap (λ (f : AuditFault). Err f) (not_this c.from_residual-in_err-count_moves.result _ _ c.from_residual-in_err-count_moves.ensures is)))
-
-pub returns-clause-read : goal.returns-clause-read
-returns-clause-read g c =
-    c.loop-from.invariant.read
 
 pub returns-clause-wide : goal.returns-clause-wide
 returns-clause-wide g c =

@@ -54,7 +54,3 @@ pub returns-in_err-count_one-clause-fault : goal.returns-in_err-count_one-clause
 returns-in_err-count_one-clause-fault g c =
     passed_on _ c.from_residual.result _ c.from_residual.ensures
     (g.met.T.Table.fails_since _ _ _ _ (g.met.T.Table.stays_goes_on _ _ c.loop-position.invariant.read.stays) c.in_err-count_one.ensures.fault)
-
-pub returns-clause-read : goal.returns-clause-read
-returns-clause-read g c =
-    c.loop-position.invariant.read

@@ -29,10 +29,6 @@ returns-in_err-found-clause-wide g c =
     let wide = c.in_err-found.ensures.wide (ap (λ (f : MoveFault). Err f) (search_wide _ (not_this c.from_residual-in_err-found.result _ _ c.from_residual-in_err-found.ensures is))) in
     (c.args.from, c.in_ok-packed.packed.items, c.in_ok-packed.ensures.position honest, within, wide)
 
-pub returns-in_err-packed-clause-read : goal.returns-in_err-packed-clause-read
-returns-in_err-packed-clause-read g c =
-    read_by c.in_err-packed.ensures.same c.in_err-packed.ensures.honest c.in_err-packed.ensures.counts c.in_err-packed.ensures.stays
-
 pub returns-in_err-packed-clause-room : goal.returns-in_err-packed-clause-room
 returns-in_err-packed-clause-room g c =
     passed_on _ c.from_residual.result _ c.from_residual.ensures c.in_err-packed.ensures.room
@@ -45,10 +41,6 @@ returns-in_err-packed-clause-fault g c =
 pub returns-in_err-packed-clause-wide : goal.returns-in_err-packed-clause-wide
 returns-in_err-packed-clause-wide g c =
     λ honest within is. absurd (table_narrow _ (not_this c.from_residual.result _ _ c.from_residual.ensures is))
-
-pub returns-in_err-found-clause-read : goal.returns-in_err-found-clause-read
-returns-in_err-found-clause-read g c =
-    read_by c.in_ok-packed.ensures.same c.in_ok-packed.ensures.honest c.in_ok-packed.ensures.counts c.in_ok-packed.ensures.stays
 
 pub returns-in_err-found-clause-room : goal.returns-in_err-found-clause-room
 returns-in_err-found-clause-room g c =

@@ -33,10 +33,6 @@ returns-clause-counted g c = λ honest table i x at.
     one_counted stored i c.args.from x c.args.position.now.items at table c.in-Some.number found c.args.arrivals.now.items _
     c.index-count.result.now edge within c.index-count.ensures (ap (λ (m : ℕ). slice_set c.args.arrivals.now.items c.in-Some.number m) c.saturating_add.ensures)
 
-pub returns-in_err-number-clause-read : goal.returns-in_err-number-clause-read
-returns-in_err-number-clause-read g c =
-    read_by c.in_err-number.ensures.same c.in_err-number.ensures.honest c.in_err-number.ensures.counts c.in_err-number.ensures.stays
-
 pub returns-in_err-number-clause-room : goal.returns-in_err-number-clause-room
 returns-in_err-number-clause-room g c =
     passed_on _ c.from_residual.result _ c.from_residual.ensures c.in_err-number.ensures.room
@@ -45,10 +41,6 @@ pub returns-in_err-number-clause-fault : goal.returns-in_err-number-clause-fault
 returns-in_err-number-clause-fault g c =
     passed_on _ c.from_residual.result _ c.from_residual.ensures
     c.in_err-number.ensures.fault
-
-pub returns-in_default-clause-read : goal.returns-in_default-clause-read
-returns-in_default-clause-read g c =
-    read_by c.in_ok-number.ensures.same c.in_ok-number.ensures.honest c.in_ok-number.ensures.counts c.in_ok-number.ensures.stays
 
 pub returns-in_err-has_edge-clause-read : goal.returns-in_err-has_edge-clause-read
 returns-in_err-has_edge-clause-read g c =

@@ -57,7 +57,3 @@ returns-in_err-from-clause-fault g c =
 pub returns-in_default-clause-read : goal.returns-in_default-clause-read
 returns-in_default-clause-read g c =
     read_then g.met.T.Table.stays_then c.loop-count.invariant.read (read_by c.in_ok-from.ensures.same c.in_ok-from.ensures.honest c.in_ok-from.ensures.counts c.in_ok-from.ensures.stays)
-
-pub returns-clause-read : goal.returns-clause-read
-returns-clause-read g c =
-    c.loop-count.invariant.read

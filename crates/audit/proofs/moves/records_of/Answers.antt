@@ -54,7 +54,3 @@ returns-in_err-push-clause-fault g c =
 pub returns-in_err-push-clause-narrow : goal.returns-in_err-push-clause-narrow
 returns-in_err-push-clause-narrow g c =
     passed_on _ c.from_residual-in_err-push.result _ c.from_residual-in_err-push.ensures memory_narrow
-
-pub returns-clause-read : goal.returns-clause-read
-returns-clause-read g c =
-    c.loop-number.invariant.read

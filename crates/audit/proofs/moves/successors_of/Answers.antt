@@ -5,7 +5,7 @@ use Rattle.std.specs.List.{AllZip}
 use Rattle.retrograde.specs.Stored.{Stored, HasRecord}
 use Rattle.table.specs.Memory.{bytes_of_each}
 use Rattle.audit.proofs.MoveLemmas.{unknown_fails, no_edge_fails, not_counted, counted}
-use Rattle.audit.proofs.Reading.{unread, read_then}
+use Rattle.audit.proofs.Reading.{read_then}
 use Rattle.audit.proofs.moves.successors_of.Goals as goal
 
 pub returns-in_default-clause-fails : goal.returns-in_default-clause-fails
@@ -56,10 +56,6 @@ returns-clause-fails g c = λ honest table has.
     c.in_ok-found.ensures.exact table c.in-Some.numbers.items numbers c.in_ok-records.records.items zip c.args.kept has
     (λ are. let passes : c.is_counted.result ≡ true = facts.1 are in let fails : c.is_counted.result ≡ false = c.if-is_counted.false in cc)
 
-pub returns-in_err-found-clause-read : goal.returns-in_err-found-clause-read
-returns-in_err-found-clause-read g c =
-    unread g.met.T.Table.stays_here _
-
 pub returns-in_err-found-clause-room : goal.returns-in_err-found-clause-room
 returns-in_err-found-clause-room g c =
     passed_on _ c.from_residual.result _ c.from_residual.ensures (search_of_none _ _)
@@ -72,10 +68,6 @@ returns-in_err-found-clause-fault g c =
 pub returns-in_err-found-clause-wide : goal.returns-in_err-found-clause-wide
 returns-in_err-found-clause-wide g c =
     λ is. c.in_err-found.ensures.wide (ap (λ (f : MoveFault). Err f) (search_wide _ (not_this c.from_residual.result _ _ c.from_residual.ensures is)))
-
-pub returns-in_err-numbers-clause-read : goal.returns-in_err-numbers-clause-read
-returns-in_err-numbers-clause-read g c =
-    c.in_err-numbers.ensures.read
 
 pub returns-in_err-numbers-clause-room : goal.returns-in_err-numbers-clause-room
 returns-in_err-numbers-clause-room g c =
@@ -123,10 +115,6 @@ returns-in_err-records-clause-fault g c =
 pub returns-in_err-records-clause-wide : goal.returns-in_err-records-clause-wide
 returns-in_err-records-clause-wide g c =
     λ is. absurd (c.in_err-records.ensures.narrow (not_this c.from_residual-in_err-records.result _ _ c.from_residual-in_err-records.ensures is))
-
-pub returns-in_default-clause-read : goal.returns-in_default-clause-read
-returns-in_default-clause-read g c =
-    c.in_ok-numbers.ensures.read
 
 pub returns-then-not-branch-clause-read : goal.returns-then-not-branch-clause-read
 returns-then-not-branch-clause-read g c =

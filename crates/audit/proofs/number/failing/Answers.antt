@@ -32,10 +32,6 @@ returns-clause-lowest g c = λ honest table floor x at arriving.
     no_stray graph stored c.args.number x c.in_ok-own.own (c.is_lower.ensures.other c.if-is_lower.false).1 (c.in_ok-own.ensures.lowest honest table floor x at)
     (edges_are_moves graph stored c.args.number x table c.args.arriving arriving (sym c.if-branch-arriving.false ∙ count))
 
-pub returns-in_err-own-clause-read : goal.returns-in_err-own-clause-read
-returns-in_err-own-clause-read g c =
-    c.in_err-own.ensures.read
-
 pub returns-in_err-own-clause-room : goal.returns-in_err-own-clause-room
 returns-in_err-own-clause-room g c =
     passed_on _ c.from_residual.result _ c.from_residual.ensures c.in_err-own.ensures.room
@@ -66,10 +62,6 @@ returns-in_err-count_edges-clause-fault g c =
 pub returns-in_err-count_edges-clause-wide : goal.returns-in_err-count_edges-clause-wide
 returns-in_err-count_edges-clause-wide g c =
     λ honest is. absurd (table_narrow _ (not_this c.from_residual-in_err-count_edges.result _ _ c.from_residual-in_err-count_edges.ensures is))
-
-pub returns-then-is_lower-clause-read : goal.returns-then-is_lower-clause-read
-returns-then-is_lower-clause-read g c =
-    c.in_ok-own.ensures.read
 
 pub returns-then-is_lower-clause-wide : goal.returns-then-is_lower-clause-wide
 returns-then-is_lower-clause-wide g c =

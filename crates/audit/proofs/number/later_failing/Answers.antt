@@ -4,7 +4,6 @@ use Rattle.retrograde.specs.declared.records.Counts.{Counts}
 use Rattle.retrograde.specs.Stored.{expanded_count}
 use Rattle.audit.specs.aid.Conditions.{AreItsRecords}
 use Rattle.audit.proofs.LowestLemmas.{second_fails, order_fails, value_fails, waiting_all}
-use Rattle.audit.proofs.Reading.{unread}
 use Rattle.audit.proofs.number.later_failing.Goals as goal
 
 pub returns-then-number-counts-clause-lowest : goal.returns-then-number-counts-clause-lowest
@@ -46,17 +45,9 @@ returns-clause-lowest g c = λ honest table has floor reached.
     (rw c.in_default-order_failing.is at c.order_failing.ensures stored c.args.number table has counts floor) table within c.value_failing.result
     (c.value_failing.ensures stored c.args.number table has within (rw c.deref.ensures.value it))
 
-pub returns-then-number-counts-clause-read : goal.returns-then-number-counts-clause-read
-returns-then-number-counts-clause-read g c =
-    unread g.met.T.Table.stays_here _
-
 pub returns-then-number-counts-clause-wide : goal.returns-then-number-counts-clause-wide
 returns-then-number-counts-clause-wide g c =
     λ honest is. absurd (ok_differs _ _ is)
-
-pub returns-in_err-successors-clause-read : goal.returns-in_err-successors-clause-read
-returns-in_err-successors-clause-read g c =
-    c.in_err-successors.ensures.read
 
 pub returns-in_err-successors-clause-room : goal.returns-in_err-successors-clause-room
 returns-in_err-successors-clause-room g c =
@@ -67,25 +58,13 @@ returns-in_err-successors-clause-fault g c =
     passed_on _ c.from_residual.result _ c.from_residual.ensures
     c.in_err-successors.ensures.fault
 
-pub returns-in_default-clause-read : goal.returns-in_default-clause-read
-returns-in_default-clause-read g c =
-    c.in_ok-successors.ensures.read
-
 pub returns-in_default-clause-wide : goal.returns-in_default-clause-wide
 returns-in_default-clause-wide g c =
     λ honest is. absurd (ok_differs _ _ is)
 
-pub returns-in-Some-order_failing-clause-read : goal.returns-in-Some-order_failing-clause-read
-returns-in-Some-order_failing-clause-read g c =
-    c.in_ok-successors.ensures.read
-
 pub returns-in-Some-order_failing-clause-wide : goal.returns-in-Some-order_failing-clause-wide
 returns-in-Some-order_failing-clause-wide g c =
     λ honest is. absurd (ok_differs _ _ is)
-
-pub returns-clause-read : goal.returns-clause-read
-returns-clause-read g c =
-    c.in_ok-successors.ensures.read
 
 pub returns-clause-wide : goal.returns-clause-wide
 returns-clause-wide g c =

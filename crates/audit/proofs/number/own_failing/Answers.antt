@@ -27,10 +27,6 @@ returns-clause-lowest g c = λ honest table floor x at.
     → IsReached graph t c.args.number y → IsLowest (own_condition graph t c.args.number y) c.in_ok-reason.reason) same3 (c.in_ok-reason.ensures.lowest h3) in
     subst (λ (z : List ℕ). IsLowest (own_condition graph stored c.args.number z) c.in_ok-reason.reason) here (lowest table has floor (reached.0 there))
 
-pub returns-in_err-at-clause-read : goal.returns-in_err-at-clause-read
-returns-in_err-at-clause-read g c =
-    read_by c.in_err-at.ensures.same c.in_err-at.ensures.honest c.in_err-at.ensures.counts c.in_err-at.ensures.stays
-
 pub returns-in_err-at-clause-room : goal.returns-in_err-at-clause-room
 returns-in_err-at-clause-room g c =
     passed_on _ c.from_residual.result _ c.from_residual.ensures c.in_err-at.ensures.room

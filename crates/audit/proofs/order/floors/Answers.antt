@@ -55,7 +55,3 @@ returns-in_err-last-clause-fault g c =
 pub returns-in_err-last-clause-narrow : goal.returns-in_err-last-clause-narrow
 returns-in_err-last-clause-narrow g c =
     passed_on _ c.from_residual-in_err-last.result _ c.from_residual-in_err-last.ensures (table_narrow _)
-
-pub returns-clause-read : goal.returns-clause-read
-returns-clause-read g c =
-    c.loop-place.invariant.read

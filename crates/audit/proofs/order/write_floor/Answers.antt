@@ -31,10 +31,6 @@ returns-then-number-len-clause-written g c = λ honest table i at.
     let within = in_range (g.T.Table.stored c.args.table.now) table c.args.place i at in
     absurd (omega (arith, same, count, within, c.requires.lengths, c.if-number-len.true))
 
-pub returns-in_err-number-clause-read : goal.returns-in_err-number-clause-read
-returns-in_err-number-clause-read g c =
-    read_by c.in_err-number.ensures.same c.in_err-number.ensures.honest c.in_err-number.ensures.counts c.in_err-number.ensures.stays
-
 pub returns-in_err-number-clause-room : goal.returns-in_err-number-clause-room
 returns-in_err-number-clause-room g c =
     passed_on _ c.from_residual.result _ c.from_residual.ensures c.in_err-number.ensures.room
@@ -43,10 +39,6 @@ pub returns-in_err-number-clause-fault : goal.returns-in_err-number-clause-fault
 returns-in_err-number-clause-fault g c =
     passed_on _ c.from_residual.result _ c.from_residual.ensures
     c.in_err-number.ensures.fault
-
-pub returns-then-number-len-clause-read : goal.returns-then-number-len-clause-read
-returns-then-number-len-clause-read g c =
-    read_by c.in_ok-number.ensures.same c.in_ok-number.ensures.honest c.in_ok-number.ensures.counts c.in_ok-number.ensures.stays
 
 pub returns-in_err-record-clause-read : goal.returns-in_err-record-clause-read
 returns-in_err-record-clause-read g c =

@@ -88,10 +88,6 @@ pub returns-in_default-clause-wide : goal.returns-in_default-clause-wide
 returns-in_default-clause-wide g c =
     λ honest is. absurd (ok_differs _ _ is)
 
-pub returns-clause-read : goal.returns-clause-read
-returns-clause-read g c =
-    c.loop-number.invariant.read
-
 pub returns-clause-wide : goal.returns-clause-wide
 returns-clause-wide g c =
     λ honest is. absurd (ok_differs _ _ is)

@@ -4,10 +4,6 @@ use Rattle.std.proofs.Common.{ap, Err}
 use Rattle.audit.proofs.Reading.{read_by, read_then}
 use Rattle.audit.proofs.sums.tally_of.Goals as goal
 
-pub returns-in_err-own_failing-clause-read : goal.returns-in_err-own_failing-clause-read
-returns-in_err-own_failing-clause-read g c =
-    c.in_err-own_failing.ensures.read
-
 pub returns-in_err-own_failing-clause-room : goal.returns-in_err-own_failing-clause-room
 returns-in_err-own_failing-clause-room g c =
     passed_on _ c.from_residual.result _ c.from_residual.ensures c.in_err-own_failing.ensures.room
@@ -21,10 +17,6 @@ pub returns-in_err-own_failing-clause-wide : goal.returns-in_err-own_failing-cla
 returns-in_err-own_failing-clause-wide g c =
     λ honest is.
     c.in_err-own_failing.ensures.wide honest (ap (λ (f : AuditFault). Err f) (not_this c.from_residual.result _ _ c.from_residual.ensures is))
-
-pub returns-then-is_some-clause-read : goal.returns-then-is_some-clause-read
-returns-then-is_some-clause-read g c =
-    c.in_ok-own_failing.ensures.read
 
 pub returns-then-is_some-clause-wide : goal.returns-then-is_some-clause-wide
 returns-then-is_some-clause-wide g c =

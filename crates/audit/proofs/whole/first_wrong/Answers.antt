@@ -87,10 +87,6 @@ pub returns-in-Some-clause-wide : goal.returns-in-Some-clause-wide
 returns-in-Some-clause-wide g c =
     λ honest is. absurd (ok_differs _ _ is)
 
-pub returns-clause-read : goal.returns-clause-read
-returns-clause-read g c =
-    c.loop-number.invariant.read
-
 pub returns-clause-wide : goal.returns-clause-wide
 returns-clause-wide g c =
     λ honest is. absurd (ok_differs _ _ is)
