@@ -52,7 +52,8 @@ returns-in_err-found-clause-fault g c =
 
 pub returns-in_err-count_each-clause-read : goal.returns-in_err-count_each-clause-read
 returns-in_err-count_each-clause-read g c =
-    read_then g.met.T.Table.stays_then (read_by c.in_ok-packed.ensures.same c.in_ok-packed.ensures.honest c.in_ok-packed.ensures.counts c.in_ok-packed.ensures.stays) c.in_err-count_each.ensures.read
+    let packed = c.in_ok-packed.ensures in
+    read_then g.met.T.Table.stays_then (read_by packed.same packed.honest packed.counts packed.stays) c.in_err-count_each.ensures.read
 
 pub returns-in_err-count_each-clause-room : goal.returns-in_err-count_each-clause-room
 returns-in_err-count_each-clause-room g c =
@@ -69,7 +70,8 @@ returns-in_err-count_each-clause-wide g c =
 
 pub returns-clause-read : goal.returns-clause-read
 returns-clause-read g c =
-    read_then g.met.T.Table.stays_then (read_by c.in_ok-packed.ensures.same c.in_ok-packed.ensures.honest c.in_ok-packed.ensures.counts c.in_ok-packed.ensures.stays) c.in_ok-count_each.ensures.read
+    let packed = c.in_ok-packed.ensures in
+    read_then g.met.T.Table.stays_then (read_by packed.same packed.honest packed.counts packed.stays) c.in_ok-count_each.ensures.read
 
 pub returns-clause-wide : goal.returns-clause-wide
 returns-clause-wide g c =

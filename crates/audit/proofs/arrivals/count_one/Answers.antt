@@ -44,7 +44,8 @@ returns-in_err-number-clause-fault g c =
 
 pub returns-in_err-has_edge-clause-read : goal.returns-in_err-has_edge-clause-read
 returns-in_err-has_edge-clause-read g c =
-    read_then g.met.T.Table.stays_then (read_by c.in_ok-number.ensures.same c.in_ok-number.ensures.honest c.in_ok-number.ensures.counts c.in_ok-number.ensures.stays) c.in_err-has_edge.ensures.read
+    let number = c.in_ok-number.ensures in
+    read_then g.met.T.Table.stays_then (read_by number.same number.honest number.counts number.stays) c.in_err-has_edge.ensures.read
 
 pub returns-in_err-has_edge-clause-room : goal.returns-in_err-has_edge-clause-room
 returns-in_err-has_edge-clause-room g c =
@@ -57,8 +58,10 @@ returns-in_err-has_edge-clause-fault g c =
 
 pub returns-then-not-branch-clause-read : goal.returns-then-not-branch-clause-read
 returns-then-not-branch-clause-read g c =
-    read_then g.met.T.Table.stays_then (read_by c.in_ok-number.ensures.same c.in_ok-number.ensures.honest c.in_ok-number.ensures.counts c.in_ok-number.ensures.stays) c.in_ok-has_edge.ensures.read
+    let number = c.in_ok-number.ensures in
+    read_then g.met.T.Table.stays_then (read_by number.same number.honest number.counts number.stays) c.in_ok-has_edge.ensures.read
 
 pub returns-clause-read : goal.returns-clause-read
 returns-clause-read g c =
-    read_then g.met.T.Table.stays_then (read_by c.in_ok-number.ensures.same c.in_ok-number.ensures.honest c.in_ok-number.ensures.counts c.in_ok-number.ensures.stays) c.in_ok-has_edge.ensures.read
+    let number = c.in_ok-number.ensures in
+    read_then g.met.T.Table.stays_then (read_by number.same number.honest number.counts number.stays) c.in_ok-has_edge.ensures.read 

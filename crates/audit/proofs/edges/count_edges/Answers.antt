@@ -43,7 +43,8 @@ returns-clause-count g c = λ honest.
 
 pub returns-in_err-from-clause-read : goal.returns-in_err-from-clause-read
 returns-in_err-from-clause-read g c =
-    read_then g.met.T.Table.stays_then c.loop-count.invariant.read (read_by c.in_err-from.ensures.same c.in_err-from.ensures.honest c.in_err-from.ensures.counts c.in_err-from.ensures.stays)
+    let from = c.in_err-from.ensures in
+    read_then g.met.T.Table.stays_then c.loop-count.invariant.read (read_by from.same from.honest from.counts from.stays)
 
 pub returns-in_err-from-clause-room : goal.returns-in_err-from-clause-room
 returns-in_err-from-clause-room g c =
@@ -56,4 +57,5 @@ returns-in_err-from-clause-fault g c =
 
 pub returns-in_default-clause-read : goal.returns-in_default-clause-read
 returns-in_default-clause-read g c =
-    read_then g.met.T.Table.stays_then c.loop-count.invariant.read (read_by c.in_ok-from.ensures.same c.in_ok-from.ensures.honest c.in_ok-from.ensures.counts c.in_ok-from.ensures.stays)
+    let from = c.in_ok-from.ensures in
+    read_then g.met.T.Table.stays_then c.loop-count.invariant.read (read_by from.same from.honest from.counts from.stays) 

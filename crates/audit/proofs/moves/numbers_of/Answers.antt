@@ -41,7 +41,8 @@ loop-position-preserved g c = record {
 
 pub returns-in_err-number-clause-read : goal.returns-in_err-number-clause-read
 returns-in_err-number-clause-read g c =
-    read_then g.met.T.Table.stays_then c.loop-position.invariant.read (read_by c.in_err-number.ensures.same c.in_err-number.ensures.honest c.in_err-number.ensures.counts c.in_err-number.ensures.stays)
+    let number = c.in_err-number.ensures in
+    read_then g.met.T.Table.stays_then c.loop-position.invariant.read (read_by number.same number.honest number.counts number.stays)
 
 pub returns-in_err-number-clause-room : goal.returns-in_err-number-clause-room
 returns-in_err-number-clause-room g c =
@@ -58,11 +59,13 @@ returns-in_err-number-clause-narrow g c =
 
 pub returns-in_default-clause-read : goal.returns-in_default-clause-read
 returns-in_default-clause-read g c =
-    read_then g.met.T.Table.stays_then c.loop-position.invariant.read (read_by c.in_ok-number.ensures.same c.in_ok-number.ensures.honest c.in_ok-number.ensures.counts c.in_ok-number.ensures.stays)
+    let number = c.in_ok-number.ensures in
+    read_then g.met.T.Table.stays_then c.loop-position.invariant.read (read_by number.same number.honest number.counts number.stays)
 
 pub returns-in_err-push-clause-read : goal.returns-in_err-push-clause-read
 returns-in_err-push-clause-read g c =
-    read_then g.met.T.Table.stays_then c.loop-position.invariant.read (read_by c.in_ok-number.ensures.same c.in_ok-number.ensures.honest c.in_ok-number.ensures.counts c.in_ok-number.ensures.stays)
+    let number = c.in_ok-number.ensures in
+    read_then g.met.T.Table.stays_then c.loop-position.invariant.read (read_by number.same number.honest number.counts number.stays)
 
 pub returns-in_err-push-clause-room : goal.returns-in_err-push-clause-room
 returns-in_err-push-clause-room g c =

@@ -23,7 +23,8 @@ loop-number-preserved g c = record {
 
 pub returns-in_err-record-clause-read : goal.returns-in_err-record-clause-read
 returns-in_err-record-clause-read g c =
-    read_then g.met.T.Table.stays_then c.loop-number.invariant.read (read_by c.in_err-record.ensures.same c.in_err-record.ensures.honest c.in_err-record.ensures.counts c.in_err-record.ensures.stays)
+    let kept = c.in_err-record.ensures in
+    read_then g.met.T.Table.stays_then c.loop-number.invariant.read (read_by kept.same kept.honest kept.counts kept.stays)
 
 pub returns-in_err-record-clause-room : goal.returns-in_err-record-clause-room
 returns-in_err-record-clause-room g c =
@@ -40,7 +41,8 @@ returns-in_err-record-clause-narrow g c =
 
 pub returns-in_err-push-clause-read : goal.returns-in_err-push-clause-read
 returns-in_err-push-clause-read g c =
-    read_then g.met.T.Table.stays_then c.loop-number.invariant.read (read_by c.in_ok-record.ensures.same c.in_ok-record.ensures.honest c.in_ok-record.ensures.counts c.in_ok-record.ensures.stays)
+    let kept = c.in_ok-record.ensures in
+    read_then g.met.T.Table.stays_then c.loop-number.invariant.read (read_by kept.same kept.honest kept.counts kept.stays)
 
 pub returns-in_err-push-clause-room : goal.returns-in_err-push-clause-room
 returns-in_err-push-clause-room g c =

@@ -42,7 +42,9 @@ returns-in_err-at-clause-wide g c =
 
 pub returns-in_err-kept-clause-read : goal.returns-in_err-kept-clause-read
 returns-in_err-kept-clause-read g c =
-    read_then g.met.T.Table.stays_then (read_by c.in_ok-at.ensures.same c.in_ok-at.ensures.honest c.in_ok-at.ensures.counts c.in_ok-at.ensures.stays) (read_by c.in_err-kept.ensures.same c.in_err-kept.ensures.honest c.in_err-kept.ensures.counts c.in_err-kept.ensures.stays)
+    let at = c.in_ok-at.ensures in
+    let kept = c.in_err-kept.ensures in
+    read_then g.met.T.Table.stays_then (read_by at.same at.honest at.counts at.stays) (read_by kept.same kept.honest kept.counts kept.stays)
 
 pub returns-in_err-kept-clause-room : goal.returns-in_err-kept-clause-room
 returns-in_err-kept-clause-room g c =
@@ -59,7 +61,9 @@ returns-in_err-kept-clause-wide g c =
 
 pub returns-in_err-is_reached-clause-read : goal.returns-in_err-is_reached-clause-read
 returns-in_err-is_reached-clause-read g c =
-    read_then g.met.T.Table.stays_then (read_then g.met.T.Table.stays_then (read_by c.in_ok-at.ensures.same c.in_ok-at.ensures.honest c.in_ok-at.ensures.counts c.in_ok-at.ensures.stays) (read_by c.in_ok-kept.ensures.same c.in_ok-kept.ensures.honest c.in_ok-kept.ensures.counts c.in_ok-kept.ensures.stays)) c.in_err-is_reached.ensures.read
+    let at = c.in_ok-at.ensures in
+    let kept = c.in_ok-kept.ensures in
+    read_then g.met.T.Table.stays_then (read_then g.met.T.Table.stays_then (read_by at.same at.honest at.counts at.stays) (read_by kept.same kept.honest kept.counts kept.stays)) c.in_err-is_reached.ensures.read
 
 pub returns-in_err-is_reached-clause-room : goal.returns-in_err-is_reached-clause-room
 returns-in_err-is_reached-clause-room g c =
@@ -76,7 +80,9 @@ returns-in_err-is_reached-clause-wide g c =
 
 pub returns-in_err-reason-clause-read : goal.returns-in_err-reason-clause-read
 returns-in_err-reason-clause-read g c =
-    read_then g.met.T.Table.stays_then (read_then g.met.T.Table.stays_then (read_then g.met.T.Table.stays_then (read_by c.in_ok-at.ensures.same c.in_ok-at.ensures.honest c.in_ok-at.ensures.counts c.in_ok-at.ensures.stays) (read_by c.in_ok-kept.ensures.same c.in_ok-kept.ensures.honest c.in_ok-kept.ensures.counts c.in_ok-kept.ensures.stays)) c.in_ok-is_reached.ensures.read) c.in_err-reason.ensures.read
+    let at = c.in_ok-at.ensures in
+    let kept = c.in_ok-kept.ensures in
+    read_then g.met.T.Table.stays_then (read_then g.met.T.Table.stays_then (read_then g.met.T.Table.stays_then (read_by at.same at.honest at.counts at.stays) (read_by kept.same kept.honest kept.counts kept.stays)) c.in_ok-is_reached.ensures.read) c.in_err-reason.ensures.read
 
 pub returns-in_err-reason-clause-room : goal.returns-in_err-reason-clause-room
 returns-in_err-reason-clause-room g c =
@@ -99,7 +105,9 @@ returns-in_err-reason-clause-wide g c =
 
 pub returns-then-not-branch-clause-read : goal.returns-then-not-branch-clause-read
 returns-then-not-branch-clause-read g c =
-    read_then g.met.T.Table.stays_then (read_then g.met.T.Table.stays_then (read_by c.in_ok-at.ensures.same c.in_ok-at.ensures.honest c.in_ok-at.ensures.counts c.in_ok-at.ensures.stays) (read_by c.in_ok-kept.ensures.same c.in_ok-kept.ensures.honest c.in_ok-kept.ensures.counts c.in_ok-kept.ensures.stays)) c.in_ok-is_reached.ensures.read
+    let at = c.in_ok-at.ensures in
+    let kept = c.in_ok-kept.ensures in
+    read_then g.met.T.Table.stays_then (read_then g.met.T.Table.stays_then (read_by at.same at.honest at.counts at.stays) (read_by kept.same kept.honest kept.counts kept.stays)) c.in_ok-is_reached.ensures.read
 
 pub returns-then-not-branch-clause-wide : goal.returns-then-not-branch-clause-wide
 returns-then-not-branch-clause-wide g c =
@@ -107,7 +115,9 @@ returns-then-not-branch-clause-wide g c =
 
 pub returns-clause-read : goal.returns-clause-read
 returns-clause-read g c =
-    read_then g.met.T.Table.stays_then (read_then g.met.T.Table.stays_then (read_then g.met.T.Table.stays_then (read_by c.in_ok-at.ensures.same c.in_ok-at.ensures.honest c.in_ok-at.ensures.counts c.in_ok-at.ensures.stays) (read_by c.in_ok-kept.ensures.same c.in_ok-kept.ensures.honest c.in_ok-kept.ensures.counts c.in_ok-kept.ensures.stays)) c.in_ok-is_reached.ensures.read) c.in_ok-reason.ensures.read
+    let at = c.in_ok-at.ensures in
+    let kept = c.in_ok-kept.ensures in
+    read_then g.met.T.Table.stays_then (read_then g.met.T.Table.stays_then (read_then g.met.T.Table.stays_then (read_by at.same at.honest at.counts at.stays) (read_by kept.same kept.honest kept.counts kept.stays)) c.in_ok-is_reached.ensures.read) c.in_ok-reason.ensures.read
 
 pub returns-clause-wide : goal.returns-clause-wide
 returns-clause-wide g c =

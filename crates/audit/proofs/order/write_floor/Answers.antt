@@ -42,7 +42,9 @@ returns-in_err-number-clause-fault g c =
 
 pub returns-in_err-record-clause-read : goal.returns-in_err-record-clause-read
 returns-in_err-record-clause-read g c =
-    read_then g.met.T.Table.stays_then (read_by c.in_ok-number.ensures.same c.in_ok-number.ensures.honest c.in_ok-number.ensures.counts c.in_ok-number.ensures.stays) (read_by c.in_err-record.ensures.same c.in_err-record.ensures.honest c.in_err-record.ensures.counts c.in_err-record.ensures.stays)
+    let number = c.in_ok-number.ensures in
+    let kept = c.in_err-record.ensures in
+    read_then g.met.T.Table.stays_then (read_by number.same number.honest number.counts number.stays) (read_by kept.same kept.honest kept.counts kept.stays)
 
 pub returns-in_err-record-clause-room : goal.returns-in_err-record-clause-room
 returns-in_err-record-clause-room g c =
@@ -55,4 +57,6 @@ returns-in_err-record-clause-fault g c =
 
 pub returns-clause-read : goal.returns-clause-read
 returns-clause-read g c =
-    read_then g.met.T.Table.stays_then (read_by c.in_ok-number.ensures.same c.in_ok-number.ensures.honest c.in_ok-number.ensures.counts c.in_ok-number.ensures.stays) (read_by c.in_ok-record.ensures.same c.in_ok-record.ensures.honest c.in_ok-record.ensures.counts c.in_ok-record.ensures.stays)
+    let number = c.in_ok-number.ensures in
+    let kept = c.in_ok-record.ensures in
+    read_then g.met.T.Table.stays_then (read_by number.same number.honest number.counts number.stays) (read_by kept.same kept.honest kept.counts kept.stays) 

@@ -24,7 +24,8 @@ returns-then-is_some-clause-wide g c =
 
 pub returns-in_err-moves-clause-read : goal.returns-in_err-moves-clause-read
 returns-in_err-moves-clause-read g c =
-    read_then g.met.T.Table.stays_then c.in_ok-own_failing.ensures.read (read_by c.in_err-moves.ensures.same c.in_err-moves.ensures.honest c.in_err-moves.ensures.counts c.in_err-moves.ensures.stays)
+    let moves = c.in_err-moves.ensures in
+    read_then g.met.T.Table.stays_then c.in_ok-own_failing.ensures.read (read_by moves.same moves.honest moves.counts moves.stays)
 
 pub returns-in_err-moves-clause-room : goal.returns-in_err-moves-clause-room
 returns-in_err-moves-clause-room g c =
@@ -41,7 +42,8 @@ returns-in_err-moves-clause-wide g c =
 
 pub returns-in_err-edges-clause-read : goal.returns-in_err-edges-clause-read
 returns-in_err-edges-clause-read g c =
-    read_then g.met.T.Table.stays_then (read_then g.met.T.Table.stays_then c.in_ok-own_failing.ensures.read (read_by c.in_ok-moves.ensures.same c.in_ok-moves.ensures.honest c.in_ok-moves.ensures.counts c.in_ok-moves.ensures.stays)) c.in_err-edges.ensures.read
+    let moves = c.in_ok-moves.ensures in
+    read_then g.met.T.Table.stays_then (read_then g.met.T.Table.stays_then c.in_ok-own_failing.ensures.read (read_by moves.same moves.honest moves.counts moves.stays)) c.in_err-edges.ensures.read
 
 pub returns-in_err-edges-clause-room : goal.returns-in_err-edges-clause-room
 returns-in_err-edges-clause-room g c =
@@ -58,7 +60,8 @@ returns-in_err-edges-clause-wide g c =
 
 pub returns-clause-read : goal.returns-clause-read
 returns-clause-read g c =
-    read_then g.met.T.Table.stays_then (read_then g.met.T.Table.stays_then c.in_ok-own_failing.ensures.read (read_by c.in_ok-moves.ensures.same c.in_ok-moves.ensures.honest c.in_ok-moves.ensures.counts c.in_ok-moves.ensures.stays)) c.in_ok-edges.ensures.read
+    let moves = c.in_ok-moves.ensures in
+    read_then g.met.T.Table.stays_then (read_then g.met.T.Table.stays_then c.in_ok-own_failing.ensures.read (read_by moves.same moves.honest moves.counts moves.stays)) c.in_ok-edges.ensures.read
 
 pub returns-clause-wide : goal.returns-clause-wide
 returns-clause-wide g c =

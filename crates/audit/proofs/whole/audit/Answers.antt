@@ -10,6 +10,7 @@ use Rattle.audit.specs.Answers.{IsAnswer}
 use Rattle.audit.specs.aid.Conditions.{AreFloors}
 use Rattle.audit.specs.aid.Edges.{AreArrivals}
 use Rattle.audit.proofs.AnswerLemmas.{right_sound, right_so}
+use Rattle.audit.proofs.Reading.{read_then}
 use Rattle.audit.proofs.whole.audit.Goals as goal
 
 is_ok : (b : Bool) → b ≡ true → ◌≡◌ {A = Result Bool AuditFault} (Ok b) (Ok true)
@@ -100,22 +101,6 @@ returns-clause-so g c = λ honest table is.
     (c.in_ok-arrivals.ensures.read.same h2 ∙ same2) (rw (c.deref-2.ensures.value, c.deref-3.ensures.value) at c.first_wrong.ensures.answer h3) in
     right_so graph IsWide stored table (rw is at answer table (c.in_ok-floors.ensures.floors honest table) (arrivals table))
 
-pub returns-in_err-floors-clause-same : goal.returns-in_err-floors-clause-same
-returns-in_err-floors-clause-same g c =
-    λ h. c.in_err-floors.ensures.read.same h
-
-pub returns-in_err-floors-clause-honest : goal.returns-in_err-floors-clause-honest
-returns-in_err-floors-clause-honest g c =
-    (λ h. c.in_err-floors.ensures.read.honest.0 h, λ h. c.in_err-floors.ensures.read.honest.1 h)
-
-pub returns-in_err-floors-clause-counts : goal.returns-in_err-floors-clause-counts
-returns-in_err-floors-clause-counts g c =
-    c.in_err-floors.ensures.read.counts
-
-pub returns-in_err-floors-clause-stays : goal.returns-in_err-floors-clause-stays
-returns-in_err-floors-clause-stays g c =
-    c.in_err-floors.ensures.read.stays
-
 pub returns-in_err-floors-clause-room : goal.returns-in_err-floors-clause-room
 returns-in_err-floors-clause-room g c =
     passed_on _ c.from_residual.result _ c.from_residual.ensures c.in_err-floors.ensures.room
@@ -131,19 +116,19 @@ returns-in_err-floors-clause-wide g c =
 
 pub returns-in_err-adds_up-clause-same : goal.returns-in_err-adds_up-clause-same
 returns-in_err-adds_up-clause-same g c =
-    λ h. c.in_err-adds_up.ensures.read.same (c.in_ok-floors.ensures.read.honest.0 h) ∙ c.in_ok-floors.ensures.read.same h
+    (read_then g.met.T.Table.stays_then c.in_ok-floors.ensures.read c.in_err-adds_up.ensures.read).same
 
 pub returns-in_err-adds_up-clause-honest : goal.returns-in_err-adds_up-clause-honest
 returns-in_err-adds_up-clause-honest g c =
-    (λ h. c.in_err-adds_up.ensures.read.honest.0 (c.in_ok-floors.ensures.read.honest.0 h), λ h. c.in_ok-floors.ensures.read.honest.1 (c.in_err-adds_up.ensures.read.honest.1 h))
+    (read_then g.met.T.Table.stays_then c.in_ok-floors.ensures.read c.in_err-adds_up.ensures.read).honest
 
 pub returns-in_err-adds_up-clause-counts : goal.returns-in_err-adds_up-clause-counts
 returns-in_err-adds_up-clause-counts g c =
-    c.in_err-adds_up.ensures.read.counts ∙ c.in_ok-floors.ensures.read.counts
+    (read_then g.met.T.Table.stays_then c.in_ok-floors.ensures.read c.in_err-adds_up.ensures.read).counts
 
 pub returns-in_err-adds_up-clause-stays : goal.returns-in_err-adds_up-clause-stays
 returns-in_err-adds_up-clause-stays g c =
-    g.met.T.Table.stays_then _ _ _ c.in_ok-floors.ensures.read.stays c.in_err-adds_up.ensures.read.stays
+    (read_then g.met.T.Table.stays_then c.in_ok-floors.ensures.read c.in_err-adds_up.ensures.read).stays
 
 pub returns-in_err-adds_up-clause-room : goal.returns-in_err-adds_up-clause-room
 returns-in_err-adds_up-clause-room g c =
@@ -162,19 +147,19 @@ returns-in_err-adds_up-clause-wide g c =
 
 pub returns-then-branch-clause-same : goal.returns-then-branch-clause-same
 returns-then-branch-clause-same g c =
-    λ h. c.in_ok-adds_up.ensures.read.same (c.in_ok-floors.ensures.read.honest.0 h) ∙ c.in_ok-floors.ensures.read.same h
+    (read_then g.met.T.Table.stays_then c.in_ok-floors.ensures.read c.in_ok-adds_up.ensures.read).same
 
 pub returns-then-branch-clause-honest : goal.returns-then-branch-clause-honest
 returns-then-branch-clause-honest g c =
-    (λ h. c.in_ok-adds_up.ensures.read.honest.0 (c.in_ok-floors.ensures.read.honest.0 h), λ h. c.in_ok-floors.ensures.read.honest.1 (c.in_ok-adds_up.ensures.read.honest.1 h))
+    (read_then g.met.T.Table.stays_then c.in_ok-floors.ensures.read c.in_ok-adds_up.ensures.read).honest
 
 pub returns-then-branch-clause-counts : goal.returns-then-branch-clause-counts
 returns-then-branch-clause-counts g c =
-    c.in_ok-adds_up.ensures.read.counts ∙ c.in_ok-floors.ensures.read.counts
+    (read_then g.met.T.Table.stays_then c.in_ok-floors.ensures.read c.in_ok-adds_up.ensures.read).counts
 
 pub returns-then-branch-clause-stays : goal.returns-then-branch-clause-stays
 returns-then-branch-clause-stays g c =
-    g.met.T.Table.stays_then _ _ _ c.in_ok-floors.ensures.read.stays c.in_ok-adds_up.ensures.read.stays
+    (read_then g.met.T.Table.stays_then c.in_ok-floors.ensures.read c.in_ok-adds_up.ensures.read).stays
 
 pub returns-then-branch-clause-wide : goal.returns-then-branch-clause-wide
 returns-then-branch-clause-wide g c =
@@ -182,19 +167,19 @@ returns-then-branch-clause-wide g c =
 
 pub returns-in_err-arrivals-clause-same : goal.returns-in_err-arrivals-clause-same
 returns-in_err-arrivals-clause-same g c =
-    λ h. c.in_err-arrivals.ensures.read.same (c.in_ok-adds_up.ensures.read.honest.0 (c.in_ok-floors.ensures.read.honest.0 h)) ∙ (c.in_ok-adds_up.ensures.read.same (c.in_ok-floors.ensures.read.honest.0 h) ∙ (c.in_ok-floors.ensures.read.same h))
+    (read_then g.met.T.Table.stays_then (read_then g.met.T.Table.stays_then c.in_ok-floors.ensures.read c.in_ok-adds_up.ensures.read) c.in_err-arrivals.ensures.read).same
 
 pub returns-in_err-arrivals-clause-honest : goal.returns-in_err-arrivals-clause-honest
 returns-in_err-arrivals-clause-honest g c =
-    (λ h. c.in_err-arrivals.ensures.read.honest.0 (c.in_ok-adds_up.ensures.read.honest.0 (c.in_ok-floors.ensures.read.honest.0 h)), λ h. c.in_ok-floors.ensures.read.honest.1 (c.in_ok-adds_up.ensures.read.honest.1 (c.in_err-arrivals.ensures.read.honest.1 h)))
+    (read_then g.met.T.Table.stays_then (read_then g.met.T.Table.stays_then c.in_ok-floors.ensures.read c.in_ok-adds_up.ensures.read) c.in_err-arrivals.ensures.read).honest
 
 pub returns-in_err-arrivals-clause-counts : goal.returns-in_err-arrivals-clause-counts
 returns-in_err-arrivals-clause-counts g c =
-    c.in_err-arrivals.ensures.read.counts ∙ (c.in_ok-adds_up.ensures.read.counts ∙ c.in_ok-floors.ensures.read.counts)
+    (read_then g.met.T.Table.stays_then (read_then g.met.T.Table.stays_then c.in_ok-floors.ensures.read c.in_ok-adds_up.ensures.read) c.in_err-arrivals.ensures.read).counts
 
 pub returns-in_err-arrivals-clause-stays : goal.returns-in_err-arrivals-clause-stays
 returns-in_err-arrivals-clause-stays g c =
-    g.met.T.Table.stays_then _ _ _ (g.met.T.Table.stays_then _ _ _ c.in_ok-floors.ensures.read.stays c.in_ok-adds_up.ensures.read.stays) c.in_err-arrivals.ensures.read.stays
+    (read_then g.met.T.Table.stays_then (read_then g.met.T.Table.stays_then c.in_ok-floors.ensures.read c.in_ok-adds_up.ensures.read) c.in_err-arrivals.ensures.read).stays
 
 pub returns-in_err-arrivals-clause-room : goal.returns-in_err-arrivals-clause-room
 returns-in_err-arrivals-clause-room g c =
@@ -214,16 +199,16 @@ returns-in_err-arrivals-clause-wide g c =
 
 pub returns-clause-same : goal.returns-clause-same
 returns-clause-same g c =
-    λ h. c.first_wrong.ensures.read.same (c.in_ok-arrivals.ensures.read.honest.0 (c.in_ok-adds_up.ensures.read.honest.0 (c.in_ok-floors.ensures.read.honest.0 h))) ∙ (c.in_ok-arrivals.ensures.read.same (c.in_ok-adds_up.ensures.read.honest.0 (c.in_ok-floors.ensures.read.honest.0 h)) ∙ (c.in_ok-adds_up.ensures.read.same (c.in_ok-floors.ensures.read.honest.0 h) ∙ (c.in_ok-floors.ensures.read.same h)))
+    (read_then g.met.T.Table.stays_then (read_then g.met.T.Table.stays_then (read_then g.met.T.Table.stays_then c.in_ok-floors.ensures.read c.in_ok-adds_up.ensures.read) c.in_ok-arrivals.ensures.read) c.first_wrong.ensures.read).same
 
 pub returns-clause-honest : goal.returns-clause-honest
 returns-clause-honest g c =
-    (λ h. c.first_wrong.ensures.read.honest.0 (c.in_ok-arrivals.ensures.read.honest.0 (c.in_ok-adds_up.ensures.read.honest.0 (c.in_ok-floors.ensures.read.honest.0 h))), λ h. c.in_ok-floors.ensures.read.honest.1 (c.in_ok-adds_up.ensures.read.honest.1 (c.in_ok-arrivals.ensures.read.honest.1 (c.first_wrong.ensures.read.honest.1 h))))
+    (read_then g.met.T.Table.stays_then (read_then g.met.T.Table.stays_then (read_then g.met.T.Table.stays_then c.in_ok-floors.ensures.read c.in_ok-adds_up.ensures.read) c.in_ok-arrivals.ensures.read) c.first_wrong.ensures.read).honest
 
 pub returns-clause-counts : goal.returns-clause-counts
 returns-clause-counts g c =
-    c.first_wrong.ensures.read.counts ∙ (c.in_ok-arrivals.ensures.read.counts ∙ (c.in_ok-adds_up.ensures.read.counts ∙ c.in_ok-floors.ensures.read.counts))
+    (read_then g.met.T.Table.stays_then (read_then g.met.T.Table.stays_then (read_then g.met.T.Table.stays_then c.in_ok-floors.ensures.read c.in_ok-adds_up.ensures.read) c.in_ok-arrivals.ensures.read) c.first_wrong.ensures.read).counts
 
 pub returns-clause-stays : goal.returns-clause-stays
 returns-clause-stays g c =
-    g.met.T.Table.stays_then _ _ _ (g.met.T.Table.stays_then _ _ _ (g.met.T.Table.stays_then _ _ _ c.in_ok-floors.ensures.read.stays c.in_ok-adds_up.ensures.read.stays) c.in_ok-arrivals.ensures.read.stays) c.first_wrong.ensures.read.stays
+    (read_then g.met.T.Table.stays_then (read_then g.met.T.Table.stays_then (read_then g.met.T.Table.stays_then c.in_ok-floors.ensures.read c.in_ok-adds_up.ensures.read) c.in_ok-arrivals.ensures.read) c.first_wrong.ensures.read).stays
