@@ -1,4 +1,5 @@
 pub mod Passing
+pub mod Reading
 pub mod Lists
 pub mod ValueLemmas
 pub mod MoveValueLemmas

@@ -1,3 +1,4 @@
 pub mod Conditions
 pub mod Edges
+pub mod Reading
 pub mod Records

@@ -1,11 +1,12 @@
 //! How many edges to each number are moves.
-ghost use Rattle.std.specs.Prelude.{◌≡◌, ◌≢◌, ◌↔◌, ◌<◌, ℕ, List, true, AllPairs, Contains, IfOk, OnOk, IfErr, Err, length};
+ghost use Rattle.std.specs.Prelude.{◌≡◌, ◌≢◌, ◌<◌, ℕ, List, true, AllPairs, Contains, IfOk, OnOk, IfErr, Err, length};
 ghost use Rattle.retrograde.specs.View.{HasNumber};
 ghost use Rattle.retrograde.specs.Stored.{IsTable, view_of, expanded_count};
 ghost use Rattle.table.specs.Memory.{bytes_of_each};
 ghost use Rattle.table.specs.Faults.{NeedsNoPage};
 ghost use Rattle.audit.specs.Causes.{OfTableFault, HasWide};
 ghost use Rattle.audit.specs.aid.Edges.{CountsIf, IsMoveEdge, AreArrivals};
+ghost use Rattle.audit.specs.aid.Reading.{IsRead};
 ghost use Rattle.audit.specs.declared.fault.AuditFault.TheVariants.{TooWide};
 
 use crate::edges::has_edge;
@@ -27,10 +28,7 @@ fn count_one<T: Table>(
         → HasNumber (view_of (T.stored table.old)) i x
         → CountsIf ((x ≡ position.now.items) × ((T.stored table.old).has_edge i from ≡ true)) arrivals.old.items arrivals.new.items i) }
     ensures lengths { length arrivals.new.items ≡ length arrivals.old.items }
-    ensures same { T.is_honest table.old → T.stored table.new ≡ T.stored table.old }
-    ensures honest { T.is_honest table.old ↔ T.is_honest table.new }
-    ensures counts { T.counted table.new ≡ T.counted table.old }
-    ensures stays { T.stays table.old table.new }
+    ensures read { IsRead T.stored T.is_honest T.counted T.stays table.old table.new }
     ensures room { IfErr result NeedsNoPage }
     ensures fault { IfErr result (T.fails table.old table.new) }
 {
@@ -58,10 +56,7 @@ fn count_each<T: Table>(
         → CountsIf (Contains (bytes_of_each positions.now) x × ((T.stored table.old).has_edge i from ≡ true))
         arrivals.old.items arrivals.new.items i) }
     ensures lengths { length arrivals.new.items ≡ length arrivals.old.items }
-    ensures same { T.is_honest table.old → T.stored table.new ≡ T.stored table.old }
-    ensures honest { T.is_honest table.old ↔ T.is_honest table.new }
-    ensures counts { T.counted table.new ≡ T.counted table.old }
-    ensures stays { T.stays table.old table.new }
+    ensures read { IsRead T.stored T.is_honest T.counted T.stays table.old table.new }
     ensures room { IfErr result NeedsNoPage }
     ensures fault { IfErr result (T.fails table.old table.new) }
 {
@@ -88,10 +83,7 @@ fn count_moves<M: MoveSource, T: Table>(
     ensures lengths { length arrivals.new.items ≡ length arrivals.old.items }
     ensures wide { T.is_honest table.old → from < expanded_count (T.stored table.old) → result ≡ Err TooWide
         → HasWide (M.is_wide source.now) (T.stored table.old) }
-    ensures same { T.is_honest table.old → T.stored table.new ≡ T.stored table.old }
-    ensures honest { T.is_honest table.old ↔ T.is_honest table.new }
-    ensures counts { T.counted table.new ≡ T.counted table.old }
-    ensures stays { T.stays table.old table.new }
+    ensures read { IsRead T.stored T.is_honest T.counted T.stays table.old table.new }
     ensures room { IfErr result (OfTableFault NeedsNoPage) }
     ensures fault { IfErr result (OfTableFault (T.fails table.old table.new)) }
 {
@@ -112,10 +104,7 @@ pub fn arrivals<M: MoveSource, T: Table>(
         AreArrivals (M.graph source.now) (T.stored table.old) (expanded_count (T.stored table.old)) arrivals.items) }
     ensures lengths { IfOk result (λ arrivals. length arrivals.items ≡ (T.counted table.old).known) }
     ensures wide { T.is_honest table.old → result ≡ Err TooWide → HasWide (M.is_wide source.now) (T.stored table.old) }
-    ensures same { T.is_honest table.old → T.stored table.new ≡ T.stored table.old }
-    ensures honest { T.is_honest table.old ↔ T.is_honest table.new }
-    ensures counts { T.counted table.new ≡ T.counted table.old }
-    ensures stays { T.stays table.old table.new }
+    ensures read { IsRead T.stored T.is_honest T.counted T.stays table.old table.new }
     ensures room { IfErr result (OfTableFault NeedsNoPage) }
     ensures fault { IfErr result (OfTableFault (T.fails table.old table.new)) }
 {

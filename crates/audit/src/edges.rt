@@ -1,17 +1,15 @@
 //! The edges of a table.
-ghost use Rattle.std.specs.Prelude.{◌≡◌, ◌↔◌, IfOk, OnOk, IfErr, length};
+ghost use Rattle.std.specs.Prelude.{◌≡◌, IfOk, OnOk, IfErr, length};
 ghost use Rattle.retrograde.specs.Stored.{count_below};
 ghost use Rattle.table.specs.Faults.{NeedsNoPage};
+ghost use Rattle.audit.specs.aid.Reading.{IsRead};
 
 use table::{Table, TableFault};
 
 /// There is an edge to the first number from the second.
 pub fn has_edge<T: Table>(table: &mut T, to: u32, from: u32) -> Result<bool, TableFault>
     ensures there { T.is_honest table.old → IfOk result (λ is. is ≡ (T.stored table.old).has_edge to from) }
-    ensures same { T.is_honest table.old → T.stored table.new ≡ T.stored table.old }
-    ensures honest { T.is_honest table.old ↔ T.is_honest table.new }
-    ensures counts { T.counted table.new ≡ T.counted table.old }
-    ensures stays { T.stays table.old table.new }
+    ensures read { IsRead T.stored T.is_honest T.counted T.stays table.old table.new }
     ensures room { IfErr result NeedsNoPage }
     ensures fault { IfErr result (T.fails table.old table.new) }
 {
@@ -22,10 +20,7 @@ pub fn has_edge<T: Table>(table: &mut T, to: u32, from: u32) -> Result<bool, Tab
 pub fn count_edges<T: Table>(table: &mut T, to: u32) -> Result<u32, TableFault>
     ensures count { T.is_honest table.old → IfOk result (λ n.
         n ≡ count_below (length (T.stored table.old).positions) (λ p. (T.stored table.old).has_edge to p)) }
-    ensures same { T.is_honest table.old → T.stored table.new ≡ T.stored table.old }
-    ensures honest { T.is_honest table.old ↔ T.is_honest table.new }
-    ensures counts { T.counted table.new ≡ T.counted table.old }
-    ensures stays { T.stays table.old table.new }
+    ensures read { IsRead T.stored T.is_honest T.counted T.stays table.old table.new }
     ensures room { IfErr result NeedsNoPage }
     ensures fault { IfErr result (T.fails table.old table.new) }
 {

@@ -10,6 +10,7 @@ ghost use Rattle.table.specs.Memory.{bytes_of_each};
 ghost use Rattle.table.specs.Faults.{NeedsNoPage};
 ghost use Rattle.audit.specs.Causes.{OfTableFault};
 ghost use Rattle.audit.specs.aid.Conditions.{AreItsRecords};
+ghost use Rattle.audit.specs.aid.Reading.{IsRead};
 ghost use Rattle.audit.specs.declared.fault.AuditFault.TheVariants.{TooWide};
 
 use crate::edges::has_edge;
@@ -33,10 +34,7 @@ fn numbers_of<T: Table>(
         × ((j : ℕ) → slice_get (T.stored table.old).positions j ≡ Some y → ⊥))) }
     ensures within { IfOk result (λ r. IfSome r (λ numbers. All (λ j. j < (T.counted table.old).known) numbers.items)) }
     ensures narrow { IfErr result (λ fault. ¬ (fault ≡ TooWide)) }
-    ensures same { T.is_honest table.old → T.stored table.new ≡ T.stored table.old }
-    ensures honest { T.is_honest table.old ↔ T.is_honest table.new }
-    ensures counts { T.counted table.new ≡ T.counted table.old }
-    ensures stays { T.stays table.old table.new }
+    ensures read { IsRead T.stored T.is_honest T.counted T.stays table.old table.new }
     ensures room { IfErr result (OfTableFault NeedsNoPage) }
     ensures fault { IfErr result (OfTableFault (T.fails table.old table.new)) }
 {
@@ -54,10 +52,7 @@ fn numbers_of<T: Table>(
 fn has_edges<T: Table>(table: &mut T, from: u32, numbers: &[u32]) -> Result<bool, TableFault>
     ensures all { T.is_honest table.old → IfOk result (λ is.
         (is ≡ true) ↔ All (λ j. (T.stored table.old).has_edge j from ≡ true) numbers.now) }
-    ensures same { T.is_honest table.old → T.stored table.new ≡ T.stored table.old }
-    ensures honest { T.is_honest table.old ↔ T.is_honest table.new }
-    ensures counts { T.counted table.new ≡ T.counted table.old }
-    ensures stays { T.stays table.old table.new }
+    ensures read { IsRead T.stored T.is_honest T.counted T.stays table.old table.new }
     ensures room { IfErr result NeedsNoPage }
     ensures fault { IfErr result (T.fails table.old table.new) }
 {
@@ -78,10 +73,7 @@ fn records_of<T: Table>(
     requires { All (λ j. j < (T.counted table.old).known) numbers.now }
     ensures records { T.is_honest table.old → IfOk result (λ records. AllZip (HasRecord (T.stored table.old)) numbers.now records.items) }
     ensures narrow { IfErr result (λ fault. ¬ (fault ≡ TooWide)) }
-    ensures same { T.is_honest table.old → T.stored table.new ≡ T.stored table.old }
-    ensures honest { T.is_honest table.old ↔ T.is_honest table.new }
-    ensures counts { T.counted table.new ≡ T.counted table.old }
-    ensures stays { T.stays table.old table.new }
+    ensures read { IsRead T.stored T.is_honest T.counted T.stays table.old table.new }
     ensures room { IfErr result (OfTableFault NeedsNoPage) }
     ensures fault { IfErr result (OfTableFault (T.fails table.old table.new)) }
 {
@@ -125,10 +117,7 @@ pub fn successors_of<M: MoveSource, T: Table>(
         → IfOk result (λ r. IfNone r (HasItsMoves (M.graph source.now) (T.stored table.old) number at.now.items → ⊥)) }
     ensures narrow { IsOk result → ¬ M.is_wide source.now at.now.items }
     ensures wide { result ≡ Err TooWide → M.is_wide source.now at.now.items }
-    ensures same { T.is_honest table.old → T.stored table.new ≡ T.stored table.old }
-    ensures honest { T.is_honest table.old ↔ T.is_honest table.new }
-    ensures counts { T.counted table.new ≡ T.counted table.old }
-    ensures stays { T.stays table.old table.new }
+    ensures read { IsRead T.stored T.is_honest T.counted T.stays table.old table.new }
     ensures room { IfErr result (OfTableFault NeedsNoPage) }
     ensures fault { IfErr result (OfTableFault (T.fails table.old table.new)) }
 {

@@ -8,6 +8,7 @@ ghost use Rattle.table.specs.Faults.{NeedsNoPage};
 ghost use Rattle.audit.specs.Causes.{OfTableFault, HasWide};
 ghost use Rattle.audit.specs.aid.Conditions.{IsLowest, own_condition, IsFloor};
 ghost use Rattle.audit.specs.aid.Edges.{IsArriving};
+ghost use Rattle.audit.specs.aid.Reading.{IsRead};
 ghost use Rattle.audit.specs.declared.verdict.Reason.TheVariants.{A1, A2};
 ghost use Rattle.audit.specs.declared.fault.AuditFault.TheVariants.{TooWide};
 
@@ -33,10 +34,7 @@ fn is_reached<M: MoveSource, T: Table>(
     requires source { M.is_sound source.now }
     ensures reached { T.is_honest table.old → IfOk result (λ is.
         (is ≡ true) ↔ IsReached (M.graph source.now) (T.stored table.old) number at.now.items) }
-    ensures same { T.is_honest table.old → T.stored table.new ≡ T.stored table.old }
-    ensures honest { T.is_honest table.old ↔ T.is_honest table.new }
-    ensures counts { T.counted table.new ≡ T.counted table.old }
-    ensures stays { T.stays table.old table.new }
+    ensures read { IsRead T.stored T.is_honest T.counted T.stays table.old table.new }
     ensures room { IfErr result NeedsNoPage }
     ensures fault { IfErr result (T.fails table.old table.new) }
 {
@@ -68,10 +66,7 @@ fn later_failing<M: MoveSource, T: Table>(
         → ¬ M.is_wide source.now at.now.items }
     ensures wide { T.is_honest table.old → result ≡ Err TooWide
         → (number < expanded_count (T.stored table.old)) × M.is_wide source.now at.now.items }
-    ensures same { T.is_honest table.old → T.stored table.new ≡ T.stored table.old }
-    ensures honest { T.is_honest table.old ↔ T.is_honest table.new }
-    ensures counts { T.counted table.new ≡ T.counted table.old }
-    ensures stays { T.stays table.old table.new }
+    ensures read { IsRead T.stored T.is_honest T.counted T.stays table.old table.new }
     ensures room { IfErr result (OfTableFault NeedsNoPage) }
     ensures fault { IfErr result (OfTableFault (T.fails table.old table.new)) }
 {
@@ -104,10 +99,7 @@ pub fn own_failing<M: MoveSource, T: Table>(
     ensures narrow { T.is_honest table.old → result ≡ Ok None → (x : List ℕ) → HasNumber (view_of (T.stored table.old)) number x
         → number < expanded_count (T.stored table.old) → ¬ M.is_wide source.now x }
     ensures wide { T.is_honest table.old → result ≡ Err TooWide → HasWide (M.is_wide source.now) (T.stored table.old) }
-    ensures same { T.is_honest table.old → T.stored table.new ≡ T.stored table.old }
-    ensures honest { T.is_honest table.old ↔ T.is_honest table.new }
-    ensures counts { T.counted table.new ≡ T.counted table.old }
-    ensures stays { T.stays table.old table.new }
+    ensures read { IsRead T.stored T.is_honest T.counted T.stays table.old table.new }
     ensures room { IfErr result (OfTableFault NeedsNoPage) }
     ensures fault { IfErr result (OfTableFault (T.fails table.old table.new)) }
 {
@@ -146,10 +138,7 @@ pub fn failing<M: MoveSource, T: Table>(
     ensures narrow { T.is_honest table.old → result ≡ Ok None → (x : List ℕ) → HasNumber (view_of (T.stored table.old)) number x
         → number < expanded_count (T.stored table.old) → ¬ M.is_wide source.now x }
     ensures wide { T.is_honest table.old → result ≡ Err TooWide → HasWide (M.is_wide source.now) (T.stored table.old) }
-    ensures same { T.is_honest table.old → T.stored table.new ≡ T.stored table.old }
-    ensures honest { T.is_honest table.old ↔ T.is_honest table.new }
-    ensures counts { T.counted table.new ≡ T.counted table.old }
-    ensures stays { T.stays table.old table.new }
+    ensures read { IsRead T.stored T.is_honest T.counted T.stays table.old table.new }
     ensures room { IfErr result (OfTableFault NeedsNoPage) }
     ensures fault { IfErr result (OfTableFault (T.fails table.old table.new)) }
 {

@@ -1,9 +1,10 @@
 //! What each settled number is not to be nearer than.
-ghost use Rattle.std.specs.Prelude.{◌≡◌, ◌↔◌, ◌<◌, ℕ, Some, IfOk, OnOk, IfErr, length, slice_get, slice_set};
+ghost use Rattle.std.specs.Prelude.{◌≡◌, ◌<◌, ℕ, Some, IfOk, OnOk, IfErr, length, slice_get, slice_set};
 ghost use Rattle.retrograde.specs.Stored.{IsTable};
 ghost use Rattle.table.specs.Faults.{NeedsNoPage};
 ghost use Rattle.audit.specs.Causes.{OfTableFault};
 ghost use Rattle.audit.specs.aid.Conditions.{AreFloors, distance_at};
+ghost use Rattle.audit.specs.aid.Reading.{IsRead};
 ghost use Rattle.audit.specs.declared.fault.AuditFault.TheVariants.{TooWide};
 
 use crate::fault::AuditFault;
@@ -24,10 +25,7 @@ fn write_floor<T: Table>(
         → (distance ≡ distance_at (T.stored table.old) (Some i)) × (i < length floors.old.items)
         × (floors.new.items ≡ slice_set floors.old.items i floor)) }
     ensures lengths { length floors.new.items ≡ length floors.old.items }
-    ensures same { T.is_honest table.old → T.stored table.new ≡ T.stored table.old }
-    ensures honest { T.is_honest table.old ↔ T.is_honest table.new }
-    ensures counts { T.counted table.new ≡ T.counted table.old }
-    ensures stays { T.stays table.old table.new }
+    ensures read { IsRead T.stored T.is_honest T.counted T.stays table.old table.new }
     ensures room { IfErr result NeedsNoPage }
     ensures fault { IfErr result (T.fails table.old table.new) }
 {
@@ -46,10 +44,7 @@ pub fn floors<T: Table>(alloc: Global, table: &mut T) -> Result<Vec<u32>, AuditF
         → IfOk result (λ floors. AreFloors (T.stored table.old) (length (T.stored table.old).order) floors.items) }
     ensures lengths { IfOk result (λ floors. length floors.items ≡ (T.counted table.old).known) }
     ensures narrow { IfErr result (λ fault. ¬ (fault ≡ TooWide)) }
-    ensures same { T.is_honest table.old → T.stored table.new ≡ T.stored table.old }
-    ensures honest { T.is_honest table.old ↔ T.is_honest table.new }
-    ensures counts { T.counted table.new ≡ T.counted table.old }
-    ensures stays { T.stays table.old table.new }
+    ensures read { IsRead T.stored T.is_honest T.counted T.stays table.old table.new }
     ensures room { IfErr result (OfTableFault NeedsNoPage) }
     ensures fault { IfErr result (OfTableFault (T.fails table.old table.new)) }
 {

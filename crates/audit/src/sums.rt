@@ -1,11 +1,12 @@
 //! The first look at a table, for which the moves of each position are searched once.
-ghost use Rattle.std.specs.Prelude.{◌≡◌, ◌↔◌, ◌<◌, ℕ, List, true, IfOk, OnOk, IfErr, IfSome, Err, Ok, None, length, slice_get};
+ghost use Rattle.std.specs.Prelude.{◌≡◌, ◌<◌, ℕ, List, true, IfOk, OnOk, IfErr, IfSome, Err, Ok, None, length, slice_get};
 ghost use Rattle.retrograde.specs.View.{HasNumber};
 ghost use Rattle.retrograde.specs.Stored.{IsTable, view_of, expanded_count, count_below};
 ghost use Rattle.table.specs.Faults.{NeedsNoPage};
 ghost use Rattle.audit.specs.Answers.{IsAnswer};
 ghost use Rattle.audit.specs.Causes.{OfTableFault, HasWide};
 ghost use Rattle.audit.specs.aid.Conditions.{IsLowest, own_condition, IsFloor, AreFloors, successors_in};
+ghost use Rattle.audit.specs.aid.Reading.{IsRead};
 ghost use Rattle.audit.specs.declared.verdict.Verdict.TheVariants.{Right};
 ghost use Rattle.audit.specs.declared.fault.AuditFault.TheVariants.{TooWide};
 
@@ -43,10 +44,7 @@ fn tally_of<M: MoveSource, T: Table>(
     ensures edges { T.is_honest table.old → IfOk result (λ r. IfSome r (λ tally.
         tally.edges ≡ count_below (length (T.stored table.old).positions) (λ p. (T.stored table.old).has_edge number p))) }
     ensures wide { T.is_honest table.old → result ≡ Err TooWide → HasWide (M.is_wide source.now) (T.stored table.old) }
-    ensures same { T.is_honest table.old → T.stored table.new ≡ T.stored table.old }
-    ensures honest { T.is_honest table.old ↔ T.is_honest table.new }
-    ensures counts { T.counted table.new ≡ T.counted table.old }
-    ensures stays { T.stays table.old table.new }
+    ensures read { IsRead T.stored T.is_honest T.counted T.stays table.old table.new }
     ensures room { IfErr result (OfTableFault NeedsNoPage) }
     ensures fault { IfErr result (OfTableFault (T.fails table.old table.new)) }
 {
@@ -72,10 +70,7 @@ pub fn adds_up<M: MoveSource, T: Table>(
         → AreFloors (T.stored table.old) (length (T.stored table.old).order) floors.now → result ≡ Ok true
         → IsAnswer (M.graph source.now) (M.is_wide source.now) (T.stored table.old) Right }
     ensures wide { T.is_honest table.old → result ≡ Err TooWide → HasWide (M.is_wide source.now) (T.stored table.old) }
-    ensures same { T.is_honest table.old → T.stored table.new ≡ T.stored table.old }
-    ensures honest { T.is_honest table.old ↔ T.is_honest table.new }
-    ensures counts { T.counted table.new ≡ T.counted table.old }
-    ensures stays { T.stays table.old table.new }
+    ensures read { IsRead T.stored T.is_honest T.counted T.stays table.old table.new }
     ensures room { IfErr result (OfTableFault NeedsNoPage) }
     ensures fault { IfErr result (OfTableFault (T.fails table.old table.new)) }
 {

@@ -8,6 +8,7 @@ ghost use Rattle.audit.specs.Answers.{IsAnswer, IsTableSo};
 ghost use Rattle.audit.specs.Causes.{OfTableFault, HasWide};
 ghost use Rattle.audit.specs.aid.Conditions.{AreFloors};
 ghost use Rattle.audit.specs.aid.Edges.{AreArrivals};
+ghost use Rattle.audit.specs.aid.Reading.{IsRead};
 ghost use Rattle.audit.specs.declared.verdict.Verdict.TheVariants.{Right};
 ghost use Rattle.audit.specs.declared.fault.AuditFault.TheVariants.{TooWide};
 
@@ -37,10 +38,7 @@ fn first_wrong<M: MoveSource, T: Table>(
         → AreArrivals (M.graph source.now) (T.stored table.old) (expanded_count (T.stored table.old)) arrivals.now
         → IfOk result (IsAnswer (M.graph source.now) (M.is_wide source.now) (T.stored table.old)) }
     ensures wide { T.is_honest table.old → result ≡ Err TooWide → HasWide (M.is_wide source.now) (T.stored table.old) }
-    ensures same { T.is_honest table.old → T.stored table.new ≡ T.stored table.old }
-    ensures honest { T.is_honest table.old ↔ T.is_honest table.new }
-    ensures counts { T.counted table.new ≡ T.counted table.old }
-    ensures stays { T.stays table.old table.new }
+    ensures read { IsRead T.stored T.is_honest T.counted T.stays table.old table.new }
     ensures room { IfErr result (OfTableFault NeedsNoPage) }
     ensures fault { IfErr result (OfTableFault (T.fails table.old table.new)) }
 {

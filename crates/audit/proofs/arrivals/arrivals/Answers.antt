@@ -8,16 +8,14 @@ use Rattle.retrograde.specs.View.{HasNumber}
 use Rattle.retrograde.specs.Stored.{Stored, IsTable, view_of, expanded_count}
 use Rattle.audit.specs.aid.Edges.{CountsIf, IsMoveEdge, AreArrivals}
 use Rattle.audit.proofs.ArrivalLemmas.{expanded_known, no_arrivals, arrivals_next}
+use Rattle.audit.proofs.Reading.{unread, read_then}
 use Rattle.audit.proofs.arrivals.arrivals.Goals as goal
 
 pub loop-from-init : goal.loop-from-init
 loop-from-init g c = record {
   source = refl;
   lengths = ap (λ (ns : List ℕ). length ns) (c.in_ok-arrivals.ensures.items_if_clones_equal (λ y is. is)) ∙ (length-replicate {A = ℕ} c.counts-counts.result.known 0 ∙ ap (λ (k : Counts). k.known) c.counts-counts.ensures);
-  counts = refl;
-  stays = g.met.T.Table.stays_here _;
-  honest = (λ h. h, λ h. h);
-  same = λ h. refl;
+  read = unread g.met.T.Table.stays_here _;
   arrivals = λ honest table.
       let known : c.counts-counts.result.known ≡ length (g.T.Table.stored c.args.table.now).positions =
       ap (λ (k : Counts). k.known) (c.counts-counts.ensures ∙ g.met.T.Table.counts_are c.args.table.now honest) in
@@ -29,15 +27,12 @@ pub loop-from-preserved : goal.loop-from-preserved
 loop-from-preserved g c = record {
   source = refl;
   lengths = c.in_ok-count_moves.ensures.lengths ∙ c.loop-from.invariant.lengths;
-  counts = c.in_ok-count_moves.ensures.counts ∙ c.loop-from.invariant.counts;
-  stays = g.met.T.Table.stays_then _ _ _ c.loop-from.invariant.stays c.in_ok-count_moves.ensures.stays;
-  honest = (λ h. c.in_ok-count_moves.ensures.honest.0 (c.loop-from.invariant.honest.0 h), λ h. c.loop-from.invariant.honest.1 (c.in_ok-count_moves.ensures.honest.1 h));
-  same = λ h. c.in_ok-count_moves.ensures.same (c.loop-from.invariant.honest.0 h) ∙ (c.loop-from.invariant.same h);
+  read = read_then g.met.T.Table.stays_then c.loop-from.invariant.read c.in_ok-count_moves.ensures.read;
   arrivals = λ honest table.
-      let h = c.loop-from.invariant.honest.0 honest in
+      let h = c.loop-from.invariant.read.honest.0 honest in
       let graph = g.M.GameGraph.graph c.args.source.now in
       let stored = g.T.Table.stored c.args.table.now in
-      let same = c.loop-from.invariant.same honest in
+      let same = c.loop-from.invariant.read.same honest in
       let count = ap (λ (k : Counts). k.expanded) (g.met.T.Table.counts_are c.args.table.now honest) in
       let read = ap (λ (k : Counts). k.expanded) c.counts-counts.ensures in
       let within : c.loop-from.from < expanded_count stored = omega (arith, count, read, c.min-from-end.ensures, c.loop-from-test.true) in
@@ -61,22 +56,6 @@ returns-clause-arrivals g c = λ honest table.
     omega (arith, expanded, known, expanded', known', few, c.min-from-end.ensures, c.loop-from-test.false, c.loop-from.auto.from-end) in
     subst (λ (p : ℕ). AreArrivals (g.M.GameGraph.graph c.args.source.now) stored p c.loop-from.arrivals.items) all (c.loop-from.invariant.arrivals honest table)
 
-pub returns-in_err-arrivals-clause-same : goal.returns-in_err-arrivals-clause-same
-returns-in_err-arrivals-clause-same g c =
-    λ h. refl
-
-pub returns-in_err-arrivals-clause-honest : goal.returns-in_err-arrivals-clause-honest
-returns-in_err-arrivals-clause-honest g c =
-    (λ h. h, λ h. h)
-
-pub returns-in_err-arrivals-clause-counts : goal.returns-in_err-arrivals-clause-counts
-returns-in_err-arrivals-clause-counts g c =
-    refl
-
-pub returns-in_err-arrivals-clause-stays : goal.returns-in_err-arrivals-clause-stays
-returns-in_err-arrivals-clause-stays g c =
-    g.met.T.Table.stays_here _
-
 pub returns-in_err-arrivals-clause-room : goal.returns-in_err-arrivals-clause-room
 returns-in_err-arrivals-clause-room g c =
     passed_on _ c.from_residual.result _ c.from_residual.ensures tt
@@ -85,21 +64,9 @@ pub returns-in_err-arrivals-clause-fault : goal.returns-in_err-arrivals-clause-f
 returns-in_err-arrivals-clause-fault g c =
     passed_on _ c.from_residual.result _ c.from_residual.ensures tt
 
-pub returns-in_err-count_moves-clause-same : goal.returns-in_err-count_moves-clause-same
-returns-in_err-count_moves-clause-same g c =
-    λ h. c.in_err-count_moves.ensures.same (c.loop-from.invariant.honest.0 h) ∙ (c.loop-from.invariant.same h)
-
-pub returns-in_err-count_moves-clause-honest : goal.returns-in_err-count_moves-clause-honest
-returns-in_err-count_moves-clause-honest g c =
-    (λ h. c.in_err-count_moves.ensures.honest.0 (c.loop-from.invariant.honest.0 h), λ h. c.loop-from.invariant.honest.1 (c.in_err-count_moves.ensures.honest.1 h))
-
-pub returns-in_err-count_moves-clause-counts : goal.returns-in_err-count_moves-clause-counts
-returns-in_err-count_moves-clause-counts g c =
-    c.in_err-count_moves.ensures.counts ∙ c.loop-from.invariant.counts
-
-pub returns-in_err-count_moves-clause-stays : goal.returns-in_err-count_moves-clause-stays
-returns-in_err-count_moves-clause-stays g c =
-    g.met.T.Table.stays_then _ _ _ c.loop-from.invariant.stays c.in_err-count_moves.ensures.stays
+pub returns-in_err-count_moves-clause-read : goal.returns-in_err-count_moves-clause-read
+returns-in_err-count_moves-clause-read g c =
+    read_then g.met.T.Table.stays_then c.loop-from.invariant.read c.in_err-count_moves.ensures.read
 
 pub returns-in_err-count_moves-clause-room : goal.returns-in_err-count_moves-clause-room
 returns-in_err-count_moves-clause-room g c =
@@ -108,35 +75,19 @@ returns-in_err-count_moves-clause-room g c =
 pub returns-in_err-count_moves-clause-fault : goal.returns-in_err-count_moves-clause-fault
 returns-in_err-count_moves-clause-fault g c =
     passed_on _ c.from_residual-in_err-count_moves.result _ c.from_residual-in_err-count_moves.ensures
-    (of_table_after _ _ _ (λ fault. g.met.T.Table.fails_since _ _ _ fault (g.met.T.Table.stays_goes_on _ _ c.loop-from.invariant.stays)) c.in_err-count_moves.ensures.fault)
+    (of_table_after _ _ _ (λ fault. g.met.T.Table.fails_since _ _ _ fault (g.met.T.Table.stays_goes_on _ _ c.loop-from.invariant.read.stays)) c.in_err-count_moves.ensures.fault)
 
 pub returns-in_err-count_moves-clause-wide : goal.returns-in_err-count_moves-clause-wide
 returns-in_err-count_moves-clause-wide g c =
     λ honest is.
-    let h = c.loop-from.invariant.honest.0 honest in
-    let same = c.loop-from.invariant.same honest in
+    let h = c.loop-from.invariant.read.honest.0 honest in
+    let same = c.loop-from.invariant.read.same honest in
     let count = ap (λ (k : Counts). k.expanded) (g.met.T.Table.counts_are c.args.table.now honest) in
     let read = ap (λ (k : Counts). k.expanded) c.counts-counts.ensures in
     let within : c.loop-from.from < expanded_count (g.T.Table.stored c.args.table.now) = omega (arith, count, read, c.min-from-end.ensures, c.loop-from-test.true) in
     let within' : c.loop-from.from < expanded_count (g.T.Table.stored c.loop-from.table) = subst (λ (t : Stored (List ℕ)). c.loop-from.from < expanded_count t) (sym same) within in
     subst (λ (t : Stored (List ℕ)). HasWide (g.M.GameGraph.is_wide c.args.source.now) t) same
     (c.in_err-count_moves.ensures.wide h within' (ap (λ (f : AuditFault). Err f) (not_this c.from_residual-in_err-count_moves.result _ _ c.from_residual-in_err-count_moves.ensures is)))
-
-pub returns-clause-same : goal.returns-clause-same
-returns-clause-same g c =
-    λ h. c.loop-from.invariant.same h
-
-pub returns-clause-honest : goal.returns-clause-honest
-returns-clause-honest g c =
-    (λ h. c.loop-from.invariant.honest.0 h, λ h. c.loop-from.invariant.honest.1 h)
-
-pub returns-clause-counts : goal.returns-clause-counts
-returns-clause-counts g c =
-    c.loop-from.invariant.counts
-
-pub returns-clause-stays : goal.returns-clause-stays
-returns-clause-stays g c =
-    c.loop-from.invariant.stays
 
 pub returns-clause-wide : goal.returns-clause-wide
 returns-clause-wide g c =

@@ -8,15 +8,13 @@ use Rattle.table.specs.Memory.{bytes_of_each}
 use Rattle.audit.specs.aid.Edges.{CountsIf}
 use Rattle.audit.proofs.ArrivalLemmas.{counted_none, counted_next, counted_all}
 use Rattle.audit.proofs.Lists.{item_at}
+use Rattle.audit.proofs.Reading.{unread, read_then}
 use Rattle.audit.proofs.arrivals.count_each.Goals as goal
 
 pub loop-position-init : goal.loop-position-init
 loop-position-init g c = record {
   lengths = refl;
-  counts = refl;
-  stays = g.met.T.Table.stays_here _;
-  honest = (λ h. h, λ h. h);
-  same = λ h. refl;
+  read = unread g.met.T.Table.stays_here _;
   counted = λ honest table differ i x at. counted_none (bytes_of_each c.args.positions.now) x
       ((g.T.Table.stored c.args.table.now).has_edge i c.args.from ≡ true) c.args.arrivals.now.items i;
 }
@@ -24,18 +22,15 @@ loop-position-init g c = record {
 pub loop-position-preserved : goal.loop-position-preserved
 loop-position-preserved g c = record {
   lengths = c.in_ok-count_one.ensures.lengths ∙ c.loop-position.invariant.lengths;
-  counts = c.in_ok-count_one.ensures.counts ∙ c.loop-position.invariant.counts;
-  stays = g.met.T.Table.stays_then _ _ _ c.loop-position.invariant.stays c.in_ok-count_one.ensures.stays;
-  honest = (λ h. c.in_ok-count_one.ensures.honest.0 (c.loop-position.invariant.honest.0 h), λ h. c.loop-position.invariant.honest.1 (c.in_ok-count_one.ensures.honest.1 h));
-  same = λ h. c.in_ok-count_one.ensures.same (c.loop-position.invariant.honest.0 h) ∙ (c.loop-position.invariant.same h);
+  read = read_then g.met.T.Table.stays_then c.loop-position.invariant.read c.in_ok-count_one.ensures.read;
   counted = λ honest table differ i x at.
-      let h = c.loop-position.invariant.honest.0 honest in
+      let h = c.loop-position.invariant.read.honest.0 honest in
       let stored = g.T.Table.stored c.args.table.now in
       let y = c.position-item.result.items in
       let y_at = item_at (λ (p : ArrayVec ℕ). p.items) c.args.positions.now c.loop-position.position-index c.position-item.result c.loop-position-test.true c.position-item.is in
       let now = subst (λ (t : Stored (List ℕ)). IsTable t → (j : ℕ) (z : List ℕ) → HasNumber (view_of t) j z
       → CountsIf ((z ≡ y) × (t.has_edge j c.args.from ≡ true)) c.loop-position.arrivals.items c.count_one.new.arrivals.items j)
-      (c.loop-position.invariant.same honest) (c.in_ok-count_one.ensures.counted h) in
+      (c.loop-position.invariant.read.same honest) (c.in_ok-count_one.ensures.counted h) in
       counted_next (bytes_of_each c.args.positions.now) x (stored.has_edge i c.args.from ≡ true) c.args.arrivals.now.items i c.loop-position.position-index y
       c.loop-position.arrivals.items c.count_one.new.arrivals.items differ y_at (c.loop-position.invariant.counted honest table differ i x at) (now table i x at);
 }
@@ -47,21 +42,9 @@ returns-clause-counted g c = λ honest table differ i x at.
     c.loop-position.position-index c.loop-position.arrivals.items (omega (arith, few, c.loop-position-test.false))
     (c.loop-position.invariant.counted honest table differ i x at)
 
-pub returns-in_err-count_one-clause-same : goal.returns-in_err-count_one-clause-same
-returns-in_err-count_one-clause-same g c =
-    λ h. c.in_err-count_one.ensures.same (c.loop-position.invariant.honest.0 h) ∙ (c.loop-position.invariant.same h)
-
-pub returns-in_err-count_one-clause-honest : goal.returns-in_err-count_one-clause-honest
-returns-in_err-count_one-clause-honest g c =
-    (λ h. c.in_err-count_one.ensures.honest.0 (c.loop-position.invariant.honest.0 h), λ h. c.loop-position.invariant.honest.1 (c.in_err-count_one.ensures.honest.1 h))
-
-pub returns-in_err-count_one-clause-counts : goal.returns-in_err-count_one-clause-counts
-returns-in_err-count_one-clause-counts g c =
-    c.in_err-count_one.ensures.counts ∙ c.loop-position.invariant.counts
-
-pub returns-in_err-count_one-clause-stays : goal.returns-in_err-count_one-clause-stays
-returns-in_err-count_one-clause-stays g c =
-    g.met.T.Table.stays_then _ _ _ c.loop-position.invariant.stays c.in_err-count_one.ensures.stays
+pub returns-in_err-count_one-clause-read : goal.returns-in_err-count_one-clause-read
+returns-in_err-count_one-clause-read g c =
+    read_then g.met.T.Table.stays_then c.loop-position.invariant.read c.in_err-count_one.ensures.read
 
 pub returns-in_err-count_one-clause-room : goal.returns-in_err-count_one-clause-room
 returns-in_err-count_one-clause-room g c =
@@ -70,20 +53,4 @@ returns-in_err-count_one-clause-room g c =
 pub returns-in_err-count_one-clause-fault : goal.returns-in_err-count_one-clause-fault
 returns-in_err-count_one-clause-fault g c =
     passed_on _ c.from_residual.result _ c.from_residual.ensures
-    (g.met.T.Table.fails_since _ _ _ _ (g.met.T.Table.stays_goes_on _ _ c.loop-position.invariant.stays) c.in_err-count_one.ensures.fault)
-
-pub returns-clause-same : goal.returns-clause-same
-returns-clause-same g c =
-    λ h. c.loop-position.invariant.same h
-
-pub returns-clause-honest : goal.returns-clause-honest
-returns-clause-honest g c =
-    (λ h. c.loop-position.invariant.honest.0 h, λ h. c.loop-position.invariant.honest.1 h)
-
-pub returns-clause-counts : goal.returns-clause-counts
-returns-clause-counts g c =
-    c.loop-position.invariant.counts
-
-pub returns-clause-stays : goal.returns-clause-stays
-returns-clause-stays g c =
-    c.loop-position.invariant.stays
+    (g.met.T.Table.fails_since _ _ _ _ (g.met.T.Table.stays_goes_on _ _ c.loop-position.invariant.read.stays) c.in_err-count_one.ensures.fault)

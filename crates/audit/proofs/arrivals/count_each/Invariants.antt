@@ -1,19 +1,17 @@
-use Rattle.std.proofs.Common.{◌≡◌, ◌↔◌, ℕ, List, true, length}
+use Rattle.std.proofs.Common.{◌≡◌, ℕ, List, true, length}
 use Rattle.std.specs.Prelude.{AllPairs, ◌≢◌}
 use Rattle.retrograde.specs.View.{HasNumber}
 use Rattle.retrograde.specs.Stored.{IsTable, view_of}
 use Rattle.table.specs.Memory.{bytes_of_each}
 use Rattle.audit.specs.aid.Edges.{CountsIf}
 use Rattle.audit.proofs.ArrivalLemmas.{IsBefore}
+use Rattle.audit.specs.aid.Reading.{IsRead}
 use Rattle.audit.proofs.arrivals.count_each.Given as goal
 
 abbrev pub invariant-loop-position : goal.invariant-loop-position
 invariant-loop-position g l = record {
   lengths : length l.arrivals.items ≡ length l.fn.arrivals.items;
-  counts : g.T.Table.counted l.table ≡ g.T.Table.counted l.fn.table;
-  stays : g.T.Table.stays l.fn.table l.table;
-  honest : g.T.Table.is_honest l.fn.table ↔ g.T.Table.is_honest l.table;
-  same : g.T.Table.is_honest l.fn.table → g.T.Table.stored l.table ≡ g.T.Table.stored l.fn.table;
+  read : IsRead g.T.Table.stored g.T.Table.is_honest g.T.Table.counted g.T.Table.stays l.fn.table l.table;
   counted : g.T.Table.is_honest l.fn.table → IsTable (g.T.Table.stored l.fn.table) → AllPairs ◌≢◌ (bytes_of_each l.positions)
       → (i : ℕ) (x : List ℕ) → HasNumber (view_of (g.T.Table.stored l.fn.table)) i x
       → CountsIf (IsBefore (bytes_of_each l.positions) l.position-index x × ((g.T.Table.stored l.fn.table).has_edge i l.from ≡ true))

@@ -1,7 +1,8 @@
 use Rattle.audit.proofs.Passing.{passed_on}
-use Rattle.std.proofs.Common.{◌≡◌, ◌∙◌, ◌<◌, ap, subst, ℕ, List, Some, true, false, length, rules, arith, slice_get, slice_set}
+use Rattle.std.proofs.Common.{◌≡◌, ◌<◌, ap, subst, ℕ, List, Some, true, false, length, rules, arith, slice_get, slice_set}
 use Rattle.retrograde.specs.Stored.{Stored}
 use Rattle.audit.proofs.ArrivalLemmas.{unknown_counted, none_counted, one_counted}
+use Rattle.audit.proofs.Reading.{read_by, read_then}
 use Rattle.audit.proofs.arrivals.count_one.Goals as goal
 
 pub returns-in_default-clause-counted : goal.returns-in_default-clause-counted
@@ -32,22 +33,6 @@ returns-clause-counted g c = λ honest table i x at.
     one_counted stored i c.args.from x c.args.position.now.items at table c.in-Some.number found c.args.arrivals.now.items _
     c.index-count.result.now edge within c.index-count.ensures (ap (λ (m : ℕ). slice_set c.args.arrivals.now.items c.in-Some.number m) c.saturating_add.ensures)
 
-pub returns-in_err-number-clause-same : goal.returns-in_err-number-clause-same
-returns-in_err-number-clause-same g c =
-    λ h. c.in_err-number.ensures.same h
-
-pub returns-in_err-number-clause-honest : goal.returns-in_err-number-clause-honest
-returns-in_err-number-clause-honest g c =
-    (λ h. c.in_err-number.ensures.honest.0 h, λ h. c.in_err-number.ensures.honest.1 h)
-
-pub returns-in_err-number-clause-counts : goal.returns-in_err-number-clause-counts
-returns-in_err-number-clause-counts g c =
-    c.in_err-number.ensures.counts
-
-pub returns-in_err-number-clause-stays : goal.returns-in_err-number-clause-stays
-returns-in_err-number-clause-stays g c =
-    c.in_err-number.ensures.stays
-
 pub returns-in_err-number-clause-room : goal.returns-in_err-number-clause-room
 returns-in_err-number-clause-room g c =
     passed_on _ c.from_residual.result _ c.from_residual.ensures c.in_err-number.ensures.room
@@ -57,37 +42,10 @@ returns-in_err-number-clause-fault g c =
     passed_on _ c.from_residual.result _ c.from_residual.ensures
     c.in_err-number.ensures.fault
 
-pub returns-in_default-clause-same : goal.returns-in_default-clause-same
-returns-in_default-clause-same g c =
-    λ h. c.in_ok-number.ensures.same h
-
-pub returns-in_default-clause-honest : goal.returns-in_default-clause-honest
-returns-in_default-clause-honest g c =
-    (λ h. c.in_ok-number.ensures.honest.0 h, λ h. c.in_ok-number.ensures.honest.1 h)
-
-pub returns-in_default-clause-counts : goal.returns-in_default-clause-counts
-returns-in_default-clause-counts g c =
-    c.in_ok-number.ensures.counts
-
-pub returns-in_default-clause-stays : goal.returns-in_default-clause-stays
-returns-in_default-clause-stays g c =
-    c.in_ok-number.ensures.stays
-
-pub returns-in_err-has_edge-clause-same : goal.returns-in_err-has_edge-clause-same
-returns-in_err-has_edge-clause-same g c =
-    λ h. c.in_err-has_edge.ensures.same (c.in_ok-number.ensures.honest.0 h) ∙ (c.in_ok-number.ensures.same h)
-
-pub returns-in_err-has_edge-clause-honest : goal.returns-in_err-has_edge-clause-honest
-returns-in_err-has_edge-clause-honest g c =
-    (λ h. c.in_err-has_edge.ensures.honest.0 (c.in_ok-number.ensures.honest.0 h), λ h. c.in_ok-number.ensures.honest.1 (c.in_err-has_edge.ensures.honest.1 h))
-
-pub returns-in_err-has_edge-clause-counts : goal.returns-in_err-has_edge-clause-counts
-returns-in_err-has_edge-clause-counts g c =
-    c.in_err-has_edge.ensures.counts ∙ c.in_ok-number.ensures.counts
-
-pub returns-in_err-has_edge-clause-stays : goal.returns-in_err-has_edge-clause-stays
-returns-in_err-has_edge-clause-stays g c =
-    g.met.T.Table.stays_then _ _ _ c.in_ok-number.ensures.stays c.in_err-has_edge.ensures.stays
+pub returns-in_err-has_edge-clause-read : goal.returns-in_err-has_edge-clause-read
+returns-in_err-has_edge-clause-read g c =
+    let number = c.in_ok-number.ensures in
+    read_then g.met.T.Table.stays_then (read_by number.same number.honest number.counts number.stays) c.in_err-has_edge.ensures.read
 
 pub returns-in_err-has_edge-clause-room : goal.returns-in_err-has_edge-clause-room
 returns-in_err-has_edge-clause-room g c =
@@ -98,34 +56,12 @@ returns-in_err-has_edge-clause-fault g c =
     passed_on _ c.from_residual-in_err-has_edge.result _ c.from_residual-in_err-has_edge.ensures
     (g.met.T.Table.fails_since _ _ _ _ (g.met.T.Table.stays_goes_on _ _ c.in_ok-number.ensures.stays) c.in_err-has_edge.ensures.fault)
 
-pub returns-then-not-branch-clause-same : goal.returns-then-not-branch-clause-same
-returns-then-not-branch-clause-same g c =
-    λ h. c.in_ok-has_edge.ensures.same (c.in_ok-number.ensures.honest.0 h) ∙ (c.in_ok-number.ensures.same h)
+pub returns-then-not-branch-clause-read : goal.returns-then-not-branch-clause-read
+returns-then-not-branch-clause-read g c =
+    let number = c.in_ok-number.ensures in
+    read_then g.met.T.Table.stays_then (read_by number.same number.honest number.counts number.stays) c.in_ok-has_edge.ensures.read
 
-pub returns-then-not-branch-clause-honest : goal.returns-then-not-branch-clause-honest
-returns-then-not-branch-clause-honest g c =
-    (λ h. c.in_ok-has_edge.ensures.honest.0 (c.in_ok-number.ensures.honest.0 h), λ h. c.in_ok-number.ensures.honest.1 (c.in_ok-has_edge.ensures.honest.1 h))
-
-pub returns-then-not-branch-clause-counts : goal.returns-then-not-branch-clause-counts
-returns-then-not-branch-clause-counts g c =
-    c.in_ok-has_edge.ensures.counts ∙ c.in_ok-number.ensures.counts
-
-pub returns-then-not-branch-clause-stays : goal.returns-then-not-branch-clause-stays
-returns-then-not-branch-clause-stays g c =
-    g.met.T.Table.stays_then _ _ _ c.in_ok-number.ensures.stays c.in_ok-has_edge.ensures.stays
-
-pub returns-clause-same : goal.returns-clause-same
-returns-clause-same g c =
-    λ h. c.in_ok-has_edge.ensures.same (c.in_ok-number.ensures.honest.0 h) ∙ (c.in_ok-number.ensures.same h)
-
-pub returns-clause-honest : goal.returns-clause-honest
-returns-clause-honest g c =
-    (λ h. c.in_ok-has_edge.ensures.honest.0 (c.in_ok-number.ensures.honest.0 h), λ h. c.in_ok-number.ensures.honest.1 (c.in_ok-has_edge.ensures.honest.1 h))
-
-pub returns-clause-counts : goal.returns-clause-counts
-returns-clause-counts g c =
-    c.in_ok-has_edge.ensures.counts ∙ c.in_ok-number.ensures.counts
-
-pub returns-clause-stays : goal.returns-clause-stays
-returns-clause-stays g c =
-    g.met.T.Table.stays_then _ _ _ c.in_ok-number.ensures.stays c.in_ok-has_edge.ensures.stays
+pub returns-clause-read : goal.returns-clause-read
+returns-clause-read g c =
+    let number = c.in_ok-number.ensures in
+    read_then g.met.T.Table.stays_then (read_by number.same number.honest number.counts number.stays) c.in_ok-has_edge.ensures.read 

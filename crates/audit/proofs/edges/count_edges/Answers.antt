@@ -1,9 +1,10 @@
 use Rattle.audit.proofs.Passing.{passed_on}
-use Rattle.std.proofs.Common.{◌≡◌, ◌<◌, ap, length, subst, List, ℕ, arith, ◌∙◌}
+use Rattle.std.proofs.Common.{◌≡◌, ◌<◌, ap, length, subst, List, ℕ, arith}
 use Rattle.retrograde.specs.declared.records.Counts.{Counts}
 use Rattle.retrograde.specs.Stored.{Stored, count_below}
 use Rattle.retrograde.specs.Edges.{IsAfter, IsNextEdge, HasNoMoreEdges}
 use Rattle.audit.proofs.EdgeLemmas.{count_next, count_all, count_full, after_bound}
+use Rattle.audit.proofs.Reading.{read_by, read_then}
 use Rattle.audit.proofs.edges.count_edges.Goals as goal
 
 pub loop-count-preserved : goal.loop-count-preserved
@@ -11,23 +12,20 @@ loop-count-preserved g c = record {
   few = let later : IsAfter c.loop-count.after c.in-Some.from = rw c.in-Some.is at c.in_ok-from.ensures.later in
       omega (arith, after_bound c.loop-count.after c.in-Some.from later, c.loop-count.invariant.few);
   within = let p : c.in-Some.from < (g.T.Table.counted c.loop-count.table).known = rw c.in-Some.is at c.in_ok-from.ensures.within in
-      omega (arith, ap (λ (k : Counts). k.known) c.loop-count.invariant.counts);
-  counts = c.in_ok-from.ensures.counts ∙ c.loop-count.invariant.counts;
-  stays = g.met.T.Table.stays_then _ _ _ c.loop-count.invariant.stays c.in_ok-from.ensures.stays;
-  honest = (λ h. c.in_ok-from.ensures.honest.0 (c.loop-count.invariant.honest.0 h), λ h. c.loop-count.invariant.honest.1 (c.in_ok-from.ensures.honest.1 h));
-  same = λ h. c.in_ok-from.ensures.same (c.loop-count.invariant.honest.0 h) ∙ c.loop-count.invariant.same h;
+      omega (arith, ap (λ (k : Counts). k.known) c.loop-count.invariant.read.counts);
+  read = read_then g.met.T.Table.stays_then c.loop-count.invariant.read (read_by c.in_ok-from.ensures.same c.in_ok-from.ensures.honest c.in_ok-from.ensures.counts c.in_ok-from.ensures.stays);
   counted = λ honest.
-      let h = c.loop-count.invariant.honest.0 honest in
+      let h = c.loop-count.invariant.read.honest.0 honest in
       let edge = rw c.in-Some.is at c.in_ok-from.ensures.next h in
-      let edge' = subst (λ (t : Stored (List ℕ)). IsNextEdge t c.args.to c.loop-count.after c.in-Some.from) (c.loop-count.invariant.same honest) edge in
+      let edge' = subst (λ (t : Stored (List ℕ)). IsNextEdge t c.args.to c.loop-count.after c.in-Some.from) (c.loop-count.invariant.read.same honest) edge in
       count_next (g.T.Table.stored c.args.table.now) c.args.to c.loop-count.after c.in-Some.from c.loop-count.count edge' (c.loop-count.invariant.counted honest);
 }
 
 pub returns-in_default-clause-count : goal.returns-in_default-clause-count
 returns-in_default-clause-count g c = λ honest.
-    let h = c.loop-count.invariant.honest.0 honest in
+    let h = c.loop-count.invariant.read.honest.0 honest in
     let none = rw c.in_default.is at c.in_ok-from.ensures.none h in
-    let none' = subst (λ (t : Stored (List ℕ)). HasNoMoreEdges t c.args.to c.loop-count.after) (c.loop-count.invariant.same honest) none in
+    let none' = subst (λ (t : Stored (List ℕ)). HasNoMoreEdges t c.args.to c.loop-count.after) (c.loop-count.invariant.read.same honest) none in
     let count = ap (λ (k : Counts). k.known) (g.met.T.Table.counts_are c.args.table.now honest) in
     count_all (g.T.Table.stored c.args.table.now) c.args.to c.loop-count.after (length (g.T.Table.stored c.args.table.now).positions) c.loop-count.count none'
     (omega (arith, count, c.loop-count.invariant.within)) (c.loop-count.invariant.counted honest)
@@ -43,21 +41,10 @@ returns-clause-count g c = λ honest.
     let same : c.counts-known.result.known ≡ size = omega (arith, count, all) in
     rw same it
 
-pub returns-in_err-from-clause-same : goal.returns-in_err-from-clause-same
-returns-in_err-from-clause-same g c =
-    λ h. c.in_err-from.ensures.same (c.loop-count.invariant.honest.0 h) ∙ c.loop-count.invariant.same h
-
-pub returns-in_err-from-clause-honest : goal.returns-in_err-from-clause-honest
-returns-in_err-from-clause-honest g c =
-    (λ h. c.in_err-from.ensures.honest.0 (c.loop-count.invariant.honest.0 h), λ h. c.loop-count.invariant.honest.1 (c.in_err-from.ensures.honest.1 h))
-
-pub returns-in_err-from-clause-counts : goal.returns-in_err-from-clause-counts
-returns-in_err-from-clause-counts g c =
-    c.in_err-from.ensures.counts ∙ c.loop-count.invariant.counts
-
-pub returns-in_err-from-clause-stays : goal.returns-in_err-from-clause-stays
-returns-in_err-from-clause-stays g c =
-    g.met.T.Table.stays_then _ _ _ c.loop-count.invariant.stays c.in_err-from.ensures.stays
+pub returns-in_err-from-clause-read : goal.returns-in_err-from-clause-read
+returns-in_err-from-clause-read g c =
+    let from = c.in_err-from.ensures in
+    read_then g.met.T.Table.stays_then c.loop-count.invariant.read (read_by from.same from.honest from.counts from.stays)
 
 pub returns-in_err-from-clause-room : goal.returns-in_err-from-clause-room
 returns-in_err-from-clause-room g c =
@@ -66,36 +53,9 @@ returns-in_err-from-clause-room g c =
 pub returns-in_err-from-clause-fault : goal.returns-in_err-from-clause-fault
 returns-in_err-from-clause-fault g c =
     passed_on _ c.from_residual.result _ c.from_residual.ensures
-    (g.met.T.Table.fails_since _ _ _ _ (g.met.T.Table.stays_goes_on _ _ c.loop-count.invariant.stays) c.in_err-from.ensures.fault)
+    (g.met.T.Table.fails_since _ _ _ _ (g.met.T.Table.stays_goes_on _ _ c.loop-count.invariant.read.stays) c.in_err-from.ensures.fault)
 
-pub returns-in_default-clause-same : goal.returns-in_default-clause-same
-returns-in_default-clause-same g c =
-    λ h. c.in_ok-from.ensures.same (c.loop-count.invariant.honest.0 h) ∙ c.loop-count.invariant.same h
-
-pub returns-in_default-clause-honest : goal.returns-in_default-clause-honest
-returns-in_default-clause-honest g c =
-    (λ h. c.in_ok-from.ensures.honest.0 (c.loop-count.invariant.honest.0 h), λ h. c.loop-count.invariant.honest.1 (c.in_ok-from.ensures.honest.1 h))
-
-pub returns-in_default-clause-counts : goal.returns-in_default-clause-counts
-returns-in_default-clause-counts g c =
-    c.in_ok-from.ensures.counts ∙ c.loop-count.invariant.counts
-
-pub returns-in_default-clause-stays : goal.returns-in_default-clause-stays
-returns-in_default-clause-stays g c =
-    g.met.T.Table.stays_then _ _ _ c.loop-count.invariant.stays c.in_ok-from.ensures.stays
-
-pub returns-clause-same : goal.returns-clause-same
-returns-clause-same g c =
-    λ h. c.loop-count.invariant.same h
-
-pub returns-clause-honest : goal.returns-clause-honest
-returns-clause-honest g c =
-    (λ h. c.loop-count.invariant.honest.0 h, λ h. c.loop-count.invariant.honest.1 h)
-
-pub returns-clause-counts : goal.returns-clause-counts
-returns-clause-counts g c =
-    c.loop-count.invariant.counts
-
-pub returns-clause-stays : goal.returns-clause-stays
-returns-clause-stays g c =
-    c.loop-count.invariant.stays
+pub returns-in_default-clause-read : goal.returns-in_default-clause-read
+returns-in_default-clause-read g c =
+    let from = c.in_ok-from.ensures in
+    read_then g.met.T.Table.stays_then c.loop-count.invariant.read (read_by from.same from.honest from.counts from.stays) 

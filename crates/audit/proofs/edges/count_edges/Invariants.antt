@@ -1,15 +1,13 @@
-use Rattle.std.proofs.Common.{◌≡◌, ◌↔◌, ◌≤◌}
+use Rattle.std.proofs.Common.{◌≡◌, ◌≤◌}
 use Rattle.retrograde.specs.Stored.{count_below}
 use Rattle.audit.proofs.EdgeLemmas.{bound_of}
+use Rattle.audit.specs.aid.Reading.{IsRead}
 use Rattle.audit.proofs.edges.count_edges.Given as goal
 
 abbrev pub invariant-loop-count : goal.invariant-loop-count
 invariant-loop-count g l = record {
   few : l.count ≤ bound_of l.after;
   within : bound_of l.after ≤ (g.T.Table.counted l.fn.table).known;
-  counts : g.T.Table.counted l.table ≡ g.T.Table.counted l.fn.table;
-  stays : g.T.Table.stays l.fn.table l.table;
-  honest : g.T.Table.is_honest l.fn.table ↔ g.T.Table.is_honest l.table;
-  same : g.T.Table.is_honest l.fn.table → g.T.Table.stored l.table ≡ g.T.Table.stored l.fn.table;
+  read : IsRead g.T.Table.stored g.T.Table.is_honest g.T.Table.counted g.T.Table.stays l.fn.table l.table;
   counted : g.T.Table.is_honest l.fn.table → l.count ≡ count_below (bound_of l.after) (λ p. (g.T.Table.stored l.fn.table).has_edge l.to p);
 }

@@ -1,21 +1,22 @@
 use Rattle.audit.proofs.Passing.{passed_on, memory_narrow, table_narrow}
-use Rattle.std.proofs.Common.{◌≡◌, ◌<◌, ◌++◌, ◌∷◌, [], ap, subst, ℕ, List, Some, slice_get, arith, take, ◌∙◌}
+use Rattle.std.proofs.Common.{◌≡◌, ◌<◌, ◌++◌, ◌∷◌, [], ap, subst, ℕ, List, Some, slice_get, arith, take}
 use Rattle.arrayvec.specs.ArrayVec.{ArrayVec}
 use Rattle.retrograde.specs.declared.records.Counts.{Counts}
 use Rattle.retrograde.specs.Stored.{Stored}
 use Rattle.table.specs.Memory.{bytes_of_each}
 use Rattle.audit.proofs.Lists.{item_at, contains_at, take_at, zip_push, all_push}
+use Rattle.audit.proofs.Reading.{read_by, read_then}
 use Rattle.audit.proofs.moves.numbers_of.Goals as goal
 
 pub returns-in_default-clause-unknown : goal.returns-in_default-clause-unknown
 returns-in_default-clause-unknown g c = λ honest.
-    let h = c.loop-position.invariant.honest.0 honest in
+    let h = c.loop-position.invariant.read.honest.0 honest in
     let y = c.position-item.result.items in
     let at = item_at (λ (p : ArrayVec ℕ). p.items) c.args.positions.now c.loop-position.position-index c.position-item.result c.loop-position-test.true c.position-item.is in
     let none = rw c.in_default.is at c.in_ok-number.ensures.unknown h in (
       y,
       contains_at (bytes_of_each c.args.positions.now) c.loop-position.position-index y at,
-      subst (λ (t : Stored (List ℕ)). (j : ℕ) → slice_get t.positions j ≡ Some y → ⊥) (c.loop-position.invariant.same honest) none,
+      subst (λ (t : Stored (List ℕ)). (j : ℕ) → slice_get t.positions j ≡ Some y → ⊥) (c.loop-position.invariant.read.same honest) none,
     )
 
 pub loop-position-preserved : goal.loop-position-preserved
@@ -23,39 +24,25 @@ loop-position-preserved g c = record {
   within =
       let items : c.push.new.self.items ≡ c.loop-position.numbers.items ++ c.in-Some.number ∷ [] = c.in_ok-push.ensures.items in
       let few : c.in-Some.number < (g.T.Table.counted c.loop-position.table).known = rw c.in-Some.is at c.in_ok-number.ensures.within in
-      let few' : c.in-Some.number < (g.T.Table.counted c.args.table.now).known = omega (arith, few, ap (λ (k : Counts). k.known) c.loop-position.invariant.counts) in
+      let few' : c.in-Some.number < (g.T.Table.counted c.args.table.now).known = omega (arith, few, ap (λ (k : Counts). k.known) c.loop-position.invariant.read.counts) in
       rw items (all_push (λ j. j < (g.T.Table.counted c.args.table.now).known) c.loop-position.numbers.items c.in-Some.number c.loop-position.invariant.within few');
-  counts = c.in_ok-number.ensures.counts ∙ c.loop-position.invariant.counts;
-  stays = g.met.T.Table.stays_then _ _ _ c.loop-position.invariant.stays c.in_ok-number.ensures.stays;
-  honest = (λ h. c.in_ok-number.ensures.honest.0 (c.loop-position.invariant.honest.0 h), λ h. c.loop-position.invariant.honest.1 (c.in_ok-number.ensures.honest.1 h));
-  same = λ h. c.in_ok-number.ensures.same (c.loop-position.invariant.honest.0 h) ∙ c.loop-position.invariant.same h;
+  read = read_then g.met.T.Table.stays_then c.loop-position.invariant.read (read_by c.in_ok-number.ensures.same c.in_ok-number.ensures.honest c.in_ok-number.ensures.counts c.in_ok-number.ensures.stays);
   numbers = λ honest.
-      let h = c.loop-position.invariant.honest.0 honest in
+      let h = c.loop-position.invariant.read.honest.0 honest in
       let y = c.position-item.result.items in
       let items : c.push.new.self.items ≡ c.loop-position.numbers.items ++ c.in-Some.number ∷ [] = c.in_ok-push.ensures.items in
       let step = take_at (λ (p : ArrayVec ℕ). p.items) c.args.positions.now c.loop-position.position-index c.position-item.result c.loop-position-test.true c.position-item.is in
       let found = rw c.in-Some.is at c.in_ok-number.ensures.found h in
-      let found' = subst (λ (t : Stored (List ℕ)). slice_get t.positions c.in-Some.number ≡ Some y) (c.loop-position.invariant.same honest) found in
+      let found' = subst (λ (t : Stored (List ℕ)). slice_get t.positions c.in-Some.number ≡ Some y) (c.loop-position.invariant.read.same honest) found in
       rw (step, items)
       (zip_push (λ z j. slice_get (g.T.Table.stored c.args.table.now).positions j ≡ Some z) (take c.loop-position.position-index (bytes_of_each c.args.positions.now))
       c.loop-position.numbers.items y c.in-Some.number (c.loop-position.invariant.numbers honest) found');
 }
 
-pub returns-in_err-number-clause-same : goal.returns-in_err-number-clause-same
-returns-in_err-number-clause-same g c =
-    λ h. c.in_err-number.ensures.same (c.loop-position.invariant.honest.0 h) ∙ c.loop-position.invariant.same h
-
-pub returns-in_err-number-clause-honest : goal.returns-in_err-number-clause-honest
-returns-in_err-number-clause-honest g c =
-    (λ h. c.in_err-number.ensures.honest.0 (c.loop-position.invariant.honest.0 h), λ h. c.loop-position.invariant.honest.1 (c.in_err-number.ensures.honest.1 h))
-
-pub returns-in_err-number-clause-counts : goal.returns-in_err-number-clause-counts
-returns-in_err-number-clause-counts g c =
-    c.in_err-number.ensures.counts ∙ c.loop-position.invariant.counts
-
-pub returns-in_err-number-clause-stays : goal.returns-in_err-number-clause-stays
-returns-in_err-number-clause-stays g c =
-    g.met.T.Table.stays_then _ _ _ c.loop-position.invariant.stays c.in_err-number.ensures.stays
+pub returns-in_err-number-clause-read : goal.returns-in_err-number-clause-read
+returns-in_err-number-clause-read g c =
+    let number = c.in_err-number.ensures in
+    read_then g.met.T.Table.stays_then c.loop-position.invariant.read (read_by number.same number.honest number.counts number.stays)
 
 pub returns-in_err-number-clause-room : goal.returns-in_err-number-clause-room
 returns-in_err-number-clause-room g c =
@@ -64,43 +51,21 @@ returns-in_err-number-clause-room g c =
 pub returns-in_err-number-clause-fault : goal.returns-in_err-number-clause-fault
 returns-in_err-number-clause-fault g c =
     passed_on _ c.from_residual.result _ c.from_residual.ensures
-    (g.met.T.Table.fails_since _ _ _ _ (g.met.T.Table.stays_goes_on _ _ c.loop-position.invariant.stays) c.in_err-number.ensures.fault)
+    (g.met.T.Table.fails_since _ _ _ _ (g.met.T.Table.stays_goes_on _ _ c.loop-position.invariant.read.stays) c.in_err-number.ensures.fault)
 
 pub returns-in_err-number-clause-narrow : goal.returns-in_err-number-clause-narrow
 returns-in_err-number-clause-narrow g c =
     passed_on _ c.from_residual.result _ c.from_residual.ensures (table_narrow _)
 
-pub returns-in_default-clause-same : goal.returns-in_default-clause-same
-returns-in_default-clause-same g c =
-    λ h. c.in_ok-number.ensures.same (c.loop-position.invariant.honest.0 h) ∙ c.loop-position.invariant.same h
+pub returns-in_default-clause-read : goal.returns-in_default-clause-read
+returns-in_default-clause-read g c =
+    let number = c.in_ok-number.ensures in
+    read_then g.met.T.Table.stays_then c.loop-position.invariant.read (read_by number.same number.honest number.counts number.stays)
 
-pub returns-in_default-clause-honest : goal.returns-in_default-clause-honest
-returns-in_default-clause-honest g c =
-    (λ h. c.in_ok-number.ensures.honest.0 (c.loop-position.invariant.honest.0 h), λ h. c.loop-position.invariant.honest.1 (c.in_ok-number.ensures.honest.1 h))
-
-pub returns-in_default-clause-counts : goal.returns-in_default-clause-counts
-returns-in_default-clause-counts g c =
-    c.in_ok-number.ensures.counts ∙ c.loop-position.invariant.counts
-
-pub returns-in_default-clause-stays : goal.returns-in_default-clause-stays
-returns-in_default-clause-stays g c =
-    g.met.T.Table.stays_then _ _ _ c.loop-position.invariant.stays c.in_ok-number.ensures.stays
-
-pub returns-in_err-push-clause-same : goal.returns-in_err-push-clause-same
-returns-in_err-push-clause-same g c =
-    λ h. c.in_ok-number.ensures.same (c.loop-position.invariant.honest.0 h) ∙ c.loop-position.invariant.same h
-
-pub returns-in_err-push-clause-honest : goal.returns-in_err-push-clause-honest
-returns-in_err-push-clause-honest g c =
-    (λ h. c.in_ok-number.ensures.honest.0 (c.loop-position.invariant.honest.0 h), λ h. c.loop-position.invariant.honest.1 (c.in_ok-number.ensures.honest.1 h))
-
-pub returns-in_err-push-clause-counts : goal.returns-in_err-push-clause-counts
-returns-in_err-push-clause-counts g c =
-    c.in_ok-number.ensures.counts ∙ c.loop-position.invariant.counts
-
-pub returns-in_err-push-clause-stays : goal.returns-in_err-push-clause-stays
-returns-in_err-push-clause-stays g c =
-    g.met.T.Table.stays_then _ _ _ c.loop-position.invariant.stays c.in_ok-number.ensures.stays
+pub returns-in_err-push-clause-read : goal.returns-in_err-push-clause-read
+returns-in_err-push-clause-read g c =
+    let number = c.in_ok-number.ensures in
+    read_then g.met.T.Table.stays_then c.loop-position.invariant.read (read_by number.same number.honest number.counts number.stays)
 
 pub returns-in_err-push-clause-room : goal.returns-in_err-push-clause-room
 returns-in_err-push-clause-room g c =
@@ -114,19 +79,3 @@ returns-in_err-push-clause-fault g c =
 pub returns-in_err-push-clause-narrow : goal.returns-in_err-push-clause-narrow
 returns-in_err-push-clause-narrow g c =
     passed_on _ c.from_residual-in_err-push.result _ c.from_residual-in_err-push.ensures memory_narrow
-
-pub returns-clause-same : goal.returns-clause-same
-returns-clause-same g c =
-    λ h. c.loop-position.invariant.same h
-
-pub returns-clause-honest : goal.returns-clause-honest
-returns-clause-honest g c =
-    (λ h. c.loop-position.invariant.honest.0 h, λ h. c.loop-position.invariant.honest.1 h)
-
-pub returns-clause-counts : goal.returns-clause-counts
-returns-clause-counts g c =
-    c.loop-position.invariant.counts
-
-pub returns-clause-stays : goal.returns-clause-stays
-returns-clause-stays g c =
-    c.loop-position.invariant.stays

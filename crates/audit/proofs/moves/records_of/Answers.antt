@@ -1,43 +1,30 @@
 use Rattle.audit.proofs.Passing.{passed_on, memory_narrow, table_narrow}
-use Rattle.std.proofs.Common.{◌≡◌, ◌++◌, ◌∷◌, [], subst, ℕ, List, take, get_or, ◌∙◌}
+use Rattle.std.proofs.Common.{◌≡◌, ◌++◌, ◌∷◌, [], subst, ℕ, List, take, get_or}
 use Rattle.std.proofs.lemmas.List.{take_more}
 use Rattle.retrograde.specs.Stored.{Stored, HasRecord}
 use Rattle.audit.proofs.Lists.{zip_push}
+use Rattle.audit.proofs.Reading.{read_by, read_then}
 use Rattle.audit.proofs.moves.records_of.Goals as goal
 
 pub loop-number-preserved : goal.loop-number-preserved
 loop-number-preserved g c = record {
-  counts = c.in_ok-record.ensures.counts ∙ c.loop-number.invariant.counts;
-  stays = g.met.T.Table.stays_then _ _ _ c.loop-number.invariant.stays c.in_ok-record.ensures.stays;
-  honest = (λ h. c.in_ok-record.ensures.honest.0 (c.loop-number.invariant.honest.0 h), λ h. c.loop-number.invariant.honest.1 (c.in_ok-record.ensures.honest.1 h));
-  same = λ h. c.in_ok-record.ensures.same (c.loop-number.invariant.honest.0 h) ∙ c.loop-number.invariant.same h;
+  read = read_then g.met.T.Table.stays_then c.loop-number.invariant.read (read_by c.in_ok-record.ensures.same c.in_ok-record.ensures.honest c.in_ok-record.ensures.counts c.in_ok-record.ensures.stays);
   records = λ honest.
-      let h = c.loop-number.invariant.honest.0 honest in
+      let h = c.loop-number.invariant.read.honest.0 honest in
       let r = c.in_ok-record.field-0 in
       let items : c.push.new.self.items ≡ c.loop-number.records.items ++ r ∷ [] = c.in_ok-push.ensures.items in
       let step = take_more c.args.numbers.now c.loop-number.number-index 0 c.loop-number-test.true in
       let found = c.in_ok-record.ensures.record h in
-      let found' = subst (λ (t : Stored (List ℕ)). HasRecord t (get_or c.args.numbers.now c.loop-number.number-index 0) r) (c.loop-number.invariant.same honest) found in
+      let found' = subst (λ (t : Stored (List ℕ)). HasRecord t (get_or c.args.numbers.now c.loop-number.number-index 0) r) (c.loop-number.invariant.read.same honest) found in
       rw (step, items)
       (zip_push (HasRecord (g.T.Table.stored c.args.table.now)) (take c.loop-number.number-index c.args.numbers.now)
       c.loop-number.records.items (get_or c.args.numbers.now c.loop-number.number-index 0) r (c.loop-number.invariant.records honest) found');
 }
 
-pub returns-in_err-record-clause-same : goal.returns-in_err-record-clause-same
-returns-in_err-record-clause-same g c =
-    λ h. c.in_err-record.ensures.same (c.loop-number.invariant.honest.0 h) ∙ c.loop-number.invariant.same h
-
-pub returns-in_err-record-clause-honest : goal.returns-in_err-record-clause-honest
-returns-in_err-record-clause-honest g c =
-    (λ h. c.in_err-record.ensures.honest.0 (c.loop-number.invariant.honest.0 h), λ h. c.loop-number.invariant.honest.1 (c.in_err-record.ensures.honest.1 h))
-
-pub returns-in_err-record-clause-counts : goal.returns-in_err-record-clause-counts
-returns-in_err-record-clause-counts g c =
-    c.in_err-record.ensures.counts ∙ c.loop-number.invariant.counts
-
-pub returns-in_err-record-clause-stays : goal.returns-in_err-record-clause-stays
-returns-in_err-record-clause-stays g c =
-    g.met.T.Table.stays_then _ _ _ c.loop-number.invariant.stays c.in_err-record.ensures.stays
+pub returns-in_err-record-clause-read : goal.returns-in_err-record-clause-read
+returns-in_err-record-clause-read g c =
+    let kept = c.in_err-record.ensures in
+    read_then g.met.T.Table.stays_then c.loop-number.invariant.read (read_by kept.same kept.honest kept.counts kept.stays)
 
 pub returns-in_err-record-clause-room : goal.returns-in_err-record-clause-room
 returns-in_err-record-clause-room g c =
@@ -46,27 +33,16 @@ returns-in_err-record-clause-room g c =
 pub returns-in_err-record-clause-fault : goal.returns-in_err-record-clause-fault
 returns-in_err-record-clause-fault g c =
     passed_on _ c.from_residual.result _ c.from_residual.ensures
-    (g.met.T.Table.fails_since _ _ _ _ (g.met.T.Table.stays_goes_on _ _ c.loop-number.invariant.stays) c.in_err-record.ensures.fault)
+    (g.met.T.Table.fails_since _ _ _ _ (g.met.T.Table.stays_goes_on _ _ c.loop-number.invariant.read.stays) c.in_err-record.ensures.fault)
 
 pub returns-in_err-record-clause-narrow : goal.returns-in_err-record-clause-narrow
 returns-in_err-record-clause-narrow g c =
     passed_on _ c.from_residual.result _ c.from_residual.ensures (table_narrow _)
 
-pub returns-in_err-push-clause-same : goal.returns-in_err-push-clause-same
-returns-in_err-push-clause-same g c =
-    λ h. c.in_ok-record.ensures.same (c.loop-number.invariant.honest.0 h) ∙ c.loop-number.invariant.same h
-
-pub returns-in_err-push-clause-honest : goal.returns-in_err-push-clause-honest
-returns-in_err-push-clause-honest g c =
-    (λ h. c.in_ok-record.ensures.honest.0 (c.loop-number.invariant.honest.0 h), λ h. c.loop-number.invariant.honest.1 (c.in_ok-record.ensures.honest.1 h))
-
-pub returns-in_err-push-clause-counts : goal.returns-in_err-push-clause-counts
-returns-in_err-push-clause-counts g c =
-    c.in_ok-record.ensures.counts ∙ c.loop-number.invariant.counts
-
-pub returns-in_err-push-clause-stays : goal.returns-in_err-push-clause-stays
-returns-in_err-push-clause-stays g c =
-    g.met.T.Table.stays_then _ _ _ c.loop-number.invariant.stays c.in_ok-record.ensures.stays
+pub returns-in_err-push-clause-read : goal.returns-in_err-push-clause-read
+returns-in_err-push-clause-read g c =
+    let kept = c.in_ok-record.ensures in
+    read_then g.met.T.Table.stays_then c.loop-number.invariant.read (read_by kept.same kept.honest kept.counts kept.stays)
 
 pub returns-in_err-push-clause-room : goal.returns-in_err-push-clause-room
 returns-in_err-push-clause-room g c =
@@ -80,19 +56,3 @@ returns-in_err-push-clause-fault g c =
 pub returns-in_err-push-clause-narrow : goal.returns-in_err-push-clause-narrow
 returns-in_err-push-clause-narrow g c =
     passed_on _ c.from_residual-in_err-push.result _ c.from_residual-in_err-push.ensures memory_narrow
-
-pub returns-clause-same : goal.returns-clause-same
-returns-clause-same g c =
-    λ h. c.loop-number.invariant.same h
-
-pub returns-clause-honest : goal.returns-clause-honest
-returns-clause-honest g c =
-    (λ h. c.loop-number.invariant.honest.0 h, λ h. c.loop-number.invariant.honest.1 h)
-
-pub returns-clause-counts : goal.returns-clause-counts
-returns-clause-counts g c =
-    c.loop-number.invariant.counts
-
-pub returns-clause-stays : goal.returns-clause-stays
-returns-clause-stays g c =
-    c.loop-number.invariant.stays

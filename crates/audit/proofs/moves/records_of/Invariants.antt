@@ -1,13 +1,11 @@
-use Rattle.std.proofs.Common.{◌≡◌, ◌↔◌, take}
+use Rattle.std.proofs.Common.{take}
 use Rattle.std.specs.List.{AllZip}
 use Rattle.retrograde.specs.Stored.{HasRecord}
+use Rattle.audit.specs.aid.Reading.{IsRead}
 use Rattle.audit.proofs.moves.records_of.Given as goal
 
 abbrev pub invariant-loop-number : goal.invariant-loop-number
 invariant-loop-number g l = record {
-  counts : g.T.Table.counted l.table ≡ g.T.Table.counted l.fn.table;
-  stays : g.T.Table.stays l.fn.table l.table;
-  honest : g.T.Table.is_honest l.fn.table ↔ g.T.Table.is_honest l.table;
-  same : g.T.Table.is_honest l.fn.table → g.T.Table.stored l.table ≡ g.T.Table.stored l.fn.table;
+  read : IsRead g.T.Table.stored g.T.Table.is_honest g.T.Table.counted g.T.Table.stays l.fn.table l.table;
   records : g.T.Table.is_honest l.fn.table → AllZip (HasRecord (g.T.Table.stored l.fn.table)) (take l.number-index l.numbers) l.records.items;
 }

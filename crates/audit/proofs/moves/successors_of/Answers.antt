@@ -5,6 +5,7 @@ use Rattle.std.specs.List.{AllZip}
 use Rattle.retrograde.specs.Stored.{Stored, HasRecord}
 use Rattle.table.specs.Memory.{bytes_of_each}
 use Rattle.audit.proofs.MoveLemmas.{unknown_fails, no_edge_fails, not_counted, counted}
+use Rattle.audit.proofs.Reading.{read_then}
 use Rattle.audit.proofs.moves.successors_of.Goals as goal
 
 pub returns-in_default-clause-fails : goal.returns-in_default-clause-fails
@@ -15,10 +16,10 @@ returns-in_default-clause-fails g c = λ honest table has.
 
 pub returns-then-not-branch-clause-fails : goal.returns-then-not-branch-clause-fails
 returns-then-not-branch-clause-fails g c = λ honest table has.
-    let h = c.in_ok-numbers.ensures.honest.0 honest in
+    let h = c.in_ok-numbers.ensures.read.honest.0 honest in
     let stored = g.T.Table.stored c.args.table.now in
     let numbers = rw (c.in-Some.is, c.deref.ensures.value) at c.in_ok-numbers.ensures.numbers honest in
-    let same = c.in_ok-numbers.ensures.same honest in
+    let same = c.in_ok-numbers.ensures.read.same honest in
     let all = subst (λ (t : Stored (List ℕ)). (c.in_ok-has_edges.field-0 ≡ true) ↔ All (λ j. t.has_edge j c.args.number ≡ true) c.in-Some.numbers.items) same
     (rw c.deref-2.ensures.value at c.in_ok-has_edges.ensures.all h) in
     no_edge_fails (g.M.GameGraph.graph c.args.source.now) stored c.args.number c.args.at.now.items (bytes_of_each c.in_ok-found.found.items)
@@ -26,12 +27,12 @@ returns-then-not-branch-clause-fails g c = λ honest table has.
 
 pub returns-then-is_counted-clause-records : goal.returns-then-is_counted-clause-records
 returns-then-is_counted-clause-records g c = λ honest table has.
-    let h = c.in_ok-numbers.ensures.honest.0 honest in
-    let h2 = c.in_ok-has_edges.ensures.honest.0 h in
+    let h = c.in_ok-numbers.ensures.read.honest.0 honest in
+    let h2 = c.in_ok-has_edges.ensures.read.honest.0 h in
     let stored = g.T.Table.stored c.args.table.now in
     let numbers = rw (c.in-Some.is, c.deref.ensures.value) at c.in_ok-numbers.ensures.numbers honest in
-    let same = c.in_ok-numbers.ensures.same honest in
-    let same2 = c.in_ok-has_edges.ensures.same h ∙ same in
+    let same = c.in_ok-numbers.ensures.read.same honest in
+    let same2 = c.in_ok-has_edges.ensures.read.same h ∙ same in
     let all = subst (λ (t : Stored (List ℕ)). (c.in_ok-has_edges.field-0 ≡ true) ↔ All (λ j. t.has_edge j c.args.number ≡ true) c.in-Some.numbers.items) same
     (rw c.deref-2.ensures.value at c.in_ok-has_edges.ensures.all h) in
     let zip = subst (λ (t : Stored (List ℕ)). AllZip (HasRecord t) c.in-Some.numbers.items c.in_ok-records.records.items) same2
@@ -43,33 +44,17 @@ returns-then-is_counted-clause-records g c = λ honest table has.
 
 pub returns-clause-fails : goal.returns-clause-fails
 returns-clause-fails g c = λ honest table has.
-    let h = c.in_ok-numbers.ensures.honest.0 honest in
-    let h2 = c.in_ok-has_edges.ensures.honest.0 h in
+    let h = c.in_ok-numbers.ensures.read.honest.0 honest in
+    let h2 = c.in_ok-has_edges.ensures.read.honest.0 h in
     let stored = g.T.Table.stored c.args.table.now in
     let numbers = rw (c.in-Some.is, c.deref.ensures.value) at c.in_ok-numbers.ensures.numbers honest in
-    let same2 = c.in_ok-has_edges.ensures.same h ∙ c.in_ok-numbers.ensures.same honest in
+    let same2 = c.in_ok-has_edges.ensures.read.same h ∙ c.in_ok-numbers.ensures.read.same honest in
     let zip = subst (λ (t : Stored (List ℕ)). AllZip (HasRecord t) c.in-Some.numbers.items c.in_ok-records.records.items) same2
     (rw c.deref-3.ensures.value at c.in_ok-records.ensures.records h2) in
     let facts = rw (c.deref-4.ensures.value, c.mover.ensures) at c.is_counted.ensures in
     not_counted (g.M.GameGraph.graph c.args.source.now) stored c.args.number c.args.at.now.items (bytes_of_each c.in_ok-found.found.items)
     c.in_ok-found.ensures.exact table c.in-Some.numbers.items numbers c.in_ok-records.records.items zip c.args.kept has
     (λ are. let passes : c.is_counted.result ≡ true = facts.1 are in let fails : c.is_counted.result ≡ false = c.if-is_counted.false in cc)
-
-pub returns-in_err-found-clause-same : goal.returns-in_err-found-clause-same
-returns-in_err-found-clause-same g c =
-    λ h. refl
-
-pub returns-in_err-found-clause-honest : goal.returns-in_err-found-clause-honest
-returns-in_err-found-clause-honest g c =
-    (λ h. h, λ h. h)
-
-pub returns-in_err-found-clause-counts : goal.returns-in_err-found-clause-counts
-returns-in_err-found-clause-counts g c =
-    refl
-
-pub returns-in_err-found-clause-stays : goal.returns-in_err-found-clause-stays
-returns-in_err-found-clause-stays g c =
-    g.met.T.Table.stays_here _
 
 pub returns-in_err-found-clause-room : goal.returns-in_err-found-clause-room
 returns-in_err-found-clause-room g c =
@@ -84,22 +69,6 @@ pub returns-in_err-found-clause-wide : goal.returns-in_err-found-clause-wide
 returns-in_err-found-clause-wide g c =
     λ is. c.in_err-found.ensures.wide (ap (λ (f : MoveFault). Err f) (search_wide _ (not_this c.from_residual.result _ _ c.from_residual.ensures is)))
 
-pub returns-in_err-numbers-clause-same : goal.returns-in_err-numbers-clause-same
-returns-in_err-numbers-clause-same g c =
-    λ h. c.in_err-numbers.ensures.same h
-
-pub returns-in_err-numbers-clause-honest : goal.returns-in_err-numbers-clause-honest
-returns-in_err-numbers-clause-honest g c =
-    (λ h. c.in_err-numbers.ensures.honest.0 h, λ h. c.in_err-numbers.ensures.honest.1 h)
-
-pub returns-in_err-numbers-clause-counts : goal.returns-in_err-numbers-clause-counts
-returns-in_err-numbers-clause-counts g c =
-    c.in_err-numbers.ensures.counts
-
-pub returns-in_err-numbers-clause-stays : goal.returns-in_err-numbers-clause-stays
-returns-in_err-numbers-clause-stays g c =
-    c.in_err-numbers.ensures.stays
-
 pub returns-in_err-numbers-clause-room : goal.returns-in_err-numbers-clause-room
 returns-in_err-numbers-clause-room g c =
     passed_on _ c.from_residual-in_err-numbers.result _ c.from_residual-in_err-numbers.ensures c.in_err-numbers.ensures.room
@@ -113,21 +82,9 @@ pub returns-in_err-numbers-clause-wide : goal.returns-in_err-numbers-clause-wide
 returns-in_err-numbers-clause-wide g c =
     λ is. absurd (c.in_err-numbers.ensures.narrow (not_this c.from_residual-in_err-numbers.result _ _ c.from_residual-in_err-numbers.ensures is))
 
-pub returns-in_err-has_edges-clause-same : goal.returns-in_err-has_edges-clause-same
-returns-in_err-has_edges-clause-same g c =
-    λ h. c.in_err-has_edges.ensures.same (c.in_ok-numbers.ensures.honest.0 h) ∙ c.in_ok-numbers.ensures.same h
-
-pub returns-in_err-has_edges-clause-honest : goal.returns-in_err-has_edges-clause-honest
-returns-in_err-has_edges-clause-honest g c =
-    (λ h. c.in_err-has_edges.ensures.honest.0 (c.in_ok-numbers.ensures.honest.0 h), λ h. c.in_ok-numbers.ensures.honest.1 (c.in_err-has_edges.ensures.honest.1 h))
-
-pub returns-in_err-has_edges-clause-counts : goal.returns-in_err-has_edges-clause-counts
-returns-in_err-has_edges-clause-counts g c =
-    c.in_err-has_edges.ensures.counts ∙ c.in_ok-numbers.ensures.counts
-
-pub returns-in_err-has_edges-clause-stays : goal.returns-in_err-has_edges-clause-stays
-returns-in_err-has_edges-clause-stays g c =
-    g.met.T.Table.stays_then _ _ _ c.in_ok-numbers.ensures.stays c.in_err-has_edges.ensures.stays
+pub returns-in_err-has_edges-clause-read : goal.returns-in_err-has_edges-clause-read
+returns-in_err-has_edges-clause-read g c =
+    read_then g.met.T.Table.stays_then c.in_ok-numbers.ensures.read c.in_err-has_edges.ensures.read
 
 pub returns-in_err-has_edges-clause-room : goal.returns-in_err-has_edges-clause-room
 returns-in_err-has_edges-clause-room g c =
@@ -136,27 +93,15 @@ returns-in_err-has_edges-clause-room g c =
 pub returns-in_err-has_edges-clause-fault : goal.returns-in_err-has_edges-clause-fault
 returns-in_err-has_edges-clause-fault g c =
     passed_on _ c.from_residual-in_err-has_edges.result _ c.from_residual-in_err-has_edges.ensures
-    (g.met.T.Table.fails_since _ _ _ _ (g.met.T.Table.stays_goes_on _ _ c.in_ok-numbers.ensures.stays) c.in_err-has_edges.ensures.fault)
+    (g.met.T.Table.fails_since _ _ _ _ (g.met.T.Table.stays_goes_on _ _ c.in_ok-numbers.ensures.read.stays) c.in_err-has_edges.ensures.fault)
 
 pub returns-in_err-has_edges-clause-wide : goal.returns-in_err-has_edges-clause-wide
 returns-in_err-has_edges-clause-wide g c =
     λ is. absurd (table_narrow _ (not_this c.from_residual-in_err-has_edges.result _ _ c.from_residual-in_err-has_edges.ensures is))
 
-pub returns-in_err-records-clause-same : goal.returns-in_err-records-clause-same
-returns-in_err-records-clause-same g c =
-    λ h. c.in_err-records.ensures.same (c.in_ok-has_edges.ensures.honest.0 (c.in_ok-numbers.ensures.honest.0 h)) ∙ (c.in_ok-has_edges.ensures.same (c.in_ok-numbers.ensures.honest.0 h) ∙ c.in_ok-numbers.ensures.same h)
-
-pub returns-in_err-records-clause-honest : goal.returns-in_err-records-clause-honest
-returns-in_err-records-clause-honest g c =
-    (λ h. c.in_err-records.ensures.honest.0 (c.in_ok-has_edges.ensures.honest.0 (c.in_ok-numbers.ensures.honest.0 h)), λ h. c.in_ok-numbers.ensures.honest.1 (c.in_ok-has_edges.ensures.honest.1 (c.in_err-records.ensures.honest.1 h)))
-
-pub returns-in_err-records-clause-counts : goal.returns-in_err-records-clause-counts
-returns-in_err-records-clause-counts g c =
-    c.in_err-records.ensures.counts ∙ (c.in_ok-has_edges.ensures.counts ∙ c.in_ok-numbers.ensures.counts)
-
-pub returns-in_err-records-clause-stays : goal.returns-in_err-records-clause-stays
-returns-in_err-records-clause-stays g c =
-    g.met.T.Table.stays_then _ _ _ (g.met.T.Table.stays_then _ _ _ c.in_ok-numbers.ensures.stays c.in_ok-has_edges.ensures.stays) c.in_err-records.ensures.stays
+pub returns-in_err-records-clause-read : goal.returns-in_err-records-clause-read
+returns-in_err-records-clause-read g c =
+    read_then g.met.T.Table.stays_then (read_then g.met.T.Table.stays_then c.in_ok-numbers.ensures.read c.in_ok-has_edges.ensures.read) c.in_err-records.ensures.read
 
 pub returns-in_err-records-clause-room : goal.returns-in_err-records-clause-room
 returns-in_err-records-clause-room g c =
@@ -165,75 +110,23 @@ returns-in_err-records-clause-room g c =
 pub returns-in_err-records-clause-fault : goal.returns-in_err-records-clause-fault
 returns-in_err-records-clause-fault g c =
     passed_on _ c.from_residual-in_err-records.result _ c.from_residual-in_err-records.ensures
-    (of_table_after _ _ _ (λ fault. g.met.T.Table.fails_since _ _ _ fault (g.met.T.Table.stays_goes_on _ _ (g.met.T.Table.stays_then _ _ _ c.in_ok-numbers.ensures.stays c.in_ok-has_edges.ensures.stays))) c.in_err-records.ensures.fault)
+    (of_table_after _ _ _ (λ fault. g.met.T.Table.fails_since _ _ _ fault (g.met.T.Table.stays_goes_on _ _ (g.met.T.Table.stays_then _ _ _ c.in_ok-numbers.ensures.read.stays c.in_ok-has_edges.ensures.read.stays))) c.in_err-records.ensures.fault)
 
 pub returns-in_err-records-clause-wide : goal.returns-in_err-records-clause-wide
 returns-in_err-records-clause-wide g c =
     λ is. absurd (c.in_err-records.ensures.narrow (not_this c.from_residual-in_err-records.result _ _ c.from_residual-in_err-records.ensures is))
 
-pub returns-in_default-clause-same : goal.returns-in_default-clause-same
-returns-in_default-clause-same g c =
-    λ h. c.in_ok-numbers.ensures.same h
+pub returns-then-not-branch-clause-read : goal.returns-then-not-branch-clause-read
+returns-then-not-branch-clause-read g c =
+    read_then g.met.T.Table.stays_then c.in_ok-numbers.ensures.read c.in_ok-has_edges.ensures.read
 
-pub returns-in_default-clause-honest : goal.returns-in_default-clause-honest
-returns-in_default-clause-honest g c =
-    (λ h. c.in_ok-numbers.ensures.honest.0 h, λ h. c.in_ok-numbers.ensures.honest.1 h)
+pub returns-then-is_counted-clause-read : goal.returns-then-is_counted-clause-read
+returns-then-is_counted-clause-read g c =
+    read_then g.met.T.Table.stays_then (read_then g.met.T.Table.stays_then c.in_ok-numbers.ensures.read c.in_ok-has_edges.ensures.read) c.in_ok-records.ensures.read
 
-pub returns-in_default-clause-counts : goal.returns-in_default-clause-counts
-returns-in_default-clause-counts g c =
-    c.in_ok-numbers.ensures.counts
-
-pub returns-in_default-clause-stays : goal.returns-in_default-clause-stays
-returns-in_default-clause-stays g c =
-    c.in_ok-numbers.ensures.stays
-
-pub returns-then-not-branch-clause-same : goal.returns-then-not-branch-clause-same
-returns-then-not-branch-clause-same g c =
-    λ h. c.in_ok-has_edges.ensures.same (c.in_ok-numbers.ensures.honest.0 h) ∙ c.in_ok-numbers.ensures.same h
-
-pub returns-then-not-branch-clause-honest : goal.returns-then-not-branch-clause-honest
-returns-then-not-branch-clause-honest g c =
-    (λ h. c.in_ok-has_edges.ensures.honest.0 (c.in_ok-numbers.ensures.honest.0 h), λ h. c.in_ok-numbers.ensures.honest.1 (c.in_ok-has_edges.ensures.honest.1 h))
-
-pub returns-then-not-branch-clause-counts : goal.returns-then-not-branch-clause-counts
-returns-then-not-branch-clause-counts g c =
-    c.in_ok-has_edges.ensures.counts ∙ c.in_ok-numbers.ensures.counts
-
-pub returns-then-not-branch-clause-stays : goal.returns-then-not-branch-clause-stays
-returns-then-not-branch-clause-stays g c =
-    g.met.T.Table.stays_then _ _ _ c.in_ok-numbers.ensures.stays c.in_ok-has_edges.ensures.stays
-
-pub returns-then-is_counted-clause-same : goal.returns-then-is_counted-clause-same
-returns-then-is_counted-clause-same g c =
-    λ h. c.in_ok-records.ensures.same (c.in_ok-has_edges.ensures.honest.0 (c.in_ok-numbers.ensures.honest.0 h)) ∙ (c.in_ok-has_edges.ensures.same (c.in_ok-numbers.ensures.honest.0 h) ∙ c.in_ok-numbers.ensures.same h)
-
-pub returns-then-is_counted-clause-honest : goal.returns-then-is_counted-clause-honest
-returns-then-is_counted-clause-honest g c =
-    (λ h. c.in_ok-records.ensures.honest.0 (c.in_ok-has_edges.ensures.honest.0 (c.in_ok-numbers.ensures.honest.0 h)), λ h. c.in_ok-numbers.ensures.honest.1 (c.in_ok-has_edges.ensures.honest.1 (c.in_ok-records.ensures.honest.1 h)))
-
-pub returns-then-is_counted-clause-counts : goal.returns-then-is_counted-clause-counts
-returns-then-is_counted-clause-counts g c =
-    c.in_ok-records.ensures.counts ∙ (c.in_ok-has_edges.ensures.counts ∙ c.in_ok-numbers.ensures.counts)
-
-pub returns-then-is_counted-clause-stays : goal.returns-then-is_counted-clause-stays
-returns-then-is_counted-clause-stays g c =
-    g.met.T.Table.stays_then _ _ _ (g.met.T.Table.stays_then _ _ _ c.in_ok-numbers.ensures.stays c.in_ok-has_edges.ensures.stays) c.in_ok-records.ensures.stays
-
-pub returns-clause-same : goal.returns-clause-same
-returns-clause-same g c =
-    λ h. c.in_ok-records.ensures.same (c.in_ok-has_edges.ensures.honest.0 (c.in_ok-numbers.ensures.honest.0 h)) ∙ (c.in_ok-has_edges.ensures.same (c.in_ok-numbers.ensures.honest.0 h) ∙ c.in_ok-numbers.ensures.same h)
-
-pub returns-clause-honest : goal.returns-clause-honest
-returns-clause-honest g c =
-    (λ h. c.in_ok-records.ensures.honest.0 (c.in_ok-has_edges.ensures.honest.0 (c.in_ok-numbers.ensures.honest.0 h)), λ h. c.in_ok-numbers.ensures.honest.1 (c.in_ok-has_edges.ensures.honest.1 (c.in_ok-records.ensures.honest.1 h)))
-
-pub returns-clause-counts : goal.returns-clause-counts
-returns-clause-counts g c =
-    c.in_ok-records.ensures.counts ∙ (c.in_ok-has_edges.ensures.counts ∙ c.in_ok-numbers.ensures.counts)
-
-pub returns-clause-stays : goal.returns-clause-stays
-returns-clause-stays g c =
-    g.met.T.Table.stays_then _ _ _ (g.met.T.Table.stays_then _ _ _ c.in_ok-numbers.ensures.stays c.in_ok-has_edges.ensures.stays) c.in_ok-records.ensures.stays
+pub returns-clause-read : goal.returns-clause-read
+returns-clause-read g c =
+    read_then g.met.T.Table.stays_then (read_then g.met.T.Table.stays_then c.in_ok-numbers.ensures.read c.in_ok-has_edges.ensures.read) c.in_ok-records.ensures.read
 
 pub returns-in_default-clause-wide : goal.returns-in_default-clause-wide
 returns-in_default-clause-wide g c =

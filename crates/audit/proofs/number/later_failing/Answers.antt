@@ -1,5 +1,5 @@
 use Rattle.audit.proofs.Passing.{passed_on, ok_differs}
-use Rattle.std.proofs.Common.{◌∙◌, ◌<◌, ◌≤◌, ap, arith, refl}
+use Rattle.std.proofs.Common.{◌∙◌, ◌<◌, ◌≤◌, ap, arith}
 use Rattle.retrograde.specs.declared.records.Counts.{Counts}
 use Rattle.retrograde.specs.Stored.{expanded_count}
 use Rattle.audit.specs.aid.Conditions.{AreItsRecords}
@@ -45,41 +45,9 @@ returns-clause-lowest g c = λ honest table has floor reached.
     (rw c.in_default-order_failing.is at c.order_failing.ensures stored c.args.number table has counts floor) table within c.value_failing.result
     (c.value_failing.ensures stored c.args.number table has within (rw c.deref.ensures.value it))
 
-pub returns-then-number-counts-clause-same : goal.returns-then-number-counts-clause-same
-returns-then-number-counts-clause-same g c =
-    λ h. refl
-
-pub returns-then-number-counts-clause-honest : goal.returns-then-number-counts-clause-honest
-returns-then-number-counts-clause-honest g c =
-    (λ h. h, λ h. h)
-
-pub returns-then-number-counts-clause-counts : goal.returns-then-number-counts-clause-counts
-returns-then-number-counts-clause-counts g c =
-    refl
-
-pub returns-then-number-counts-clause-stays : goal.returns-then-number-counts-clause-stays
-returns-then-number-counts-clause-stays g c =
-    g.met.T.Table.stays_here _
-
 pub returns-then-number-counts-clause-wide : goal.returns-then-number-counts-clause-wide
 returns-then-number-counts-clause-wide g c =
     λ honest is. absurd (ok_differs _ _ is)
-
-pub returns-in_err-successors-clause-same : goal.returns-in_err-successors-clause-same
-returns-in_err-successors-clause-same g c =
-    λ h. c.in_err-successors.ensures.same h
-
-pub returns-in_err-successors-clause-honest : goal.returns-in_err-successors-clause-honest
-returns-in_err-successors-clause-honest g c =
-    (λ h. c.in_err-successors.ensures.honest.0 h, λ h. c.in_err-successors.ensures.honest.1 h)
-
-pub returns-in_err-successors-clause-counts : goal.returns-in_err-successors-clause-counts
-returns-in_err-successors-clause-counts g c =
-    c.in_err-successors.ensures.counts
-
-pub returns-in_err-successors-clause-stays : goal.returns-in_err-successors-clause-stays
-returns-in_err-successors-clause-stays g c =
-    c.in_err-successors.ensures.stays
 
 pub returns-in_err-successors-clause-room : goal.returns-in_err-successors-clause-room
 returns-in_err-successors-clause-room g c =
@@ -90,61 +58,13 @@ returns-in_err-successors-clause-fault g c =
     passed_on _ c.from_residual.result _ c.from_residual.ensures
     c.in_err-successors.ensures.fault
 
-pub returns-in_default-clause-same : goal.returns-in_default-clause-same
-returns-in_default-clause-same g c =
-    λ h. c.in_ok-successors.ensures.same h
-
-pub returns-in_default-clause-honest : goal.returns-in_default-clause-honest
-returns-in_default-clause-honest g c =
-    (λ h. c.in_ok-successors.ensures.honest.0 h, λ h. c.in_ok-successors.ensures.honest.1 h)
-
-pub returns-in_default-clause-counts : goal.returns-in_default-clause-counts
-returns-in_default-clause-counts g c =
-    c.in_ok-successors.ensures.counts
-
-pub returns-in_default-clause-stays : goal.returns-in_default-clause-stays
-returns-in_default-clause-stays g c =
-    c.in_ok-successors.ensures.stays
-
 pub returns-in_default-clause-wide : goal.returns-in_default-clause-wide
 returns-in_default-clause-wide g c =
     λ honest is. absurd (ok_differs _ _ is)
 
-pub returns-in-Some-order_failing-clause-same : goal.returns-in-Some-order_failing-clause-same
-returns-in-Some-order_failing-clause-same g c =
-    λ h. c.in_ok-successors.ensures.same h
-
-pub returns-in-Some-order_failing-clause-honest : goal.returns-in-Some-order_failing-clause-honest
-returns-in-Some-order_failing-clause-honest g c =
-    (λ h. c.in_ok-successors.ensures.honest.0 h, λ h. c.in_ok-successors.ensures.honest.1 h)
-
-pub returns-in-Some-order_failing-clause-counts : goal.returns-in-Some-order_failing-clause-counts
-returns-in-Some-order_failing-clause-counts g c =
-    c.in_ok-successors.ensures.counts
-
-pub returns-in-Some-order_failing-clause-stays : goal.returns-in-Some-order_failing-clause-stays
-returns-in-Some-order_failing-clause-stays g c =
-    c.in_ok-successors.ensures.stays
-
 pub returns-in-Some-order_failing-clause-wide : goal.returns-in-Some-order_failing-clause-wide
 returns-in-Some-order_failing-clause-wide g c =
     λ honest is. absurd (ok_differs _ _ is)
-
-pub returns-clause-same : goal.returns-clause-same
-returns-clause-same g c =
-    λ h. c.in_ok-successors.ensures.same h
-
-pub returns-clause-honest : goal.returns-clause-honest
-returns-clause-honest g c =
-    (λ h. c.in_ok-successors.ensures.honest.0 h, λ h. c.in_ok-successors.ensures.honest.1 h)
-
-pub returns-clause-counts : goal.returns-clause-counts
-returns-clause-counts g c =
-    c.in_ok-successors.ensures.counts
-
-pub returns-clause-stays : goal.returns-clause-stays
-returns-clause-stays g c =
-    c.in_ok-successors.ensures.stays
 
 pub returns-clause-wide : goal.returns-clause-wide
 returns-clause-wide g c =

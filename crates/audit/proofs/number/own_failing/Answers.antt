@@ -5,16 +5,17 @@ use Rattle.std.proofs.lemmas.Option.{same_Some}
 use Rattle.retrograde.specs.Audit.{IsReached}
 use Rattle.retrograde.specs.Stored.{Stored, IsTable, HasRecord, expanded_count}
 use Rattle.audit.specs.aid.Conditions.{IsLowest, IsFloor, own_condition}
+use Rattle.audit.proofs.Reading.{read_by, read_then}
 use Rattle.audit.proofs.number.own_failing.Goals as goal
 
 pub returns-clause-lowest : goal.returns-clause-lowest
 returns-clause-lowest g c = λ honest table floor x at.
     let h1 = c.in_ok-at.ensures.honest.0 honest in
     let h2 = c.in_ok-kept.ensures.honest.0 h1 in
-    let h3 = c.in_ok-is_reached.ensures.honest.0 h2 in
+    let h3 = c.in_ok-is_reached.ensures.read.honest.0 h2 in
     let same1 = c.in_ok-at.ensures.same honest in
     let same2 = c.in_ok-kept.ensures.same h1 ∙ same1 in
-    let same3 = c.in_ok-is_reached.ensures.same h2 ∙ same2 in
+    let same3 = c.in_ok-is_reached.ensures.read.same h2 ∙ same2 in
     let graph = g.M.GameGraph.graph c.args.source.now in
     let stored = g.T.Table.stored c.args.table.now in
     let y = c.in_ok-at.at.items in
@@ -25,22 +26,6 @@ returns-clause-lowest g c = λ honest table floor x at.
     let lowest = subst (λ (t : Stored (List ℕ)). IsTable t → HasRecord t c.args.number c.in_ok-kept.kept → IsFloor t c.args.number c.args.floor
     → IsReached graph t c.args.number y → IsLowest (own_condition graph t c.args.number y) c.in_ok-reason.reason) same3 (c.in_ok-reason.ensures.lowest h3) in
     subst (λ (z : List ℕ). IsLowest (own_condition graph stored c.args.number z) c.in_ok-reason.reason) here (lowest table has floor (reached.0 there))
-
-pub returns-in_err-at-clause-same : goal.returns-in_err-at-clause-same
-returns-in_err-at-clause-same g c =
-    λ h. c.in_err-at.ensures.same h
-
-pub returns-in_err-at-clause-honest : goal.returns-in_err-at-clause-honest
-returns-in_err-at-clause-honest g c =
-    (λ h. c.in_err-at.ensures.honest.0 h, λ h. c.in_err-at.ensures.honest.1 h)
-
-pub returns-in_err-at-clause-counts : goal.returns-in_err-at-clause-counts
-returns-in_err-at-clause-counts g c =
-    c.in_err-at.ensures.counts
-
-pub returns-in_err-at-clause-stays : goal.returns-in_err-at-clause-stays
-returns-in_err-at-clause-stays g c =
-    c.in_err-at.ensures.stays
 
 pub returns-in_err-at-clause-room : goal.returns-in_err-at-clause-room
 returns-in_err-at-clause-room g c =
@@ -55,21 +40,11 @@ pub returns-in_err-at-clause-wide : goal.returns-in_err-at-clause-wide
 returns-in_err-at-clause-wide g c =
     λ honest is. absurd (table_narrow _ (not_this c.from_residual.result _ _ c.from_residual.ensures is))
 
-pub returns-in_err-kept-clause-same : goal.returns-in_err-kept-clause-same
-returns-in_err-kept-clause-same g c =
-    λ h. c.in_err-kept.ensures.same (c.in_ok-at.ensures.honest.0 h) ∙ c.in_ok-at.ensures.same h
-
-pub returns-in_err-kept-clause-honest : goal.returns-in_err-kept-clause-honest
-returns-in_err-kept-clause-honest g c =
-    (λ h. c.in_err-kept.ensures.honest.0 (c.in_ok-at.ensures.honest.0 h), λ h. c.in_ok-at.ensures.honest.1 (c.in_err-kept.ensures.honest.1 h))
-
-pub returns-in_err-kept-clause-counts : goal.returns-in_err-kept-clause-counts
-returns-in_err-kept-clause-counts g c =
-    c.in_err-kept.ensures.counts ∙ c.in_ok-at.ensures.counts
-
-pub returns-in_err-kept-clause-stays : goal.returns-in_err-kept-clause-stays
-returns-in_err-kept-clause-stays g c =
-    g.met.T.Table.stays_then _ _ _ c.in_ok-at.ensures.stays c.in_err-kept.ensures.stays
+pub returns-in_err-kept-clause-read : goal.returns-in_err-kept-clause-read
+returns-in_err-kept-clause-read g c =
+    let at = c.in_ok-at.ensures in
+    let kept = c.in_err-kept.ensures in
+    read_then g.met.T.Table.stays_then (read_by at.same at.honest at.counts at.stays) (read_by kept.same kept.honest kept.counts kept.stays)
 
 pub returns-in_err-kept-clause-room : goal.returns-in_err-kept-clause-room
 returns-in_err-kept-clause-room g c =
@@ -84,21 +59,11 @@ pub returns-in_err-kept-clause-wide : goal.returns-in_err-kept-clause-wide
 returns-in_err-kept-clause-wide g c =
     λ honest is. absurd (table_narrow _ (not_this c.from_residual-in_err-kept.result _ _ c.from_residual-in_err-kept.ensures is))
 
-pub returns-in_err-is_reached-clause-same : goal.returns-in_err-is_reached-clause-same
-returns-in_err-is_reached-clause-same g c =
-    λ h. c.in_err-is_reached.ensures.same (c.in_ok-kept.ensures.honest.0 (c.in_ok-at.ensures.honest.0 h)) ∙ (c.in_ok-kept.ensures.same (c.in_ok-at.ensures.honest.0 h) ∙ c.in_ok-at.ensures.same h)
-
-pub returns-in_err-is_reached-clause-honest : goal.returns-in_err-is_reached-clause-honest
-returns-in_err-is_reached-clause-honest g c =
-    (λ h. c.in_err-is_reached.ensures.honest.0 (c.in_ok-kept.ensures.honest.0 (c.in_ok-at.ensures.honest.0 h)), λ h. c.in_ok-at.ensures.honest.1 (c.in_ok-kept.ensures.honest.1 (c.in_err-is_reached.ensures.honest.1 h)))
-
-pub returns-in_err-is_reached-clause-counts : goal.returns-in_err-is_reached-clause-counts
-returns-in_err-is_reached-clause-counts g c =
-    c.in_err-is_reached.ensures.counts ∙ (c.in_ok-kept.ensures.counts ∙ c.in_ok-at.ensures.counts)
-
-pub returns-in_err-is_reached-clause-stays : goal.returns-in_err-is_reached-clause-stays
-returns-in_err-is_reached-clause-stays g c =
-    g.met.T.Table.stays_then _ _ _ (g.met.T.Table.stays_then _ _ _ c.in_ok-at.ensures.stays c.in_ok-kept.ensures.stays) c.in_err-is_reached.ensures.stays
+pub returns-in_err-is_reached-clause-read : goal.returns-in_err-is_reached-clause-read
+returns-in_err-is_reached-clause-read g c =
+    let at = c.in_ok-at.ensures in
+    let kept = c.in_ok-kept.ensures in
+    read_then g.met.T.Table.stays_then (read_then g.met.T.Table.stays_then (read_by at.same at.honest at.counts at.stays) (read_by kept.same kept.honest kept.counts kept.stays)) c.in_err-is_reached.ensures.read
 
 pub returns-in_err-is_reached-clause-room : goal.returns-in_err-is_reached-clause-room
 returns-in_err-is_reached-clause-room g c =
@@ -113,21 +78,11 @@ pub returns-in_err-is_reached-clause-wide : goal.returns-in_err-is_reached-claus
 returns-in_err-is_reached-clause-wide g c =
     λ honest is. absurd (table_narrow _ (not_this c.from_residual-in_err-is_reached.result _ _ c.from_residual-in_err-is_reached.ensures is))
 
-pub returns-in_err-reason-clause-same : goal.returns-in_err-reason-clause-same
-returns-in_err-reason-clause-same g c =
-    λ h. c.in_err-reason.ensures.same (c.in_ok-is_reached.ensures.honest.0 (c.in_ok-kept.ensures.honest.0 (c.in_ok-at.ensures.honest.0 h))) ∙ (c.in_ok-is_reached.ensures.same (c.in_ok-kept.ensures.honest.0 (c.in_ok-at.ensures.honest.0 h)) ∙ (c.in_ok-kept.ensures.same (c.in_ok-at.ensures.honest.0 h) ∙ c.in_ok-at.ensures.same h))
-
-pub returns-in_err-reason-clause-honest : goal.returns-in_err-reason-clause-honest
-returns-in_err-reason-clause-honest g c =
-    (λ h. c.in_err-reason.ensures.honest.0 (c.in_ok-is_reached.ensures.honest.0 (c.in_ok-kept.ensures.honest.0 (c.in_ok-at.ensures.honest.0 h))), λ h. c.in_ok-at.ensures.honest.1 (c.in_ok-kept.ensures.honest.1 (c.in_ok-is_reached.ensures.honest.1 (c.in_err-reason.ensures.honest.1 h))))
-
-pub returns-in_err-reason-clause-counts : goal.returns-in_err-reason-clause-counts
-returns-in_err-reason-clause-counts g c =
-    c.in_err-reason.ensures.counts ∙ (c.in_ok-is_reached.ensures.counts ∙ (c.in_ok-kept.ensures.counts ∙ c.in_ok-at.ensures.counts))
-
-pub returns-in_err-reason-clause-stays : goal.returns-in_err-reason-clause-stays
-returns-in_err-reason-clause-stays g c =
-    g.met.T.Table.stays_then _ _ _ (g.met.T.Table.stays_then _ _ _ (g.met.T.Table.stays_then _ _ _ c.in_ok-at.ensures.stays c.in_ok-kept.ensures.stays) c.in_ok-is_reached.ensures.stays) c.in_err-reason.ensures.stays
+pub returns-in_err-reason-clause-read : goal.returns-in_err-reason-clause-read
+returns-in_err-reason-clause-read g c =
+    let at = c.in_ok-at.ensures in
+    let kept = c.in_ok-kept.ensures in
+    read_then g.met.T.Table.stays_then (read_then g.met.T.Table.stays_then (read_then g.met.T.Table.stays_then (read_by at.same at.honest at.counts at.stays) (read_by kept.same kept.honest kept.counts kept.stays)) c.in_ok-is_reached.ensures.read) c.in_err-reason.ensures.read
 
 pub returns-in_err-reason-clause-room : goal.returns-in_err-reason-clause-room
 returns-in_err-reason-clause-room g c =
@@ -136,53 +91,33 @@ returns-in_err-reason-clause-room g c =
 pub returns-in_err-reason-clause-fault : goal.returns-in_err-reason-clause-fault
 returns-in_err-reason-clause-fault g c =
     passed_on _ c.from_residual-in_err-reason.result _ c.from_residual-in_err-reason.ensures
-    (of_table_after _ _ _ (λ fault. g.met.T.Table.fails_since _ _ _ fault (g.met.T.Table.stays_goes_on _ _ (g.met.T.Table.stays_then _ _ _ (g.met.T.Table.stays_then _ _ _ c.in_ok-at.ensures.stays c.in_ok-kept.ensures.stays) c.in_ok-is_reached.ensures.stays))) c.in_err-reason.ensures.fault)
+    (of_table_after _ _ _ (λ fault. g.met.T.Table.fails_since _ _ _ fault (g.met.T.Table.stays_goes_on _ _ (g.met.T.Table.stays_then _ _ _ (g.met.T.Table.stays_then _ _ _ c.in_ok-at.ensures.stays c.in_ok-kept.ensures.stays) c.in_ok-is_reached.ensures.read.stays))) c.in_err-reason.ensures.fault)
 
 pub returns-in_err-reason-clause-wide : goal.returns-in_err-reason-clause-wide
 returns-in_err-reason-clause-wide g c =
     λ honest is.
     let h1 = c.in_ok-at.ensures.honest.0 honest in
     let h2 = c.in_ok-kept.ensures.honest.0 h1 in
-    let same = c.in_ok-is_reached.ensures.same h2 ∙ (c.in_ok-kept.ensures.same h1 ∙ c.in_ok-at.ensures.same honest) in
-    let wide = c.in_err-reason.ensures.wide (c.in_ok-is_reached.ensures.honest.0 h2) (ap (λ (f : AuditFault). Err f) (not_this c.from_residual-in_err-reason.result _ _ c.from_residual-in_err-reason.ensures is)) in
+    let same = c.in_ok-is_reached.ensures.read.same h2 ∙ (c.in_ok-kept.ensures.same h1 ∙ c.in_ok-at.ensures.same honest) in
+    let wide = c.in_err-reason.ensures.wide (c.in_ok-is_reached.ensures.read.honest.0 h2) (ap (λ (f : AuditFault). Err f) (not_this c.from_residual-in_err-reason.result _ _ c.from_residual-in_err-reason.ensures is)) in
     let within = subst (λ (t : Stored (List ℕ)). c.args.number < expanded_count t) same wide.0 in
     (c.args.number, c.in_ok-at.at.items, c.in_ok-at.ensures.position honest, within, wide.1)
 
-pub returns-then-not-branch-clause-same : goal.returns-then-not-branch-clause-same
-returns-then-not-branch-clause-same g c =
-    λ h. c.in_ok-is_reached.ensures.same (c.in_ok-kept.ensures.honest.0 (c.in_ok-at.ensures.honest.0 h)) ∙ (c.in_ok-kept.ensures.same (c.in_ok-at.ensures.honest.0 h) ∙ c.in_ok-at.ensures.same h)
-
-pub returns-then-not-branch-clause-honest : goal.returns-then-not-branch-clause-honest
-returns-then-not-branch-clause-honest g c =
-    (λ h. c.in_ok-is_reached.ensures.honest.0 (c.in_ok-kept.ensures.honest.0 (c.in_ok-at.ensures.honest.0 h)), λ h. c.in_ok-at.ensures.honest.1 (c.in_ok-kept.ensures.honest.1 (c.in_ok-is_reached.ensures.honest.1 h)))
-
-pub returns-then-not-branch-clause-counts : goal.returns-then-not-branch-clause-counts
-returns-then-not-branch-clause-counts g c =
-    c.in_ok-is_reached.ensures.counts ∙ (c.in_ok-kept.ensures.counts ∙ c.in_ok-at.ensures.counts)
-
-pub returns-then-not-branch-clause-stays : goal.returns-then-not-branch-clause-stays
-returns-then-not-branch-clause-stays g c =
-    g.met.T.Table.stays_then _ _ _ (g.met.T.Table.stays_then _ _ _ c.in_ok-at.ensures.stays c.in_ok-kept.ensures.stays) c.in_ok-is_reached.ensures.stays
+pub returns-then-not-branch-clause-read : goal.returns-then-not-branch-clause-read
+returns-then-not-branch-clause-read g c =
+    let at = c.in_ok-at.ensures in
+    let kept = c.in_ok-kept.ensures in
+    read_then g.met.T.Table.stays_then (read_then g.met.T.Table.stays_then (read_by at.same at.honest at.counts at.stays) (read_by kept.same kept.honest kept.counts kept.stays)) c.in_ok-is_reached.ensures.read
 
 pub returns-then-not-branch-clause-wide : goal.returns-then-not-branch-clause-wide
 returns-then-not-branch-clause-wide g c =
     λ honest is. absurd (ok_differs _ _ is)
 
-pub returns-clause-same : goal.returns-clause-same
-returns-clause-same g c =
-    λ h. c.in_ok-reason.ensures.same (c.in_ok-is_reached.ensures.honest.0 (c.in_ok-kept.ensures.honest.0 (c.in_ok-at.ensures.honest.0 h))) ∙ (c.in_ok-is_reached.ensures.same (c.in_ok-kept.ensures.honest.0 (c.in_ok-at.ensures.honest.0 h)) ∙ (c.in_ok-kept.ensures.same (c.in_ok-at.ensures.honest.0 h) ∙ c.in_ok-at.ensures.same h))
-
-pub returns-clause-honest : goal.returns-clause-honest
-returns-clause-honest g c =
-    (λ h. c.in_ok-reason.ensures.honest.0 (c.in_ok-is_reached.ensures.honest.0 (c.in_ok-kept.ensures.honest.0 (c.in_ok-at.ensures.honest.0 h))), λ h. c.in_ok-at.ensures.honest.1 (c.in_ok-kept.ensures.honest.1 (c.in_ok-is_reached.ensures.honest.1 (c.in_ok-reason.ensures.honest.1 h))))
-
-pub returns-clause-counts : goal.returns-clause-counts
-returns-clause-counts g c =
-    c.in_ok-reason.ensures.counts ∙ (c.in_ok-is_reached.ensures.counts ∙ (c.in_ok-kept.ensures.counts ∙ c.in_ok-at.ensures.counts))
-
-pub returns-clause-stays : goal.returns-clause-stays
-returns-clause-stays g c =
-    g.met.T.Table.stays_then _ _ _ (g.met.T.Table.stays_then _ _ _ (g.met.T.Table.stays_then _ _ _ c.in_ok-at.ensures.stays c.in_ok-kept.ensures.stays) c.in_ok-is_reached.ensures.stays) c.in_ok-reason.ensures.stays
+pub returns-clause-read : goal.returns-clause-read
+returns-clause-read g c =
+    let at = c.in_ok-at.ensures in
+    let kept = c.in_ok-kept.ensures in
+    read_then g.met.T.Table.stays_then (read_then g.met.T.Table.stays_then (read_then g.met.T.Table.stays_then (read_by at.same at.honest at.counts at.stays) (read_by kept.same kept.honest kept.counts kept.stays)) c.in_ok-is_reached.ensures.read) c.in_ok-reason.ensures.read
 
 pub returns-clause-wide : goal.returns-clause-wide
 returns-clause-wide g c =

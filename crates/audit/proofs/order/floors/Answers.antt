@@ -5,6 +5,7 @@ use Rattle.retrograde.specs.Stored.{Stored, IsTable}
 use Rattle.retrograde.proofs.Finished.{element}
 use Rattle.audit.specs.aid.Conditions.{distance_at}
 use Rattle.audit.proofs.FloorLemmas.{floors_step, distance_next}
+use Rattle.audit.proofs.Reading.{read_then}
 use Rattle.audit.proofs.order.floors.Given as Given
 use Rattle.audit.proofs.order.floors.Goals as goal
 
@@ -14,8 +15,8 @@ place_here : (g : Given.Over) (c : goal.In_ok-last g) → g.T.Table.is_honest c.
     × ((c.in_ok-last.last ≡ distance_at (g.T.Table.stored c.args.table.now) (Some i)) × (i < length c.loop-place.floors.items)
     × (c.write_floor.new.floors.items ≡ slice_set c.loop-place.floors.items i c.loop-place.last))
 place_here g c = λ honest table.
-    let h = c.loop-place.invariant.honest.0 honest in
-    let same = c.loop-place.invariant.same honest in
+    let h = c.loop-place.invariant.read.honest.0 honest in
+    let same = c.loop-place.invariant.read.same honest in
     let table' = subst (λ (t : Stored (List ℕ)). IsTable t) (sym same) table in
     let count = ap (λ (k : Counts). k.settled) (g.met.T.Table.counts_are c.args.table.now honest) in
     let read = ap (λ (k : Counts). k.settled) c.counts-counts.ensures in
@@ -28,10 +29,7 @@ place_here g c = λ honest table.
 pub loop-place-preserved : goal.loop-place-preserved
 loop-place-preserved g c = record {
   lengths = c.in_ok-last.ensures.lengths ∙ c.loop-place.invariant.lengths;
-  counts = c.in_ok-last.ensures.counts ∙ c.loop-place.invariant.counts;
-  stays = g.met.T.Table.stays_then _ _ _ c.loop-place.invariant.stays c.in_ok-last.ensures.stays;
-  honest = (λ h. c.in_ok-last.ensures.honest.0 (c.loop-place.invariant.honest.0 h), λ h. c.loop-place.invariant.honest.1 (c.in_ok-last.ensures.honest.1 h));
-  same = λ h. c.in_ok-last.ensures.same (c.loop-place.invariant.honest.0 h) ∙ c.loop-place.invariant.same h;
+  read = read_then g.met.T.Table.stays_then c.loop-place.invariant.read c.in_ok-last.ensures.read;
   last = λ honest table.
       let (i, at, (distance, _, _)) = place_here g c honest table in
       distance_next (g.T.Table.stored c.args.table.now) c.loop-place.place i c.in_ok-last.last at distance;
@@ -41,21 +39,9 @@ loop-place-preserved g c = record {
       (c.loop-place.invariant.floors honest table) at (c.loop-place.invariant.last honest table) within written;
 }
 
-pub returns-in_err-last-clause-same : goal.returns-in_err-last-clause-same
-returns-in_err-last-clause-same g c =
-    λ h. c.in_err-last.ensures.same (c.loop-place.invariant.honest.0 h) ∙ c.loop-place.invariant.same h
-
-pub returns-in_err-last-clause-honest : goal.returns-in_err-last-clause-honest
-returns-in_err-last-clause-honest g c =
-    (λ h. c.in_err-last.ensures.honest.0 (c.loop-place.invariant.honest.0 h), λ h. c.loop-place.invariant.honest.1 (c.in_err-last.ensures.honest.1 h))
-
-pub returns-in_err-last-clause-counts : goal.returns-in_err-last-clause-counts
-returns-in_err-last-clause-counts g c =
-    c.in_err-last.ensures.counts ∙ c.loop-place.invariant.counts
-
-pub returns-in_err-last-clause-stays : goal.returns-in_err-last-clause-stays
-returns-in_err-last-clause-stays g c =
-    g.met.T.Table.stays_then _ _ _ c.loop-place.invariant.stays c.in_err-last.ensures.stays
+pub returns-in_err-last-clause-read : goal.returns-in_err-last-clause-read
+returns-in_err-last-clause-read g c =
+    read_then g.met.T.Table.stays_then c.loop-place.invariant.read c.in_err-last.ensures.read
 
 pub returns-in_err-last-clause-room : goal.returns-in_err-last-clause-room
 returns-in_err-last-clause-room g c =
@@ -64,24 +50,8 @@ returns-in_err-last-clause-room g c =
 pub returns-in_err-last-clause-fault : goal.returns-in_err-last-clause-fault
 returns-in_err-last-clause-fault g c =
     passed_on _ c.from_residual-in_err-last.result _ c.from_residual-in_err-last.ensures
-    (g.met.T.Table.fails_since _ _ _ _ (g.met.T.Table.stays_goes_on _ _ c.loop-place.invariant.stays) c.in_err-last.ensures.fault)
+    (g.met.T.Table.fails_since _ _ _ _ (g.met.T.Table.stays_goes_on _ _ c.loop-place.invariant.read.stays) c.in_err-last.ensures.fault)
 
 pub returns-in_err-last-clause-narrow : goal.returns-in_err-last-clause-narrow
 returns-in_err-last-clause-narrow g c =
     passed_on _ c.from_residual-in_err-last.result _ c.from_residual-in_err-last.ensures (table_narrow _)
-
-pub returns-clause-same : goal.returns-clause-same
-returns-clause-same g c =
-    λ h. c.loop-place.invariant.same h
-
-pub returns-clause-honest : goal.returns-clause-honest
-returns-clause-honest g c =
-    (λ h. c.loop-place.invariant.honest.0 h, λ h. c.loop-place.invariant.honest.1 h)
-
-pub returns-clause-counts : goal.returns-clause-counts
-returns-clause-counts g c =
-    c.loop-place.invariant.counts
-
-pub returns-clause-stays : goal.returns-clause-stays
-returns-clause-stays g c =
-    c.loop-place.invariant.stays

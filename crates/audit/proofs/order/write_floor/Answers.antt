@@ -6,6 +6,7 @@ use Rattle.retrograde.specs.declared.records.Record.{Record}
 use Rattle.retrograde.specs.Stored.{Stored}
 use Rattle.audit.specs.aid.Conditions.{distance_in}
 use Rattle.audit.proofs.FloorLemmas.{in_range}
+use Rattle.audit.proofs.Reading.{read_by, read_then}
 use Rattle.audit.proofs.order.write_floor.Goals as goal
 
 pub returns-clause-written : goal.returns-clause-written
@@ -30,22 +31,6 @@ returns-then-number-len-clause-written g c = λ honest table i at.
     let within = in_range (g.T.Table.stored c.args.table.now) table c.args.place i at in
     absurd (omega (arith, same, count, within, c.requires.lengths, c.if-number-len.true))
 
-pub returns-in_err-number-clause-same : goal.returns-in_err-number-clause-same
-returns-in_err-number-clause-same g c =
-    λ h. c.in_err-number.ensures.same h
-
-pub returns-in_err-number-clause-honest : goal.returns-in_err-number-clause-honest
-returns-in_err-number-clause-honest g c =
-    (λ h. c.in_err-number.ensures.honest.0 h, λ h. c.in_err-number.ensures.honest.1 h)
-
-pub returns-in_err-number-clause-counts : goal.returns-in_err-number-clause-counts
-returns-in_err-number-clause-counts g c =
-    c.in_err-number.ensures.counts
-
-pub returns-in_err-number-clause-stays : goal.returns-in_err-number-clause-stays
-returns-in_err-number-clause-stays g c =
-    c.in_err-number.ensures.stays
-
 pub returns-in_err-number-clause-room : goal.returns-in_err-number-clause-room
 returns-in_err-number-clause-room g c =
     passed_on _ c.from_residual.result _ c.from_residual.ensures c.in_err-number.ensures.room
@@ -55,37 +40,11 @@ returns-in_err-number-clause-fault g c =
     passed_on _ c.from_residual.result _ c.from_residual.ensures
     c.in_err-number.ensures.fault
 
-pub returns-then-number-len-clause-same : goal.returns-then-number-len-clause-same
-returns-then-number-len-clause-same g c =
-    λ h. c.in_ok-number.ensures.same h
-
-pub returns-then-number-len-clause-honest : goal.returns-then-number-len-clause-honest
-returns-then-number-len-clause-honest g c =
-    (λ h. c.in_ok-number.ensures.honest.0 h, λ h. c.in_ok-number.ensures.honest.1 h)
-
-pub returns-then-number-len-clause-counts : goal.returns-then-number-len-clause-counts
-returns-then-number-len-clause-counts g c =
-    c.in_ok-number.ensures.counts
-
-pub returns-then-number-len-clause-stays : goal.returns-then-number-len-clause-stays
-returns-then-number-len-clause-stays g c =
-    c.in_ok-number.ensures.stays
-
-pub returns-in_err-record-clause-same : goal.returns-in_err-record-clause-same
-returns-in_err-record-clause-same g c =
-    λ h. c.in_err-record.ensures.same (c.in_ok-number.ensures.honest.0 h) ∙ c.in_ok-number.ensures.same h
-
-pub returns-in_err-record-clause-honest : goal.returns-in_err-record-clause-honest
-returns-in_err-record-clause-honest g c =
-    (λ h. c.in_err-record.ensures.honest.0 (c.in_ok-number.ensures.honest.0 h), λ h. c.in_ok-number.ensures.honest.1 (c.in_err-record.ensures.honest.1 h))
-
-pub returns-in_err-record-clause-counts : goal.returns-in_err-record-clause-counts
-returns-in_err-record-clause-counts g c =
-    c.in_err-record.ensures.counts ∙ c.in_ok-number.ensures.counts
-
-pub returns-in_err-record-clause-stays : goal.returns-in_err-record-clause-stays
-returns-in_err-record-clause-stays g c =
-    g.met.T.Table.stays_then _ _ _ c.in_ok-number.ensures.stays c.in_err-record.ensures.stays
+pub returns-in_err-record-clause-read : goal.returns-in_err-record-clause-read
+returns-in_err-record-clause-read g c =
+    let number = c.in_ok-number.ensures in
+    let kept = c.in_err-record.ensures in
+    read_then g.met.T.Table.stays_then (read_by number.same number.honest number.counts number.stays) (read_by kept.same kept.honest kept.counts kept.stays)
 
 pub returns-in_err-record-clause-room : goal.returns-in_err-record-clause-room
 returns-in_err-record-clause-room g c =
@@ -96,18 +55,8 @@ returns-in_err-record-clause-fault g c =
     passed_on _ c.from_residual-in_err-record.result _ c.from_residual-in_err-record.ensures
     (g.met.T.Table.fails_since _ _ _ _ (g.met.T.Table.stays_goes_on _ _ c.in_ok-number.ensures.stays) c.in_err-record.ensures.fault)
 
-pub returns-clause-same : goal.returns-clause-same
-returns-clause-same g c =
-    λ h. c.in_ok-record.ensures.same (c.in_ok-number.ensures.honest.0 h) ∙ c.in_ok-number.ensures.same h
-
-pub returns-clause-honest : goal.returns-clause-honest
-returns-clause-honest g c =
-    (λ h. c.in_ok-record.ensures.honest.0 (c.in_ok-number.ensures.honest.0 h), λ h. c.in_ok-number.ensures.honest.1 (c.in_ok-record.ensures.honest.1 h))
-
-pub returns-clause-counts : goal.returns-clause-counts
-returns-clause-counts g c =
-    c.in_ok-record.ensures.counts ∙ c.in_ok-number.ensures.counts
-
-pub returns-clause-stays : goal.returns-clause-stays
-returns-clause-stays g c =
-    g.met.T.Table.stays_then _ _ _ c.in_ok-number.ensures.stays c.in_ok-record.ensures.stays
+pub returns-clause-read : goal.returns-clause-read
+returns-clause-read g c =
+    let number = c.in_ok-number.ensures in
+    let kept = c.in_ok-record.ensures in
+    read_then g.met.T.Table.stays_then (read_by number.same number.honest number.counts number.stays) (read_by kept.same kept.honest kept.counts kept.stays) 

@@ -10,6 +10,7 @@ use Rattle.audit.specs.aid.Conditions.{IsLowest, IsFloor, own_condition, success
 use Rattle.audit.proofs.FloorLemmas.{floor_of}
 use Rattle.audit.proofs.AnswerLemmas.{own_more}
 use Rattle.audit.proofs.SumLemmas.{sum_more, sums_right}
+use Rattle.audit.proofs.Reading.{read_then}
 use Rattle.audit.proofs.sums.adds_up.Goals as goal
 
 pub returns-clause-right : goal.returns-clause-right
@@ -27,26 +28,23 @@ loop-number-preserved g c = record {
   source = refl;
   few_moves = search rules;
   few_edges = search rules;
-  counts = c.in_ok-tally.ensures.counts ∙ c.loop-number.invariant.counts;
-  stays = g.met.T.Table.stays_then _ _ _ c.loop-number.invariant.stays c.in_ok-tally.ensures.stays;
-  honest = (λ h. c.in_ok-tally.ensures.honest.0 (c.loop-number.invariant.honest.0 h), λ h. c.loop-number.invariant.honest.1 (c.in_ok-tally.ensures.honest.1 h));
-  same = λ h. c.in_ok-tally.ensures.same (c.loop-number.invariant.honest.0 h) ∙ c.loop-number.invariant.same h;
+  read = read_then g.met.T.Table.stays_then c.loop-number.invariant.read c.in_ok-tally.ensures.read;
   moves = λ honest.
-      let h = c.loop-number.invariant.honest.0 honest in
+      let h = c.loop-number.invariant.read.honest.0 honest in
       let one = rw c.in-Some.is at c.in_ok-tally.ensures.moves h in
-      let one' = subst (λ (t : Stored (List ℕ)). c.in-Some.tally.moves ≡ successors_in (slice_get t.records c.loop-number.number)) (c.loop-number.invariant.same honest) one in
+      let one' = subst (λ (t : Stored (List ℕ)). c.in-Some.tally.moves ≡ successors_in (slice_get t.records c.loop-number.number)) (c.loop-number.invariant.read.same honest) one in
       sum_more c.loop-number.number c.loop-number.moves c.from-moves.result (λ i. successors_in (slice_get (g.T.Table.stored c.args.table.now).records i))
       (c.loop-number.invariant.moves honest) (c.from-moves.ensures ∙ one');
   edges = λ honest.
-      let h = c.loop-number.invariant.honest.0 honest in
+      let h = c.loop-number.invariant.read.honest.0 honest in
       let one = rw c.in-Some.is at c.in_ok-tally.ensures.edges h in
-      let one' = subst (λ (t : Stored (List ℕ)). c.in-Some.tally.edges ≡ count_below (length t.positions) (λ p. t.has_edge c.loop-number.number p)) (c.loop-number.invariant.same honest) one in
+      let one' = subst (λ (t : Stored (List ℕ)). c.in-Some.tally.edges ≡ count_below (length t.positions) (λ p. t.has_edge c.loop-number.number p)) (c.loop-number.invariant.read.same honest) one in
       sum_more c.loop-number.number c.loop-number.edges c.from-edges.result
       (λ i. count_below (length (g.T.Table.stored c.args.table.now).positions) (λ p. (g.T.Table.stored c.args.table.now).has_edge i p))
       (c.loop-number.invariant.edges honest) (c.from-edges.ensures ∙ one');
   sound = λ honest table floors.
-      let h = c.loop-number.invariant.honest.0 honest in
-      let same = c.loop-number.invariant.same honest in
+      let h = c.loop-number.invariant.read.honest.0 honest in
+      let same = c.loop-number.invariant.read.same honest in
       let graph = g.M.GameGraph.graph c.args.source.now in
       let IsWide = g.M.GameGraph.is_wide c.args.source.now in
       let stored = g.T.Table.stored c.args.table.now in
@@ -63,21 +61,9 @@ loop-number-preserved g c = record {
       own_more graph IsWide stored c.loop-number.number (c.loop-number.invariant.sound honest table floors) (holds' table floor) narrow';
 }
 
-pub returns-in_err-tally-clause-same : goal.returns-in_err-tally-clause-same
-returns-in_err-tally-clause-same g c =
-    λ h. c.in_err-tally.ensures.same (c.loop-number.invariant.honest.0 h) ∙ c.loop-number.invariant.same h
-
-pub returns-in_err-tally-clause-honest : goal.returns-in_err-tally-clause-honest
-returns-in_err-tally-clause-honest g c =
-    (λ h. c.in_err-tally.ensures.honest.0 (c.loop-number.invariant.honest.0 h), λ h. c.loop-number.invariant.honest.1 (c.in_err-tally.ensures.honest.1 h))
-
-pub returns-in_err-tally-clause-counts : goal.returns-in_err-tally-clause-counts
-returns-in_err-tally-clause-counts g c =
-    c.in_err-tally.ensures.counts ∙ c.loop-number.invariant.counts
-
-pub returns-in_err-tally-clause-stays : goal.returns-in_err-tally-clause-stays
-returns-in_err-tally-clause-stays g c =
-    g.met.T.Table.stays_then _ _ _ c.loop-number.invariant.stays c.in_err-tally.ensures.stays
+pub returns-in_err-tally-clause-read : goal.returns-in_err-tally-clause-read
+returns-in_err-tally-clause-read g c =
+    read_then g.met.T.Table.stays_then c.loop-number.invariant.read c.in_err-tally.ensures.read
 
 pub returns-in_err-tally-clause-room : goal.returns-in_err-tally-clause-room
 returns-in_err-tally-clause-room g c =
@@ -86,49 +72,21 @@ returns-in_err-tally-clause-room g c =
 pub returns-in_err-tally-clause-fault : goal.returns-in_err-tally-clause-fault
 returns-in_err-tally-clause-fault g c =
     passed_on _ c.from_residual.result _ c.from_residual.ensures
-    (of_table_after _ _ _ (λ fault. g.met.T.Table.fails_since _ _ _ fault (g.met.T.Table.stays_goes_on _ _ c.loop-number.invariant.stays)) c.in_err-tally.ensures.fault)
+    (of_table_after _ _ _ (λ fault. g.met.T.Table.fails_since _ _ _ fault (g.met.T.Table.stays_goes_on _ _ c.loop-number.invariant.read.stays)) c.in_err-tally.ensures.fault)
 
 pub returns-in_err-tally-clause-wide : goal.returns-in_err-tally-clause-wide
 returns-in_err-tally-clause-wide g c =
     λ honest is.
-    subst (λ (t : Stored (List ℕ)). HasWide (g.M.GameGraph.is_wide c.args.source.now) t) (c.loop-number.invariant.same honest)
-    (c.in_err-tally.ensures.wide (c.loop-number.invariant.honest.0 honest) (ap (λ (f : AuditFault). Err f) (not_this c.from_residual.result _ _ c.from_residual.ensures is)))
+    subst (λ (t : Stored (List ℕ)). HasWide (g.M.GameGraph.is_wide c.args.source.now) t) (c.loop-number.invariant.read.same honest)
+    (c.in_err-tally.ensures.wide (c.loop-number.invariant.read.honest.0 honest) (ap (λ (f : AuditFault). Err f) (not_this c.from_residual.result _ _ c.from_residual.ensures is)))
 
-pub returns-in_default-clause-same : goal.returns-in_default-clause-same
-returns-in_default-clause-same g c =
-    λ h. c.in_ok-tally.ensures.same (c.loop-number.invariant.honest.0 h) ∙ c.loop-number.invariant.same h
-
-pub returns-in_default-clause-honest : goal.returns-in_default-clause-honest
-returns-in_default-clause-honest g c =
-    (λ h. c.in_ok-tally.ensures.honest.0 (c.loop-number.invariant.honest.0 h), λ h. c.loop-number.invariant.honest.1 (c.in_ok-tally.ensures.honest.1 h))
-
-pub returns-in_default-clause-counts : goal.returns-in_default-clause-counts
-returns-in_default-clause-counts g c =
-    c.in_ok-tally.ensures.counts ∙ c.loop-number.invariant.counts
-
-pub returns-in_default-clause-stays : goal.returns-in_default-clause-stays
-returns-in_default-clause-stays g c =
-    g.met.T.Table.stays_then _ _ _ c.loop-number.invariant.stays c.in_ok-tally.ensures.stays
+pub returns-in_default-clause-read : goal.returns-in_default-clause-read
+returns-in_default-clause-read g c =
+    read_then g.met.T.Table.stays_then c.loop-number.invariant.read c.in_ok-tally.ensures.read
 
 pub returns-in_default-clause-wide : goal.returns-in_default-clause-wide
 returns-in_default-clause-wide g c =
     λ honest is. absurd (ok_differs _ _ is)
-
-pub returns-clause-same : goal.returns-clause-same
-returns-clause-same g c =
-    λ h. c.loop-number.invariant.same h
-
-pub returns-clause-honest : goal.returns-clause-honest
-returns-clause-honest g c =
-    (λ h. c.loop-number.invariant.honest.0 h, λ h. c.loop-number.invariant.honest.1 h)
-
-pub returns-clause-counts : goal.returns-clause-counts
-returns-clause-counts g c =
-    c.loop-number.invariant.counts
-
-pub returns-clause-stays : goal.returns-clause-stays
-returns-clause-stays g c =
-    c.loop-number.invariant.stays
 
 pub returns-clause-wide : goal.returns-clause-wide
 returns-clause-wide g c =

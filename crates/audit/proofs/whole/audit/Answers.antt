@@ -10,6 +10,7 @@ use Rattle.audit.specs.Answers.{IsAnswer}
 use Rattle.audit.specs.aid.Conditions.{AreFloors}
 use Rattle.audit.specs.aid.Edges.{AreArrivals}
 use Rattle.audit.proofs.AnswerLemmas.{right_sound, right_so}
+use Rattle.audit.proofs.Reading.{read_then}
 use Rattle.audit.proofs.whole.audit.Goals as goal
 
 is_ok : (b : Bool) → b ≡ true → ◌≡◌ {A = Result Bool AuditFault} (Ok b) (Ok true)
@@ -17,104 +18,88 @@ is_ok b is = cc
 
 pub returns-then-branch-clause-answer : goal.returns-then-branch-clause-answer
 returns-then-branch-clause-answer g c = λ honest table.
-    let h1 = c.in_ok-floors.ensures.honest.0 honest in
+    let h1 = c.in_ok-floors.ensures.read.honest.0 honest in
     let graph = g.M.GameGraph.graph c.args.source.now in
     let IsWide = g.M.GameGraph.is_wide c.args.source.now in
     let right = subst (λ (t : Stored (List ℕ)). IsTable t → AreFloors t (length t.order) c.in_ok-floors.floors.items
     → ◌≡◌ {A = Result Bool AuditFault} (Ok c.in_ok-adds_up.field-0) (Ok true) → IsAnswer graph IsWide t Right)
-    (c.in_ok-floors.ensures.same honest) (rw c.deref.ensures.value at c.in_ok-adds_up.ensures.right h1) in
+    (c.in_ok-floors.ensures.read.same honest) (rw c.deref.ensures.value at c.in_ok-adds_up.ensures.right h1) in
     let added = right table (c.in_ok-floors.ensures.floors honest table) (is_ok c.in_ok-adds_up.field-0 c.if-branch.true) in
     search (added)
 
 pub returns-then-branch-clause-sound : goal.returns-then-branch-clause-sound
 returns-then-branch-clause-sound g c = λ honest table is.
-    let h1 = c.in_ok-floors.ensures.honest.0 honest in
+    let h1 = c.in_ok-floors.ensures.read.honest.0 honest in
     let stored = g.T.Table.stored c.args.table.now in
     let graph = g.M.GameGraph.graph c.args.source.now in
     let IsWide = g.M.GameGraph.is_wide c.args.source.now in
     let right = subst (λ (t : Stored (List ℕ)). IsTable t → AreFloors t (length t.order) c.in_ok-floors.floors.items
     → ◌≡◌ {A = Result Bool AuditFault} (Ok c.in_ok-adds_up.field-0) (Ok true) → IsAnswer graph IsWide t Right)
-    (c.in_ok-floors.ensures.same honest) (rw c.deref.ensures.value at c.in_ok-adds_up.ensures.right h1) in
+    (c.in_ok-floors.ensures.read.same honest) (rw c.deref.ensures.value at c.in_ok-adds_up.ensures.right h1) in
     let added : IsAnswer graph IsWide stored Right =
     right table (c.in_ok-floors.ensures.floors honest table) (is_ok c.in_ok-adds_up.field-0 c.if-branch.true) in
     right_sound graph IsWide stored table added
 
 pub returns-then-branch-clause-so : goal.returns-then-branch-clause-so
 returns-then-branch-clause-so g c = λ honest table is.
-    let h1 = c.in_ok-floors.ensures.honest.0 honest in
+    let h1 = c.in_ok-floors.ensures.read.honest.0 honest in
     let stored = g.T.Table.stored c.args.table.now in
     let graph = g.M.GameGraph.graph c.args.source.now in
     let IsWide = g.M.GameGraph.is_wide c.args.source.now in
     let right = subst (λ (t : Stored (List ℕ)). IsTable t → AreFloors t (length t.order) c.in_ok-floors.floors.items
     → ◌≡◌ {A = Result Bool AuditFault} (Ok c.in_ok-adds_up.field-0) (Ok true) → IsAnswer graph IsWide t Right)
-    (c.in_ok-floors.ensures.same honest) (rw c.deref.ensures.value at c.in_ok-adds_up.ensures.right h1) in
+    (c.in_ok-floors.ensures.read.same honest) (rw c.deref.ensures.value at c.in_ok-adds_up.ensures.right h1) in
     let added : IsAnswer graph IsWide stored Right =
     right table (c.in_ok-floors.ensures.floors honest table) (is_ok c.in_ok-adds_up.field-0 c.if-branch.true) in
     right_so graph IsWide stored table added
 
 pub returns-clause-answer : goal.returns-clause-answer
 returns-clause-answer g c = λ honest table.
-    let h1 = c.in_ok-floors.ensures.honest.0 honest in
-    let h2 = c.in_ok-adds_up.ensures.honest.0 h1 in
-    let h3 = c.in_ok-arrivals.ensures.honest.0 h2 in
+    let h1 = c.in_ok-floors.ensures.read.honest.0 honest in
+    let h2 = c.in_ok-adds_up.ensures.read.honest.0 h1 in
+    let h3 = c.in_ok-arrivals.ensures.read.honest.0 h2 in
     let graph = g.M.GameGraph.graph c.args.source.now in
     let IsWide = g.M.GameGraph.is_wide c.args.source.now in
     let stored = g.T.Table.stored c.args.table.now in
-    let same2 = c.in_ok-adds_up.ensures.same h1 ∙ c.in_ok-floors.ensures.same honest in
+    let same2 = c.in_ok-adds_up.ensures.read.same h1 ∙ c.in_ok-floors.ensures.read.same honest in
     let arrivals = subst (λ (t : Stored (List ℕ)). IsTable t → AreArrivals graph t (expanded_count t) c.in_ok-arrivals.arrivals.items) same2
     (c.in_ok-arrivals.ensures.arrivals h2) in
     let answer = subst (λ (t : Stored (List ℕ)). IsTable t → AreFloors t (length t.order) c.in_ok-floors.floors.items
     → AreArrivals graph t (expanded_count t) c.in_ok-arrivals.arrivals.items → IfOk c.first_wrong.result (IsAnswer graph IsWide t))
-    (c.in_ok-arrivals.ensures.same h2 ∙ same2) (rw (c.deref-2.ensures.value, c.deref-3.ensures.value) at c.first_wrong.ensures.answer h3) in
+    (c.in_ok-arrivals.ensures.read.same h2 ∙ same2) (rw (c.deref-2.ensures.value, c.deref-3.ensures.value) at c.first_wrong.ensures.answer h3) in
     answer table (c.in_ok-floors.ensures.floors honest table) (arrivals table)
 
 pub returns-clause-sound : goal.returns-clause-sound
 returns-clause-sound g c = λ honest table is.
-    let h1 = c.in_ok-floors.ensures.honest.0 honest in
-    let h2 = c.in_ok-adds_up.ensures.honest.0 h1 in
-    let h3 = c.in_ok-arrivals.ensures.honest.0 h2 in
+    let h1 = c.in_ok-floors.ensures.read.honest.0 honest in
+    let h2 = c.in_ok-adds_up.ensures.read.honest.0 h1 in
+    let h3 = c.in_ok-arrivals.ensures.read.honest.0 h2 in
     let graph = g.M.GameGraph.graph c.args.source.now in
     let IsWide = g.M.GameGraph.is_wide c.args.source.now in
     let stored = g.T.Table.stored c.args.table.now in
-    let same2 = c.in_ok-adds_up.ensures.same h1 ∙ c.in_ok-floors.ensures.same honest in
+    let same2 = c.in_ok-adds_up.ensures.read.same h1 ∙ c.in_ok-floors.ensures.read.same honest in
     let arrivals = subst (λ (t : Stored (List ℕ)). IsTable t → AreArrivals graph t (expanded_count t) c.in_ok-arrivals.arrivals.items) same2
     (c.in_ok-arrivals.ensures.arrivals h2) in
     let answer = subst (λ (t : Stored (List ℕ)). IsTable t → AreFloors t (length t.order) c.in_ok-floors.floors.items
     → AreArrivals graph t (expanded_count t) c.in_ok-arrivals.arrivals.items → IfOk c.first_wrong.result (IsAnswer graph IsWide t))
-    (c.in_ok-arrivals.ensures.same h2 ∙ same2) (rw (c.deref-2.ensures.value, c.deref-3.ensures.value) at c.first_wrong.ensures.answer h3) in
+    (c.in_ok-arrivals.ensures.read.same h2 ∙ same2) (rw (c.deref-2.ensures.value, c.deref-3.ensures.value) at c.first_wrong.ensures.answer h3) in
     right_sound graph IsWide stored table (rw is at answer table (c.in_ok-floors.ensures.floors honest table) (arrivals table))
 
 pub returns-clause-so : goal.returns-clause-so
 returns-clause-so g c = λ honest table is.
-    let h1 = c.in_ok-floors.ensures.honest.0 honest in
-    let h2 = c.in_ok-adds_up.ensures.honest.0 h1 in
-    let h3 = c.in_ok-arrivals.ensures.honest.0 h2 in
+    let h1 = c.in_ok-floors.ensures.read.honest.0 honest in
+    let h2 = c.in_ok-adds_up.ensures.read.honest.0 h1 in
+    let h3 = c.in_ok-arrivals.ensures.read.honest.0 h2 in
     let graph = g.M.GameGraph.graph c.args.source.now in
     let IsWide = g.M.GameGraph.is_wide c.args.source.now in
     let stored = g.T.Table.stored c.args.table.now in
-    let same2 = c.in_ok-adds_up.ensures.same h1 ∙ c.in_ok-floors.ensures.same honest in
+    let same2 = c.in_ok-adds_up.ensures.read.same h1 ∙ c.in_ok-floors.ensures.read.same honest in
     let arrivals = subst (λ (t : Stored (List ℕ)). IsTable t → AreArrivals graph t (expanded_count t) c.in_ok-arrivals.arrivals.items) same2
     (c.in_ok-arrivals.ensures.arrivals h2) in
     let answer = subst (λ (t : Stored (List ℕ)). IsTable t → AreFloors t (length t.order) c.in_ok-floors.floors.items
     → AreArrivals graph t (expanded_count t) c.in_ok-arrivals.arrivals.items → IfOk c.first_wrong.result (IsAnswer graph IsWide t))
-    (c.in_ok-arrivals.ensures.same h2 ∙ same2) (rw (c.deref-2.ensures.value, c.deref-3.ensures.value) at c.first_wrong.ensures.answer h3) in
+    (c.in_ok-arrivals.ensures.read.same h2 ∙ same2) (rw (c.deref-2.ensures.value, c.deref-3.ensures.value) at c.first_wrong.ensures.answer h3) in
     right_so graph IsWide stored table (rw is at answer table (c.in_ok-floors.ensures.floors honest table) (arrivals table))
-
-pub returns-in_err-floors-clause-same : goal.returns-in_err-floors-clause-same
-returns-in_err-floors-clause-same g c =
-    λ h. c.in_err-floors.ensures.same h
-
-pub returns-in_err-floors-clause-honest : goal.returns-in_err-floors-clause-honest
-returns-in_err-floors-clause-honest g c =
-    (λ h. c.in_err-floors.ensures.honest.0 h, λ h. c.in_err-floors.ensures.honest.1 h)
-
-pub returns-in_err-floors-clause-counts : goal.returns-in_err-floors-clause-counts
-returns-in_err-floors-clause-counts g c =
-    c.in_err-floors.ensures.counts
-
-pub returns-in_err-floors-clause-stays : goal.returns-in_err-floors-clause-stays
-returns-in_err-floors-clause-stays g c =
-    c.in_err-floors.ensures.stays
 
 pub returns-in_err-floors-clause-room : goal.returns-in_err-floors-clause-room
 returns-in_err-floors-clause-room g c =
@@ -131,19 +116,19 @@ returns-in_err-floors-clause-wide g c =
 
 pub returns-in_err-adds_up-clause-same : goal.returns-in_err-adds_up-clause-same
 returns-in_err-adds_up-clause-same g c =
-    λ h. c.in_err-adds_up.ensures.same (c.in_ok-floors.ensures.honest.0 h) ∙ c.in_ok-floors.ensures.same h
+    (read_then g.met.T.Table.stays_then c.in_ok-floors.ensures.read c.in_err-adds_up.ensures.read).same
 
 pub returns-in_err-adds_up-clause-honest : goal.returns-in_err-adds_up-clause-honest
 returns-in_err-adds_up-clause-honest g c =
-    (λ h. c.in_err-adds_up.ensures.honest.0 (c.in_ok-floors.ensures.honest.0 h), λ h. c.in_ok-floors.ensures.honest.1 (c.in_err-adds_up.ensures.honest.1 h))
+    (read_then g.met.T.Table.stays_then c.in_ok-floors.ensures.read c.in_err-adds_up.ensures.read).honest
 
 pub returns-in_err-adds_up-clause-counts : goal.returns-in_err-adds_up-clause-counts
 returns-in_err-adds_up-clause-counts g c =
-    c.in_err-adds_up.ensures.counts ∙ c.in_ok-floors.ensures.counts
+    (read_then g.met.T.Table.stays_then c.in_ok-floors.ensures.read c.in_err-adds_up.ensures.read).counts
 
 pub returns-in_err-adds_up-clause-stays : goal.returns-in_err-adds_up-clause-stays
 returns-in_err-adds_up-clause-stays g c =
-    g.met.T.Table.stays_then _ _ _ c.in_ok-floors.ensures.stays c.in_err-adds_up.ensures.stays
+    (read_then g.met.T.Table.stays_then c.in_ok-floors.ensures.read c.in_err-adds_up.ensures.read).stays
 
 pub returns-in_err-adds_up-clause-room : goal.returns-in_err-adds_up-clause-room
 returns-in_err-adds_up-clause-room g c =
@@ -152,29 +137,29 @@ returns-in_err-adds_up-clause-room g c =
 pub returns-in_err-adds_up-clause-fault : goal.returns-in_err-adds_up-clause-fault
 returns-in_err-adds_up-clause-fault g c =
     passed_on _ c.from_residual-in_err-adds_up.result _ c.from_residual-in_err-adds_up.ensures
-    (of_table_after _ _ _ (λ fault. g.met.T.Table.fails_since _ _ _ fault (g.met.T.Table.stays_goes_on _ _ c.in_ok-floors.ensures.stays)) c.in_err-adds_up.ensures.fault)
+    (of_table_after _ _ _ (λ fault. g.met.T.Table.fails_since _ _ _ fault (g.met.T.Table.stays_goes_on _ _ c.in_ok-floors.ensures.read.stays)) c.in_err-adds_up.ensures.fault)
 
 pub returns-in_err-adds_up-clause-wide : goal.returns-in_err-adds_up-clause-wide
 returns-in_err-adds_up-clause-wide g c =
     λ honest is.
-    subst (λ (t : Stored (List ℕ)). HasWide (g.M.GameGraph.is_wide c.args.source.now) t) (c.in_ok-floors.ensures.same honest)
-    (c.in_err-adds_up.ensures.wide (c.in_ok-floors.ensures.honest.0 honest) (ap (λ (f : AuditFault). Err f) (not_this c.from_residual-in_err-adds_up.result _ _ c.from_residual-in_err-adds_up.ensures is)))
+    subst (λ (t : Stored (List ℕ)). HasWide (g.M.GameGraph.is_wide c.args.source.now) t) (c.in_ok-floors.ensures.read.same honest)
+    (c.in_err-adds_up.ensures.wide (c.in_ok-floors.ensures.read.honest.0 honest) (ap (λ (f : AuditFault). Err f) (not_this c.from_residual-in_err-adds_up.result _ _ c.from_residual-in_err-adds_up.ensures is)))
 
 pub returns-then-branch-clause-same : goal.returns-then-branch-clause-same
 returns-then-branch-clause-same g c =
-    λ h. c.in_ok-adds_up.ensures.same (c.in_ok-floors.ensures.honest.0 h) ∙ c.in_ok-floors.ensures.same h
+    (read_then g.met.T.Table.stays_then c.in_ok-floors.ensures.read c.in_ok-adds_up.ensures.read).same
 
 pub returns-then-branch-clause-honest : goal.returns-then-branch-clause-honest
 returns-then-branch-clause-honest g c =
-    (λ h. c.in_ok-adds_up.ensures.honest.0 (c.in_ok-floors.ensures.honest.0 h), λ h. c.in_ok-floors.ensures.honest.1 (c.in_ok-adds_up.ensures.honest.1 h))
+    (read_then g.met.T.Table.stays_then c.in_ok-floors.ensures.read c.in_ok-adds_up.ensures.read).honest
 
 pub returns-then-branch-clause-counts : goal.returns-then-branch-clause-counts
 returns-then-branch-clause-counts g c =
-    c.in_ok-adds_up.ensures.counts ∙ c.in_ok-floors.ensures.counts
+    (read_then g.met.T.Table.stays_then c.in_ok-floors.ensures.read c.in_ok-adds_up.ensures.read).counts
 
 pub returns-then-branch-clause-stays : goal.returns-then-branch-clause-stays
 returns-then-branch-clause-stays g c =
-    g.met.T.Table.stays_then _ _ _ c.in_ok-floors.ensures.stays c.in_ok-adds_up.ensures.stays
+    (read_then g.met.T.Table.stays_then c.in_ok-floors.ensures.read c.in_ok-adds_up.ensures.read).stays
 
 pub returns-then-branch-clause-wide : goal.returns-then-branch-clause-wide
 returns-then-branch-clause-wide g c =
@@ -182,19 +167,19 @@ returns-then-branch-clause-wide g c =
 
 pub returns-in_err-arrivals-clause-same : goal.returns-in_err-arrivals-clause-same
 returns-in_err-arrivals-clause-same g c =
-    λ h. c.in_err-arrivals.ensures.same (c.in_ok-adds_up.ensures.honest.0 (c.in_ok-floors.ensures.honest.0 h)) ∙ (c.in_ok-adds_up.ensures.same (c.in_ok-floors.ensures.honest.0 h) ∙ (c.in_ok-floors.ensures.same h))
+    (read_then g.met.T.Table.stays_then (read_then g.met.T.Table.stays_then c.in_ok-floors.ensures.read c.in_ok-adds_up.ensures.read) c.in_err-arrivals.ensures.read).same
 
 pub returns-in_err-arrivals-clause-honest : goal.returns-in_err-arrivals-clause-honest
 returns-in_err-arrivals-clause-honest g c =
-    (λ h. c.in_err-arrivals.ensures.honest.0 (c.in_ok-adds_up.ensures.honest.0 (c.in_ok-floors.ensures.honest.0 h)), λ h. c.in_ok-floors.ensures.honest.1 (c.in_ok-adds_up.ensures.honest.1 (c.in_err-arrivals.ensures.honest.1 h)))
+    (read_then g.met.T.Table.stays_then (read_then g.met.T.Table.stays_then c.in_ok-floors.ensures.read c.in_ok-adds_up.ensures.read) c.in_err-arrivals.ensures.read).honest
 
 pub returns-in_err-arrivals-clause-counts : goal.returns-in_err-arrivals-clause-counts
 returns-in_err-arrivals-clause-counts g c =
-    c.in_err-arrivals.ensures.counts ∙ (c.in_ok-adds_up.ensures.counts ∙ c.in_ok-floors.ensures.counts)
+    (read_then g.met.T.Table.stays_then (read_then g.met.T.Table.stays_then c.in_ok-floors.ensures.read c.in_ok-adds_up.ensures.read) c.in_err-arrivals.ensures.read).counts
 
 pub returns-in_err-arrivals-clause-stays : goal.returns-in_err-arrivals-clause-stays
 returns-in_err-arrivals-clause-stays g c =
-    g.met.T.Table.stays_then _ _ _ (g.met.T.Table.stays_then _ _ _ c.in_ok-floors.ensures.stays c.in_ok-adds_up.ensures.stays) c.in_err-arrivals.ensures.stays
+    (read_then g.met.T.Table.stays_then (read_then g.met.T.Table.stays_then c.in_ok-floors.ensures.read c.in_ok-adds_up.ensures.read) c.in_err-arrivals.ensures.read).stays
 
 pub returns-in_err-arrivals-clause-room : goal.returns-in_err-arrivals-clause-room
 returns-in_err-arrivals-clause-room g c =
@@ -203,27 +188,27 @@ returns-in_err-arrivals-clause-room g c =
 pub returns-in_err-arrivals-clause-fault : goal.returns-in_err-arrivals-clause-fault
 returns-in_err-arrivals-clause-fault g c =
     passed_on _ c.from_residual-in_err-arrivals.result _ c.from_residual-in_err-arrivals.ensures
-    (of_table_after _ _ _ (λ fault. g.met.T.Table.fails_since _ _ _ fault (g.met.T.Table.stays_goes_on _ _ (g.met.T.Table.stays_then _ _ _ c.in_ok-floors.ensures.stays c.in_ok-adds_up.ensures.stays))) c.in_err-arrivals.ensures.fault)
+    (of_table_after _ _ _ (λ fault. g.met.T.Table.fails_since _ _ _ fault (g.met.T.Table.stays_goes_on _ _ (g.met.T.Table.stays_then _ _ _ c.in_ok-floors.ensures.read.stays c.in_ok-adds_up.ensures.read.stays))) c.in_err-arrivals.ensures.fault)
 
 pub returns-in_err-arrivals-clause-wide : goal.returns-in_err-arrivals-clause-wide
 returns-in_err-arrivals-clause-wide g c =
     λ honest is.
-    let h1 = c.in_ok-floors.ensures.honest.0 honest in
-    subst (λ (t : Stored (List ℕ)). HasWide (g.M.GameGraph.is_wide c.args.source.now) t) (c.in_ok-adds_up.ensures.same h1 ∙ c.in_ok-floors.ensures.same honest)
-    (c.in_err-arrivals.ensures.wide (c.in_ok-adds_up.ensures.honest.0 h1) (ap (λ (f : AuditFault). Err f) (not_this c.from_residual-in_err-arrivals.result _ _ c.from_residual-in_err-arrivals.ensures is)))
+    let h1 = c.in_ok-floors.ensures.read.honest.0 honest in
+    subst (λ (t : Stored (List ℕ)). HasWide (g.M.GameGraph.is_wide c.args.source.now) t) (c.in_ok-adds_up.ensures.read.same h1 ∙ c.in_ok-floors.ensures.read.same honest)
+    (c.in_err-arrivals.ensures.wide (c.in_ok-adds_up.ensures.read.honest.0 h1) (ap (λ (f : AuditFault). Err f) (not_this c.from_residual-in_err-arrivals.result _ _ c.from_residual-in_err-arrivals.ensures is)))
 
 pub returns-clause-same : goal.returns-clause-same
 returns-clause-same g c =
-    λ h. c.first_wrong.ensures.same (c.in_ok-arrivals.ensures.honest.0 (c.in_ok-adds_up.ensures.honest.0 (c.in_ok-floors.ensures.honest.0 h))) ∙ (c.in_ok-arrivals.ensures.same (c.in_ok-adds_up.ensures.honest.0 (c.in_ok-floors.ensures.honest.0 h)) ∙ (c.in_ok-adds_up.ensures.same (c.in_ok-floors.ensures.honest.0 h) ∙ (c.in_ok-floors.ensures.same h)))
+    (read_then g.met.T.Table.stays_then (read_then g.met.T.Table.stays_then (read_then g.met.T.Table.stays_then c.in_ok-floors.ensures.read c.in_ok-adds_up.ensures.read) c.in_ok-arrivals.ensures.read) c.first_wrong.ensures.read).same
 
 pub returns-clause-honest : goal.returns-clause-honest
 returns-clause-honest g c =
-    (λ h. c.first_wrong.ensures.honest.0 (c.in_ok-arrivals.ensures.honest.0 (c.in_ok-adds_up.ensures.honest.0 (c.in_ok-floors.ensures.honest.0 h))), λ h. c.in_ok-floors.ensures.honest.1 (c.in_ok-adds_up.ensures.honest.1 (c.in_ok-arrivals.ensures.honest.1 (c.first_wrong.ensures.honest.1 h))))
+    (read_then g.met.T.Table.stays_then (read_then g.met.T.Table.stays_then (read_then g.met.T.Table.stays_then c.in_ok-floors.ensures.read c.in_ok-adds_up.ensures.read) c.in_ok-arrivals.ensures.read) c.first_wrong.ensures.read).honest
 
 pub returns-clause-counts : goal.returns-clause-counts
 returns-clause-counts g c =
-    c.first_wrong.ensures.counts ∙ (c.in_ok-arrivals.ensures.counts ∙ (c.in_ok-adds_up.ensures.counts ∙ c.in_ok-floors.ensures.counts))
+    (read_then g.met.T.Table.stays_then (read_then g.met.T.Table.stays_then (read_then g.met.T.Table.stays_then c.in_ok-floors.ensures.read c.in_ok-adds_up.ensures.read) c.in_ok-arrivals.ensures.read) c.first_wrong.ensures.read).counts
 
 pub returns-clause-stays : goal.returns-clause-stays
 returns-clause-stays g c =
-    g.met.T.Table.stays_then _ _ _ (g.met.T.Table.stays_then _ _ _ (g.met.T.Table.stays_then _ _ _ c.in_ok-floors.ensures.stays c.in_ok-adds_up.ensures.stays) c.in_ok-arrivals.ensures.stays) c.first_wrong.ensures.stays
+    (read_then g.met.T.Table.stays_then (read_then g.met.T.Table.stays_then (read_then g.met.T.Table.stays_then c.in_ok-floors.ensures.read c.in_ok-adds_up.ensures.read) c.in_ok-arrivals.ensures.read) c.first_wrong.ensures.read).stays

@@ -1,7 +1,7 @@
 use Rattle.audit.specs.Causes.{HasWide}
 use Rattle.audit.specs.declared.fault.AuditFault.{AuditFault}
 use Rattle.audit.proofs.Passing.{passed_on, not_this, ok_differs, of_table_after}
-use Rattle.std.proofs.Common.{◌<◌, ap, subst, rules, ℕ, List, Option, refl, length, get_or, arith, Err, ◌∙◌}
+use Rattle.std.proofs.Common.{◌<◌, ap, subst, rules, ℕ, List, Option, refl, length, get_or, arith, Err}
 use Rattle.std.proofs.lemmas.Option.{slice_get-get_or}
 use Rattle.retrograde.specs.declared.records.Counts.{Counts}
 use Rattle.retrograde.specs.View.{HasNumber}
@@ -12,18 +12,16 @@ use Rattle.audit.specs.aid.Edges.{IsArriving}
 use Rattle.audit.proofs.ArrivalLemmas.{arriving_at}
 use Rattle.audit.proofs.FloorLemmas.{floor_of}
 use Rattle.audit.proofs.AnswerLemmas.{one_more, all_right, this_wrong}
+use Rattle.audit.proofs.Reading.{read_then}
 use Rattle.audit.proofs.whole.first_wrong.Goals as goal
 
 pub loop-number-preserved : goal.loop-number-preserved
 loop-number-preserved g c = record {
   source = refl;
-  counts = c.in_ok-reason.ensures.counts ∙ c.loop-number.invariant.counts;
-  stays = g.met.T.Table.stays_then _ _ _ c.loop-number.invariant.stays c.in_ok-reason.ensures.stays;
-  honest = (λ h. c.in_ok-reason.ensures.honest.0 (c.loop-number.invariant.honest.0 h), λ h. c.loop-number.invariant.honest.1 (c.in_ok-reason.ensures.honest.1 h));
-  same = λ h. c.in_ok-reason.ensures.same (c.loop-number.invariant.honest.0 h) ∙ c.loop-number.invariant.same h;
+  read = read_then g.met.T.Table.stays_then c.loop-number.invariant.read c.in_ok-reason.ensures.read;
   sound = λ honest table floors arrivals.
-      let h = c.loop-number.invariant.honest.0 honest in
-      let same = c.loop-number.invariant.same honest in
+      let h = c.loop-number.invariant.read.honest.0 honest in
+      let same = c.loop-number.invariant.read.same honest in
       let graph = g.M.GameGraph.graph c.args.source.now in
       let IsWide = g.M.GameGraph.is_wide c.args.source.now in
       let stored = g.T.Table.stored c.args.table.now in
@@ -40,8 +38,8 @@ loop-number-preserved g c = record {
 
 pub returns-in-Some-clause-answer : goal.returns-in-Some-clause-answer
 returns-in-Some-clause-answer g c = λ honest table floors arrivals.
-    let h = c.loop-number.invariant.honest.0 honest in
-    let same = c.loop-number.invariant.same honest in
+    let h = c.loop-number.invariant.read.honest.0 honest in
+    let same = c.loop-number.invariant.read.same honest in
     let graph = g.M.GameGraph.graph c.args.source.now in
     let IsWide = g.M.GameGraph.is_wide c.args.source.now in
     let stored = g.T.Table.stored c.args.table.now in
@@ -62,21 +60,9 @@ returns-clause-answer g c = λ honest table floors arrivals.
     all_right (g.M.GameGraph.graph c.args.source.now) (g.M.GameGraph.is_wide c.args.source.now) (g.T.Table.stored c.args.table.now) c.loop-number.number
     (omega (arith, read, count, c.loop-number-test.false)) (c.loop-number.invariant.sound honest table floors arrivals)
 
-pub returns-in_err-reason-clause-same : goal.returns-in_err-reason-clause-same
-returns-in_err-reason-clause-same g c =
-    λ h. c.in_err-reason.ensures.same (c.loop-number.invariant.honest.0 h) ∙ c.loop-number.invariant.same h
-
-pub returns-in_err-reason-clause-honest : goal.returns-in_err-reason-clause-honest
-returns-in_err-reason-clause-honest g c =
-    (λ h. c.in_err-reason.ensures.honest.0 (c.loop-number.invariant.honest.0 h), λ h. c.loop-number.invariant.honest.1 (c.in_err-reason.ensures.honest.1 h))
-
-pub returns-in_err-reason-clause-counts : goal.returns-in_err-reason-clause-counts
-returns-in_err-reason-clause-counts g c =
-    c.in_err-reason.ensures.counts ∙ c.loop-number.invariant.counts
-
-pub returns-in_err-reason-clause-stays : goal.returns-in_err-reason-clause-stays
-returns-in_err-reason-clause-stays g c =
-    g.met.T.Table.stays_then _ _ _ c.loop-number.invariant.stays c.in_err-reason.ensures.stays
+pub returns-in_err-reason-clause-read : goal.returns-in_err-reason-clause-read
+returns-in_err-reason-clause-read g c =
+    read_then g.met.T.Table.stays_then c.loop-number.invariant.read c.in_err-reason.ensures.read
 
 pub returns-in_err-reason-clause-room : goal.returns-in_err-reason-clause-room
 returns-in_err-reason-clause-room g c =
@@ -85,49 +71,21 @@ returns-in_err-reason-clause-room g c =
 pub returns-in_err-reason-clause-fault : goal.returns-in_err-reason-clause-fault
 returns-in_err-reason-clause-fault g c =
     passed_on _ c.from_residual.result _ c.from_residual.ensures
-    (of_table_after _ _ _ (λ fault. g.met.T.Table.fails_since _ _ _ fault (g.met.T.Table.stays_goes_on _ _ c.loop-number.invariant.stays)) c.in_err-reason.ensures.fault)
+    (of_table_after _ _ _ (λ fault. g.met.T.Table.fails_since _ _ _ fault (g.met.T.Table.stays_goes_on _ _ c.loop-number.invariant.read.stays)) c.in_err-reason.ensures.fault)
 
 pub returns-in_err-reason-clause-wide : goal.returns-in_err-reason-clause-wide
 returns-in_err-reason-clause-wide g c =
     λ honest is.
-    subst (λ (t : Stored (List ℕ)). HasWide (g.M.GameGraph.is_wide c.args.source.now) t) (c.loop-number.invariant.same honest)
-    (c.in_err-reason.ensures.wide (c.loop-number.invariant.honest.0 honest) (ap (λ (f : AuditFault). Err f) (not_this c.from_residual.result _ _ c.from_residual.ensures is)))
+    subst (λ (t : Stored (List ℕ)). HasWide (g.M.GameGraph.is_wide c.args.source.now) t) (c.loop-number.invariant.read.same honest)
+    (c.in_err-reason.ensures.wide (c.loop-number.invariant.read.honest.0 honest) (ap (λ (f : AuditFault). Err f) (not_this c.from_residual.result _ _ c.from_residual.ensures is)))
 
-pub returns-in-Some-clause-same : goal.returns-in-Some-clause-same
-returns-in-Some-clause-same g c =
-    λ h. c.in_ok-reason.ensures.same (c.loop-number.invariant.honest.0 h) ∙ c.loop-number.invariant.same h
-
-pub returns-in-Some-clause-honest : goal.returns-in-Some-clause-honest
-returns-in-Some-clause-honest g c =
-    (λ h. c.in_ok-reason.ensures.honest.0 (c.loop-number.invariant.honest.0 h), λ h. c.loop-number.invariant.honest.1 (c.in_ok-reason.ensures.honest.1 h))
-
-pub returns-in-Some-clause-counts : goal.returns-in-Some-clause-counts
-returns-in-Some-clause-counts g c =
-    c.in_ok-reason.ensures.counts ∙ c.loop-number.invariant.counts
-
-pub returns-in-Some-clause-stays : goal.returns-in-Some-clause-stays
-returns-in-Some-clause-stays g c =
-    g.met.T.Table.stays_then _ _ _ c.loop-number.invariant.stays c.in_ok-reason.ensures.stays
+pub returns-in-Some-clause-read : goal.returns-in-Some-clause-read
+returns-in-Some-clause-read g c =
+    read_then g.met.T.Table.stays_then c.loop-number.invariant.read c.in_ok-reason.ensures.read
 
 pub returns-in-Some-clause-wide : goal.returns-in-Some-clause-wide
 returns-in-Some-clause-wide g c =
     λ honest is. absurd (ok_differs _ _ is)
-
-pub returns-clause-same : goal.returns-clause-same
-returns-clause-same g c =
-    λ h. c.loop-number.invariant.same h
-
-pub returns-clause-honest : goal.returns-clause-honest
-returns-clause-honest g c =
-    (λ h. c.loop-number.invariant.honest.0 h, λ h. c.loop-number.invariant.honest.1 h)
-
-pub returns-clause-counts : goal.returns-clause-counts
-returns-clause-counts g c =
-    c.loop-number.invariant.counts
-
-pub returns-clause-stays : goal.returns-clause-stays
-returns-clause-stays g c =
-    c.loop-number.invariant.stays
 
 pub returns-clause-wide : goal.returns-clause-wide
 returns-clause-wide g c =
