@@ -41,8 +41,7 @@ pub struct TreeTable<P: Pages> {
     ghost holds: { IsHonestWork (work_of slot text.items torn (P.store store))
         → ∥ HoldsWork (work_of slot text.items torn (P.store store)) ∥₁ },
     ghost long: { IfSome seen (λ s. length s.cell.position.items ≡ slot.sizes.packed) } by { long_prop seen slot.sizes.packed },
-    ghost last: { IsLastSeen (work_of slot text.items torn (P.store store)) seen }
-        by { last_prop seen (work_of slot text.items torn (P.store store)) },
+    ghost last: { IsLastSeen (work_of slot text.items torn (P.store store)) seen } by { last_prop seen (work_of slot text.items torn (P.store store)) },
 }
 
 impl<P: Pages> TreeTable<P> {
