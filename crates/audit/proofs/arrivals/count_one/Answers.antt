@@ -64,4 +64,4 @@ returns-then-not-branch-clause-read g c =
 pub returns-clause-read : goal.returns-clause-read
 returns-clause-read g c =
     let number = c.in_ok-number.ensures in
-    read_then g.met.T.Table.stays_then (read_by number.same number.honest number.counts number.stays) c.in_ok-has_edge.ensures.read 
+    read_then g.met.T.Table.stays_then (read_by number.same number.honest number.counts number.stays) c.in_ok-has_edge.ensures.read

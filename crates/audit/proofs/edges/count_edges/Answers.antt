@@ -58,4 +58,4 @@ returns-in_err-from-clause-fault g c =
 pub returns-in_default-clause-read : goal.returns-in_default-clause-read
 returns-in_default-clause-read g c =
     let from = c.in_ok-from.ensures in
-    read_then g.met.T.Table.stays_then c.loop-count.invariant.read (read_by from.same from.honest from.counts from.stays) 
+    read_then g.met.T.Table.stays_then c.loop-count.invariant.read (read_by from.same from.honest from.counts from.stays)

@@ -59,4 +59,4 @@ pub returns-clause-read : goal.returns-clause-read
 returns-clause-read g c =
     let number = c.in_ok-number.ensures in
     let kept = c.in_ok-record.ensures in
-    read_then g.met.T.Table.stays_then (read_by number.same number.honest number.counts number.stays) (read_by kept.same kept.honest kept.counts kept.stays) 
+    read_then g.met.T.Table.stays_then (read_by number.same number.honest number.counts number.stays) (read_by kept.same kept.honest kept.counts kept.stays)
