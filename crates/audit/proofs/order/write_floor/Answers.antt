@@ -6,7 +6,7 @@ use Rattle.retrograde.specs.declared.records.Record.{Record}
 use Rattle.retrograde.specs.Stored.{Stored}
 use Rattle.audit.specs.aid.Conditions.{distance_in}
 use Rattle.audit.proofs.FloorLemmas.{in_range}
-use Rattle.audit.proofs.Reading.{read_by, read_then}
+use Rattle.table.proofs.Reading.{read_by, read_then}
 use Rattle.audit.proofs.order.write_floor.Goals as goal
 
 pub returns-clause-written : goal.returns-clause-written
