@@ -1,5 +1,4 @@
 pub mod Passing
-pub mod Reading
 pub mod Lists
 pub mod ValueLemmas
 pub mod MoveValueLemmas

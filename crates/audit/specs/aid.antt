@@ -1,4 +1,3 @@
 pub mod Conditions
 pub mod Edges
-pub mod Reading
 pub mod Records

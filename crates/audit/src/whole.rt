@@ -8,7 +8,7 @@ ghost use Rattle.audit.specs.Answers.{IsAnswer, IsTableSo};
 ghost use Rattle.audit.specs.Causes.{OfTableFault, HasWide};
 ghost use Rattle.audit.specs.aid.Conditions.{AreFloors};
 ghost use Rattle.audit.specs.aid.Edges.{AreArrivals};
-ghost use Rattle.audit.specs.aid.Reading.{IsRead};
+ghost use Rattle.table.specs.aid.Reading.{IsRead};
 ghost use Rattle.audit.specs.declared.verdict.Verdict.TheVariants.{Right};
 ghost use Rattle.audit.specs.declared.fault.AuditFault.TheVariants.{TooWide};
 

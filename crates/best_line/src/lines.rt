@@ -6,6 +6,7 @@ ghost use Rattle.best_line.specs.Lines.{IsBestLine, IsBestPlay, IsToldLine};
 ghost use Rattle.best_line.specs.Causes.{IsLineCause, LineStops, OfTable};
 ghost use Rattle.best_line.specs.declared.fault.LineFault.TheVariants.{NotSettled};
 ghost use Rattle.table.specs.Faults.{NeedsNoPage};
+ghost use Rattle.table.specs.aid.Reading.{IsRead};
 
 use crate::answers::Value;
 use crate::fault::LineFault;
@@ -38,10 +39,7 @@ fn follow<M: MoveSource, T: Table>(
         → (view_of (T.stored table.old)).value number ≡ Some (winner, distance)
         → IfErr result (LineStops (M.graph source.now) (M.is_wide source.now) (view_of (T.stored table.old)) number) }
     ensures settled { IfErr result (λ fault. ¬ (fault ≡ NotSettled)) }
-    ensures same { T.is_honest table.old → T.stored table.new ≡ T.stored table.old }
-    ensures honest { T.is_honest table.old ↔ T.is_honest table.new }
-    ensures counts { T.counted table.new ≡ T.counted table.old }
-    ensures stays { T.stays table.old table.new }
+    ensures read { IsRead T.stored T.is_honest T.counted T.stays table.old table.new }
     ensures room { IfErr result (OfTable NeedsNoPage) }
     ensures fault { IfErr result (OfTable (T.fails table.old table.new)) }
 {

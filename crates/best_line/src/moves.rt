@@ -3,6 +3,7 @@ ghost use Rattle.std.specs.Prelude.{◌≡◌, ◌↔◌, ◌<◌, ℕ, List, Al
 ghost use Rattle.retrograde.specs.Stored.{IsTable, view_of};
 ghost use Rattle.retrograde.specs.View.{HasNumber};
 ghost use Rattle.table.specs.Faults.{NeedsNoPage};
+ghost use Rattle.table.specs.aid.Reading.{IsRead};
 ghost use Rattle.legal_moves.specs.Compiled.{compiled_game, packing_kind, IsSoundCompiled};
 ghost use Rattle.legal_moves.specs.Sources.{IsPositionBytes, IsWideAt};
 ghost use Rattle.best_line.specs.KnownCauses.{FaultOfTable};
@@ -33,10 +34,7 @@ fn told_move<T: Table>(
     ensures told { T.is_honest table.old → IsTable (T.stored table.old) → IfOk result (λ known. IfSome (slice_get moves.now k)
         (λ m. IsToldMove (packing_kind compiled.now) (compiled_game compiled.now) (view_of (T.stored table.old)) m known)) }
     ensures searched { IfErr result (λ fault. (¬ (fault ≡ Inconsistent)) × (¬ (fault ≡ TooWide))) }
-    ensures same { T.is_honest table.old → T.stored table.new ≡ T.stored table.old }
-    ensures honest { T.is_honest table.old ↔ T.is_honest table.new }
-    ensures counts { T.counted table.new ≡ T.counted table.old }
-    ensures stays { T.stays table.old table.new }
+    ensures read { IsRead T.stored T.is_honest T.counted T.stays table.old table.new }
     ensures room { IfErr result (FaultOfTable NeedsNoPage) }
     ensures fault { IfErr result (FaultOfTable (T.fails table.old table.new)) }
 {
@@ -66,10 +64,7 @@ fn told_moves<T: Table>(
     ensures told { T.is_honest table.old → IsTable (T.stored table.old) → IfOk result (λ known.
         AreToldMoves (packing_kind compiled.now) (compiled_game compiled.now) (view_of (T.stored table.old)) moves.now known.items) }
     ensures searched { IfErr result (λ fault. (¬ (fault ≡ Inconsistent)) × (¬ (fault ≡ TooWide))) }
-    ensures same { T.is_honest table.old → T.stored table.new ≡ T.stored table.old }
-    ensures honest { T.is_honest table.old ↔ T.is_honest table.new }
-    ensures counts { T.counted table.new ≡ T.counted table.old }
-    ensures stays { T.stays table.old table.new }
+    ensures read { IsRead T.stored T.is_honest T.counted T.stays table.old table.new }
     ensures room { IfErr result (FaultOfTable NeedsNoPage) }
     ensures fault { IfErr result (FaultOfTable (T.fails table.old table.new)) }
 {

@@ -1,5 +1,5 @@
 //! The next position of a line.
-ghost use Rattle.std.specs.Prelude.{◌≡◌, ◌↔◌, ◌⊎◌, ◌<◌, ℕ, List, Contains, IfOk, OnOk, IfErr, IfSome, IfNone, Err, Some};
+ghost use Rattle.std.specs.Prelude.{◌≡◌, ◌⊎◌, ◌<◌, ℕ, List, Contains, IfOk, OnOk, IfErr, IfSome, IfNone, Err, Some};
 ghost use Rattle.table.specs.Memory.{bytes_of_each};
 ghost use Rattle.retrograde.specs.View.{HasNumber, HasValue};
 ghost use Rattle.retrograde.specs.Stored.{IsTable, view_of};
@@ -8,6 +8,7 @@ ghost use Rattle.best_line.specs.aid.Lines.{IsFirstWon};
 ghost use Rattle.best_line.specs.Causes.{OfTable};
 ghost use Rattle.best_line.specs.declared.fault.LineFault.TheVariants.{NotSettled, Inconsistent, TooWide};
 ghost use Rattle.table.specs.Faults.{NeedsNoPage};
+ghost use Rattle.table.specs.aid.Reading.{IsRead};
 
 use crate::fault::LineFault;
 use legal_moves::MoveSource;
@@ -29,10 +30,7 @@ fn number_if_won<T: Table>(
     ensures none { T.is_honest table.old → IsTable (T.stored table.old) → IfOk result (λ r. IfNone r
         (HasValue (view_of (T.stored table.old)) position.now.items winner distance → ⊥)) }
     ensures within { IfOk result (λ r. IfSome r (λ i. i < (T.counted table.old).known)) }
-    ensures same { T.is_honest table.old → T.stored table.new ≡ T.stored table.old }
-    ensures honest { T.is_honest table.old ↔ T.is_honest table.new }
-    ensures counts { T.counted table.new ≡ T.counted table.old }
-    ensures stays { T.stays table.old table.new }
+    ensures read { IsRead T.stored T.is_honest T.counted T.stays table.old table.new }
     ensures room { IfErr result NeedsNoPage }
     ensures fault { IfErr result (T.fails table.old table.new) }
 {
@@ -59,10 +57,7 @@ fn first_won<T: Table>(
     ensures none { T.is_honest table.old → IsTable (T.stored table.old) → IfOk result (λ r. IfNone r
         ((y : List ℕ) → Contains (bytes_of_each positions.now) y → HasValue (view_of (T.stored table.old)) y winner distance → ⊥)) }
     ensures within { IfOk result (λ r. IfSome r (λ i. i < (T.counted table.old).known)) }
-    ensures same { T.is_honest table.old → T.stored table.new ≡ T.stored table.old }
-    ensures honest { T.is_honest table.old ↔ T.is_honest table.new }
-    ensures counts { T.counted table.new ≡ T.counted table.old }
-    ensures stays { T.stays table.old table.new }
+    ensures read { IsRead T.stored T.is_honest T.counted T.stays table.old table.new }
     ensures room { IfErr result NeedsNoPage }
     ensures fault { IfErr result (T.fails table.old table.new) }
 {
@@ -95,10 +90,7 @@ pub fn next_on_line<M: MoveSource, T: Table>(
         → (x : List ℕ) × HasNumber (view_of (T.stored table.old)) number x × M.is_wide source.now x }
     ensures settled { IfErr result (λ fault. ¬ (fault ≡ NotSettled)) }
     ensures within { IfOk result (λ i. i < (T.counted table.old).known) }
-    ensures same { T.is_honest table.old → T.stored table.new ≡ T.stored table.old }
-    ensures honest { T.is_honest table.old ↔ T.is_honest table.new }
-    ensures counts { T.counted table.new ≡ T.counted table.old }
-    ensures stays { T.stays table.old table.new }
+    ensures read { IsRead T.stored T.is_honest T.counted T.stays table.old table.new }
     ensures room { IfErr result (OfTable NeedsNoPage) }
     ensures fault { IfErr result (OfTable (T.fails table.old table.new)) }
 {

@@ -8,7 +8,7 @@ use Rattle.table.specs.Memory.{bytes_of_each}
 use Rattle.audit.specs.aid.Edges.{CountsIf}
 use Rattle.audit.proofs.ArrivalLemmas.{counted_moves}
 use Rattle.audit.proofs.MoveLemmas.{ascending_differ}
-use Rattle.audit.proofs.Reading.{read_by, read_then}
+use Rattle.table.proofs.Reading.{read_by, read_then}
 use Rattle.audit.proofs.arrivals.count_moves.Goals as goal
 
 pub returns-clause-counted : goal.returns-clause-counted

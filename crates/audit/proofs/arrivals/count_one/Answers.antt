@@ -2,7 +2,7 @@ use Rattle.audit.proofs.Passing.{passed_on}
 use Rattle.std.proofs.Common.{◌≡◌, ◌<◌, ap, subst, ℕ, List, Some, true, false, length, rules, arith, slice_get, slice_set}
 use Rattle.retrograde.specs.Stored.{Stored}
 use Rattle.audit.proofs.ArrivalLemmas.{unknown_counted, none_counted, one_counted}
-use Rattle.audit.proofs.Reading.{read_by, read_then}
+use Rattle.table.proofs.Reading.{read_by, read_then}
 use Rattle.audit.proofs.arrivals.count_one.Goals as goal
 
 pub returns-in_default-clause-counted : goal.returns-in_default-clause-counted
@@ -64,4 +64,4 @@ returns-then-not-branch-clause-read g c =
 pub returns-clause-read : goal.returns-clause-read
 returns-clause-read g c =
     let number = c.in_ok-number.ensures in
-    read_then g.met.T.Table.stays_then (read_by number.same number.honest number.counts number.stays) c.in_ok-has_edge.ensures.read 
+    read_then g.met.T.Table.stays_then (read_by number.same number.honest number.counts number.stays) c.in_ok-has_edge.ensures.read

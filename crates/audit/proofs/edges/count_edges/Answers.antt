@@ -4,7 +4,7 @@ use Rattle.retrograde.specs.declared.records.Counts.{Counts}
 use Rattle.retrograde.specs.Stored.{Stored, count_below}
 use Rattle.retrograde.specs.Edges.{IsAfter, IsNextEdge, HasNoMoreEdges}
 use Rattle.audit.proofs.EdgeLemmas.{count_next, count_all, count_full, after_bound}
-use Rattle.audit.proofs.Reading.{read_by, read_then}
+use Rattle.table.proofs.Reading.{read_by, read_then}
 use Rattle.audit.proofs.edges.count_edges.Goals as goal
 
 pub loop-count-preserved : goal.loop-count-preserved
@@ -58,4 +58,4 @@ returns-in_err-from-clause-fault g c =
 pub returns-in_default-clause-read : goal.returns-in_default-clause-read
 returns-in_default-clause-read g c =
     let from = c.in_ok-from.ensures in
-    read_then g.met.T.Table.stays_then c.loop-count.invariant.read (read_by from.same from.honest from.counts from.stays) 
+    read_then g.met.T.Table.stays_then c.loop-count.invariant.read (read_by from.same from.honest from.counts from.stays)

@@ -5,7 +5,7 @@ use Rattle.retrograde.specs.declared.records.Counts.{Counts}
 use Rattle.retrograde.specs.Stored.{Stored}
 use Rattle.table.specs.Memory.{bytes_of_each}
 use Rattle.audit.proofs.Lists.{item_at, contains_at, take_at, zip_push, all_push}
-use Rattle.audit.proofs.Reading.{read_by, read_then}
+use Rattle.table.proofs.Reading.{read_by, read_then}
 use Rattle.audit.proofs.moves.numbers_of.Goals as goal
 
 pub returns-in_default-clause-unknown : goal.returns-in_default-clause-unknown

@@ -3,7 +3,7 @@ use Rattle.std.proofs.Common.{◌≡◌, ◌++◌, ◌∷◌, [], subst, ℕ, Li
 use Rattle.std.proofs.lemmas.List.{take_more}
 use Rattle.retrograde.specs.Stored.{Stored, HasRecord}
 use Rattle.audit.proofs.Lists.{zip_push}
-use Rattle.audit.proofs.Reading.{read_by, read_then}
+use Rattle.table.proofs.Reading.{read_by, read_then}
 use Rattle.audit.proofs.moves.records_of.Goals as goal
 
 pub loop-number-preserved : goal.loop-number-preserved

@@ -5,7 +5,7 @@ use Rattle.std.proofs.lemmas.Option.{same_Some}
 use Rattle.retrograde.specs.Audit.{IsReached}
 use Rattle.retrograde.specs.Stored.{Stored, IsTable, HasRecord, expanded_count}
 use Rattle.audit.specs.aid.Conditions.{IsLowest, IsFloor, own_condition}
-use Rattle.audit.proofs.Reading.{read_by, read_then}
+use Rattle.table.proofs.Reading.{read_by, read_then}
 use Rattle.audit.proofs.number.own_failing.Goals as goal
 
 pub returns-clause-lowest : goal.returns-clause-lowest

@@ -6,7 +6,7 @@ use Rattle.retrograde.specs.declared.records.Record.{Record}
 use Rattle.retrograde.specs.Stored.{Stored}
 use Rattle.audit.specs.aid.Conditions.{distance_in}
 use Rattle.audit.proofs.FloorLemmas.{in_range}
-use Rattle.audit.proofs.Reading.{read_by, read_then}
+use Rattle.table.proofs.Reading.{read_by, read_then}
 use Rattle.audit.proofs.order.write_floor.Goals as goal
 
 pub returns-clause-written : goal.returns-clause-written
@@ -59,4 +59,4 @@ pub returns-clause-read : goal.returns-clause-read
 returns-clause-read g c =
     let number = c.in_ok-number.ensures in
     let kept = c.in_ok-record.ensures in
-    read_then g.met.T.Table.stays_then (read_by number.same number.honest number.counts number.stays) (read_by kept.same kept.honest kept.counts kept.stays) 
+    read_then g.met.T.Table.stays_then (read_by number.same number.honest number.counts number.stays) (read_by kept.same kept.honest kept.counts kept.stays)

@@ -1,7 +1,7 @@
 use Rattle.audit.specs.declared.fault.AuditFault.{AuditFault}
 use Rattle.audit.proofs.Passing.{passed_on, not_this, ok_differs, table_narrow}
 use Rattle.std.proofs.Common.{ap, Err}
-use Rattle.audit.proofs.Reading.{read_by, read_then}
+use Rattle.table.proofs.Reading.{read_by, read_then}
 use Rattle.audit.proofs.sums.tally_of.Goals as goal
 
 pub returns-in_err-own_failing-clause-room : goal.returns-in_err-own_failing-clause-room

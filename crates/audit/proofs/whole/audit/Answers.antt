@@ -10,7 +10,7 @@ use Rattle.audit.specs.Answers.{IsAnswer}
 use Rattle.audit.specs.aid.Conditions.{AreFloors}
 use Rattle.audit.specs.aid.Edges.{AreArrivals}
 use Rattle.audit.proofs.AnswerLemmas.{right_sound, right_so}
-use Rattle.audit.proofs.Reading.{read_then}
+use Rattle.table.proofs.Reading.{read_then}
 use Rattle.audit.proofs.whole.audit.Goals as goal
 
 is_ok : (b : Bool) → b ≡ true → ◌≡◌ {A = Result Bool AuditFault} (Ok b) (Ok true)

@@ -10,12 +10,13 @@ use Rattle.best_line.specs.declared.fault.LineFault.{LineFault}
 use Rattle.best_line.proofs.Passing.{passed_on, memory_settled, of_table_after}
 use Rattle.best_line.proofs.LineLemmas.{line_value, line_push, line_done}
 use Rattle.best_line.proofs.StepLemmas.{step_cause, step_stops}
+use Rattle.table.proofs.Reading.{unread, read_then}
 use Rattle.best_line.proofs.lines.follow.Goals as goal
 
 pub returns-in_err-at-clause-cause : goal.returns-in_err-at-clause-cause
 returns-in_err-at-clause-cause g c = λ honest sound value.
-    let h = c.loop-step.invariant.honest.0 honest in
-    let same = c.loop-step.invariant.same honest in
+    let h = c.loop-step.invariant.read.honest.0 honest in
+    let same = c.loop-step.invariant.read.same honest in
     let table' = subst (λ (t : Stored (List ℕ)). IsTable t) (sym same) sound.table in
     let graph = g.M.GameGraph.graph c.args.source.now in
     let stored = g.T.Table.stored c.args.table.now in
@@ -33,8 +34,8 @@ returns-in_err-at-clause-cause g c = λ honest sound value.
 
 pub returns-in_err-at-clause-stops : goal.returns-in_err-at-clause-stops
 returns-in_err-at-clause-stops g c = λ honest table value.
-    let h = c.loop-step.invariant.honest.0 honest in
-    let same = c.loop-step.invariant.same honest in
+    let h = c.loop-step.invariant.read.honest.0 honest in
+    let same = c.loop-step.invariant.read.same honest in
     let table' = subst (λ (t : Stored (List ℕ)). IsTable t) (sym same) table in
     let graph = g.M.GameGraph.graph c.args.source.now in
     let view = view_of (g.T.Table.stored c.args.table.now) in
@@ -62,18 +63,15 @@ returns-in_err-push-2-clause-stops g c = λ honest table value. passed_on _ c.fr
 
 pub loop-step-preserved : goal.loop-step-preserved
 loop-step-preserved g c = record {
-  counts = c.in_ok-at.ensures.counts ∙ c.loop-step.invariant.counts;
-  stays = g.met.T.Table.stays_then _ _ _ c.loop-step.invariant.stays c.in_ok-at.ensures.stays;
-  known = subst (λ (k : Counts). c.in_ok-at.at < k.known) c.loop-step.invariant.counts c.in_ok-at.ensures.within;
+  read = read_then g.met.T.Table.stays_then c.loop-step.invariant.read c.in_ok-at.ensures.read;
+  known = subst (λ (k : Counts). c.in_ok-at.at < k.known) c.loop-step.invariant.read.counts c.in_ok-at.ensures.within;
   source = refl;
-  honest = (λ h. c.in_ok-at.ensures.honest.0 (c.loop-step.invariant.honest.0 h), λ h. c.loop-step.invariant.honest.1 (c.in_ok-at.ensures.honest.1 h));
-  same = λ h. c.in_ok-at.ensures.same (c.loop-step.invariant.honest.0 h) ∙ c.loop-step.invariant.same h;
   begins =
       let items : c.push-in-loop-step.new.self.items ≡ c.loop-step.numbers.items ++ c.in_ok-at.at ∷ [] = c.in_ok-push-2.ensures.items in
       rw items (push_before c.loop-step.numbers.items c.in_ok-at.at 0 c.args.number c.loop-step.invariant.begins);
   line = λ honest table value.
-      let h = c.loop-step.invariant.honest.0 honest in
-      let same = c.loop-step.invariant.same honest in
+      let h = c.loop-step.invariant.read.honest.0 honest in
+      let same = c.loop-step.invariant.read.same honest in
       let table' = subst (λ (t : Stored (List ℕ)). IsTable t) (sym same) table in
       let graph = g.M.GameGraph.graph c.args.source.now in
       let view = view_of (g.T.Table.stored c.args.table.now) in
@@ -100,12 +98,9 @@ pub loop-step-init : goal.loop-step-init
 loop-step-init g c =
     let items : c.push.new.self.items ≡ c.args.number ∷ [] = c.in_ok-push.ensures.items ∙ ap (λ (ns : List ℕ). ns ++ c.args.number ∷ []) c.new-numbers.ensures.items in
     record {
-      counts = refl;
       known = c.requires.known;
       source = refl;
-      stays = g.met.T.Table.stays_here _;
-      honest = (λ h. h, λ h. h);
-      same = λ h. refl;
+      read = unread g.met.T.Table.stays_here _;
       begins = rw items refl;
       line = λ honest table value.
           let all : c.args.distance ≡ c.args.distance - 0 = omega arith in
@@ -115,39 +110,11 @@ loop-step-init g c =
 
 pub next_on_line-requires-clause-known : goal.next_on_line-requires-clause-known
 next_on_line-requires-clause-known g c =
-    subst (λ (k : Counts). c.loop-step.at < k.known) (sym c.loop-step.invariant.counts) c.loop-step.invariant.known
+    subst (λ (k : Counts). c.loop-step.at < k.known) (sym c.loop-step.invariant.read.counts) c.loop-step.invariant.known
 
-pub returns-in_err-push-clause-same : goal.returns-in_err-push-clause-same
-returns-in_err-push-clause-same g c =
-    λ h. refl
-
-pub returns-in_err-push-clause-honest : goal.returns-in_err-push-clause-honest
-returns-in_err-push-clause-honest g c =
-    (λ h. h, λ h. h)
-
-pub returns-in_err-push-clause-counts : goal.returns-in_err-push-clause-counts
-returns-in_err-push-clause-counts g c =
-    refl
-
-pub returns-in_err-push-clause-stays : goal.returns-in_err-push-clause-stays
-returns-in_err-push-clause-stays g c =
-    g.met.T.Table.stays_here _
-
-pub returns-in_err-at-clause-same : goal.returns-in_err-at-clause-same
-returns-in_err-at-clause-same g c =
-    λ h. c.in_err-at.ensures.same (c.loop-step.invariant.honest.0 h) ∙ c.loop-step.invariant.same h
-
-pub returns-in_err-at-clause-honest : goal.returns-in_err-at-clause-honest
-returns-in_err-at-clause-honest g c =
-    (λ h. c.in_err-at.ensures.honest.0 (c.loop-step.invariant.honest.0 h), λ h. c.loop-step.invariant.honest.1 (c.in_err-at.ensures.honest.1 h))
-
-pub returns-in_err-at-clause-counts : goal.returns-in_err-at-clause-counts
-returns-in_err-at-clause-counts g c =
-    c.in_err-at.ensures.counts ∙ c.loop-step.invariant.counts
-
-pub returns-in_err-at-clause-stays : goal.returns-in_err-at-clause-stays
-returns-in_err-at-clause-stays g c =
-    g.met.T.Table.stays_then _ _ _ c.loop-step.invariant.stays c.in_err-at.ensures.stays
+pub returns-in_err-at-clause-read : goal.returns-in_err-at-clause-read
+returns-in_err-at-clause-read g c =
+    read_then g.met.T.Table.stays_then c.loop-step.invariant.read c.in_err-at.ensures.read
 
 pub returns-in_err-at-clause-settled : goal.returns-in_err-at-clause-settled
 returns-in_err-at-clause-settled g c =
@@ -160,23 +127,11 @@ returns-in_err-at-clause-room g c =
 pub returns-in_err-at-clause-fault : goal.returns-in_err-at-clause-fault
 returns-in_err-at-clause-fault g c =
     passed_on _ c.from_residual-in_err-at.result _ c.from_residual-in_err-at.ensures
-    (of_table_after _ _ _ (λ fault. g.met.T.Table.fails_since _ _ _ fault (g.met.T.Table.stays_goes_on _ _ c.loop-step.invariant.stays)) c.in_err-at.ensures.fault)
+    (of_table_after _ _ _ (λ fault. g.met.T.Table.fails_since _ _ _ fault (g.met.T.Table.stays_goes_on _ _ c.loop-step.invariant.read.stays)) c.in_err-at.ensures.fault)
 
-pub returns-in_err-push-2-clause-same : goal.returns-in_err-push-2-clause-same
-returns-in_err-push-2-clause-same g c =
-    λ h. c.in_ok-at.ensures.same (c.loop-step.invariant.honest.0 h) ∙ c.loop-step.invariant.same h
-
-pub returns-in_err-push-2-clause-honest : goal.returns-in_err-push-2-clause-honest
-returns-in_err-push-2-clause-honest g c =
-    (λ h. c.in_ok-at.ensures.honest.0 (c.loop-step.invariant.honest.0 h), λ h. c.loop-step.invariant.honest.1 (c.in_ok-at.ensures.honest.1 h))
-
-pub returns-in_err-push-2-clause-counts : goal.returns-in_err-push-2-clause-counts
-returns-in_err-push-2-clause-counts g c =
-    c.in_ok-at.ensures.counts ∙ c.loop-step.invariant.counts
-
-pub returns-in_err-push-2-clause-stays : goal.returns-in_err-push-2-clause-stays
-returns-in_err-push-2-clause-stays g c =
-    g.met.T.Table.stays_then _ _ _ c.loop-step.invariant.stays c.in_ok-at.ensures.stays
+pub returns-in_err-push-2-clause-read : goal.returns-in_err-push-2-clause-read
+returns-in_err-push-2-clause-read g c =
+    read_then g.met.T.Table.stays_then c.loop-step.invariant.read c.in_ok-at.ensures.read
 
 pub returns-in_err-push-clause-cause : goal.returns-in_err-push-clause-cause
 returns-in_err-push-clause-cause g c =
@@ -211,22 +166,6 @@ returns-in_err-push-2-clause-room g c =
 pub returns-in_err-push-2-clause-fault : goal.returns-in_err-push-2-clause-fault
 returns-in_err-push-2-clause-fault g c =
     passed_on _ c.from_residual-in_err-push-2.result _ c.from_residual-in_err-push-2.ensures tt
-
-pub returns-clause-same : goal.returns-clause-same
-returns-clause-same g c =
-    λ h. c.loop-step.invariant.same h
-
-pub returns-clause-honest : goal.returns-clause-honest
-returns-clause-honest g c =
-    (λ h. c.loop-step.invariant.honest.0 h, λ h. c.loop-step.invariant.honest.1 h)
-
-pub returns-clause-counts : goal.returns-clause-counts
-returns-clause-counts g c =
-    c.loop-step.invariant.counts
-
-pub returns-clause-stays : goal.returns-clause-stays
-returns-clause-stays g c =
-    c.loop-step.invariant.stays
 
 pub returns-clause-begins : goal.returns-clause-begins
 returns-clause-begins g c =

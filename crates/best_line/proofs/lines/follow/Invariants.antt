@@ -1,16 +1,14 @@
-use Rattle.std.proofs.Common.{◌≡◌, ◌↔◌, ◌-◌, ◌<◌, Some, slice_get}
+use Rattle.std.proofs.Common.{◌≡◌, ◌-◌, ◌<◌, Some, slice_get}
 use Rattle.retrograde.specs.Stored.{IsTable, view_of}
 use Rattle.best_line.specs.Lines.{IsLineTo}
+use Rattle.table.specs.aid.Reading.{IsRead}
 use Rattle.best_line.proofs.lines.follow.Given as goal
 
 abbrev pub invariant-loop-step : goal.invariant-loop-step
 invariant-loop-step g l = record {
-  counts : g.T.Table.counted l.table ≡ g.T.Table.counted l.fn.table;
   known : l.at < (g.T.Table.counted l.fn.table).known;
   source : l.source ≡ l.fn.source;
-  stays : g.T.Table.stays l.fn.table l.table;
-  honest : g.T.Table.is_honest l.fn.table ↔ g.T.Table.is_honest l.table;
-  same : g.T.Table.is_honest l.fn.table → g.T.Table.stored l.table ≡ g.T.Table.stored l.fn.table;
+  read : IsRead g.T.Table.stored g.T.Table.is_honest g.T.Table.counted g.T.Table.stays l.fn.table l.table;
   begins : slice_get l.numbers.items 0 ≡ Some l.fn.number;
   line : g.T.Table.is_honest l.fn.table → IsTable (g.T.Table.stored l.fn.table)
       → (view_of (g.T.Table.stored l.fn.table)).value l.fn.number ≡ Some (l.winner, l.distance)

@@ -152,25 +152,25 @@ pub returns-in_err-found-clause-stays : goal.returns-in_err-found-clause-stays
 returns-in_err-found-clause-stays g c = c.in_ok-packed.ensures.stays
 
 pub returns-in_err-moves-clause-same : goal.returns-in_err-moves-clause-same
-returns-in_err-moves-clause-same g c = λ h. c.in_err-moves.ensures.same (c.in_ok-packed.ensures.honest.0 h) ∙ c.in_ok-packed.ensures.same h
+returns-in_err-moves-clause-same g c = λ h. c.in_err-moves.ensures.read.same (c.in_ok-packed.ensures.honest.0 h) ∙ c.in_ok-packed.ensures.same h
 
 pub returns-in_err-moves-clause-honest : goal.returns-in_err-moves-clause-honest
-returns-in_err-moves-clause-honest g c = (λ h. c.in_err-moves.ensures.honest.0 (c.in_ok-packed.ensures.honest.0 h), λ h. c.in_ok-packed.ensures.honest.1 (c.in_err-moves.ensures.honest.1 h))
+returns-in_err-moves-clause-honest g c = (λ h. c.in_err-moves.ensures.read.honest.0 (c.in_ok-packed.ensures.honest.0 h), λ h. c.in_ok-packed.ensures.honest.1 (c.in_err-moves.ensures.read.honest.1 h))
 
 pub returns-in_err-moves-clause-counts : goal.returns-in_err-moves-clause-counts
-returns-in_err-moves-clause-counts g c = c.in_err-moves.ensures.counts ∙ c.in_ok-packed.ensures.counts
+returns-in_err-moves-clause-counts g c = c.in_err-moves.ensures.read.counts ∙ c.in_ok-packed.ensures.counts
 
 pub returns-in_err-moves-clause-stays : goal.returns-in_err-moves-clause-stays
-returns-in_err-moves-clause-stays g c = g.met.T.Table.stays_then _ _ _ c.in_ok-packed.ensures.stays c.in_err-moves.ensures.stays
+returns-in_err-moves-clause-stays g c = g.met.T.Table.stays_then _ _ _ c.in_ok-packed.ensures.stays c.in_err-moves.ensures.read.stays
 
 pub returns-clause-same : goal.returns-clause-same
-returns-clause-same g c = λ h. c.in_ok-moves.ensures.same (c.in_ok-packed.ensures.honest.0 h) ∙ c.in_ok-packed.ensures.same h
+returns-clause-same g c = λ h. c.in_ok-moves.ensures.read.same (c.in_ok-packed.ensures.honest.0 h) ∙ c.in_ok-packed.ensures.same h
 
 pub returns-clause-honest : goal.returns-clause-honest
-returns-clause-honest g c = (λ h. c.in_ok-moves.ensures.honest.0 (c.in_ok-packed.ensures.honest.0 h), λ h. c.in_ok-packed.ensures.honest.1 (c.in_ok-moves.ensures.honest.1 h))
+returns-clause-honest g c = (λ h. c.in_ok-moves.ensures.read.honest.0 (c.in_ok-packed.ensures.honest.0 h), λ h. c.in_ok-packed.ensures.honest.1 (c.in_ok-moves.ensures.read.honest.1 h))
 
 pub returns-clause-counts : goal.returns-clause-counts
-returns-clause-counts g c = c.in_ok-moves.ensures.counts ∙ c.in_ok-packed.ensures.counts
+returns-clause-counts g c = c.in_ok-moves.ensures.read.counts ∙ c.in_ok-packed.ensures.counts
 
 pub returns-clause-stays : goal.returns-clause-stays
-returns-clause-stays g c = g.met.T.Table.stays_then _ _ _ c.in_ok-packed.ensures.stays c.in_ok-moves.ensures.stays
+returns-clause-stays g c = g.met.T.Table.stays_then _ _ _ c.in_ok-packed.ensures.stays c.in_ok-moves.ensures.read.stays

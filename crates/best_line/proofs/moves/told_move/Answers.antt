@@ -1,4 +1,4 @@
-use Rattle.std.proofs.Common.{◌∙◌, ap, subst, sym, refl}
+use Rattle.std.proofs.Common.{◌∙◌, ap, subst, sym}
 use Rattle.rbg_game.specs.Games.{Game}
 use Rattle.rbg_game.specs.Positions.{IsPositionOf}
 use Rattle.rbg_game.specs.Sound.{IsSoundGame}
@@ -26,18 +26,6 @@ returns-clause-told g c = λ honest table.
     c.in_ok-word.ensures (c.pack-packed.ensures ∙ ap (λ (f : Form). packed_by f.kind f.shape c.successor_of-next.result) c.packing.ensures)
     (c.in_ok-text.ensures ∙ ap (λ (g : Game). text_of g c.successor_of-next.result) c.game.ensures) (c.in_ok-told.ensures.told honest table)
 
-pub returns-in_err-word-clause-same : goal.returns-in_err-word-clause-same
-returns-in_err-word-clause-same g c = λ h. refl
-
-pub returns-in_err-word-clause-honest : goal.returns-in_err-word-clause-honest
-returns-in_err-word-clause-honest g c = (λ h. h, λ h. h)
-
-pub returns-in_err-word-clause-counts : goal.returns-in_err-word-clause-counts
-returns-in_err-word-clause-counts g c = refl
-
-pub returns-in_err-word-clause-stays : goal.returns-in_err-word-clause-stays
-returns-in_err-word-clause-stays g c = g.met.T.Table.stays_here _
-
 pub returns-in_err-word-clause-room : goal.returns-in_err-word-clause-room
 returns-in_err-word-clause-room g c = passed_on _ c.from_residual.result _ c.from_residual.ensures tt
 
@@ -46,18 +34,6 @@ returns-in_err-word-clause-fault g c = passed_on _ c.from_residual.result _ c.fr
 
 pub returns-in_err-word-clause-searched : goal.returns-in_err-word-clause-searched
 returns-in_err-word-clause-searched g c = passed_on _ c.from_residual.result _ c.from_residual.ensures memory_is_none
-
-pub returns-in_err-text-clause-same : goal.returns-in_err-text-clause-same
-returns-in_err-text-clause-same g c = λ h. refl
-
-pub returns-in_err-text-clause-honest : goal.returns-in_err-text-clause-honest
-returns-in_err-text-clause-honest g c = (λ h. h, λ h. h)
-
-pub returns-in_err-text-clause-counts : goal.returns-in_err-text-clause-counts
-returns-in_err-text-clause-counts g c = refl
-
-pub returns-in_err-text-clause-stays : goal.returns-in_err-text-clause-stays
-returns-in_err-text-clause-stays g c = g.met.T.Table.stays_here _
 
 pub returns-in_err-text-clause-room : goal.returns-in_err-text-clause-room
 returns-in_err-text-clause-room g c = passed_on _ c.from_residual-in_err-text.result _ c.from_residual-in_err-text.ensures tt
@@ -68,18 +44,6 @@ returns-in_err-text-clause-fault g c = passed_on _ c.from_residual-in_err-text.r
 pub returns-in_err-text-clause-searched : goal.returns-in_err-text-clause-searched
 returns-in_err-text-clause-searched g c = passed_on _ c.from_residual-in_err-text.result _ c.from_residual-in_err-text.ensures memory_is_none
 
-pub returns-in_err-told-clause-same : goal.returns-in_err-told-clause-same
-returns-in_err-told-clause-same g c = λ h. c.in_err-told.ensures.same h
-
-pub returns-in_err-told-clause-honest : goal.returns-in_err-told-clause-honest
-returns-in_err-told-clause-honest g c = (λ h. c.in_err-told.ensures.honest.0 h, λ h. c.in_err-told.ensures.honest.1 h)
-
-pub returns-in_err-told-clause-counts : goal.returns-in_err-told-clause-counts
-returns-in_err-told-clause-counts g c = c.in_err-told.ensures.counts
-
-pub returns-in_err-told-clause-stays : goal.returns-in_err-told-clause-stays
-returns-in_err-told-clause-stays g c = c.in_err-told.ensures.stays
-
 pub returns-in_err-told-clause-room : goal.returns-in_err-told-clause-room
 returns-in_err-told-clause-room g c = passed_on _ c.from_residual-in_err-told.result _ c.from_residual-in_err-told.ensures c.in_err-told.ensures.room
 
@@ -88,15 +52,3 @@ returns-in_err-told-clause-fault g c = passed_on _ c.from_residual-in_err-told.r
 
 pub returns-in_err-told-clause-searched : goal.returns-in_err-told-clause-searched
 returns-in_err-told-clause-searched g c = passed_on _ c.from_residual-in_err-told.result _ c.from_residual-in_err-told.ensures (table_is_none _)
-
-pub returns-clause-same : goal.returns-clause-same
-returns-clause-same g c = λ h. c.in_ok-told.ensures.same h
-
-pub returns-clause-honest : goal.returns-clause-honest
-returns-clause-honest g c = (λ h. c.in_ok-told.ensures.honest.0 h, λ h. c.in_ok-told.ensures.honest.1 h)
-
-pub returns-clause-counts : goal.returns-clause-counts
-returns-clause-counts g c = c.in_ok-told.ensures.counts
-
-pub returns-clause-stays : goal.returns-clause-stays
-returns-clause-stays g c = c.in_ok-told.ensures.stays

@@ -1,4 +1,4 @@
-use Rattle.std.proofs.Common.{◌≡◌, ◌∙◌, ◌+◌, ap, subst, sym, refl, ℕ, List, length, slice_get, arith}
+use Rattle.std.proofs.Common.{◌≡◌, ◌∙◌, ◌+◌, ap, subst, sym, ℕ, List, length, slice_get, arith}
 use Rattle.std.specs.Prelude.{IfSome}
 use Rattle.std.proofs.lemmas.List.{length_push}
 use Rattle.retrograde.specs.Stored.{Stored, IsTable, view_of}
@@ -8,31 +8,26 @@ use Rattle.best_line.proofs.Passing.{passed_on, nothing_at}
 use Rattle.best_line.specs.aid.Found.{IsToldMove}
 use Rattle.best_line.specs.declared.known.KnownMove.{KnownMove}
 use Rattle.best_line.proofs.FaultLemmas.{memory_is_none, of_table_after}
+use Rattle.table.proofs.Reading.{unread, read_then}
 use Rattle.best_line.proofs.moves.told_moves.Goals as goal
 
 pub loop-k-init : goal.loop-k-init
 loop-k-init g c =
     record {
-      counts = refl;
-      stays = g.met.T.Table.stays_here _;
-      honest = (λ h. h, λ h. h);
-      same = λ h. refl;
+      read = unread g.met.T.Table.stays_here _;
       lengths = ap (λ (moves : List KnownMove). length moves) c.new-known.ensures.items;
       told = λ h table k move at. absurd (nothing_at c.new-known.result.items c.new-known.ensures.items k move at);
     }
 
 pub loop-k-preserved : goal.loop-k-preserved
 loop-k-preserved g c = record {
-  counts = c.in_ok-one.ensures.counts ∙ c.loop-k.invariant.counts;
-  stays = g.met.T.Table.stays_then _ _ _ c.loop-k.invariant.stays c.in_ok-one.ensures.stays;
-  honest = (λ h. c.in_ok-one.ensures.honest.0 (c.loop-k.invariant.honest.0 h), λ h. c.loop-k.invariant.honest.1 (c.in_ok-one.ensures.honest.1 h));
-  same = λ h. c.in_ok-one.ensures.same (c.loop-k.invariant.honest.0 h) ∙ c.loop-k.invariant.same h;
+  read = read_then g.met.T.Table.stays_then c.loop-k.invariant.read c.in_ok-one.ensures.read;
   lengths =
       let one : length c.push.new.self.items ≡ length c.loop-k.known.items + 1 = ap (λ (moves : List KnownMove). length moves) c.in_ok-push.ensures.items ∙ length_push c.loop-k.known.items _ in
       omega (arith, c.loop-k.invariant.lengths);
   told = λ honest table.
-      let h = c.loop-k.invariant.honest.0 honest in
-      let same = c.loop-k.invariant.same honest in
+      let h = c.loop-k.invariant.read.honest.0 honest in
+      let same = c.loop-k.invariant.read.same honest in
       let table' = subst (λ (t : Stored (List ℕ)). IsTable t) (sym same) table in
       let kind = packing_kind c.args.compiled.now in
       let game = compiled_game c.args.compiled.now in
@@ -54,17 +49,9 @@ returns-clause-told g c = λ honest table. record {
   each = c.loop-k.invariant.told honest table;
 }
 
-pub returns-in_err-one-clause-same : goal.returns-in_err-one-clause-same
-returns-in_err-one-clause-same g c = λ h. c.in_err-one.ensures.same (c.loop-k.invariant.honest.0 h) ∙ c.loop-k.invariant.same h
-
-pub returns-in_err-one-clause-honest : goal.returns-in_err-one-clause-honest
-returns-in_err-one-clause-honest g c = (λ h. c.in_err-one.ensures.honest.0 (c.loop-k.invariant.honest.0 h), λ h. c.loop-k.invariant.honest.1 (c.in_err-one.ensures.honest.1 h))
-
-pub returns-in_err-one-clause-counts : goal.returns-in_err-one-clause-counts
-returns-in_err-one-clause-counts g c = c.in_err-one.ensures.counts ∙ c.loop-k.invariant.counts
-
-pub returns-in_err-one-clause-stays : goal.returns-in_err-one-clause-stays
-returns-in_err-one-clause-stays g c = g.met.T.Table.stays_then _ _ _ c.loop-k.invariant.stays c.in_err-one.ensures.stays
+pub returns-in_err-one-clause-read : goal.returns-in_err-one-clause-read
+returns-in_err-one-clause-read g c =
+    read_then g.met.T.Table.stays_then c.loop-k.invariant.read c.in_err-one.ensures.read
 
 pub returns-in_err-one-clause-room : goal.returns-in_err-one-clause-room
 returns-in_err-one-clause-room g c = passed_on _ c.from_residual.result _ c.from_residual.ensures c.in_err-one.ensures.room
@@ -75,19 +62,11 @@ returns-in_err-one-clause-searched g c = passed_on _ c.from_residual.result _ c.
 pub returns-in_err-one-clause-fault : goal.returns-in_err-one-clause-fault
 returns-in_err-one-clause-fault g c =
     passed_on _ c.from_residual.result _ c.from_residual.ensures
-    (of_table_after _ _ _ (λ f fails. g.met.T.Table.fails_since _ _ _ _ (g.met.T.Table.stays_goes_on _ _ c.loop-k.invariant.stays) fails) c.in_err-one.ensures.fault)
+    (of_table_after _ _ _ (λ f fails. g.met.T.Table.fails_since _ _ _ _ (g.met.T.Table.stays_goes_on _ _ c.loop-k.invariant.read.stays) fails) c.in_err-one.ensures.fault)
 
-pub returns-in_err-push-clause-same : goal.returns-in_err-push-clause-same
-returns-in_err-push-clause-same g c = λ h. c.in_ok-one.ensures.same (c.loop-k.invariant.honest.0 h) ∙ c.loop-k.invariant.same h
-
-pub returns-in_err-push-clause-honest : goal.returns-in_err-push-clause-honest
-returns-in_err-push-clause-honest g c = (λ h. c.in_ok-one.ensures.honest.0 (c.loop-k.invariant.honest.0 h), λ h. c.loop-k.invariant.honest.1 (c.in_ok-one.ensures.honest.1 h))
-
-pub returns-in_err-push-clause-counts : goal.returns-in_err-push-clause-counts
-returns-in_err-push-clause-counts g c = c.in_ok-one.ensures.counts ∙ c.loop-k.invariant.counts
-
-pub returns-in_err-push-clause-stays : goal.returns-in_err-push-clause-stays
-returns-in_err-push-clause-stays g c = g.met.T.Table.stays_then _ _ _ c.loop-k.invariant.stays c.in_ok-one.ensures.stays
+pub returns-in_err-push-clause-read : goal.returns-in_err-push-clause-read
+returns-in_err-push-clause-read g c =
+    read_then g.met.T.Table.stays_then c.loop-k.invariant.read c.in_ok-one.ensures.read
 
 pub returns-in_err-push-clause-room : goal.returns-in_err-push-clause-room
 returns-in_err-push-clause-room g c = passed_on _ c.from_residual-in_err-push.result _ c.from_residual-in_err-push.ensures tt
@@ -97,15 +76,3 @@ returns-in_err-push-clause-fault g c = passed_on _ c.from_residual-in_err-push.r
 
 pub returns-in_err-push-clause-searched : goal.returns-in_err-push-clause-searched
 returns-in_err-push-clause-searched g c = passed_on _ c.from_residual-in_err-push.result _ c.from_residual-in_err-push.ensures memory_is_none
-
-pub returns-clause-same : goal.returns-clause-same
-returns-clause-same g c = λ h. c.loop-k.invariant.same h
-
-pub returns-clause-honest : goal.returns-clause-honest
-returns-clause-honest g c = (λ h. c.loop-k.invariant.honest.0 h, λ h. c.loop-k.invariant.honest.1 h)
-
-pub returns-clause-counts : goal.returns-clause-counts
-returns-clause-counts g c = c.loop-k.invariant.counts
-
-pub returns-clause-stays : goal.returns-clause-stays
-returns-clause-stays g c = c.loop-k.invariant.stays

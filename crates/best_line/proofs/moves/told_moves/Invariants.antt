@@ -1,17 +1,15 @@
-use Rattle.std.proofs.Common.{◌≡◌, ◌↔◌, ℕ, Some, length, slice_get}
+use Rattle.std.proofs.Common.{◌≡◌, ℕ, Some, length, slice_get}
 use Rattle.std.specs.Prelude.{IfSome}
 use Rattle.retrograde.specs.Stored.{IsTable, view_of}
 use Rattle.legal_moves.specs.Compiled.{compiled_game, packing_kind}
 use Rattle.best_line.specs.aid.Found.{IsToldMove}
 use Rattle.best_line.specs.declared.known.KnownMove.{KnownMove}
+use Rattle.table.specs.aid.Reading.{IsRead}
 use Rattle.best_line.proofs.moves.told_moves.Given as goal
 
 abbrev pub invariant-loop-k : goal.invariant-loop-k
 invariant-loop-k g l = record {
-  counts : g.T.Table.counted l.table ≡ g.T.Table.counted l.fn.table;
-  stays : g.T.Table.stays l.fn.table l.table;
-  honest : g.T.Table.is_honest l.fn.table ↔ g.T.Table.is_honest l.table;
-  same : g.T.Table.is_honest l.fn.table → g.T.Table.stored l.table ≡ g.T.Table.stored l.fn.table;
+  read : IsRead g.T.Table.stored g.T.Table.is_honest g.T.Table.counted g.T.Table.stays l.fn.table l.table;
   lengths : length l.known.items ≡ l.k;
   told : g.T.Table.is_honest l.fn.table → IsTable (g.T.Table.stored l.fn.table)
       → (k : ℕ) (move : KnownMove) → slice_get l.known.items k ≡ Some move

@@ -1,4 +1,4 @@
-use Rattle.std.proofs.Common.{◌≡◌, ◌∙◌, sym, ◌<◌, refl, ap, subst, ℕ, List, Some, IfSome, arith}
+use Rattle.std.proofs.Common.{◌≡◌, ◌∙◌, sym, ◌<◌, ap, subst, ℕ, List, Some, IfSome, arith}
 use Rattle.std.specs.Prelude.{IfNone}
 use Rattle.std.proofs.lemmas.List.{length-map}
 use Rattle.std.proofs.lemmas.Option.{slice_get-get_or}
@@ -9,27 +9,25 @@ use Rattle.retrograde.specs.declared.records.Counts.{Counts}
 use Rattle.retrograde.specs.Stored.{Stored, IsTable, view_of}
 use Rattle.best_line.proofs.Passing.{passed_on, not_both, some_here}
 use Rattle.best_line.proofs.ListLemmas.{item_at, found_first, pass_on, none_here}
+use Rattle.table.proofs.Reading.{unread, read_then}
 use Rattle.best_line.proofs.steps.first_won.Goals as goal
 
 pub returns-then-is_some-clause-found : goal.returns-then-is_some-clause-found
 returns-then-is_some-clause-found g c = λ honest table.
-    let h = c.loop-position.invariant.honest.0 honest in
+    let h = c.loop-position.invariant.read.honest.0 honest in
     let y = c.position-item.result.items in
     let at = item_at (λ (p : ArrayVec ℕ). p.items) c.args.positions.now c.loop-position.position-index c.position-item.result c.loop-position-test.true c.position-item.is in
     let here = subst (λ (t : Stored (List ℕ)). IfSome c.in_ok-found.found (λ j. HasNumber (view_of t) j y × ((view_of t).value j ≡ Some (c.args.winner, c.args.distance))))
-    (c.loop-position.invariant.same honest) (c.in_ok-found.ensures.found h) in
+    (c.loop-position.invariant.read.same honest) (c.in_ok-found.ensures.found h) in
     found_first (view_of (g.T.Table.stored c.args.table.now)) (bytes_of_each c.args.positions.now) c.args.winner c.args.distance c.loop-position.position-index y at
     (c.loop-position.invariant.passed honest table) c.in_ok-found.found here
 
 pub loop-position-preserved : goal.loop-position-preserved
 loop-position-preserved g c = record {
-  counts = c.in_ok-found.ensures.counts ∙ c.loop-position.invariant.counts;
-  stays = g.met.T.Table.stays_then _ _ _ c.loop-position.invariant.stays c.in_ok-found.ensures.stays;
-  honest = (λ h. c.in_ok-found.ensures.honest.0 (c.loop-position.invariant.honest.0 h), λ h. c.loop-position.invariant.honest.1 (c.in_ok-found.ensures.honest.1 h));
-  same = λ h. c.in_ok-found.ensures.same (c.loop-position.invariant.honest.0 h) ∙ c.loop-position.invariant.same h;
+  read = read_then g.met.T.Table.stays_then c.loop-position.invariant.read c.in_ok-found.ensures.read;
   passed = λ honest table.
-      let h = c.loop-position.invariant.honest.0 honest in
-      let same = c.loop-position.invariant.same honest in
+      let h = c.loop-position.invariant.read.honest.0 honest in
+      let same = c.loop-position.invariant.read.same honest in
       let y = c.position-item.result.items in
       let at = item_at (λ (p : ArrayVec ℕ). p.items) c.args.positions.now c.loop-position.position-index c.position-item.result c.loop-position-test.true c.position-item.is in
       let table' = subst (λ (t : Stored (List ℕ)). IsTable t) (sym same) table in
@@ -48,28 +46,13 @@ returns-clause-none g c = λ honest table y (k, within, is) has.
 pub loop-position-init : goal.loop-position-init
 loop-position-init g c =
     record {
-      counts = refl;
-      stays = g.met.T.Table.stays_here _;
-      honest = (λ h. h, λ h. h);
-      same = λ h. refl;
+      read = unread g.met.T.Table.stays_here _;
       passed = λ h table k y less. absurd (omega (arith, less));
     }
 
-pub returns-in_err-found-clause-same : goal.returns-in_err-found-clause-same
-returns-in_err-found-clause-same g c =
-    λ h. c.in_err-found.ensures.same (c.loop-position.invariant.honest.0 h) ∙ c.loop-position.invariant.same h
-
-pub returns-in_err-found-clause-honest : goal.returns-in_err-found-clause-honest
-returns-in_err-found-clause-honest g c =
-    (λ h. c.in_err-found.ensures.honest.0 (c.loop-position.invariant.honest.0 h), λ h. c.loop-position.invariant.honest.1 (c.in_err-found.ensures.honest.1 h))
-
-pub returns-in_err-found-clause-counts : goal.returns-in_err-found-clause-counts
-returns-in_err-found-clause-counts g c =
-    c.in_err-found.ensures.counts ∙ c.loop-position.invariant.counts
-
-pub returns-in_err-found-clause-stays : goal.returns-in_err-found-clause-stays
-returns-in_err-found-clause-stays g c =
-    g.met.T.Table.stays_then _ _ _ c.loop-position.invariant.stays c.in_err-found.ensures.stays
+pub returns-in_err-found-clause-read : goal.returns-in_err-found-clause-read
+returns-in_err-found-clause-read g c =
+    read_then g.met.T.Table.stays_then c.loop-position.invariant.read c.in_err-found.ensures.read
 
 pub returns-in_err-found-clause-room : goal.returns-in_err-found-clause-room
 returns-in_err-found-clause-room g c =
@@ -78,23 +61,11 @@ returns-in_err-found-clause-room g c =
 pub returns-in_err-found-clause-fault : goal.returns-in_err-found-clause-fault
 returns-in_err-found-clause-fault g c =
     passed_on _ c.from_residual.result _ c.from_residual.ensures
-    (g.met.T.Table.fails_since _ _ _ _ (g.met.T.Table.stays_goes_on _ _ c.loop-position.invariant.stays) c.in_err-found.ensures.fault)
+    (g.met.T.Table.fails_since _ _ _ _ (g.met.T.Table.stays_goes_on _ _ c.loop-position.invariant.read.stays) c.in_err-found.ensures.fault)
 
-pub returns-then-is_some-clause-same : goal.returns-then-is_some-clause-same
-returns-then-is_some-clause-same g c =
-    λ h. c.in_ok-found.ensures.same (c.loop-position.invariant.honest.0 h) ∙ c.loop-position.invariant.same h
-
-pub returns-then-is_some-clause-honest : goal.returns-then-is_some-clause-honest
-returns-then-is_some-clause-honest g c =
-    (λ h. c.in_ok-found.ensures.honest.0 (c.loop-position.invariant.honest.0 h), λ h. c.loop-position.invariant.honest.1 (c.in_ok-found.ensures.honest.1 h))
-
-pub returns-then-is_some-clause-counts : goal.returns-then-is_some-clause-counts
-returns-then-is_some-clause-counts g c =
-    c.in_ok-found.ensures.counts ∙ c.loop-position.invariant.counts
-
-pub returns-then-is_some-clause-stays : goal.returns-then-is_some-clause-stays
-returns-then-is_some-clause-stays g c =
-    g.met.T.Table.stays_then _ _ _ c.loop-position.invariant.stays c.in_ok-found.ensures.stays
+pub returns-then-is_some-clause-read : goal.returns-then-is_some-clause-read
+returns-then-is_some-clause-read g c =
+    read_then g.met.T.Table.stays_then c.loop-position.invariant.read c.in_ok-found.ensures.read
 
 pub returns-then-is_some-clause-none : goal.returns-then-is_some-clause-none
 returns-then-is_some-clause-none g c =
@@ -102,20 +73,4 @@ returns-then-is_some-clause-none g c =
 
 pub returns-then-is_some-clause-within : goal.returns-then-is_some-clause-within
 returns-then-is_some-clause-within g c =
-    subst (λ (k : Counts). IfSome c.in_ok-found.found (λ i. i < k.known)) c.loop-position.invariant.counts c.in_ok-found.ensures.within
-
-pub returns-clause-same : goal.returns-clause-same
-returns-clause-same g c =
-    λ h. c.loop-position.invariant.same h
-
-pub returns-clause-honest : goal.returns-clause-honest
-returns-clause-honest g c =
-    (λ h. c.loop-position.invariant.honest.0 h, λ h. c.loop-position.invariant.honest.1 h)
-
-pub returns-clause-counts : goal.returns-clause-counts
-returns-clause-counts g c =
-    c.loop-position.invariant.counts
-
-pub returns-clause-stays : goal.returns-clause-stays
-returns-clause-stays g c =
-    c.loop-position.invariant.stays
+    subst (λ (k : Counts). IfSome c.in_ok-found.found (λ i. i < k.known)) c.loop-position.invariant.read.counts c.in_ok-found.ensures.within

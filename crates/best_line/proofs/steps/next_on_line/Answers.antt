@@ -1,4 +1,4 @@
-use Rattle.std.proofs.Common.{◌∙◌, sym, ap, subst, ℕ, ◌<◌, List, Err}
+use Rattle.std.proofs.Common.{sym, ap, subst, ℕ, ◌<◌, List, Err}
 use Rattle.std.specs.Prelude.{Contains}
 use Rattle.table.specs.Memory.{bytes_of_each}
 use Rattle.retrograde.specs.View.{HasValue}
@@ -8,6 +8,7 @@ use Rattle.legal_moves.specs.declared.fault.MoveFault.{MoveFault}
 use Rattle.best_line.specs.aid.Lines.{IsFirstWon}
 use Rattle.best_line.proofs.Passing.{passed_on, not_this, ok_differs, search_consistent, search_wide, search_settled, search_of_none, table_consistent, table_narrow, table_settled, inconsistent_narrow, inconsistent_settled}
 use Rattle.best_line.proofs.StepLemmas.{best_step, no_step}
+use Rattle.table.proofs.Reading.{read_by, read_then}
 use Rattle.best_line.proofs.steps.next_on_line.Goals as goal
 
 pub returns-in-Some-clause-step : goal.returns-in-Some-clause-step
@@ -30,85 +31,20 @@ returns-clause-none g c = λ honest table is.
     no_step (g.M.GameGraph.graph c.args.source.now) (view_of (g.T.Table.stored c.args.table.now)) c.in_ok-packed.packed.items (bytes_of_each c.in_ok-found.found.items)
     c.in_ok-found.ensures.exact c.args.number (c.in_ok-packed.ensures.position honest) c.args.winner c.args.distance none'
 
-pub returns-in_err-packed-clause-same : goal.returns-in_err-packed-clause-same
-returns-in_err-packed-clause-same g c =
-    λ h. c.in_err-packed.ensures.same h
+pub returns-in_err-next-clause-read : goal.returns-in_err-next-clause-read
+returns-in_err-next-clause-read g c =
+    let packed = c.in_ok-packed.ensures in
+    read_then g.met.T.Table.stays_then (read_by packed.same packed.honest packed.counts packed.stays) c.in_err-next.ensures.read
 
-pub returns-in_err-packed-clause-honest : goal.returns-in_err-packed-clause-honest
-returns-in_err-packed-clause-honest g c =
-    (λ h. c.in_err-packed.ensures.honest.0 h, λ h. c.in_err-packed.ensures.honest.1 h)
+pub returns-in-Some-clause-read : goal.returns-in-Some-clause-read
+returns-in-Some-clause-read g c =
+    let packed = c.in_ok-packed.ensures in
+    read_then g.met.T.Table.stays_then (read_by packed.same packed.honest packed.counts packed.stays) c.in_ok-next.ensures.read
 
-pub returns-in_err-packed-clause-counts : goal.returns-in_err-packed-clause-counts
-returns-in_err-packed-clause-counts g c =
-    c.in_err-packed.ensures.counts
-
-pub returns-in_err-packed-clause-stays : goal.returns-in_err-packed-clause-stays
-returns-in_err-packed-clause-stays g c =
-    c.in_err-packed.ensures.stays
-
-pub returns-in_err-found-clause-same : goal.returns-in_err-found-clause-same
-returns-in_err-found-clause-same g c =
-    λ h. c.in_ok-packed.ensures.same h
-
-pub returns-in_err-found-clause-honest : goal.returns-in_err-found-clause-honest
-returns-in_err-found-clause-honest g c =
-    (λ h. c.in_ok-packed.ensures.honest.0 h, λ h. c.in_ok-packed.ensures.honest.1 h)
-
-pub returns-in_err-found-clause-counts : goal.returns-in_err-found-clause-counts
-returns-in_err-found-clause-counts g c =
-    c.in_ok-packed.ensures.counts
-
-pub returns-in_err-found-clause-stays : goal.returns-in_err-found-clause-stays
-returns-in_err-found-clause-stays g c =
-    c.in_ok-packed.ensures.stays
-
-pub returns-in_err-next-clause-same : goal.returns-in_err-next-clause-same
-returns-in_err-next-clause-same g c =
-    λ h. c.in_err-next.ensures.same (c.in_ok-packed.ensures.honest.0 h) ∙ c.in_ok-packed.ensures.same h
-
-pub returns-in_err-next-clause-honest : goal.returns-in_err-next-clause-honest
-returns-in_err-next-clause-honest g c =
-    (λ h. c.in_err-next.ensures.honest.0 (c.in_ok-packed.ensures.honest.0 h), λ h. c.in_ok-packed.ensures.honest.1 (c.in_err-next.ensures.honest.1 h))
-
-pub returns-in_err-next-clause-counts : goal.returns-in_err-next-clause-counts
-returns-in_err-next-clause-counts g c =
-    c.in_err-next.ensures.counts ∙ c.in_ok-packed.ensures.counts
-
-pub returns-in_err-next-clause-stays : goal.returns-in_err-next-clause-stays
-returns-in_err-next-clause-stays g c =
-    g.met.T.Table.stays_then _ _ _ c.in_ok-packed.ensures.stays c.in_err-next.ensures.stays
-
-pub returns-in-Some-clause-same : goal.returns-in-Some-clause-same
-returns-in-Some-clause-same g c =
-    λ h. c.in_ok-next.ensures.same (c.in_ok-packed.ensures.honest.0 h) ∙ c.in_ok-packed.ensures.same h
-
-pub returns-in-Some-clause-honest : goal.returns-in-Some-clause-honest
-returns-in-Some-clause-honest g c =
-    (λ h. c.in_ok-next.ensures.honest.0 (c.in_ok-packed.ensures.honest.0 h), λ h. c.in_ok-packed.ensures.honest.1 (c.in_ok-next.ensures.honest.1 h))
-
-pub returns-in-Some-clause-counts : goal.returns-in-Some-clause-counts
-returns-in-Some-clause-counts g c =
-    c.in_ok-next.ensures.counts ∙ c.in_ok-packed.ensures.counts
-
-pub returns-in-Some-clause-stays : goal.returns-in-Some-clause-stays
-returns-in-Some-clause-stays g c =
-    g.met.T.Table.stays_then _ _ _ c.in_ok-packed.ensures.stays c.in_ok-next.ensures.stays
-
-pub returns-clause-same : goal.returns-clause-same
-returns-clause-same g c =
-    λ h. c.in_ok-next.ensures.same (c.in_ok-packed.ensures.honest.0 h) ∙ c.in_ok-packed.ensures.same h
-
-pub returns-clause-honest : goal.returns-clause-honest
-returns-clause-honest g c =
-    (λ h. c.in_ok-next.ensures.honest.0 (c.in_ok-packed.ensures.honest.0 h), λ h. c.in_ok-packed.ensures.honest.1 (c.in_ok-next.ensures.honest.1 h))
-
-pub returns-clause-counts : goal.returns-clause-counts
-returns-clause-counts g c =
-    c.in_ok-next.ensures.counts ∙ c.in_ok-packed.ensures.counts
-
-pub returns-clause-stays : goal.returns-clause-stays
-returns-clause-stays g c =
-    g.met.T.Table.stays_then _ _ _ c.in_ok-packed.ensures.stays c.in_ok-next.ensures.stays
+pub returns-clause-read : goal.returns-clause-read
+returns-clause-read g c =
+    let packed = c.in_ok-packed.ensures in
+    read_then g.met.T.Table.stays_then (read_by packed.same packed.honest packed.counts packed.stays) c.in_ok-next.ensures.read
 
 pub returns-in_err-found-clause-none : goal.returns-in_err-found-clause-none
 returns-in_err-found-clause-none g c =

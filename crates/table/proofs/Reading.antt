@@ -2,7 +2,7 @@
 use Rattle.std.proofs.Common.{◌≡◌, ◌↔◌, ◌∙◌, ℕ, List, refl}
 use Rattle.retrograde.specs.declared.records.Counts.{Counts}
 use Rattle.retrograde.specs.Stored.{Stored}
-use Rattle.audit.specs.aid.Reading.{IsRead}
+use Rattle.table.specs.aid.Reading.{IsRead}
 
 -- before any call
 pub unread : {T : Type 0} {stored : T → Stored (List ℕ)} {IsHonest : T → Type 0} {counted : T → Counts} {Stays : T → T → Type 0} → ((t : T) → Stays t t) → (t : T) → IsRead stored IsHonest counted Stays t t
