@@ -20,3 +20,4 @@ pub mod Spots
 pub mod Passing
 pub mod PageTaking
 pub mod Telling
+pub mod Leaving
