@@ -2,6 +2,7 @@ mod Numbers
 mod PagePlacing
 mod Asking
 mod Going
+mod Reading
 mod Leaves
 mod Looking
 mod FindPassing

@@ -10,4 +10,6 @@ pub mod Next
 pub mod Tree
 pub mod Answers
 pub mod Walking
+pub mod Reading
+pub mod Readers
 pub mod aid

@@ -21,3 +21,4 @@ pub mod EntryPut
 pub mod Passing
 pub mod PageTaking
 pub mod Telling
+pub mod Leaving

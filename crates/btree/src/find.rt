@@ -5,7 +5,9 @@ mod entry;
 mod leaf;
 mod look;
 mod read;
+mod reader;
 mod way;
 
 pub use entry::{Bytes, Entry, copied};
 pub use read::{get, get_into, next_after};
+pub use reader::Reader;

@@ -5,6 +5,7 @@ pub mod Spelled
 pub mod Taking
 pub mod Winners
 mod Told
+mod Readers
 mod ForestPassing
 mod Walks
 mod Forests

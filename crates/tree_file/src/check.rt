@@ -15,7 +15,7 @@ use crate::places::find_places;
 use page_store::Pages;
 use std::alloc::Global;
 use table::TableFault;
-use tree_table::TreeSlot;
+use tree_table::{Tree, TreeSlot, reader_of};
 
 /// Looks whether the four trees that this slot names spell a table whose parts fit together, as many as the slot says. That
 /// there are as many entries, and each edge is between known numbers, has to be known.
@@ -34,8 +34,9 @@ pub fn check_entries<P: Pages>(
     ensures cause { IfErr result (CheckEntriesCause slot.now (P.store store.old) (P.store store.new)) }
 {
     let placed = find_places(alloc, store, slot)?;
+    let mut reader = reader_of(slot, Tree::Records);
     for number in 0..slot.sizes.counts.known {
-        check_number(store, slot, number, placed[number as usize])?;
+        check_number(store, slot, &mut reader, number, placed[number as usize])?;
     }
     Ok(())
 }

@@ -6,12 +6,12 @@ ghost use Rattle.tree_file.specs.aid.Right.{AreRight, AreMarkedByPlaces, placed_
 ghost use Rattle.tree_file.specs.declared.places.Placed.TheVariants.{Nowhere};
 ghost use Rattle.position_pack.specs.declared.limits.TheConstants.{MAX_PACKED};
 
-use crate::number::number_at;
+use crate::number::number_by;
 use page_store::Pages;
 use retrograde::Counts;
 use std::alloc::{AllocError, Global};
 use table::TableFault;
-use tree_table::{Tree, TreeSlot, number_key};
+use tree_table::{Tree, TreeSlot, number_key, reader_of};
 
 /// What the settled order says of a number.
 #[derive(Clone, Copy, PartialEq, Eq, Drop)]
@@ -76,8 +76,9 @@ pub fn find_places<P: Pages>(
 {
     let counts = slot.sizes.counts;
     let mut placed = unplaced(alloc, counts.known as usize)?;
+    let mut reader = reader_of(slot, Tree::Order);
     for place in 0..counts.settled {
-        let number = number_at(store, slot, Tree::Order, &number_key(place))?;
+        let number = number_by(store, &mut reader, &number_key(place))?;
         if number >= counts.known {
             return Err(TableFault::Damaged);
         }

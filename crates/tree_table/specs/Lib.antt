@@ -15,7 +15,9 @@ pub use Rattle.game_file.specs.Bytes
 pub use Rattle.btree.specs.Entries as TreeMapEntries
 pub use Rattle.btree.specs.Page
 pub use Rattle.btree.specs.Answers
+pub use Rattle.btree.specs.Readers as TreeMapReaders
 pub mod Trees
+pub mod Readers
 pub mod Entries
 pub mod Forest
 pub mod Spelled

@@ -78,20 +78,32 @@ pub fn position_of(bytes: &[u8]) -> Packed
     position
 }
 
-/// The position of this many bytes and the record that these bytes are, where they are that.
-pub fn cell_in(bytes: &[u8], packed: u32) -> Option<Cell>
+/// The bytes of a position, this many, and the record that these bytes are, where they are that.
+pub fn cell_parts(bytes: &[u8], packed: u32) -> Option<(&[u8], Record)>
     requires { packed ≤ MAX_PACKED }
-    ensures some { IfSome result (λ cell. IsCell packed bytes.now (cell.position.items, cell.kept)) }
+    ensures some { IfSome result (λ parts. IsCell packed bytes.now (parts.0.now, parts.1)) }
     ensures none { IfNone result ((cell : List ℕ × Record) → IsCell packed bytes.now cell → ⊥) }
 {
     let packed = packed as usize;
     if bytes.len() != packed + RECORD_BYTES {
         return None;
     }
-    let (front, back) = bytes.split_at(packed);
-    let kept = read_record(back)?;
-    let position = position_of(front);
-    Some(Cell { position, kept })
+    let (position, behind) = bytes.split_at(packed);
+    let kept = read_record(behind)?;
+    Some((position, kept))
+}
+
+/// The position of this many bytes and the record that these bytes are, where they are that.
+pub fn cell_in(bytes: &[u8], packed: u32) -> Option<Cell>
+    requires { packed ≤ MAX_PACKED }
+    ensures some { IfSome result (λ cell. IsCell packed bytes.now (cell.position.items, cell.kept)) }
+    ensures none { IfNone result ((cell : List ℕ × Record) → IsCell packed bytes.now cell → ⊥) }
+{
+    let (position, kept) = cell_parts(bytes, packed)?;
+    Some(Cell {
+        position: position_of(position),
+        kept,
+    })
 }
 
 /// The bytes of a position, and after them those of a record.

@@ -18,10 +18,10 @@ mod version;
 mod working;
 
 pub use begin::load;
-pub use bytes::{Cell, cell_in, number_in, number_key};
+pub use bytes::{Cell, cell_in, cell_parts, number_in, number_key};
 pub use keeping::bare_slot;
 pub use last::Seen;
-pub use read::value_at;
+pub use read::{find_key, reader_of, value_at};
 pub use saving::commit;
 pub use slot::{FIRST_WITH_GOALS, Slot, TreeSlot, empty_slot, game_slot, read_slot};
 pub use tree::{Roots, Tree, widths_of};

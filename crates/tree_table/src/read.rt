@@ -1,13 +1,16 @@
 //! What a slot names is read.
-ghost use Rattle.std.specs.Prelude.{◌≡◌, ◌↔◌, ◌≤◌, ◌<◌, ℕ, List, Some, IfOk, IfErr, IfSome, IfNone, IsTrue, length, slice_get};
-ghost use Rattle.page_store.specs.Store.{StoreWorks, IsUnchanged};
+ghost use Rattle.std.specs.Prelude.{◌≡◌, ◌↔◌, ◌≤◌, ◌<◌, ℕ, List, Some, IfOk, IfErr, IfSome, IfNone, OnOk, IsTrue, length, slice_get};
+ghost use Rattle.page_store.specs.Store.{Store, StoreWorks, IsUnchanged};
 ghost use Rattle.retrograde.specs.Edges.{IsAfter, IsNextEdge, HasNoMoreEdges};
 ghost use Rattle.retrograde.specs.Stored.{Stored, HasRecord};
 ghost use Rattle.btree.specs.Page.{Item};
 ghost use Rattle.btree.specs.Entries.{find_entry, next_after as next_in};
 ghost use Rattle.btree.specs.Answers.{found_bytes, found_entry};
+ghost use Rattle.btree.specs.Readers.{HasEntry, IsReading, found_here};
+ghost use Rattle.tree_table.specs.declared.slot.TreeSlot.{TreeSlot};
 ghost use Rattle.tree_table.specs.declared.tree.Tree.{Tree};
 ghost use Rattle.tree_table.specs.Causes.{IsNoForest, IsNoTable, ReadCause};
+ghost use Rattle.tree_table.specs.Readers.{IsReaderOf};
 ghost use Rattle.tree_table.specs.Working.{HasForest, HasTable};
 ghost use Rattle.position_pack.specs.declared.limits.TheConstants.{MAX_PACKED};
 
@@ -15,7 +18,7 @@ use crate::bytes::{Cell, cell_in, edge_in, key_behind, number_in, number_key};
 use crate::fault::table_fault;
 use crate::slot::TreeSlot;
 use crate::tree::{Tree, widths_of};
-use btree::find::{Bytes, Entry, get, next_after};
+use btree::find::{Bytes, Entry, Reader, get, next_after};
 use page_store::Pages;
 use position_pack::Packed;
 use table::TableFault;
@@ -61,6 +64,41 @@ fn entry_after<P: Pages>(
 {
     let widths = widths_of(slot.sizes.packed, tree);
     match next_after(store, widths, slot.roots.root(tree), key) {
+        Ok(found) => Ok(found),
+        Err(fault) => Err(table_fault(fault)),
+    }
+}
+
+/// A reader of this tree.
+pub fn reader_of(slot: &TreeSlot, tree: Tree) -> Reader
+    requires some { 1 ≤ slot.now.sizes.packed }
+    requires short { slot.now.sizes.packed ≤ MAX_PACKED }
+    ensures is { IsReaderOf slot.now tree result }
+    ensures reading { (store : Store) → IsReading result store }
+{
+    Reader::new(widths_of(slot.sizes.packed, tree), slot.roots.root(tree))
+}
+
+/// Whether the tree of this reader has this key. If so, the reader is at its entry from then on.
+pub fn find_key<P: Pages>(
+    store: &mut P,
+    reader: &mut Reader,
+    key: &[u8],
+) -> Result<bool, TableFault>
+    requires { IsReading reader.old (P.store store.old) }
+    ensures of { (slot : TreeSlot) (tree : Tree) → IsReaderOf slot tree reader.old → IsReaderOf slot tree reader.new }
+    ensures reading { OnOk result (IsReading reader.new (P.store store.new)) }
+    ensures at { IfOk result (λ found. IsTrue found → HasEntry reader.new) }
+    ensures found { (slot : TreeSlot) (tree : Tree) → IsReaderOf slot tree reader.old
+        → IsTrue (P.store store.old).disk.honest → (text : List ℕ) (entries : Tree → List Item)
+        → HasForest slot text entries (P.store store.old)
+        → IfOk result (λ found. found_here found reader.new ≡ find_entry (entries tree) key.now) }
+    ensures unchanged { IsUnchanged (P.store store.old) (P.store store.new) }
+    ensures works { StoreWorks (P.store store.old) (P.store store.new) }
+    ensures cause { IfErr result (λ fault. (slot : TreeSlot) (tree : Tree) → IsReaderOf slot tree reader.old
+        → ReadCause IsNoForest slot (P.store store.old) (P.store store.new) fault) }
+{
+    match reader.find(store, key) {
         Ok(found) => Ok(found),
         Err(fault) => Err(table_fault(fault)),
     }

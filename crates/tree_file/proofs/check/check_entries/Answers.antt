@@ -1,9 +1,7 @@
-use Rattle.std.proofs.Common.{◌≡◌, ℕ, ◌<◌, inl, inr, List, length, sym, subst, arith}
+use Rattle.std.proofs.Common.{◌≡◌, ℕ, ◌<◌, inl, inr, length, sym, subst, arith}
 use Rattle.std.specs.Prelude.{slice_index_or}
 use Rattle.std.proofs.lemmas.Bool.{cases_eq}
 use Rattle.page_store.specs.aid.Works.{works_then}
-use Rattle.btree.specs.Page.{Item}
-use Rattle.tree_table.specs.declared.tree.Tree.{Tree}
 use Rattle.tree_file.specs.aid.Right.{IsRightNumber, IsRightPlaced, AreRight}
 use Rattle.tree_file.specs.declared.places.Placed.{Placed}
 use Rattle.tree_file.specs.declared.places.Placed.TheVariants.{Nowhere}
@@ -20,6 +18,8 @@ returns-in_err-placed-clause-cause g c =
 
 pub loop-number-init : goal.loop-number-init
 loop-number-init g c = record {
+  of = c.reader_of-reader.ensures.is;
+  reading = c.reader_of-reader.ensures.reading (g.P.Pages.store c.find_places.new.store);
   read = record { works = c.in_ok-placed.ensures.works; unchanged = c.in_ok-placed.ensures.unchanged };
   numbers = λ honest text entries h i low. absurd (omega (arith, low));
 }
@@ -61,6 +61,8 @@ loop-number-preserved g c =
     let within : number < length items = omega (arith, c.loop-number-test.true, c.in_ok-placed.ensures.long) in
     let place : c.index.result.now ≡ slice_index_or items number Nowhere = its_place items number c.index.result.now within c.index.ensures in
     record {
+      of = c.check_number.ensures.of;
+      reading = c.in_ok-check_number.ensures.reading;
       read = read_more _ _ _ c.loop-number.invariant.read c.in_ok-check_number.ensures.works c.in_ok-check_number.ensures.unchanged;
       numbers = λ honest text entries h i low. elim (cases_eq i number) [
         | inl is ↦

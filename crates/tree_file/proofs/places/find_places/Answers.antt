@@ -12,6 +12,8 @@ returns-in_err-placed-clause-works g c = works_refl (g.P.Pages.store c.args.stor
 
 pub loop-place-init : goal.loop-place-init
 loop-place-init g c = record {
+  of = c.reader_of-reader.ensures.is;
+  reading = c.reader_of-reader.ensures.reading (g.P.Pages.store c.args.store.now);
   read = read_here (g.P.Pages.store c.args.store.now);
   long = c.in_ok-placed.ensures.long;
   so_far = λ honest text entries h. none_placed c.args.slot.now.sizes entries c.in_ok-placed.placed.items c.in_ok-placed.ensures.none;
@@ -29,7 +31,7 @@ returns-in_err-number-clause-cause g c =
     let slot = c.args.slot.now in
     let old = g.P.Pages.store c.args.store.now in
     let mid = g.P.Pages.store c.loop-place.store in
-    let new = g.P.Pages.store c.number_at.new.store in
+    let new = g.P.Pages.store c.number_by.new.store in
     passed_on _ c.from_residual-in_err-number.result _ c.from_residual-in_err-number.ensures
     (check_since (λ entries. (n : ℕ) × IsNumberAt (entries Order) c.number_key.result n)
     (λ entries. AreRight slot.sizes entries 0 slot.sizes.counts.known) slot old mid new _
@@ -37,7 +39,7 @@ returns-in_err-number-clause-cause g c =
     (λ honest text entries h right.
     let (n, at) = place_missing slot.sizes entries c.loop-place.place c.loop-place-test.true right in
     (n, subst (λ (k : List ℕ). IsNumberAt (entries Order) k n) (sym c.number_key.ensures) at))
-    (plain_check (λ entries. (n : ℕ) × IsNumberAt (entries Order) c.number_key.result n) slot mid new _ c.in_err-number.ensures.cause))
+    (plain_check (λ entries. (n : ℕ) × IsNumberAt (entries Order) c.number_key.result n) slot mid new _ (c.in_err-number.ensures.cause slot Order c.loop-place.invariant.of)))
 
 pub returns-then-number-counts-clause-unchanged : goal.returns-then-number-counts-clause-unchanged
 returns-then-number-counts-clause-unchanged g c =
@@ -52,7 +54,7 @@ returns-then-number-counts-clause-cause g c = λ honest text entries h right.
     let old = g.P.Pages.store c.args.store.now in
     let mid = g.P.Pages.store c.loop-place.store in
     let at = told_before (λ es. IsNumberAt (es Order) c.number_key.result c.in_ok-number.number) slot old mid
-    c.loop-place.invariant.read c.in_ok-number.ensures.number honest text entries h in
+    c.loop-place.invariant.read (c.in_ok-number.ensures.number slot Order c.loop-place.invariant.of) honest text entries h in
     let here : IsNumberAt (entries Order) (number_key c.loop-place.place) c.in_ok-number.number =
     subst (λ (k : List ℕ). IsNumberAt (entries Order) k c.in_ok-number.number) c.number_key.ensures at in
     let low = place_known slot.sizes entries c.loop-place.place c.in_ok-number.number here c.loop-place-test.true right in
@@ -71,7 +73,7 @@ returns-then-not-is_new-clause-cause g c = λ honest text entries h right.
     let old = g.P.Pages.store c.args.store.now in
     let mid = g.P.Pages.store c.loop-place.store in
     let at = told_before (λ es. IsNumberAt (es Order) c.number_key.result c.in_ok-number.number) slot old mid
-    c.loop-place.invariant.read c.in_ok-number.ensures.number honest text entries h in
+    c.loop-place.invariant.read (c.in_ok-number.ensures.number slot Order c.loop-place.invariant.of) honest text entries h in
     let here : IsNumberAt (entries Order) (number_key c.loop-place.place) c.in_ok-number.number =
     subst (λ (k : List ℕ). IsNumberAt (entries Order) k c.in_ok-number.number) c.number_key.ensures at in
     placed_twice slot.sizes entries c.loop-place.place c.in_ok-number.number c.loop-place.placed.items
@@ -86,6 +88,8 @@ loop-place-preserved g c =
     let old = g.P.Pages.store c.args.store.now in
     let mid = g.P.Pages.store c.loop-place.store in
     record {
+      of = c.number_by.ensures.of slot Order c.loop-place.invariant.of;
+      reading = c.in_ok-number.ensures.reading;
       read = read_more _ _ _ c.loop-place.invariant.read c.in_ok-number.ensures.works c.in_ok-number.ensures.unchanged;
       long =
           take_long c.in_ok-number.number c.placed_at.result c.loop-place.placed.items c.take_place-is_new.new.placed.items c.take_place-is_new.result
@@ -93,7 +97,7 @@ loop-place-preserved g c =
           ∙ c.loop-place.invariant.long;
       so_far = λ honest text entries h.
           let at = told_before (λ es. IsNumberAt (es Order) c.number_key.result c.in_ok-number.number) slot old mid
-          c.loop-place.invariant.read c.in_ok-number.ensures.number honest text entries h in
+          c.loop-place.invariant.read (c.in_ok-number.ensures.number slot Order c.loop-place.invariant.of) honest text entries h in
           let here : IsNumberAt (entries Order) (number_key c.loop-place.place) c.in_ok-number.number =
           subst (λ (k : List ℕ). IsNumberAt (entries Order) k c.in_ok-number.number) c.number_key.ensures at in
           placed_more slot.sizes entries c.loop-place.place c.in_ok-number.number c.loop-place.placed.items
