@@ -40,7 +40,7 @@ pub struct Compiled {
     tables: Vec<Table>,
     /// For each pattern the number of the first that asks the same.
     same: Vec<usize>,
-    /// Of each table.
+    /// The jumps of each table.
     jumps: Vec<Jumps>,
     /// The goal of the table, if it has one.
     goal: Option<Goal>,

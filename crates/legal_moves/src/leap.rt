@@ -1,5 +1,5 @@
 //! A search that goes from one set or comparison to the next, by the jumps of its table.
-ghost use Rattle.std.specs.Prelude.{◌≡◌, ◌+◌, ◌≤◌, ◌<◌, ◌∷◌, ℕ, List, length, Err, Some, IsOk, IfOk, OnOk, IfSome, slice_get, MatchBool};
+ghost use Rattle.std.specs.Prelude.{◌≡◌, ◌+◌, ◌≤◌, ◌<◌, length, Err, IfOk, OnOk, IfSome, MatchBool};
 ghost use Rattle.std.specs.Option.{IfNone};
 ghost use Rattle.rbg_game.specs.Rules.{count};
 ghost use Rattle.rbg_game.specs.Meaning.{game_of};

@@ -33,7 +33,7 @@ pub struct Searcher<'a> {
     pub tables: &'a [Table],
     /// For each pattern the number of the first that asks the same.
     pub same: &'a [usize],
-    /// Of each table.
+    /// The jumps of each table.
     pub jumps: &'a [Jumps],
     pub alloc: Global,
 }
