@@ -115,42 +115,6 @@ returns-clause-none g c = λ honest is. absurd (ok_differs _ _ is)
 pub returns-clause-wide : goal.returns-clause-wide
 returns-clause-wide g c = λ honest is. absurd (ok_differs _ _ is)
 
-pub returns-in_err-packed-clause-same : goal.returns-in_err-packed-clause-same
-returns-in_err-packed-clause-same g c = λ h. c.in_err-packed.ensures.same h
-
-pub returns-in_err-packed-clause-honest : goal.returns-in_err-packed-clause-honest
-returns-in_err-packed-clause-honest g c = (λ h. c.in_err-packed.ensures.honest.0 h, λ h. c.in_err-packed.ensures.honest.1 h)
-
-pub returns-in_err-packed-clause-counts : goal.returns-in_err-packed-clause-counts
-returns-in_err-packed-clause-counts g c = c.in_err-packed.ensures.counts
-
-pub returns-in_err-packed-clause-stays : goal.returns-in_err-packed-clause-stays
-returns-in_err-packed-clause-stays g c = c.in_err-packed.ensures.stays
-
-pub returns-in_default-clause-same : goal.returns-in_default-clause-same
-returns-in_default-clause-same g c = λ h. c.in_ok-packed.ensures.same h
-
-pub returns-in_default-clause-honest : goal.returns-in_default-clause-honest
-returns-in_default-clause-honest g c = (λ h. c.in_ok-packed.ensures.honest.0 h, λ h. c.in_ok-packed.ensures.honest.1 h)
-
-pub returns-in_default-clause-counts : goal.returns-in_default-clause-counts
-returns-in_default-clause-counts g c = c.in_ok-packed.ensures.counts
-
-pub returns-in_default-clause-stays : goal.returns-in_default-clause-stays
-returns-in_default-clause-stays g c = c.in_ok-packed.ensures.stays
-
-pub returns-in_err-found-clause-same : goal.returns-in_err-found-clause-same
-returns-in_err-found-clause-same g c = λ h. c.in_ok-packed.ensures.same h
-
-pub returns-in_err-found-clause-honest : goal.returns-in_err-found-clause-honest
-returns-in_err-found-clause-honest g c = (λ h. c.in_ok-packed.ensures.honest.0 h, λ h. c.in_ok-packed.ensures.honest.1 h)
-
-pub returns-in_err-found-clause-counts : goal.returns-in_err-found-clause-counts
-returns-in_err-found-clause-counts g c = c.in_ok-packed.ensures.counts
-
-pub returns-in_err-found-clause-stays : goal.returns-in_err-found-clause-stays
-returns-in_err-found-clause-stays g c = c.in_ok-packed.ensures.stays
-
 pub returns-in_err-moves-clause-same : goal.returns-in_err-moves-clause-same
 returns-in_err-moves-clause-same g c = λ h. c.in_err-moves.ensures.read.same (c.in_ok-packed.ensures.honest.0 h) ∙ c.in_ok-packed.ensures.same h
 

@@ -90,22 +90,6 @@ pub returns-in_err-push-clause-fault : goal.returns-in_err-push-clause-fault
 returns-in_err-push-clause-fault g c =
     passed_on _ c.from_residual-in_err-push.result _ c.from_residual-in_err-push.ensures (g.met.T.Table.memory_fails _ _ (g.met.T.Table.stays_goes_on _ _ (g.met.T.Table.stays_then _ _ _ c.loop-number.invariant.stays c.in_ok-value.ensures.stays)))
 
-pub returns-clause-same : goal.returns-clause-same
-returns-clause-same g c =
-    λ h. c.loop-number.invariant.same h
-
-pub returns-clause-honest : goal.returns-clause-honest
-returns-clause-honest g c =
-    (λ h. c.loop-number.invariant.honest.0 h, λ h. c.loop-number.invariant.honest.1 h)
-
-pub returns-clause-counts : goal.returns-clause-counts
-returns-clause-counts g c =
-    c.loop-number.invariant.counts
-
-pub returns-clause-stays : goal.returns-clause-stays
-returns-clause-stays g c =
-    c.loop-number.invariant.stays
-
 pub returns-clause-rows : goal.returns-clause-rows
 returns-clause-rows g c =
     λ honest table. record {

@@ -17,30 +17,6 @@ returns-clause-told g c = λ honest table.
       subst (λ (t : Stored (List ℕ)). IsValue (view_of t) c.in-Some.number c.in_ok-value.value) same (c.in_ok-value.ensures.value h table'),
     )
 
-pub returns-in_err-number-clause-same : goal.returns-in_err-number-clause-same
-returns-in_err-number-clause-same g c = λ h. c.in_err-number.ensures.same h
-
-pub returns-in_err-number-clause-honest : goal.returns-in_err-number-clause-honest
-returns-in_err-number-clause-honest g c = (λ h. c.in_err-number.ensures.honest.0 h, λ h. c.in_err-number.ensures.honest.1 h)
-
-pub returns-in_err-number-clause-counts : goal.returns-in_err-number-clause-counts
-returns-in_err-number-clause-counts g c = c.in_err-number.ensures.counts
-
-pub returns-in_err-number-clause-stays : goal.returns-in_err-number-clause-stays
-returns-in_err-number-clause-stays g c = c.in_err-number.ensures.stays
-
-pub returns-in_default-clause-same : goal.returns-in_default-clause-same
-returns-in_default-clause-same g c = λ h. c.in_ok-number.ensures.same h
-
-pub returns-in_default-clause-honest : goal.returns-in_default-clause-honest
-returns-in_default-clause-honest g c = (λ h. c.in_ok-number.ensures.honest.0 h, λ h. c.in_ok-number.ensures.honest.1 h)
-
-pub returns-in_default-clause-counts : goal.returns-in_default-clause-counts
-returns-in_default-clause-counts g c = c.in_ok-number.ensures.counts
-
-pub returns-in_default-clause-stays : goal.returns-in_default-clause-stays
-returns-in_default-clause-stays g c = c.in_ok-number.ensures.stays
-
 pub returns-in_err-value-clause-same : goal.returns-in_err-value-clause-same
 returns-in_err-value-clause-same g c = λ h. c.in_err-value.ensures.same (c.in_ok-number.ensures.honest.0 h) ∙ c.in_ok-number.ensures.same h
 
