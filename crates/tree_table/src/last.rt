@@ -7,7 +7,7 @@ ghost use Rattle.tree_table.specs.Working.{table_now, IsHonestWork, WorkStays, W
 
 use crate::bytes::Cell;
 use crate::change::set_record;
-use crate::read::cell_at;
+use crate::read::cell_near;
 use crate::working::TreeTable;
 use page_store::Pages;
 use retrograde::Record;
@@ -44,8 +44,10 @@ impl<P: Pages> TreeTable<P> {
         if self.has_seen(number) {
             return Ok(());
         }
-        let cell = cell_at(&mut self.store, &self.slot, number)?;
+        let follows = self.in_row && self.has_seen(number.wrapping_sub(1));
+        let cell = cell_near(&mut self.store, &self.slot, &mut self.near, follows, number)?;
         self.seen = Some(Seen { number, cell });
+        self.in_row = true;
         Ok(())
     }
 
@@ -66,6 +68,8 @@ impl<P: Pages> TreeTable<P> {
         };
         let torn = self.torn;
         self.torn = true;
+        self.in_row = false;
+        self.near = None;
         self.slot = set_record(&mut self.store, self.slot, number, &cell, kept)?;
         let Cell { position, .. } = cell;
         self.seen = Some(Seen {
