@@ -1,5 +1,5 @@
 //! The cell that was looked at or written last stays in memory: a unit of work asks for the same one several times.
-ghost use Rattle.std.specs.Prelude.{◌≡◌, ◌<◌, ◌↔◌, OnOk, IfErr, IsTrue};
+ghost use Rattle.std.specs.Prelude.{◌≡◌, ◌<◌, ◌↔◌, None, OnOk, IfErr, IsTrue};
 ghost use Rattle.retrograde.specs.Changes.{with_record};
 ghost use Rattle.table.specs.Faults.{NeedsNoPage};
 ghost use Rattle.tree_table.specs.Last.{HasSeen};
@@ -9,6 +9,7 @@ use crate::bytes::Cell;
 use crate::change::set_record;
 use crate::read::cell_near;
 use crate::working::TreeTable;
+use btree::find::Reader;
 use page_store::Pages;
 use retrograde::Record;
 use table::TableFault;
@@ -18,6 +19,15 @@ use table::TableFault;
 pub struct Seen {
     pub number: u32,
     pub cell: Cell,
+}
+
+/// No reader is kept from now on; where none was, nothing is written.
+pub fn forget(near: &mut Option<Reader>)
+    ensures { near.new ≡ None }
+{
+    if near.is_some() {
+        *near = None;
+    }
 }
 
 impl<P: Pages> TreeTable<P> {
@@ -69,7 +79,7 @@ impl<P: Pages> TreeTable<P> {
         let torn = self.torn;
         self.torn = true;
         self.in_row = false;
-        self.near = None;
+        forget(&mut self.near);
         self.slot = set_record(&mut self.store, self.slot, number, &cell, kept)?;
         let Cell { position, .. } = cell;
         self.seen = Some(Seen {

@@ -14,7 +14,7 @@ ghost use Rattle.rbg_game.specs.declared.limits.TheConstants.{MAX_POINTS};
 use crate::bytes::position_of;
 use crate::change::{add_edge, add_position, push_settled};
 use crate::keeping::bare_slot;
-use crate::last::Seen;
+use crate::last::{Seen, forget};
 use crate::read::{edge_after, number_of, settled_at};
 use crate::slot::TreeSlot;
 use btree::find::Reader;
@@ -138,7 +138,7 @@ impl<P: Pages> Table for TreeTable<P> {
         let torn = self.torn;
         self.torn = true;
         self.in_row = false;
-        self.near = None;
+        forget(&mut self.near);
         self.slot = add_position(&mut self.store, self.slot, packed)?;
         self.torn = torn;
         Ok(number)
@@ -153,7 +153,7 @@ impl<P: Pages> Table for TreeTable<P> {
         let torn = self.torn;
         self.torn = true;
         self.in_row = false;
-        self.near = None;
+        forget(&mut self.near);
         self.slot = add_edge(&mut self.store, self.slot, successor, predecessor)?;
         self.torn = torn;
         Ok(())
@@ -167,7 +167,7 @@ impl<P: Pages> Table for TreeTable<P> {
         let torn = self.torn;
         self.torn = true;
         self.in_row = false;
-        self.near = None;
+        forget(&mut self.near);
         self.slot = push_settled(&mut self.store, self.slot, number)?;
         self.torn = torn;
         Ok(())

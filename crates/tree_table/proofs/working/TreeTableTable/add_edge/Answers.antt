@@ -1,4 +1,6 @@
-use Rattle.std.proofs.Common.{◌≤◌, ◌^◌, refl, sym, subst, arith, ◌≡◌, ℕ, length, true, false}
+use Rattle.std.proofs.Common.{◌≤◌, ◌^◌, refl, sym, subst, arith, ◌≡◌, ℕ, length, true, false, Option}
+use Rattle.btree.specs.declared.find.reader.Reader.{Reader}
+use Rattle.tree_table.specs.Readers.{IsNear}
 use Rattle.retrograde.specs.declared.records.Counts.{Counts}
 use Rattle.retrograde.specs.Changes.{with_edge}
 use Rattle.tree_table.specs.Working.{work_of, table_now, HoldsTable, HoldsWork, IsHonestWork}
@@ -19,7 +21,7 @@ invariant_of-self-2 g c =
     let changed : IsHonestWork old → HoldsWork old → HoldsTable c.in_ok-self.field-0 text now (g.P.Pages.store c.add_edge.new.store) =
     λ honest h. done.table honest.disk text (table_now old) h in
     record {
-      reads = tt;
+      reads = subst (λ (near : Option Reader). IsNear c.in_ok-self.field-0 (g.P.Pages.store c.add_edge.new.store) near) (sym c.forget.ensures) tt;
       some = omega (arith, self.some, done.slot.packed);
       short = omega (arith, self.short, done.slot.packed);
       few = few;
@@ -66,5 +68,5 @@ invariant_of-self g c =
       holds = λ honest. let never : true ≡ false = honest.whole in absurd (cc);
       long = self.long;
       last = λ honest. let never : true ≡ false = honest.whole in absurd (cc);
-      reads = tt;
+      reads = subst (λ (near : Option Reader). IsNear self.slot (g.P.Pages.store c.add_edge.new.store) near) (sym c.forget.ensures) tt;
     }
