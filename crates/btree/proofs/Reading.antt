@@ -1,5 +1,6 @@
 -- The leaf that was reached last, and what is found on it.
-use Rattle.std.proofs.Common.{◌≡◌, inl, inr, ℕ, suc, ◌+◌, List, ◌∷◌, ◌++◌, Option, None, Some, length, take, drop, IsTrue, sym, ◌∙◌, ap, subst, append_assoc}
+use Rattle.std.proofs.Common.{◌≡◌, inl, inr, ℕ, suc, ◌+◌, List, ◌∷◌, ◌++◌, Option, None, Some, length, take, drop, IsTrue, sym, ◌∙◌, ap, subst, arith, append_assoc}
+use Rattle.std.specs.Prelude.{slice_index}
 use Rattle.std.specs.List.{slice_get}
 use Rattle.std.specs.Option.{option_map}
 use Rattle.sector_disk.specs.aid.Moments.{still_honest}
@@ -13,10 +14,10 @@ use Rattle.btree.specs.declared.page.widths.Widths.{Widths}
 use Rattle.btree.specs.Page.{Item, IsPage, items_in}
 use Rattle.btree.specs.Changes.{HoldsMap, MapReadCause}
 use Rattle.btree.specs.Entries.{Ascend, find_entry}
-use Rattle.btree.specs.Reading.{ArePartOf, HasKey, IsPartBelow}
+use Rattle.btree.specs.Reading.{AreFoundIn, HasKey, IsFoundBelow}
 use Rattle.btree.specs.aid.Found.{split_got}
 use Rattle.btree.specs.aid.Leaving.{IsLeafFor, held_before, honest_before}
-use Rattle.btree.specs.aid.Order.{Below, ascend_none, ascend_seam, find_below, find_here}
+use Rattle.btree.specs.aid.Order.{Below, ascend_seam, find_below, find_here}
 use Rattle.btree.specs.aid.Seen.{LeadsOn, SeenCause}
 use Rattle.btree.specs.aid.Unchanged.{unchanged_reads}
 use Rattle.btree.specs.aid.Way.{BelongsHere, reached_ascends, reached_finds, way_ends}
@@ -51,31 +52,21 @@ module _ (w : Widths) (old mid new : Store) (root : ℕ) (key : List ℕ) (level
   leads_down child inner leads = goes_on_to w old mid new root key level page so_far same works child
       (λ honest. subst (λ (b : List ℕ). IsPage w Inner b × LeadsOn w b key child) (read honest) (inner, leads))
 
--- the keys of a map ascend
-pub map_ascends : (w : Widths) (store : Store) (root : ℕ) (pages : List ℕ) (es : List Item) → HoldsMap w store root pages es → Ascend es
-map_ascends w store root pages es (inl empty) = subst Ascend (sym empty.no_entry) ascend_none
-map_ascends w store root pages es (inr map) = map.ascending
+-- where a key belongs stands what the map has
+pub belongs_found : (es : List Item) (key : List ℕ) (here : List Item) (next : Option (List ℕ)) → BelongsHere es key here next → AreFoundIn here es
+belongs_found es key here next belongs k item got =
+    let front = belongs.before ++ take k here in
+    let back = drop (suc k) here ++ belongs.after in
+    let whole : es ≡ front ++ item ∷ back =
+    belongs.is ∙ ap (λ (fs : List Item). belongs.before ++ (fs ++ belongs.after)) (split_got here k item got)
+    ∙ ap (λ (fs : List Item). belongs.before ++ fs) (append_assoc (take k here) (item ∷ drop (suc k) here) belongs.after)
+    ∙ sym (append_assoc belongs.before (take k here) (item ∷ back)) in
+    let below : Below front item.0 = ascend_seam front item back (subst Ascend whole belongs.ascending) in
+    ap (λ (fs : List Item). find_entry fs item.0) whole ∙ find_below front (item ∷ back) item.0 below ∙ find_here item back
 
--- what stands in a part of entries that ascend is found among them
-pub find_part : (es here : List Item) (k : ℕ) (key value : List ℕ) → Ascend es → ArePartOf here es → slice_get here k ≡ Some (key, value) → find_entry es key ≡ Some value
-find_part es here k key value ascend part got =
-    let front = part.before ++ take k here in
-    let back = drop (suc k) here ++ part.after in
-    let whole : es ≡ front ++ (key, value) ∷ back =
-    part.is ∙ ap (λ (fs : List Item). part.before ++ (fs ++ part.after)) (split_got here k (key, value) got)
-    ∙ ap (λ (fs : List Item). part.before ++ fs) (append_assoc (take k here) ((key, value) ∷ drop (suc k) here) part.after)
-    ∙ sym (append_assoc part.before (take k here) ((key, value) ∷ back)) in
-    let below : Below front key = ascend_seam front (key, value) back (subst Ascend whole ascend) in
-    ap (λ (fs : List Item). find_entry fs key) whole ∙ find_below front ((key, value) ∷ back) key below ∙ find_here (key, value) back
-
-pub found_on : (w : Widths) (leaf : List ℕ) (place : ℕ) (key : List ℕ) → HasKey w leaf place key → (es : List Item) → Ascend es → ArePartOf (items_in w Leaf leaf) es
+pub found_on : (w : Widths) (leaf : List ℕ) (place : ℕ) (key : List ℕ) → HasKey w leaf place key → (es : List Item) → AreFoundIn (items_in w Leaf leaf) es
     → option_map (λ (e : Item). e.1) (slice_get (items_in w Leaf leaf) place) ≡ find_entry es key
-found_on w leaf place key h es ascend part =
-    ap (option_map (λ (e : Item). e.1)) h.got ∙ sym (find_part es (items_in w Leaf leaf) place key h.value ascend part h.got)
-
--- where a key belongs is a part
-pub belongs_part : (es : List Item) (key : List ℕ) (here : List Item) (next : Option (List ℕ)) → BelongsHere es key here next → ArePartOf here es
-belongs_part es key here next belongs = record { before = belongs.before; after = belongs.after; is = belongs.is }
+found_on w leaf place key h es found = ap (option_map (λ (e : Item). e.1)) h.got ∙ sym (found place (key, h.value) h.got)
 
 pub not_on : (w : Widths) (store : Store) (root : ℕ) (key leaf : List ℕ) → IsLeafFor w store root key leaf
     → (Ascend (items_in w Leaf leaf) → None ≡ find_entry (items_in w Leaf leaf) key) → (pages : List ℕ) (es : List Item) → HoldsMap w store root pages es → None ≡ find_entry es key
@@ -83,9 +74,13 @@ not_on w store root key leaf is none pages es holds =
     let (next, belongs) = is pages es holds in
     none (reached_ascends es key (items_in w Leaf leaf) next belongs) ∙ sym (reached_finds es key (items_in w Leaf leaf) next belongs)
 
--- after reads the leaf that was reached is a part
-pub part_reached : (w : Widths) (old new : Store) (root : ℕ) (leaf key : List ℕ) → IsUnchanged old new → StoreWorks old new → (IsTrue old.disk.honest → IsLeafFor w old root key leaf)
-    → IsPartBelow w new root leaf
-part_reached w old new root leaf key same works is = λ honest page pages es holds.
+-- so it is after reads
+pub found_after : (w : Widths) (old new : Store) (root : ℕ) (leaf key : List ℕ) → IsUnchanged old new → StoreWorks old new → (IsTrue old.disk.honest → IsLeafFor w old root key leaf)
+    → IsFoundBelow w new root leaf
+found_after w old new root leaf key same works is = λ honest page pages es holds.
     let (next, belongs) = is (honest_before old new works honest) pages es (held_before w old new root same works honest pages es holds) in
-    belongs_part es key (items_in w Leaf leaf) next belongs
+    belongs_found es key (items_in w Leaf leaf) next belongs
+
+-- bytes that begin with a zero are no leaf
+pub none_found_on : (w : Widths) (store : Store) (root : ℕ) (leaf : List ℕ) → slice_index leaf 0 ≡ 0 → IsFoundBelow w store root leaf
+none_found_on w store root leaf zeroed = λ honest page pages es holds. absurd (omega (arith, page.first, zeroed))

@@ -5,16 +5,16 @@ use Rattle.page_store.specs.Store.{Store}
 use Rattle.btree.specs.declared.page.kind.Kind.TheVariants.{Leaf}
 use Rattle.btree.specs.declared.find.reader.Reader.{Reader}
 use Rattle.btree.specs.Page.{items_in, count_in, IsPage}
-use Rattle.btree.specs.Reading.{IsPartBelow}
+use Rattle.btree.specs.Reading.{IsFoundBelow}
 
 -- it reads the same map
 pub record SameMap (old new : Reader) : Type 0 where
   pub widths : new.widths ≡ old.widths
   pub root : new.root ≡ old.root
 
--- what it has in memory is a part of its map in this store, as far as the disk is honest
+-- what it has in memory is found in its map in this store, as far as the disk is honest
 abbrev pub IsReading : Reader → Store → Type 0
-IsReading reader store = IsPartBelow reader.widths store reader.root reader.leaf
+IsReading reader store = IsFoundBelow reader.widths store reader.root reader.leaf
 
 -- it is at an entry
 pub record HasEntry (reader : Reader) : Type 0 where

@@ -92,6 +92,8 @@ fn table_on<P: Pages>(store: P, slot: TreeSlot, text: Vec<u8>) -> TreeTable<P>
         text,
         torn: false,
         seen: None,
+        in_row: false,
+        near: None,
     }
 }
 

@@ -6,6 +6,7 @@ pub mod Keys
 pub mod Last
 pub mod Lists
 pub mod Numbers
+pub mod Readers
 pub mod OneTable
 pub mod Slots
 pub mod Spelling

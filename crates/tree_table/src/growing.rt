@@ -30,6 +30,8 @@ impl<P: Pages> TreeTable<P> {
         ensures cause { IfErr result (GrowCause (work_in self.old).store (work_in self.new).store) }
     {
         self.seen = None;
+        self.in_row = false;
+        self.near = None;
         let torn = self.torn;
         self.torn = true;
         let result = self.store.grow(alloc, pages, root);

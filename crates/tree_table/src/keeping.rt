@@ -92,6 +92,8 @@ impl<P: Pages> TreeTable<P> {
             text,
             torn: false,
             seen: None,
+            in_row: false,
+            near: None,
         }
     }
 
@@ -112,6 +114,8 @@ impl<P: Pages> TreeTable<P> {
     {
         self.torn = true;
         self.seen = None;
+        self.in_row = false;
+        self.near = None;
         self.store.discard();
         self.slot = slot_or_bare(game);
         self.torn = false;
@@ -155,6 +159,8 @@ impl<P: Pages> TreeTable<P> {
         ensures cause { IfErr result (StoreCommitCause (work_in self.old).store (work_in self.new).store) }
     {
         self.seen = None;
+        self.in_row = false;
+        self.near = None;
         let torn = self.torn;
         self.torn = true;
         let result = commit(&mut self.store, commits, &self.slot);
@@ -211,6 +217,8 @@ impl<P: Pages> TreeTable<P> {
         ensures cause { IfErr result (StartCause (length text.items) (work_in self.old).store (work_in self.new).store) }
     {
         self.torn = true;
+        self.in_row = false;
+        self.near = None;
         let slot = load(alloc, &mut self.store, commits, &text, packing, goal, start)?;
         self.seen = None;
         self.slot = slot;

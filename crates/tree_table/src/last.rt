@@ -1,5 +1,5 @@
 //! The cell that was looked at or written last stays in memory: a unit of work asks for the same one several times.
-ghost use Rattle.std.specs.Prelude.{◌≡◌, ◌<◌, ◌↔◌, OnOk, IfErr, IsTrue};
+ghost use Rattle.std.specs.Prelude.{◌≡◌, ◌<◌, ◌↔◌, None, OnOk, IfErr, IsTrue};
 ghost use Rattle.retrograde.specs.Changes.{with_record};
 ghost use Rattle.table.specs.Faults.{NeedsNoPage};
 ghost use Rattle.tree_table.specs.Last.{HasSeen};
@@ -7,8 +7,9 @@ ghost use Rattle.tree_table.specs.Working.{table_now, IsHonestWork, WorkStays, W
 
 use crate::bytes::Cell;
 use crate::change::set_record;
-use crate::read::cell_at;
+use crate::read::cell_near;
 use crate::working::TreeTable;
+use btree::find::Reader;
 use page_store::Pages;
 use retrograde::Record;
 use table::TableFault;
@@ -18,6 +19,15 @@ use table::TableFault;
 pub struct Seen {
     pub number: u32,
     pub cell: Cell,
+}
+
+/// No reader is kept from now on; where none was, nothing is written.
+pub fn forget(near: &mut Option<Reader>)
+    ensures { near.new ≡ None }
+{
+    if near.is_some() {
+        *near = None;
+    }
 }
 
 impl<P: Pages> TreeTable<P> {
@@ -44,8 +54,10 @@ impl<P: Pages> TreeTable<P> {
         if self.has_seen(number) {
             return Ok(());
         }
-        let cell = cell_at(&mut self.store, &self.slot, number)?;
+        let follows = self.in_row && self.has_seen(number.wrapping_sub(1));
+        let cell = cell_near(&mut self.store, &self.slot, &mut self.near, follows, number)?;
         self.seen = Some(Seen { number, cell });
+        self.in_row = true;
         Ok(())
     }
 
@@ -66,6 +78,8 @@ impl<P: Pages> TreeTable<P> {
         };
         let torn = self.torn;
         self.torn = true;
+        self.in_row = false;
+        forget(&mut self.near);
         self.slot = set_record(&mut self.store, self.slot, number, &cell, kept)?;
         let Cell { position, .. } = cell;
         self.seen = Some(Seen {

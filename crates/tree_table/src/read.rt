@@ -1,5 +1,5 @@
 //! What a slot names is read.
-ghost use Rattle.std.specs.Prelude.{◌≡◌, ◌↔◌, ◌≤◌, ◌<◌, ℕ, List, Some, IfOk, IfErr, IfSome, IfNone, OnOk, IsTrue, length, slice_get};
+ghost use Rattle.std.specs.Prelude.{◌≡◌, ◌↔◌, ◌≤◌, ◌<◌, ℕ, List, Some, IfOk, IfErr, IfSome, IfNone, IsTrue, length, slice_get};
 ghost use Rattle.page_store.specs.Store.{Store, StoreWorks, IsUnchanged};
 ghost use Rattle.retrograde.specs.Edges.{IsAfter, IsNextEdge, HasNoMoreEdges};
 ghost use Rattle.retrograde.specs.Stored.{Stored, HasRecord};
@@ -9,8 +9,9 @@ ghost use Rattle.btree.specs.Answers.{found_bytes, found_entry};
 ghost use Rattle.btree.specs.Readers.{HasEntry, IsReading, found_here};
 ghost use Rattle.tree_table.specs.declared.slot.TreeSlot.{TreeSlot};
 ghost use Rattle.tree_table.specs.declared.tree.Tree.{Tree};
+ghost use Rattle.tree_table.specs.declared.tree.Tree.TheVariants.{Records};
 ghost use Rattle.tree_table.specs.Causes.{IsNoForest, IsNoTable, ReadCause};
-ghost use Rattle.tree_table.specs.Readers.{IsReaderOf};
+ghost use Rattle.tree_table.specs.Readers.{IsReaderOf, IsNear};
 ghost use Rattle.tree_table.specs.Working.{HasForest, HasTable};
 ghost use Rattle.position_pack.specs.declared.limits.TheConstants.{MAX_PACKED};
 
@@ -87,7 +88,7 @@ pub fn find_key<P: Pages>(
 ) -> Result<bool, TableFault>
     requires { IsReading reader.old (P.store store.old) }
     ensures of { (slot : TreeSlot) (tree : Tree) → IsReaderOf slot tree reader.old → IsReaderOf slot tree reader.new }
-    ensures reading { OnOk result (IsReading reader.new (P.store store.new)) }
+    ensures reading { IsReading reader.new (P.store store.new) }
     ensures at { IfOk result (λ found. IsTrue found → HasEntry reader.new) }
     ensures found { (slot : TreeSlot) (tree : Tree) → IsReaderOf slot tree reader.old
         → IsTrue (P.store store.old).disk.honest → (text : List ℕ) (entries : Tree → List Item)
@@ -127,6 +128,75 @@ pub fn cell_at<P: Pages>(store: &mut P, slot: &TreeSlot, number: u32) -> Result<
     match cell_in(&value, slot.sizes.packed) {
         Some(cell) => Ok(cell),
         None => Err(TableFault::Damaged),
+    }
+}
+
+/// The position with a number, and its record, by a reader of the records.
+fn cell_by<P: Pages>(
+    store: &mut P,
+    slot: &TreeSlot,
+    reader: &mut Reader,
+    number: u32,
+) -> Result<Cell, TableFault>
+    requires short { slot.now.sizes.packed ≤ MAX_PACKED }
+    requires known { number < slot.now.sizes.counts.known }
+    requires of { IsReaderOf slot.now Records reader.old }
+    requires reading { IsReading reader.old (P.store store.old) }
+    ensures of { IsReaderOf slot.now Records reader.new }
+    ensures reading { IsReading reader.new (P.store store.new) }
+    ensures position { IsTrue (P.store store.old).disk.honest → (text : List ℕ) (table : Stored (List ℕ))
+        → HasTable slot.now text table (P.store store.old)
+        → IfOk result (λ cell. slice_get table.positions number ≡ Some cell.position.items) }
+    ensures kept { IsTrue (P.store store.old).disk.honest → (text : List ℕ) (table : Stored (List ℕ))
+        → HasTable slot.now text table (P.store store.old)
+        → IfOk result (λ cell. HasRecord table number cell.kept) }
+    ensures long { IfOk result (λ cell. length cell.position.items ≡ slot.now.sizes.packed) }
+    ensures unchanged { IsUnchanged (P.store store.old) (P.store store.new) }
+    ensures works { StoreWorks (P.store store.old) (P.store store.new) }
+    ensures cause { IfErr result (ReadCause IsNoTable slot.now (P.store store.old) (P.store store.new)) }
+{
+    if !find_key(store, reader, &number_key(number))? {
+        return Err(TableFault::Damaged);
+    }
+    match cell_in(reader.value(), slot.sizes.packed) {
+        Some(cell) => Ok(cell),
+        None => Err(TableFault::Damaged),
+    }
+}
+
+/// The position with a number, and its record; where the number follows the one before, by a reader, which is made if there is none.
+pub fn cell_near<P: Pages>(
+    store: &mut P,
+    slot: &TreeSlot,
+    near: &mut Option<Reader>,
+    follows: bool,
+    number: u32,
+) -> Result<Cell, TableFault>
+    requires some { 1 ≤ slot.now.sizes.packed }
+    requires short { slot.now.sizes.packed ≤ MAX_PACKED }
+    requires known { number < slot.now.sizes.counts.known }
+    requires near { IsNear slot.now (P.store store.old) near.old }
+    ensures near { IsNear slot.now (P.store store.new) near.new }
+    ensures position { IsTrue (P.store store.old).disk.honest → (text : List ℕ) (table : Stored (List ℕ))
+        → HasTable slot.now text table (P.store store.old)
+        → IfOk result (λ cell. slice_get table.positions number ≡ Some cell.position.items) }
+    ensures kept { IsTrue (P.store store.old).disk.honest → (text : List ℕ) (table : Stored (List ℕ))
+        → HasTable slot.now text table (P.store store.old)
+        → IfOk result (λ cell. HasRecord table number cell.kept) }
+    ensures long { IfOk result (λ cell. length cell.position.items ≡ slot.now.sizes.packed) }
+    ensures unchanged { IsUnchanged (P.store store.old) (P.store store.new) }
+    ensures works { StoreWorks (P.store store.old) (P.store store.new) }
+    ensures cause { IfErr result (ReadCause IsNoTable slot.now (P.store store.old) (P.store store.new)) }
+{
+    if !follows {
+        return cell_at(store, slot, number);
+    }
+    match near {
+        Some(reader) => cell_by(store, slot, reader, number),
+        None => {
+            *near = Some(reader_of(slot, Tree::Records));
+            cell_at(store, slot, number)
+        }
     }
 }
 

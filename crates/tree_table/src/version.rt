@@ -29,6 +29,8 @@ impl<P: Pages> TreeTable<P> {
         ensures torn { (work_in self.new).torn ≡ (work_in self.old).torn }
     {
         self.seen = None;
+        self.in_row = false;
+        self.near = None;
         self.store.hold()
     }
 
@@ -40,6 +42,8 @@ impl<P: Pages> TreeTable<P> {
         ensures torn { (work_in self.new).torn ≡ (work_in self.old).torn }
     {
         self.seen = None;
+        self.in_row = false;
+        self.near = None;
         self.store.let_go(hold);
     }
 

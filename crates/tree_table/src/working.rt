@@ -3,6 +3,8 @@ ghost use Rattle.std.specs.Prelude.{◌≡◌, ◌↔◌, ◌≤◌, ◌^◌, []
 ghost use Rattle.tree_table.specs.Working.{HoldsWork, IsHonestWork, bare_slot as bare, table_now, work_of};
 ghost use Rattle.tree_table.specs.Last.{IsLastSeen};
 ghost use Rattle.tree_table.specs.aid.Last.{long_prop, last_prop};
+ghost use Rattle.tree_table.specs.Readers.{IsNear};
+ghost use Rattle.tree_table.specs.aid.Readers.{near_prop};
 ghost use Rattle.table.specs.Records.{nothing};
 ghost use Rattle.tree_table.specs.Working as work;
 ghost use Rattle.tree_table.specs.aid.Frames as frames;
@@ -12,9 +14,10 @@ ghost use Rattle.rbg_game.specs.declared.limits.TheConstants.{MAX_POINTS};
 use crate::bytes::position_of;
 use crate::change::{add_edge, add_position, push_settled};
 use crate::keeping::bare_slot;
-use crate::last::Seen;
+use crate::last::{Seen, forget};
 use crate::read::{edge_after, number_of, settled_at};
 use crate::slot::TreeSlot;
+use btree::find::Reader;
 use page_store::Pages;
 use position_pack::Packed;
 use retrograde::{Counts, Record};
@@ -34,6 +37,10 @@ pub struct TreeTable<P: Pages> {
     pub torn: bool,
     /// The cell that was looked at or written last, so that it need not be looked for again.
     pub seen: Option<Seen>,
+    /// Nothing was written since that cell was looked at.
+    pub in_row: bool,
+    /// A reader of the records, if cells were looked at one after another.
+    pub near: Option<Reader>,
     ghost some: { 1 ≤ slot.sizes.packed },
     ghost short: { slot.sizes.packed ≤ MAX_PACKED },
     ghost few: { slot.sizes.counts.known ≤ 2 ^ 24 },
@@ -42,6 +49,7 @@ pub struct TreeTable<P: Pages> {
         → ∥ HoldsWork (work_of slot text.items torn (P.store store)) ∥₁ },
     ghost long: { IfSome seen (λ s. length s.cell.position.items ≡ slot.sizes.packed) } by { long_prop seen slot.sizes.packed },
     ghost last: { IsLastSeen (work_of slot text.items torn (P.store store)) seen } by { last_prop seen (work_of slot text.items torn (P.store store)) },
+    ghost reads: { IsNear slot (P.store store) near } by { near_prop slot (P.store store) near },
 }
 
 impl<P: Pages> TreeTable<P> {
@@ -61,6 +69,8 @@ impl<P: Pages> TreeTable<P> {
             text: Vec::new(alloc),
             torn: false,
             seen: None,
+            in_row: false,
+            near: None,
         }
     }
 }
@@ -126,6 +136,8 @@ impl<P: Pages> Table for TreeTable<P> {
         let number = self.slot.sizes.counts.known;
         let torn = self.torn;
         self.torn = true;
+        self.in_row = false;
+        forget(&mut self.near);
         self.slot = add_position(&mut self.store, self.slot, packed)?;
         self.torn = torn;
         Ok(number)
@@ -139,6 +151,8 @@ impl<P: Pages> Table for TreeTable<P> {
     fn add_edge(&mut self, successor: u32, predecessor: u32) -> Result<(), TableFault> {
         let torn = self.torn;
         self.torn = true;
+        self.in_row = false;
+        forget(&mut self.near);
         self.slot = add_edge(&mut self.store, self.slot, successor, predecessor)?;
         self.torn = torn;
         Ok(())
@@ -151,6 +165,8 @@ impl<P: Pages> Table for TreeTable<P> {
     fn push_settled(&mut self, number: u32) -> Result<(), TableFault> {
         let torn = self.torn;
         self.torn = true;
+        self.in_row = false;
+        forget(&mut self.near);
         self.slot = push_settled(&mut self.store, self.slot, number)?;
         self.torn = torn;
         Ok(())

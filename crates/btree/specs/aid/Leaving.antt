@@ -1,6 +1,7 @@
 -- The leaf where a key belongs, and what a reader has after other reads.
-use Rattle.std.specs.Prelude.{ℕ, Bool, List, Option, length, IsTrue}
+use Rattle.std.specs.Prelude.{◌≡◌, ℕ, Bool, List, Option, Some, length, IsTrue}
 use Rattle.std.proofs.Common.{subst}
+use denote.Struct.Props.{props}
 use Rattle.page_store.specs.declared.marks.Mark.{Mark}
 use Rattle.page_store.specs.Store.{Store, reads, StoreWorks, IsUnchanged}
 use Rattle.btree.specs.declared.page.kind.Kind.TheVariants.{Leaf}
@@ -8,6 +9,7 @@ use Rattle.btree.specs.declared.page.widths.Widths.{Widths}
 use Rattle.btree.specs.declared.find.reader.Reader.{Reader}
 use Rattle.btree.specs.Page.{Item, items_in}
 use Rattle.btree.specs.Changes.{HoldsMap}
+use Rattle.btree.specs.Entries.{find_entry}
 use Rattle.btree.specs.Readers.{IsReading}
 use Rattle.btree.specs.Tree.{IsMap}
 use Rattle.btree.specs.aid.Unchanged.{unchanged_reads}
@@ -29,7 +31,15 @@ held_before w old new root same works honest pages es holds =
     subst (λ (ms : List Mark). IsMap w (length ms) root pages es (reads old)) same.marks
     (subst (λ (bytes : ℕ → List ℕ). IsMap w (length new.marks) root pages es bytes) (unchanged_reads old new (honest_before old new works honest) same) holds)
 
--- what a reader has in memory stays a part of its map over other reads
+-- what a reader has in memory is found in its map after other reads too
 pub reading_stays : (reader : Reader) (old new : Store) → StoreWorks old new → IsUnchanged old new → IsReading reader old → IsReading reader new
 reading_stays reader old new works same reading = λ honest page pages es holds.
     reading (honest_before old new works honest) page pages es (held_before reader.widths old new reader.root same works honest pages es holds)
+
+answer_prop : (o p : Option (List ℕ)) → IsProp (o ≡ p)
+answer_prop o p = hlevel props
+
+-- that it is found there is a fact
+pub reading_prop : (reader : Reader) (store : Store) → IsProp (IsReading reader store)
+reading_prop reader store f g = λ i honest page pages es holds k item got.
+    answer_prop (find_entry es item.0) (Some item.1) (f honest page pages es holds k item got) (g honest page pages es holds k item got) i

@@ -1,5 +1,5 @@
 //! A map is asked for one key after another: the leaf that was reached last stays in memory.
-ghost use Rattle.std.specs.Prelude.{◌≡◌, ◌≢◌, ◌↔◌, ℕ, List, Some, None, true, OnOk, OnSome, IfOk, IfErr, IfSome, IfNone, IsTrue};
+ghost use Rattle.std.specs.Prelude.{◌≡◌, ◌≢◌, ◌↔◌, ℕ, List, Some, None, true, OnOk, OnErr, OnSome, IfOk, IfErr, IfSome, IfNone, IsTrue, slice_index};
 ghost use Rattle.page_store.specs.Store.{Store, StoreWorks, IsUnchanged};
 ghost use Rattle.btree.specs.declared.page.kind.Kind.TheVariants.{Leaf};
 ghost use Rattle.btree.specs.Page.{Item, items_in, IsPage};
@@ -26,7 +26,7 @@ pub struct Reader {
 }
 
 /// Comes down from this root to the leaf where the key belongs.
-fn reach_leaf<P: Pages>(
+fn go_down<P: Pages>(
     store: &mut P,
     widths: Widths,
     root: u32,
@@ -50,6 +50,31 @@ fn reach_leaf<P: Pages>(
         }
     }
     Err(PageFault::Damaged)
+}
+
+/// The same; after a refusal there is no page of a tree.
+fn reach_leaf<P: Pages>(
+    store: &mut P,
+    widths: Widths,
+    root: u32,
+    key: &[u8],
+    leaf: &mut [u8; 4096],
+) -> Result<(), PageFault>
+    requires { root ≢ 0 }
+    ensures page { OnOk result (IsPage widths Leaf leaf.new) }
+    ensures none { OnErr result (slice_index leaf.new 0 ≡ 0) }
+    ensures belongs { IsTrue (P.store store.old).disk.honest → OnOk result (IsLeafFor widths (P.store store.old) root key.now leaf.new) }
+    ensures unchanged { IsUnchanged (P.store store.old) (P.store store.new) }
+    ensures works { StoreWorks (P.store store.old) (P.store store.new) }
+    ensures cause { IfErr result (MapReadCause widths root (P.store store.old) (P.store store.new)) }
+{
+    match go_down(store, widths, root, key, leaf) {
+        Ok(()) => Ok(()),
+        Err(fault) => {
+            leaf[0] = 0;
+            Err(fault)
+        }
+    }
 }
 
 /// Whether a leaf has this key at this place.
@@ -119,7 +144,7 @@ impl Reader {
     pub fn find<P: Pages>(&mut self, store: &mut P, key: &[u8]) -> Result<bool, PageFault>
         requires { IsReading self.old (P.store store.old) }
         ensures map { SameMap self.old self.new }
-        ensures reading { OnOk result (IsReading self.new (P.store store.new)) }
+        ensures reading { IsReading self.new (P.store store.new) }
         ensures at { IfOk result (λ found. IsTrue found → HasEntry self.new) }
         ensures found { IsTrue (P.store store.old).disk.honest → IfOk result (λ found. (pages : List ℕ) (es : List Item)
             → HoldsMap self.old.widths (P.store store.old) self.old.root pages es → found_here found self.new ≡ find_entry es key.now) }

@@ -5,6 +5,7 @@ use Rattle.earlier_layouts.proofs.copying.table_on.Goals as goal
 
 pub invariant_of-result : goal.invariant_of-result
 invariant_of-result g c = record {
+  reads = tt;
   some = c.requires.sized.some;
   short = c.requires.sized.short;
   few = c.requires.sized.few;

@@ -16,6 +16,7 @@ invariant_of-result g c =
     let none : 0 ≤ 1000000 = omega arith in
     let is : bare_slot c.args.packed ≡ c.bare_slot.result = sym c.bare_slot.ensures in
     record {
+      reads = tt;
       some = subst (λ (s : TreeSlot). 1 ≤ s.sizes.packed) is c.requires.some;
       short = subst (λ (s : TreeSlot). s.sizes.packed ≤ 240) is c.requires.short;
       few = subst (λ (s : TreeSlot). s.sizes.counts.known ≤ 2 ^ 24) is few;

@@ -13,6 +13,7 @@ invariant_of-self g c =
     let new = g.P.Pages.store c.grow-result.new.self in
     let told = c.grow-result.ensures in
     record {
+      reads = tt;
       some = self.some;
       short = self.short;
       few = self.few;

@@ -5,6 +5,7 @@ pub invariant_of-self : goal.invariant_of-self
 invariant_of-self g c =
     let self = c.args.self.now in
     record {
+      reads = tt;
       some = self.some;
       short = self.short;
       few = self.few;

@@ -2,6 +2,7 @@ use Rattle.tree_table.specs.Working.{work_of}
 use Rattle.tree_table.proofs.Faults.{passed_on}
 use Rattle.tree_table.proofs.Holding.{only_read, still_held, still_seen}
 use Rattle.tree_table.proofs.Versions.{version_there}
+use Rattle.tree_table.specs.aid.Readers.{near_stays}
 use Rattle.tree_table.proofs.working.TreeTable.kept_record.Goals as goal
 
 pub invariant_of-self : goal.invariant_of-self
@@ -11,6 +12,7 @@ invariant_of-self g c =
     let new = g.P.Pages.store c.cell_at.new.store in
     let stays = only_read self.slot self.text.items self.torn old new c.cell_at.ensures.works c.cell_at.ensures.unchanged in
     record {
+      reads = near_stays self.slot old new self.near c.cell_at.ensures.works c.cell_at.ensures.unchanged self.reads;
       some = self.some;
       short = self.short;
       few = self.few;

@@ -19,6 +19,7 @@ invariant_of-self g c =
     let still = discarded_still old new c.discard.ensures.marks c.discard.ensures.others in
     let calm = discarded_calm old new c.discard.ensures.marks c.requires.sealed in
     record {
+      reads = tt;
       some = sized.some;
       short = sized.short;
       few = sized.few;

@@ -15,6 +15,7 @@ invariant_of-self g c =
     let new = g.P.Pages.store c.commit-result.new.store in
     let told = c.commit-result.ensures in
     record {
+      reads = tt;
       some = self.some;
       short = self.short;
       few = self.few;

@@ -18,9 +18,10 @@ pub invariant_of-self : goal.invariant_of-self
 invariant_of-self g c =
     let self = c.args.self.now in
     let old = work_of self.slot self.text.items self.torn (g.P.Pages.store self.store) in
-    let new = work_of self.slot self.text.items self.torn (g.P.Pages.store c.cell_at.new.store) in
-    let stays = only_read self.slot self.text.items self.torn old.store new.store c.cell_at.ensures.works c.cell_at.ensures.unchanged in
+    let new = work_of self.slot self.text.items self.torn (g.P.Pages.store c.cell_near.new.store) in
+    let stays = only_read self.slot self.text.items self.torn old.store new.store c.cell_near.ensures.works c.cell_near.ensures.unchanged in
     record {
+      reads = c.cell_near.ensures.near;
       some = self.some;
       short = self.short;
       few = self.few;
@@ -34,21 +35,22 @@ pub returns-in_err-cell-clause-fault : goal.returns-in_err-cell-clause-fault
 returns-in_err-cell-clause-fault g c =
     let self = c.args.self.now in
     let old = g.P.Pages.store self.store in
-    let new = g.P.Pages.store c.cell_at.new.store in
+    let new = g.P.Pages.store c.cell_near.new.store in
     passed_on _ c.from_residual.result _ c.from_residual.ensures
     (read_fails_so (work_of self.slot self.text.items self.torn old) (work_of self.slot self.text.items self.torn new) _
-    (only_read self.slot self.text.items self.torn old new c.cell_at.ensures.works c.cell_at.ensures.unchanged) c.in_err-cell.ensures.cause)
+    (only_read self.slot self.text.items self.torn old new c.cell_near.ensures.works c.cell_near.ensures.unchanged) c.in_err-cell.ensures.cause)
 
 pub invariant_of-self-2 : goal.invariant_of-self-2
 invariant_of-self-2 g c =
     let self = c.args.self.now in
     let old = work_of self.slot self.text.items self.torn (g.P.Pages.store self.store) in
-    let new = work_of self.slot self.text.items self.torn (g.P.Pages.store c.cell_at.new.store) in
+    let new = work_of self.slot self.text.items self.torn (g.P.Pages.store c.cell_near.new.store) in
     let found = c.in_ok-cell.ensures in
     let cell = c.in_ok-cell.cell in
     let seen : Seen = record { number = c.args.number; cell = cell } in
     let stays = only_read self.slot self.text.items self.torn old.store new.store found.works found.unchanged in
     record {
+      reads = c.cell_near.ensures.near;
       some = self.some;
       short = self.short;
       few = self.few;

@@ -1,4 +1,6 @@
-use Rattle.std.proofs.Common.{◌≡◌, ◌≤◌, ◌^◌, ℕ, List, length, refl, sym, ◌∙◌, subst, arith}
+use Rattle.std.proofs.Common.{◌≡◌, ◌≤◌, ◌^◌, ℕ, List, length, refl, sym, ◌∙◌, subst, arith, true, false, Option}
+use Rattle.btree.specs.declared.find.reader.Reader.{Reader}
+use Rattle.tree_table.specs.Readers.{IsNear}
 use Rattle.std.specs.Option.{IfSome}
 use Rattle.retrograde.specs.Changes.{with_record}
 use Rattle.retrograde.specs.Stored.{Stored}
@@ -24,6 +26,7 @@ invariant_of-self-2 g c =
     λ honest h. done.table honest.disk text (table_now old) h (was honest).0 (was honest).1 in
     let seen : Seen = record { number = c.args.number; cell = record { position = c.in-Some.field-0.cell.position; kept = c.args.kept } } in
     record {
+      reads = subst (λ (near : Option Reader). IsNear c.in_ok-self.field-0 (g.P.Pages.store c.set_record.new.store) near) (sym c.forget.ensures) tt;
       some = omega (arith, self.some, done.slot.packed);
       short = omega (arith, self.short, done.slot.packed);
       few = few;
@@ -63,3 +66,17 @@ returns-clause-ahead g c =
     let changed : IsHonestWork old → HoldsWork old → HoldsTable c.in_ok-self.field-0 text now (g.P.Pages.store c.set_record.new.store) =
     λ honest h. done.table honest.disk text (table_now old) h (was honest).0 (was honest).1 in
     now_goes_on old new now few done.works refl refl changed done.open done.slot.text done.slot.packing done.slot.goal
+
+pub invariant_of-self : goal.invariant_of-self
+invariant_of-self g c =
+    let self = c.args.self.now in
+    record {
+      some = self.some;
+      short = self.short;
+      few = self.few;
+      points = self.points;
+      holds = λ honest. let never : true ≡ false = honest.whole in absurd (cc);
+      long = subst (λ (o : Option Seen). IfSome o (λ s. length s.cell.position.items ≡ self.slot.sizes.packed)) (sym c.take.ensures.after) tt;
+      last = λ honest. let never : true ≡ false = honest.whole in absurd (cc);
+      reads = subst (λ (near : Option Reader). IsNear self.slot (g.P.Pages.store c.set_record.new.store) near) (sym c.forget.ensures) tt;
+    }

@@ -14,6 +14,7 @@ invariant_of-result g c =
     let is : slot_or_bare game ≡ c.slot_or_bare.result = sym c.slot_or_bare.ensures in
     let sized : IsSizedSlot c.slot_or_bare.result = subst IsSizedSlot is (sized_slot game c.requires.sized) in
     record {
+      reads = tt;
       some = sized.some;
       short = sized.short;
       few = sized.few;

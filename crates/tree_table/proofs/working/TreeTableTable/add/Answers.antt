@@ -1,4 +1,6 @@
-use Rattle.std.proofs.Common.{◌≤◌, ◌^◌, refl, arith, ◌≡◌, ℕ, length, sym, subst}
+use Rattle.std.proofs.Common.{◌≤◌, ◌^◌, refl, arith, ◌≡◌, ℕ, length, sym, subst, true, false, Option}
+use Rattle.btree.specs.declared.find.reader.Reader.{Reader}
+use Rattle.tree_table.specs.Readers.{IsNear}
 use Rattle.retrograde.specs.Changes.{with_position}
 use Rattle.tree_table.specs.Working.{work_of, table_now, HoldsTable, HoldsWork, IsHonestWork}
 use Rattle.tree_table.specs.aid.Frames.{memory_fails, stays_goes_on, stays_here}
@@ -22,6 +24,7 @@ invariant_of-self-2 g c =
     let changed : IsHonestWork old → HoldsWork old → HoldsTable c.in_ok-self.field-0 text now (g.P.Pages.store c.add_position.new.store) =
     λ honest h. done.table honest.disk text (table_now old) h (c.requires.unknown honest) in
     record {
+      reads = subst (λ (near : Option Reader). IsNear c.in_ok-self.field-0 (g.P.Pages.store c.add_position.new.store) near) (sym c.forget.ensures) tt;
       some = omega (arith, self.some, done.slot.packed);
       short = omega (arith, self.short, done.slot.packed);
       few = few;
@@ -56,3 +59,17 @@ returns-clause-ahead g c =
     let changed : IsHonestWork old → HoldsWork old → HoldsTable c.in_ok-self.field-0 text now (g.P.Pages.store c.add_position.new.store) =
     λ honest h. done.table honest.disk text (table_now old) h (c.requires.unknown honest) in
     now_goes_on old new now few done.works refl refl changed done.open done.slot.text done.slot.packing done.slot.goal
+
+pub invariant_of-self : goal.invariant_of-self
+invariant_of-self g c =
+    let self = c.args.self.now in
+    record {
+      some = self.some;
+      short = self.short;
+      few = self.few;
+      points = self.points;
+      holds = λ honest. let never : true ≡ false = honest.whole in absurd (cc);
+      long = self.long;
+      last = λ honest. let never : true ≡ false = honest.whole in absurd (cc);
+      reads = subst (λ (near : Option Reader). IsNear self.slot (g.P.Pages.store c.add_position.new.store) near) (sym c.forget.ensures) tt;
+    }

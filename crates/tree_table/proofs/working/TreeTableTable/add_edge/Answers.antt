@@ -1,4 +1,6 @@
-use Rattle.std.proofs.Common.{◌≤◌, ◌^◌, refl, sym, subst, arith, ◌≡◌, ℕ, length}
+use Rattle.std.proofs.Common.{◌≤◌, ◌^◌, refl, sym, subst, arith, ◌≡◌, ℕ, length, true, false, Option}
+use Rattle.btree.specs.declared.find.reader.Reader.{Reader}
+use Rattle.tree_table.specs.Readers.{IsNear}
 use Rattle.retrograde.specs.declared.records.Counts.{Counts}
 use Rattle.retrograde.specs.Changes.{with_edge}
 use Rattle.tree_table.specs.Working.{work_of, table_now, HoldsTable, HoldsWork, IsHonestWork}
@@ -19,6 +21,7 @@ invariant_of-self-2 g c =
     let changed : IsHonestWork old → HoldsWork old → HoldsTable c.in_ok-self.field-0 text now (g.P.Pages.store c.add_edge.new.store) =
     λ honest h. done.table honest.disk text (table_now old) h in
     record {
+      reads = subst (λ (near : Option Reader). IsNear c.in_ok-self.field-0 (g.P.Pages.store c.add_edge.new.store) near) (sym c.forget.ensures) tt;
       some = omega (arith, self.some, done.slot.packed);
       short = omega (arith, self.short, done.slot.packed);
       few = few;
@@ -53,3 +56,17 @@ returns-clause-ahead g c =
     let changed : IsHonestWork old → HoldsWork old → HoldsTable c.in_ok-self.field-0 text now (g.P.Pages.store c.add_edge.new.store) =
     λ honest h. done.table honest.disk text (table_now old) h in
     now_goes_on old new now few done.works refl refl changed done.open done.slot.text done.slot.packing done.slot.goal
+
+pub invariant_of-self : goal.invariant_of-self
+invariant_of-self g c =
+    let self = c.args.self.now in
+    record {
+      some = self.some;
+      short = self.short;
+      few = self.few;
+      points = self.points;
+      holds = λ honest. let never : true ≡ false = honest.whole in absurd (cc);
+      long = self.long;
+      last = λ honest. let never : true ≡ false = honest.whole in absurd (cc);
+      reads = subst (λ (near : Option Reader). IsNear self.slot (g.P.Pages.store c.add_edge.new.store) near) (sym c.forget.ensures) tt;
+    }

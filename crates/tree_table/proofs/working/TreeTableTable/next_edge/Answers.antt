@@ -3,6 +3,7 @@ use Rattle.tree_table.specs.Working.{work_of, table_now, work_there, HoldsWork}
 use Rattle.tree_table.proofs.Holding.{only_read, still_held, still_seen, read_refused, read_without_page, ok_prop, none_prop}
 use Rattle.tree_table.specs.aid.Last.{if_prop}
 use Rattle.tree_table.proofs.Holding.{next_prop, no_more_prop}
+use Rattle.tree_table.specs.aid.Readers.{near_stays}
 use Rattle.tree_table.proofs.working.TreeTableTable.next_edge.Goals as goal
 
 pub invariant_of-self : goal.invariant_of-self
@@ -12,6 +13,7 @@ invariant_of-self g c =
     let new = g.P.Pages.store c.edge_after.new.store in
     let stays = only_read self.slot self.text.items self.torn old new c.edge_after.ensures.works c.edge_after.ensures.unchanged in
     record {
+      reads = near_stays self.slot old new self.near c.edge_after.ensures.works c.edge_after.ensures.unchanged self.reads;
       some = self.some;
       short = self.short;
       few = self.few;

@@ -5,6 +5,7 @@ use Rattle.tree_table.specs.Working.{work_of, table_now, work_there, HoldsWork}
 use Rattle.tree_table.proofs.Holding.{only_read, still_held, still_seen, read_refused, read_without_page, ok_prop, none_prop}
 use Rattle.tree_table.specs.aid.Last.{if_prop, position_prop}
 use denote.Struct.Props.{props}
+use Rattle.tree_table.specs.aid.Readers.{near_stays}
 use Rattle.tree_table.proofs.working.TreeTableTable.number_of.Goals as goal
 
 pub invariant_of-self : goal.invariant_of-self
@@ -14,6 +15,7 @@ invariant_of-self g c =
     let new = g.P.Pages.store c.number_of.new.store in
     let stays = only_read self.slot self.text.items self.torn old new c.number_of.ensures.works c.number_of.ensures.unchanged in
     record {
+      reads = near_stays self.slot old new self.near c.number_of.ensures.works c.number_of.ensures.unchanged self.reads;
       some = self.some;
       short = self.short;
       few = self.few;

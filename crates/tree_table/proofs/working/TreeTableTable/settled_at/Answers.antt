@@ -3,6 +3,7 @@ use mathlib.Core.Logic.{∥∥₁_elim}
 use Rattle.std.specs.Prelude.{slice_get}
 use Rattle.tree_table.specs.Working.{work_of, table_now, work_there, HoldsWork}
 use Rattle.tree_table.proofs.Holding.{only_read, still_held, still_seen, read_refused, read_without_page, number_prop, ok_prop}
+use Rattle.tree_table.specs.aid.Readers.{near_stays}
 use Rattle.tree_table.proofs.working.TreeTableTable.settled_at.Goals as goal
 
 pub invariant_of-self : goal.invariant_of-self
@@ -12,6 +13,7 @@ invariant_of-self g c =
     let new = g.P.Pages.store c.settled_at.new.store in
     let stays = only_read self.slot self.text.items self.torn old new c.settled_at.ensures.works c.settled_at.ensures.unchanged in
     record {
+      reads = near_stays self.slot old new self.near c.settled_at.ensures.works c.settled_at.ensures.unchanged self.reads;
       some = self.some;
       short = self.short;
       few = self.few;

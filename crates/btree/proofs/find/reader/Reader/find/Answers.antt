@@ -1,6 +1,6 @@
 use Rattle.page_store.specs.aid.Works.{works_refl}
 use Rattle.btree.proofs.Asking.{none_found}
-use Rattle.btree.proofs.Reading.{belongs_part, found_on, map_ascends, not_on, part_reached}
+use Rattle.btree.proofs.Reading.{belongs_found, found_after, found_on, none_found_on, not_on}
 use Rattle.btree.proofs.find.reader.Reader.find.Goals as goal
 
 pub returns-then-self-eq0-clause-found : goal.returns-then-self-eq0-clause-found
@@ -12,7 +12,6 @@ returns-then-self-eq0-clause-works g c = works_refl (g.P.Pages.store c.args.stor
 pub returns-in-Some-clause-found : goal.returns-in-Some-clause-found
 returns-in-Some-clause-found g c = λ honest pages es holds.
     found_on c.args.self.now.widths c.args.self.now.leaf c.in-Some.place c.args.key.now c.in-Some.ensures.some es
-    (map_ascends c.args.self.now.widths (g.P.Pages.store c.args.store.now) c.args.self.now.root pages es holds)
     (c.requires honest c.in-Some.ensures.page pages es holds)
 
 pub returns-in-Some-clause-works : goal.returns-in-Some-clause-works
@@ -20,22 +19,25 @@ returns-in-Some-clause-works g c = works_refl (g.P.Pages.store c.args.store.now)
 
 pub returns-in-Some-place_in-clause-reading : goal.returns-in-Some-place_in-clause-reading
 returns-in-Some-place_in-clause-reading g c =
-    part_reached c.args.self.now.widths (g.P.Pages.store c.args.store.now) (g.P.Pages.store c.reach_leaf.new.store) c.args.self.now.root c.reach_leaf.new.leaf c.args.key.now
+    found_after c.args.self.now.widths (g.P.Pages.store c.args.store.now) (g.P.Pages.store c.reach_leaf.new.store) c.args.self.now.root c.reach_leaf.new.leaf c.args.key.now
     c.in_ok-reach_leaf.ensures.unchanged c.in_ok-reach_leaf.ensures.works c.in_ok-reach_leaf.ensures.belongs
 
 pub returns-in-Some-place_in-clause-found : goal.returns-in-Some-place_in-clause-found
 returns-in-Some-place_in-clause-found g c = λ honest pages es holds.
     let (next, belongs) = c.in_ok-reach_leaf.ensures.belongs honest pages es holds in
     found_on c.args.self.now.widths c.reach_leaf.new.leaf c.in-Some-place_in.place c.args.key.now c.in-Some-place_in.ensures.some es
-    (map_ascends c.args.self.now.widths (g.P.Pages.store c.args.store.now) c.args.self.now.root pages es holds)
-    (belongs_part es c.args.key.now _ next belongs)
+    (belongs_found es c.args.key.now _ next belongs)
 
 pub returns-in-None-clause-reading : goal.returns-in-None-clause-reading
 returns-in-None-clause-reading g c =
-    part_reached c.args.self.now.widths (g.P.Pages.store c.args.store.now) (g.P.Pages.store c.reach_leaf.new.store) c.args.self.now.root c.reach_leaf.new.leaf c.args.key.now
+    found_after c.args.self.now.widths (g.P.Pages.store c.args.store.now) (g.P.Pages.store c.reach_leaf.new.store) c.args.self.now.root c.reach_leaf.new.leaf c.args.key.now
     c.in_ok-reach_leaf.ensures.unchanged c.in_ok-reach_leaf.ensures.works c.in_ok-reach_leaf.ensures.belongs
 
 pub returns-in-None-clause-found : goal.returns-in-None-clause-found
 returns-in-None-clause-found g c = λ honest.
     not_on c.args.self.now.widths (g.P.Pages.store c.args.store.now) c.args.self.now.root c.args.key.now c.reach_leaf.new.leaf
     (c.in_ok-reach_leaf.ensures.belongs honest) c.in-None.ensures.none
+
+pub returns-in_err-reach_leaf-clause-reading : goal.returns-in_err-reach_leaf-clause-reading
+returns-in_err-reach_leaf-clause-reading g c =
+    none_found_on c.args.self.now.widths (g.P.Pages.store c.reach_leaf.new.store) c.args.self.now.root c.reach_leaf.new.leaf c.in_err-reach_leaf.ensures.none

@@ -1,5 +1,5 @@
 use Rattle.btree.proofs.Going.{IsGoing}
-use Rattle.btree.proofs.find.reader.reach_leaf.Given as goal
+use Rattle.btree.proofs.find.reader.go_down.Given as goal
 
 abbrev pub invariant-loop : goal.invariant-loop
 invariant-loop g l = IsGoing l.fn.widths (g.P.Pages.store l.fn.store) (g.P.Pages.store l.store) l.fn.root l.fn.key l.counter l.page

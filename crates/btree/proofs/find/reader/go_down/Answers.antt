@@ -5,7 +5,7 @@ use Rattle.btree.specs.Answers.{found_bytes}
 use Rattle.btree.proofs.FindPassing.{passed_on}
 use Rattle.btree.proofs.Going.{sets_out, went_unchanged, went_works, unseen, too_far}
 use Rattle.btree.proofs.Reading.{as_seen, leads_down, leaf_for, no_page}
-use Rattle.btree.proofs.find.reader.reach_leaf.Goals as goal
+use Rattle.btree.proofs.find.reader.go_down.Goals as goal
 
 pub loop-init : goal.loop-init
 loop-init g c = sets_out c.args.widths (g.P.Pages.store c.args.store.now) c.args.root c.args.key.now c.requires
