@@ -1,6 +1,7 @@
 """What is stated in public: the contracts of functions, found by their names."""
 from __future__ import annotations
 
+import re
 from dataclasses import dataclass
 from pathlib import Path
 
@@ -42,9 +43,11 @@ class Statement:
         return [line.rstrip() for line in lines if not line.strip().startswith("#[")]
 
     def uses(self, project: Project) -> Uses:
-        """What the clauses use, and the types that the head names."""
+        """What the clauses use, and the types that the head names; that of the result only where a clause speaks of the result."""
         signature = rust.signature_of(self.source, self.item)
-        heads = [signature.head] if self.around is None else [self.source.code[self.around.start], signature.head]
+        speaks_of_result = any(re.search(r"\bresult\b", text) for text, _ in signature.clauses)
+        head = signature.head if speaks_of_result else signature.head.rpartition("->")[0] or signature.head
+        heads = [head] if self.around is None else [self.source.code[self.around.start], head]
         walker = project.clause_walker(self.source, self.around, heads)
         for text, line in signature.clauses:
             walker.walk(tokens_of(text, line, CLAUSE_TOKEN), dict.fromkeys(signature.parameters))

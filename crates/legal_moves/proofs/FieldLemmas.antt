@@ -106,7 +106,7 @@ second_of_values [] rest some small = absurd (omega (arith, some))
 second_of_values (u ∷ []) rest some small = absurd (omega (arith, some))
 second_of_values (u ∷ v ∷ vs) rest some small = second_value u v vs rest small
 
-leads : (goal : Option ℕ) (a b : ℕ) (at : Position) (w : Player) → a ≡ score First at.state → b ≡ score Second at.state
+pub leads : (goal : Option ℕ) (a b : ℕ) (at : Position) (w : Player) → a ≡ score First at.state → b ≡ score Second at.state
     → (leader goal a b ≡ Some w) ↔ IsAhead goal w at
 leads None a b at First e f = let h = leads_first a b in (λ l. omega (arith, h.0 l, e, f), λ l. h.1 (omega (arith, l, e, f)))
 leads None a b at Second e f = let h = leads_second a b in (λ l. omega (arith, h.0 l, e, f), λ l. h.1 (omega (arith, l, e, f)))

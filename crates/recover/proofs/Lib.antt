@@ -1,3 +1,4 @@
 mod Reading
 mod Refusing
 mod Migrating
+pub mod Calls

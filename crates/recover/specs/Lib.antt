@@ -1,3 +1,4 @@
 pub use Rattle.tree_table.specs.Held
 pub mod Migrating
 pub mod aid
+pub mod Brief

@@ -1,2 +1,5 @@
 pub mod Layouts
 pub mod Steps
+pub mod Plays
+pub mod Telling
+pub mod Histories
