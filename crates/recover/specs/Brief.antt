@@ -1,8 +1,8 @@
 -- The headline in brief: what a reader has to know of a table in a file, and no more. It names no layout of the file, no packing of positions,
 -- and no step of the work. The calls of `SavedTable` go by relations that are not said here: whatever they say, the law of the headline
 -- in brief holds of each history of calls.
-use Rattle.std.specs.Prelude.{◌≡◌, ◌⊎◌, ◌↔◌, ℕ, ◌+◌, ◌≤◌, ◌<◌, Bool, false, List, [], ◌∷◌, ◌++◌, length, Option, None, Some, IsTrue}
-use Rattle.sector_disk.specs.Disk.{Picture, Shown, Disk, MayLeave}
+use Rattle.std.specs.Prelude.{◌≡◌, ◌⊎◌, ◌↔◌, ℕ, ◌+◌, ◌≤◌, ◌<◌, List, [], ◌∷◌, ◌++◌, length, Option, None, Some, IsTrue}
+use Rattle.sector_disk.specs.Disk.{Picture, Shown, Disk, MayLeave, Grew}
 use Rattle.rbg_text.specs.Token.{Text}
 use Rattle.rbg_text.specs.Syntax.{Tokens, Section}
 use Rattle.rbg_game.specs.Games.{Game}
@@ -135,10 +135,15 @@ SittingsMake [] old new = new ≡ old
 SittingsMake (sitting ∷ sittings) old new =
     (mid left : Option BriefTable) × MakeInTurn sitting.answered old mid × MayMake sitting.in_doubt mid left × SittingsMake sittings left new
 
--- what a trait of calls says of solvers: their disk, whether they are closed, and how `create`, `open`, a refused `open`, a command with its
--- answer, and any other call may leave them
-module _ {S : Type 0} (disk : S → Disk) (closed : S → Bool) (created opened : Disk → S → Type 0) (not_opened : Disk → Disk → SolverFault → Type 0)
-    (answered : Command → BriefAnswer → S → S → Type 0) (asked : S → S → Type 0) (tells : S → Option BriefTable → Type 0) where
+-- so it is; or a write or a sync of the disk has failed meanwhile, and this is so
+abbrev pub OrBroken : Type 0 → Type 0 → Disk → Disk → Type 0
+OrBroken Such Broken old new = Such ⊎ (Broken × Grew old.failed_writes new.failed_writes)
+
+-- what a trait of calls says of solvers: their disk, and how `create`, `open`, a refused `open`, a command with its answer, any other call, and
+-- a call in which a write or a sync failed may leave them; and which table they tell
+module _ {S : Type 0} (disk : S → Disk) (created opened : Disk → S → Type 0) (not_opened : Disk → Disk → SolverFault → Type 0)
+    (answered : Command → BriefAnswer → S → S → Type 0) (asked : S → S → Type 0) (broken : Option Command → S → S → Type 0)
+    (tells : S → Option BriefTable → Type 0) where
   -- an honest disk as it is found after a stop: nothing can be left of it that the stop could not leave
   abbrev pub IsFoundAs : Shown → Disk → Type 0
   IsFoundAs left d = IsTrue d.honest × ((picture : Picture) → MayLeave d.now picture → MayLeave left picture)
@@ -150,20 +155,21 @@ module _ {S : Type 0} (disk : S → Disk) (closed : S → Bool) (created opened 
     a_command : {command : Command} {answer : BriefAnswer} {later : List (Command × BriefAnswer)} {was mid is : S}
         → answered command answer was mid → AreCalls later mid is → AreCalls ((command, answer) ∷ later) was is
 
-  -- how a sitting ends, with the command in doubt and what the disk shows then: between two calls; by a stop at some moment of a call that is
-  -- no command; or in a command, by a stop at some moment of it or since a write or a sync failed
+  -- how a sitting ends, with the command in doubt and what the disk shows then: between two calls; or by a stop at some moment of a call that is
+  -- no command, of a command, or since the beginning of a call in which a write or a sync failed
   pub data EndsWith (last : S) : Option Command → Shown → Type 0 where
     between_calls : EndsWith last None (disk last).now
     in_a_question : {is : S} → asked last is → (moment : ℕ) → (disk last).clock ≤ moment → moment ≤ (disk is).clock
         → EndsWith last None ((disk is).was moment)
     in_a_command : {command : Command} {answer : BriefAnswer} {is : S} → answered command answer last is → (moment : ℕ)
         → (disk last).clock ≤ moment → moment ≤ (disk is).clock → EndsWith last (Some command) ((disk is).was moment)
+    in_a_failure : {in_doubt : Option Command} {is : S} → broken in_doubt last is → (moment : ℕ)
+        → (disk last).clock ≤ moment → moment ≤ (disk is).clock → EndsWith last in_doubt ((disk is).was moment)
 
   -- a sitting with a solver from this state on, at whose end the disk shows this
   pub record IsBriefSitting (was : S) (sitting : BriefSitting) (left : Shown) : Type 0 where
     pub last : S
     pub calls : AreCalls sitting.answered was last
-    pub is_open : closed last ≡ false
     pub ends : EndsWith last sitting.in_doubt left
 
   -- the sittings of a table and what the disk shows after them: `create` has answered Ok, and the first sitting goes on from there; each later

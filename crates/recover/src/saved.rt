@@ -1,12 +1,12 @@
 //! The headline in brief: the calls of a table in a file, and what holds of every history of them.
-ghost use Rattle.std.specs.Prelude.{◌≡◌, ◌≤◌, ◌<◌, ℕ, Bool, List, Option, IsTrue, IfOk, IfErr, OnOk, OnErr};
+ghost use Rattle.std.specs.Prelude.{◌≡◌, ◌≤◌, ◌<◌, ℕ, List, Option, None, Some, IsTrue, IfOk, IfErr, OnOk, OnErr};
 ghost use Rattle.sector_disk.specs.Disk.{Picture, Shown, Disk, MayLeave};
 ghost use Rattle.rbg_game.specs.Goals.{points_of};
 ghost use Rattle.solver.specs.declared.fault.SolverFault.{SolverFault as Fault};
 ghost use Rattle.solver.specs.Machine.{Command as Asked, load as load_it, work as work_on};
 ghost use Rattle.solver.specs.Units.{units_in};
-ghost use Rattle.recover.specs.aid.Histories.{tells_of, created_by, opened_by, not_opened_by, answered_by, asked_by, the_headline_in_brief};
-ghost use Rattle.recover.specs.Brief.{BriefTable, BriefAnswer, loaded, worked, refused, TellsValue, TellsText, BriefSitting, BriefHistory, BriefHeadline};
+ghost use Rattle.recover.specs.aid.Histories.{tells_of, created_by, opened_by, not_opened_by, answered_by, asked_by, broken_by, the_headline_in_brief};
+ghost use Rattle.recover.specs.Brief.{BriefTable, BriefAnswer, OrBroken, loaded, worked, refused, TellsValue, TellsText, BriefSitting, BriefHistory, BriefHeadline};
 
 use audit::Verdict;
 use best_line::{KnownMoves, Row, Value};
@@ -24,9 +24,6 @@ pub trait SavedTable {
 
     /// Its disk, through time.
     ghost disk_of: { Self → Disk };
-
-    /// A write or a sync has failed: every call is refused until the table is opened again.
-    ghost closed: { Self → Bool };
 
     /// What its calls tell of the table of the last commit, by a disk that keeps its word.
     ghost tells: { Self → Option BriefTable → Type 0 };
@@ -46,6 +43,10 @@ pub trait SavedTable {
     /// A call that is no command has led from the one to the other.
     ghost asked: { Self → Self → Type 0 };
 
+    /// A write or a sync has failed in a call, the command that is named or another call, which has led from the one to the other. The sitting is
+    /// over: each later call is refused and leaves all as it is, until the table is opened again.
+    ghost broken: { Option Asked → Self → Self → Type 0 };
+
     /// Makes the empty table on this disk.
     fn create(alloc: Global, disk: Self::Device) -> Result<Self, Refused<Self::Device>>
         ensures { IfOk result (created (Self.Device.disk disk)) };
@@ -58,12 +59,14 @@ pub trait SavedTable {
     /// Loads the game of this text with this goal, if there is one.
     fn load(&mut self, text: &[u8], goal: Option<Goal>) -> Result<(), SolverFault>
         ensures done { OnOk result (answered (load_it text.now (points_of goal)) loaded self.old self.new) }
-        ensures refused { OnErr result (answered (load_it text.now (points_of goal)) refused self.old self.new) };
+        ensures refused { OnErr result (OrBroken (answered (load_it text.now (points_of goal)) refused self.old self.new)
+            (broken (Some (load_it text.now (points_of goal))) self.old self.new) (disk_of self.old) (disk_of self.new)) };
 
     /// Does this many units of work, or fewer where the table is finished by then.
     fn work(&mut self, units: Units) -> Result<Worked, SolverFault>
         ensures done { IfOk result (λ done. answered (work_on (units_in units)) (worked done.units) self.old self.new) }
-        ensures refused { OnErr result (answered (work_on (units_in units)) refused self.old self.new) };
+        ensures refused { OnErr result (OrBroken (answered (work_on (units_in units)) refused self.old self.new)
+            (broken (Some (work_on (units_in units))) self.old self.new) (disk_of self.old) (disk_of self.new)) };
 
     /// Who wins the position with this number, and in how many moves.
     fn value(&mut self, number: u32) -> Result<Value, SolverFault>
@@ -101,7 +104,7 @@ pub trait SavedTable {
 
     /// Makes the file one of this many pages.
     fn grow(&mut self, pages: u32) -> Result<(), SolverFault>
-        ensures { asked self.old self.new };
+        ensures { OrBroken (asked self.old self.new) (broken None self.old self.new) (disk_of self.old) (disk_of self.new) };
 
     /// Gives the disk back.
     fn close(self) -> Self::Device
@@ -109,8 +112,8 @@ pub trait SavedTable {
 
     /// The headline in brief, of every history of such calls.
     ghost headline: { (sittings : List BriefSitting) (left : Shown) (picture : Picture)
-        → BriefHistory disk_of closed created opened not_opened answered asked tells sittings left → MayLeave left picture
-        → BriefHeadline disk_of closed created opened not_opened answered asked tells sittings picture };
+        → BriefHistory disk_of created opened not_opened answered asked broken tells sittings left → MayLeave left picture
+        → BriefHeadline disk_of created opened not_opened answered asked broken tells sittings picture };
 }
 
 /// The headline in brief. A table is made, and used in any number of sittings; each opens what was left, and may end by a stop of the power
@@ -119,8 +122,8 @@ pub trait SavedTable {
 /// if it is finished, its positions are those that play can come to, and the unsettled exactly the drawn.
 pub fn the_headline_in_brief<S: SavedTable>()
     ensures { (sittings : List BriefSitting) (left : Shown) (picture : Picture)
-        → BriefHistory S.disk_of S.closed S.created S.opened S.not_opened S.answered S.asked S.tells sittings left → MayLeave left picture
-        → BriefHeadline S.disk_of S.closed S.created S.opened S.not_opened S.answered S.asked S.tells sittings picture }
+        → BriefHistory S.disk_of S.created S.opened S.not_opened S.answered S.asked S.broken S.tells sittings left → MayLeave left picture
+        → BriefHeadline S.disk_of S.created S.opened S.not_opened S.answered S.asked S.broken S.tells sittings picture }
 {}
 
 /// The calls of the solver, over any file.
@@ -130,8 +133,6 @@ impl<F: GameFile> SavedTable for FileSolver<F> {
     type Device = F::Device;
 
     ghost disk_of = { λ solver. (state solver).disk };
-
-    ghost closed = { λ solver. (state solver).closed };
 
     ghost tells = { tells_of state IsReady };
 
@@ -144,6 +145,8 @@ impl<F: GameFile> SavedTable for FileSolver<F> {
     ghost answered = { answered_by F.stores state IsReady };
 
     ghost asked = { asked_by F.stores state IsReady };
+
+    ghost broken = { broken_by F.stores state IsReady };
 
     ghost headline = { the_headline_in_brief F.stores state IsReady F.stores_begins };
 

@@ -1,5 +1,5 @@
 -- A history in brief is one of the calls' contracts, so the headline in brief follows from the headline.
-use Rattle.std.specs.Prelude.{◌≡◌, ◌⊎◌, ℕ, ◌≤◌, Bool, true, false, List, [], ◌∷◌, ◌++◌, map, Option, None, Some, IsTrue}
+use Rattle.std.specs.Prelude.{◌≡◌, ◌⊎◌, ℕ, ◌≤◌, false, List, [], ◌∷◌, ◌++◌, map, Option, None, Some, IsTrue}
 use Rattle.std.proofs.Common.{refl, sym, subst, ◌∙◌, ap, inl, inr, arith}
 use Rattle.sector_disk.specs.Disk.{Picture, Shown, Disk, GoesOn, MayLeave}
 use Rattle.sector_disk.specs.aid.Moments.{still_honest}
@@ -71,24 +71,22 @@ module _ {S : Type 0} (Stores : ℕ → Layout) (state : S → State) (ready : S
   abbrev pub disk_of : S → Disk
   disk_of s = (state s).disk
 
-  abbrev pub closed_of : S → Bool
-  closed_of s = (state s).closed
-
   abbrev pub created_by : Disk → S → Type 0
   created_by disk s = ready s × ((count : ℕ) × IsCreated Stores disk count (state s))
 
   abbrev pub opened_by : Disk → S → Type 0
   opened_by disk s = ready s × ((count : ℕ) × IsOpened Stores disk count (state s))
 
-  -- a command with its answer
+  -- a command with its answer, behind which the solver is open
   pub record Answers (command : Command) (answer : BriefAnswer) (was is : S) : Type 0 where
     pub ready_still : ready is
+    pub open_still : (state is).closed ≡ false
     pub reply : Reply
     pub turn : IsTurn Stores command reply (state was) (state is)
     pub answer_is : answer ≡ brief_answer reply
 
   abbrev pub answered_by : Command → BriefAnswer → S → S → Type 0
-  answered_by command answer was is = ready was → Answers command answer was is
+  answered_by command answer was is = ready was → (state was).closed ≡ false → Answers command answer was is
 
   -- a question, a growth, or a call that changes nothing
   pub data Leaves (was is : S) : Type 0 where
@@ -96,11 +94,22 @@ module _ {S : Type 0} (Stores : ℕ → Layout) (state : S → State) (ready : S
     by_growth : (pages : ℕ) → IsGrowth Stores pages (state was) (state is) → Leaves was is
     by_nothing : state is ≡ state was → Leaves was is
 
+  -- behind which the solver is open
+  pub record Asks (was is : S) : Type 0 where
+    pub ready_still : ready is
+    pub open_still : (state is).closed ≡ false
+    pub leaves : IsTrue (state was).disk.honest → Leaves was is
+
   abbrev pub asked_by : S → S → Type 0
-  asked_by was is = ready was → ready is × (IsTrue (state was).disk.honest → Leaves was is)
+  asked_by was is = ready was → (state was).closed ≡ false → Asks was is
+
+  -- a growth or a command, whatever is answered
+  abbrev pub broken_by : Option Command → S → S → Type 0
+  broken_by None was is = ready was → (state was).closed ≡ false → (pages : ℕ) × IsGrowth Stores pages (state was) (state is)
+  broken_by (Some command) was is = ready was → (state was).closed ≡ false → (reply : Reply) × IsTurn Stores command reply (state was) (state is)
 
   abbrev Calls : List (Command × BriefAnswer) → S → S → Type 0
-  Calls = AreCalls disk_of closed_of created_by opened_by (not_opened_by Stores) answered_by asked_by (tells_of state ready)
+  Calls = AreCalls disk_of created_by opened_by (not_opened_by Stores) answered_by asked_by broken_by (tells_of state ready)
 
   -- ---- a history in brief is a history
 
@@ -111,21 +120,37 @@ module _ {S : Type 0} (Stores : ℕ → Layout) (state : S → State) (ready : S
     used : IsUsed Stores replies (state was) (state is)
     honest : IsTrue (state is).disk.honest
     ready_still : ready is
+    open_still : (state is).closed ≡ false
 
-  calls_used : {answered : List (Command × BriefAnswer)} {was is : S} → Calls answered was is → ready was → IsTrue (state was).disk.honest
-      → AreUsed answered was is
-  calls_used {answered} {was} {is} brief.no_call here honest = record { replies = []; same = refl; used = no_call; honest = honest; ready_still = here }
-  calls_used {answered} {was} {is} (brief.a_question {mid = mid} asks rest) here honest =
-      let (there, leaves) = asks here in
-      go (leaves honest) (λ still. calls_used rest there still)
+  calls_used : {answered : List (Command × BriefAnswer)} {was is : S} → Calls answered was is → ready was → (state was).closed ≡ false
+      → IsTrue (state was).disk.honest → AreUsed answered was is
+  calls_used {answered} {was} {is} brief.no_call here is_open honest =
+      record { replies = []; same = refl; used = no_call; honest = honest; ready_still = here; open_still = is_open }
+  calls_used {answered} {was} {is} (brief.a_question {mid = mid} asks rest) here is_open honest =
+      let it = asks here is_open in
+      go (it.leaves honest) (λ still. calls_used rest it.ready_still it.open_still still)
     where
       go : Leaves was mid → (IsTrue (state mid).disk.honest → AreUsed answered mid is) → AreUsed answered was is
       go (by_question asked) later =
           let more = later (still_honest asked.ahead.goes_on honest) in
-          record { replies = more.replies; same = more.same; used = a_question asked more.used; honest = more.honest; ready_still = more.ready_still }
+          record {
+            replies = more.replies;
+            same = more.same;
+            used = a_question asked more.used;
+            honest = more.honest;
+            ready_still = more.ready_still;
+            open_still = more.open_still;
+          }
       go (by_growth pages growth) later =
           let more = later (still_honest growth.ahead.goes_on honest) in
-          record { replies = more.replies; same = more.same; used = a_growth growth more.used; honest = more.honest; ready_still = more.ready_still }
+          record {
+            replies = more.replies;
+            same = more.same;
+            used = a_growth growth more.used;
+            honest = more.honest;
+            ready_still = more.ready_still;
+            open_still = more.open_still;
+          }
       go (by_nothing same) later =
           let more = later (subst (λ (s : State). IsTrue s.disk.honest) (sym same) honest) in
           record {
@@ -134,23 +159,31 @@ module _ {S : Type 0} (Stores : ℕ → Layout) (state : S → State) (ready : S
             used = subst (λ (s : State). IsUsed Stores more.replies s (state is)) same more.used;
             honest = more.honest;
             ready_still = more.ready_still;
+            open_still = more.open_still;
           }
-  calls_used {answered} {was} {is} (brief.a_command {command = command} {answer = answer} {later = later} {mid = mid} answers rest) here honest =
-      let it = answers here in
-      let more = calls_used rest it.ready_still (still_honest it.turn.ahead.goes_on honest) in
+  calls_used {answered} {was} {is} (brief.a_command {command = command} {answer = answer} {later = later} {mid = mid} answers rest) here is_open honest =
+      let it = answers here is_open in
+      let more = calls_used rest it.ready_still it.open_still (still_honest it.turn.ahead.goes_on honest) in
       record {
         replies = (command, it.reply) ∷ more.replies;
         same = λ i. (command, sym it.answer_is i) ∷ more.same i;
         used = a_command it.turn more.used;
         honest = more.honest;
         ready_still = more.ready_still;
+        open_still = more.open_still;
       }
 
+  -- a call in which a write or a sync failed
+  ends_broken : (in_doubt : Option Command) (last is : S) → broken_by in_doubt last is → ready last → (state last).closed ≡ false → (moment : ℕ)
+      → (state last).disk.clock ≤ moment → moment ≤ (state is).disk.clock → Ends Stores (state last) in_doubt ((state is).disk.was moment)
+  ends_broken None last is broke here is_open moment from to = in_a_growth (broke here is_open).1 moment from to
+  ends_broken (Some command) last is broke here is_open moment from to = in_a_command (broke here is_open).1 moment from to
+
   ends_with : {last : S} {in_doubt : Option Command} {left : Shown}
-      → EndsWith disk_of closed_of created_by opened_by (not_opened_by Stores) answered_by asked_by (tells_of state ready) last in_doubt left
-      → ready last → IsTrue (state last).disk.honest → Ends Stores (state last) in_doubt left
-  ends_with brief.between_calls here honest = by_closing
-  ends_with {last} {in_doubt} {left} (brief.in_a_question {is = is} asks moment from to) here honest = go ((asks here).1 honest)
+      → EndsWith disk_of created_by opened_by (not_opened_by Stores) answered_by asked_by broken_by (tells_of state ready) last in_doubt left
+      → ready last → (state last).closed ≡ false → IsTrue (state last).disk.honest → Ends Stores (state last) in_doubt left
+  ends_with brief.between_calls here is_open honest = by_closing
+  ends_with {last} {in_doubt} {left} (brief.in_a_question {is = is} asks moment from to) here is_open honest = go ((asks here is_open).leaves honest)
     where
       go : Leaves last is → Ends Stores (state last) None ((state is).disk.was moment)
       go (by_question asked) = in_a_question asked moment from to
@@ -162,7 +195,9 @@ module _ {S : Type 0} (Stores : ℕ → Layout) (state : S → State) (ready : S
           sym (state last).disk.was_now ∙ ap (λ (k : ℕ). (state last).disk.was k) at in
           let later : (state last).disk.now ≡ (state is).disk.was moment = shows ∙ ap (λ (s : State). s.disk.was moment) (sym same) in
           subst (λ (shown : Shown). Ends Stores (state last) None shown) later by_closing
-  ends_with (brief.in_a_command answers moment from to) here honest = in_a_command (answers here).turn moment from to
+  ends_with (brief.in_a_command answers moment from to) here is_open honest = in_a_command (answers here is_open).turn moment from to
+  ends_with {last} (brief.in_a_failure {in_doubt} {is} broke moment from to) here is_open honest =
+      ends_broken in_doubt last is broke here is_open moment from to
 
   -- a sitting in brief with the sitting that it is
   record IsTheSitting (was : S) (sitting : BriefSitting) (left : Shown) : Type 0 where
@@ -171,10 +206,10 @@ module _ {S : Type 0} (Stores : ℕ → Layout) (state : S → State) (ready : S
     sits : IsSitting Stores (state was) whole left
 
   sitting_is : (was : S) (sitting : BriefSitting) (left : Shown)
-      → IsBriefSitting disk_of closed_of created_by opened_by (not_opened_by Stores) answered_by asked_by (tells_of state ready) was sitting left
-      → ready was → IsTrue (state was).disk.honest → IsTheSitting was sitting left
-  sitting_is was sitting left sits here honest =
-      let used = calls_used sits.calls here honest in
+      → IsBriefSitting disk_of created_by opened_by (not_opened_by Stores) answered_by asked_by broken_by (tells_of state ready) was sitting left
+      → ready was → (state was).closed ≡ false → IsTrue (state was).disk.honest → IsTheSitting was sitting left
+  sitting_is was sitting left sits here is_open honest =
+      let used = calls_used sits.calls here is_open honest in
       record {
         whole = record { begins = (state was).kept; answered = used.replies; in_doubt = sitting.in_doubt };
         same = λ i. record { answered = used.same i; in_doubt = sitting.in_doubt };
@@ -182,8 +217,8 @@ module _ {S : Type 0} (Stores : ℕ → Layout) (state : S → State) (ready : S
           begins = refl;
           last = state sits.last;
           used = used.used;
-          is_open = sits.is_open;
-          ends = ends_with sits.ends used.ready_still used.honest;
+          is_open = used.open_still;
+          ends = ends_with sits.ends used.ready_still used.open_still used.honest;
         };
       }
 
@@ -197,17 +232,17 @@ module _ {S : Type 0} (Stores : ℕ → Layout) (state : S → State) (ready : S
     same : map brief_sitting whole ≡ sittings
     history : HistoryFrom Stores None whole left
 
-  found_as : (before : Shown) (disk : Disk) → IsFoundAs disk_of closed_of created_by opened_by (not_opened_by Stores) answered_by asked_by (tells_of state ready) before disk → IsFound Stores before disk
+  found_as : (before : Shown) (disk : Disk) → IsFoundAs disk_of created_by opened_by (not_opened_by Stores) answered_by asked_by broken_by (tells_of state ready) before disk → IsFound Stores before disk
   found_as before disk (honest, as_left) = record { honest = honest; as_left = as_left }
 
   history_is : {sittings : List BriefSitting} {left : Shown}
-      → BriefHistory disk_of closed_of created_by opened_by (not_opened_by Stores) answered_by asked_by (tells_of state ready) sittings left → IsTheHistory sittings left
+      → BriefHistory disk_of created_by opened_by (not_opened_by Stores) answered_by asked_by broken_by (tells_of state ready) sittings left → IsTheHistory sittings left
   history_is (brief.was_made {d} {s} {sitting} {left} honest (here, (count, created)) sits) =
-      let it = sitting_is s sitting left sits here (still_honest created.from.goes_on honest) in
+      let it = sitting_is s sitting left sits here created.is_open (still_honest created.from.goes_on honest) in
       record { whole = it.whole ∷ []; same = ap (λ x. x ∷ []) it.same; history = was_made honest created it.sits }
   history_is (brief.was_reopened {sittings} {before} {left} {d} {s} {sitting} history found (here, (count, opened)) sits) =
       let old = history_is history in
-      let it = sitting_is s sitting left sits here (still_honest opened.from.goes_on found.0) in
+      let it = sitting_is s sitting left sits here opened.is_open (still_honest opened.from.goes_on found.0) in
       record {
         whole = old.whole ++ (it.whole ∷ []);
         same = map_more old.whole it.whole ∙ (λ i. old.same i ++ (it.same i ∷ []));
@@ -227,8 +262,8 @@ module _ {S : Type 0} (Stores : ℕ → Layout) (state : S → State) (ready : S
   -- the headline in brief
   pub the_headline_in_brief : ((pages : ℕ) (picture : Picture) (kept : Option Kept) → Stores pages picture kept → IsTablePicture picture)
       → (sittings : List BriefSitting) (left : Shown) (picture : Picture)
-      → BriefHistory disk_of closed_of created_by opened_by (not_opened_by Stores) answered_by asked_by (tells_of state ready) sittings left → MayLeave left picture
-      → BriefHeadline disk_of closed_of created_by opened_by (not_opened_by Stores) answered_by asked_by (tells_of state ready) sittings picture
+      → BriefHistory disk_of created_by opened_by (not_opened_by Stores) answered_by asked_by broken_by (tells_of state ready) sittings left → MayLeave left picture
+      → BriefHeadline disk_of created_by opened_by (not_opened_by Stores) answered_by asked_by broken_by (tells_of state ready) sittings picture
   the_headline_in_brief begins sittings left picture history may =
       let it = history_is history in
       let (kept, leads, reopens, exact) = the_headline Stores begins it.whole left picture it.history may in
