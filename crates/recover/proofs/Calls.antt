@@ -71,7 +71,7 @@ module _ {S : Type 0} (state : S → State) (ready : S → Type 0) (was : S) whe
   pub tells_value : (result : Result Value SolverFault) (number : ℕ)
       → (ready was → IfOk result (λ value. Tells (HasValueAt number value) (state was)))
       → (table : Option BriefTable) → tells_of state ready was table → IsTrue (state was).disk.honest → IfOk result (λ value. TellsValue number value table)
-  tells_value (Ok value) number has table (here, told) honest =
+  tells_value (Ok value) number has table (here, is_open, told) honest =
       value_told (state was).kept table (told honest) number value (has here honest)
   tells_value (Err fault) number has table told honest = tt
 
@@ -80,6 +80,6 @@ module _ {S : Type 0} (state : S → State) (ready : S → Type 0) (was : S) whe
       → (ready was → IfOk result (λ found. Tells (HasText (number_in found) (text_in found)) (state was)))
       → (table : Option BriefTable) → tells_of state ready was table → IsTrue (state was).disk.honest
       → IfOk result (λ found. TellsText (number_in found) (text_in found) table)
-  tells_text (Ok found) number_in text_in has table (here, told) honest =
+  tells_text (Ok found) number_in text_in has table (here, is_open, told) honest =
       text_told (state was).kept table (told honest) (number_in found) (text_in found) (has here honest)
   tells_text (Err fault) number_in text_in has table told honest = tt

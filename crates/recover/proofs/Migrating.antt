@@ -1,15 +1,13 @@
 -- How the steps of a migration make one.
-use Rattle.std.proofs.Common.{◌≡◌, ◌≢◌, ◌⊎◌, inl, inr, ℕ, Option, IsTrue, refl, sym, ◌∙◌, ap, subst, arith}
-use Rattle.sector_disk.specs.Disk.{Picture, Disk, Grew, LeavesOnly, MayLeave, sector}
+use Rattle.std.proofs.Common.{◌≡◌, ◌≢◌, inl, inr, ℕ, Option, IsTrue, sym, ◌∙◌, ap, subst}
+use Rattle.sector_disk.specs.Disk.{Picture, Disk, sector}
 use Rattle.sector_disk.specs.aid.Moments.{leaves_more, leaves_then, still_honest}
 use Rattle.page_store.specs.aid.Works.{grew_since}
 use Rattle.game_file.specs.Calls.{IsNotOpened}
 use Rattle.game_file.specs.Kept.{Kept, Layout, Older}
 use Rattle.game_file.specs.State.{State}
-use Rattle.game_file.specs.declared.fault.FileFault.{FileFault}
-use Rattle.game_file.specs.declared.fault.FileFault.TheVariants as file
 use Rattle.solver.specs.declared.fault.SolverFault.{SolverFault}
-use Rattle.solver.specs.declared.fault.SolverFault.TheVariants.{Disk as DiskFailed, OldLayout}
+use Rattle.solver.specs.declared.fault.SolverFault.TheVariants.{OldLayout}
 use Rattle.solver.specs.Faults.{file_fault}
 use Rattle.solver.specs.Held.{Holds}
 use Rattle.solver.specs.Opening.{IsOpened}

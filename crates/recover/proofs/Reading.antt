@@ -1,5 +1,5 @@
 -- A disk that was synced and then read shows what it showed.
-use Rattle.std.proofs.Common.{◌≡◌, ◌≤◌, ℕ, List, [], length, IsTrue, refl, sym, ◌∙◌, ap, subst, arith, ext_get_or}
+use Rattle.std.proofs.Common.{◌≡◌, ◌≤◌, ℕ, [], length, IsTrue, sym, ◌∙◌, ap, subst, arith, ext_get_or}
 use Rattle.std.specs.Prelude.{true, false, is_err, OnOk, Result, Ok, Err}
 use Rattle.sector_disk.specs.Disk.{Picture, Shown, Disk, sector, AllSynced, LeavesOnly, MayLeave, Steps, SyncedMore}
 use Rattle.sector_disk.specs.aid.Moments.{goes_on_trans, leaves_more, leaves_step, leaves_then, reads_left, still_honest}

@@ -1,5 +1,5 @@
 -- Why a migration is refused.
-use Rattle.std.proofs.Common.{◌≡◌, ◌≢◌, ◌⊎◌, ◌≤◌, inl, inr, ℕ, Option, Some, None, IsTrue, refl, sym, ◌∙◌, ap, subst, arith}
+use Rattle.std.proofs.Common.{◌≡◌, ◌≢◌, ◌⊎◌, inl, inr, ℕ, Option, Some, None, IsTrue, refl, sym, ◌∙◌, subst}
 use Rattle.std.specs.Prelude.{IsSome}
 use Rattle.sector_disk.specs.Disk.{Picture, Disk}
 use Rattle.sector_disk.specs.aid.Moments.{still_honest}
@@ -18,7 +18,7 @@ use Rattle.solver.specs.Faults.{file_fault}
 use Rattle.solver.specs.Held.{Holds}
 use Rattle.solver.specs.Opening.{IsOpened, OpenCause, LayoutCause}
 use Rattle.recover.specs.Migrating.{AreLayouts, MigrateCause}
-use Rattle.recover.specs.aid.Steps.{IsNotMovedFrom, IsReadSince, IsUnmoved, IsUnopened}
+use Rattle.recover.specs.aid.Steps.{IsNotMovedFrom, IsReadSince, IsUnmoved}
 use Rattle.recover.proofs.Reading.{read_on}
 
 -- what is there of an option that is some

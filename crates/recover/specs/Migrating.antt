@@ -1,5 +1,5 @@
 -- What becomes of a table where its layout may be an earlier one than today's.
-use Rattle.std.specs.Prelude.{◌≡◌, ◌≢◌, ◌⊎◌, ℕ, Option, Some, IsTrue}
+use Rattle.std.specs.Prelude.{◌≢◌, ◌⊎◌, ℕ, Option, Some, IsTrue}
 use Rattle.sector_disk.specs.Disk.{Picture, Disk, Grew, LeavesOnly, MayLeave}
 use Rattle.root_pair.specs.Root.{IsTablePicture}
 use Rattle.page_store.specs.Store.{SameHeader}

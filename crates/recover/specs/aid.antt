@@ -3,3 +3,4 @@ pub mod Steps
 pub mod Plays
 pub mod Telling
 pub mod Histories
+pub mod AtWork

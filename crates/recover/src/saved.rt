@@ -6,7 +6,8 @@ ghost use Rattle.solver.specs.declared.fault.SolverFault.{SolverFault as Fault};
 ghost use Rattle.solver.specs.Machine.{Command as Asked, load as load_it, work as work_on};
 ghost use Rattle.solver.specs.Units.{units_in};
 ghost use Rattle.recover.specs.aid.Histories.{tells_of, created_by, opened_by, not_opened_by, answered_by, asked_by, broken_by, the_headline_in_brief};
-ghost use Rattle.recover.specs.Brief.{BriefTable, BriefAnswer, OrBroken, loaded, worked, refused, TellsValue, TellsText, BriefSitting, BriefHistory, BriefHeadline};
+ghost use Rattle.recover.specs.aid.AtWork.{begins_empty, asked_tells, answered_tells, is_so};
+ghost use Rattle.recover.specs.Brief.{BriefTable, BriefAnswer, IsTrueOfItsGame, Makes, OrBroken, loaded, worked, refused, TellsValue, TellsText, BriefSitting, BriefHistory, BriefHeadline};
 
 use audit::Verdict;
 use best_line::{KnownMoves, Row, Value};
@@ -110,6 +111,20 @@ pub trait SavedTable {
     fn close(self) -> Self::Device
         ensures { Self.Device.disk result ≡ disk_of self };
 
+    /// A table that was just made is the empty one.
+    ghost begins_empty: { (disk : Disk) (made : Self) → IsTrue disk.honest → created disk made → tells made None };
+
+    /// A call that is no command leaves the table.
+    ghost asked_tells: { (was is : Self) (table : Option BriefTable) → IsTrue (disk_of was).honest → asked was is → tells was table
+        → tells is table };
+
+    /// A command makes of it what its answer says.
+    ghost answered_tells: { (command : Asked) (answer : BriefAnswer) (was is : Self) (table : Option BriefTable) → IsTrue (disk_of was).honest
+        → answered command answer was is → tells was table → (after : Option BriefTable) × Makes answer command table after × tells is after };
+
+    /// What is told is so.
+    ghost is_so: { (at : Self) (table : Option BriefTable) → IsTrue (disk_of at).honest → tells at table → IsTrueOfItsGame table };
+
     /// The headline in brief, of every history of such calls.
     ghost headline: { (sittings : List BriefSitting) (left : Shown) (picture : Picture)
         → BriefHistory disk_of created opened not_opened answered asked broken tells sittings left → MayLeave left picture
@@ -124,6 +139,18 @@ pub fn the_headline_in_brief<S: SavedTable>()
     ensures { (sittings : List BriefSitting) (left : Shown) (picture : Picture)
         → BriefHistory S.disk_of S.created S.opened S.not_opened S.answered S.asked S.broken S.tells sittings left → MayLeave left picture
         → BriefHeadline S.disk_of S.created S.opened S.not_opened S.answered S.asked S.broken S.tells sittings picture }
+{}
+
+/// The table of a sitting: it begins as the empty one or as the one that was opened, each command makes of it what its answer says, other calls
+/// leave it, and what it tells at any time is so by the rules of its game.
+pub fn the_table_of_a_sitting<S: SavedTable>()
+    ensures begins { (disk : Disk) (made : S) → IsTrue disk.honest → S.created disk made → S.tells made None }
+    ensures asked { (was is : S) (table : Option BriefTable) → IsTrue (S.disk_of was).honest → S.asked was is → S.tells was table
+        → S.tells is table }
+    ensures answered { (command : Asked) (answer : BriefAnswer) (was is : S) (table : Option BriefTable) → IsTrue (S.disk_of was).honest
+        → S.answered command answer was is → S.tells was table
+        → (after : Option BriefTable) × Makes answer command table after × S.tells is after }
+    ensures so { (at : S) (table : Option BriefTable) → IsTrue (S.disk_of at).honest → S.tells at table → IsTrueOfItsGame table }
 {}
 
 /// The calls of the solver, over any file.
@@ -147,6 +174,14 @@ impl<F: GameFile> SavedTable for FileSolver<F> {
     ghost asked = { asked_by F.stores state IsReady };
 
     ghost broken = { broken_by F.stores state IsReady };
+
+    ghost begins_empty = { begins_empty F.stores state IsReady };
+
+    ghost asked_tells = { asked_tells F.stores state IsReady };
+
+    ghost answered_tells = { answered_tells F.stores state IsReady };
+
+    ghost is_so = { is_so state IsReady };
 
     ghost headline = { the_headline_in_brief F.stores state IsReady F.stores_begins };
 

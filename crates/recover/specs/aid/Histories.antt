@@ -1,7 +1,7 @@
 -- A history in brief is one of the calls' contracts, so the headline in brief follows from the headline.
 use Rattle.std.specs.Prelude.{◌≡◌, ◌⊎◌, ℕ, ◌≤◌, false, List, [], ◌∷◌, ◌++◌, map, Option, None, Some, IsTrue}
 use Rattle.std.proofs.Common.{refl, sym, subst, ◌∙◌, ap, inl, inr, arith}
-use Rattle.sector_disk.specs.Disk.{Picture, Shown, Disk, GoesOn, MayLeave}
+use Rattle.sector_disk.specs.Disk.{Picture, Shown, Disk, MayLeave}
 use Rattle.sector_disk.specs.aid.Moments.{still_honest}
 use Rattle.game_file.specs.Kept.{Kept, Layout}
 use Rattle.game_file.specs.State.{State}
@@ -15,7 +15,7 @@ use Rattle.solver.specs.Held.{IsSound}
 use Rattle.solver.specs.Histories.{Sitting, DoAll, DoesInDoubt, LeadTo, IsUsed, no_call, a_question, a_command, a_growth}
 use Rattle.solver.specs.Histories.{Ends, by_closing, in_a_question, in_a_growth, in_a_command, IsSitting, IsFound, HistoryFrom, was_made, was_reopened, was_not_opened}
 use Rattle.solver.specs.Headline.{IsUnlucky}
-use Rattle.solver.specs.Machine.{Command, MayDo}
+use Rattle.solver.specs.Machine.{Command}
 use Rattle.solver.specs.Opening.{IsOpened, IsCreated, OpenCause}
 use Rattle.solver.specs.Runs.{IsTurn}
 use Rattle.solver.proofs.Chains.{the_headline}
@@ -65,7 +65,8 @@ not_opened_by Stores disk back fault = (before now : ℕ) × IsNotOpened disk be
 
 -- what the table tells
 abbrev pub tells_of : {S : Type 0} → (S → State) → (S → Type 0) → S → Option BriefTable → Type 0
-tells_of state ready s table = ready s × (IsTrue (state s).disk.honest → IsToldBy (state s).kept table)
+tells_of state ready s table =
+    ready s × ((state s).closed ≡ false) × (IsTrue (state s).disk.honest → IsToldBy (state s).kept table)
 
 module _ {S : Type 0} (Stores : ℕ → Layout) (state : S → State) (ready : S → Type 0) where
   abbrev pub disk_of : S → Disk
@@ -274,7 +275,7 @@ module _ {S : Type 0} (Stores : ℕ → Layout) (state : S → State) (ready : S
         so = table_is_so kept now;
         gives = λ d s honest contents (here, (count, opened)).
             let (same, leaves) = reopens.gives d count (state s) honest contents opened in
-            (here, λ still. subst (λ (k : Option Kept). IsToldBy k (table_of kept now)) (sym same) (now, refl));
+            (here, opened.is_open, λ still. subst (λ (k : Option Kept). IsToldBy k (table_of kept now)) (sym same) (now, refl));
         fails = λ d later fault honest contents (before, after, not, cause).
             lucky before after fault (reopens.fails d before after fault honest contents cause);
       }

@@ -1,5 +1,5 @@
 -- The layouts of this program and of those before it.
-use Rattle.std.specs.Prelude.{◌≡◌, ℕ, ◌<◌, ◌≤◌, List, Option, None, Some}
+use Rattle.std.specs.Prelude.{◌≡◌, ℕ, ◌<◌, List, Option, None, Some}
 use Rattle.std.proofs.Common.{arith}
 use Rattle.sector_disk.specs.Disk.{Picture}
 use Rattle.game_file.specs.Fields.{layout_in}

@@ -1,5 +1,5 @@
 -- What is so of the bytes of positions as a graph is so of the positions.
-use Rattle.std.specs.Prelude.{◌≡◌, ◌↔◌, ◌⊎◌, ℕ, zero, suc, List, Option, Some}
+use Rattle.std.specs.Prelude.{◌≡◌, ◌↔◌, ℕ, zero, suc, List, Option, Some}
 use Rattle.std.proofs.Common.{refl, sym, subst, ◌∙◌, inl, inr}
 use Rattle.rbg_game.specs.Games.{Game}
 use Rattle.rbg_game.specs.Sound.{IsSoundGame}
@@ -7,12 +7,11 @@ use Rattle.rbg_game.specs.Positions.{IsPositionOf}
 use Rattle.rbg_game.specs.declared.position.Position.{Position}
 use Rattle.rbg_game.specs.declared.roles.Player.{Player}
 use Rattle.rbg_game.specs.declared.roles.Player.TheVariants.{First, Second}
-use Rattle.rbg_game.specs.declared.roles.Role.TheVariants as role
 use Rattle.position_pack.specs.declared.kind.PackingKind.{PackingKind}
 use Rattle.position_pack.specs.Shape.{shape_of}
 use Rattle.position_pack.specs.Packings.{packed_by}
-use Rattle.retrograde.specs.Graph.{Moves, HasMove, IsEnded, IsReachable, at_start, by_move}
-use Rattle.retrograde.specs.Values.{EndsAhead, CanMoveTo, MustMoveTo, WinsWithin, WonIn, Drawn}
+use Rattle.retrograde.specs.Graph.{Moves, IsEnded, IsReachable, at_start, by_move}
+use Rattle.retrograde.specs.Values.{EndsAhead, WinsWithin, WonIn, Drawn}
 use Rattle.legal_moves.specs.Moves.{IsSuccessor, start_of, score}
 use Rattle.legal_moves.specs.Sources.{IsAt, graph_of}
 use Rattle.legal_moves.proofs.CompiledLemmas.{start_position}

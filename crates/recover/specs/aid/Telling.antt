@@ -1,10 +1,9 @@
 -- The table in brief of what is kept: what it tells is so, and what a command does is told.
-use Rattle.std.specs.Prelude.{◌≡◌, ◌↔◌, ◌⊎◌, ℕ, zero, suc, ◌+◌, ◌<◌, ◌^◌, Bool, List, [], ◌∷◌, ◌++◌, length, Option, None, Some, slice_get}
-use Rattle.std.proofs.Common.{refl, sym, subst, ◌∙◌, ap, arith, inl, inr}
+use Rattle.std.specs.Prelude.{◌≡◌, ℕ, zero, suc, ◌+◌, ◌^◌, List, [], ◌∷◌, ◌++◌, length, Option, None, Some, slice_get}
+use Rattle.std.proofs.Common.{refl, sym, subst, ◌∙◌, ap, inl, inr}
 use Rattle.std.proofs.lemmas.Option.{same_Some}
 use Rattle.rbg_game.specs.Games.{Game}
 use Rattle.rbg_game.specs.declared.position.Position.{Position}
-use Rattle.rbg_game.specs.declared.roles.Player.{Player}
 use Rattle.rbg_text.specs.Token.{Text}
 use Rattle.rbg_read.specs.Reading.{Reads, reads}
 use Rattle.rbg_read.proofs.OneReading.{one_game}
@@ -12,19 +11,15 @@ use Rattle.rbg_read.proofs.SoundGames.{read_sound}
 use Rattle.position_pack.specs.declared.kind.PackingKind.{PackingKind}
 use Rattle.position_pack.specs.declared.kind.PackingKind.TheVariants.{Bits}
 use Rattle.legal_moves.specs.Moves.{start_of}
-use Rattle.legal_moves.specs.Sources.{IsAt, IsPositionBytes, IsWideAt, graph_of}
+use Rattle.legal_moves.specs.Sources.{IsAt, IsPositionBytes, graph_of}
 use Rattle.legal_moves.proofs.SourceLemmas.{one_position}
-use Rattle.retrograde.specs.Graph.{IsReachable}
-use Rattle.retrograde.specs.Right.{IsRight}
 use Rattle.retrograde.specs.Sound.{IsLocallySound}
 use Rattle.retrograde.specs.Stored.{Stored, view_of, count_below, loaded as just_loaded}
 use Rattle.retrograde.specs.declared.records.Counts.{Counts}
 use Rattle.retrograde.specs.Successors.{packed_cmp}
-use Rattle.retrograde.specs.Units.{UnitsOfWork, processed_in_view}
-use Rattle.retrograde.specs.Values.{WonIn, Drawn}
-use Rattle.retrograde.specs.View.{View, HasNumber, IsKnown, HasValue, IsFinished}
+use Rattle.retrograde.specs.Units.{processed_in_view}
+use Rattle.retrograde.specs.View.{HasNumber, IsFinished}
 use Rattle.retrograde.proofs.Units.{grows_from, settled_stays}
-use Rattle.game_table.specs.Tables.{ArePositions}
 use Rattle.game_table.specs.aid.Laws.{starts_are_positions, sound_tables_fit, a_first_table_is_sound}
 use Rattle.game_table.specs.Work.{AreDone}
 use Rattle.game_table.specs.Texts.{IsText}
@@ -34,7 +29,6 @@ use Rattle.best_line.specs.Values.{IsValue}
 use Rattle.game_file.specs.Kept.{Kept}
 use Rattle.solver.specs.Held.{IsSound, graph_in, wide_in}
 use Rattle.solver.specs.Machine.{Command, load, work, Does, Loads, WorksOnTable}
-use Rattle.solver.specs.declared.fault.SolverFault.{SolverFault}
 use Rattle.solver.specs.declared.replies.Reply.{Reply}
 use Rattle.solver.specs.declared.replies.Reply.TheVariants.{Loaded, Worked, Refused}
 use Rattle.solver.specs.Queries.{OfKept, HasValueAt, HasText}

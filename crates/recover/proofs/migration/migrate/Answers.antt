@@ -1,4 +1,4 @@
-use Rattle.std.proofs.Common.{◌≡◌, ℕ, sym, ◌∙◌, subst}
+use Rattle.std.proofs.Common.{ℕ, sym, ◌∙◌, subst}
 use Rattle.sector_disk.specs.Disk.{Disk}
 use Rattle.solver.specs.Solvers.{state}
 use Rattle.recover.specs.Migrating.{EitherLayout, IsCurrent}

@@ -1,4 +1,4 @@
-use Rattle.std.proofs.Common.{◌≡◌, ◌≢◌, inl, inr, true, false, sym, ◌∙◌}
+use Rattle.std.proofs.Common.{◌≡◌, inl, inr, true, false, sym, ◌∙◌}
 use Rattle.recover.specs.Migrating.{EitherLayout}
 use Rattle.recover.proofs.Migrating.{is_migrated, not_migrated, not_migrated_so}
 use Rattle.recover.proofs.Refusing.{first_cause, none_of_it, read_again, second_cause}

@@ -1,4 +1,4 @@
-use Rattle.std.proofs.Common.{◌≡◌, inl, inr, sym, subst}
+use Rattle.std.proofs.Common.{inr, sym, subst}
 use Rattle.solver.specs.Opening.{IsOpened}
 use Rattle.recover.proofs.migration.move_from.Goals as goal
 
