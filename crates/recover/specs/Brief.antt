@@ -26,7 +26,7 @@ use Rattle.solver.specs.Machine.{Command, load, work}
 
 -- the game that a text says, by the grammar and by what its sections mean; a text that names what it does not declare, or passes a limit, is
 -- refused by `load`
-pub record SaysGame (text : Text) (game : Game) : Type 0 where
+pub record TextSays (text : Text) (game : Game) : Type 0 where
   pub tokens : Tokens
   pub sections : List Section
   pub parses : Parses text tokens sections
@@ -51,7 +51,7 @@ pub record BriefTable : Type 0 where
 -- player in exactly the named number of moves; and where the table is finished, its positions are those that play can come to, and the
 -- unsettled are exactly the drawn
 pub record IsTrueIn (game : Game) (table : BriefTable) : Type 0 where
-  pub says : SaysGame table.text game
+  pub says : TextSays table.text game
   pub once : (i j : ℕ) (at : Position) → HasNumber table.view i at → HasNumber table.view j at → i ≡ j
   pub start : HasNumber table.view 0 (start_of game)
   pub won : (at : Position) (w : Player) (n : ℕ) → HasValue table.view at w n → WonIn (play_of table.goal game) w n at
@@ -73,7 +73,7 @@ TellsValue number value (Some table) = IsValue table.view number value
 abbrev pub TellsText : ℕ → Text → Option BriefTable → Type 0
 TellsText number text None = ⊥
 TellsText number text (Some table) =
-    (game : Game) × (at : Position) × SaysGame table.text game × HasNumber table.view number at × (text ≡ text_of game at)
+    (game : Game) × (at : Position) × TextSays table.text game × HasNumber table.view number at × (text ≡ text_of game at)
 
 -- what a command answers: the game is loaded, this many units are done, or it is refused
 pub data BriefAnswer : Type 0 where

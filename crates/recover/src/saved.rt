@@ -7,7 +7,8 @@ ghost use Rattle.solver.specs.Machine.{Command as Asked, load as load_it, work a
 ghost use Rattle.solver.specs.Units.{units_in};
 ghost use Rattle.recover.specs.aid.Histories.{tells_of, created_by, opened_by, not_opened_by, answered_by, asked_by, broken_by, the_headline_in_brief};
 ghost use Rattle.recover.specs.aid.AtWork.{begins_empty, asked_tells, answered_tells, is_so};
-ghost use Rattle.recover.specs.Brief.{BriefTable, BriefAnswer, IsTrueOfItsGame, Makes, OrBroken, loaded, worked, refused, TellsValue, TellsText, BriefSitting, BriefHistory, BriefHeadline};
+ghost use Rattle.recover.specs.Brief.{BriefTable, BriefAnswer, IsTrueOfItsGame, Makes, OrBroken, loaded, worked};
+ghost use Rattle.recover.specs.Brief.{refused, TellsValue, TellsText, BriefSitting, BriefHistory, BriefHeadline};
 
 use audit::Verdict;
 use best_line::{KnownMoves, Row, Value};

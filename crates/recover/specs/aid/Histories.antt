@@ -13,14 +13,16 @@ use Rattle.solver.specs.declared.replies.Reply.{Reply}
 use Rattle.solver.specs.Growing.{IsGrowth}
 use Rattle.solver.specs.Held.{IsSound}
 use Rattle.solver.specs.Histories.{Sitting, DoAll, DoesInDoubt, LeadTo, IsUsed, no_call, a_question, a_command, a_growth}
-use Rattle.solver.specs.Histories.{Ends, by_closing, in_a_question, in_a_growth, in_a_command, IsSitting, IsFound, HistoryFrom, was_made, was_reopened, was_not_opened}
+use Rattle.solver.specs.Histories.{Ends, by_closing, in_a_question, in_a_growth, in_a_command, IsSitting, IsFound}
+use Rattle.solver.specs.Histories.{HistoryFrom, was_made, was_reopened, was_not_opened}
 use Rattle.solver.specs.Headline.{IsUnlucky}
 use Rattle.solver.specs.Machine.{Command}
 use Rattle.solver.specs.Opening.{IsOpened, IsCreated, OpenCause}
 use Rattle.solver.specs.Runs.{IsTurn}
 use Rattle.solver.proofs.Chains.{the_headline}
 use Rattle.recover.specs.Brief as brief
-use Rattle.recover.specs.Brief.{BriefTable, BriefAnswer, BriefSitting, MakeInTurn, MayMake, SittingsMake, AreCalls, EndsWith, IsBriefSitting, IsFoundAs, BriefHistory, BriefHeadline}
+use Rattle.recover.specs.Brief.{BriefTable, BriefAnswer, BriefSitting, MakeInTurn, MayMake, SittingsMake}
+use Rattle.recover.specs.Brief.{AreCalls, EndsWith, IsBriefSitting, IsFoundAs, BriefHistory, BriefHeadline}
 use Rattle.recover.specs.aid.Telling.{IsToldBy, table_of, table_is_so, brief_answer, does_so}
 
 -- ---- what sittings do
@@ -111,6 +113,10 @@ module _ {S : Type 0} (Stores : ℕ → Layout) (state : S → State) (ready : S
 
   abbrev Calls : List (Command × BriefAnswer) → S → S → Type 0
   Calls = AreCalls disk_of created_by opened_by (not_opened_by Stores) answered_by asked_by broken_by (tells_of state ready)
+
+  -- a history in brief of the solver's calls
+  abbrev pub CallHistory : List BriefSitting → Shown → Type 0
+  CallHistory = BriefHistory disk_of created_by opened_by (not_opened_by Stores) answered_by asked_by broken_by (tells_of state ready)
 
   -- ---- a history in brief is a history
 
@@ -233,11 +239,12 @@ module _ {S : Type 0} (Stores : ℕ → Layout) (state : S → State) (ready : S
     same : map brief_sitting whole ≡ sittings
     history : HistoryFrom Stores None whole left
 
-  found_as : (before : Shown) (disk : Disk) → IsFoundAs disk_of created_by opened_by (not_opened_by Stores) answered_by asked_by broken_by (tells_of state ready) before disk → IsFound Stores before disk
+  found_as : (before : Shown) (disk : Disk)
+      → IsFoundAs disk_of created_by opened_by (not_opened_by Stores) answered_by asked_by broken_by (tells_of state ready) before disk → IsFound Stores before disk
   found_as before disk (honest, as_left) = record { honest = honest; as_left = as_left }
 
   history_is : {sittings : List BriefSitting} {left : Shown}
-      → BriefHistory disk_of created_by opened_by (not_opened_by Stores) answered_by asked_by broken_by (tells_of state ready) sittings left → IsTheHistory sittings left
+      → CallHistory sittings left → IsTheHistory sittings left
   history_is (brief.was_made {d} {s} {sitting} {left} honest (here, (count, created)) sits) =
       let it = sitting_is s sitting left sits here created.is_open (still_honest created.from.goes_on honest) in
       record { whole = it.whole ∷ []; same = ap (λ x. x ∷ []) it.same; history = was_made honest created it.sits }
@@ -263,7 +270,7 @@ module _ {S : Type 0} (Stores : ℕ → Layout) (state : S → State) (ready : S
   -- the headline in brief
   pub the_headline_in_brief : ((pages : ℕ) (picture : Picture) (kept : Option Kept) → Stores pages picture kept → IsTablePicture picture)
       → (sittings : List BriefSitting) (left : Shown) (picture : Picture)
-      → BriefHistory disk_of created_by opened_by (not_opened_by Stores) answered_by asked_by broken_by (tells_of state ready) sittings left → MayLeave left picture
+      → CallHistory sittings left → MayLeave left picture
       → BriefHeadline disk_of created_by opened_by (not_opened_by Stores) answered_by asked_by broken_by (tells_of state ready) sittings picture
   the_headline_in_brief begins sittings left picture history may =
       let it = history_is history in

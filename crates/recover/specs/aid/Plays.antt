@@ -126,6 +126,7 @@ module _ (kind : PackingKind) (goal : Option ℕ) (game : Game) (sound : IsSound
 
   pub reached_down : (x : List ℕ) → IsReachable (graph_of kind goal game) x → (at : Position) → IsAt kind game x at → IsReachable (play_of goal game) at
   reached_down x at_start at here =
-      subst (IsReachable (play_of goal game)) (one_position kind game sound x at (start_of game) here (at_bytes kind game (start_of game) (start_position game sound))) at_start
+      let first = at_bytes kind game (start_of game) (start_position game sound) in
+      subst (IsReachable (play_of goal game)) (one_position kind game sound x at (start_of game) here first) at_start
   reached_down x (by_move {x = y} reached (before, next, from, to, goes)) at here =
       subst (IsReachable (play_of goal game)) (one_position kind game sound x at next here to) (by_move (reached_down y reached before from) goes)

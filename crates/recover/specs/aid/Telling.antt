@@ -33,7 +33,8 @@ use Rattle.solver.specs.declared.replies.Reply.{Reply}
 use Rattle.solver.specs.declared.replies.Reply.TheVariants.{Loaded, Worked, Refused}
 use Rattle.solver.specs.Queries.{OfKept, HasValueAt, HasText}
 use Rattle.solver.specs.aid.Laws.{a_sound_table_is_right, what_is_settled_is_won, finished_is_all, finished_leaves_the_drawn}
-use Rattle.recover.specs.Brief.{SaysGame, BriefTable, IsTrueIn, IsTrueOfItsGame, BriefAnswer, loaded, worked, refused, IsJustLoaded, GoesOnBy, Makes, units_so_far, TellsValue, TellsText}
+use Rattle.recover.specs.Brief.{TextSays, BriefTable, IsTrueIn, IsTrueOfItsGame, BriefAnswer, loaded, worked, refused}
+use Rattle.recover.specs.Brief.{IsJustLoaded, GoesOnBy, Makes, units_so_far, TellsValue, TellsText}
 use Rattle.recover.specs.aid.Plays.{won_down, drawn_same, reached_up, reached_down}
 
 -- ---- the positions of bytes
@@ -119,10 +120,10 @@ module _ (kept : Kept) (sound : IsSound (Some kept)) where
   unfolding brief_of
   finished_down finished = record { all_expanded = finished.all_expanded ∙ sym same_length; all_processed = finished.all_processed }
 
-  says_so : SaysGame kept.text sound.0
+  says_so : TextSays kept.text sound.0
   says_so = go kept.text sound.0 sound.1
     where
-      go : (text : Text) (game : Game) → Reads text game → SaysGame text game
+      go : (text : Text) (game : Game) → Reads text game → TextSays text game
       go text game (reads {ts = ts} {all = all} short flat parses fine means) =
           record { tokens = ts; sections = all; parses = parses; means = means }
 
@@ -248,7 +249,8 @@ module _ (units done : ℕ) (was : Kept) (stored : Stored (List ℕ)) (sound : I
 
   number_later : (i : ℕ) (x : List ℕ) → HasNumber (view_of was.table) i x → HasNumber (view_of stored) i x
   number_later i x number =
-      let (rest, is) = grows_from packed_cmp (graph_in sound.0 was) are.works.more (view_of was.table).expanded was.table.positions stored.positions are.works.grows in
+      let (rest, is) = grows_from packed_cmp (graph_in sound.0 was) are.works.more (view_of was.table).expanded was.table.positions
+      stored.positions are.works.grows in
       subst (λ (xs : List (List ℕ)). slice_get xs i ≡ Some x) (sym is) (get_before was.table.positions rest i x number)
 
   -- a position with these bytes has the number that the bytes have
@@ -269,7 +271,8 @@ module _ (units done : ℕ) (was : Kept) (stored : Stored (List ℕ)) (sound : I
     settled = λ at w n (i, number, is).
         let (x, there, here) = number_up was sound i at number in
         let (j, later, value) =
-        settled_stays packed_cmp (graph_in sound.0 was) (wide_in sound.0 was) (2 ^ 24) (view_of was.table) (view_of stored) done are.works x w n (i, there, is) in
+        settled_stays packed_cmp (graph_in sound.0 was) (wide_in sound.0 was) (2 ^ 24) (view_of was.table) (view_of stored) done are.works
+        x w n (i, there, is) in
         (j, told_later j x at later here, value);
     units = so_far (with_table was stored) now_sound ∙ are.works.units ∙ ap (λ (n : ℕ). n + done) (sym (so_far was sound));
     all = elim are.all [ inl same ↦ inl same | inr (fewer, finished) ↦ inr (fewer, finished_down (with_table was stored) now_sound finished) ];
@@ -281,7 +284,9 @@ works_so : (units : ℕ) (old : Option Kept) (done : ℕ) (counts : Counts) (new
 unfolding with_table
 works_so units None done counts new works sound = let e = works.loaded in cc
 works_so units (Some was) done counts None works sound = let e = works.worked in cc
-works_so units (Some was) done counts (Some is) works sound = go works.was works.is (same_Some was works.was works.loaded) (same_Some is works.is works.worked) works.same_text works.same_packing works.same_goal works.work
+works_so units (Some was) done counts (Some is) works sound =
+    go works.was works.is (same_Some was works.was works.loaded) (same_Some is works.is works.worked) works.same_text works.same_packing
+    works.same_goal works.work
   where
     go : (before after : Kept) → was ≡ before → is ≡ after → after.text ≡ before.text → after.packing ≡ before.packing → after.goal ≡ before.goal
         → ((game : Game) → Reads before.text game → IsLocallySound (graph_in game before) (wide_in game before) before.table
@@ -347,7 +352,7 @@ text_told (Some kept) table (sound, is) number text has =
         (subst (λ (g : Game). IsAt kept.packing g has.bytes is_text.at) same there) here in (
           game,
           is_text.at,
-          subst (λ (g : Game). SaysGame kept.text g) (sym same) (says_so kept sound),
+          subst (λ (g : Game). TextSays kept.text g) (sym same) (says_so kept sound),
           subst (λ (p : Position). HasNumber (brief_of kept sound).view number p) one told,
           is_text.spelled.text_is,
         )
