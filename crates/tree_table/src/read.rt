@@ -5,7 +5,7 @@ ghost use Rattle.retrograde.specs.Edges.{IsAfter, IsNextEdge, HasNoMoreEdges};
 ghost use Rattle.retrograde.specs.Stored.{Stored, HasRecord};
 ghost use Rattle.btree.specs.Page.{Item};
 ghost use Rattle.btree.specs.Entries.{find_entry, next_after as next_in};
-ghost use Rattle.btree.specs.Answers.{filled_bytes, found_bytes, found_entry};
+ghost use Rattle.btree.specs.Answers.{filled_bytes, filled_entry, found_bytes};
 ghost use Rattle.btree.specs.Readers.{HasEntry, IsReading, found_here};
 ghost use Rattle.tree_table.specs.declared.slot.TreeSlot.{TreeSlot};
 ghost use Rattle.tree_table.specs.declared.tree.Tree.{Tree};
@@ -19,7 +19,7 @@ use crate::bytes::{Cell, edge_in, fill_cell, key_behind, number_in, number_key};
 use crate::fault::table_fault;
 use crate::slot::TreeSlot;
 use crate::tree::{Tree, widths_of};
-use btree::find::{Bytes, Entry, Reader, get, get_into, next_after};
+use btree::find::{Bytes, Entry, Reader, get, get_into, next_into, no_entry};
 use page_store::Pages;
 use position_pack::Packed;
 use table::TableFault;
@@ -71,24 +71,25 @@ pub fn value_at<P: Pages>(
     }
 }
 
-/// The entry with the least key of this tree that is greater than this one.
+/// Whether this tree has a key that is greater than this one. The buffer is filled with the entry of the least of them.
 fn entry_after<P: Pages>(
     store: &mut P,
     slot: &TreeSlot,
     tree: Tree,
     key: &[u8],
-) -> Result<Option<Entry>, TableFault>
+    into: &mut Entry,
+) -> Result<bool, TableFault>
     requires some { 1 ≤ slot.now.sizes.packed }
     requires short { slot.now.sizes.packed ≤ MAX_PACKED }
     ensures found { IsTrue (P.store store.old).disk.honest → (text : List ℕ) (entries : Tree → List Item)
         → HasForest slot.now text entries (P.store store.old)
-        → IfOk result (λ found. found_entry found ≡ next_in (entries tree) key.now) }
+        → IfOk result (λ found. filled_entry found into.new ≡ next_in (entries tree) key.now) }
     ensures unchanged { IsUnchanged (P.store store.old) (P.store store.new) }
     ensures works { StoreWorks (P.store store.old) (P.store store.new) }
     ensures cause { IfErr result (ReadCause IsNoForest slot.now (P.store store.old) (P.store store.new)) }
 {
     let widths = widths_of(slot.sizes.packed, tree);
-    match next_after(store, widths, slot.roots.root(tree), key) {
+    match next_into(store, widths, slot.roots.root(tree), key, into) {
         Ok(found) => Ok(found),
         Err(fault) => Err(table_fault(fault)),
     }
@@ -305,9 +306,11 @@ pub fn edge_after<P: Pages>(
     ensures cause { IfErr result (ReadCause IsNoTable slot.now (P.store store.old) (P.store store.new)) }
 {
     let key = key_behind(successor, after);
-    let Some(entry) = entry_after(store, slot, Tree::Edges, &key)? else {
+    let mut entry = no_entry();
+    let more = entry_after(store, slot, Tree::Edges, &key, &mut entry)?;
+    if !more {
         return Ok(None);
-    };
+    }
     let Some((next, predecessor)) = edge_in(&entry.key) else {
         return Err(TableFault::Damaged);
     };
