@@ -3,7 +3,9 @@ ghost use Rattle.std.specs.Prelude.{◌≡◌, ◌≢◌, ◌⊎◌, ◌≤◌, 
 ghost use Rattle.page_store.specs.Places.{AreApart, kept_at};
 
 use crate::edit::{PageEdit, Span};
+use lru::LruCache;
 use std::alloc::{AllocError, Global};
+use std::num::NonZeroUsize;
 
 /// For so many remainders of page numbers a place is remembered.
 const HINTS: usize = 256;
@@ -13,14 +15,14 @@ const HINTS: usize = 256;
 pub struct PageCache {
     /// Which page stands at each place, if one does.
     numbers: Vec<Option<u32>>,
-    /// When the page of each place was used last, 0 where none stands.
-    used: Vec<u64>,
+    /// The places, that which was used last first, as it was when a page was dropped last; none where no page is kept.
+    order: Option<LruCache<usize, ()>>,
+    /// Which places were used since then.
+    marked: Vec<bool>,
     /// The bytes of the pages.
     kept: Vec<[u8; 4096]>,
     /// Where a page may stand, by its number's remainder.
     hints: [u8; HINTS],
-    /// How often pages were used.
-    uses: u64,
     /// The place that was used last.
     last: usize,
     ghost apart: { AreApart numbers.items kept.items },
@@ -33,13 +35,6 @@ fn hint_of(page: u32) -> usize
     page as usize % HINTS
 }
 
-/// Puts down when the page of a place was used last.
-fn set_used(used: &mut Vec<u64>, place: usize, when: u64) {
-    if place < used.len() {
-        used[place] = when;
-    }
-}
-
 impl PageCache {
     ghost use Rattle.page_store.specs.Cache.{HoldsPage, OnlyForgets, HasPlace, IsEditedAt};
 
@@ -47,12 +42,16 @@ impl PageCache {
     pub fn new(alloc: Global, pages: usize) -> Result<PageCache, AllocError>
         ensures { IfOk result (λ cache. (p : ℕ) (bytes : List ℕ) → HoldsPage cache p bytes → ⊥) }
     {
+        let order = match NonZeroUsize::new(pages) {
+            Some(most) => Some(LruCache::new(alloc, most)?),
+            None => None,
+        };
         Ok(PageCache {
             numbers: vec![in alloc; None; pages]?,
-            used: vec![in alloc; 0; pages]?,
+            order,
+            marked: vec![in alloc; false; pages]?,
             kept: Vec::new(alloc),
             hints: [0; HINTS],
-            uses: 0,
             last: 0,
         })
     }
@@ -107,8 +106,9 @@ impl PageCache {
         ensures numbers { self.new.numbers.items ≡ self.old.numbers.items }
         ensures kept { self.new.kept.items ≡ self.old.kept.items }
     {
-        self.uses = self.uses.saturating_add(1);
-        set_used(&mut self.used, place, self.uses);
+        if place < self.marked.len() {
+            self.marked[place] = true;
+        }
         self.hints[hint_of(page)] = (place % HINTS) as u8;
         self.last = place;
     }
@@ -169,29 +169,51 @@ impl PageCache {
         &self.kept[place]
     }
 
-    /// The place that was not used for longest, if there are places. One where no page stands was not used at all.
-    fn oldest(&self) -> Option<usize>
-        ensures { IfSome result (λ place. place < length self.now.numbers.items) }
+    /// Brings the order up to date: the marked places count as used last.
+    fn note_uses(&mut self)
+        ensures numbers { self.new.numbers.items ≡ self.old.numbers.items }
+        ensures kept { self.new.kept.items ≡ self.old.kept.items }
     {
-        let mut found = None;
-        let mut least = u64::MAX;
-        for place in 0..self.numbers.len() {
-            let used = self.used_at(place);
-            if used < least {
-                least = used;
-                found = Some(place);
+        let Some(order) = &mut self.order else {
+            return;
+        };
+        for (place, marked) in self.marked.iter_mut().enumerate() {
+            if *marked {
+                *marked = false;
+                let _distinct = order.len();
+                order.promote(&place);
             }
         }
-        found
     }
 
-    /// When the page of a place was used last.
-    fn used_at(&self, place: usize) -> u64 {
-        if place < self.kept.len() && place < self.used.len() {
-            self.used[place]
-        } else {
-            0
+    /// The place that was not used for longest, if there is one.
+    fn oldest(&self) -> Option<usize>
+        ensures numbers { IfSome result (λ place. place < length self.now.numbers.items) }
+        ensures kept { IfSome result (λ place. place < length self.now.kept.items) }
+    {
+        let Some(order) = &self.order else {
+            return None;
+        };
+        match order.peek_lru() {
+            Some((place, _)) if *place < self.numbers.len() && *place < self.kept.len() => {
+                Some(*place)
+            }
+            _ => None,
         }
+    }
+
+    /// The order has this place too.
+    fn add_place(&mut self, next: usize) -> Result<(), AllocError>
+        ensures numbers { self.new.numbers.items ≡ self.old.numbers.items }
+        ensures kept { self.new.kept.items ≡ self.old.kept.items }
+    {
+        if let Some(order) = &mut self.order {
+            let _distinct = order.len();
+            if order.put(next, ()).is_err() {
+                return Err(AllocError);
+            }
+        }
+        Ok(())
     }
 
     /// Makes room at a place, the next or that of the page that was not used for longest. None where there is no cache.
@@ -200,16 +222,12 @@ impl PageCache {
         ensures numbers { IfOk result (λ made. IfSome made (λ place. place < length self.new.numbers.items)) }
         ensures others { OnlyForgets self.old self.new }
     {
-        let Some(oldest) = self.oldest() else {
-            return Ok(None);
-        };
         let next = self.kept.len();
-        if oldest < next {
-            return Ok(Some(oldest));
-        }
         if next >= self.numbers.len() {
-            return Ok(None);
+            self.note_uses();
+            return Ok(self.oldest());
         }
+        self.add_place(next)?;
         self.numbers[next] = None;
         match self.kept.push([0; 4096]) {
             Ok(()) => Ok(Some(next)),
@@ -235,6 +253,20 @@ impl PageCache {
         Ok(())
     }
 
+    /// The place is the next to be taken.
+    fn demote(&mut self, place: usize)
+        ensures numbers { self.new.numbers.items ≡ self.old.numbers.items }
+        ensures kept { self.new.kept.items ≡ self.old.kept.items }
+    {
+        if place < self.marked.len() {
+            self.marked[place] = false;
+        }
+        if let Some(order) = &mut self.order {
+            let _distinct = order.len();
+            order.demote(&place);
+        }
+    }
+
     /// Drops the page.
     pub fn forget(&mut self, page: u32)
         ensures { (p : ℕ) (held : List ℕ) → HoldsPage self.new p held → (p ≢ page) × HoldsPage self.old p held }
@@ -242,8 +274,8 @@ impl PageCache {
         let Some(place) = self.place_of(page) else {
             return;
         };
+        self.demote(place);
         self.numbers[place] = None;
-        set_used(&mut self.used, place, 0);
     }
 
     /// Drops all pages.

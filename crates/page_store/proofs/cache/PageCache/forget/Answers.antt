@@ -2,7 +2,8 @@ use Rattle.page_store.proofs.Caching.{let_go_of, left_apart}
 use Rattle.page_store.proofs.cache.PageCache.forget.Goals as goal
 
 pub invariant_of-self : goal.invariant_of-self
-invariant_of-self c = record { apart = left_apart _ _ _ _ c.args.self.now.apart c.in-Some.ensures.there }
+invariant_of-self c =
+    record { apart = rw c.demote.ensures.numbers (rw c.demote.ensures.kept (left_apart _ _ _ _ c.args.self.now.apart c.in-Some.ensures.there)) }
 
 pub returns : goal.returns
-returns c = let_go_of _ _ _ _ c.args.self.now.apart c.in-Some.ensures.there
+returns c = rw c.demote.ensures.numbers (rw c.demote.ensures.kept (let_go_of _ _ _ _ c.args.self.now.apart c.in-Some.ensures.there))
