@@ -83,6 +83,14 @@ module _ (items : List Item) (count : ℕ) (key : List ℕ) (low high middle : �
         | inr other ↦ nat_list_cmp_total.trans key here.0 e.0 less (ascend_at items middle k here e sorted (omega (arith, more, other)) at got)
       ]
 
+  -- the key itself stands there: the search is over
+  pub go_found : key_cmp here.0 key ≡ Equal → IsNarrowed items count key (middle + 1) (middle + 1)
+  go_found same = record { ordered = omega arith; within = omega (arith, so_far.within); upto = (go_right (ap is_gt same)).upto; past = each }
+    where
+      each : IsStrictlySortedBy key_cmp (keys_of items) → (k : ℕ) (e : Item) → middle + 1 ≤ k → slice_get items k ≡ Some e → key_cmp key e.0 ≡ Less
+      each sorted k e more got =
+          sym (nat_list_cmp_total.congr here.0 key e.0 same) ∙ ascend_at items middle k here e sorted (omega (arith, more)) at got
+
 pub is_place : (items : List Item) (count : ℕ) (key : List ℕ) (low high : ℕ) → IsNarrowed items count key low high → high ≤ low → IsStrictlySortedBy key_cmp (keys_of items)
     → IsPlace items key low
 is_place items count key low high so_far done sorted = record { upto = so_far.upto sorted; past = λ k e least. so_far.past sorted k e (omega (arith, done, so_far.ordered, least)) }

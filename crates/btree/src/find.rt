@@ -8,6 +8,6 @@ mod read;
 mod reader;
 mod way;
 
-pub use entry::{Bytes, Entry, copied};
-pub use read::{get, get_into, next_after};
+pub use entry::{Bytes, Entry, copied, no_entry};
+pub use read::{get, get_into, next_after, next_into};
 pub use reader::Reader;

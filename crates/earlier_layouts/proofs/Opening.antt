@@ -13,7 +13,7 @@ use Rattle.earlier_layouts.specs.Held.{KeepsTable, capacity_of, Stores, IsOlder}
 use Rattle.earlier_layouts.specs.aid.StoredLaws.{keeps_in_more}
 use Rattle.game_file.specs.Kept.{Kept, in_any}
 use Rattle.earlier_layouts.specs.ReadCauses.{GameReadCause}
-use Rattle.game_file.specs.Calls.{IsOpenedFile}
+use Rattle.game_file.specs.Calls.{IsNotOpened, IsOpenedFile}
 use Rattle.game_file.specs.Causes.{FileOpenCause}
 use Rattle.game_file.specs.Faults.{of_pages}
 use Rattle.game_file.specs.State.{GoesFrom}
@@ -55,6 +55,12 @@ module _ (disk : Disk) (count : ℕ) (found now : Store) (at_first : IsFound dis
   leaves honest =
       leaves_then read.goes_on (at_first.leaves honest)
       (leaves_more (left_before (at_first.same honest)) (read.leaves (still_honest at_first.goes_on honest)))
+
+  -- the disk as it is given back
+  pub not_opened : (back : Disk) (failures : ℕ) → back ≡ now.disk → failures ≡ now.failures → IsNotOpened disk count back failures
+  not_opened back failures same many =
+      subst (λ (d : Disk). IsNotOpened disk count d failures) (sym same)
+      (subst (λ (n : ℕ). IsNotOpened disk count now.disk n) (sym many) (record { from = from; leaves = leaves }))
 
   -- what is in memory is what the disk stores
   stored : (game : Option Game) → IsBacked now (pages_of game) (kept_of game) → IsTrue disk.honest → Stores (length now.marks) disk.now.contents (kept_of game)

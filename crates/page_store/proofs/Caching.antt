@@ -1,239 +1,187 @@
 -- Pages in a cache.
-use Rattle.std.proofs.Common.{◌≡◌, ◌≢◌, ◌⊎◌, inl, inr, ℕ, ◌+◌, ◌-◌, ◌*◌, ◌≤◌, Bool, true, false, cond, nat_eq, List, ◌∷◌, length, take, slice_get, Contains, Option, Some, None, IsSome, Result, Ok, Err, OnOk, IsTrue, refl, sym, ◌∙◌, ap, subst, arith, ◌<◌, set, get_or, length-set}
-use Rattle.std.proofs.lemmas.Bool.{eqb-true, eq-eqb, false≢true, cases_lt, cases_eq}
-use Rattle.std.proofs.lemmas.List.{get_or_past, get_or_default, get_or-set_other}
+use Rattle.std.proofs.Common.{◌≡◌, ◌≢◌, ◌⊎◌, inl, inr, ℕ, ◌+◌, ◌*◌, ◌≤◌, List, [], ◌∷◌, ◌++◌, length, Option, Some, None, Result, Ok, Err, OnOk, IsTrue, refl, sym, ◌∙◌, ap, subst, arith, ◌<◌, set, get_or, length-set, length-append}
+use Rattle.std.proofs.lemmas.Bool.{cases_lt, cases_eq}
+use Rattle.std.proofs.lemmas.List.{get_or_past, get_or_default, get_or-set_other, get_or_append_left}
 use Rattle.std.proofs.lemmas.Grind.{get_or-set_at}
-use Rattle.std.proofs.lemmas.Map.Views.{lookup-from_Contains}
-use Rattle.std.proofs.lemmas.Option.{same_Some, slice_get_within, get_or_from_slice_get}
-use Rattle.std.proofs.lemmas.Map.{lookup-remove_entry, none_passes_from_lookup}
-use Rattle.std.specs.Cmp.{nat_eq_equiv}
-use Rattle.std.specs.List.{IsDistinct}
-use Rattle.std.specs.Map.{keys_of, lookup, lookup_entry, remove_entry}
-use Rattle.std.specs.Option.{option_map, option_map_or, IfSome}
-use Rattle.lru.specs.LruCache.{LruCache, IsValid, put_entries, promoted}
-use Rattle.lru.proofs.CallerLemmas.{Contains-take, Contains-lookup_entry, Contains-lookup, Contains-remove_entry, Contains-promoted}
-use Rattle.lru.proofs.Pairs.{lookup-lookup_entry}
-use Rattle.lru.proofs.Splits.{Contains-cons, all_at}
+use Rattle.std.proofs.lemmas.Option.{same_Some}
+use Rattle.std.specs.Option.{IfSome}
 use Rattle.sector_disk.specs.Disk.{Picture, sector}
 use Rattle.page_store.specs.declared.marks.Mark.{Mark}
 use Rattle.page_store.specs.declared.marks.Mark.TheVariants.{Committed, Waiting, Fresh, Released, Free, Past}
 use Rattle.page_store.specs.declared.holds.Holders.{Holders}
 use Rattle.page_store.specs.Holds.{holders_at}
 use Rattle.page_store.specs.declared.cache.PageCache.{PageCache}
-use Rattle.page_store.specs.declared.cache.KeptPage.{KeptPage}
-use Rattle.page_store.specs.Cache.{HoldsPage, HasPlace, OnlyForgets, IsCacheOf, IsEditedAt, HoldsAt, IsPlaced, entries_of, kept_at, no_page}
+use Rattle.page_store.specs.Cache.{HoldsPage, HasPlace, OnlyForgets, IsCacheOf, IsEditedAt}
+use Rattle.page_store.specs.Places.{HoldsAt, IsPlaced, AreApart, number_at, kept_at}
 use Rattle.page_store.specs.Marks.{mark, keeps, committed, left, AreCommitted, AreLeft, IsMarked, IsKept}
 use Rattle.page_store.specs.Page.{HasSectors, IsWithin, IsElsewhere, StaysElsewhere, eighth, page as page_at}
 use Rattle.page_store.specs.Store.{Store, reads}
 use Rattle.page_store.proofs.Filling.{sectors_read, sectors_same, still_elsewhere}
 
-abbrev pub Entries : Type 0
-Entries = List (ℕ × ℕ)
-
-abbrev pub entries : LruCache ℕ ℕ → Entries
-entries pages = pages.entries
-
--- where a look-up finds nothing the page is not there
-not_found : (q p : ℕ) (held : ℕ) (es : Entries) → lookup (nat_eq q) es ≡ None → Contains es (p, held) → p ≢ q
-not_found q p held es none there same =
-    let missed : nat_eq q p ≡ false = all_at (λ (e : ℕ × ℕ). nat_eq q e.0 ≡ false) es (p, held) (none_passes_from_lookup (nat_eq q) es none) there in
-    false≢true (sym missed ∙ eq-eqb q p (sym same))
-
--- a page that was taken out is not there
-removed : (q p : ℕ) (held : ℕ) (es : Entries) → IsDistinct nat_eq (keys_of es) → Contains (remove_entry (nat_eq q) es) (p, held) → p ≢ q
-removed q p held es apart =
-    not_found q p held (remove_entry (nat_eq q) es)
-    (lookup-remove_entry nat_eq_equiv (nat_eq q) (nat_eq_equiv.congr q) q es apart ∙ ap (λ (b : Bool). cond b None (lookup (nat_eq q) es)) (nat_eq_equiv.refl q))
-
--- what is in a cache after a page was put into it
-abbrev pub AfterPut : ℕ → ℕ → Entries → ℕ → ℕ → Type 0
-AfterPut page place es p held = ((p ≡ page) × (held ≡ place)) ⊎ ((p ≢ page) × Contains es (p, held))
-
-module _ (pages : LruCache ℕ ℕ) (valid : IsValid nat_eq pages) (page : ℕ) (place : ℕ) (p : ℕ) (held : ℕ) where
-  put_by : (found : Option (ℕ × ℕ)) → lookup_entry (nat_eq page) pages.entries ≡ found
-      → Contains (option_map_or (λ e. (e.0, place) ∷ remove_entry (nat_eq page) pages.entries) found ((page, place) ∷ take (pages.cap - 1) pages.entries)) (p, held)
-      → AfterPut page place pages.entries p held
-  put_by None none there = elim (Contains-cons (page, place) (take (pages.cap - 1) pages.entries) (p, held) there) [
-    | inl same ↦ inl (sym (ap (λ (e : ℕ × ℕ). e.0) same), sym (ap (λ (e : ℕ × ℕ). e.1) same))
-    | inr rest ↦
-        let was = Contains-take (pages.cap - 1) pages.entries (p, held) rest in
-        inr (not_found page p held pages.entries (sym (lookup-lookup_entry (nat_eq page) pages.entries) ∙ ap (option_map (λ (e : ℕ × ℕ). e.1)) none) was, was)
-  ]
-  put_by (Some f) found there = elim (Contains-cons (f.0, place) (remove_entry (nat_eq page) pages.entries) (p, held) there) [
-    | inl same ↦ inl (
-      sym (ap (λ (e : ℕ × ℕ). e.0) same) ∙ sym (eqb-true page f.0 (Contains-lookup_entry (nat_eq page) pages.entries f found).1),
-      sym (ap (λ (e : ℕ × ℕ). e.1) same),
-    )
-    | inr rest ↦ inr (removed page p held pages.entries valid.0 rest, Contains-remove_entry (nat_eq page) pages.entries (p, held) rest)
-  ]
-
-  pub put_gives : Contains (put_entries nat_eq pages page place) (p, held) → AfterPut page place pages.entries p held
-  put_gives = put_by (lookup_entry (nat_eq page) pages.entries) refl
-
--- the page was put
-pub put_done : (now new : Entries) (pages : LruCache ℕ ℕ) (page : ℕ) (place : ℕ) → now ≡ pages.entries → new ≡ put_entries nat_eq pages page place
-    → IsValid nat_eq pages → (p : ℕ) (held : ℕ) → Contains new (p, held) → AfterPut page place now p held
-put_done now new pages page place is after valid p held there =
-    subst (λ (xs : Entries). AfterPut page place xs p held) (sym is) (put_gives pages valid page place p held (subst (λ (xs : Entries). Contains xs (p, held)) after there))
-
-none_of : (o : Option ℕ) → (IsSome o → false ≡ true) → o ≡ None
-none_of None never = refl
-none_of (Some x) never = absurd (false≢true (never refl))
-
--- memory was refused, so the page was not there
-pub put_refused : (now new es : Entries) (page : ℕ) → now ≡ es → new ≡ es → (IsSome (lookup (nat_eq page) es) → false ≡ true) → (p place : ℕ)
-    → Contains new (p, place) → (p ≢ page) × Contains now (p, place)
-put_refused now new es page is after never p place there =
-    let was = subst (λ (xs : Entries). Contains xs (p, place)) after there in
-    (not_found page p place es (none_of (lookup (nat_eq page) es) never) was, subst (λ (xs : Entries). Contains xs (p, place)) (sym is) was)
-
--- a page that is found is there
-pub found_there : (now es : Entries) (page : ℕ) (place : ℕ) → now ≡ es → Some place ≡ lookup (nat_eq page) es → Contains now (page, place)
-found_there now es page place is found =
-    let there = Contains-lookup (nat_eq page) es place (sym found) in
-    subst (λ (xs : Entries). Contains xs (page, place)) (sym is) (subst (λ (q : ℕ). Contains es (q, place)) (sym (eqb-true page there.0 there.2)) there.1)
-
--- the first entry is there
-pub first_there : (es : Entries) (page place : ℕ) → slice_get es 0 ≡ Some (page, place) → Contains es (page, place)
-first_there es page place is = (0, slice_get_within es 0 (page, place) is, get_or_from_slice_get es 0 (page, place) (page, place) is)
-
--- a page goes to the front
-pub promoted_part : (now es new : Entries) (page : ℕ) → now ≡ es → new ≡ promoted (nat_eq page) es → (p : ℕ) (held : ℕ) → Contains new (p, held) → Contains now (p, held)
-promoted_part now es new page is after p held there =
-    subst (λ (xs : Entries). Contains xs (p, held)) (sym is) (Contains-promoted (nat_eq page) es (p, held) (subst (λ (xs : Entries). Contains xs (p, held)) after there))
-
 -- a cache that holds no page is one of each store
 pub empty_cache : (store : Store) (cache : PageCache) → ((p : ℕ) (held : List ℕ) → HoldsPage cache p held → ⊥) → IsCacheOf store cache
 empty_cache store cache none = record { kept = λ p held there. absurd (none p held there); same = λ p held there. absurd (none p held there) }
 
--- what stands at a place that there is
-pub stands : (kept : List KeptPage) (place : ℕ) (it : KeptPage) → it ≡ get_or kept place it → place < length kept → kept_at kept place ≡ it
-stands kept place it is within = get_or_default kept place no_page it within ∙ sym is
+-- what a page has at its place
+abbrev pub Numbers : Type 0
+Numbers = List (Option ℕ)
 
--- a place that was found
-pub placed_there : (now : Entries) (es : Entries) (kept : List KeptPage) (page place number : ℕ) (it : KeptPage) → now ≡ es → Some place ≡ lookup (nat_eq page) es
-    → it ≡ get_or kept place it → place < length kept → it.number ≡ Some number → number ≡ page → IsPlaced now kept page place
-placed_there now es kept page place number it is found stands_there within has same = record {
-  named = found_there now es page place is found;
-  number = ap (λ (k : KeptPage). k.number) (stands kept place it stands_there within) ∙ has ∙ ap (λ (n : ℕ). Some n) same;
-}
+abbrev pub Kept : Type 0
+Kept = List (List ℕ)
 
--- a place with a page is there
-pub within_kept : (names : Entries) (kept : List KeptPage) (p place : ℕ) → IsPlaced names kept p place → place < length kept
-within_kept names kept p place placed = by (cases_lt place (length kept))
+-- a page that stands at a place of which a look tells the number
+pub placed_there : (numbers : Numbers) (kept : Kept) (page place : ℕ) (found : Option ℕ) → found ≡ get_or numbers place found → place < length numbers → found ≡ Some page
+    → place < length kept → IsPlaced numbers kept page place
+placed_there numbers kept page place found is here has within = record { number = get_or_default numbers place None found here ∙ sym is ∙ has; within = within }
+
+-- a place with a page has a number
+pub within_numbers : (numbers : Numbers) (kept : Kept) (p place : ℕ) → IsPlaced numbers kept p place → place < length numbers
+within_numbers numbers kept p place placed = by (cases_lt place (length numbers))
   where
-    by : (place < length kept) ⊎ (length kept ≤ place) → place < length kept
+    by : (place < length numbers) ⊎ (length numbers ≤ place) → place < length numbers
     by (inl within) = within
-    by (inr past) = absurd (let no : None ≡ Some p = sym (ap (λ (k : KeptPage). k.number) (get_or_past kept place no_page past)) ∙ placed.number in cc)
+    by (inr past) = absurd (let no : None ≡ Some p = sym (get_or_past numbers place None past) ∙ placed.number in cc)
 
--- the place that a page has is the one that a look-up finds
-pub found_place : (now es : Entries) (kept : List KeptPage) (page : ℕ) (bytes : List ℕ) → now ≡ es → IsDistinct nat_eq (keys_of es)
-    → HoldsAt now kept page bytes → (place : ℕ) × (lookup (nat_eq page) es ≡ Some place) × ((kept_at kept place).number ≡ Some page)
-found_place now es kept page bytes is apart there =
-    (there.place, lookup-from_Contains nat_eq_equiv page there.place es apart (subst (λ (xs : Entries). Contains xs (page, there.place)) is there.placed.named), there.placed.number)
+-- where fewer pages stand, none stands at two places
+pub still_apart : (numbers numbers' : Numbers) (kept kept' : Kept) → AreApart numbers kept
+    → ((p place : ℕ) → IsPlaced numbers' kept' p place → IsPlaced numbers kept p place) → AreApart numbers' kept'
+still_apart numbers numbers' kept kept' apart fewer p x y at_x at_y = apart p x y (fewer p x at_x) (fewer p y at_y)
 
--- a page has one place
-pub one_place : (es : Entries) (p x y : ℕ) → IsDistinct nat_eq (keys_of es) → Contains es (p, x) → Contains es (p, y) → x ≡ y
-one_place es p x y apart at_x at_y =
-    same_Some _ _ (sym (lookup-from_Contains nat_eq_equiv p x es apart at_x) ∙ lookup-from_Contains nat_eq_equiv p y es apart at_y)
+-- what is in a cache after a page was put into it
+abbrev pub AfterPut : ℕ → List ℕ → Numbers → Kept → ℕ → List ℕ → Type 0
+AfterPut page bytes numbers kept p held = ((p ≡ page) × (held ≡ bytes)) ⊎ ((p ≢ page) × HoldsAt numbers kept p held)
 
--- fewer names, and the same pages
-pub fewer_names : (was now : Entries) (kept : List KeptPage) → ((p place : ℕ) → Contains now (p, place) → Contains was (p, place))
-    → (p : ℕ) (bytes : List ℕ) → HoldsAt now kept p bytes → HoldsAt was kept p bytes
-fewer_names was now kept names p bytes there = record {
-  place = there.place;
-  placed = record { named = names p there.place there.placed.named; number = there.placed.number };
-  holds = there.holds;
-}
-
--- the page at a place is let go of
-pub let_go_of : (was now : Entries) (kept : List KeptPage) (page place : ℕ) (it : KeptPage) → IsDistinct nat_eq (keys_of was) → IsPlaced was kept page place
-    → ((p at : ℕ) → Contains now (p, at) → Contains was (p, at)) → it.number ≡ None → place < length kept
-    → (p : ℕ) (bytes : List ℕ) → HoldsAt now (set kept place it) p bytes → (p ≢ page) × HoldsAt was kept p bytes
-let_go_of was now kept page place it apart placed names none within p bytes there = (
-  λ same. at_it (one_place was page there.place place apart (subst (λ (q : ℕ). Contains was (q, there.place)) same was_named) placed.named),
-  record {
-    place = there.place;
-    placed = record { named = was_named; number = sym (ap (λ (k : KeptPage). k.number) other) ∙ there.placed.number };
-    holds = sym (ap (λ (k : KeptPage). k.bytes) other) ∙ there.holds;
-  },
-)
-  where
-    was_named : Contains was (p, there.place)
-    was_named = names p there.place there.placed.named
-
-    at_it : there.place ≡ place → ⊥
-    at_it same = let no : None ≡ Some p = sym none ∙ ap (λ (k : KeptPage). k.number) (sym (get_or-set_at kept place there.place it no_page same within)) ∙ there.placed.number in cc
-
-    other : kept_at (set kept place it) there.place ≡ kept_at kept there.place
-    other = get_or-set_other kept place there.place it no_page at_it
-
--- a page is put at a place
-pub put_at_place : (was now : Entries) (kept : List KeptPage) (page place : ℕ) (it : KeptPage) → ((p at : ℕ) → Contains now (p, at) → AfterPut page place was p at)
-    → it.number ≡ Some page → place < length kept → (p : ℕ) (held : List ℕ) → HoldsAt now (set kept place it) p held
-    → ((p ≡ page) × (held ≡ it.bytes)) ⊎ ((p ≢ page) × HoldsAt was kept p held)
-put_at_place was now kept page place it names numbered within p held there = by (names p there.place there.placed.named)
-  where
-    by : AfterPut page place was p there.place → ((p ≡ page) × (held ≡ it.bytes)) ⊎ ((p ≢ page) × HoldsAt was kept p held)
-    by (inl here) = inl (here.0, sym there.holds ∙ ap (λ (k : KeptPage). k.bytes) (get_or-set_at kept place there.place it no_page here.1 within))
-    by (inr else) =
-        let apart : there.place ≢ place = λ same. else.0 (same_Some _ _ (sym there.placed.number ∙ ap (λ (k : KeptPage). k.number) (get_or-set_at kept place there.place it no_page same within) ∙ numbered)) in
-        let other : kept_at (set kept place it) there.place ≡ kept_at kept there.place = get_or-set_other kept place there.place it no_page apart in
+-- the page of a place gets other bytes
+module _ (numbers : Numbers) (kept : Kept) (page place : ℕ) (bytes : List ℕ) (apart : AreApart numbers kept) (placed : IsPlaced numbers kept page place) where
+  pub put_here : (p : ℕ) (held : List ℕ) → HoldsAt numbers (set kept place bytes) p held → AfterPut page bytes numbers kept p held
+  put_here p held there = elim (cases_eq there.place place) [
+    | inl same ↦ inl (
+      same_Some _ _ (sym there.placed.number ∙ ap (number_at numbers) same ∙ placed.number),
+      sym there.holds ∙ get_or-set_at kept place there.place bytes [] same placed.within,
+    )
+    | inr other ↦
+        let was : IsPlaced numbers kept p there.place = record { number = there.placed.number; within = omega (arith, there.placed.within, length-set kept place bytes) } in
         inr (
-          else.0,
-          record {
-            place = there.place;
-            placed = record { named = else.1; number = sym (ap (λ (k : KeptPage). k.number) other) ∙ there.placed.number };
-            holds = sym (ap (λ (k : KeptPage). k.bytes) other) ∙ there.holds;
-          },
+          λ is. other (apart page there.place place (subst (λ (q : ℕ). IsPlaced numbers kept q there.place) is was) placed),
+          record { place = there.place; placed = was; holds = sym (get_or-set_other kept place there.place bytes [] other) ∙ there.holds },
         )
+  ]
 
--- the page stands at its one place already
-pub one_named : (was : Entries) (page place : ℕ) → ((other : ℕ) → Contains was (page, other) → other ≡ place) → (p at : ℕ) → Contains was (p, at)
-    → AfterPut page place was p at
-one_named was page place only p at named = elim (cases_eq p page) [
-  | inl same ↦ inl (same, only at (subst (λ (q : ℕ). Contains was (q, at)) same named))
-  | inr other ↦ inr (other, named)
-]
+  pub put_apart : AreApart numbers (set kept place bytes)
+  put_apart = still_apart numbers numbers kept (set kept place bytes) apart
+      (λ p at there. record { number = there.number; within = omega (arith, there.within, length-set kept place bytes) })
+
+-- a page that stands nowhere is put at a place
+module _ (numbers : Numbers) (kept : Kept) (page place : ℕ) (bytes : List ℕ) (apart : AreApart numbers kept) (nowhere : (at : ℕ) → IsPlaced numbers kept page at → ⊥)
+    (here : place < length numbers) (within : place < length kept) where
+  else_placed : (p at : ℕ) → at ≢ place → IsPlaced (set numbers place (Some page)) (set kept place bytes) p at → IsPlaced numbers kept p at
+  else_placed p at other there = record {
+    number = sym (get_or-set_other numbers place at (Some page) None other) ∙ there.number;
+    within = omega (arith, there.within, length-set kept place bytes);
+  }
+
+  here_is : (p at : ℕ) → at ≡ place → IsPlaced (set numbers place (Some page)) (set kept place bytes) p at → p ≡ page
+  here_is p at same there = same_Some _ _ (sym there.number ∙ get_or-set_at numbers place at (Some page) None same here)
+
+  pub put_new : (p : ℕ) (held : List ℕ) → HoldsAt (set numbers place (Some page)) (set kept place bytes) p held → AfterPut page bytes numbers kept p held
+  put_new p held there = elim (cases_eq there.place place) [
+    | inl same ↦ inl (
+      here_is p there.place same there.placed,
+      sym there.holds ∙ get_or-set_at kept place there.place bytes [] same within,
+    )
+    | inr other ↦
+        let was = else_placed p there.place other there.placed in
+        inr (
+          λ is. nowhere there.place (subst (λ (q : ℕ). IsPlaced numbers kept q there.place) is was),
+          record { place = there.place; placed = was; holds = sym (get_or-set_other kept place there.place bytes [] other) ∙ there.holds },
+        )
+  ]
+
+  pub new_apart : AreApart (set numbers place (Some page)) (set kept place bytes)
+  new_apart p x y at_x at_y = by (cases_eq x place) (cases_eq y place)
+    where
+      wrong : (at : ℕ) → at ≢ place → p ≡ page → IsPlaced (set numbers place (Some page)) (set kept place bytes) p at → ⊥
+      wrong at other is there = nowhere at (subst (λ (q : ℕ). IsPlaced numbers kept q at) is (else_placed p at other there))
+
+      by : (x ≡ place) ⊎ (x ≢ place) → (y ≡ place) ⊎ (y ≢ place) → x ≡ y
+      by (inl one) (inl two) = one ∙ sym two
+      by (inl one) (inr two) = absurd (wrong y two (here_is p x one at_x) at_y)
+      by (inr one) (inl two) = absurd (wrong x one (here_is p y two at_y) at_x)
+      by (inr one) (inr two) = apart p x y (else_placed p x one at_x) (else_placed p y two at_y)
+
+-- a place has no page any more
+module _ (numbers : Numbers) (kept : Kept) (page place : ℕ) (apart : AreApart numbers kept) (placed : IsPlaced numbers kept page place) where
+  left_placed : (p at : ℕ) → IsPlaced (set numbers place None) kept p at → (p ≢ page) × IsPlaced numbers kept p at
+  left_placed p at there =
+      let other : at ≢ place = λ same. (let no : None ≡ Some p = sym (get_or-set_at numbers place at None None same (within_numbers numbers kept page place placed)) ∙ there.number in cc) in
+      let was : IsPlaced numbers kept p at = record { number = sym (get_or-set_other numbers place at None None other) ∙ there.number; within = there.within } in
+      (λ is. other (apart page at place (subst (λ (q : ℕ). IsPlaced numbers kept q at) is was) placed), was)
+
+  pub let_go_of : (p : ℕ) (held : List ℕ) → HoldsAt (set numbers place None) kept p held → (p ≢ page) × HoldsAt numbers kept p held
+  let_go_of p held there =
+      let was = left_placed p there.place there.placed in
+      (was.0, record { place = there.place; placed = was.1; holds = there.holds })
+
+  pub left_apart : AreApart (set numbers place None) kept
+  left_apart = still_apart numbers (set numbers place None) kept kept apart (λ p at there. (left_placed p at there).1)
+
+-- a place more, where no page stands
+module _ (numbers : Numbers) (kept : Kept) (place : ℕ) (bytes : List ℕ) (apart : AreApart numbers kept) (here : place < length numbers) (next : place ≡ length kept) where
+  grown_placed : (p at : ℕ) → IsPlaced (set numbers place None) (kept ++ bytes ∷ []) p at → IsPlaced numbers kept p at
+  grown_placed p at there =
+      let other : at ≢ place = λ same. (let no : None ≡ Some p = sym (get_or-set_at numbers place at None None same here) ∙ there.number in cc) in
+      record {
+        number = sym (get_or-set_other numbers place at None None other) ∙ there.number;
+        within = omega (arith, there.within, other, next, length-append kept (bytes ∷ []));
+      }
+
+  pub grown_holds : (p : ℕ) (held : List ℕ) → HoldsAt (set numbers place None) (kept ++ bytes ∷ []) p held → HoldsAt numbers kept p held
+  grown_holds p held there =
+      let was = grown_placed p there.place there.placed in
+      record { place = there.place; placed = was; holds = sym (get_or_append_left kept (bytes ∷ []) [] there.place was.within) ∙ there.holds }
+
+  pub grown_apart : AreApart (set numbers place None) (kept ++ bytes ∷ [])
+  grown_apart = still_apart numbers (set numbers place None) kept (kept ++ bytes ∷ []) apart grown_placed
+
+  pub blank_holds : (p : ℕ) (held : List ℕ) → HoldsAt (set numbers place None) kept p held → HoldsAt numbers kept p held
+  blank_holds p held there =
+      let other : there.place ≢ place = omega (arith, there.placed.within, next) in
+      record {
+        place = there.place;
+        placed = record { number = sym (get_or-set_other numbers place there.place None None other) ∙ there.placed.number; within = there.placed.within };
+        holds = there.holds;
+      }
+
+  pub blank_apart : AreApart (set numbers place None) kept
+  blank_apart = still_apart numbers (set numbers place None) kept kept apart
+      (λ p at there. record { number = sym (get_or-set_other numbers place at None None (omega (arith, there.within, next))) ∙ there.number; within = there.within })
 
 -- a page is edited at its place
-pub edited_at : (Edits : List ℕ → List ℕ → Type 0) (from to : ℕ) (old new : PageCache) (page place : ℕ) (was it : KeptPage) → HasPlace old page place
-    → ((other : ℕ) → Contains (entries_of old.places) (page, other) → other ≡ place) → kept_at old.kept.items place ≡ was → it.number ≡ was.number
-    → entries_of new.places ≡ entries_of old.places → new.kept.items ≡ set old.kept.items place it → Edits was.bytes it.bytes
-    → StaysElsewhere from to was.bytes it.bytes → IsEditedAt Edits from to page place old new
-edited_at Edits from to old new page place was it placed only stood numbered names kept edits elsewhere = record {
-  was = was.bytes;
-  held = record { place = place; placed = placed; holds = ap (λ (k : KeptPage). k.bytes) stood };
-  within = omega (arith, within, ap (λ (ks : List KeptPage). length ks) kept, length-set old.kept.items place it);
-  edits = subst (λ (k : KeptPage). Edits was.bytes k.bytes) (sym here) edits;
-  elsewhere = subst (λ (k : KeptPage). StaysElsewhere from to was.bytes k.bytes) (sym here) elsewhere;
+pub edited_at : (Edits : List ℕ → List ℕ → Type 0) (from to : ℕ) (old new : PageCache) (page place : ℕ) (was it : List ℕ) → HasPlace old page place
+    → AreApart old.numbers.items old.kept.items → kept_at old.kept.items place ≡ was
+    → new.numbers.items ≡ old.numbers.items → new.kept.items ≡ set old.kept.items place it → Edits was it
+    → StaysElsewhere from to was it → IsEditedAt Edits from to page place old new
+edited_at Edits from to old new page place was it placed apart stood numbers kept edits elsewhere = record {
+  was = was;
+  held = record { place = place; placed = placed; holds = stood };
+  within = omega (arith, placed.within, ap (λ (ks : Kept). length ks) kept, length-set old.kept.items place it);
+  edits = subst (λ (bs : List ℕ). Edits was bs) (sym here) edits;
+  elsewhere = subst (λ (bs : List ℕ). StaysElsewhere from to was bs) (sym here) elsewhere;
   after = after;
 }
   where
-    within : place < length old.kept.items
-    within = within_kept (entries_of old.places) old.kept.items page place placed
-
     here : kept_at new.kept.items place ≡ it
-    here = ap (λ (ks : List KeptPage). kept_at ks place) kept ∙ get_or-set_at old.kept.items place place it no_page refl within
+    here = ap (λ (ks : Kept). kept_at ks place) kept ∙ get_or-set_at old.kept.items place place it [] refl placed.within
 
     after : (p : ℕ) (held : List ℕ) → HoldsPage new p held
-        → ((p ≡ page) × (held ≡ (kept_at new.kept.items place).bytes)) ⊎ ((p ≢ page) × HoldsPage old p held)
+        → ((p ≡ page) × (held ≡ kept_at new.kept.items place)) ⊎ ((p ≢ page) × HoldsPage old p held)
     after p held there =
-        let now : HoldsAt (entries_of old.places) (set old.kept.items place it) p held =
-        subst (λ (ks : List KeptPage). HoldsAt (entries_of old.places) ks p held) kept (subst (λ (es : Entries). HoldsAt es new.kept.items p held) names there) in
-        elim (put_at_place (entries_of old.places) (entries_of old.places) old.kept.items page place it (one_named (entries_of old.places) page place only)
-        (numbered ∙ sym (ap (λ (k : KeptPage). k.number) stood) ∙ placed.number) within p held now) [
-          | inl it_is ↦ inl (it_is.0, it_is.1 ∙ sym (ap (λ (k : KeptPage). k.bytes) here))
+        let now : HoldsAt old.numbers.items (set old.kept.items place it) p held =
+        subst (λ (ks : Kept). HoldsAt old.numbers.items ks p held) kept (subst (λ (ns : Numbers). HoldsAt ns new.kept.items p held) numbers there) in
+        elim (put_here old.numbers.items old.kept.items page place it apart placed p held now) [
+          | inl it_is ↦ inl (it_is.0, it_is.1 ∙ sym here)
           | inr else ↦ inr else
         ]
-
--- no place is named for the page, since memory was refused
-pub refused_place : (was now : Entries) (kept : List KeptPage) (page : ℕ) → ((p place : ℕ) → Contains now (p, place) → (p ≢ page) × Contains was (p, place))
-    → (p : ℕ) (held : List ℕ) → HoldsAt now kept p held → (p ≢ page) × HoldsAt was kept p held
-refused_place was now kept page names p held there = (
-  (names p there.place there.placed.named).0,
-  fewer_names was now kept (λ q place named. (names q place named).1) p held there,
-)
 
 -- what was held apart from the page was held before
 pub else_part : (was cache : PageCache) (page : ℕ) (bytes : List ℕ) → OnlyForgets was cache → (p : ℕ) (held : List ℕ)
@@ -257,6 +205,11 @@ carried old new was cache of part honest kept same = record {
 pub held_reads : (store : Store) (cache : PageCache) → IsCacheOf store cache → (p : ℕ) (bytes : List ℕ) → HoldsPage cache p bytes → IsTrue store.disk.honest
     → bytes ≡ reads store p
 held_reads store cache of p bytes there honest = sectors_read store.disk.now.contents p bytes (of.same p bytes there honest)
+
+-- what is said of what is there, of what is there
+pub given_some : {X : Type 0} (P : X → Type 0) (o : Option X) (x : X) → o ≡ Some x → IfSome o P → P x
+given_some P (Some y) x is it = subst P (same_Some _ _ is) it
+given_some P None x is it = absurd (let no : None ≡ Some x = is in cc)
 
 -- what is said of what is there, if anything is
 pub kept_some : {X : Type 0} {P Q : X → Type 0} (o : Option X) → ((x : X) → P x → Q x) → IfSome o P → IfSome o Q
@@ -288,7 +241,7 @@ added old new was cache page bytes of after honest marks kept same others = reco
 
 -- a page of the cache was edited, and has these bytes now
 module _ (old : Store) (was cache : PageCache) (Edits : List ℕ → List ℕ → Type 0) (from to page place : ℕ) (bytes : List ℕ) (of : IsCacheOf old was)
-    (edited : IsEditedAt Edits from to page place was cache) (at : bytes ≡ (kept_at cache.kept.items place).bytes) where
+    (edited : IsEditedAt Edits from to page place was cache) (at : bytes ≡ kept_at cache.kept.items place) where
   -- what was not edited of it is on the disk
   pub edited_elsewhere : IsTrue old.disk.honest → (k : ℕ) → IsElsewhere from to k → sector old.disk.now.contents (8 * page + k) ≡ eighth k bytes
   edited_elsewhere honest = still_elsewhere old.disk.now.contents page from to edited.was bytes (of.same page edited.was edited.held honest)

@@ -1,43 +1,18 @@
 -- Pages in memory.
-use Rattle.std.specs.Prelude.{◌≡◌, ◌≢◌, ◌⊎◌, ℕ, ◌<◌, List, length, [], slice_index_or, Contains, Option, Some, None, IsTrue}
-use Rattle.lru.specs.LruCache.{LruCache}
-use Rattle.page_store.specs.declared.cache.KeptPage.{KeptPage}
+use Rattle.std.specs.Prelude.{◌≡◌, ◌≢◌, ◌⊎◌, ℕ, ◌<◌, List, length, IsTrue}
 use Rattle.page_store.specs.declared.cache.PageCache.{PageCache}
 use Rattle.page_store.specs.Marks.{IsKept}
+use Rattle.page_store.specs.Places.{IsPlaced, HoldsAt, kept_at}
 use Rattle.page_store.specs.Page.{HasSectors, StaysElsewhere}
 use Rattle.page_store.specs.Store.{Store}
 
--- the names of the places: which page stands at which, none where there is no cache
-abbrev pub entries_of : Option (LruCache ℕ ℕ) → List (ℕ × ℕ)
-entries_of None = []
-entries_of (Some places) = places.entries
-
--- a place without a page
-abbrev pub no_page : KeptPage
-no_page = record { number = None; bytes = [] }
-
--- what stands at a place
-abbrev pub kept_at : List KeptPage → ℕ → KeptPage
-kept_at kept place = slice_index_or kept place no_page
-
--- this place is named for the page, and the page stands there
-pub record IsPlaced (names : List (ℕ × ℕ)) (kept : List KeptPage) (p place : ℕ) : Type 0 where
-  pub named : Contains names (p, place)
-  pub number : (kept_at kept place).number ≡ Some p
-
--- the page stands at a place that is named for it, with these bytes
-pub record HoldsAt (names : List (ℕ × ℕ)) (kept : List KeptPage) (p : ℕ) (bytes : List ℕ) : Type 0 where
-  pub place : ℕ
-  pub placed : IsPlaced names kept p place
-  pub holds : (kept_at kept place).bytes ≡ bytes
-
 -- the place of a page in the cache
 abbrev pub HasPlace : PageCache → ℕ → ℕ → Type 0
-HasPlace cache = IsPlaced (entries_of cache.places) cache.kept.items
+HasPlace cache = IsPlaced cache.numbers.items cache.kept.items
 
 -- the cache holds this page with these bytes
 abbrev pub HoldsPage : PageCache → ℕ → List ℕ → Type 0
-HoldsPage cache = HoldsAt (entries_of cache.places) cache.kept.items
+HoldsPage cache = HoldsAt cache.numbers.items cache.kept.items
 
 -- what the one holds the other held
 abbrev pub OnlyForgets : PageCache → PageCache → Type 0
@@ -49,10 +24,10 @@ pub record IsEditedAt (Edits : List ℕ → List ℕ → Type 0) (from to page p
   pub was : List ℕ
   pub held : HoldsPage old page was
   pub within : place < length new.kept.items
-  pub edits : Edits was (kept_at new.kept.items place).bytes
-  pub elsewhere : StaysElsewhere from to was (kept_at new.kept.items place).bytes
+  pub edits : Edits was (kept_at new.kept.items place)
+  pub elsewhere : StaysElsewhere from to was (kept_at new.kept.items place)
   pub after : (p : ℕ) (bytes : List ℕ) → HoldsPage new p bytes
-      → ((p ≡ page) × (bytes ≡ (kept_at new.kept.items place).bytes)) ⊎ ((p ≢ page) × HoldsPage old p bytes)
+      → ((p ≡ page) × (bytes ≡ (kept_at new.kept.items place))) ⊎ ((p ≢ page) × HoldsPage old p bytes)
 
 -- each page in the cache is one that the next root may need, with the bytes that its sectors have; so a page of a commit that
 -- was given up is in no cache

@@ -5,6 +5,7 @@ pub mod Causes
 pub mod Holds
 pub mod Marks
 pub mod Page
+pub mod Places
 pub mod Spelling
 pub mod Store
 pub mod Pages

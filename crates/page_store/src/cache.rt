@@ -1,101 +1,116 @@
 //! Pages in memory, so that they need not be read again.
-ghost use Rattle.std.specs.Prelude.{◌≡◌, ◌≢◌, ◌⊎◌, ◌≤◌, ◌<◌, ℕ, List, Some, Contains, IsTrue, IfOk, IfSome, IfNone, length};
-ghost use Rattle.page_store.specs.Cache.{HoldsPage, OnlyForgets, HasPlace, IsEditedAt, entries_of, kept_at};
+ghost use Rattle.std.specs.Prelude.{◌≡◌, ◌≢◌, ◌⊎◌, ◌≤◌, ◌<◌, ℕ, List, IsTrue, IfOk, IfSome, IfNone, false, length};
+ghost use Rattle.page_store.specs.Places.{AreApart, kept_at};
 
 use crate::edit::{PageEdit, Span};
 use lru::LruCache;
 use std::alloc::{AllocError, Global};
 use std::num::NonZeroUsize;
 
-/// A place for a page, with the page that stands there, if one does.
-#[derive(Drop)]
-pub struct KeptPage {
-    number: Option<u32>,
-    bytes: [u8; 4096],
-}
+/// For so many remainders of page numbers a place is remembered.
+const HINTS: usize = 256;
 
-/// The pages that were read or written last. It holds this many at most, and where there is no cache none.
+/// The pages that were read or written last. It holds this many at most, and where there is no place none.
 #[derive(Drop)]
 pub struct PageCache {
-    /// The place of each page, the page that was used last first.
-    places: Option<LruCache<u32, usize>>,
-    kept: Vec<KeptPage>,
+    /// Which page stands at each place, if one does.
+    numbers: Vec<Option<u32>>,
+    /// The places, that which was used last first, as it was when a page was dropped last; none where no page is kept.
+    order: Option<LruCache<usize, ()>>,
+    /// Which places were used since then.
+    marked: Vec<bool>,
+    /// The bytes of the pages.
+    kept: Vec<[u8; 4096]>,
+    /// Where a page may stand, by its number's remainder.
+    hints: [u8; HINTS],
+    /// The place that was used last.
+    last: usize,
+    ghost apart: { AreApart numbers.items kept.items },
 }
 
-/// The place of the page, if it is the one that was used last.
-fn last_place(places: &LruCache<u32, usize>, page: u32) -> Option<usize>
-    ensures { IfSome result (λ place. Contains places.now.entries (page, place)) }
+/// Where the place of this page is remembered.
+fn hint_of(page: u32) -> usize
+    ensures { result < 256 }
 {
-    match places.peek_mru() {
-        Some((number, place)) if *number == page => Some(*place),
-        _ => None,
-    }
+    page as usize % HINTS
 }
 
 impl PageCache {
+    ghost use Rattle.page_store.specs.Cache.{HoldsPage, OnlyForgets, HasPlace, IsEditedAt};
+
     /// An empty cache for this many pages.
     pub fn new(alloc: Global, pages: usize) -> Result<PageCache, AllocError>
         ensures { IfOk result (λ cache. (p : ℕ) (bytes : List ℕ) → HoldsPage cache p bytes → ⊥) }
     {
-        let kept = Vec::new(alloc);
-        match NonZeroUsize::new(pages) {
-            Some(most) => Ok(PageCache {
-                places: Some(LruCache::new(alloc, most)?),
-                kept,
-            }),
-            None => Ok(PageCache { places: None, kept }),
-        }
+        let order = match NonZeroUsize::new(pages) {
+            Some(most) => Some(LruCache::new(alloc, most)?),
+            None => None,
+        };
+        Ok(PageCache {
+            numbers: vec![in alloc; None; pages]?,
+            order,
+            marked: vec![in alloc; false; pages]?,
+            kept: Vec::new(alloc),
+            hints: [0; HINTS],
+            last: 0,
+        })
     }
 
     /// Whether the page stands at this place.
     fn stands_at(&self, page: u32, place: usize) -> bool
-        ensures { IsTrue result → (kept_at self.now.kept.items place).number ≡ Some page }
+        ensures stands { IsTrue result → HasPlace self.now page place }
+        ensures not { result ≡ false → HasPlace self.now page place → ⊥ }
     {
-        place < self.kept.len() && self.kept[place].number == Some(page)
+        place < self.numbers.len() && place < self.kept.len() && self.numbers[place] == Some(page)
     }
 
-    /// Where the page is, if it is there and was used last. It has no other place.
+    /// Where the page is, if it is there and was used last.
     fn place_of_last(&self, page: u32) -> Option<usize>
-        ensures there { IfSome result (HasPlace self.now page) }
-        ensures only { IfSome result (λ place. (other : ℕ) → Contains (entries_of self.now.places) (page, other) → other ≡ place) }
+        ensures { IfSome result (HasPlace self.now page) }
     {
-        let Some(places) = &self.places else {
-            return None;
-        };
-        let _distinct = places.len();
-        match last_place(places, page) {
-            Some(place) if self.stands_at(page, place) => Some(place),
-            _ => None,
+        if self.stands_at(page, self.last) {
+            Some(self.last)
+        } else {
+            None
         }
     }
 
     /// Where the page is, if it is there.
     fn place_of(&self, page: u32) -> Option<usize>
         ensures there { IfSome result (HasPlace self.now page) }
-        ensures none { IfNone result ((bytes : List ℕ) → HoldsPage self.now page bytes → ⊥) }
+        ensures none { IfNone result ((place : ℕ) → HasPlace self.now page place → ⊥) }
     {
-        match self.place_of_last(page) {
-            Some(place) => Some(place),
-            None => self.place_of_any(page),
+        let place = usize::from(self.hints[hint_of(page)]);
+        if self.stands_at(page, place) {
+            Some(place)
+        } else {
+            self.place_of_any(page)
         }
     }
 
-    /// Where the page is, if it is there, whenever it was used.
+    /// Where the page is, if it is there, looked for at all places.
     fn place_of_any(&self, page: u32) -> Option<usize>
         ensures there { IfSome result (HasPlace self.now page) }
-        ensures none { IfNone result ((bytes : List ℕ) → HoldsPage self.now page bytes → ⊥) }
+        ensures none { IfNone result ((place : ℕ) → HasPlace self.now page place → ⊥) }
     {
-        let Some(places) = &self.places else {
-            return None;
-        };
-        let _distinct = places.len();
-        match places.peek(&page) {
-            Some(place) if *place < self.kept.len() => match self.kept[*place].number {
-                Some(number) if number == page => Some(*place),
-                _ => None,
-            },
-            _ => None,
+        for place in 0..self.numbers.len() {
+            if self.stands_at(page, place) {
+                return Some(place);
+            }
         }
+        None
+    }
+
+    /// The page of this place counts as used, and its place is remembered.
+    fn use_place(&mut self, page: u32, place: usize)
+        ensures numbers { self.new.numbers.items ≡ self.old.numbers.items }
+        ensures kept { self.new.kept.items ≡ self.old.kept.items }
+    {
+        if place < self.marked.len() {
+            self.marked[place] = true;
+        }
+        self.hints[hint_of(page)] = (place % HINTS) as u8;
+        self.last = place;
     }
 
     /// Copies the page, if it is there.
@@ -106,22 +121,20 @@ impl PageCache {
         let Some(place) = self.place_of(page) else {
             return false;
         };
-        *into = self.kept[place].bytes;
-        let _used = self.touch(page);
+        *into = self.kept[place];
+        self.use_place(page, place);
         true
     }
 
-    /// Whether there is a place for the page, which then counts as used.
+    /// Whether the page is there, which then counts as used.
     pub fn touch(&mut self, page: u32) -> bool
         ensures { OnlyForgets self.old self.new }
     {
-        let Some(places) = &mut self.places else {
+        let Some(place) = self.place_of(page) else {
             return false;
         };
-        if last_place(places, page).is_some() {
-            return true;
-        }
-        places.promote(&page)
+        self.use_place(page, place);
+        true
     }
 
     /// The bytes of the page, if it is there.
@@ -129,7 +142,7 @@ impl PageCache {
         ensures { IfSome result (λ bytes. HoldsPage self.now page bytes.now) }
     {
         match self.place_of(page) {
-            Some(place) => Some(&self.kept[place].bytes),
+            Some(place) => Some(&self.kept[place]),
             None => None,
         }
     }
@@ -142,7 +155,7 @@ impl PageCache {
         let Some(place) = self.place_of_last(page) else {
             return None;
         };
-        match edit.apply(&mut self.kept[place].bytes) {
+        match edit.apply(&mut self.kept[place]) {
             Some(span) => Some((place, span)),
             None => None,
         }
@@ -151,43 +164,75 @@ impl PageCache {
     /// The bytes at a place.
     pub fn bytes_at(&self, place: usize) -> &[u8; 4096]
         requires { place < length self.now.kept.items }
-        ensures { result.now ≡ (kept_at self.now.kept.items place).bytes }
+        ensures { result.now ≡ kept_at self.now.kept.items place }
     {
-        &self.kept[place].bytes
+        &self.kept[place]
     }
 
-    /// A place for the page: its own, the next one, or that of the page that was not used for longest.
-    fn place_for(&self, page: u32) -> usize
-        ensures { result ≤ length self.now.kept.items }
+    /// Brings the order up to date: the marked places count as used last.
+    fn note_uses(&mut self)
+        ensures numbers { self.new.numbers.items ≡ self.old.numbers.items }
+        ensures kept { self.new.kept.items ≡ self.old.kept.items }
     {
-        let next = self.kept.len();
-        let Some(places) = &self.places else {
-            return next;
+        let Some(order) = &mut self.order else {
+            return;
         };
-        let place = match (places.peek(&page), places.peek_lru()) {
-            (Some(place), _) => *place,
-            (None, Some((_, place))) if next >= places.cap().get() => *place,
-            _ => next,
-        };
-        place.min(next)
+        for (place, marked) in self.marked.iter_mut().enumerate() {
+            if *marked {
+                *marked = false;
+                let _distinct = order.len();
+                order.promote(&place);
+            }
+        }
     }
 
-    /// Makes room at a place for the page, where the next is one more than there are.
-    fn make_place(&mut self, page: u32) -> Result<usize, AllocError>
-        ensures within { IfOk result (λ place. place < length self.new.kept.items) }
-        ensures others { OnlyForgets self.old self.new }
+    /// The place that was not used for longest, if there is one.
+    fn oldest(&self) -> Option<usize>
+        ensures numbers { IfSome result (λ place. place < length self.now.numbers.items) }
+        ensures kept { IfSome result (λ place. place < length self.now.kept.items) }
     {
-        let place = self.place_for(page);
-        if place == self.kept.len() {
-            let empty = KeptPage {
-                number: None,
-                bytes: [0; 4096],
-            };
-            if self.kept.push(empty).is_err() {
+        let Some(order) = &self.order else {
+            return None;
+        };
+        match order.peek_lru() {
+            Some((place, _)) if *place < self.numbers.len() && *place < self.kept.len() => {
+                Some(*place)
+            }
+            _ => None,
+        }
+    }
+
+    /// The order has this place too.
+    fn add_place(&mut self, next: usize) -> Result<(), AllocError>
+        ensures numbers { self.new.numbers.items ≡ self.old.numbers.items }
+        ensures kept { self.new.kept.items ≡ self.old.kept.items }
+    {
+        if let Some(order) = &mut self.order {
+            let _distinct = order.len();
+            if order.put(next, ()).is_err() {
                 return Err(AllocError);
             }
         }
-        Ok(place)
+        Ok(())
+    }
+
+    /// Makes room at a place, the next or that of the page that was not used for longest. None where there is no cache.
+    fn make_place(&mut self) -> Result<Option<usize>, AllocError>
+        ensures kept { IfOk result (λ made. IfSome made (λ place. place < length self.new.kept.items)) }
+        ensures numbers { IfOk result (λ made. IfSome made (λ place. place < length self.new.numbers.items)) }
+        ensures others { OnlyForgets self.old self.new }
+    {
+        let next = self.kept.len();
+        if next >= self.numbers.len() {
+            self.note_uses();
+            return Ok(self.oldest());
+        }
+        self.add_place(next)?;
+        self.numbers[next] = None;
+        match self.kept.push([0; 4096]) {
+            Ok(()) => Ok(Some(next)),
+            Err(_) => Err(AllocError),
+        }
     }
 
     /// Keeps the page with these bytes, in the place of what was there. Where memory is refused the page is left out.
@@ -195,34 +240,31 @@ impl PageCache {
         ensures { (p : ℕ) (held : List ℕ) → HoldsPage self.new p held
             → ((p ≡ page) × (held ≡ bytes.now)) ⊎ ((p ≢ page) × HoldsPage self.old p held) }
     {
-        if let Some(place) = self.place_of_last(page) {
-            let kept = &mut self.kept[place];
-            kept.number = Some(page);
-            kept.bytes = *bytes;
+        if let Some(place) = self.place_of(page) {
+            self.kept[place] = *bytes;
+            self.use_place(page, place);
             return Ok(());
         }
-        if self.places.is_none() {
-            return Ok(());
-        }
-        let place = match self.make_place(page) {
-            Ok(place) => place,
-            Err(refused) => {
-                self.forget(page);
-                return Err(refused);
-            }
-        };
-        if let Some(places) = &mut self.places {
-            let _distinct = places.len();
-            match places.put(page, place) {
-                Ok(_) => {
-                    let kept = &mut self.kept[place];
-                    kept.number = Some(page);
-                    kept.bytes = *bytes;
-                }
-                Err(_) => return Err(AllocError),
-            }
+        if let Some(place) = self.make_place()? {
+            self.numbers[place] = Some(page);
+            self.kept[place] = *bytes;
+            self.use_place(page, place);
         }
         Ok(())
+    }
+
+    /// The place is the next to be taken.
+    fn demote(&mut self, place: usize)
+        ensures numbers { self.new.numbers.items ≡ self.old.numbers.items }
+        ensures kept { self.new.kept.items ≡ self.old.kept.items }
+    {
+        if place < self.marked.len() {
+            self.marked[place] = false;
+        }
+        if let Some(order) = &mut self.order {
+            let _distinct = order.len();
+            order.demote(&place);
+        }
     }
 
     /// Drops the page.
@@ -232,20 +274,14 @@ impl PageCache {
         let Some(place) = self.place_of(page) else {
             return;
         };
-        self.kept[place].number = None;
-        if let Some(places) = &mut self.places {
-            let _distinct = places.len();
-            places.demote(&page);
-        }
+        self.demote(place);
+        self.numbers[place] = None;
     }
 
     /// Drops all pages.
     pub fn clear(&mut self)
         ensures { (p : ℕ) (held : List ℕ) → HoldsPage self.new p held → ⊥ }
     {
-        if let Some(places) = &mut self.places {
-            places.clear();
-        }
         self.kept.clear();
     }
 }

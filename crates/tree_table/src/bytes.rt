@@ -1,11 +1,12 @@
 //! Numbers, edges and cells as bytes of entries.
-ghost use Rattle.std.specs.Prelude.{◌≡◌, ◌≤◌, ◌<◌, ◌^◌, ◌++◌, ℕ, List, Some, IfSome, IfNone, length};
+ghost use Rattle.std.specs.Prelude.{◌≡◌, ◌≤◌, ◌<◌, ◌^◌, ◌++◌, ℕ, List, Some, IfSome, IfNone, IsTrue, false, length};
 ghost use Rattle.retrograde.specs.declared.records.Record.{Record};
 ghost use Rattle.game_file.specs.Bytes.{IsCell, IsNumber, IsPlainCell};
 ghost use Rattle.tree_table.specs.Entries.{number_key, edge_key};
 ghost use Rattle.tree_table.specs.aid.Keys.{key_behind};
 ghost use Rattle.position_pack.specs.declared.limits.TheConstants.{MAX_PACKED};
 
+use crate::change::fresh;
 use btree::find::{Bytes, copied};
 use byteorder::{BigEndian, ByteOrder};
 use game_file::{RECORD_BYTES, read_record, record_bytes};
@@ -93,17 +94,28 @@ pub fn cell_parts(bytes: &[u8], packed: u32) -> Option<(&[u8], Record)>
     Some((position, kept))
 }
 
-/// The position of this many bytes and the record that these bytes are, where they are that.
-pub fn cell_in(bytes: &[u8], packed: u32) -> Option<Cell>
+/// A cell with no position.
+pub fn no_cell() -> Cell {
+    Cell {
+        position: Packed::new(),
+        kept: fresh(),
+    }
+}
+
+/// Whether these bytes are a position of this many bytes and a record. The cell is filled with both.
+pub fn fill_cell(bytes: &[u8], packed: u32, into: &mut Cell) -> bool
     requires { packed ≤ MAX_PACKED }
-    ensures some { IfSome result (λ cell. IsCell packed bytes.now (cell.position.items, cell.kept)) }
-    ensures none { IfNone result ((cell : List ℕ × Record) → IsCell packed bytes.now cell → ⊥) }
+    ensures filled { IsTrue result → IsCell packed bytes.now (into.new.position.items, into.new.kept) }
+    ensures none { result ≡ false → (cell : List ℕ × Record) → IsCell packed bytes.now cell → ⊥ }
+    ensures same { result ≡ false → into.new ≡ into.old }
 {
-    let (position, kept) = cell_parts(bytes, packed)?;
-    Some(Cell {
-        position: position_of(position),
-        kept,
-    })
+    let Some((position, kept)) = cell_parts(bytes, packed) else {
+        return false;
+    };
+    into.position.clear();
+    let _fits = into.position.try_extend_from_slice(position);
+    into.kept = kept;
+    true
 }
 
 /// The bytes of a position, and after them those of a record.

@@ -15,9 +15,10 @@ ghost use Rattle.position_pack.specs.declared.limits.TheConstants.{MAX_PACKED};
 
 use crate::bytes::{Cell, cell_bytes, key_behind, number_key};
 use crate::fault::table_fault;
-use crate::read::value_at;
+use crate::read::value_into;
 use crate::slot::TreeSlot;
 use crate::tree::{Tree, widths_of};
+use btree::find::Bytes;
 use btree::put::put;
 use page_store::Pages;
 use position_pack::Packed;
@@ -185,7 +186,9 @@ pub fn add_edge<P: Pages>(
     ensures cause { IfErr result (ChangeCause HasNoTable slot (P.store store.old) (P.store store.new)) }
 {
     let key = key_behind(successor, Some(predecessor));
-    if value_at(store, &slot, Tree::Edges, &key)?.is_some() {
+    let mut none = Bytes::new();
+    let there = value_into(store, &slot, Tree::Edges, &key, &mut none)?;
+    if there {
         return Ok(slot);
     }
     let mut slot = put_in(store, slot, Tree::Edges, &key, &[])?;

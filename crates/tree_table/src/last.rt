@@ -1,13 +1,19 @@
 //! The cell that was looked at or written last stays in memory: a unit of work asks for the same one several times.
-ghost use Rattle.std.specs.Prelude.{◌≡◌, ◌<◌, ◌↔◌, None, OnOk, IfErr, IsTrue};
+ghost use Rattle.std.specs.Prelude.{◌≡◌, ◌≤◌, ◌<◌, ◌↔◌, ℕ, List, None, OnOk, OnErr, IfErr, IfSome, IsTrue, length};
+ghost use Rattle.page_store.specs.Store.{StoreWorks, IsUnchanged};
+ghost use Rattle.position_pack.specs.declared.limits.TheConstants.{MAX_PACKED};
 ghost use Rattle.retrograde.specs.Changes.{with_record};
+ghost use Rattle.retrograde.specs.Stored.{Stored};
 ghost use Rattle.table.specs.Faults.{NeedsNoPage};
-ghost use Rattle.tree_table.specs.Last.{HasSeen};
-ghost use Rattle.tree_table.specs.Working.{table_now, IsHonestWork, WorkStays, WorkGoesOn, WorkFails};
+ghost use Rattle.tree_table.specs.Causes.{IsNoTable, ReadCause};
+ghost use Rattle.tree_table.specs.Last.{HasSeen, IsSeenIn};
+ghost use Rattle.tree_table.specs.Readers.{IsNear};
+ghost use Rattle.tree_table.specs.Working.{HasTable, table_now, IsHonestWork, WorkStays, WorkGoesOn, WorkFails};
 
-use crate::bytes::Cell;
+use crate::bytes::{Cell, no_cell};
 use crate::change::set_record;
 use crate::read::cell_near;
+use crate::slot::TreeSlot;
 use crate::working::TreeTable;
 use btree::find::Reader;
 use page_store::Pages;
@@ -28,6 +34,40 @@ pub fn forget(near: &mut Option<Reader>)
     if near.is_some() {
         *near = None;
     }
+}
+
+/// Looks at the cell of a number, where the cell that was seen last stands; where the number follows the one before, by a reader.
+fn see_near<P: Pages>(
+    store: &mut P,
+    slot: &TreeSlot,
+    near: &mut Option<Reader>,
+    follows: bool,
+    number: u32,
+    seen: &mut Option<Seen>,
+) -> Result<(), TableFault>
+    requires some { 1 ≤ slot.now.sizes.packed }
+    requires short { slot.now.sizes.packed ≤ MAX_PACKED }
+    requires known { number < slot.now.sizes.counts.known }
+    requires near { IsNear slot.now (P.store store.old) near.old }
+    ensures near { IsNear slot.now (P.store store.new) near.new }
+    ensures number { OnOk result (HasSeen seen.new number) }
+    ensures cell { IsTrue (P.store store.old).disk.honest → (text : List ℕ) (table : Stored (List ℕ))
+        → HasTable slot.now text table (P.store store.old) → OnOk result (IfSome seen.new (IsSeenIn table)) }
+    ensures long { OnOk result (IfSome seen.new (λ s. length s.cell.position.items ≡ slot.now.sizes.packed)) }
+    ensures same { OnErr result (seen.new ≡ seen.old) }
+    ensures unchanged { IsUnchanged (P.store store.old) (P.store store.new) }
+    ensures works { StoreWorks (P.store store.old) (P.store store.new) }
+    ensures cause { IfErr result (ReadCause IsNoTable slot.now (P.store store.old) (P.store store.new)) }
+{
+    if let Some(last) = seen {
+        cell_near(store, slot, near, follows, number, &mut last.cell)?;
+        last.number = number;
+        return Ok(());
+    }
+    let mut cell = no_cell();
+    cell_near(store, slot, near, follows, number, &mut cell)?;
+    *seen = Some(Seen { number, cell });
+    Ok(())
 }
 
 impl<P: Pages> TreeTable<P> {
@@ -55,8 +95,14 @@ impl<P: Pages> TreeTable<P> {
             return Ok(());
         }
         let follows = self.in_row && self.has_seen(number.wrapping_sub(1));
-        let cell = cell_near(&mut self.store, &self.slot, &mut self.near, follows, number)?;
-        self.seen = Some(Seen { number, cell });
+        see_near(
+            &mut self.store,
+            &self.slot,
+            &mut self.near,
+            follows,
+            number,
+            &mut self.seen,
+        )?;
         self.in_row = true;
         Ok(())
     }
@@ -72,20 +118,26 @@ impl<P: Pages> TreeTable<P> {
         ensures ahead { OnOk result (WorkGoesOn (work_in self.old) (work_in self.new)) }
         ensures fault { IfErr result (WorkFails (work_in self.old) (work_in self.new)) }
     {
-        let cell = match self.seen.take() {
-            Some(Seen { cell, .. }) => cell,
-            None => unreachable!(),
-        };
         let torn = self.torn;
         self.torn = true;
         self.in_row = false;
         forget(&mut self.near);
-        self.slot = set_record(&mut self.store, self.slot, number, &cell, kept)?;
-        let Cell { position, .. } = cell;
-        self.seen = Some(Seen {
-            number,
-            cell: Cell { position, kept },
-        });
+        match &mut self.seen {
+            Some(seen) => {
+                match set_record(&mut self.store, self.slot, number, &seen.cell, kept) {
+                    Ok(slot) => {
+                        seen.number = number;
+                        seen.cell.kept = kept;
+                        self.slot = slot;
+                    }
+                    Err(fault) => {
+                        self.seen = None;
+                        return Err(fault);
+                    }
+                }
+            }
+            None => unreachable!(),
+        }
         self.torn = torn;
         Ok(())
     }

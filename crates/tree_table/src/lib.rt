@@ -18,7 +18,7 @@ mod version;
 mod working;
 
 pub use begin::load;
-pub use bytes::{Cell, cell_in, cell_parts, number_in, number_key};
+pub use bytes::{Cell, cell_parts, number_in, number_key};
 pub use keeping::bare_slot;
 pub use last::Seen;
 pub use read::{find_key, reader_of, value_at};

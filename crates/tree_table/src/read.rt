@@ -1,11 +1,11 @@
 //! What a slot names is read.
-ghost use Rattle.std.specs.Prelude.{◌≡◌, ◌↔◌, ◌≤◌, ◌<◌, ℕ, List, Some, IfOk, IfErr, IfSome, IfNone, IsTrue, length, slice_get};
+ghost use Rattle.std.specs.Prelude.{◌≡◌, ◌↔◌, ◌≤◌, ◌<◌, ℕ, List, Some, OnOk, OnErr, IfOk, IfErr, IfSome, IfNone, IsTrue, length, slice_get};
 ghost use Rattle.page_store.specs.Store.{Store, StoreWorks, IsUnchanged};
 ghost use Rattle.retrograde.specs.Edges.{IsAfter, IsNextEdge, HasNoMoreEdges};
 ghost use Rattle.retrograde.specs.Stored.{Stored, HasRecord};
 ghost use Rattle.btree.specs.Page.{Item};
 ghost use Rattle.btree.specs.Entries.{find_entry, next_after as next_in};
-ghost use Rattle.btree.specs.Answers.{found_bytes, found_entry};
+ghost use Rattle.btree.specs.Answers.{filled_bytes, filled_entry, found_bytes};
 ghost use Rattle.btree.specs.Readers.{HasEntry, IsReading, found_here};
 ghost use Rattle.tree_table.specs.declared.slot.TreeSlot.{TreeSlot};
 ghost use Rattle.tree_table.specs.declared.tree.Tree.{Tree};
@@ -15,14 +15,38 @@ ghost use Rattle.tree_table.specs.Readers.{IsReaderOf, IsNear};
 ghost use Rattle.tree_table.specs.Working.{HasForest, HasTable};
 ghost use Rattle.position_pack.specs.declared.limits.TheConstants.{MAX_PACKED};
 
-use crate::bytes::{Cell, cell_in, edge_in, key_behind, number_in, number_key};
+use crate::bytes::{Cell, edge_in, fill_cell, key_behind, number_in, number_key};
 use crate::fault::table_fault;
 use crate::slot::TreeSlot;
 use crate::tree::{Tree, widths_of};
-use btree::find::{Bytes, Entry, Reader, get, next_after};
+use btree::find::{Bytes, Entry, Reader, get, get_into, next_into, no_entry};
 use page_store::Pages;
 use position_pack::Packed;
 use table::TableFault;
+
+/// Whether this tree has this key. The buffer is filled with what stands there.
+pub fn value_into<P: Pages>(
+    store: &mut P,
+    slot: &TreeSlot,
+    tree: Tree,
+    key: &[u8],
+    into: &mut Bytes,
+) -> Result<bool, TableFault>
+    requires some { 1 ≤ slot.now.sizes.packed }
+    requires short { slot.now.sizes.packed ≤ MAX_PACKED }
+    ensures found { IsTrue (P.store store.old).disk.honest → (text : List ℕ) (entries : Tree → List Item)
+        → HasForest slot.now text entries (P.store store.old)
+        → IfOk result (λ found. filled_bytes found into.new ≡ find_entry (entries tree) key.now) }
+    ensures unchanged { IsUnchanged (P.store store.old) (P.store store.new) }
+    ensures works { StoreWorks (P.store store.old) (P.store store.new) }
+    ensures cause { IfErr result (ReadCause IsNoForest slot.now (P.store store.old) (P.store store.new)) }
+{
+    let widths = widths_of(slot.sizes.packed, tree);
+    match get_into(store, widths, slot.roots.root(tree), key, into) {
+        Ok(found) => Ok(found),
+        Err(fault) => Err(table_fault(fault)),
+    }
+}
 
 /// What stands at this key of this tree.
 pub fn value_at<P: Pages>(
@@ -47,24 +71,25 @@ pub fn value_at<P: Pages>(
     }
 }
 
-/// The entry with the least key of this tree that is greater than this one.
+/// Whether this tree has a key that is greater than this one. The buffer is filled with the entry of the least of them.
 fn entry_after<P: Pages>(
     store: &mut P,
     slot: &TreeSlot,
     tree: Tree,
     key: &[u8],
-) -> Result<Option<Entry>, TableFault>
+    into: &mut Entry,
+) -> Result<bool, TableFault>
     requires some { 1 ≤ slot.now.sizes.packed }
     requires short { slot.now.sizes.packed ≤ MAX_PACKED }
     ensures found { IsTrue (P.store store.old).disk.honest → (text : List ℕ) (entries : Tree → List Item)
         → HasForest slot.now text entries (P.store store.old)
-        → IfOk result (λ found. found_entry found ≡ next_in (entries tree) key.now) }
+        → IfOk result (λ found. filled_entry found into.new ≡ next_in (entries tree) key.now) }
     ensures unchanged { IsUnchanged (P.store store.old) (P.store store.new) }
     ensures works { StoreWorks (P.store store.old) (P.store store.new) }
     ensures cause { IfErr result (ReadCause IsNoForest slot.now (P.store store.old) (P.store store.new)) }
 {
     let widths = widths_of(slot.sizes.packed, tree);
-    match next_after(store, widths, slot.roots.root(tree), key) {
+    match next_into(store, widths, slot.roots.root(tree), key, into) {
         Ok(found) => Ok(found),
         Err(fault) => Err(table_fault(fault)),
     }
@@ -105,39 +130,49 @@ pub fn find_key<P: Pages>(
     }
 }
 
-/// The position with a number, and its record.
-pub fn cell_at<P: Pages>(store: &mut P, slot: &TreeSlot, number: u32) -> Result<Cell, TableFault>
+/// Fills a cell with the position with a number and its record.
+pub fn cell_into<P: Pages>(
+    store: &mut P,
+    slot: &TreeSlot,
+    number: u32,
+    into: &mut Cell,
+) -> Result<(), TableFault>
     requires some { 1 ≤ slot.now.sizes.packed }
     requires short { slot.now.sizes.packed ≤ MAX_PACKED }
     requires known { number < slot.now.sizes.counts.known }
     ensures position { IsTrue (P.store store.old).disk.honest → (text : List ℕ) (table : Stored (List ℕ))
         → HasTable slot.now text table (P.store store.old)
-        → IfOk result (λ cell. slice_get table.positions number ≡ Some cell.position.items) }
+        → OnOk result (slice_get table.positions number ≡ Some into.new.position.items) }
     ensures kept { IsTrue (P.store store.old).disk.honest → (text : List ℕ) (table : Stored (List ℕ))
         → HasTable slot.now text table (P.store store.old)
-        → IfOk result (λ cell. HasRecord table number cell.kept) }
-    ensures long { IfOk result (λ cell. length cell.position.items ≡ slot.now.sizes.packed) }
+        → OnOk result (HasRecord table number into.new.kept) }
+    ensures long { OnOk result (length into.new.position.items ≡ slot.now.sizes.packed) }
+    ensures same { OnErr result (into.new ≡ into.old) }
     ensures unchanged { IsUnchanged (P.store store.old) (P.store store.new) }
     ensures works { StoreWorks (P.store store.old) (P.store store.new) }
     ensures cause { IfErr result (ReadCause IsNoTable slot.now (P.store store.old) (P.store store.new)) }
 {
     let key = number_key(number);
-    let Some(value) = value_at(store, slot, Tree::Records, &key)? else {
+    let mut value = Bytes::new();
+    let found = value_into(store, slot, Tree::Records, &key, &mut value)?;
+    if !found {
         return Err(TableFault::Damaged);
-    };
-    match cell_in(&value, slot.sizes.packed) {
-        Some(cell) => Ok(cell),
-        None => Err(TableFault::Damaged),
+    }
+    if fill_cell(&value, slot.sizes.packed, into) {
+        Ok(())
+    } else {
+        Err(TableFault::Damaged)
     }
 }
 
-/// The position with a number, and its record, by a reader of the records.
+/// The same by a reader of the records.
 fn cell_by<P: Pages>(
     store: &mut P,
     slot: &TreeSlot,
     reader: &mut Reader,
     number: u32,
-) -> Result<Cell, TableFault>
+    into: &mut Cell,
+) -> Result<(), TableFault>
     requires short { slot.now.sizes.packed ≤ MAX_PACKED }
     requires known { number < slot.now.sizes.counts.known }
     requires of { IsReaderOf slot.now Records reader.old }
@@ -146,11 +181,12 @@ fn cell_by<P: Pages>(
     ensures reading { IsReading reader.new (P.store store.new) }
     ensures position { IsTrue (P.store store.old).disk.honest → (text : List ℕ) (table : Stored (List ℕ))
         → HasTable slot.now text table (P.store store.old)
-        → IfOk result (λ cell. slice_get table.positions number ≡ Some cell.position.items) }
+        → OnOk result (slice_get table.positions number ≡ Some into.new.position.items) }
     ensures kept { IsTrue (P.store store.old).disk.honest → (text : List ℕ) (table : Stored (List ℕ))
         → HasTable slot.now text table (P.store store.old)
-        → IfOk result (λ cell. HasRecord table number cell.kept) }
-    ensures long { IfOk result (λ cell. length cell.position.items ≡ slot.now.sizes.packed) }
+        → OnOk result (HasRecord table number into.new.kept) }
+    ensures long { OnOk result (length into.new.position.items ≡ slot.now.sizes.packed) }
+    ensures same { OnErr result (into.new ≡ into.old) }
     ensures unchanged { IsUnchanged (P.store store.old) (P.store store.new) }
     ensures works { StoreWorks (P.store store.old) (P.store store.new) }
     ensures cause { IfErr result (ReadCause IsNoTable slot.now (P.store store.old) (P.store store.new)) }
@@ -158,20 +194,22 @@ fn cell_by<P: Pages>(
     if !find_key(store, reader, &number_key(number))? {
         return Err(TableFault::Damaged);
     }
-    match cell_in(reader.value(), slot.sizes.packed) {
-        Some(cell) => Ok(cell),
-        None => Err(TableFault::Damaged),
+    if fill_cell(reader.value(), slot.sizes.packed, into) {
+        Ok(())
+    } else {
+        Err(TableFault::Damaged)
     }
 }
 
-/// The position with a number, and its record; where the number follows the one before, by a reader, which is made if there is none.
+/// The same; where the number follows the one before, by a reader, which is made if there is none.
 pub fn cell_near<P: Pages>(
     store: &mut P,
     slot: &TreeSlot,
     near: &mut Option<Reader>,
     follows: bool,
     number: u32,
-) -> Result<Cell, TableFault>
+    into: &mut Cell,
+) -> Result<(), TableFault>
     requires some { 1 ≤ slot.now.sizes.packed }
     requires short { slot.now.sizes.packed ≤ MAX_PACKED }
     requires known { number < slot.now.sizes.counts.known }
@@ -179,23 +217,24 @@ pub fn cell_near<P: Pages>(
     ensures near { IsNear slot.now (P.store store.new) near.new }
     ensures position { IsTrue (P.store store.old).disk.honest → (text : List ℕ) (table : Stored (List ℕ))
         → HasTable slot.now text table (P.store store.old)
-        → IfOk result (λ cell. slice_get table.positions number ≡ Some cell.position.items) }
+        → OnOk result (slice_get table.positions number ≡ Some into.new.position.items) }
     ensures kept { IsTrue (P.store store.old).disk.honest → (text : List ℕ) (table : Stored (List ℕ))
         → HasTable slot.now text table (P.store store.old)
-        → IfOk result (λ cell. HasRecord table number cell.kept) }
-    ensures long { IfOk result (λ cell. length cell.position.items ≡ slot.now.sizes.packed) }
+        → OnOk result (HasRecord table number into.new.kept) }
+    ensures long { OnOk result (length into.new.position.items ≡ slot.now.sizes.packed) }
+    ensures same { OnErr result (into.new ≡ into.old) }
     ensures unchanged { IsUnchanged (P.store store.old) (P.store store.new) }
     ensures works { StoreWorks (P.store store.old) (P.store store.new) }
     ensures cause { IfErr result (ReadCause IsNoTable slot.now (P.store store.old) (P.store store.new)) }
 {
     if !follows {
-        return cell_at(store, slot, number);
+        return cell_into(store, slot, number, into);
     }
     match near {
-        Some(reader) => cell_by(store, slot, reader, number),
+        Some(reader) => cell_by(store, slot, reader, number, into),
         None => {
             *near = Some(reader_of(slot, Tree::Records));
-            cell_at(store, slot, number)
+            cell_into(store, slot, number, into)
         }
     }
 }
@@ -219,9 +258,11 @@ pub fn number_of<P: Pages>(
     ensures works { StoreWorks (P.store store.old) (P.store store.new) }
     ensures cause { IfErr result (ReadCause IsNoTable slot.now (P.store store.old) (P.store store.new)) }
 {
-    let Some(value) = value_at(store, slot, Tree::Positions, packed)? else {
+    let mut value = Bytes::new();
+    let known = value_into(store, slot, Tree::Positions, packed, &mut value)?;
+    if !known {
         return Ok(None);
-    };
+    }
     let Some(number) = number_in(&value) else {
         return Err(TableFault::Damaged);
     };
@@ -265,9 +306,11 @@ pub fn edge_after<P: Pages>(
     ensures cause { IfErr result (ReadCause IsNoTable slot.now (P.store store.old) (P.store store.new)) }
 {
     let key = key_behind(successor, after);
-    let Some(entry) = entry_after(store, slot, Tree::Edges, &key)? else {
+    let mut entry = no_entry();
+    let more = entry_after(store, slot, Tree::Edges, &key, &mut entry)?;
+    if !more {
         return Ok(None);
-    };
+    }
     let Some((next, predecessor)) = edge_in(&entry.key) else {
         return Err(TableFault::Damaged);
     };
@@ -297,9 +340,11 @@ pub fn settled_at<P: Pages>(store: &mut P, slot: &TreeSlot, place: u32) -> Resul
     ensures cause { IfErr result (ReadCause IsNoTable slot.now (P.store store.old) (P.store store.new)) }
 {
     let key = number_key(place);
-    let Some(value) = value_at(store, slot, Tree::Order, &key)? else {
+    let mut value = Bytes::new();
+    let settled = value_into(store, slot, Tree::Order, &key, &mut value)?;
+    if !settled {
         return Err(TableFault::Damaged);
-    };
+    }
     match number_in(&value) {
         Some(number) => Ok(number),
         None => Err(TableFault::Damaged),

@@ -9,7 +9,8 @@ ghost use Rattle.tree_table.specs.Causes.{IsNoTable, ReadCause};
 ghost use Rattle.tree_table.specs.Versions.{StandsInVersion};
 ghost use Rattle.tree_table.specs.Working.{WorkStays};
 
-use crate::read::cell_at;
+use crate::bytes::no_cell;
+use crate::read::cell_into;
 use crate::slot::TreeSlot;
 use crate::working::TreeTable;
 use page_store::{Hold, Pages};
@@ -57,7 +58,8 @@ impl<P: Pages> TreeTable<P> {
         ensures stays { WorkStays (work_in self.old) (work_in self.new) }
         ensures cause { IfErr result (ReadCause IsNoTable slot.now (work_in self.old).store (work_in self.new).store) }
     {
-        let cell = cell_at(&mut self.store, slot, number)?;
+        let mut cell = no_cell();
+        cell_into(&mut self.store, slot, number, &mut cell)?;
         Ok(cell.kept)
     }
 }

@@ -4,7 +4,7 @@ ghost use Rattle.page_store.specs.Store.{StoreWorks, IsUnchanged};
 ghost use Rattle.btree.specs.Page.{Item};
 ghost use Rattle.btree.specs.Changes.{HoldsMap, MapReadCause};
 ghost use Rattle.btree.specs.Entries.{find_entry, next_after as next_in};
-ghost use Rattle.btree.specs.Answers.{filled_bytes, found_bytes, found_entry};
+ghost use Rattle.btree.specs.Answers.{filled_bytes, filled_entry, found_bytes, found_entry};
 
 use crate::find::entry::{Bytes, Entry, no_entry};
 use crate::find::look::{Seen, look_at};
@@ -62,6 +62,39 @@ pub fn get<P: Pages>(
     }
 }
 
+/// Whether the map below this root has a key that is greater than this one. The buffer is filled with the entry of the least of them.
+/// `Damaged` only where below the root is no map, or the disk is not honest.
+pub fn next_into<P: Pages>(
+    store: &mut P,
+    widths: Widths,
+    root: u32,
+    key: &[u8],
+    into: &mut Entry,
+) -> Result<bool, PageFault>
+    ensures found { IsTrue (P.store store.old).disk.honest → IfOk result (λ found. (pages : List ℕ) (es : List Item)
+        → HoldsMap widths (P.store store.old) root pages es → filled_entry found into.new ≡ next_in es key.now) }
+    ensures unchanged { IsUnchanged (P.store store.old) (P.store store.new) }
+    ensures works { StoreWorks (P.store store.old) (P.store store.new) }
+    ensures cause { IfErr result (MapReadCause widths root (P.store store.old) (P.store store.new)) }
+{
+    if root == 0 {
+        return Ok(false);
+    }
+    let (found, behind) = reach_next(store, widths, root, key, into)?;
+    if found {
+        return Ok(true);
+    }
+    let Some(next) = behind else {
+        return Ok(false);
+    };
+    if get_into(store, widths, root, &next, &mut into.value)? {
+        into.key = next;
+        Ok(true)
+    } else {
+        Err(PageFault::Damaged)
+    }
+}
+
 /// The entry with the least key that is greater than this one, in the map below this root. `Damaged` only where below it
 /// is no map, or the disk is not honest.
 pub fn next_after<P: Pages>(
@@ -76,21 +109,10 @@ pub fn next_after<P: Pages>(
     ensures works { StoreWorks (P.store store.old) (P.store store.new) }
     ensures cause { IfErr result (MapReadCause widths root (P.store store.old) (P.store store.new)) }
 {
-    if root == 0 {
-        return Ok(None);
-    }
     let mut entry = no_entry();
-    let (found, behind) = reach_next(store, widths, root, key, &mut entry)?;
-    if found {
-        return Ok(Some(entry));
-    }
-    let Some(next) = behind else {
-        return Ok(None);
-    };
-    if get_into(store, widths, root, &next, &mut entry.value)? {
-        entry.key = next;
+    if next_into(store, widths, root, key, &mut entry)? {
         Ok(Some(entry))
     } else {
-        Err(PageFault::Damaged)
+        Ok(None)
     }
 }

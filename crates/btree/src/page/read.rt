@@ -9,7 +9,11 @@ ghost use Rattle.btree.specs.Place.{IsPlace};
 use crate::page::kind::{HEAD, Kind, ROOM, behind_of, least_of};
 use crate::page::order::order_of;
 use crate::page::widths::Widths;
+use byteorder::{BigEndian, ByteOrder};
 use std::cmp::Ordering;
+
+/// Keys of this many bytes at most may be numbers, or begin with one.
+const NUMBERS: usize = 8;
 
 /// How many items the page says that it has.
 pub fn count_of(bytes: &[u8; 4096]) -> usize
@@ -51,7 +55,60 @@ pub fn item_at(widths: Widths, kind: Kind, bytes: &[u8; 4096], place: usize) -> 
     item.split_at(widths.key)
 }
 
-/// How many items have a key up to this one, where the keys ascend.
+/// The first four bytes of a key as a number; 0 where it has fewer.
+fn head_of(key: &[u8]) -> u32 {
+    if key.len() < 4 {
+        return 0;
+    }
+    let (front, _) = key.split_at(4);
+    BigEndian::read_u32(front)
+}
+
+/// Where a number may well be among this many that ascend, of which these are the first and the last: as far along as it is between them.
+fn share_of(number: u32, first: u32, last: u32, count: usize) -> usize {
+    let along = number.saturating_sub(first) as usize;
+    let long = last.saturating_sub(first) as usize;
+    if long == 0 || long == count {
+        along
+    } else {
+        along.saturating_mul(count) / long
+    }
+}
+
+/// Where a key may well be among the items of a page, judged by the first bytes of keys: at the end, or, where keys are numbers,
+/// as far along as it is between the first and the last. None where that says nothing.
+fn guess(widths: Widths, kind: Kind, bytes: &[u8; 4096], key: &[u8]) -> Option<usize>
+    requires { IsPage widths kind bytes.now }
+{
+    let last = count_of(bytes).saturating_sub(1);
+    if last == 0 {
+        return None;
+    }
+    let (last_key, _) = item_at(widths, kind, bytes, last);
+    let (number, last_number) = (head_of(key), head_of(last_key));
+    if number >= last_number {
+        return Some(last);
+    }
+    if widths.key > NUMBERS {
+        return None;
+    }
+    let (first_key, _) = item_at(widths, kind, bytes, 0);
+    Some(share_of(number, head_of(first_key), last_number, last))
+}
+
+/// A place between two: this one, or the nearest to it, if it is given, and else the middle.
+fn between(low: usize, high: usize, near: Option<usize>) -> usize
+    requires { low < high }
+    ensures from { low ≤ result }
+    ensures to { result < high }
+{
+    match near {
+        Some(place) => place.max(low).min(high - 1),
+        None => low + (high - low) / 2,
+    }
+}
+
+/// How many items have a key up to this one, where the keys ascend. The first places that are looked at are the guessed one and the next.
 pub fn place_of(widths: Widths, kind: Kind, bytes: &[u8; 4096], key: &[u8]) -> usize
     requires { IsPage widths kind bytes.now }
     ensures within { result ≤ count_in bytes.now }
@@ -60,12 +117,17 @@ pub fn place_of(widths: Widths, kind: Kind, bytes: &[u8; 4096], key: &[u8]) -> u
 {
     let mut low = 0;
     let mut high = count_of(bytes);
+    let mut near = guess(widths, kind, bytes, key);
+    let mut again = near;
     while low < high {
-        let middle = low + (high - low) / 2;
+        let middle = between(low, high, near);
+        near = again;
+        again = None;
         let (found, _) = item_at(widths, kind, bytes, middle);
         match order_of(found, key) {
             Ordering::Greater => high = middle,
-            _ => low = middle + 1,
+            Ordering::Less => low = middle + 1,
+            Ordering::Equal => return middle + 1,
         }
     }
     low

@@ -23,7 +23,7 @@ pub if_prop : {X : Type 0} (P : X → Type 0) (o : Option X) → ((x : X) → Is
 if_prop P (Some x) each = each x
 if_prop P None each = Unit-prop
 
-seen_prop : (table : Stored (List ℕ)) (s : Seen) → IsProp (IsSeenIn table s)
+pub seen_prop : (table : Stored (List ℕ)) (s : Seen) → IsProp (IsSeenIn table s)
 seen_prop table s x y = λ k. record {
   position = position_prop (slice_get table.positions s.number) (Some s.cell.position.items) x.position y.position k;
   kept = record_prop (slice_get table.records s.number) (Some s.cell.kept) x.kept y.kept k;

@@ -14,37 +14,37 @@ use Rattle.btree.specs.Entries.{find_entry}
 use Rattle.tree_table.specs.aid.Frames.{forest_still}
 use Rattle.tree_table.proofs.Faults.{passed_on, change_for, change_since, read_then}
 use Rattle.tree_table.proofs.Few.{map_few}
-use Rattle.tree_table.proofs.Found.{some_found, none_found}
+use Rattle.tree_table.proofs.Found.{filled, unfilled}
 use Rattle.tree_table.proofs.Tables.{slot_of, edges_as, edge_put, edge_stays}
 use Rattle.tree_table.proofs.change.add_edge.Goals as goal
 
-pub returns-in_err-value_at-clause-cause : goal.returns-in_err-value_at-clause-cause
-returns-in_err-value_at-clause-cause g c =
+pub returns-in_err-there-clause-cause : goal.returns-in_err-there-clause-cause
+returns-in_err-there-clause-cause g c =
     let old = g.P.Pages.store c.args.store.now in
-    let new = g.P.Pages.store c.value_at.new.store in
+    let new = g.P.Pages.store c.value_into.new.store in
     passed_on _ c.from_residual.result _ c.from_residual.ensures
     (change_for IsNoForest HasNoTable c.args.slot c.args.slot old new _ (λ none honest text table h. none honest text h.entries (forest_there c.args.slot text h.entries old h.forest))
-    (read_then IsNoForest c.args.slot old new _ c.in_err-value_at.ensures.cause))
+    (read_then IsNoForest c.args.slot old new _ c.in_err-there.ensures.cause))
 
-pub returns-then-is_some-clause-table : goal.returns-then-is_some-clause-table
-returns-then-is_some-clause-table g c = λ honest text table h.
+pub returns-then-there-clause-table : goal.returns-then-there-clause-table
+returns-then-there-clause-table g c = λ honest text table h.
     let old = g.P.Pages.store c.args.store.now in
-    let new = g.P.Pages.store c.value_at.new.store in
-    let read = c.in_ok-value_at.ensures in
+    let new = g.P.Pages.store c.value_into.new.store in
+    let read = c.in_ok-there.ensures in
     let key : c.deref.result.now ≡ edge_key c.args.successor c.args.predecessor = c.deref.ensures.0 ∙ c.key_behind-key.ensures.bytes in
-    let (value, is) = some_found c.in_ok-value_at.field-0 _ c.if-is_some.ensures (read.found honest text h.entries (forest_there c.args.slot text h.entries old h.forest)) in
-    edge_stays c.args.slot text table old (omega (arith, c.requires.few)) h c.args.successor c.args.predecessor value new c.requires.successor c.requires.predecessor
+    let is = sym (filled _ _ _ c.if-there.true (read.found honest text h.entries (forest_there c.args.slot text h.entries old h.forest))) in
+    edge_stays c.args.slot text table old (omega (arith, c.requires.few)) h c.args.successor c.args.predecessor c.value_into.new.into.items new c.requires.successor c.requires.predecessor
     (ap (find_entry (h.entries Edges)) (sym key) ∙ is)
     (forest_still c.args.slot text h.entries old new read.unchanged.marks (unchanged_reads old new honest read.unchanged) h.forest)
 
 pub returns-in_err-slot-clause-works : goal.returns-in_err-slot-clause-works
-returns-in_err-slot-clause-works g c = works_then c.in_ok-value_at.ensures.works c.in_err-slot.ensures.works
+returns-in_err-slot-clause-works g c = works_then c.in_ok-there.ensures.works c.in_err-slot.ensures.works
 
 pub returns-in_err-slot-clause-cause : goal.returns-in_err-slot-clause-cause
 returns-in_err-slot-clause-cause g c =
     let old = g.P.Pages.store c.args.store.now in
-    let mid = g.P.Pages.store c.value_at.new.store in
-    let read = c.in_ok-value_at.ensures in
+    let mid = g.P.Pages.store c.value_into.new.store in
+    let read = c.in_ok-there.ensures in
     passed_on _ c.from_residual-in_err-slot.result _ c.from_residual-in_err-slot.ensures
     (change_since HasNoForest HasNoTable c.args.slot c.args.slot old mid (g.P.Pages.store c.put_in.new.store) _ read.works read.unchanged.closed
     (λ none honest text table h. none (still_honest read.works.goes_on honest) text h.entries
@@ -52,19 +52,19 @@ returns-in_err-slot-clause-cause g c =
     c.in_err-slot.ensures.cause)
 
 pub returns-clause-works : goal.returns-clause-works
-returns-clause-works g c = works_then c.in_ok-value_at.ensures.works c.in_ok-slot.ensures.works
+returns-clause-works g c = works_then c.in_ok-there.ensures.works c.in_ok-slot.ensures.works
 
 pub returns-clause-table : goal.returns-clause-table
 returns-clause-table g c = λ honest text table h.
     let slot = c.args.slot in
     let last = c.in_ok-slot.slot in
     let old = g.P.Pages.store c.args.store.now in
-    let mid = g.P.Pages.store c.value_at.new.store in
+    let mid = g.P.Pages.store c.value_into.new.store in
     let new = g.P.Pages.store c.put_in.new.store in
-    let read = c.in_ok-value_at.ensures in
+    let read = c.in_ok-there.ensures in
     let key : c.deref.result.now ≡ edge_key c.args.successor c.args.predecessor = c.deref.ensures.0 ∙ c.key_behind-key.ensures.bytes in
     let key_two : c.deref-2.result.now ≡ edge_key c.args.successor c.args.predecessor = c.deref-2.ensures.0 ∙ c.key_behind-key.ensures.bytes in
-    let none = none_found c.in_ok-value_at.field-0 _ c.if-is_some.ensures (read.found honest text h.entries (forest_there c.args.slot text h.entries old h.forest)) in
+    let none = sym (unfilled _ _ _ c.if-there.false (read.found honest text h.entries (forest_there c.args.slot text h.entries old h.forest))) in
     let sizes : last.sizes ≡ slot.sizes = c.in_ok-slot.ensures.slot.sizes in
     let back : slot.sizes ≡ last.sizes = sym sizes in
     let tree = h.forest.forest.trees Edges in

@@ -19,26 +19,26 @@ returns-then-not-branch-clause-cause g c = λ honest text table h.
     (value_absent c.find_key.new.reader c.in_ok-find_key.field-0 _ c.if-not-branch.true
     (c.in_ok-find_key.ensures.found c.args.slot.now Records c.requires.of honest text h.entries h.forest ∙ ap (find_entry (h.entries Records)) c.number_key.ensures))
 
-pub returns-in-Some-clause-position : goal.returns-in-Some-clause-position
-returns-in-Some-clause-position g c = λ honest text table h.
-    (cell_read c.args.slot.now text table (g.P.Pages.store c.args.store.now) h c.args.number c.value.result.now c.in-Some.cell.position.items c.in-Some.cell.kept c.requires.known
+pub returns-then-fill_cell-clause-position : goal.returns-then-fill_cell-clause-position
+returns-then-fill_cell-clause-position g c = λ honest text table h.
+    (cell_read c.args.slot.now text table (g.P.Pages.store c.args.store.now) h c.args.number c.value.result.now c.fill_cell.new.into.position.items c.fill_cell.new.into.kept c.requires.known
     (value_there c.find_key.new.reader c.in_ok-find_key.field-0 c.value.result.now _ c.if-not-branch.false c.value.ensures
     (c.in_ok-find_key.ensures.found c.args.slot.now Records c.requires.of honest text h.entries h.forest ∙ ap (find_entry (h.entries Records)) c.number_key.ensures))
-    c.in-Some.ensures.some).0
+    (c.fill_cell.ensures.filled c.if-fill_cell.true)).0
 
-pub returns-in-Some-clause-kept : goal.returns-in-Some-clause-kept
-returns-in-Some-clause-kept g c = λ honest text table h.
-    (cell_read c.args.slot.now text table (g.P.Pages.store c.args.store.now) h c.args.number c.value.result.now c.in-Some.cell.position.items c.in-Some.cell.kept c.requires.known
+pub returns-then-fill_cell-clause-kept : goal.returns-then-fill_cell-clause-kept
+returns-then-fill_cell-clause-kept g c = λ honest text table h.
+    (cell_read c.args.slot.now text table (g.P.Pages.store c.args.store.now) h c.args.number c.value.result.now c.fill_cell.new.into.position.items c.fill_cell.new.into.kept c.requires.known
     (value_there c.find_key.new.reader c.in_ok-find_key.field-0 c.value.result.now _ c.if-not-branch.false c.value.ensures
     (c.in_ok-find_key.ensures.found c.args.slot.now Records c.requires.of honest text h.entries h.forest ∙ ap (find_entry (h.entries Records)) c.number_key.ensures))
-    c.in-Some.ensures.some).1
+    (c.fill_cell.ensures.filled c.if-fill_cell.true)).1
 
-pub returns-in-None-clause-cause : goal.returns-in-None-clause-cause
-returns-in-None-clause-cause g c = λ honest text table h.
+pub returns-else-fill_cell-clause-cause : goal.returns-else-fill_cell-clause-cause
+returns-else-fill_cell-clause-cause g c = λ honest text table h.
     cell_broken c.args.slot.now text table (g.P.Pages.store c.args.store.now) h c.args.number c.value.result.now c.requires.known
     (value_there c.find_key.new.reader c.in_ok-find_key.field-0 c.value.result.now _ c.if-not-branch.false c.value.ensures
     (c.in_ok-find_key.ensures.found c.args.slot.now Records c.requires.of honest text h.entries h.forest ∙ ap (find_entry (h.entries Records)) c.number_key.ensures))
-    c.in-None.ensures.none
+    (c.fill_cell.ensures.none c.if-fill_cell.false)
 
 pub returns-in_err-find_key-clause-of : goal.returns-in_err-find_key-clause-of
 returns-in_err-find_key-clause-of g c = c.find_key.ensures.of c.args.slot.now Records c.requires.of
@@ -46,8 +46,8 @@ returns-in_err-find_key-clause-of g c = c.find_key.ensures.of c.args.slot.now Re
 pub returns-then-not-branch-clause-of : goal.returns-then-not-branch-clause-of
 returns-then-not-branch-clause-of g c = c.find_key.ensures.of c.args.slot.now Records c.requires.of
 
-pub returns-in-Some-clause-of : goal.returns-in-Some-clause-of
-returns-in-Some-clause-of g c = c.find_key.ensures.of c.args.slot.now Records c.requires.of
+pub returns-then-fill_cell-clause-of : goal.returns-then-fill_cell-clause-of
+returns-then-fill_cell-clause-of g c = c.find_key.ensures.of c.args.slot.now Records c.requires.of
 
-pub returns-in-None-clause-of : goal.returns-in-None-clause-of
-returns-in-None-clause-of g c = c.find_key.ensures.of c.args.slot.now Records c.requires.of
+pub returns-else-fill_cell-clause-of : goal.returns-else-fill_cell-clause-of
+returns-else-fill_cell-clause-of g c = c.find_key.ensures.of c.args.slot.now Records c.requires.of

@@ -17,26 +17,26 @@ invariant_of-self-2 g c =
     let self = c.args.self.now in
     let text = self.text.items in
     let old = work_of self.slot text self.torn (g.P.Pages.store self.store) in
-    let new = work_of c.in_ok-self.field-0 text self.torn (g.P.Pages.store c.set_record.new.store) in
-    let done = c.in_ok-self.ensures in
+    let new = work_of c.in-Ok.slot text self.torn (g.P.Pages.store c.set_record.new.store) in
+    let done = c.in-Ok.ensures in
     let now = with_record (table_now old) c.args.number c.args.kept in
-    let few : c.in_ok-self.field-0.sizes.counts.known ≤ 2 ^ 24 = omega (arith, done.known, self.few) in
-    let was : IsHonestWork old → IsCellAt (table_now old) c.args.number c.in-Some.field-0.cell = was_seen (table_now old) self.seen c.in-Some.field-0 c.args.number old (sym c.take.ensures.value ∙ c.in-Some.is) c.requires.seen self.last in
-    let changed : IsHonestWork old → HoldsWork old → HoldsTable c.in_ok-self.field-0 text now (g.P.Pages.store c.set_record.new.store) =
+    let few : c.in-Ok.slot.sizes.counts.known ≤ 2 ^ 24 = omega (arith, done.known, self.few) in
+    let was : IsHonestWork old → IsCellAt (table_now old) c.args.number c.in-Some.seen.cell = was_seen (table_now old) self.seen c.in-Some.seen c.args.number old (c.in-Some.is) c.requires.seen self.last in
+    let changed : IsHonestWork old → HoldsWork old → HoldsTable c.in-Ok.slot text now (g.P.Pages.store c.set_record.new.store) =
     λ honest h. done.table honest.disk text (table_now old) h (was honest).0 (was honest).1 in
-    let seen : Seen = record { number = c.args.number; cell = record { position = c.in-Some.field-0.cell.position; kept = c.args.kept } } in
+    let seen : Seen = record { number = c.args.number; cell = record { position = c.in-Some.seen.cell.position; kept = c.args.kept } } in
     record {
-      reads = subst (λ (near : Option Reader). IsNear c.in_ok-self.field-0 (g.P.Pages.store c.set_record.new.store) near) (sym c.forget.ensures) tt;
+      reads = subst (λ (near : Option Reader). IsNear c.in-Ok.slot (g.P.Pages.store c.set_record.new.store) near) (sym c.forget.ensures) tt;
       some = omega (arith, self.some, done.slot.packed);
       short = omega (arith, self.short, done.slot.packed);
       few = few;
       points = omega (arith, self.points, done.slot.goal);
       holds = now_held old new now few done.works refl refl changed self.holds;
-      long = long_seen self.seen c.in-Some.field-0 self.slot.sizes.packed (sym c.take.ensures.value ∙ c.in-Some.is) self.long ∙ sym done.slot.packed;
+      long = long_seen self.seen c.in-Some.seen self.slot.sizes.packed (c.in-Some.is) self.long ∙ sym done.slot.packed;
       last = λ honest.
           let before = honest_before {a = old} {b = new} done.works refl honest in
           subst (λ (t : Stored (List ℕ)). IsSeenIn t seen) (sym (now_stored old new now few done.works refl refl changed self.holds before))
-          (seen_with_record (table_now old) c.args.number c.in-Some.field-0.cell c.args.kept (was before));
+          (seen_with_record (table_now old) c.args.number c.in-Some.seen.cell c.args.kept (was before));
     }
 
 pub returns-clause-set : goal.returns-clause-set
@@ -44,12 +44,12 @@ returns-clause-set g c = λ honest.
     let self = c.args.self.now in
     let text = self.text.items in
     let old = work_of self.slot text self.torn (g.P.Pages.store self.store) in
-    let new = work_of c.in_ok-self.field-0 text self.torn (g.P.Pages.store c.set_record.new.store) in
-    let done = c.in_ok-self.ensures in
+    let new = work_of c.in-Ok.slot text self.torn (g.P.Pages.store c.set_record.new.store) in
+    let done = c.in-Ok.ensures in
     let now = with_record (table_now old) c.args.number c.args.kept in
-    let few : c.in_ok-self.field-0.sizes.counts.known ≤ 2 ^ 24 = omega (arith, done.known, self.few) in
-    let was : IsHonestWork old → IsCellAt (table_now old) c.args.number c.in-Some.field-0.cell = was_seen (table_now old) self.seen c.in-Some.field-0 c.args.number old (sym c.take.ensures.value ∙ c.in-Some.is) c.requires.seen self.last in
-    let changed : IsHonestWork old → HoldsWork old → HoldsTable c.in_ok-self.field-0 text now (g.P.Pages.store c.set_record.new.store) =
+    let few : c.in-Ok.slot.sizes.counts.known ≤ 2 ^ 24 = omega (arith, done.known, self.few) in
+    let was : IsHonestWork old → IsCellAt (table_now old) c.args.number c.in-Some.seen.cell = was_seen (table_now old) self.seen c.in-Some.seen c.args.number old (c.in-Some.is) c.requires.seen self.last in
+    let changed : IsHonestWork old → HoldsWork old → HoldsTable c.in-Ok.slot text now (g.P.Pages.store c.set_record.new.store) =
     λ honest h. done.table honest.disk text (table_now old) h (was honest).0 (was honest).1 in
     now_stored old new now few done.works refl refl changed self.holds honest
 
@@ -58,12 +58,12 @@ returns-clause-ahead g c =
     let self = c.args.self.now in
     let text = self.text.items in
     let old = work_of self.slot text self.torn (g.P.Pages.store self.store) in
-    let new = work_of c.in_ok-self.field-0 text self.torn (g.P.Pages.store c.set_record.new.store) in
-    let done = c.in_ok-self.ensures in
+    let new = work_of c.in-Ok.slot text self.torn (g.P.Pages.store c.set_record.new.store) in
+    let done = c.in-Ok.ensures in
     let now = with_record (table_now old) c.args.number c.args.kept in
-    let few : c.in_ok-self.field-0.sizes.counts.known ≤ 2 ^ 24 = omega (arith, done.known, self.few) in
-    let was : IsHonestWork old → IsCellAt (table_now old) c.args.number c.in-Some.field-0.cell = was_seen (table_now old) self.seen c.in-Some.field-0 c.args.number old (sym c.take.ensures.value ∙ c.in-Some.is) c.requires.seen self.last in
-    let changed : IsHonestWork old → HoldsWork old → HoldsTable c.in_ok-self.field-0 text now (g.P.Pages.store c.set_record.new.store) =
+    let few : c.in-Ok.slot.sizes.counts.known ≤ 2 ^ 24 = omega (arith, done.known, self.few) in
+    let was : IsHonestWork old → IsCellAt (table_now old) c.args.number c.in-Some.seen.cell = was_seen (table_now old) self.seen c.in-Some.seen c.args.number old (c.in-Some.is) c.requires.seen self.last in
+    let changed : IsHonestWork old → HoldsWork old → HoldsTable c.in-Ok.slot text now (g.P.Pages.store c.set_record.new.store) =
     λ honest h. done.table honest.disk text (table_now old) h (was honest).0 (was honest).1 in
     now_goes_on old new now few done.works refl refl changed done.open done.slot.text done.slot.packing done.slot.goal
 
@@ -76,7 +76,7 @@ invariant_of-self g c =
       few = self.few;
       points = self.points;
       holds = λ honest. let never : true ≡ false = honest.whole in absurd (cc);
-      long = subst (λ (o : Option Seen). IfSome o (λ s. length s.cell.position.items ≡ self.slot.sizes.packed)) (sym c.take.ensures.after) tt;
+      long = tt;
       last = λ honest. let never : true ≡ false = honest.whole in absurd (cc);
       reads = subst (λ (near : Option Reader). IsNear self.slot (g.P.Pages.store c.set_record.new.store) near) (sym c.forget.ensures) tt;
     }
