@@ -15,14 +15,14 @@ use crate::table::Table;
 use position_pack::Packed;
 use retrograde::{Counts, Record, State};
 use std::alloc::{AllocError, Global};
-use std::collections::{BTreeMap, BTreeSet};
+use std::collections::{BTreeSet, HashMap};
 
 /// A table in memory.
 #[derive(Drop)]
 pub struct MemTable {
     positions: Vec<Packed>,
     /// The number of each position.
-    numbers: BTreeMap<Packed, u32>,
+    numbers: HashMap<Packed, u32>,
     records: Vec<Record>,
     /// Each edge as the number that is led to and the number that leads there.
     edges: BTreeSet<(u32, u32)>,
@@ -93,7 +93,7 @@ impl MemTable {
     {
         let mut table = MemTable {
             positions: Vec::new(alloc),
-            numbers: BTreeMap::new(alloc),
+            numbers: HashMap::new(alloc),
             records: Vec::new(alloc),
             edges: BTreeSet::new(alloc),
             order: Vec::new(alloc),
