@@ -39,10 +39,12 @@ pub struct MemTable {
 }
 
 /// The same position.
-fn copied(packed: &Packed) -> Result<Packed, AllocError>
-    ensures { IfOk result (λ p. p.items ≡ packed.now.items) }
+fn copied(packed: &Packed) -> Packed
+    ensures { result.items ≡ packed.now.items }
 {
-    packed.clone()
+    let mut copy = Packed::new();
+    let _room = copy.try_extend_from_slice(packed);
+    copy
 }
 
 /// The record of a position that is known and no more.
@@ -205,7 +207,7 @@ impl Table for MemTable {
     }
 
     fn packed(&mut self, number: u32) -> Result<Packed, TableFault> {
-        Ok(copied(&self.positions[number as usize])?)
+        Ok(copied(&self.positions[number as usize]))
     }
 
     fn record(&mut self, number: u32) -> Result<Record, TableFault> {
@@ -214,13 +216,11 @@ impl Table for MemTable {
 
     fn add(&mut self, packed: &Packed) -> Result<u32, TableFault> {
         let number = self.positions.len() as u32;
-        let position = copied(packed)?;
-        let key = copied(packed)?;
         self.positions.reserve(1)?;
         self.records.reserve(1)?;
-        self.numbers.insert(key, number)?;
-        self.positions.push(position)?;
-        self.records.push(fresh())?;
+        self.numbers.insert(copied(packed), number)?;
+        self.positions.push_reserved(copied(packed));
+        self.records.push_reserved(fresh());
         Ok(number)
     }
 
