@@ -115,6 +115,7 @@ impl Searcher<'_> {
     }
 
     /// Adds what one jump leads to; true if a word can end there.
+    #[inline(always)]
     fn jump_on(
         &self,
         index: usize,
@@ -156,6 +157,7 @@ impl Searcher<'_> {
     }
 
     /// Where the occurrence with the number leads from this vertex, if it is valid there.
+    #[inline(always)]
     fn leads_to(&self, index: usize, number: u16, state: &SemiState, vertex: u8) -> Option<u8>
         requires ready { IsReady (game_of self.now.game.now) self.now.tables.now index }
         requires narrow { AreNarrow self.now.tables.now index }
@@ -167,7 +169,12 @@ impl Searcher<'_> {
         ensures none { let game = game_of self.now.game.now in IfNone result
             ((T : SemiState) → ¬ EffectAt game (expression_at game index) 1 number (at_vertex state.now vertex) T) }
     {
-        match self.tables[index].step(number) {
+        let table = &self.tables[index];
+        let step = table.step(number);
+        if !table.may_pass(number, state.pieces[usize::from(vertex)]) {
+            return None;
+        }
+        match step {
             Step::Act(action) => match at_a_glance(self.game, action, state, vertex) {
                 Glance::At(to) => Some(to),
                 Glance::Fails => None,
