@@ -24,7 +24,8 @@ struct Tally {
     edges: u32,
 }
 
-/// The tally of a number, if no condition fails there, where nothing is asked of the edges that lead to it.
+/// The tally of a number, if no condition fails there, where nothing is asked of the edges that lead to it. It is counted first, while the
+/// number's own cell and edges are in memory: the conditions then ask for them again.
 fn tally_of<M: MoveSource, T: Table>(
     alloc: Global,
     source: &M,
@@ -48,11 +49,11 @@ fn tally_of<M: MoveSource, T: Table>(
     ensures room { IfErr result (OfTableFault NeedsNoPage) }
     ensures fault { IfErr result (OfTableFault (T.fails table.old table.new)) }
 {
+    let edges = count_edges(table, number)?;
+    let moves = table.record(number)?.successors;
     if own_failing(alloc, source, table, number, floor)?.is_some() {
         return Ok(None);
     }
-    let moves = table.record(number)?.successors;
-    let edges = count_edges(table, number)?;
     Ok(Some(Tally { moves, edges }))
 }
 

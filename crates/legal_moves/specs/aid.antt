@@ -12,5 +12,6 @@ pub mod Relations
 pub mod Repacked
 pub mod Standing
 pub mod Searches
+pub mod Sets
 pub mod Tables
 pub mod Walks

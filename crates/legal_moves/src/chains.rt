@@ -7,7 +7,7 @@ use std::alloc::{AllocError, Global};
 pub const BUCKETS: usize = 512;
 
 /// How many indices there is room for at first.
-const ROOM: usize = 64;
+const ROOM: usize = 256;
 
 /// The indices that were given out so far, chained by their buckets. 0 ends a chain, and one more than an index stands for the index.
 #[derive(Drop)]
@@ -46,7 +46,8 @@ impl Chains {
         ensures { (buckets : List ℕ) → AreChained buckets self.old → OnOk result (AreChained (buckets ++ bucket ∷ []) self.new) }
     {
         let before = self.heads[bucket];
-        self.befores.push(before)?;
+        self.befores.reserve(1)?;
+        self.befores.push_reserved(before);
         let Ok(latest) = u32::try_from(self.befores.len()) else {
             return Err(AllocError);
         };

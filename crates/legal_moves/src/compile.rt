@@ -12,7 +12,7 @@ use crate::copies::copied_expression;
 use crate::limits::FEW_STEPS;
 use crate::marks::marks_of;
 use crate::relation::Relation;
-use crate::table::{Draft, Ends, Step, Table};
+use crate::table::{Draft, Ends, Step, Table, sets_of};
 use rbg_game::rules::{Action, Rules};
 use std::alloc::{AllocError, Global};
 
@@ -35,6 +35,7 @@ pub fn add_table(alloc: Global, tables: &mut Vec<Table>, rules: &Rules) -> Resul
     let lasts = marks_of(alloc, &ends.last)?;
     let looks = steps.iter().all(|step| step.is_look(tables));
     let narrow = are_few_looks(&steps);
+    let sets = sets_of(alloc, &steps)?;
     tables.push(Table {
         steps,
         follows,
@@ -42,6 +43,7 @@ pub fn add_table(alloc: Global, tables: &mut Vec<Table>, rules: &Rules) -> Resul
         lasts,
         looks,
         narrow,
+        sets,
     })?;
     Ok(index)
 }

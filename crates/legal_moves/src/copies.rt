@@ -10,16 +10,15 @@ use std::alloc::{AllocError, Global};
 pub fn copied_state(state: &SemiState) -> SemiState
     ensures { result ≡ state.now }
 {
-    let mut pieces = ArrayVec::new();
-    let _room = pieces.try_extend_from_slice(&state.pieces);
-    let mut values = ArrayVec::new();
-    let _room = values.try_extend_from_slice(&state.values);
-    SemiState {
+    let mut copy = SemiState {
         mover: state.mover,
-        pieces,
-        values,
+        pieces: ArrayVec::new(),
+        values: ArrayVec::new(),
         vertex: state.vertex,
-    }
+    };
+    let _room = copy.pieces.try_extend_from_slice(&state.pieces);
+    let _room = copy.values.try_extend_from_slice(&state.values);
+    copy
 }
 
 #[cycle(copies)]

@@ -16,7 +16,7 @@ use rbg_game::position::SemiState;
 use std::alloc::{AllocError, Global};
 
 /// How many boards there is room for at first.
-const ROOM: usize = 16;
+const ROOM: usize = 64;
 
 /// A configuration: a board by its number, a vertex and the number of the last action, with how the search came to it.
 #[derive(Clone, Copy)]
@@ -88,7 +88,8 @@ impl Found {
             None => {
                 let number = self.boards.len();
                 self.board_chains.push(bucket)?;
-                self.boards.push(state)?;
+                self.boards.reserve(1)?;
+                self.boards.push_reserved(state);
                 Ok(number)
             }
         }
@@ -148,7 +149,8 @@ impl Found {
             return Err(MoveFault::TooWide);
         }
         self.stand_chains.push(bucket)?;
-        self.stands.push(stand)?;
+        self.stands.reserve(1)?;
+        self.stands.push_reserved(stand);
         Ok(())
     }
 }

@@ -1,5 +1,5 @@
 //! A search that goes from one set or comparison to the next, by the jumps of its table.
-ghost use Rattle.std.specs.Prelude.{◌≡◌, ◌+◌, ◌≤◌, ◌<◌, length, Err, IfOk, OnOk, IfSome, MatchBool};
+ghost use Rattle.std.specs.Prelude.{◌≡◌, ◌+◌, ◌≤◌, ◌<◌, false, length, Err, IfOk, OnOk, IfSome, MatchBool};
 ghost use Rattle.std.specs.Option.{IfNone};
 ghost use Rattle.rbg_game.specs.Rules.{count};
 ghost use Rattle.rbg_game.specs.Meaning.{game_of};
@@ -7,6 +7,7 @@ ghost use Rattle.rbg_game.specs.Sound.{LacksSwitch};
 ghost use Rattle.rbg_game.specs.Positions.{IsStateOf};
 ghost use Rattle.rbg_game.specs.declared.position.SemiState.{SemiState};
 ghost use Rattle.legal_moves.specs.Effects.{EffectAt};
+ghost use Rattle.legal_moves.specs.Glushkov.{is_nullable};
 ghost use Rattle.legal_moves.specs.Searches.{IsWideFrom};
 ghost use Rattle.legal_moves.specs.Jumps.{IsRow, AreJumps};
 ghost use Rattle.legal_moves.specs.aid.Configurations.{expression_at, IsReady};
@@ -50,6 +51,9 @@ impl Searcher<'_> {
         if table.ends.nullable {
             return Ok(Some(true));
         }
+        if let Some(holds) = self.at_once(index, state, vertex) {
+            return Ok(Some(holds));
+        }
         let numbers = table.steps.len() + 1;
         let mut looks = Looks::begun(self.alloc, spare, self.game.vertices.len(), numbers, vertex)?;
         let mut at = 0;
@@ -62,6 +66,34 @@ impl Searcher<'_> {
         }
         keep(spare, looks);
         Ok(Some(false))
+    }
+
+    /// Whether some word is legal from here, where the first jumps tell: by the one that can be taken first, or because none can be taken.
+    fn at_once(&self, index: usize, state: &SemiState, vertex: u8) -> Option<bool>
+        requires ready { IsReady (game_of self.now.game.now) self.now.tables.now index }
+        requires jumps { AreJumps (game_of self.now.game.now) self.now.tables.now self.now.jumps.now }
+        requires rows { HaveRows self.now.jumps.now index }
+        requires narrow { AreNarrow self.now.tables.now index }
+        requires state { IsStateOf (game_of self.now.game.now) (at_vertex state.now vertex) }
+        requires lacks { LacksSwitch (expression_at (game_of self.now.game.now) index) }
+        requires some { is_nullable (expression_at (game_of self.now.game.now) index) ≡ false }
+        ensures { let game = game_of self.now.game.now in let e = expression_at game index in IfSome result
+            (λ b. MatchBool b (IsLegal game e (at_vertex state.now vertex)) (¬ IsLegal game e (at_vertex state.now vertex))) }
+    {
+        let row = self.row(index, 0, vertex);
+        if row.ends {
+            return Some(true);
+        }
+        for jump in &row.to {
+            let Some(_to) = self.leads_to(index, jump.number, state, jump.vertex) else {
+                continue;
+            };
+            if is_marked(&self.tables[index].lasts, usize::from(jump.number)) {
+                return Some(true);
+            }
+            return None;
+        }
+        Some(false)
     }
 
     /// Adds what the jumps from the look at the index lead to; true if a word can end on the way.
@@ -115,6 +147,7 @@ impl Searcher<'_> {
     }
 
     /// Adds what one jump leads to; true if a word can end there.
+    #[inline(always)]
     fn jump_on(
         &self,
         index: usize,
@@ -156,6 +189,7 @@ impl Searcher<'_> {
     }
 
     /// Where the occurrence with the number leads from this vertex, if it is valid there.
+    #[inline(always)]
     fn leads_to(&self, index: usize, number: u16, state: &SemiState, vertex: u8) -> Option<u8>
         requires ready { IsReady (game_of self.now.game.now) self.now.tables.now index }
         requires narrow { AreNarrow self.now.tables.now index }
@@ -167,7 +201,12 @@ impl Searcher<'_> {
         ensures none { let game = game_of self.now.game.now in IfNone result
             ((T : SemiState) → ¬ EffectAt game (expression_at game index) 1 number (at_vertex state.now vertex) T) }
     {
-        match self.tables[index].step(number) {
+        let table = &self.tables[index];
+        let step = table.step(number);
+        if !table.may_pass(number, state.pieces[usize::from(vertex)]) {
+            return None;
+        }
+        match step {
             Step::Act(action) => match at_a_glance(self.game, action, state, vertex) {
                 Glance::At(to) => Some(to),
                 Glance::Fails => None,

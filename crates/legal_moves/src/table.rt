@@ -1,7 +1,9 @@
 //! Expressions made ready for a search: the steps by their numbers, and which can follow which.
-ghost use Rattle.std.specs.Prelude.{◌≡◌, ◌-◌, ◌≤◌, length, ◌&&◌, ◌||◌, [], ◌∷◌, ◌++◌, if◌then◌else◌, IfOk, Some, slice_get, slice_index_or, true, false};
+ghost use Rattle.std.specs.Prelude.{◌≡◌, ◌-◌, ◌≤◌, ◌<◌, ℕ, length, ◌&&◌, ◌||◌, [], ◌∷◌, ◌++◌, if◌then◌else◌, IfOk, Some, slice_get, slice_index_or, true, false};
 ghost use Rattle.std.specs.Bool.{OnTrue};
+ghost use Rattle.std.specs.Int.{bit_at};
 ghost use Rattle.legal_moves.specs.aid.Narrow.{AreFewLooks};
+ghost use Rattle.legal_moves.specs.aid.Sets.{HasBits, AreSets};
 
 use crate::actions::{ends_move, is_look, is_shown, label_of};
 use crate::marks::is_marked;
@@ -23,6 +25,7 @@ impl Step {
     ghost use Rattle.legal_moves.specs.aid.Tables.{switches, modifies};
     ghost use Rattle.legal_moves.specs.aid.Narrow.{step_looks};
     ghost use Rattle.legal_moves.specs.aid.Walks.{step_label};
+    ghost use Rattle.legal_moves.specs.aid.Sets.{IsSetOf};
 
     pub fn is_switch(&self) -> bool
         ensures { result ≡ switches self.now }
@@ -58,6 +61,16 @@ impl Step {
         match self {
             Step::Act(action) => label_of(action),
             Step::Ask(_, _) => None,
+        }
+    }
+
+    /// The bits of a set's pieces below 64; none for another step.
+    pub fn set(&self) -> Option<u64>
+        ensures { IsSetOf self.now result }
+    {
+        match self {
+            Step::Act(Action::On(pieces)) => Some(bits_of(pieces)),
+            _ => None,
         }
     }
 
@@ -173,11 +186,30 @@ pub struct Table {
     pub looks: bool,
     /// Whether no search of it is too wide, as far as was seen: one that only has to tell whether a word is legal may end at the first yes then.
     pub narrow: bool,
+    /// For each step that is a set of pieces the bits of those below 64.
+    pub sets: Vec<Option<u64>>,
     ghost few: { narrow ≡ true → AreFewLooks steps.items },
+    ghost sets_are: { AreSets steps.items sets.items },
 }
 
 impl Table {
+    ghost use Rattle.std.specs.Bool.{OnFalse};
     ghost use Rattle.legal_moves.specs.Listing.{list_at};
+    ghost use Rattle.legal_moves.specs.aid.Sets.{Refuses};
+    ghost use Rattle.legal_moves.specs.declared.table.Step.{Step};
+
+    /// Whether the step with this number may be valid where this piece stands: false only for a set without it.
+    #[inline(always)]
+    pub fn may_pass(&self, number: u16, piece: u8) -> bool
+        requires from { 1 ≤ number }
+        requires upto { number ≤ length self.now.steps.items }
+        ensures { OnFalse result ((s : Step) → slice_get self.now.steps.items (number - 1) ≡ Some s → Refuses s piece) }
+    {
+        match self.sets[usize::from(number) - 1] {
+            Some(set) if piece < 64 => (set >> piece) % 2 == 1,
+            _ => true,
+        }
+    }
 
     /// Whether a search that only has to tell whether a word is legal may end where this is the last action.
     pub fn is_enough(&self, number: u16) -> bool
@@ -212,4 +244,38 @@ impl Table {
 pub struct Draft {
     pub steps: Vec<Step>,
     pub follows: Relation,
+}
+
+/// The bits of the pieces below 64.
+fn bits_of(pieces: &[u8]) -> u64
+    ensures { HasBits pieces.now result }
+{
+    let mut bits = 0;
+    for piece in pieces {
+        bits = with_bit(bits, *piece);
+    }
+    bits
+}
+
+/// The bits with that of the piece, if it is below 64.
+fn with_bit(bits: u64, piece: u8) -> u64
+    ensures kept { (k : ℕ) → bit_at bits k ≡ 1 → bit_at result k ≡ 1 }
+    ensures set { piece < 64 → bit_at result piece ≡ 1 }
+{
+    if piece < 64 {
+        bits | (1 << piece)
+    } else {
+        bits
+    }
+}
+
+/// For each step that is a set the bits of its pieces below 64.
+pub fn sets_of(alloc: Global, steps: &[Step]) -> Result<Vec<Option<u64>>, AllocError>
+    ensures { IfOk result (λ sets. AreSets steps.now sets.items) }
+{
+    let mut sets = Vec::new(alloc);
+    for step in steps {
+        sets.push(step.set())?;
+    }
+    Ok(sets)
 }

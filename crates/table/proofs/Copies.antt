@@ -1,16 +1,16 @@
 -- A copy of each part of a table is that part.
 use Rattle.std.proofs.Common.{◌≡◌, ◌∙◌, sym, ap, refl, ℕ, List, [], ◌∷◌}
 use Rattle.std.specs.List.{AllZip}
-use Rattle.std.specs.Ordering.{nat_cmp}
 use Rattle.arrayvec.specs.ArrayVec.{ArrayVec}
 use Rattle.std.proofs.Common.{subst, Some, slice_get}
-use Rattle.std.specs.BTreeMap.{BTreeMap, get, is_at}
+use Rattle.std.specs.BTreeMap.{is_at}
+use Rattle.std.specs.HashMap.{HashMap, get}
 use Rattle.std.specs.Map.{lookup}
 use Rattle.std.specs.BTreeSet.{BTreeSet, contains}
 use Rattle.std.specs.List.{list_any}
 use Rattle.retrograde.specs.declared.records.Record.{Record}
 use Rattle.retrograde.specs.Stored.{Stored}
-use Rattle.table.specs.Memory.{bytes_of_each, position_cmp, edge_cmp, AreNumbered}
+use Rattle.table.specs.Memory.{bytes_of_each, position_eq, edge_cmp, AreNumbered}
 use Rattle.table.proofs.NumberLemmas.{same_position}
 
 -- lists whose items are the same in turn
@@ -30,10 +30,10 @@ pub pair_same : {A B : Type 0} (C : A → A → Type 0) (D : B → B → Type 0)
 pair_same C D same other p q (one, two) = λ i. (same p.0 q.0 one i, other p.1 q.1 two i)
 
 -- the same entries find the same numbers
-pub found_same : (m n : BTreeMap (ArrayVec ℕ) ℕ) → n.entries ≡ m.entries → (x : ArrayVec ℕ) → get position_cmp n x ≡ get position_cmp m x
-found_same m n same x = ap (λ (es : List (ArrayVec ℕ × ℕ)). lookup (is_at (position_cmp x)) es) same
+pub found_same : {S : Type 0} (m n : HashMap (ArrayVec ℕ) ℕ S) → n.entries ≡ m.entries → (x : ArrayVec ℕ) → get position_eq n x ≡ get position_eq m x
+found_same m n same x = ap (λ (es : List (ArrayVec ℕ × ℕ)). lookup (position_eq x) es) same
 
-pub numbered_copy : (xs ys : List (ArrayVec ℕ)) (m n : BTreeMap (ArrayVec ℕ) ℕ) → ys ≡ xs → n.entries ≡ m.entries → AreNumbered xs m → AreNumbered ys n
+pub numbered_copy : {S : Type 0} (xs ys : List (ArrayVec ℕ)) (m n : HashMap (ArrayVec ℕ) ℕ S) → ys ≡ xs → n.entries ≡ m.entries → AreNumbered xs m → AreNumbered ys n
 numbered_copy xs ys m n is same are = record {
   all = λ i x at. found_same m n same x ∙ are.all i x (subst (λ (zs : List (ArrayVec ℕ)). slice_get zs i ≡ Some x) is at);
   only = λ x i at. subst (λ (zs : List (ArrayVec ℕ)). slice_get zs i ≡ Some x) (sym is) (are.only x i (sym (found_same m n same x) ∙ at));

@@ -2,17 +2,17 @@
 use Rattle.std.proofs.Common.{◌≡◌, ◌<◌, ◌↔◌, ◌∙◌, sym, ap, subst, arith, ℕ, Bool, true, false, refl, List, length, Option, Some, None, slice_get}
 use Rattle.std.specs.Prelude.{IsSome, count_by, ◌&&◌}
 use Rattle.std.specs.Option.{option_map, option_and_then}
-use Rattle.std.specs.BTreeMap.{BTreeMap, get}
+use Rattle.std.specs.HashMap.{HashMap, get}
 use Rattle.std.specs.BTreeSet.{BTreeSet, contains}
 use Rattle.std.proofs.lemmas.List.{length-map}
-use Rattle.std.proofs.lemmas.Option.{slice_get-map, same_Some, slice_get_within}
+use Rattle.std.proofs.lemmas.Option.{slice_get-map, same_Some}
 use Rattle.arrayvec.specs.ArrayVec.{ArrayVec}
 use Rattle.rbg_game.specs.declared.roles.Player.{Player}
 use Rattle.retrograde.specs.declared.records.State.{State}
 use Rattle.retrograde.specs.declared.records.State.TheVariants.{Known, Expanded, Settled, Processed}
 use Rattle.retrograde.specs.declared.records.Record.{Record}
 use Rattle.retrograde.specs.Stored.{Stored, FitsState, IsTable, is_expanded, is_processed, is_settled, value_of, processed_in, view_of}
-use Rattle.table.specs.Memory.{bytes_of_each, position_cmp, edge_cmp, AreNumbered, AreBetweenKnown}
+use Rattle.table.specs.Memory.{bytes_of_each, position_eq, edge_cmp, AreNumbered, AreBetweenKnown}
 use Rattle.table.specs.Fitting.{FitsTogether}
 use Rattle.table.specs.aid.Fitting.{IsSettledAs, PartsFit}
 use Rattle.retrograde.proofs.Sound.{map_some}
@@ -47,7 +47,7 @@ value_has (Some r) has = (r, refl, winner_has r.winner has)
 has_value : (r : Record) → IsSome r.winner → IsSome (value_of r)
 has_value r has = map_some r.winner r.distance has
 
-module _ (positions : List (ArrayVec ℕ)) (numbers : BTreeMap (ArrayVec ℕ) ℕ) (records : List Record) (edges : BTreeSet (ℕ × ℕ)) (order : List ℕ) (expanded processed : ℕ)
+module _ {S : Type 0} (positions : List (ArrayVec ℕ)) (numbers : HashMap (ArrayVec ℕ) ℕ S) (records : List Record) (edges : BTreeSet (ℕ × ℕ)) (order : List ℕ) (expanded processed : ℕ)
     (numbered : AreNumbered positions numbers) (recorded : length records ≡ length positions) (known : AreBetweenKnown (length positions) edges)
     (expanded_is : expanded ≡ count_by (λ r. is_expanded r.state) records) (processed_is : processed ≡ count_by (λ r. is_processed r.state) records) where
   abbrev whole : Stored (List ℕ)
@@ -59,8 +59,8 @@ module _ (positions : List (ArrayVec ℕ)) (numbers : BTreeMap (ArrayVec ℕ) �
   distinct : (i j : ℕ) (x : List ℕ) → slice_get (bytes_of_each positions) i ≡ Some x → slice_get (bytes_of_each positions) j ≡ Some x → i ≡ j
   distinct i j x at other =
       let p : ArrayVec ℕ = record { items = x } in
-      let first : get position_cmp numbers p ≡ Some i = numbered.all i p (at_bytes positions i p at) in
-      let second : get position_cmp numbers p ≡ Some j = numbered.all j p (at_bytes positions j p other) in
+      let first : get position_eq numbers p ≡ Some i = numbered.all i p (at_bytes positions i p at) in
+      let second : get position_eq numbers p ≡ Some j = numbered.all j p (at_bytes positions j p other) in
       same_Some i j (sym first ∙ second)
 
   value_at : (i : ℕ) (r : Record) → slice_get records i ≡ Some r → IsSome r.winner → IsSome ((view_of whole).value i)

@@ -1,9 +1,9 @@
 -- What a table in memory holds.
-use Rattle.std.specs.Prelude.{◌≡◌, ℕ, ◌<◌, true, List, slice_get, Some, map}
-use Rattle.std.specs.BTreeMap.{BTreeMap, get}
+use Rattle.std.specs.Prelude.{◌≡◌, ℕ, ◌<◌, Bool, true, List, slice_get, Some, map, nat_eq}
+use Rattle.std.specs.HashMap.{HashMap, get}
 use Rattle.std.specs.BTreeSet.{BTreeSet, contains}
 use Rattle.std.specs.Ordering.{nat_cmp, ordering_then}
-use Rattle.std.specs.Cmp.Lexicographic.{slice_cmp}
+use Rattle.std.specs.Cmp.Lexicographic.{pointwise}
 use Rattle.std.specs.declared.cmp.Ordering.{Ordering}
 use Rattle.arrayvec.specs.ArrayVec.{ArrayVec}
 
@@ -11,18 +11,18 @@ use Rattle.arrayvec.specs.ArrayVec.{ArrayVec}
 abbrev pub bytes_of_each : List (ArrayVec ℕ) → List (List ℕ)
 bytes_of_each positions = map (λ p. p.items) positions
 
--- the order of positions: that of their bytes
-abbrev pub position_cmp : ArrayVec ℕ → ArrayVec ℕ → Ordering
-position_cmp x y = slice_cmp nat_cmp x.items y.items
+-- whether two positions have the same bytes
+abbrev pub position_eq : ArrayVec ℕ → ArrayVec ℕ → Bool
+position_eq x y = pointwise nat_eq x.items y.items
 
 -- the order of edges: by the number that is led to, then by the number that leads there
 abbrev pub edge_cmp : ℕ × ℕ → ℕ × ℕ → Ordering
 edge_cmp x y = ordering_then (nat_cmp x.0 y.0) (nat_cmp x.1 y.1)
 
 -- the map has the number of each position, and nothing else
-pub record AreNumbered (positions : List (ArrayVec ℕ)) (numbers : BTreeMap (ArrayVec ℕ) ℕ) : Type 0 where
-  pub all : (i : ℕ) (x : ArrayVec ℕ) → slice_get positions i ≡ Some x → get position_cmp numbers x ≡ Some i
-  pub only : (x : ArrayVec ℕ) (i : ℕ) → get position_cmp numbers x ≡ Some i → slice_get positions i ≡ Some x
+pub record AreNumbered {S : Type 0} (positions : List (ArrayVec ℕ)) (numbers : HashMap (ArrayVec ℕ) ℕ S) : Type 0 where
+  pub all : (i : ℕ) (x : ArrayVec ℕ) → slice_get positions i ≡ Some x → get position_eq numbers x ≡ Some i
+  pub only : (x : ArrayVec ℕ) (i : ℕ) → get position_eq numbers x ≡ Some i → slice_get positions i ≡ Some x
 
 -- each edge is between numbers below n
 abbrev pub AreBetweenKnown : ℕ → BTreeSet (ℕ × ℕ) → Type 0

@@ -15,14 +15,14 @@ use crate::table::Table;
 use position_pack::Packed;
 use retrograde::{Counts, Record, State};
 use std::alloc::{AllocError, Global};
-use std::collections::{BTreeMap, BTreeSet};
+use std::collections::{BTreeSet, HashMap};
 
 /// A table in memory.
 #[derive(Drop)]
 pub struct MemTable {
     positions: Vec<Packed>,
     /// The number of each position.
-    numbers: BTreeMap<Packed, u32>,
+    numbers: HashMap<Packed, u32>,
     records: Vec<Record>,
     /// Each edge as the number that is led to and the number that leads there.
     edges: BTreeSet<(u32, u32)>,
@@ -39,10 +39,12 @@ pub struct MemTable {
 }
 
 /// The same position.
-fn copied(packed: &Packed) -> Result<Packed, AllocError>
-    ensures { IfOk result (λ p. p.items ≡ packed.now.items) }
+fn copied(packed: &Packed) -> Packed
+    ensures { result.items ≡ packed.now.items }
 {
-    packed.clone()
+    let mut copy = Packed::new();
+    let _room = copy.try_extend_from_slice(packed);
+    copy
 }
 
 /// The record of a position that is known and no more.
@@ -93,7 +95,7 @@ impl MemTable {
     {
         let mut table = MemTable {
             positions: Vec::new(alloc),
-            numbers: BTreeMap::new(alloc),
+            numbers: HashMap::new(alloc),
             records: Vec::new(alloc),
             edges: BTreeSet::new(alloc),
             order: Vec::new(alloc),
@@ -205,7 +207,7 @@ impl Table for MemTable {
     }
 
     fn packed(&mut self, number: u32) -> Result<Packed, TableFault> {
-        Ok(copied(&self.positions[number as usize])?)
+        Ok(copied(&self.positions[number as usize]))
     }
 
     fn record(&mut self, number: u32) -> Result<Record, TableFault> {
@@ -214,13 +216,11 @@ impl Table for MemTable {
 
     fn add(&mut self, packed: &Packed) -> Result<u32, TableFault> {
         let number = self.positions.len() as u32;
-        let position = copied(packed)?;
-        let key = copied(packed)?;
         self.positions.reserve(1)?;
         self.records.reserve(1)?;
-        self.numbers.insert(key, number)?;
-        self.positions.push(position)?;
-        self.records.push(fresh())?;
+        self.numbers.insert(copied(packed), number)?;
+        self.positions.push_reserved(copied(packed));
+        self.records.push_reserved(fresh());
         Ok(number)
     }
 

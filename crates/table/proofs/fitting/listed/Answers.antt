@@ -1,5 +1,5 @@
-use Rattle.std.proofs.Common.{◌∙◌, ◌≡◌, ◌<◌, length, true, false, refl, sym, arith, Bool}
-use Rattle.std.proofs.lemmas.Bool.{false_from_ne_true, true_from_ne_false}
+use Rattle.std.proofs.Common.{◌≡◌, ◌<◌, length, true, false, arith}
+use Rattle.std.proofs.lemmas.Bool.{true_from_ne_false}
 use Rattle.std.proofs.lemmas.Option.{slice_get-get_or, slice_get_within}
 use Rattle.table.proofs.Listing.{listed_none, listed_more, listed_twice, settled_as, below_is, all_listed}
 use Rattle.table.proofs.fitting.listed.Goals as goal

@@ -1,4 +1,4 @@
-use Rattle.std.proofs.Common.{rules, sym, ◌∙◌, arith}
+use Rattle.std.proofs.Common.{rules, sym, ◌∙◌}
 use Rattle.table.proofs.Listing.{in_some, parts_if}
 use Rattle.table.proofs.fitting.parts_fit.Goals as goal
 

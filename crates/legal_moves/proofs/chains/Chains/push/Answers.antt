@@ -10,7 +10,7 @@ returns c = λ buckets chained.
     let befores = c.args.self.now.befores.items in
     let at = read_at heads c.args.bucket c.index-before.result.now (omega (arith, c.requires, c.args.self.now.all_buckets)) c.index-before.ensures in
     let is = get_or_from_slice_get heads c.args.bucket c.index-before.result.now 0 at in
-    let pushed = c.in_ok-push.ensures.items ∙ ap (λ x. befores ++ x ∷ []) (sym is) in
+    let pushed = c.push_reserved.ensures.items ∙ ap (λ xs. xs ++ c.index-before.result.now ∷ []) c.in_ok-reserve.ensures.items ∙ ap (λ x. befores ++ x ∷ []) (sym is) in
     let counted : c.len.result ≡ suc (length befores) = omega (arith, c.len.ensures, ap length pushed, length-append befores (slice_index heads c.args.bucket ∷ [])) in
     let many : c.in-Ok.latest ≡ suc (length befores) = c.in-Ok.ensures.1 ∙ counted in
     chained_more buckets c.args.bucket c.args.self.now _ chained c.requires c.args.self.now.all_buckets pushed (ap (slice_set heads c.args.bucket) many)

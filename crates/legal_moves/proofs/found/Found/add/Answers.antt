@@ -1,4 +1,4 @@
-use Rattle.std.proofs.Common.{◌∷◌, [], ◌++◌, inl, inr, map, refl, subst, arith}
+use Rattle.std.proofs.Common.{◌∷◌, [], ◌++◌, inl, inr, map, refl, ap, ◌∙◌, subst, arith}
 use Rattle.legal_moves.specs.aid.Chains.{AreChained}
 use Rattle.legal_moves.specs.aid.Standing.{bucket_at}
 use Rattle.legal_moves.proofs.Exits.{refused, no_error}
@@ -10,11 +10,11 @@ use Rattle.legal_moves.proofs.found.Found.add.Goals as goal
 pub returns-clause-kept : goal.returns-clause-kept
 returns-clause-kept c =
     let old = c.args.self.now in
-    kept_stand old _ c.args.stand c.requires.kept c.requires.board refl c.in_ok-push-2.ensures.items
+    kept_stand old _ c.args.stand c.requires.kept c.requires.board refl (c.push_reserved.ensures.items ∙ ap (λ xs. xs ++ c.args.stand ∷ []) c.in_ok-reserve.ensures.items)
     (subst (λ b. AreChained (map bucket_at old.stands.items ++ b ∷ []) c.push.new.self) c.stand_bucket-bucket.ensures.is (c.in_ok-push.ensures (map bucket_at old.stands.items) c.requires.kept.stands_are)) refl
 
 pub returns-clause-added : goal.returns-clause-added
-returns-clause-added c = inr (c.in_ok-push-2.ensures.items, omega arith, OnFalse-at c.has.result _ c.if-has.false c.has.ensures.new)
+returns-clause-added c = inr ((c.push_reserved.ensures.items ∙ ap (λ xs. xs ++ c.args.stand ∷ []) c.in_ok-reserve.ensures.items), omega arith, OnFalse-at c.has.result _ c.if-has.false c.has.ensures.new)
 
 pub returns-clause-boards : goal.returns-clause-boards
 returns-clause-boards c = refl
@@ -48,14 +48,14 @@ returns-in_err-push-clause-kept c = refused _ c.from_residual.result _ c.from_re
 pub returns-in_err-push-clause-wide : goal.returns-in_err-push-clause-wide
 returns-in_err-push-clause-wide c = for_want c.from_residual.result c.from_residual.ensures.1
 
-pub returns-in_err-push-2-clause-boards : goal.returns-in_err-push-2-clause-boards
-returns-in_err-push-2-clause-boards c = refl
+pub returns-in_err-reserve-clause-boards : goal.returns-in_err-reserve-clause-boards
+returns-in_err-reserve-clause-boards c = refl
 
-pub returns-in_err-push-2-clause-added : goal.returns-in_err-push-2-clause-added
-returns-in_err-push-2-clause-added c = refused _ c.from_residual-in_err-push-2.result _ c.from_residual-in_err-push-2.ensures.1
+pub returns-in_err-reserve-clause-added : goal.returns-in_err-reserve-clause-added
+returns-in_err-reserve-clause-added c = refused _ c.from_residual-in_err-reserve.result _ c.from_residual-in_err-reserve.ensures.1
 
-pub returns-in_err-push-2-clause-kept : goal.returns-in_err-push-2-clause-kept
-returns-in_err-push-2-clause-kept c = refused _ c.from_residual-in_err-push-2.result _ c.from_residual-in_err-push-2.ensures.1
+pub returns-in_err-reserve-clause-kept : goal.returns-in_err-reserve-clause-kept
+returns-in_err-reserve-clause-kept c = refused _ c.from_residual-in_err-reserve.result _ c.from_residual-in_err-reserve.ensures.1
 
-pub returns-in_err-push-2-clause-wide : goal.returns-in_err-push-2-clause-wide
-returns-in_err-push-2-clause-wide c = for_want c.from_residual-in_err-push-2.result c.from_residual-in_err-push-2.ensures.1
+pub returns-in_err-reserve-clause-wide : goal.returns-in_err-reserve-clause-wide
+returns-in_err-reserve-clause-wide c = for_want c.from_residual-in_err-reserve.result c.from_residual-in_err-reserve.ensures.1

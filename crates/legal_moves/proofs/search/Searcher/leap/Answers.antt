@@ -94,6 +94,57 @@ leap_on-requires-clause-rows c =
     let same : J ≡ js = cc in
     subst (λ x. 0 < length x.rows.items) same some
 
+pub at_once-requires-clause-rows : goal.at_once-requires-clause-rows
+at_once-requires-clause-rows c =
+    let index = c.args.index in
+    let jumps = c.args.self.now.jumps.now in
+    let J = c.index-self-index.result in
+    let at_J = read_at jumps index J (omega (arith, c.requires.ready.within, c.requires.jumps.as_many)) c.index-self-index.is in
+    let some : 0 < length J.rows.items = some_rows J (get_or jumps index J) c.index-self-index.is c.is_empty.result c.is_empty.ensures c.if-is_empty.false in
+    λ js at_js.
+    let both : Some J ≡ Some js = sym at_J ∙ at_js in
+    let same : J ≡ js = cc in
+    subst (λ x. 0 < length x.rows.items) same some
+
+pub at_once-requires-clause-narrow : goal.at_once-requires-clause-narrow
+at_once-requires-clause-narrow c =
+    let game = game_of c.args.self.now.game.now in
+    let tables = c.args.self.now.tables.now in
+    let index = c.args.index in
+    let e = expression_at game index in
+    let jumps = c.args.self.now.jumps.now in
+    let J = c.index-self-index.result in
+    let at_J = read_at jumps index J (omega (arith, c.requires.ready.within, c.requires.jumps.as_many)) c.index-self-index.is in
+    let some : 0 < length J.rows.items = some_rows J (get_or jumps index J) c.index-self-index.is c.is_empty.result c.is_empty.ensures c.if-is_empty.false in
+    λ table at_table.
+    let are = c.requires.jumps.each index table e J at_table (expression_there game tables index c.requires.ready) at_J in
+    table.few (are.narrow some)
+
+pub at_once-requires-clause-some : goal.at_once-requires-clause-some
+at_once-requires-clause-some c =
+    let game = game_of c.args.self.now.game.now in
+    let tables = c.args.self.now.tables.now in
+    let index = c.args.index in
+    let T = c.index-self-index-2.result in
+    let at_T = read_at tables index T c.requires.ready.within c.index-self-index-2.is in
+    sym (is_table game tables index c.requires.ready T at_T).nullable_is ∙ ap (λ x. x.ends.nullable) c.index-self-index-2.is ∙ c.if-table.false
+
+pub returns-in-Some-clause-narrow : goal.returns-in-Some-clause-narrow
+returns-in-Some-clause-narrow c =
+    let game = game_of c.args.self.now.game.now in
+    let tables = c.args.self.now.tables.now in
+    let index = c.args.index in
+    let e = expression_at game index in
+    let T = c.index-self-index-2.result in
+    let at_T = read_at tables index T c.requires.ready.within c.index-self-index-2.is in
+    let jumps = c.args.self.now.jumps.now in
+    let J = c.index-self-index.result in
+    let at_J = read_at jumps index J (omega (arith, c.requires.ready.within, c.requires.jumps.as_many)) c.index-self-index.is in
+    let some : 0 < length J.rows.items = some_rows J (get_or jumps index J) c.index-self-index.is c.is_empty.result c.is_empty.ensures c.if-is_empty.false in
+    let are = c.requires.jumps.each index T e J at_T (expression_there game tables index c.requires.ready) at_J in
+    let few = T.few (are.narrow some) in
+    table_is_narrow game tables index c.requires.ready T at_T few (at_vertex c.args.state.now c.args.vertex) c.requires.state
+
 pub returns-then-branch-clause-narrow : goal.returns-then-branch-clause-narrow
 returns-then-branch-clause-narrow c =
     let game = game_of c.args.self.now.game.now in

@@ -1,4 +1,4 @@
-use Rattle.std.proofs.Common.{◌≡◌, ◌∙◌, ap, sym, subst, refl, ℕ, List, length, arith}
+use Rattle.std.proofs.Common.{◌≡◌, ◌∙◌, ap, sym, ℕ, List, length, arith}
 use Rattle.arrayvec.specs.ArrayVec.{ArrayVec}
 use Rattle.retrograde.specs.declared.records.Record.{Record}
 use Rattle.std.specs.Prelude.{count_by}

@@ -1,4 +1,4 @@
-use Rattle.std.proofs.Common.{◌∙◌, length, ◌≤◌, refl, arith}
+use Rattle.std.proofs.Common.{◌∙◌, length, ◌≤◌, refl, true, arith}
 use Rattle.std.specs.Result.{is_ok}
 use Rattle.retrograde.specs.Stored.{is_expanded, is_processed}
 use Rattle.table.proofs.CountLemmas.{count_fresh}
@@ -9,80 +9,44 @@ use Rattle.table.proofs.memory.MemTableTable.add.Goals as goal
 
 pub invariant_of-self-2-clause-numbered : goal.invariant_of-self-2-clause-numbered
 invariant_of-self-2-clause-numbered c =
-    rw (c.in_ok-push.ensures.items, c.in_ok-reserve.ensures.items)
-    (numbered_more c.args.self.now.positions.items c.args.self.now.numbers c.args.self.now.numbered c.insert.new.self c.in_ok-position.position c.in_ok-key.key
-    c.args.packed.now.items c.in_ok-position.ensures c.in_ok-key.ensures (c.requires.unknown tt) c.len-number.result (omega arith) c.in_ok-insert.ensures.updates)
+    rw (c.push_reserved.ensures.items, c.in_ok-reserve.ensures.items)
+    (numbered_more c.args.self.now.positions.items c.args.self.now.numbers c.args.self.now.numbered c.insert.new.self c.copied-2.result c.copied.result
+    c.args.packed.now.items c.copied-2.ensures c.copied.ensures (c.requires.unknown tt) c.len-number.result (omega arith) c.in_ok-insert.ensures.updates)
 
 pub invariant_of-self-2-clause-known : goal.invariant_of-self-2-clause-known
 invariant_of-self-2-clause-known c =
-    let longer : length c.args.self.now.positions.items ≤ length c.push.new.self.items = omega (arith, c.in_ok-push.ensures.len, c.in_ok-reserve.ensures.len) in
-    known_in_more (length c.args.self.now.positions.items) (length c.push.new.self.items) c.args.self.now.edges longer c.args.self.now.known
+    let longer : length c.args.self.now.positions.items ≤ length c.push_reserved.new.self.items = omega (arith, c.push_reserved.ensures.len, c.in_ok-reserve.ensures.len) in
+    known_in_more (length c.args.self.now.positions.items) (length c.push_reserved.new.self.items) c.args.self.now.edges longer c.args.self.now.known
 
 pub invariant_of-self-2-clause-expanded_is : goal.invariant_of-self-2-clause-expanded_is
 invariant_of-self-2-clause-expanded_is c =
     c.args.self.now.expanded_is
-    ∙ count_fresh (λ r. is_expanded r.state) refl c.args.self.now.records.items c.reserve-2.new.self.items c.push-2.new.self.items c.fresh.result (is_ok c.push-2.result)
-    c.in_ok-reserve-2.ensures.items c.fresh.ensures c.push-2.ensures.items
+    ∙ count_fresh (λ r. is_expanded r.state) refl c.args.self.now.records.items c.reserve-2.new.self.items c.push_reserved-2.new.self.items c.fresh.result true
+    c.in_ok-reserve-2.ensures.items c.fresh.ensures c.push_reserved-2.ensures.items
 
 pub invariant_of-self-2-clause-processed_is : goal.invariant_of-self-2-clause-processed_is
 invariant_of-self-2-clause-processed_is c =
     c.args.self.now.processed_is
-    ∙ count_fresh (λ r. is_processed r.state) refl c.args.self.now.records.items c.reserve-2.new.self.items c.push-2.new.self.items c.fresh.result (is_ok c.push-2.result)
-    c.in_ok-reserve-2.ensures.items c.fresh.ensures c.push-2.ensures.items
-
-pub returns-in_err-position-clause-number : goal.returns-in_err-position-clause-number
-returns-in_err-position-clause-number c = none_answered _ c.from_residual.result c.from_residual.ensures.0
-
-pub returns-in_err-position-clause-added : goal.returns-in_err-position-clause-added
-returns-in_err-position-clause-added c = λ honest. none_done _ c.from_residual.result c.from_residual.ensures.0
-
-pub returns-in_err-position-clause-honest : goal.returns-in_err-position-clause-honest
-returns-in_err-position-clause-honest c = none_done _ c.from_residual.result c.from_residual.ensures.0
-
-pub returns-in_err-position-clause-known : goal.returns-in_err-position-clause-known
-returns-in_err-position-clause-known c = none_done _ c.from_residual.result c.from_residual.ensures.0
-
-pub returns-in_err-position-clause-ahead : goal.returns-in_err-position-clause-ahead
-returns-in_err-position-clause-ahead c = none_done _ c.from_residual.result c.from_residual.ensures.0
-
-pub returns-in_err-position-clause-fault : goal.returns-in_err-position-clause-fault
-returns-in_err-position-clause-fault c = passed_on _ c.from_residual.result _ c.from_residual.ensures refl
-
-pub returns-in_err-key-clause-number : goal.returns-in_err-key-clause-number
-returns-in_err-key-clause-number c = none_answered _ c.from_residual-in_err-key.result c.from_residual-in_err-key.ensures.0
-
-pub returns-in_err-key-clause-added : goal.returns-in_err-key-clause-added
-returns-in_err-key-clause-added c = λ honest. none_done _ c.from_residual-in_err-key.result c.from_residual-in_err-key.ensures.0
-
-pub returns-in_err-key-clause-honest : goal.returns-in_err-key-clause-honest
-returns-in_err-key-clause-honest c = none_done _ c.from_residual-in_err-key.result c.from_residual-in_err-key.ensures.0
-
-pub returns-in_err-key-clause-known : goal.returns-in_err-key-clause-known
-returns-in_err-key-clause-known c = none_done _ c.from_residual-in_err-key.result c.from_residual-in_err-key.ensures.0
-
-pub returns-in_err-key-clause-ahead : goal.returns-in_err-key-clause-ahead
-returns-in_err-key-clause-ahead c = none_done _ c.from_residual-in_err-key.result c.from_residual-in_err-key.ensures.0
-
-pub returns-in_err-key-clause-fault : goal.returns-in_err-key-clause-fault
-returns-in_err-key-clause-fault c = passed_on _ c.from_residual-in_err-key.result _ c.from_residual-in_err-key.ensures refl
+    ∙ count_fresh (λ r. is_processed r.state) refl c.args.self.now.records.items c.reserve-2.new.self.items c.push_reserved-2.new.self.items c.fresh.result true
+    c.in_ok-reserve-2.ensures.items c.fresh.ensures c.push_reserved-2.ensures.items
 
 pub returns-in_err-reserve-clause-number : goal.returns-in_err-reserve-clause-number
-returns-in_err-reserve-clause-number c = none_answered _ c.from_residual-in_err-reserve.result c.from_residual-in_err-reserve.ensures.0
+returns-in_err-reserve-clause-number c = none_answered _ c.from_residual.result c.from_residual.ensures.0
 
 pub returns-in_err-reserve-clause-added : goal.returns-in_err-reserve-clause-added
-returns-in_err-reserve-clause-added c = λ honest. none_done _ c.from_residual-in_err-reserve.result c.from_residual-in_err-reserve.ensures.0
+returns-in_err-reserve-clause-added c = λ honest. none_done _ c.from_residual.result c.from_residual.ensures.0
 
 pub returns-in_err-reserve-clause-honest : goal.returns-in_err-reserve-clause-honest
-returns-in_err-reserve-clause-honest c = none_done _ c.from_residual-in_err-reserve.result c.from_residual-in_err-reserve.ensures.0
+returns-in_err-reserve-clause-honest c = none_done _ c.from_residual.result c.from_residual.ensures.0
 
 pub returns-in_err-reserve-clause-known : goal.returns-in_err-reserve-clause-known
-returns-in_err-reserve-clause-known c = none_done _ c.from_residual-in_err-reserve.result c.from_residual-in_err-reserve.ensures.0
+returns-in_err-reserve-clause-known c = none_done _ c.from_residual.result c.from_residual.ensures.0
 
 pub returns-in_err-reserve-clause-ahead : goal.returns-in_err-reserve-clause-ahead
-returns-in_err-reserve-clause-ahead c = none_done _ c.from_residual-in_err-reserve.result c.from_residual-in_err-reserve.ensures.0
+returns-in_err-reserve-clause-ahead c = none_done _ c.from_residual.result c.from_residual.ensures.0
 
 pub returns-in_err-reserve-clause-fault : goal.returns-in_err-reserve-clause-fault
-returns-in_err-reserve-clause-fault c = passed_on _ c.from_residual-in_err-reserve.result _ c.from_residual-in_err-reserve.ensures refl
+returns-in_err-reserve-clause-fault c = passed_on _ c.from_residual.result _ c.from_residual.ensures refl
 
 pub returns-in_err-reserve-2-clause-number : goal.returns-in_err-reserve-2-clause-number
 returns-in_err-reserve-2-clause-number c = none_answered _ c.from_residual-in_err-reserve-2.result c.from_residual-in_err-reserve-2.ensures.0
@@ -119,42 +83,6 @@ returns-in_err-insert-clause-ahead c = none_done _ c.from_residual-in_err-insert
 
 pub returns-in_err-insert-clause-fault : goal.returns-in_err-insert-clause-fault
 returns-in_err-insert-clause-fault c = passed_on _ c.from_residual-in_err-insert.result _ c.from_residual-in_err-insert.ensures refl
-
-pub returns-in_err-push-clause-number : goal.returns-in_err-push-clause-number
-returns-in_err-push-clause-number c = none_answered _ c.from_residual-in_err-push.result c.from_residual-in_err-push.ensures.0
-
-pub returns-in_err-push-clause-added : goal.returns-in_err-push-clause-added
-returns-in_err-push-clause-added c = λ honest. none_done _ c.from_residual-in_err-push.result c.from_residual-in_err-push.ensures.0
-
-pub returns-in_err-push-clause-honest : goal.returns-in_err-push-clause-honest
-returns-in_err-push-clause-honest c = none_done _ c.from_residual-in_err-push.result c.from_residual-in_err-push.ensures.0
-
-pub returns-in_err-push-clause-known : goal.returns-in_err-push-clause-known
-returns-in_err-push-clause-known c = none_done _ c.from_residual-in_err-push.result c.from_residual-in_err-push.ensures.0
-
-pub returns-in_err-push-clause-ahead : goal.returns-in_err-push-clause-ahead
-returns-in_err-push-clause-ahead c = none_done _ c.from_residual-in_err-push.result c.from_residual-in_err-push.ensures.0
-
-pub returns-in_err-push-clause-fault : goal.returns-in_err-push-clause-fault
-returns-in_err-push-clause-fault c = passed_on _ c.from_residual-in_err-push.result _ c.from_residual-in_err-push.ensures refl
-
-pub returns-in_err-push-2-clause-number : goal.returns-in_err-push-2-clause-number
-returns-in_err-push-2-clause-number c = none_answered _ c.from_residual-in_err-push-2.result c.from_residual-in_err-push-2.ensures.0
-
-pub returns-in_err-push-2-clause-added : goal.returns-in_err-push-2-clause-added
-returns-in_err-push-2-clause-added c = λ honest. none_done _ c.from_residual-in_err-push-2.result c.from_residual-in_err-push-2.ensures.0
-
-pub returns-in_err-push-2-clause-honest : goal.returns-in_err-push-2-clause-honest
-returns-in_err-push-2-clause-honest c = none_done _ c.from_residual-in_err-push-2.result c.from_residual-in_err-push-2.ensures.0
-
-pub returns-in_err-push-2-clause-known : goal.returns-in_err-push-2-clause-known
-returns-in_err-push-2-clause-known c = none_done _ c.from_residual-in_err-push-2.result c.from_residual-in_err-push-2.ensures.0
-
-pub returns-in_err-push-2-clause-ahead : goal.returns-in_err-push-2-clause-ahead
-returns-in_err-push-2-clause-ahead c = none_done _ c.from_residual-in_err-push-2.result c.from_residual-in_err-push-2.ensures.0
-
-pub returns-in_err-push-2-clause-fault : goal.returns-in_err-push-2-clause-fault
-returns-in_err-push-2-clause-fault c = passed_on _ c.from_residual-in_err-push-2.result _ c.from_residual-in_err-push-2.ensures refl
 
 pub returns-clause-honest : goal.returns-clause-honest
 returns-clause-honest c = (λ h. h, λ h. h)
