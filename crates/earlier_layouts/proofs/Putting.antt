@@ -1,5 +1,5 @@
 -- A text and a table in the place of others, or not.
-use Rattle.std.proofs.Common.{◌≡◌, ◌⊎◌, inl, inr, false, Option, Some, IsTrue, length, refl, sym, ap, subst}
+use Rattle.std.proofs.Common.{◌≡◌, ◌⊎◌, inl, inr, false, Option, Some, Result, Ok, Err, OnOk, OnErr, IsTrue, length, refl, sym, ap, subst}
 use Rattle.sector_disk.specs.aid.Moments.{leaves_now}
 use Rattle.page_store.specs.Store.{Store, IsSoundStore}
 use Rattle.earlier_layouts.specs.declared.game.Game.{Game}
@@ -76,3 +76,14 @@ not_put_whole is old new root left = record {
   leaves = left.leaves;
   either = left.either;
 }
+
+-- of a call that answers so
+pub put_done : {X E : Type 0} (r : Result X E) (is : Kept) (old new : FlatFile) → OnOk r (commits_in new.store.root ≡ count_behind (commits_in old.store.root))
+    → OnOk r (IsPutInFile is old new) → OnOk r (IsPut Stores is (state_of old) (state_of new))
+put_done (Ok x) is old new commits put = put_whole is old new commits put
+put_done (Err e) is old new commits put = tt
+
+pub not_put_done : {X E : Type 0} (r : Result X E) (is : Kept) (old new : FlatFile) → OnErr r (new.store.root ≡ old.store.root)
+    → OnErr r (IsNotPutInFile is old new) → OnErr r (IsNotPut Stores is (state_of old) (state_of new))
+not_put_done (Ok x) is old new root left = tt
+not_put_done (Err e) is old new root left = not_put_whole is old new root left
