@@ -12,7 +12,7 @@ use Rattle.page_store.specs.declared.holds.Holders.{Holders}
 use Rattle.page_store.specs.Holds.{holders_at}
 use Rattle.page_store.specs.declared.cache.PageCache.{PageCache}
 use Rattle.page_store.specs.Cache.{HoldsPage, HasPlace, OnlyForgets, IsCacheOf, IsEditedAt}
-use Rattle.page_store.specs.Places.{HoldsAt, IsPlaced, AreApart, number_at, kept_at}
+use Rattle.page_store.specs.Places.{HoldsAt, IsPlaced, StandOnce, number_at, kept_at}
 use Rattle.page_store.specs.Marks.{mark, keeps, committed, left, AreCommitted, AreLeft, IsMarked, IsKept}
 use Rattle.page_store.specs.Page.{HasSectors, IsWithin, IsElsewhere, StaysElsewhere, eighth, page as page_at}
 use Rattle.page_store.specs.Store.{Store, reads}
@@ -43,8 +43,8 @@ within_numbers numbers kept p place placed = by (cases_lt place (length numbers)
     by (inr past) = absurd (let no : None ≡ Some p = sym (get_or_past numbers place None past) ∙ placed.number in cc)
 
 -- where fewer pages stand, none stands at two places
-pub still_apart : (numbers numbers' : Numbers) (kept kept' : Kept) → AreApart numbers kept
-    → ((p place : ℕ) → IsPlaced numbers' kept' p place → IsPlaced numbers kept p place) → AreApart numbers' kept'
+pub still_apart : (numbers numbers' : Numbers) (kept kept' : Kept) → StandOnce numbers kept
+    → ((p place : ℕ) → IsPlaced numbers' kept' p place → IsPlaced numbers kept p place) → StandOnce numbers' kept'
 still_apart numbers numbers' kept kept' apart fewer p x y at_x at_y = apart p x y (fewer p x at_x) (fewer p y at_y)
 
 -- what is in a cache after a page was put into it
@@ -52,7 +52,7 @@ abbrev pub AfterPut : ℕ → List ℕ → Numbers → Kept → ℕ → List ℕ
 AfterPut page bytes numbers kept p held = ((p ≡ page) × (held ≡ bytes)) ⊎ ((p ≢ page) × HoldsAt numbers kept p held)
 
 -- the page of a place gets other bytes
-module _ (numbers : Numbers) (kept : Kept) (page place : ℕ) (bytes : List ℕ) (apart : AreApart numbers kept) (placed : IsPlaced numbers kept page place) where
+module _ (numbers : Numbers) (kept : Kept) (page place : ℕ) (bytes : List ℕ) (apart : StandOnce numbers kept) (placed : IsPlaced numbers kept page place) where
   pub put_here : (p : ℕ) (held : List ℕ) → HoldsAt numbers (set kept place bytes) p held → AfterPut page bytes numbers kept p held
   put_here p held there = elim (cases_eq there.place place) [
     | inl same ↦ inl (
@@ -67,12 +67,12 @@ module _ (numbers : Numbers) (kept : Kept) (page place : ℕ) (bytes : List ℕ)
         )
   ]
 
-  pub put_apart : AreApart numbers (set kept place bytes)
+  pub put_apart : StandOnce numbers (set kept place bytes)
   put_apart = still_apart numbers numbers kept (set kept place bytes) apart
       (λ p at there. record { number = there.number; within = omega (arith, there.within, length-set kept place bytes) })
 
 -- a page that stands nowhere is put at a place
-module _ (numbers : Numbers) (kept : Kept) (page place : ℕ) (bytes : List ℕ) (apart : AreApart numbers kept) (nowhere : (at : ℕ) → IsPlaced numbers kept page at → ⊥)
+module _ (numbers : Numbers) (kept : Kept) (page place : ℕ) (bytes : List ℕ) (apart : StandOnce numbers kept) (nowhere : (at : ℕ) → IsPlaced numbers kept page at → ⊥)
     (here : place < length numbers) (within : place < length kept) where
   else_placed : (p at : ℕ) → at ≢ place → IsPlaced (set numbers place (Some page)) (set kept place bytes) p at → IsPlaced numbers kept p at
   else_placed p at other there = record {
@@ -97,7 +97,7 @@ module _ (numbers : Numbers) (kept : Kept) (page place : ℕ) (bytes : List ℕ)
         )
   ]
 
-  pub new_apart : AreApart (set numbers place (Some page)) (set kept place bytes)
+  pub new_apart : StandOnce (set numbers place (Some page)) (set kept place bytes)
   new_apart p x y at_x at_y = by (cases_eq x place) (cases_eq y place)
     where
       wrong : (at : ℕ) → at ≢ place → p ≡ page → IsPlaced (set numbers place (Some page)) (set kept place bytes) p at → ⊥
@@ -110,7 +110,7 @@ module _ (numbers : Numbers) (kept : Kept) (page place : ℕ) (bytes : List ℕ)
       by (inr one) (inr two) = apart p x y (else_placed p x one at_x) (else_placed p y two at_y)
 
 -- a place has no page any more
-module _ (numbers : Numbers) (kept : Kept) (page place : ℕ) (apart : AreApart numbers kept) (placed : IsPlaced numbers kept page place) where
+module _ (numbers : Numbers) (kept : Kept) (page place : ℕ) (apart : StandOnce numbers kept) (placed : IsPlaced numbers kept page place) where
   left_placed : (p at : ℕ) → IsPlaced (set numbers place None) kept p at → (p ≢ page) × IsPlaced numbers kept p at
   left_placed p at there =
       let other : at ≢ place = λ same. (let no : None ≡ Some p = sym (get_or-set_at numbers place at None None same (within_numbers numbers kept page place placed)) ∙ there.number in cc) in
@@ -122,11 +122,11 @@ module _ (numbers : Numbers) (kept : Kept) (page place : ℕ) (apart : AreApart 
       let was = left_placed p there.place there.placed in
       (was.0, record { place = there.place; placed = was.1; holds = there.holds })
 
-  pub left_apart : AreApart (set numbers place None) kept
+  pub left_apart : StandOnce (set numbers place None) kept
   left_apart = still_apart numbers (set numbers place None) kept kept apart (λ p at there. (left_placed p at there).1)
 
 -- a place more, where no page stands
-module _ (numbers : Numbers) (kept : Kept) (place : ℕ) (bytes : List ℕ) (apart : AreApart numbers kept) (here : place < length numbers) (next : place ≡ length kept) where
+module _ (numbers : Numbers) (kept : Kept) (place : ℕ) (bytes : List ℕ) (apart : StandOnce numbers kept) (here : place < length numbers) (next : place ≡ length kept) where
   grown_placed : (p at : ℕ) → IsPlaced (set numbers place None) (kept ++ bytes ∷ []) p at → IsPlaced numbers kept p at
   grown_placed p at there =
       let other : at ≢ place = λ same. (let no : None ≡ Some p = sym (get_or-set_at numbers place at None None same here) ∙ there.number in cc) in
@@ -140,7 +140,7 @@ module _ (numbers : Numbers) (kept : Kept) (place : ℕ) (bytes : List ℕ) (apa
       let was = grown_placed p there.place there.placed in
       record { place = there.place; placed = was; holds = sym (get_or_append_left kept (bytes ∷ []) [] there.place was.within) ∙ there.holds }
 
-  pub grown_apart : AreApart (set numbers place None) (kept ++ bytes ∷ [])
+  pub grown_apart : StandOnce (set numbers place None) (kept ++ bytes ∷ [])
   grown_apart = still_apart numbers (set numbers place None) kept (kept ++ bytes ∷ []) apart grown_placed
 
   pub blank_holds : (p : ℕ) (held : List ℕ) → HoldsAt (set numbers place None) kept p held → HoldsAt numbers kept p held
@@ -152,13 +152,13 @@ module _ (numbers : Numbers) (kept : Kept) (place : ℕ) (bytes : List ℕ) (apa
         holds = there.holds;
       }
 
-  pub blank_apart : AreApart (set numbers place None) kept
+  pub blank_apart : StandOnce (set numbers place None) kept
   blank_apart = still_apart numbers (set numbers place None) kept kept apart
       (λ p at there. record { number = sym (get_or-set_other numbers place at None None (omega (arith, there.within, next))) ∙ there.number; within = there.within })
 
 -- a page is edited at its place
 pub edited_at : (Edits : List ℕ → List ℕ → Type 0) (from to : ℕ) (old new : PageCache) (page place : ℕ) (was it : List ℕ) → HasPlace old page place
-    → AreApart old.numbers.items old.kept.items → kept_at old.kept.items place ≡ was
+    → StandOnce old.numbers.items old.kept.items → kept_at old.kept.items place ≡ was
     → new.numbers.items ≡ old.numbers.items → new.kept.items ≡ set old.kept.items place it → Edits was it
     → StaysElsewhere from to was it → IsEditedAt Edits from to page place old new
 edited_at Edits from to old new page place was it placed apart stood numbers kept edits elsewhere = record {

@@ -15,8 +15,8 @@ pub record IsPlaced (numbers : List (Option ℕ)) (kept : List (List ℕ)) (p pl
   pub within : place < length kept
 
 -- no page stands at two places
-abbrev pub AreApart : List (Option ℕ) → List (List ℕ) → Type 0
-AreApart numbers kept = (p x y : ℕ) → IsPlaced numbers kept p x → IsPlaced numbers kept p y → x ≡ y
+abbrev pub StandOnce : List (Option ℕ) → List (List ℕ) → Type 0
+StandOnce numbers kept = (p x y : ℕ) → IsPlaced numbers kept p x → IsPlaced numbers kept p y → x ≡ y
 
 -- the page stands at a place with these bytes
 pub record HoldsAt (numbers : List (Option ℕ)) (kept : List (List ℕ)) (p : ℕ) (bytes : List ℕ) : Type 0 where

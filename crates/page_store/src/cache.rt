@@ -1,6 +1,6 @@
 //! Pages in memory, so that they need not be read again.
 ghost use Rattle.std.specs.Prelude.{◌≡◌, ◌≢◌, ◌⊎◌, ◌≤◌, ◌<◌, ℕ, List, IsTrue, IfOk, IfSome, IfNone, false, length};
-ghost use Rattle.page_store.specs.Places.{AreApart, kept_at};
+ghost use Rattle.page_store.specs.Places.{StandOnce, kept_at};
 
 use crate::edit::{PageEdit, Span};
 use lru::LruCache;
@@ -25,7 +25,7 @@ pub struct PageCache {
     hints: [u8; HINTS],
     /// The place that was used last.
     last: usize,
-    ghost apart: { AreApart numbers.items kept.items },
+    ghost apart: { StandOnce numbers.items kept.items },
 }
 
 /// Where the place of this page is remembered.
