@@ -11,7 +11,7 @@ use Rattle.rbg_game.specs.Meaning.{action_of}
 use Rattle.rbg_game.specs.declared.rules.Action.{Action as ProgramAction}
 use Rattle.rbg_game.specs.declared.position.SemiState.{SemiState}
 use Rattle.legal_moves.specs.Effects.{Effect}
-use Rattle.legal_moves.specs.aid.Sets.{set_in, step_set, HasBits, AreBitsOf, IsSetOf, AreSets, Refuses}
+use Rattle.legal_moves.specs.aid.Sets.{set_in, step_set, AreBitsOf, IsSetOf, AreSets, Refuses}
 use Rattle.legal_moves.specs.declared.table.Step.{Step}
 use Rattle.legal_moves.specs.declared.table.Step.TheVariants.{Act, Ask}
 use Rattle.legal_moves.proofs.GetLemmas.{slice_get-push, slice_get-within}

@@ -1,4 +1,4 @@
-use Rattle.std.proofs.Common.{◌≡◌, ◌-◌, Some, slice_get, ap, ◌∙◌, subst, arith, length, get_or}
+use Rattle.std.proofs.Common.{◌≡◌, ◌-◌, Some, ap, ◌∙◌, arith, get_or}
 use Rattle.legal_moves.proofs.ReadyLemmas.{read_at}
 use Rattle.legal_moves.proofs.SetLemmas.{tested_bit}
 use Rattle.legal_moves.proofs.table.Table.may_pass.Goals as goal
