@@ -15,7 +15,7 @@ use Rattle.rbg_read.specs.Means.{Means}
 use Rattle.rbg_read.specs.aid.Parts.{Parts, collected, known_of}
 use Rattle.rbg_read.specs.aid.Flat.{flat_cause}
 use Rattle.rbg_read.specs.aid.Build.{flat_game}
-use Rattle.rbg_read.specs.Reading.{Reads, reads, Fault, too_long, stray_byte, nested, grammar, first}
+use Rattle.rbg_read.specs.Reading.{Parses, Reads, reads, Fault, too_long, stray_byte, nested, grammar, first}
 use Rattle.rbg_read.specs.declared.fault.GameFault.{GameFault}
 use Rattle.rbg_read.specs.declared.fault.GameFault.TheVariants as cause
 use Rattle.rbg_read.proofs.TreeParts.{tree_parts, found, missing, causes_are, means_is}
@@ -88,6 +88,11 @@ same_tree {ts = ts} {us = us} all others flat p q spelled said =
 pub one_game : (bytes : Text) (g h : Game) → Reads bytes g → Reads bytes h → g ≡ h
 one_game bytes g h (reads {ts = ts} {all = all} short flat parses fine m) (reads {ts = us} {all = others} short2 flat2 parses2 fine2 n) =
     same_game all others g h (same_tree all others flat parses.splits parses2.splits parses.spelled parses2.spelled) fine m n
+
+-- nor does its text mean another, whichever sections it parses to
+pub one_meaning : (bytes : Text) (g h : Game) (us : Tokens) (others : List Section) → Reads bytes g → Parses bytes us others → Means others h → h ≡ g
+one_meaning bytes g h us others (reads {ts = ts} {all = all} short flat parses fine m) parsed n =
+    sym (same_game all others g h (same_tree all others flat parses.splits parsed.splits parses.spelled parsed.spelled) fine m n)
 
 pub no_fault : (bytes : Text) (g : Game) (f : GameFault) → Reads bytes g → Fault bytes f → ⊥
 no_fault bytes g f (reads short flat parses fine m) (too_long long) = absurd (omega arith)

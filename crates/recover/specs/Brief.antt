@@ -47,11 +47,12 @@ pub record BriefTable : Type 0 where
   pub goal : Option ℕ
   pub view : View Position
 
--- what it tells is so by the rules of the game: a known position has one number, and the start number 0; a settled one is won by the named
--- player in exactly the named number of moves; and where the table is finished, its positions are those that play can come to, and the
--- unsettled are exactly the drawn
+-- what it tells is so by the rules of the game, the only one that its text says: a known position has one number, and the start number 0;
+-- a settled one is won by the named player in exactly the named number of moves; and where the table is finished, its positions are those
+-- that play can come to, and the unsettled are exactly the drawn
 pub record IsTrueIn (game : Game) (table : BriefTable) : Type 0 where
   pub says : TextSays table.text game
+  pub only : (other : Game) → TextSays table.text other → other ≡ game
   pub once : (i j : ℕ) (at : Position) → HasNumber table.view i at → HasNumber table.view j at → i ≡ j
   pub start : HasNumber table.view 0 (start_of game)
   pub won : (at : Position) (w : Player) (n : ℕ) → HasValue table.view at w n → WonIn (play_of table.goal game) w n at

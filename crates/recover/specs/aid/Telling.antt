@@ -6,7 +6,7 @@ use Rattle.rbg_game.specs.Games.{Game}
 use Rattle.rbg_game.specs.declared.position.Position.{Position}
 use Rattle.rbg_text.specs.Token.{Text}
 use Rattle.rbg_read.specs.Reading.{Reads, reads}
-use Rattle.rbg_read.proofs.OneReading.{one_game}
+use Rattle.rbg_read.proofs.OneReading.{one_game, one_meaning}
 use Rattle.rbg_read.proofs.SoundGames.{read_sound}
 use Rattle.position_pack.specs.declared.kind.PackingKind.{PackingKind}
 use Rattle.position_pack.specs.declared.kind.PackingKind.TheVariants.{Bits}
@@ -136,6 +136,7 @@ module _ (kept : Kept) (sound : IsSound (Some kept)) where
       let right = a_sound_table_is_right kept game sound sound.1 in
       record {
         says = says_so;
+        only = λ other said. one_meaning kept.text game other said.tokens said.sections sound.1 said.parses said.means;
         once = λ i j at one other.
             let (x, first, here) = number_up i at one in
             let (y, second, there) = number_up j at other in
