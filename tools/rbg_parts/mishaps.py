@@ -55,6 +55,11 @@ def masked(line):
     return "".join(letter if letter.isprintable() else "?" for letter in text)
 
 
+def masked_lines(text):
+    """A whole text as it can be shown."""
+    return b"\n".join(masked(line).encode("utf-8", "replace") for line in text.split(b"\n"))
+
+
 def is_high_level(text):
     plain = re.sub(rb"//[^\n]*", b"", text)
     titles = [(match[1].decode(), bool(match[2])) for match in MACRO.finditer(plain)]
