@@ -25,6 +25,15 @@ class Session:
             words.fail(2, f"{program}: {error.strerror}")
         self.last = ""
 
+    def __enter__(self):
+        return self
+
+    def __exit__(self, *_):
+        # one that was not ended is given up in the midst of its line, which leaves the table as it was
+        if self.process.poll() is None:
+            self.process.kill()
+            self.process.wait()
+
     def ask(self, line):
         """The reply to a line that has one; nothing if the session has ended."""
         try:

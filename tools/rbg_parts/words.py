@@ -42,7 +42,7 @@ class Parser(argparse.ArgumentParser):
         return name in self._option_string_actions or re.fullmatch(r"-[0-9.]*", word)
 
     def format_help(self):
-        return self.description
+        return as_it_is_called(self.description)
 
     def _print_message(self, message, file=None):
         # that of argparse is silent where the output fails
@@ -62,6 +62,13 @@ def parser(doc):
     made = Parser(description=doc, allow_abbrev=False)
     made.add_argument("--version", action=Version, nargs=0)
     return made
+
+
+def as_it_is_called(text):
+    """A text that names tools, with the names that they have where ./install put them, if this one has such a name."""
+    if COMMAND != NAME:
+        return text
+    return re.sub(r"\btools/([a-z_]+)", lambda match: "rbgsolve-" + match[1].replace("_", "-"), text)
 
 
 def version():

@@ -130,6 +130,20 @@ class Interrupted(Case):
             self.assertEqual(self.ends(tool), (130, b"units 256 known 9 expanded 8 settled 7 processed 6 open\n"))
             self.assertTrue((self.folder / "ended").exists())
 
+    def test_a_second_interrupt_ends_it_at_once(self):
+        """In the midst of a line that takes long: the session ends too, so that its output is closed."""
+        self.file("long", "#!/bin/sh\nread -r line && echo got >got && exec sleep 60\n").chmod(0o755)
+        for number in (signal.SIGINT, signal.SIGTERM):
+            (self.folder / "got").unlink(missing_ok=True)
+            tool = self.begun(ROOT / "tools/solve", "some.table", here={**os.environ, "RBGSOLVE": str(self.folder / "long")})
+            while not (self.folder / "got").exists():
+                time.sleep(0.02)
+            tool.send_signal(number)
+            time.sleep(0.5)
+            self.assertIsNone(tool.poll())
+            tool.send_signal(number)
+            self.assertEqual(self.ends(tool), (130, b""))
+
     def test_a_build_that_a_tool_begins_ends_with_it(self):
         """In a copy without anything built, with a toolchain that only waits."""
         for name in ("rbgsolve", "build", "crates.txt"):

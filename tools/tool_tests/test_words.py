@@ -44,6 +44,15 @@ class Words(Case):
             if tool != "lint":
                 self.assertEqual(self.ran(tool, "a", "b", "c", "d")[:2], (2, ""), tool)
 
+    def test_a_tool_that_is_installed_tells_its_name_there(self):
+        (self.folder / "rbgsolve-new-table").symlink_to(ROOT / "tools/new_table")
+        for words, status in (("--help", 0), ("--bogus", 2), ("--version", 0)):
+            done = subprocess.run([self.folder / "rbgsolve-new-table", words], capture_output=True, check=False)
+            told = (done.stdout + done.stderr).decode()
+            self.assertEqual(done.returncode, status, told)
+            self.assertIn("rbgsolve-new-table ", told)
+            self.assertNotIn("tools/", told)
+
     def test_an_output_that_fails_or_is_closed(self):
         for tool in TOOLS:
             for words in (f"{tool} --help >/dev/full", f"{tool} --help >&-", f"{tool} --version >/dev/full"):
