@@ -15,13 +15,18 @@ Values, texts, lines, moves and the game's text are the answers of `rbgsolve loo
 many may look at a table at once, but none while a run works on it. Where all edges are wanted, `successors` reads them
 from the file's bytes (docs/FORMAT.md), as they are when it is first called. What cannot be answered raises `Refused`, with the
 program's code and sentence.
+
+Threads may share a `Table`: their questions are answered one after the other. Two that ask much at once are each answered
+sooner by a `Table` of their own.
 """
 from __future__ import annotations
 
 import os
+import re
 import struct
 import subprocess
 import tempfile
+import threading
 import time
 from array import array
 from typing import NamedTuple
@@ -29,10 +34,15 @@ from typing import NamedTuple
 PAGE = 4096
 # so many bytes of lines are sent before their replies are read: they fit into a pipe, so that neither side waits for the other for ever
 AT_ONCE = 4000
+# the game's text has so many bytes at most
+MOST_TEXT = 65536
+# a reply that refuses a line: no text of a position and no value looks like it, whatever the players are called
+REFUSAL = re.compile(r"refused ([EGS][0-9]+)( .*)?")
 
 
 class Refused(Exception):
-    """A refusal: the code, as `E4` or `S7`, the exit status that the program has for it, and the sentence that it told."""
+    """A refusal: the code, as `E4` or `S7`, the exit status that the program has for it, and the sentence that it told.
+    A session that could not begin, as another run has the table, has no code, and the sentence tells why."""
 
     def __init__(self, message, code="", status=1, told=""):
         super().__init__(f"{message}: {told}" if told else message)
@@ -88,6 +98,7 @@ class Root(NamedTuple):
     known: int
     edges_page: int
     edges: int
+    capacity: int
     goal: int
 
 
@@ -112,10 +123,15 @@ class Table:
     def __init__(self, file, program="rbgsolve"):
         self.file = os.fspath(file)
         program = [program] if isinstance(program, (str, bytes, os.PathLike)) else list(program)
-        # standard error goes to a file: a pipe that nobody reads would fill up, and stop the program
-        self._told = tempfile.TemporaryFile()
-        self._told_before = 0
         self._program, self._successors, self._game = program, None, None
+        self._lock, self._has_ended = threading.RLock(), False
+        # where the sentences begin that belong to the lines that are answered: to the first line, all of them
+        self._told_before = None
+        try:
+            # standard error goes to a file: a pipe that nobody reads would fill up, and stop the program
+            self._told = tempfile.TemporaryFile()
+        except OSError as error:
+            raise Refused(f"no file for a while can be made: {error.strerror}", status=4) from error
         try:
             self._process = subprocess.Popen(
                 [*program, "look", "--", self.file], stdin=subprocess.PIPE, stdout=subprocess.PIPE, stderr=self._told
@@ -141,13 +157,18 @@ class Table:
 
     def close(self):
         """Ends the session."""
-        for stream in (self._process.stdin, self._process.stdout):
-            try:
-                stream.close()
-            except OSError:
-                pass
-        self._process.wait()
-        self._told.close()
+        with self._lock:
+            self._end_input()
+            self._process.stdout.close()
+            self._process.wait()
+            self._told.close()
+
+    def _end_input(self):
+        self._has_ended = True
+        try:
+            self._process.stdin.close()
+        except OSError:
+            pass  # the session ended before it had read all lines
 
     # lines and replies
 
@@ -160,22 +181,24 @@ class Table:
         batch, size = [], 0
         for line in lines:
             if batch and size + len(line) > AT_ONCE:
-                yield from self._sent(batch, replies)
+                yield from self._answered(batch, replies)
                 batch, size = [], 0
             batch.append(line)
             size += len(line) + 1
-        yield from self._sent(batch, replies)
+        if batch:
+            yield from self._answered(batch, replies)
 
-    def _sent(self, lines, replies):
-        if not lines:
-            return
-        self._told_before = os.fstat(self._told.fileno()).st_size
-        try:
-            self._process.stdin.write(("\n".join(lines) + "\n").encode())
-            self._process.stdin.flush()
-        except (OSError, ValueError):
-            pass  # the session has ended: its last reply tells why
-        # all are read before the first is handed out: other questions may come between two of them
+    def _answered(self, lines, replies):
+        """The replies to some lines. All are read before the first is handed out: other questions may come between two of them."""
+        with self._lock:
+            found, refused = self._exchange(lines, replies)
+        yield from found
+        if refused:
+            raise refused
+
+    def _exchange(self, lines, replies):
+        """The replies to some lines up to the first refusal, and that one, if there is one."""
+        self._send(lines)
         found, refused = [], None
         for line in lines:
             for _ in range(replies if isinstance(replies, int) else replies(line)):
@@ -186,38 +209,48 @@ class Table:
                     break  # that line has no other reply
                 if not refused:
                     found.append(reply)
-            if self._process.stdin.closed:
+            if self._has_ended:
                 break
-        yield from found
-        if refused:
-            raise refused
+        return found, refused
+
+    def _send(self, lines):
+        """Sends some lines; one with a line feed in it would be two, and each later question would have the reply to another one."""
+        for line in lines:
+            if "\n" in line:
+                raise Refused(f"{self.file}: a line feed stands in a question: {line!r}", status=2)
+        if self._told.closed:
+            raise Refused(f"{self.file}: the session is closed")
+        self._told_before = 0 if self._told_before is None else os.fstat(self._told.fileno()).st_size
+        try:
+            self._process.stdin.write(("\n".join(lines) + "\n").encode("utf-8", "surrogateescape"))
+            self._process.stdin.flush()
+        except (OSError, ValueError):
+            pass  # the session has ended: its last reply tells why
 
     def _reply(self):
-        reply = self._process.stdout.readline().decode().rstrip("\n")
-        if reply and reply != "usage" and not reply.startswith("refused"):
+        reply = self._process.stdout.readline().decode("utf-8", "replace").rstrip("\n")
+        refusal = REFUSAL.fullmatch(reply)
+        if reply and reply != "usage" and not refusal:
             return reply
-        status, has_ended = 1, False
-        if not reply or reply.split()[1:2] in (["E1"], ["E4"], ["E8"], ["G10"]):
-            self._process.stdin.close()
-            status, has_ended = self._process.wait() or 1, True
-        elif reply == "usage":
-            status = 2
-        code = reply.partition("refused ")[2].split(" ")[0]
-        told = "" if reply == "usage" else self._told_since(has_ended)
+        code, status = refusal[1] if refusal else "", 2 if reply == "usage" else 1
+        if not reply or code in ("E1", "E4", "E8", "G10"):
+            self._end_input()
+            status = self._process.wait() or 1
+        told = "" if reply == "usage" else self._told_since()
         raise Refused(f"{self.file}: {reply or 'the session ended'}", code, status, told)
 
-    def _told_since(self, has_ended):
+    def _told_since(self):
         """The first sentence on standard error since the lines that are answered were sent; the last one of a session that has ended."""
         file, ends = self._told.fileno(), time.monotonic() + 0.2
         while True:
             # the program writes where the file stands, so that reading may not move it
             told = os.pread(file, os.fstat(file).st_size, self._told_before)
             # a session that goes on writes the sentence behind the reply: it comes at once
-            if has_ended or b"\n" in told or time.monotonic() > ends:
+            if self._has_ended or b"\n" in told or time.monotonic() > ends:
                 break
             time.sleep(0.0001)
         lines = told.decode("utf-8", "replace").splitlines()
-        return lines[-1 if has_ended else 0] if lines else ""
+        return lines[-1 if self._has_ended else 0] if lines else ""
 
     # questions
 
@@ -242,11 +275,15 @@ class Table:
         """The numbers along a shortest win from a position."""
         return [int(word) for word in self.ask(f"line {number}").split()[1:]]
 
-    def values(self, begin=0, end=None):
-        """The values of the positions from `begin` on, up to the one before `end`."""
+    def listed(self, begin=0, end=None):
+        """The lines `NUMBER VALUE` of the positions from `begin` on, up to the one before `end`: the fastest way to all values."""
         end = self.counts.known if end is None else min(end, self.counts.known)
         blocks = (f"list {at} {min(256, end - at)}" for at in range(begin, end, 256))
-        for reply in self.ask_all(blocks, lambda line: int(line.split()[2])):
+        yield from self.ask_all(blocks, lambda line: int(line.split()[2]))
+
+    def values(self, begin=0, end=None):
+        """The values of the positions from `begin` on, up to the one before `end`."""
+        for reply in self.listed(begin, end):
             yield value_of(reply.split()[1:])
 
     def rows(self, begin=0, end=None):
@@ -270,27 +307,36 @@ class Table:
 
     def moves(self, number):
         """The moves of a position, best first for who has the turn: won soonest, drawn, open, lost latest."""
-        # how many lines the reply has is not known before: it ends where that to `status` begins
-        try:
-            found = [self.ask(f"moves {number}\nstatus")]
-        except Refused:
-            if not self._process.stdin.closed:
-                self._reply()
-            raise
-        while not found[-1].startswith("known "):
-            found.append(self._reply())
+        with self._lock:
+            # how many lines the reply has is not known before: it ends where that to `status` begins
+            self._send([f"moves {number}", "status"])
+            try:
+                found = [self._reply()]
+            except Refused:
+                if not self._has_ended:
+                    self._reply()
+                raise
+            while " => " in found[-1] or found[-1] == "ended":
+                found.append(self._reply())
         return [move_of(line) for line in found[:-1] if line != "ended"]
 
     @property
     def game(self):
         """The text of the table's game."""
-        if self._game is None:
-            ran = subprocess.run([*self._program, "look", "--", self.file], input=b"game\n", capture_output=True, check=False)
-            if ran.returncode or ran.stdout.startswith(b"refused"):
-                reply, told = (stream.decode("utf-8", "replace").strip() for stream in (ran.stdout, ran.stderr))
-                raise Refused(f"{self.file}: {reply or 'no answer'}", reply.partition("refused ")[2], ran.returncode or 1, told)
-            self._game = ran.stdout
-        return self._game
+        with self._lock:
+            if self._game is None:
+                self._game = self._asked_game()
+            return self._game
+
+    def _asked_game(self):
+        # a session of its own: the text may have any bytes, so that no line tells where it ends
+        ran = subprocess.run([*self._program, "look", "--", self.file], input=b"game\n", capture_output=True, check=False)
+        refusal = REFUSAL.fullmatch(ran.stdout.decode("utf-8", "replace").strip())
+        if ran.returncode or refusal:
+            told = ran.stderr.decode("utf-8", "replace").strip()
+            message = f"{self.file}: {refusal[0] if refusal else 'no answer'}"
+            raise Refused(message, refusal[1] if refusal else "", ran.returncode or 1, told)
+        return ran.stdout
 
     # what the file's bytes tell
 
@@ -298,10 +344,11 @@ class Table:
         """The numbers that the moves of a position lead to."""
         if not 0 <= number < self.counts.known:
             raise Refused(f"{self.file}: refused S7: there is no position {number}", "S7")
-        if self._successors is None:
-            with open(self.file, "rb") as file:
-                self._successors = successors_in(file, root_of(file))
-        begins, to = self._successors
+        with self._lock:
+            if self._successors is None:
+                with open(self.file, "rb") as file:
+                    self._successors = successors_in(file, root_of(file))
+            begins, to = self._successors
         return list(to[begins[number] : begins[number + 1]])
 
 
@@ -317,9 +364,10 @@ def root_of(file):
     if len(slot) < 512:
         return None
     layout, packing, _, chain, text, _, known, *_ = struct.unpack(">IIQIIIIIII", slot[:44])
-    edges_page, _, edges, _, goal = struct.unpack(">IIQII", slot[52:76])
-    goal = goal if layout == 3 else 0
-    return Root(layout, packing, chain, text, known, edges_page, edges, goal) if layout in (2, 3) else None
+    edges_page, _, edges, capacity, goal = struct.unpack(">IIQII", slot[52:76])
+    if layout == 2:
+        capacity, goal = min(file.seek(0, os.SEEK_END) // PAGE, 1048576), 0
+    return Root(layout, packing, chain, text, known, edges_page, edges, capacity, goal) if layout in (2, 3) else None
 
 
 def page_of(file, page):
@@ -328,11 +376,16 @@ def page_of(file, page):
 
 
 def text_of(file, root):
+    """The text in a table's chain; refused where the chain has not as many whole pages as that takes, so that any file may be asked."""
     text, page = b"", root.text_page
-    while len(text) < root.text_bytes:
+    while len(text) < min(root.text_bytes, MOST_TEXT):
         found = page_of(file, page)
+        if not page or len(found) < PAGE:
+            break
         text += found[4:]
         page = struct.unpack(">I", found[:4])[0]
+    if len(text) < root.text_bytes:
+        raise Refused(f"{os.fsdecode(file.name)}: refused E4", "E4", 3, "the chain of the text is damaged")
     return text[: root.text_bytes]
 
 

@@ -53,17 +53,22 @@ def axes(names):
 def movers(play):
     """The roles that may do each action: those to whom a switch gave the turn from which a way leads to it."""
     follow = play.follow
-    found = [set() for _ in follow.actions]
-    todo = [(0, action) for action in follow.first]
+    found, todo = [set() for _ in follow.actions], []
+
+    def reach(role, actions):
+        for at in actions:
+            if role not in found[at]:
+                found[at].add(role)
+                todo.append((role, at))
+
+    reach(0, follow.first)
     for at, action in enumerate(follow.actions):
         if action.kind == "switch":
-            todo += [(play.role_of(action), behind) for behind in follow.next[at]]
+            reach(play.role_of(action), follow.next[at])
     while todo:
         role, at = todo.pop()
-        if role not in found[at]:
-            found[at].add(role)
-            if follow.actions[at].kind != "switch":
-                todo += [(role, behind) for behind in follow.next[at]]
+        if follow.actions[at].kind != "switch":
+            reach(role, follow.next[at])
     return found
 
 

@@ -4,7 +4,7 @@ from __future__ import annotations
 import random
 import time
 
-from .play import TooWide
+from .play import TooLong, TooWide
 
 SEED = 20261127
 MOST_PAGES, MOST_POSITIONS = 1048576, 16777216
@@ -45,20 +45,25 @@ def rounded(count):
 
 
 def two_samples(play, known, seconds, most_moves=200):
-    """Positions of random plays that are not known: those of each second play, and those of the others."""
+    """Positions of random plays that are not known, those of each second play and those of the others; and how many plays were made."""
     chance, samples, number = random.Random(SEED), (set(), set()), 0
-    ends = time.monotonic() + seconds
-    while time.monotonic() < ends:
-        position = play.start()
-        for _ in range(most_moves):
-            moves = play.moves(position)
-            if not moves or time.monotonic() > ends:
-                break
-            position = chance.choice(moves).to
-            if position not in known:
-                samples[number % 2].add(position)
-        number += 1
-    return samples
+    play.ends = time.monotonic() + seconds
+    try:
+        while time.monotonic() < play.ends:
+            position = play.start()
+            for _ in range(most_moves):
+                moves = play.moves(position)
+                if not moves:
+                    break
+                position = chance.choice(moves).to
+                if position not in known:
+                    samples[number % 2].add(position)
+            number += 1
+    except TooLong:
+        pass
+    finally:
+        play.ends = None
+    return *samples, number
 
 
 def by_recapture(first, second):
@@ -70,10 +75,10 @@ def by_recapture(first, second):
 def guess(play, graph, seconds):
     """About how many positions a game has that was explored in part; None if random plays do not tell."""
     try:
-        first, second = two_samples(play, graph.number, seconds)
+        first, second, plays = two_samples(play, graph.number, seconds)
     except TooWide:
         return None
     if not first and not second:
-        return len(graph.positions)
+        return len(graph.positions) if plays else None
     beyond = by_recapture(first, second)
     return None if beyond is None else len(graph.positions) + beyond

@@ -38,8 +38,11 @@ class Reader:
             self.wrong()
         token = self.tokens[self.place]
         self.place += 1
-        self.literals.append((int(token.text), token.at))
-        return int(token.text)
+        # a number of any length is read, and of one that is far over the bound no more than that counts
+        digits = token.text.lstrip("0")
+        found = int(digits[:10] or 0)
+        self.literals.append((found, token.at))
+        return found
 
     def listed(self, one):
         parts = [one()]

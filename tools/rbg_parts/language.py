@@ -134,7 +134,7 @@ def all_faults(reader, game):
     yield from repeated_names(game)
     for number, at in reader.literals:
         if number > MOST_NUMBER:
-            yield Fault("G6", at, f"the number {number} is over 1,000,000")
+            yield Fault("G6", at, "this number is over 1,000,000")
     yield from too_much(game)
     bounds = dict(game.values)
     for expression, at in reader.expressions:

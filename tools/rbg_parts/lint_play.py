@@ -2,8 +2,9 @@
 from __future__ import annotations
 
 import random
+import time
 
-from .play import TooWide
+from .play import TooLong, TooWide
 from .syntax import Action, Star, actions_in
 
 SEED = 20261127
@@ -16,7 +17,7 @@ class Seen:
         self.play, self.most = play, most
         self.moves = {}
         self.choice = None
-        self.wide = None
+        self.wide = self.late = False
 
     def look(self, position):
         """The moves of a position; of one that is new they are kept, until there are enough."""
@@ -27,8 +28,9 @@ class Seen:
                 self.choice = position
         return self.moves[position]
 
-    def collect(self):
-        """A half by layers, the rest by random plays."""
+    def collect(self, seconds):
+        """A half by layers, the rest by random plays; none that would be found later than in so many seconds."""
+        self.play.ends = time.monotonic() + seconds
         try:
             todo = [self.play.start()]
             met = set(todo)
@@ -42,6 +44,10 @@ class Seen:
             self.wander(random.Random(SEED))
         except TooWide:
             self.wide = True
+        except TooLong:
+            self.late = True
+        finally:
+            self.play.ends = None
 
     def wander(self, chance):
         steps = 0
@@ -60,10 +66,10 @@ def role_name(play, role):
     return play.players[role - 1] if role else "the keeper"
 
 
-def warnings(play, most):
+def warnings(play, most, seconds):
     """The positions that were seen, and pairs of a byte in the text and a warning."""
     seen = Seen(play, most)
-    seen.collect()
+    seen.collect(seconds)
     return seen, list(found_in(play, seen))
 
 
@@ -90,6 +96,8 @@ def choice(play, seen):
 def idle_roles(play, seen, rules):
     """L6: a side that never has a move, or never the turn."""
     start = play.start()
+    if start not in seen.moves:
+        return
     if not seen.moves[start]:
         yield rules, "L6 there is no move at all: the play has ended at its start"
         return

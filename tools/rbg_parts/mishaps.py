@@ -7,7 +7,8 @@ from .grammar import Reader
 from .syntax import CLOSES, SECTIONS, Fault, line_and_byte, tokens_of
 
 # how a text of the project of origin begins with macros and board makers
-MACRO = re.compile(rb"^[ \t]*#[ \t]*([A-Za-z0-9_]+)[ \t]*(\([^)\n]*\))?[ \t]*=", re.M)
+MACRO = re.compile(rb"^[ \t]*#[ \t]*([A-Za-z0-9_]+)[ \t]*(?:(\([^)\n]*\))[ \t]*)?=", re.M)
+MOST_LETTERS = 64
 MAKER = re.compile(rb"\b(rectangle|hexagon|cuboid)[A-Za-z]*[ \t]*\(")
 
 
@@ -44,15 +45,25 @@ def shown(text, at):
     if not line.strip():
         return
     cut = max(0, at - begin - 60)
-    part = line[cut : cut + 110].decode("utf-8", "replace").replace("\t", " ")
-    yield part
-    yield " " * (len(line[cut : at - begin].decode("utf-8", "replace"))) + "^"
+    yield masked(line[cut : cut + 110])
+    yield " " * len(masked(line[cut : at - begin])) + "^"
+
+
+def masked(line):
+    """Some bytes as they can be shown: a `?` for what a terminal would take for a command."""
+    text = line.decode("utf-8", "replace").replace("\t", " ")
+    return "".join(letter if letter.isprintable() else "?" for letter in text)
+
+
+def masked_lines(text):
+    """A whole text as it can be shown."""
+    return b"\n".join(masked(line).encode("utf-8", "replace") for line in text.split(b"\n"))
 
 
 def is_high_level(text):
     plain = re.sub(rb"//[^\n]*", b"", text)
     titles = [(match[1].decode(), bool(match[2])) for match in MACRO.finditer(plain)]
-    return bool(MAKER.search(plain)) or any(title not in SECTIONS and (given or ";" in plain.decode("latin-1")) for title, given in titles)
+    return bool(MAKER.search(plain)) or any(title not in SECTIONS and (given or b";" in plain) for title, given in titles)
 
 
 def opened(text, fault):
@@ -115,8 +126,10 @@ def meant(text, fault):
     else:
         others = names_by_kind(text)
         names = others[fault.wanted]
-    near = sorted({(distance(fault.name.lower(), name.lower()), name) for name in names})
     most = 1 if len(fault.name) < 5 else 2
+    # a name of which nobody mistypes a letter or two is not compared, nor one that is longer or shorter by more
+    alike = [name for name in names if abs(len(name) - len(fault.name)) <= most and len(name) <= MOST_LETTERS]
+    near = sorted({(distance(fault.name.lower(), name.lower()), name) for name in alike})
     if near and near[0][0] <= most and near[0][0] < len(fault.name):
         yield f"did you mean `{near[0][1]}`?"
     for kind, known in others.items():

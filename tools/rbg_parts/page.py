@@ -7,8 +7,10 @@ import re
 from collections import Counter
 from pathlib import Path
 
+import rbgtable
+
 from . import boards, language
-from .play import Play, TooWide, one_action
+from .play import Play, one_action
 
 HERE = Path(__file__).resolve().parent
 
@@ -42,12 +44,16 @@ def kept(table, most, moves):
     return met, depth
 
 
-def words_of_moves(play, text):
-    """What each move of a position does, by the text of the position that it leads to."""
+def words_of_moves(table, play, number):
+    """What each move of a position does, by the text of the position that it leads to; nothing where the search for moves is too wide."""
     try:
-        return {play.show(move.to): [part for pair in play.deeds(move.word) for part in pair] for move in play.moves(play.position(text))}
-    except TooWide:
+        moves = table.moves(number)
+    except rbgtable.Refused as refused:
+        if refused.code != "S4":
+            raise
         return {}
+    words = {move.text: [(action, play.vertices[vertex]) for action, vertex in move.word] for move in moves}
+    return {text: [part for pair in play.deeds(word) for part in pair] for text, word in words.items()}
 
 
 def value_pair(value, players):
@@ -69,27 +75,21 @@ def walked(table, play, numbers):
     moves = {number: table.successors(number) for number in numbers}
     shown = sorted({*numbers, *(to for after in moves.values() for to in after)})
     texts = dict(zip(shown, table.ask_all(f"show {number}" for number in shown)))
-    values = dict(zip(shown, (rbg_value(reply) for reply in table.ask_all(f"value {number}" for number in shown))))
+    values = dict(zip(shown, (rbgtable.value_of(reply.split()) for reply in table.ask_all(f"value {number}" for number in shown))))
     positions = {number: position_row(play, texts[number], values[number]) for number in shown}
     ways = {}
     for number, after in moves.items():
-        names = words_of_moves(play, texts[number])
+        names = words_of_moves(table, play, number) if after else {}
         ways[number] = [[to, *names.get(texts[to], [])] for to in after]
     return positions, ways
 
 
-def rbg_value(reply):
-    import rbgtable
-
-    return rbgtable.value_of(reply.split())
-
-
 def bar_rows(wins, players):
-    """One row of a table for each distance."""
-    far = max((distance for _, distance in wins), default=-1)
-    most = max((wins[0, at] + wins[1, at] for at in range(far + 1)), default=1)
+    """One row of a table for each distance at which anybody wins."""
+    distances = sorted({distance for _, distance in wins})
+    most = max((wins[0, at] + wins[1, at] for at in distances), default=1)
     rows = []
-    for at in range(far + 1):
+    for at in distances:
         first, second = wins[0, at], wins[1, at]
         bars = "".join(
             f'<i class="p{who}" style="width:{max(60 * count / most, 0.25):.2f}%" title="{html.escape(players[who])}: {count:,}"></i>'

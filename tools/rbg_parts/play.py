@@ -1,6 +1,7 @@
 """The moves of a game, found apart from the program: for the tools, which show and compare."""
 from __future__ import annotations
 
+import time
 from typing import NamedTuple
 
 from . import language
@@ -29,29 +30,48 @@ class TooWide(Exception):
     """A search reaches more configurations than the program allows (S4), the one that it begins with among them."""
 
 
+class TooLong(Exception):
+    """A search has not ended in the time that it was given."""
+
+
+def members(mask):
+    """The numbers of the bits of a set of actions, ascending."""
+    digits = bin(mask)[:1:-1]
+    return [at for at, digit in enumerate(digits) if digit == "1"]
+
+
 class Follow:
-    """Which actions of an expression can begin a word, follow one another, and end one."""
+    """Which actions of an expression can begin a word, follow one another, and end one.
+
+    While the expression is walked, a set of actions is a number with a bit for each: the sets of a text of 4,096 actions have millions
+    of members, and are joined again for each `*`.
+    """
 
     def __init__(self, tree):
         self.actions = []
-        self.next = []
-        self.first, self.last, self.empty = self.walk(tree)
-        self.first = sorted(set(self.first))
-        self.next = [sorted(set(after)) for after in self.next]
-        self.last = set(self.last)
+        self.after = []
+        first, last, self.empty = self.walk(tree)
+        self.first, self.last = members(first), set(members(last))
+        # most actions have the same ones behind them as others: each list is made once
+        lists = {mask: members(mask) for mask in set(self.after)}
+        self.next = [lists[mask] for mask in self.after]
 
     def walk(self, tree):
         if isinstance(tree, Action):
             self.actions.append(tree)
-            self.next.append([])
-            return [len(self.actions) - 1], [len(self.actions) - 1], False
+            self.after.append(0)
+            only = 1 << len(self.actions) - 1
+            return only, only, False
         if isinstance(tree, Star):
             first, last, _ = self.walk(tree.inner)
             self.join(last, first)
             return first, last, True
         if isinstance(tree, Sum):
+            first = last = 0
             found = [self.walk(part) for part in tree.parts]
-            return [f for x in found for f in x[0]], [f for x in found for f in x[1]], any(x[2] for x in found)
+            for more_first, more_last, _ in found:
+                first, last = first | more_first, last | more_last
+            return first, last, any(empty for _, _, empty in found)
         return self.walk_chain(tree.parts)
 
     def walk_chain(self, parts):
@@ -60,14 +80,14 @@ class Follow:
             more_first, more_last, more_empty = self.walk(part)
             self.join(last, more_first)
             if empty:
-                first = first + more_first
-            last = last + more_last if more_empty else more_last
+                first |= more_first
+            last = last | more_last if more_empty else more_last
             empty = empty and more_empty
         return first, last, empty
 
     def join(self, last, first):
-        for before in last:
-            self.next[before] += first
+        for before in members(last):
+            self.after[before] |= first
 
 
 def calculated(expression, values):
@@ -98,6 +118,8 @@ class Play:
         self.players = [name.text for name, _ in game.players]
         self.follow = Follow(game.rules)
         self.known = {}
+        # when a search for moves has to have ended, by the clock that never goes back
+        self.ends = None
         self.steps = [self.step_of(action) for action in self.follow.actions]
         self.begins = [action.kind == "switch" for action in self.follow.actions]
 
@@ -194,10 +216,32 @@ class Play:
             key = (mark, state)
             found = self.known.get(key)
             if found is None:
-                found = self.known[key] = follow.empty or found_word(follow, steps, state)
+                found = self.known[key] = follow.empty or self.has_word(follow, steps, state)
             return state if found == wanted else None
 
         return step
+
+    def check_time(self):
+        if self.ends is not None and time.monotonic() > self.ends:
+            raise TooLong()
+
+    def has_word(self, follow, steps, begin):
+        """Whether some word of a pattern is legal from a state; the search ends with the first one, and the program's does not."""
+        todo, seen = [(begin, None)], set()
+        while todo:
+            self.check_time()
+            state, last = todo.pop()
+            for action in follow.first if last is None else follow.next[last]:
+                to = steps[action](state)
+                if to is None or (action, to) in seen:
+                    continue
+                if action in follow.last:
+                    return True
+                seen.add((action, to))
+                if len(seen) >= MOST_CONFIGURATIONS:
+                    raise TooWide()
+                todo.append((to, action))
+        return False
 
     def moves(self, position):
         """The moves of a position in packed order, each with the shortest of its words that comes first in the dictionary."""
@@ -207,6 +251,7 @@ class Play:
         came, found, at = [(begin, None, None)], {}, 0
         seen = set()
         while at < len(came):
+            self.check_time()
             state, last, _ = came[at]
             for action in after if last is None else self.follow.next[last]:
                 to = self.steps[action](state)
@@ -280,24 +325,6 @@ def one_action(game, action):
     """The text of one action: of a list of assignments that one alone."""
     text = game.source(action)
     return "[$ " + text.strip("[]$ ").rstrip(",") + "]" if action.kind == "assign" else text
-
-
-def found_word(follow, steps, begin):
-    """Whether some word of a pattern is legal from a state; the search ends with the first one, and the program's does not."""
-    todo, seen = [(begin, None)], set()
-    while todo:
-        state, last = todo.pop()
-        for action in follow.first if last is None else follow.next[last]:
-            to = steps[action](state)
-            if to is None or (action, to) in seen:
-                continue
-            if action in follow.last:
-                return True
-            seen.add((action, to))
-            if len(seen) >= MOST_CONFIGURATIONS:
-                raise TooWide()
-            todo.append((to, action))
-    return False
 
 
 def play_of(text):

@@ -3,6 +3,8 @@ from __future__ import annotations
 
 import time
 
+from .play import TooLong
+
 
 class Graph:
     """Positions as far as they were found, in the order in which the program numbers them, and where their moves lead."""
@@ -34,10 +36,15 @@ class Graph:
         return moves
 
     def explore(self, most_positions, seconds):
-        """Expands positions until so many are expanded, the time is over, or nothing is left."""
-        ends = time.monotonic() + seconds
-        while not self.is_whole and len(self.successors) < most_positions and time.monotonic() < ends:
-            self.expand()
+        """Expands positions until so many are expanded, the time is over, in the midst of a search too, or nothing is left."""
+        self.play.ends = time.monotonic() + seconds
+        try:
+            while not self.is_whole and len(self.successors) < most_positions and time.monotonic() < self.play.ends:
+                self.expand()
+        except TooLong:
+            pass
+        finally:
+            self.play.ends = None
 
 
 def values(graph):

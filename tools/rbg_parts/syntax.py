@@ -6,6 +6,7 @@ from dataclasses import dataclass, field
 
 SECTIONS = ("players", "pieces", "variables", "board", "rules")
 TOKEN = re.compile(rb"[ \t\r\n]+|//[^\n]*|(->>|->|==|!=|<=|>=|[<>=#,:()\[\]{}*+\-$?!])|([A-Za-z0-9_]+)")
+COMMENT = re.compile(rb"//[^\n]*")
 COMPARISONS = ("==", "!=", "<=", ">=", "<", ">")
 CLOSES = {"(": ")", "[": "]", "{": "}"}
 
@@ -96,8 +97,8 @@ class Game:
         return [(name.text, bound) for name, bound in self.players + self.variables]
 
     def source(self, action):
-        """The text of an action, in one line."""
-        return " ".join(self.text[action.at : action.end].decode("ascii", "replace").split())
+        """The text of an action, in one line and without comments, which may have any bytes."""
+        return " ".join(COMMENT.sub(b" ", self.text[action.at : action.end]).decode("ascii").split())
 
 
 def line_and_byte(text, at):

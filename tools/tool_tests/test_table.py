@@ -1,6 +1,8 @@
 """rbgtable.py over tables that the program made."""
 import os
 import subprocess
+import threading
+import time
 
 import rbgtable
 from rbg_parts import words
@@ -139,6 +141,93 @@ class Tables(Case):
             with self.assertRaises(rbgtable.Refused) as raised:
                 rbgtable.Table(path, WHERE)
             self.assertEqual(raised.exception.status, 4)
+
+    def test_a_program_that_ends_before_the_first_line_is_sent(self):
+        """Its sentence and its status are those of the refusal."""
+
+        class Slow(rbgtable.Table):
+            def _send(self, lines):
+                time.sleep(0.2)
+                super()._send(lines)
+
+        script = "#!/bin/sh\necho 'rbgsolve: another run has it' >&2\nexit 4\n"
+        self.file("ended", script).chmod(0o755)
+        self.file("deaf", script.replace("exit", "exec <&-; sleep 0.4; exit")).chmod(0o755)
+        for name in ("ended", "deaf"):
+            for table in (Slow, rbgtable.Table):
+                with self.assertRaises(rbgtable.Refused) as raised:
+                    table("some.table", self.folder / name)
+                self.assertEqual((raised.exception.status, raised.exception.told), (4, "rbgsolve: another run has it"), (name, table))
+
+    def test_tools_say_why_a_table_is_not_asked(self):
+        """The program's sentence, once and alone, however fast the program is."""
+        path = self.table("take")
+        with subprocess.Popen([WHERE, "session", "--", path], stdin=subprocess.PIPE, stdout=subprocess.PIPE) as session:
+            session.stdin.write(b"status\n")
+            session.stdin.flush()
+            self.assertTrue(session.stdout.readline())
+            here = {**os.environ, "RBGSOLVE": os.environ["RBGSOLVE_PROGRAM"]}
+            for words_ in (["moves", path, "1"], ["stats", path], ["export", path]) * 4:
+                ran = subprocess.run([ROOT / "tools" / words_[0], *words_[1:]], env=here, capture_output=True, check=False)
+                self.assertEqual((ran.returncode, ran.stdout), (4, b""), words_)
+                self.assertRegex(ran.stderr.decode(), r"\A.*another run has .*\n\Z")
+
+    def test_a_line_feed_is_no_part_of_a_question(self):
+        with self.opened("take") as table:
+            for text in ("x\nshow 5", "\n", "white 2 v e 0,0,3\n"):
+                for question in (table.find, table.value_at, table.ask):
+                    with self.assertRaises(rbgtable.Refused) as raised:
+                        question(text)
+                    self.assertIn("line feed", str(raised.exception))
+            self.assertEqual(table.show(0), ">> 0 v e 0,0,0")
+        status, out, err = self.ran("moves", self.folder / "take.table", "white 2\nshow 5")
+        self.assertEqual((status, out), (2, ""))
+        self.assertRegex(err, r"\Amoves: .*line feed.*\n\Z")
+        self.assertEqual(self.ran("moves", self.folder / "take.table", b"\xff".decode("utf-8", "surrogateescape"))[0], 1)
+
+    def test_threads_share_a_table(self):
+        found = []
+
+        def ask(table, at):
+            for _ in range(25):
+                moves = [move.number for move in table.moves(at % 7)]
+                found.append((at % 7, table.show(at % 7), str(table.value(at % 7)), sorted(moves), len(list(table.rows()))))
+
+        with self.opened("take") as table:
+            wanted = {(n, table.show(n), str(table.value(n)), tuple(sorted(table.successors(n))), 7) for n in range(4)}
+            threads = [threading.Thread(target=ask, args=(table, at), daemon=True) for at in range(4)]
+            for thread in threads:
+                thread.start()
+            for thread in threads:
+                thread.join(60)
+            self.assertFalse(any(thread.is_alive() for thread in threads))
+        self.assertEqual(len(found), 100)
+        self.assertEqual({(n, text, value, tuple(moves), rows) for n, text, value, moves, rows in found}, wanted)
+
+    def test_a_session_that_is_closed(self):
+        table = self.opened("take")
+        table.close()
+        with self.assertRaises(rbgtable.Refused):
+            table.value(0)
+
+    def test_players_with_the_names_of_replies(self):
+        """Take, by players who are called `refused` and `open`: their names are no refusals and no values."""
+        text = (GAMES / "take.rbg").read_text().replace("white", "refused").replace("black", "open")
+        self.file("named.rbg", text)
+        self.assertEqual(self.ran("solve", "named.rbg")[0], 0)
+        with rbgtable.Table(self.folder / "named.table", WHERE) as table:
+            self.assertEqual([str(value) for value in table.values()], [
+                "open in 3", "open in 2", "open in 1", "open in 1", "open in 0", "refused in 1", "refused in 0"])
+            self.assertEqual(table.show(1), "refused 2 v e 0,0,3")
+            self.assertEqual([str(move.value) for move in table.moves(3)], ["open in 0", "refused in 1"])
+        for words_ in (["moves", "named.table", "3"], ["board", "named.table", "1"], ["report", "named.table"], ["play", "named.table"],
+                       ["second_opinion", "named.rbg", "--table", "named.table"], ["trust", "named.table", "named.rbg"]):
+            self.assertEqual(self.ran(*words_)[0], 0, words_)
+        status, out, _ = self.ran("stats", "named.table")
+        rows = [line.split()[:2] for line in out.splitlines()[2:6]]
+        self.assertEqual((status, rows), (0, [["refused", "2"], ["open", "5"], ["drawn", "0"], ["open", "0"]]))
+        self.assertIn("the longest win: position 0, open in 3\n", out)
+        self.assertEqual(self.ran("export", "named.table")[1].splitlines()[1:3], ["0,open,3", "1,open,2"])
 
     def test_pages_by_words(self):
         self.assertEqual([words.pages(word) for word in ("16", "64M", "1G", "8K")], [16, 16384, 262144, 2])

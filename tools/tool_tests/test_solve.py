@@ -1,0 +1,179 @@
+"""tools/solve and tools/new_table: tables made anew, and grown, and what an interrupt leaves."""
+import os
+import shutil
+import signal
+import subprocess
+import time
+
+import rbgtable
+
+from .common import GAMES, ROOT, Case
+
+
+def pages_of(path):
+    with open(path, "rb") as file:
+        return rbgtable.root_of(file).capacity
+
+
+class Anew(Case):
+    def setUp(self):
+        super().setUp()
+        self.text = (GAMES / "take.rbg").read_text()
+        self.file("game.rbg", self.text)
+        self.assertEqual(self.ran("solve", "game.rbg")[0], 0)
+        self.made = (self.folder / "game.table").read_bytes()
+
+    def test_a_text_that_was_changed(self):
+        """Nothing is touched without --anew, and with it the table that was there is kept; at the second time in the place of the first."""
+        changed = self.text.replace("[$heap=3]", "[$heap=2]")
+        self.file("game.rbg", changed)
+        status, out, err = self.ran("solve", "game.rbg")
+        self.assertEqual((status, out), (1, ""))
+        self.assertIn("with another game: the texts differ from line 3 on; --anew begins a new one", err)
+        self.assertEqual((self.folder / "game.table").read_bytes(), self.made)
+        status, out, err = self.ran("solve", "--anew", "game.rbg")
+        self.assertEqual((status, out.split()[3:5]), (0, ["5", "expanded"]), err)
+        self.assertIn("game.table is new, and the table that was there is game.table.old\n", err)
+        self.assertEqual((self.folder / "game.table.old").read_bytes(), self.made)
+        second = (self.folder / "game.table").read_bytes()
+        self.assertEqual(self.ran("solve", "--anew", "game.rbg")[0], 0)
+        self.assertEqual((self.folder / "game.table.old").read_bytes(), second)
+        self.assertEqual(sorted(os.listdir(self.folder)), ["game.rbg", "game.table", "game.table.old"])
+
+    def test_nothing_is_lost_where_none_can_be_made(self):
+        self.file("game.rbg", "#players = white(1)")
+        self.assertEqual(self.ran("solve", "--anew", "game.rbg")[0], 1)
+        self.file("game.rbg", self.text)
+        self.assertEqual(self.ran("new_table", "--anew", "--pages", "15", "game.rbg")[0], 1)
+        self.file("game.table.old", "a letter")
+        status, _, err = self.ran("solve", "--anew", "game.rbg")
+        self.assertEqual(status, 1)
+        self.assertIn("game.table.old: a file is there, which is no table", err)
+        self.assertEqual((self.folder / "game.table").read_bytes(), self.made)
+        self.file("letter.table", "a letter")
+        self.assertEqual(self.ran("solve", "--anew", "-o", "letter.table", "game.rbg")[0], 1)
+        self.assertEqual((self.folder / "letter.table").read_text(), "a letter")
+        self.assertEqual(self.ran("solve", "--anew", "-o", "game.rbg", "game.rbg")[0], 1)
+        self.assertEqual((self.folder / "game.rbg").read_text(), self.text)
+
+    def test_a_table_that_another_run_has_is_left(self):
+        with subprocess.Popen(
+            [ROOT / "rbgsolve", "session", "game.table"], cwd=self.folder, stdin=subprocess.PIPE, stdout=subprocess.PIPE
+        ) as session:
+            session.stdin.write(b"status\n")
+            session.stdin.flush()
+            session.stdout.readline()
+            status, _, err = self.ran("solve", "--anew", "game.rbg")
+            self.assertEqual(status, 4)
+            self.assertIn("another run has", err)
+        self.assertEqual((self.folder / "game.table").read_bytes(), self.made)
+
+    def test_another_name_and_a_goal(self):
+        status, _, err = self.ran("solve", "-o", "other name.table", "game.rbg")
+        self.assertEqual(status, 0, err)
+        self.assertTrue((self.folder / "other name.table").is_file())
+        status, _, err = self.ran("solve", "--goal", "1", "game.rbg")
+        self.assertEqual(status, 1)
+        self.assertIn("with another goal: none", err)
+        self.assertEqual(self.ran("solve", "--goal", "1", "-o", "goal.table", "game.rbg")[0], 0)
+        self.assertEqual(self.ran("trust", "goal.table", "game.rbg")[1], "audit right finished, of game.rbg with a goal of 1\n")
+        for words in (["--goal", "1"], ["--anew"], ["-o", "x"]):
+            status, out, err = self.ran("solve", *words, "game.table")
+            self.assertEqual((status, out), (2, ""))
+            self.assertIn("goes with a game's text", err)
+        self.assertEqual(self.ran("solve", "--goal", "many", "game.rbg")[:2], (2, ""))
+
+    def test_a_file_that_is_longer_than_the_table(self):
+        """The table has 16 pages, whatever the file has room for: it grows from these."""
+        path = self.folder / "kayles.table"
+        for words in (["create", path, "--pages", "16"], ["load", path, GAMES / "kayles.rbg"]):
+            subprocess.run([ROOT / "rbgsolve", *words], stdout=subprocess.DEVNULL, check=True)
+        os.truncate(path, 64 * 4096)
+        self.assertEqual(pages_of(path), 16)
+        self.assertEqual(self.ran("solve", "--grow", "--most-pages", "16", path)[:2], (1, "refused E7\n"))
+        status, out, err = self.ran("solve", "--grow", "--most-pages", "64", path)
+        self.assertEqual(status, 0, err)
+        self.assertTrue(out.endswith(" finished\n"))
+        self.assertIn(f"no page is free: rbgsolve grow {path} --pages 32\n", err)
+
+
+class Interrupted(Case):
+    def ends(self, tool, seconds=20):
+        """The exit status of a tool that ends soon, and whose output nobody holds behind it."""
+        out, _ = tool.communicate(timeout=seconds)
+        return tool.returncode, out
+
+    def begun(self, *words, here=None):
+        return subprocess.Popen(words, cwd=self.folder, env=here, stdout=subprocess.PIPE, stderr=subprocess.PIPE, process_group=0)
+
+    def test_a_table_that_is_worked_on(self):
+        """At once, in the midst, and at the end: the table is free behind it, and gone on with."""
+        self.assertEqual(self.ran("new_table", GAMES / "hexapawn.rbg")[0], 0)
+        for at in range(10):
+            tool = self.begun(ROOT / "tools/solve", "hexapawn.table")
+            time.sleep(0.04 * at)
+            os.killpg(tool.pid, signal.SIGINT if at % 2 else signal.SIGTERM)
+            # in the first moments it is Python itself that ends
+            self.assertIn(self.ends(tool)[0], (0, 130, 1, -signal.SIGTERM, -signal.SIGINT))
+        self.assertTrue(self.ran("solve", "hexapawn.table")[1].endswith(" finished\n"))
+
+    def test_the_reply_to_the_line_that_is_worked_on_comes(self):
+        script = "#!/bin/sh\nread -r line && echo got >got && sleep 1 && echo units 256 known 9 expanded 8 settled 7 processed 6 open\n"
+        self.file("slow", script + "read -r line || echo ended >ended\n").chmod(0o755)
+        for number, target in ((signal.SIGINT, os.killpg), (signal.SIGTERM, os.kill)):
+            for name in ("got", "ended"):
+                (self.folder / name).unlink(missing_ok=True)
+            tool = self.begun(ROOT / "tools/solve", "some.table", here={**os.environ, "RBGSOLVE": str(self.folder / "slow")})
+            while not (self.folder / "got").exists():
+                time.sleep(0.02)
+            target(tool.pid, number)
+            self.assertEqual(self.ends(tool), (130, b"units 256 known 9 expanded 8 settled 7 processed 6 open\n"))
+            self.assertTrue((self.folder / "ended").exists())
+
+    def test_a_second_interrupt_ends_it_at_once(self):
+        """In the midst of a line that takes long: the session ends too, so that its output is closed."""
+        self.file("long", "#!/bin/sh\nread -r line && echo got >got && exec sleep 60\n").chmod(0o755)
+        for number in (signal.SIGINT, signal.SIGTERM):
+            (self.folder / "got").unlink(missing_ok=True)
+            tool = self.begun(ROOT / "tools/solve", "some.table", here={**os.environ, "RBGSOLVE": str(self.folder / "long")})
+            while not (self.folder / "got").exists():
+                time.sleep(0.02)
+            tool.send_signal(number)
+            time.sleep(0.5)
+            self.assertIsNone(tool.poll())
+            tool.send_signal(number)
+            self.assertEqual(self.ends(tool), (130, b""))
+
+    def test_a_build_that_a_tool_begins_ends_with_it(self):
+        """In a copy without anything built, with a toolchain that only waits."""
+        for name in ("rbgsolve", "build", "crates.txt"):
+            shutil.copy(ROOT / name, self.folder)
+        shutil.copytree(ROOT / "tools", self.folder / "tools", ignore=shutil.ignore_patterns("bench_parts", "booklet_parts", "crates"))
+        (self.folder / "crates/solver_main/src").mkdir(parents=True)
+        self.file("crates/solver_main/src/main.rt", "fn main() {}\n")
+        self.file("crates.txt", "solver_main:\n")
+        (self.folder / "bin").mkdir()
+        self.file("bin/rt", "#!/bin/sh\nexec 8>>\"$CALLS\"\nflock 8\necho begun >&8\nexec sleep 40\n").chmod(0o755)
+        here = {**os.environ, "PATH": f"{self.folder}/bin:{os.environ['PATH']}", "CALLS": str(self.folder / "calls")}
+        here.pop("RBGSOLVE_PROGRAM")
+        for tool, target, number in (("solve", os.killpg, signal.SIGINT), ("solve", os.kill, signal.SIGTERM), ("stats", os.kill, signal.SIGTERM)):
+            (self.folder / "calls").unlink(missing_ok=True)
+            asked = self.begun(self.folder / "tools" / tool, "some.table", here=here)
+            calls = self.folder / "calls"
+            while not calls.exists() or not calls.read_text():
+                self.assertIsNone(asked.poll())
+                time.sleep(0.05)
+            target(asked.pid, number)
+            self.assertGreater(self.ends(asked)[0], 100)
+            # what runs still has its lock
+            for lock in (self.folder / "crates/solver_main/out/build.lock", calls):
+                self.assertEqual(subprocess.run(["flock", "-w", "5", lock, "true"], check=False).returncode, 0, lock)
+
+    def test_words_that_are_no_command_build_nothing(self):
+        here = {**os.environ, "PATH": "/nowhere:/usr/bin:/bin"}
+        here.pop("RBGSOLVE_PROGRAM")
+        for tool in ("solve", "stats", "export"):
+            for words in (["--help"], ["--version"], ["--bogus"], []):
+                ran = subprocess.run([ROOT / "tools" / tool, *words], env=here, capture_output=True, check=False, timeout=20)
+                self.assertEqual(ran.returncode, 0 if words and words[0] != "--bogus" else 2)
+                self.assertNotIn("build:", ran.stderr.decode())
