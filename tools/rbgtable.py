@@ -229,7 +229,7 @@ class Table:
 
     def _reply(self):
         reply = self._process.stdout.readline().decode("utf-8", "replace").rstrip("\n")
-        refusal = REFUSAL.fullmatch(reply)
+        refusal = REFUSAL.fullmatch(reply) if reply.startswith("refused ") else None
         if reply and reply != "usage" and not refusal:
             return reply
         code, status = refusal[1] if refusal else "", 2 if reply == "usage" else 1

@@ -169,6 +169,20 @@ class Interrupted(Case):
             for lock in (self.folder / "crates/solver_main/out/build.lock", calls):
                 self.assertEqual(subprocess.run(["flock", "-w", "5", lock, "true"], check=False).returncode, 0, lock)
 
+    def test_a_build_that_is_done_is_looked_up_once(self):
+        """In a copy where ./build only counts its calls, and the program is the one that is tried."""
+        shutil.copy(ROOT / "rbgsolve", self.folder)
+        shutil.copytree(ROOT / "tools", self.folder / "tools", ignore=shutil.ignore_patterns("bench_parts", "booklet_parts", "crates"))
+        self.file("build", "#!/bin/sh\necho built >>calls\n").chmod(0o755)
+        (self.folder / "crates/solver_main/out").mkdir(parents=True)
+        (self.folder / "crates/solver_main/out/solver_main").symlink_to(os.environ["RBGSOLVE_PROGRAM"])
+        here = {name: value for name, value in os.environ.items() if name != "RBGSOLVE_PROGRAM"}
+        for words in (["solve", GAMES / "take.rbg"], ["stats", "take.table"], ["trust", "take.table", GAMES / "take.rbg"]):
+            (self.folder / "calls").unlink(missing_ok=True)
+            ran = subprocess.run([self.folder / "tools" / words[0], *words[1:]], cwd=self.folder, env=here, capture_output=True, check=False)
+            self.assertEqual((ran.returncode, ran.stderr.decode().count("build")), (0, 0), ran.stderr.decode())
+            self.assertEqual((self.folder / "calls").read_text().count("built"), 1, words)
+
     def test_words_that_are_no_command_build_nothing(self):
         here = {**os.environ, "PATH": "/nowhere:/usr/bin:/bin"}
         here.pop("RBGSOLVE_PROGRAM")
