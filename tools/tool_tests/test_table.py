@@ -204,6 +204,23 @@ class Tables(Case):
         self.assertEqual(len(found), 100)
         self.assertEqual({(n, text, value, tuple(moves), rows) for n, text, value, moves, rows in found}, wanted)
 
+    def test_a_question_that_is_broken_off(self):
+        """As by ctrl-C: what it was told is no answer to the next question."""
+
+        class BrokenOff(rbgtable.Table):
+            def _reply(self):
+                raise KeyboardInterrupt
+
+        for question in ("show", "moves"):
+            with self.opened("take") as table:
+                self.assertEqual(table.show(1), "white 2 v e 0,0,3")
+                table.__class__ = BrokenOff
+                with self.assertRaises(KeyboardInterrupt):
+                    getattr(table, question)(2)
+                table.__class__ = rbgtable.Table
+                with self.assertRaises(rbgtable.Refused):
+                    table.show(3)
+
     def test_a_session_that_is_closed(self):
         table = self.opened("take")
         table.close()
