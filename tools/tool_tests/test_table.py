@@ -172,6 +172,16 @@ class Tables(Case):
                 self.assertEqual((ran.returncode, ran.stdout), (4, b""), words_)
                 self.assertRegex(ran.stderr.decode(), r"\A.*another run has .*\n\Z")
 
+    def test_tools_that_ask_share_the_table(self):
+        """While somebody looks at it."""
+        with self.opened("take") as table:
+            path, game = table.file, GAMES / "take.rbg"
+            for words_ in (["stats", path], ["export", path], ["moves", path, "1"], ["board", path, "1"], ["report", path], ["play", path],
+                           ["trust", path, game], ["second_opinion", game, "--table", path], ["new_table", game, path]):
+                status, _, err = self.ran(*words_)
+                self.assertEqual(status, 0, (words_, err))
+            self.assertEqual(str(table.value(0)), "black in 3")
+
     def test_a_line_feed_is_no_part_of_a_question(self):
         with self.opened("take") as table:
             for text in ("x\nshow 5", "\n", "white 2 v e 0,0,3\n"):
