@@ -130,6 +130,17 @@ class Interrupted(Case):
             self.assertEqual(self.ends(tool), (130, b"units 256 known 9 expanded 8 settled 7 processed 6 open\n"))
             self.assertTrue((self.folder / "ended").exists())
 
+    def test_an_interrupt_that_is_ignored_stays_so(self):
+        """As in the background of a script, where the shell ignores it for what it starts."""
+        script = "#!/bin/sh\nread -r line && echo got >got && sleep 1 && echo units 9 known 9 expanded 9 settled 9 processed 9 finished\n"
+        self.file("slow", script).chmod(0o755)
+        here = {**os.environ, "RBGSOLVE": str(self.folder / "slow")}
+        tool = self.begun("sh", "-c", f"trap '' INT; exec {ROOT}/tools/solve some.table", here=here)
+        while not (self.folder / "got").exists():
+            time.sleep(0.02)
+        os.killpg(tool.pid, signal.SIGINT)
+        self.assertEqual(self.ends(tool), (0, b"units 9 known 9 expanded 9 settled 9 processed 9 finished\n"))
+
     def test_a_second_interrupt_ends_it_at_once(self):
         """In the midst of a line that takes long: the session ends too, so that its output is closed."""
         self.file("long", "#!/bin/sh\nread -r line && echo got >got && exec sleep 60\n").chmod(0o755)
