@@ -29,6 +29,7 @@ import tempfile
 import threading
 import time
 from array import array
+from contextlib import contextmanager
 from typing import NamedTuple
 
 PAGE = 4096
@@ -188,9 +189,21 @@ class Table:
         if batch:
             yield from self._answered(batch, replies)
 
+    @contextmanager
+    def _one_at_a_time(self):
+        """Keeps other threads waiting. A question that is broken off, as by ctrl-C, ends the session: its replies would be taken for others."""
+        with self._lock:
+            try:
+                yield
+            except Refused:
+                raise
+            except BaseException:
+                self._end_input()
+                raise
+
     def _answered(self, lines, replies):
         """The replies to some lines. All are read before the first is handed out: other questions may come between two of them."""
-        with self._lock:
+        with self._one_at_a_time():
             found, refused = self._exchange(lines, replies)
         yield from found
         if refused:
@@ -218,8 +231,8 @@ class Table:
         for line in lines:
             if "\n" in line:
                 raise Refused(f"{self.file}: a line feed stands in a question: {line!r}", status=2)
-        if self._told.closed:
-            raise Refused(f"{self.file}: the session is closed")
+        if self._has_ended:
+            raise Refused(f"{self.file}: the session has ended")
         self._told_before = 0 if self._told_before is None else os.fstat(self._told.fileno()).st_size
         try:
             self._process.stdin.write(("\n".join(lines) + "\n").encode("utf-8", "surrogateescape"))
@@ -229,7 +242,7 @@ class Table:
 
     def _reply(self):
         reply = self._process.stdout.readline().decode("utf-8", "replace").rstrip("\n")
-        refusal = REFUSAL.fullmatch(reply)
+        refusal = REFUSAL.fullmatch(reply) if reply.startswith("refused ") else None
         if reply and reply != "usage" and not refusal:
             return reply
         code, status = refusal[1] if refusal else "", 2 if reply == "usage" else 1
@@ -307,7 +320,7 @@ class Table:
 
     def moves(self, number):
         """The moves of a position, best first for who has the turn: won soonest, drawn, open, lost latest."""
-        with self._lock:
+        with self._one_at_a_time():
             # how many lines the reply has is not known before: it ends where that to `status` begins
             self._send([f"moves {number}", "status"])
             try:

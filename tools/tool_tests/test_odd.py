@@ -42,7 +42,8 @@ class Texts(Case):
         self.assertEqual((len(follow.next[1]), follow.next[1][0], follow.next[4000][-1]), (4001, 1, 4001))
 
     def test_hints_about_long_lines(self):
-        for text in ("#a" + " " * 65000, "#players = white(1), black(1)\n#pieces = e, " + "a" * 30000 + "\n#board = v[" + "b" * 30000 + "]{}\n#rules = ->white"):
+        names = f"#players = white(1), black(1)\n#pieces = e, {'a' * 30000}\n#board = v[{'b' * 30000}]{{}}\n#rules = ->white"
+        for text in ("#a" + " " * 65000, names):
             (status, _, _), seconds = self.took("lint", self.file("long.rbg", text))
             self.assertEqual(status, 1)
             self.assertLess(seconds, 20)

@@ -130,6 +130,17 @@ class Interrupted(Case):
             self.assertEqual(self.ends(tool), (130, b"units 256 known 9 expanded 8 settled 7 processed 6 open\n"))
             self.assertTrue((self.folder / "ended").exists())
 
+    def test_an_interrupt_that_is_ignored_stays_so(self):
+        """As in the background of a script, where the shell ignores it for what it starts."""
+        script = "#!/bin/sh\nread -r line && echo got >got && sleep 1 && echo units 9 known 9 expanded 9 settled 9 processed 9 finished\n"
+        self.file("slow", script).chmod(0o755)
+        here = {**os.environ, "RBGSOLVE": str(self.folder / "slow")}
+        tool = self.begun("sh", "-c", f"trap '' INT; exec {ROOT}/tools/solve some.table", here=here)
+        while not (self.folder / "got").exists():
+            time.sleep(0.02)
+        os.killpg(tool.pid, signal.SIGINT)
+        self.assertEqual(self.ends(tool), (0, b"units 9 known 9 expanded 9 settled 9 processed 9 finished\n"))
+
     def test_a_second_interrupt_ends_it_at_once(self):
         """In the midst of a line that takes long: the session ends too, so that its output is closed."""
         self.file("long", "#!/bin/sh\nread -r line && echo got >got && exec sleep 60\n").chmod(0o755)
@@ -168,6 +179,20 @@ class Interrupted(Case):
             # what runs still has its lock
             for lock in (self.folder / "crates/solver_main/out/build.lock", calls):
                 self.assertEqual(subprocess.run(["flock", "-w", "5", lock, "true"], check=False).returncode, 0, lock)
+
+    def test_a_build_that_is_done_is_looked_up_once(self):
+        """In a copy where ./build only counts its calls, and the program is the one that is tried."""
+        shutil.copy(ROOT / "rbgsolve", self.folder)
+        shutil.copytree(ROOT / "tools", self.folder / "tools", ignore=shutil.ignore_patterns("bench_parts", "booklet_parts", "crates"))
+        self.file("build", "#!/bin/sh\necho built >>calls\n").chmod(0o755)
+        (self.folder / "crates/solver_main/out").mkdir(parents=True)
+        (self.folder / "crates/solver_main/out/solver_main").symlink_to(os.environ["RBGSOLVE_PROGRAM"])
+        here = {name: value for name, value in os.environ.items() if name != "RBGSOLVE_PROGRAM"}
+        for words in (["solve", GAMES / "take.rbg"], ["stats", "take.table"], ["trust", "take.table", GAMES / "take.rbg"]):
+            (self.folder / "calls").unlink(missing_ok=True)
+            ran = subprocess.run([self.folder / "tools" / words[0], *words[1:]], cwd=self.folder, env=here, capture_output=True, check=False)
+            self.assertEqual((ran.returncode, ran.stderr.decode().count("build")), (0, 0), ran.stderr.decode())
+            self.assertEqual((self.folder / "calls").read_text().count("built"), 1, words)
 
     def test_words_that_are_no_command_build_nothing(self):
         here = {**os.environ, "PATH": "/nowhere:/usr/bin:/bin"}

@@ -172,6 +172,16 @@ class Tables(Case):
                 self.assertEqual((ran.returncode, ran.stdout), (4, b""), words_)
                 self.assertRegex(ran.stderr.decode(), r"\A.*another run has .*\n\Z")
 
+    def test_tools_that_ask_share_the_table(self):
+        """While somebody looks at it."""
+        with self.opened("take") as table:
+            path, game = table.file, GAMES / "take.rbg"
+            for words_ in (["stats", path], ["export", path], ["moves", path, "1"], ["board", path, "1"], ["report", path], ["play", path],
+                           ["trust", path, game], ["second_opinion", game, "--table", path], ["new_table", game, path]):
+                status, _, err = self.ran(*words_)
+                self.assertEqual(status, 0, (words_, err))
+            self.assertEqual(str(table.value(0)), "black in 3")
+
     def test_a_line_feed_is_no_part_of_a_question(self):
         with self.opened("take") as table:
             for text in ("x\nshow 5", "\n", "white 2 v e 0,0,3\n"):
@@ -203,6 +213,23 @@ class Tables(Case):
             self.assertFalse(any(thread.is_alive() for thread in threads))
         self.assertEqual(len(found), 100)
         self.assertEqual({(n, text, value, tuple(moves), rows) for n, text, value, moves, rows in found}, wanted)
+
+    def test_a_question_that_is_broken_off(self):
+        """As by ctrl-C: what it was told is no answer to the next question."""
+
+        class BrokenOff(rbgtable.Table):
+            def _reply(self):
+                raise KeyboardInterrupt
+
+        for question in ("show", "moves"):
+            with self.opened("take") as table:
+                self.assertEqual(table.show(1), "white 2 v e 0,0,3")
+                table.__class__ = BrokenOff
+                with self.assertRaises(KeyboardInterrupt):
+                    getattr(table, question)(2)
+                table.__class__ = rbgtable.Table
+                with self.assertRaises(rbgtable.Refused):
+                    table.show(3)
 
     def test_a_session_that_is_closed(self):
         table = self.opened("take")
