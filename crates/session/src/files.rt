@@ -15,7 +15,7 @@ use session_lines::refused::Refused;
 use solver::SolverFault;
 use std::alloc::{AllocError, Global};
 use std::fs::{self, File};
-use std::io::{self, BufWriter, ErrorKind, Read};
+use std::io::{self, BufWriter, ErrorKind, IsTerminal, Read};
 use std::path::Path;
 
 /// The bytes of a page.
@@ -259,13 +259,18 @@ fn tell_loss(rt: &HostRuntime, name: &str, file: &File) {
         Ok(metadata) => metadata.len(),
         Err(_) => 0,
     };
-    if length > 0 {
-        tell(
+    match length {
+        0 => {}
+        1 => tell(
+            rt,
+            format_args!("{name}: it is no table and becomes one: the byte in it is lost"),
+        ),
+        _ => tell(
             rt,
             format_args!(
                 "{name}: it is no table and becomes one: the {length} bytes in it are lost"
             ),
-        );
+        ),
     }
 }
 
@@ -288,6 +293,18 @@ pub fn refused_opening(rt: &HostRuntime, name: &str, why: Unopened, advice: &str
     match why {
         Unopened::Failed(error) => refused_file(rt, name, &error, advice),
         Unopened::OwnOutput => 4,
+        Unopened::UnknownOutput => {
+            // where the terminal is, the table is not
+            if rt.stderr().is_terminal() {
+                tell(
+                    rt,
+                    format_args!(
+                        "rbgsolve: whether the output goes to {name} cannot be told, since neither /proc nor /dev/fd is there: print to a terminal, or mount /proc"
+                    ),
+                );
+            }
+            4
+        }
         Unopened::Taken => {
             tell(
                 rt,

@@ -1,8 +1,8 @@
 //! The file of a table, opened and taken for this run.
 
+use crate::own_output::{Output, is_same_file, output_of};
 use std::fs::{self, File, Metadata, OpenOptions, TryLockError};
 use std::io::{self, ErrorKind};
-use std::os::unix::fs::MetadataExt;
 
 /// What a command does with the file of a table.
 #[derive(Clone, Copy)]
@@ -19,6 +19,8 @@ pub enum Unopened {
     Failed(io::Error),
     /// The program's own output goes there, so that nothing may be said.
     OwnOutput,
+    /// The program's own output may go there: the system does not tell.
+    UnknownOutput,
     /// Another run has it.
     Taken,
 }
@@ -39,8 +41,10 @@ pub fn opened(rt: &HostRuntime, name: &str, purpose: Purpose) -> Result<File, Un
     };
     let metadata = file.metadata()?;
     is_regular(&metadata)?;
-    if is_at(rt, "/dev/fd/1", &metadata) || is_at(rt, "/dev/fd/2", &metadata) {
-        return Err(Unopened::OwnOutput);
+    match output_of(rt, &metadata) {
+        Output::Elsewhere => {}
+        Output::Table => return Err(Unopened::OwnOutput),
+        Output::Unknown => return Err(Unopened::UnknownOutput),
     }
     let file = taken(file, purpose)?;
     if is_at(rt, name, &metadata) {
@@ -50,14 +54,19 @@ pub fn opened(rt: &HostRuntime, name: &str, purpose: Purpose) -> Result<File, Un
     Err(Unopened::Taken)
 }
 
-/// A file that was not there, taken for this run until it is closed.
+/// A file that was not there, taken for this run until it is closed. Where it cannot be taken, it is removed, unless another run
+/// has it.
 pub fn new_file(rt: &HostRuntime, name: &str) -> Result<File, Unopened> {
     let file = OpenOptions::new()
         .read(true)
         .write(true)
         .create_new(true)
         .open(rt, name)?;
-    taken(file, Purpose::Change)
+    let file = taken(file, Purpose::Change);
+    if let Err(Unopened::Failed(_)) = &file {
+        let _ = fs::remove_file(rt, name);
+    }
+    file
 }
 
 /// Fails where the file may not be written.
@@ -91,7 +100,7 @@ fn taken(file: File, purpose: Purpose) -> Result<File, Unopened> {
 /// Whether the file is the one with this name.
 fn is_at(rt: &HostRuntime, name: &str, metadata: &Metadata) -> bool {
     match fs::metadata(rt, name) {
-        Ok(other) => other.dev() == metadata.dev() && other.ino() == metadata.ino(),
+        Ok(other) => is_same_file(&other, metadata),
         Err(_) => false,
     }
 }

@@ -1,11 +1,11 @@
 //! What the command line says is done here: the words are read, and each command is handed on.
 
-use crate::explain::{Explanation, explain};
 use crate::files::{audit_file, create_file, grow_file, load_file, migrate_file};
 use crate::games::{actions_of_game, moves_of_game};
 use crate::sessions::{look_at_file, session_of_file};
 use crate::streams::Streams;
 use crate::words::{Refusal, Words, words_of};
+use explanations::explain::{Explanation, explain};
 use rbg_game::limits::MAX_TEXT_BYTES;
 use rbg_read::fault::GameFault;
 use rbg_read::numbered::lines::{LineColumn, line_column};

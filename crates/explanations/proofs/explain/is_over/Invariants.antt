@@ -1,5 +1,5 @@
 use Rattle.std.proofs.Common.{◌≤◌}
-use Rattle.session.proofs.explain.is_over.Given as goal
+use Rattle.explanations.proofs.explain.is_over.Given as goal
 
 abbrev pub invariant-loop-digit : goal.invariant-loop-digit
 invariant-loop-digit l = l.number ≤ 1000001
