@@ -5,3 +5,4 @@ pub mod Finished
 pub mod Telling
 pub mod Histories
 pub mod AtWork
+pub mod Migrations
