@@ -20,6 +20,4 @@ pub mod words;
 mod wrong_names;
 
 pub use program::run;
-pub use session_lines::{
-    actions, input, moves, questions, refused, replies, rulebook, turns, verdicts,
-};
+pub use session_lines::{actions, input, moves, questions, refused, replies, rulebook, verdicts};
