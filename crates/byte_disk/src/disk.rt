@@ -1,6 +1,6 @@
 //! A disk in memory whose sectors are written in place. Its past is a ghost: what it showed earlier, and what a stop may
 //! have left then, contracts can say, and no run keeps it.
-ghost use Rattle.std.specs.Prelude.{◌≡◌, ◌++◌, length, replicate, IfOk, OnOk, OnErr, IsTrue};
+ghost use Rattle.std.specs.Prelude.{◌≡◌, ◌++◌, [], length, replicate, IfOk, OnOk, OnErr, IsTrue};
 ghost use Rattle.std.specs.List.{flat_map};
 ghost use Rattle.sector_disk.specs.Disk.{AllSynced, HasCause, IsCounted};
 ghost use Rattle.byte_disk.specs.Bytes.{sectors_of};
@@ -38,6 +38,19 @@ impl ByteDisk {
             past: Snapshot::of(&Past::New),
             failures: 0,
         })
+    }
+
+    /// A disk of no sectors, which takes no memory.
+    pub fn empty(alloc: Global) -> Self
+        ensures contents { (disk_in result).now.contents ≡ [] }
+        ensures synced { AllSynced (disk_in result).now }
+        ensures unfailed { result.failures ≡ 0 }
+    {
+        ByteDisk {
+            contents: Vec::new(alloc),
+            past: Snapshot::of(&Past::New),
+            failures: 0,
+        }
     }
 
     /// Its bytes as they are now, sector by sector.
