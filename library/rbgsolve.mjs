@@ -145,6 +145,32 @@ export async function load(bytes) {
         moves: (game) => over("moves", game),
         movesAt: (game, position) => over("moves_at", game, position),
         actions: (game) => over("actions", game),
+        // where and why a text is no game, as { line, column, code, message }; null where it is one
+        fault: (game) => {
+            const given = put(game);
+            try {
+                const { status, told } = asked("fault", given.words);
+                if (status === 0) return null;
+                if (status !== 1) throw new RangeError("the solver found no memory");
+                const [, line, column, code, message] = /^(\d+) (\d+) (\S+) (.*)$/s.exec(decode.decode(told));
+                return { line: Number(line), column: Number(column), code, message };
+            } finally {
+                solver.give_back(given.at);
+            }
+        },
+        // the bytes of the table with so many pages
+        grow: (table, pages) => {
+            const grown = new Uint8Array(PAGE * pages);
+            grown.set(table);
+            onTable("grow", grown, [BigInt(table.length)]);
+            return grown;
+        },
+        // the bytes of the table, brought into today's layout
+        migrate: (table) => {
+            const moved = table.slice();
+            onTable("migrate", moved, []);
+            return moved;
+        },
         audit: (table) => onTable("audit", table.slice(), []).trim(),
         open: (bytes) => new Table(bytes),
         table: (game, pages = 64, goal = 0) => {

@@ -6,7 +6,7 @@ export class Client {
     #count = 0;
 
     constructor(source) {
-        this.#worker = new Worker(URL.createObjectURL(new Blob([source], { type: "text/javascript" })), { type: "module" });
+        this.#worker = new Worker(URL.createObjectURL(new Blob([source], { type: "text/javascript" })));
         this.#worker.onmessage = ({ data }) => this.#hear(data);
         this.#worker.onerror = (error) => {
             for (const { reject } of this.#asked.values()) reject(new Error(`the solver's worker failed: ${error.message}`));

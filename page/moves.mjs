@@ -20,6 +20,7 @@ export function readMove(line) {
         number: found[1] === "?" ? null : Number(found[1]),
         value: readValue(found[2]),
         word: found[3],
+        text,
         position: readPosition(text),
     };
 }
@@ -39,23 +40,37 @@ function amounts(game, before, after) {
     return (others.length ? others : changed).map(({ name, from, to }) => `${name} ${from} to ${to}`);
 }
 
-/** `R b3-a3`, `R b3xc3`, `x b2`: a name from the two positions, the same for two moves that change the board alike. */
+/** `R b3-a3`, `R b3xc3`, `x b2`, `w a2-b3 x@c2 b off d4`: what changes on the board. A piece goes where one of its kind leaves, and one comes. */
+function boardName(changed) {
+    const left = changed.filter((change) => isEmpty(change.to));
+    const came = changed.filter((change) => !isEmpty(change.to));
+    const gone = new Set(left);
+    const goes = [];
+    const puts = [];
+    for (const change of came) {
+        const begins = left.filter((begin) => begin.from === change.to);
+        if (begins.length === 1 && came.filter(({ to }) => to === change.to).length === 1) {
+            goes.push(`${change.to} ${begins[0].vertex}${isEmpty(change.from) ? "-" : "x"}${change.vertex}`);
+            gone.delete(begins[0]);
+        } else puts.push(change);
+    }
+    if (puts.length === 1 && goes.length === 0 && gone.size === 0) return `${puts[0].to} ${puts[0].vertex}`;
+    const away = new Map();
+    for (const { from, vertex } of gone) away.set(from, [...(away.get(from) ?? []), vertex]);
+    const taken = [...away].map(([piece, vertices]) => `${piece} off ${vertices.join(" ")}`);
+    return [...goes, ...puts.map((change) => `${change.to}@${change.vertex}`), ...taken].join(" ");
+}
+
+/** A name from the two positions, the same for two moves that change the board alike: tools/rbgtable.py (`Naming`) makes the same. */
 function plainName(game, before, move) {
-    const left = move.changed.filter((change) => isEmpty(change.to));
-    const came = move.changed.filter((change) => !isEmpty(change.to));
-    if (came.length === 1 && left.length === 1 && left[0].from === came[0].to) {
-        return `${came[0].to} ${left[0].vertex}${isEmpty(came[0].from) ? "-" : "x"}${came[0].vertex}`;
-    }
-    if (move.changed.length > 0) {
-        return move.changed.map((change) => (isEmpty(change.to) ? `${change.from} off ${change.vertex}` : `${change.to} ${change.vertex}`)).join(" ");
-    }
+    if (move.changed.length > 0) return boardName(move.changed);
     return amounts(game, before, move.position).join(", ") || `to ${move.position.vertex}`;
 }
 
-/** Names of moves, each once: where two have one name, the later ones get #2, #3. */
+/** Names of moves, each once: where two have one name, the later ones by the order of the positions' texts get #2, #3. */
 export function nameMoves(game, before, moves) {
     const used = new Map();
-    for (const move of moves) {
+    for (const move of [...moves].sort((one, other) => (one.text < other.text ? -1 : 1))) {
         move.changed = changes(game, before, move.position);
         const name = plainName(game, before, move);
         const count = (used.get(name) ?? 0) + 1;

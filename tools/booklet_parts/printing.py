@@ -15,11 +15,12 @@ HEADING = "==== "
 
 @dataclass
 class Chapter:
-    """Some statements, and the definitions that they rest on and no chapter before has."""
+    """Some statements, and the definitions that they rest on and no chapter before has; the statements stand first where sentences open it."""
 
     title: str
     statements: list[Statement]
     definitions: list[Definition] = field(default_factory=list)
+    opening: list[str] = field(default_factory=list)
 
 
 @dataclass
@@ -30,6 +31,12 @@ class Booklet:
     @property
     def definitions(self) -> list[Definition]:
         return [made for chapter in self.chapters for made in chapter.definitions]
+
+
+def opened(booklet: Booklet, opening: list[str]) -> Booklet:
+    """The same booklet, which begins with these lines and what is stated."""
+    booklet.chapters[0].opening = opening
+    return booklet
 
 
 def booklet_of(project: Project, parts: list[tuple[str, list[Statement]]]) -> Booklet:
@@ -108,6 +115,10 @@ def printed(booklet: Booklet) -> str:
     """The whole booklet."""
     lines: list[str] = []
     for chapter in booklet.chapters:
+        if chapter.opening:
+            lines += [*chapter.opening, *statement_lines(chapter.statements)]
+            lines += ["", CHAPTER + "what it rests on", *definition_lines(chapter.definitions)]
+            continue
         if len(booklet.chapters) > 1:
             lines += ["", CHAPTER + chapter.title]
         lines += definition_lines(chapter.definitions)

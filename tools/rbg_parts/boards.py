@@ -4,8 +4,10 @@ from __future__ import annotations
 import html
 import re
 
+import rbgtable
+
 GRID_NAME = re.compile(r"([A-Za-z])([0-9]{1,3})")
-EMPTY = ("e", "empty")
+EMPTY = rbgtable.EMPTY
 # the discs of the pieces that the first player puts, of those that the second one puts, and of the others
 COLOURS = {
     1: ("#f7f5ee", "#ffe2a0", "#cfe4f7", "#dcefd2", "#f4d3df"),

@@ -10,7 +10,7 @@ from pathlib import Path
 import rbgtable
 
 from . import boards, language
-from .play import Play, one_action
+from .play import Play
 
 HERE = Path(__file__).resolve().parent
 
@@ -44,16 +44,15 @@ def kept(table, most, moves):
     return met, depth
 
 
-def words_of_moves(table, play, number):
-    """What each move of a position does, by the text of the position that it leads to; nothing where the search for moves is too wide."""
+def names_of_moves(table, number):
+    """The name of each move of a position, by the text of the position that it leads to; nothing where the search for moves is too wide."""
     try:
         moves = table.moves(number)
     except rbgtable.Refused as refused:
         if refused.code != "S4":
             raise
         return {}
-    words = {move.text: [(action, play.vertices[vertex]) for action, vertex in move.word] for move in moves}
-    return {text: [part for pair in play.deeds(word) for part in pair] for text, word in words.items()}
+    return {move.text: move.name for move in moves}
 
 
 def value_pair(value, players):
@@ -79,8 +78,8 @@ def walked(table, play, numbers):
     positions = {number: position_row(play, texts[number], values[number]) for number in shown}
     ways = {}
     for number, after in moves.items():
-        names = words_of_moves(table, play, number) if after else {}
-        ways[number] = [[to, *names.get(texts[to], [])] for to in after]
+        names = names_of_moves(table, number) if after else {}
+        ways[number] = [[to, names.get(texts[to], "")] for to in after]
     return positions, ways
 
 
@@ -133,7 +132,6 @@ def made(table, name, most, moves):
         "vertices": play.names,
         "places": boards.places(play.names),
         "values": [name for name, _ in play.game.values],
-        "actions": [one_action(play.game, action) for action in play.game.actions],
         "positions": positions,
         "moves": ways,
         "line": line,

@@ -4,6 +4,8 @@ from __future__ import annotations
 import time
 from typing import NamedTuple
 
+import rbgtable
+
 from . import language
 from .syntax import Action, Star, Sum
 
@@ -299,6 +301,10 @@ class Play:
         if not (in_bounds and counts and at_switch and self.show(found) == text):
             raise ValueError(f"no position of this game: {text}")
         return found
+
+    def naming(self):
+        """What gives moves of this game their short names."""
+        return rbgtable.Naming(self.names, list(self.value_at))
 
     def deeds(self, word):
         """What a move does but for its switch and the scores that it sets; all of it if nothing else is left."""

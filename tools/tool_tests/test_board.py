@@ -90,7 +90,8 @@ class Moves(Case):
         lines = out.splitlines()
         self.assertEqual(lines[0], "white 1 a1 w,w,e,e,e,e,b,b 0,0    drawn")
         self.assertEqual([line.split("  ")[1].strip() for line in lines[1:]], ["drawn", "drawn", "black in 5"])
-        self.assertIn("[e]@a1 [w]@b2", lines[1])
+        self.assertTrue(lines[1].endswith("  w a1-b2"))
+        self.assertIn("[e]@a1 [w]@b2", self.ran("moves", table, 1, "--words")[1].splitlines()[1])
         status, out, _ = self.ran("moves", table, 1, "--json")
         found = json.loads(out)
         self.assertEqual((found["value"], [move["value"] for move in found["moves"]]), ("drawn", ["drawn", "drawn", "black in 5"]))
@@ -118,10 +119,12 @@ class Moves(Case):
             "[$ heap=heap-2]@v [$ white=1]@v [$ black=0]@v ->black@v => black 7 v e 1,0,1\n"
             "[$ heap=heap-1]@v [$ white=1]@v [$ black=0]@v ->black@v => black 7 v e 1,0,2\n"
         )
-        self.assertEqual(self.ran("moves", GAMES / "take.rbg", "white 2 v e 0,0,3"), (0, wanted, ""))
+        self.assertEqual(self.ran("moves", GAMES / "take.rbg", "white 2 v e 0,0,3", "--words"), (0, wanted, ""))
+        short = "heap 3 to 1 => black 7 v e 1,0,1\nheap 3 to 2 => black 7 v e 1,0,2\n"
+        self.assertEqual(self.ran("moves", GAMES / "take.rbg", "white 2 v e 0,0,3"), (0, short, ""))
         self.assertEqual(self.ran("moves", GAMES / "take.rbg", "white 2 v e 0,0,0")[:2], (0, "ended\n"))
         start = "[$ heap=3]@v ->white@v => white 2 v e 0,0,3\n"
-        self.assertEqual(self.ran("moves", GAMES / "take.rbg")[:2], (0, start))
+        self.assertEqual(self.ran("moves", GAMES / "take.rbg", "--words")[:2], (0, start))
 
     def test_texts_that_are_no_position(self):
         texts = ["", "white 2", "black 2 v e 0,0,3", "white 2 v e 0,0,4", "white 3 v e 0,0,3"]
@@ -147,7 +150,7 @@ class Play(Case):
         blocks = self.played("chomp", "b\n" * 8 + "v\nq\nb\n")
         self.assertEqual(len(blocks), 10)
         self.assertEqual(blocks[0][0], "position 0: the keeper has the turn; first 0, second 0")
-        self.assertEqual(blocks[0][-1], "   1  ->first@a1")
+        self.assertEqual(blocks[0][-1], "   1  to a1")
         self.assertEqual(blocks[8][0], "position 41: second has the turn; first 1, second 0")
         self.assertEqual(blocks[8][-1], "the play has ended")
         self.assertEqual(blocks[9][0], "position 41: second has the turn; first 1, second 0; first in 0")
@@ -155,13 +158,19 @@ class Play(Case):
     def test_moves_back_and_values(self):
         blocks = self.played("small_checkers", "1\nv\n1\nu\ng 3\ng 9999\nx\n7\n")
         self.assertEqual(blocks[0][1:5], ["4   b   b", "3 .   .", "2   .   .", "1 w   w"])
-        lines = ["   1  [e]@a1 [w]@b2    drawn", "   2  [e]@c1 [w]@b2    drawn", "   3  [e]@c1 [w]@d2    black in 5"]
+        lines = ["   1  w a1-b2    drawn", "   2  w c1-b2    drawn", "   3  w c1-d2    black in 5"]
         self.assertEqual(blocks[2][-3:], lines)
+        lines = ["   1  [e]@a1 [w]@b2    drawn", "   2  [e]@c1 [w]@b2    drawn", "   3  [e]@c1 [w]@d2    black in 5"]
+        self.assertEqual(self.played("small_checkers", "", "--from", "1", "--values", "--words")[0][-3:], lines)
         self.assertTrue(blocks[3][0].startswith("position 2: black has the turn"))
         self.assertTrue(blocks[4][0].startswith("position 1: white has the turn"))
         self.assertTrue(blocks[5][0].startswith("position 3: black has the turn"))
         self.assertEqual(blocks[5][-1], "there is no position 9999: 0 to 2409 are known")
-        self.assertTrue(blocks[6][-1].startswith("a number makes that move"))
+        self.assertTrue(blocks[6][-1].startswith("a number or a name makes that move"))
+
+    def test_moves_by_name(self):
+        blocks = self.played("small_checkers", "g 1\nw  c1-d2\nw c1-d2\n")
+        self.assertEqual([block[0].split(":")[0] for block in blocks], ["position 0", "position 1", "position 3", "position 3"])
 
     def test_from_a_position(self):
         blocks = self.played("take", "", "--from", "6", "--values")

@@ -73,8 +73,9 @@ class Texts(Case):
         self.assertIn("G4", out)
         self.assertIn("    ] ->grey // ?]0;title??[31m?31m?\n        ^\n", out)
         self.file("escapes.rbg", text.replace("->grey", "->black"))
-        for words in (["moves", "--actions", "escapes.rbg"], ["moves", "escapes.rbg"], ["moves", "escapes.rbg", "white 1 v e 0,0,0"]):
-            status, out, _ = self.ran(*words)
+        position = "white 1 v e 0,0,0"
+        for words in (["--actions", "escapes.rbg"], ["escapes.rbg"], ["escapes.rbg", position], ["escapes.rbg", "--words"], ["escapes.rbg", position, "--words"]):
+            status, out, _ = self.ran("moves", *words)
             self.assertEqual(status, 0)
             self.assertEqual([letter for letter in out if not letter.isprintable() and letter != "\n"], [], words)
         self.assertIn("[$ x = 1]", out)
@@ -170,7 +171,7 @@ class Streams(Case):
         self.assertEqual(self.shell(f"{ROOT}/tools/play take.table <&-"), wanted)
         status, out, err = self.shell(f"printf '\\377\\n99999\\nq\\n' | {ROOT}/tools/play take.table")
         self.assertEqual((status, err), (0, ""))
-        self.assertIn(b"a number makes that move", out)
+        self.assertIn(b"a number or a name makes that move", out)
 
     def test_an_output_in_ascii(self):
         text = (GAMES / "take.rbg").read_text() + "// \u00e9\n"

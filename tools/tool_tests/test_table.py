@@ -1,20 +1,38 @@
-"""rbgtable.py over tables that the program made."""
+"""rbgtable.py over tables that the program made: in this process, and by the program."""
+import functools
+import importlib.util
 import os
 import subprocess
 import threading
 import time
+from unittest import mock
 
 import rbgtable
 from rbg_parts import words
 
+from . import stand_in
 from .common import GAMES, ROOT, Case
 
 WHERE = ROOT / "rbgsolve"
 
 
-class Tables(Case):
+@functools.cache
+def library():
+    """The module of the solver's library where it is built, else what stands in for it."""
+    made = ROOT / "library/out/rbgsolve.py"
+    if not made.with_name("librbgsolve.so").exists():
+        return stand_in
+    found = importlib.util.spec_from_file_location("rbgsolve", made)
+    module = importlib.util.module_from_spec(found)
+    found.loader.exec_module(module)
+    return module
+
+
+class Questions:
+    """Questions that are answered alike both ways. `asked` opens a table."""
+
     def opened(self, game):
-        return rbgtable.Table(self.table(game), WHERE)
+        return self.asked(self.table(game))
 
     def test_take(self):
         """The rows of take, as transcripts/ROWS.md has them."""
@@ -63,11 +81,12 @@ class Tables(Case):
     def test_refusals_do_not_stop_the_session(self):
         """More refusals than a pipe of standard error has room for."""
         with self.opened("take") as table:
-            for number in range(2000):
+            for number in range(self.refusals):
                 with self.assertRaises(rbgtable.Refused) as raised:
                     table.value(100 + number)
                 self.assertEqual((raised.exception.code, raised.exception.status), ("S7", 1))
-                self.assertIn("no such position is known", raised.exception.told)
+                if not table.is_in_process:
+                    self.assertIn("no such position is known", raised.exception.told)
             with self.assertRaises(rbgtable.Refused) as raised:
                 table.ask("value zero")
             self.assertEqual((raised.exception.status, str(raised.exception)), (2, f"{table.file}: usage"))
@@ -107,14 +126,14 @@ class Tables(Case):
             if text is not None:
                 self.file(name, text)
             with self.assertRaises(rbgtable.Refused) as raised:
-                rbgtable.Table(self.folder / name, WHERE)
+                self.asked(self.folder / name)
             self.assertEqual((raised.exception.code, raised.exception.status), (code, status), name)
         with self.assertRaises(rbgtable.Refused) as raised:
             rbgtable.Table(self.folder / "none", "/no/such/program")
         self.assertEqual(raised.exception.status, 2)
         subprocess.run([WHERE, "create", self.folder / "new", "--pages", "16"], stdout=subprocess.DEVNULL, check=True)
         with self.assertRaises(rbgtable.Refused) as raised:
-            rbgtable.Table(self.folder / "new", WHERE)
+            self.asked(self.folder / "new")
         self.assertEqual(raised.exception.code, "S1")
 
     def test_a_damaged_table_and_one_of_an_earlier_layout(self):
@@ -123,24 +142,217 @@ class Tables(Case):
         slot = 1024 + 512 * (data[512] & 1)
         data[slot + 3] = 9
         with self.assertRaises(rbgtable.Refused) as raised:
-            rbgtable.Table(self.file("damaged", bytes(data)), WHERE)
+            self.asked(self.file("damaged", bytes(data)))
         self.assertEqual((raised.exception.code, raised.exception.status), ("E4", 3))
         data[slot + 3] = 2
         with self.assertRaises(rbgtable.Refused) as raised:
-            rbgtable.Table(self.file("earlier", bytes(data)), WHERE)
+            self.asked(self.file("earlier", bytes(data)))
         self.assertEqual((raised.exception.code, raised.exception.status), ("E5", 1))
 
     def test_many_look_and_none_while_a_session_works(self):
         path = self.table("take")
-        with rbgtable.Table(path, WHERE) as one, rbgtable.Table(path, WHERE) as other:
+        with self.asked(path) as one, self.asked(path) as other:
             self.assertEqual(one.value(0), other.value(0))
         with subprocess.Popen([WHERE, "session", "--", path], stdin=subprocess.PIPE, stdout=subprocess.PIPE) as session:
             session.stdin.write(b"status\n")
             session.stdin.flush()
             self.assertTrue(session.stdout.readline())
             with self.assertRaises(rbgtable.Refused) as raised:
-                rbgtable.Table(path, WHERE)
+                self.asked(path)
             self.assertEqual(raised.exception.status, 4)
+
+    def test_a_line_feed_is_no_part_of_a_question(self):
+        with self.opened("take") as table:
+            for text in ("x\nshow 5", "\n", "white 2 v e 0,0,3\n"):
+                for question in (table.find, table.value_at, table.ask):
+                    with self.assertRaises(rbgtable.Refused) as raised:
+                        question(text)
+                    self.assertIn("line feed", str(raised.exception))
+            self.assertEqual(table.show(0), ">> 0 v e 0,0,0")
+        status, out, err = self.ran("moves", self.folder / "take.table", "white 2\nshow 5")
+        self.assertEqual((status, out), (2, ""))
+        self.assertRegex(err, r"\Amoves: .*line feed.*\n\Z")
+        self.assertEqual(self.ran("moves", self.folder / "take.table", b"\xff".decode("utf-8", "surrogateescape"))[0], 1)
+
+    def test_threads_share_a_table(self):
+        found = []
+
+        def ask(table, at):
+            for _ in range(25):
+                moves = [move.number for move in table.moves(at % 7)]
+                found.append((at % 7, table.show(at % 7), str(table.value(at % 7)), sorted(moves), len(list(table.rows()))))
+
+        with self.opened("take") as table:
+            wanted = {(n, table.show(n), str(table.value(n)), tuple(sorted(table.successors(n))), 7) for n in range(4)}
+            threads = [threading.Thread(target=ask, args=(table, at), daemon=True) for at in range(4)]
+            for thread in threads:
+                thread.start()
+            for thread in threads:
+                thread.join(60)
+            self.assertFalse(any(thread.is_alive() for thread in threads))
+        self.assertEqual(len(found), 100)
+        self.assertEqual({(n, text, value, tuple(moves), rows) for n, text, value, moves, rows in found}, wanted)
+
+    def test_a_session_that_is_closed(self):
+        table = self.opened("take")
+        table.close()
+        with self.assertRaises(rbgtable.Refused):
+            table.value(0)
+
+    def test_players_with_the_names_of_replies(self):
+        """Take, by players who are called `refused` and `open`: their names are no refusals and no values."""
+        text = (GAMES / "take.rbg").read_text().replace("white", "refused").replace("black", "open")
+        self.file("named.rbg", text)
+        self.assertEqual(self.ran("solve", "named.rbg")[0], 0)
+        with self.asked(self.folder / "named.table") as table:
+            self.assertEqual([str(value) for value in table.values()], [
+                "open in 3", "open in 2", "open in 1", "open in 1", "open in 0", "refused in 1", "refused in 0"])
+            self.assertEqual(table.show(1), "refused 2 v e 0,0,3")
+            self.assertEqual([str(move.value) for move in table.moves(3)], ["open in 0", "refused in 1"])
+        for words_ in (["moves", "named.table", "3"], ["board", "named.table", "1"], ["report", "named.table"], ["play", "named.table"],
+                       ["second_opinion", "named.rbg", "--table", "named.table"], ["trust", "named.table", "named.rbg"]):
+            self.assertEqual(self.ran(*words_)[0], 0, words_)
+        status, out, _ = self.ran("stats", "named.table")
+        rows = [line.split()[:2] for line in out.splitlines()[2:6]]
+        self.assertEqual((status, rows), (0, [["refused", "2"], ["open", "5"], ["drawn", "0"], ["open", "0"]]))
+        self.assertIn("the longest win: position 0, open in 3\n", out)
+        self.assertEqual(self.ran("export", "named.table")[1].splitlines()[1:3], ["0,open,3", "1,open,2"])
+
+    def test_boards(self):
+        with self.opened("chomp") as table:
+            self.assertEqual(table.vertices, [f"{column}{row}" for row in "123" for column in "abcd"])
+            # position 7 as docs and tools/board show it
+            pieces = ["p", "c", "c", "c", "c", "c", "e", "e", "c", "c", "e", "e"]
+            self.assertEqual(table.at(pieces, "second"), 7)
+            self.assertEqual(table.at(dict(zip(table.vertices, pieces)), "second"), 7)
+            self.assertEqual(table.at(",".join(pieces), "second"), 7)
+            self.assertNotEqual(table.at(pieces, "first"), 7)
+            self.assertIsNone(table.at(["e"] * 12, "first"))
+            for wrong in (["p"], {"a1": "p"}, {**dict(zip(table.vertices, pieces)), "e1": "e"}):
+                with self.assertRaises(ValueError):
+                    table.at(wrong, "second")
+
+    def test_several_positions_with_one_board(self):
+        """In take the heap is no part of the board: white has the turn in positions of three values."""
+        with self.opened("take") as table:
+            self.assertEqual(table.numbers_at(["e"], "white"), [1, 4, 5])
+            with self.assertRaises(rbgtable.Refused) as raised:
+                table.at(["e"], "white")
+            self.assertIn("1, 4, 5", str(raised.exception))
+            self.assertEqual(table.at(["e"], ">>"), 0)
+
+    def test_many_values_and_a_best_move(self):
+        with self.opened("take") as table:
+            texts = ["white 2 v e 0,0,3", "white 2 v e 1,1,3", "black 7 v e 1,0,0"] * 500
+            self.assertEqual([str(value) for value in table.values_at(texts)], ["black in 2", "None", "white in 0"] * 500)
+            self.assertEqual(table.values_at([]), [])
+            with self.assertRaises(rbgtable.Refused) as raised:
+                table.values_at(["white 2 v e 0,0,3", "nonsense", "white 2 v e 0,0,3"])
+            self.assertEqual(raised.exception.code, "S10")
+            self.assertEqual(table.best(3).number, 4)
+            self.assertIsNone(table.best(6))
+
+    def test_a_game_text_with_bytes_that_are_no_utf_8(self):
+        text = (GAMES / "take.rbg").read_bytes() + b"// \xff #board\n"
+        self.file("bytes.rbg", text)
+        self.assertEqual(self.ran("solve", "bytes.rbg")[0], 0)
+        with self.asked(self.folder / "bytes.table") as table:
+            self.assertEqual(table.game, text)
+            self.assertEqual(table.vertices, ["v"])
+
+    def test_solving(self):
+        """In memory or in a file, with a goal, with more pages than it begins with, and what is no game."""
+        seen = []
+        with self.solved(GAMES / "take.rbg", tell=seen.append) as table:
+            self.assertEqual((str(table.value(0)), seen[-1], table.successors(3)), ("black in 3", table.counts, [4, 5]))
+            self.assertEqual(table.game, (GAMES / "take.rbg").read_bytes())
+        with self.assertRaises(rbgtable.Refused):
+            table.value(0)
+        self.file("no.rbg", "#players = white(1)\n")
+        for name, code in (("no.rbg", "G2"), ("none.rbg", "E1")):
+            with self.assertRaises(rbgtable.Refused) as raised:
+                self.solved(self.folder / name)
+            self.assertEqual(raised.exception.code, code)
+        for goal in (-1, 1000001):
+            with self.assertRaises(ValueError):
+                self.solved(GAMES / "take.rbg", goal=goal)
+        # either player has a point or none: nobody has two
+        with self.solved(GAMES / "take.rbg", goal=1) as table:
+            self.assertEqual(str(table.value(0)), "black in 3")
+        with mock.patch.object(rbgtable, "FIRST_PAGES", 16), self.solved(GAMES / "chomp.rbg") as table:
+            self.assertEqual(str(table.value(0)), "first in 8")
+
+
+class InProcess(Questions, Case):
+    """Without a program that is named the table is asked in this process."""
+
+    refusals = 20
+
+    def setUp(self):
+        super().setUp()
+        self.enterContext(mock.patch.object(rbgtable, "library", library))
+
+    def asked(self, path):
+        table = rbgtable.Table(path)
+        self.assertTrue(table.is_in_process)
+        return table
+
+    def solved(self, game, **more):
+        table = rbgtable.solve(game, **more)
+        self.assertTrue(table.is_in_process)
+        return table
+
+    def test_a_large_table_is_left_to_the_program(self):
+        path = self.table("take")
+        with mock.patch.object(rbgtable, "MOST_IN_PROCESS", 1), rbgtable.Table(path) as table:
+            self.assertFalse(table.is_in_process)
+            self.assertEqual(str(table.value(0)), "black in 3")
+
+    def test_want_of_memory(self):
+        with self.opened("take") as table, mock.patch.object(table._process.table, "look", side_effect=MemoryError):
+            with self.assertRaises(rbgtable.Refused) as raised:
+                table.value(0)
+            self.assertEqual((raised.exception.code, raised.exception.status), ("E8", 5))
+        with mock.patch.object(library().Table, "__init__", side_effect=MemoryError):
+            for question in (lambda: rbgtable.Table(table.file), lambda: rbgtable.solve(GAMES / "take.rbg")):
+                with self.assertRaises(rbgtable.Refused) as raised:
+                    question()
+                self.assertEqual((raised.exception.code, raised.exception.status), ("E8", 5))
+
+
+class ByProgram(Questions, Case):
+    """The program is named, and answers. What depends on a process is asked of it alone."""
+
+    refusals = 2000
+
+    def asked(self, path):
+        return rbgtable.Table(path, WHERE)
+
+    def solved(self, game, **more):
+        return rbgtable.solve(game, program=WHERE, **more)
+
+    def test_a_table_in_no_file_goes_with_it(self):
+        with self.solved(GAMES / "take.rbg") as table:
+            self.assertTrue(os.path.exists(table.file))
+        self.assertFalse(os.path.exists(os.path.dirname(table.file)))
+
+    def test_a_table_in_a_file_is_gone_on_with(self):
+        path = self.folder / "kept.table"
+        for goal in (0, 0, 1):
+            if goal:
+                with self.assertRaises(rbgtable.Refused) as raised:
+                    self.solved(GAMES / "take.rbg", file=path, goal=goal)
+                self.assertIn("another game or goal", str(raised.exception))
+            else:
+                with self.solved(GAMES / "take.rbg", file=path) as table:
+                    self.assertEqual((str(table.value(0)), table.file), ("black in 3", str(path)))
+        with self.assertRaises(rbgtable.Refused):
+            self.solved(GAMES / "chomp.rbg", file=path)
+        self.file("no.rbg", "#players = white(1)\n")
+        with self.assertRaises(rbgtable.Refused):
+            self.solved(self.folder / "no.rbg", file=self.folder / "new.table")
+        self.assertFalse((self.folder / "new.table").exists())
+        self.assertEqual(self.ran("trust", path, GAMES / "take.rbg")[0], 0)
 
     def test_a_program_that_ends_before_the_first_line_is_sent(self):
         """Its sentence and its status are those of the refusal."""
@@ -182,38 +394,6 @@ class Tables(Case):
                 self.assertEqual(status, 0, (words_, err))
             self.assertEqual(str(table.value(0)), "black in 3")
 
-    def test_a_line_feed_is_no_part_of_a_question(self):
-        with self.opened("take") as table:
-            for text in ("x\nshow 5", "\n", "white 2 v e 0,0,3\n"):
-                for question in (table.find, table.value_at, table.ask):
-                    with self.assertRaises(rbgtable.Refused) as raised:
-                        question(text)
-                    self.assertIn("line feed", str(raised.exception))
-            self.assertEqual(table.show(0), ">> 0 v e 0,0,0")
-        status, out, err = self.ran("moves", self.folder / "take.table", "white 2\nshow 5")
-        self.assertEqual((status, out), (2, ""))
-        self.assertRegex(err, r"\Amoves: .*line feed.*\n\Z")
-        self.assertEqual(self.ran("moves", self.folder / "take.table", b"\xff".decode("utf-8", "surrogateescape"))[0], 1)
-
-    def test_threads_share_a_table(self):
-        found = []
-
-        def ask(table, at):
-            for _ in range(25):
-                moves = [move.number for move in table.moves(at % 7)]
-                found.append((at % 7, table.show(at % 7), str(table.value(at % 7)), sorted(moves), len(list(table.rows()))))
-
-        with self.opened("take") as table:
-            wanted = {(n, table.show(n), str(table.value(n)), tuple(sorted(table.successors(n))), 7) for n in range(4)}
-            threads = [threading.Thread(target=ask, args=(table, at), daemon=True) for at in range(4)]
-            for thread in threads:
-                thread.start()
-            for thread in threads:
-                thread.join(60)
-            self.assertFalse(any(thread.is_alive() for thread in threads))
-        self.assertEqual(len(found), 100)
-        self.assertEqual({(n, text, value, tuple(moves), rows) for n, text, value, moves, rows in found}, wanted)
-
     def test_a_question_that_is_broken_off(self):
         """As by ctrl-C: what it was told is no answer to the next question."""
 
@@ -230,31 +410,6 @@ class Tables(Case):
                 table.__class__ = rbgtable.Table
                 with self.assertRaises(rbgtable.Refused):
                     table.show(3)
-
-    def test_a_session_that_is_closed(self):
-        table = self.opened("take")
-        table.close()
-        with self.assertRaises(rbgtable.Refused):
-            table.value(0)
-
-    def test_players_with_the_names_of_replies(self):
-        """Take, by players who are called `refused` and `open`: their names are no refusals and no values."""
-        text = (GAMES / "take.rbg").read_text().replace("white", "refused").replace("black", "open")
-        self.file("named.rbg", text)
-        self.assertEqual(self.ran("solve", "named.rbg")[0], 0)
-        with rbgtable.Table(self.folder / "named.table", WHERE) as table:
-            self.assertEqual([str(value) for value in table.values()], [
-                "open in 3", "open in 2", "open in 1", "open in 1", "open in 0", "refused in 1", "refused in 0"])
-            self.assertEqual(table.show(1), "refused 2 v e 0,0,3")
-            self.assertEqual([str(move.value) for move in table.moves(3)], ["open in 0", "refused in 1"])
-        for words_ in (["moves", "named.table", "3"], ["board", "named.table", "1"], ["report", "named.table"], ["play", "named.table"],
-                       ["second_opinion", "named.rbg", "--table", "named.table"], ["trust", "named.table", "named.rbg"]):
-            self.assertEqual(self.ran(*words_)[0], 0, words_)
-        status, out, _ = self.ran("stats", "named.table")
-        rows = [line.split()[:2] for line in out.splitlines()[2:6]]
-        self.assertEqual((status, rows), (0, [["refused", "2"], ["open", "5"], ["drawn", "0"], ["open", "0"]]))
-        self.assertIn("the longest win: position 0, open in 3\n", out)
-        self.assertEqual(self.ran("export", "named.table")[1].splitlines()[1:3], ["0,open,3", "1,open,2"])
 
     def test_pages_by_words(self):
         self.assertEqual([words.pages(word) for word in ("16", "64M", "1G", "8K")], [16, 16384, 262144, 2])

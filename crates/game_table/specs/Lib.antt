@@ -13,6 +13,7 @@ pub use Rattle.retrograde.specs.Stored
 pub use Rattle.retrograde.specs.View
 pub use Rattle.table.specs.Faults
 pub use Rattle.table.specs.Fitting
+pub mod Units
 pub mod Work
 pub mod Tables
 pub mod Texts

@@ -1,2 +1,3 @@
+pub mod OneTable
 pub mod Laws
 pub mod Tables

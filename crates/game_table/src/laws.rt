@@ -10,7 +10,7 @@ ghost use Rattle.legal_moves.specs.Sources.{IsPositionBytes, IsWideAt, graph_of}
 ghost use Rattle.retrograde.specs.Stored.{Stored, loaded};
 ghost use Rattle.retrograde.specs.Sound.{IsLocallySound};
 ghost use Rattle.table.specs.Fitting.{FitsTogether};
-ghost use Rattle.game_table.specs.Tables.{ArePositions, packed_length};
+ghost use Rattle.game_table.specs.Tables.{ArePositions, packed_length, IsWorkOf};
 ghost use Rattle.rbg_game.specs.declared.limits.TheConstants.{MAX_TEXT_BYTES};
 
 /// A text that reads to a game has at most 65,536 bytes.
@@ -40,4 +40,11 @@ pub fn sound_tables_fit()
 pub fn a_first_table_is_sound()
     ensures { (kind : PackingKind) (goal : Option ℕ) (game : Game)
         → IsLocallySound (graph_of kind goal game) (IsWideAt kind game) (loaded (graph_of kind goal game).start) }
+{}
+
+/// Work leads from a table to one, whoever does it, however often it is stopped and in how many steps: as many units as are asked, or as are
+/// left to do.
+pub fn work_leads_to_one_table()
+    ensures { (kind : PackingKind) (goal : Option ℕ) (game : Game) (units n m : ℕ) (old a b : Stored (List ℕ))
+        → IsWorkOf kind goal game units old n a → IsWorkOf kind goal game units old m b → (n ≡ m) × (a ≡ b) }
 {}

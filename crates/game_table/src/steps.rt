@@ -5,6 +5,7 @@ ghost use Rattle.retrograde.specs.Stored.{IsTable, view_of};
 ghost use Rattle.retrograde.specs.Sound.{IsLocallySound};
 ghost use Rattle.frontier.specs.Causes.{HasUnitCause, Leaves};
 ghost use Rattle.frontier.specs.declared.fault.StepFault.TheVariants.{Inconsistent};
+ghost use Rattle.game_table.specs.Units.{IsUnit};
 ghost use Rattle.game_table.specs.Work.{Works, AreDone, StopsWith};
 
 use frontier::{StepFault, expand_one};
@@ -30,6 +31,8 @@ fn unit<M: MoveSource, T: Table>(
     ensures one { T.is_honest table.old → IsLocallySound (M.graph source.now) (M.is_wide source.now) (T.stored table.old)
         → IfOk result (λ done. done ≡ true → Works (M.graph source.now) (M.is_wide source.now) (T.stored table.old) 1
         (T.stored table.new)) }
+    ensures exact { T.is_honest table.old → IsLocallySound (M.graph source.now) (M.is_wide source.now) (T.stored table.old)
+        → IfOk result (λ done. done ≡ true → IsUnit (M.graph source.now) (T.stored table.old) (T.stored table.new)) }
     ensures finished { T.is_honest table.old → IsLocallySound (M.graph source.now) (M.is_wide source.now) (T.stored table.old)
         → IfOk result (λ done. done ≡ false → (T.stored table.new ≡ T.stored table.old) × IsFinished (view_of (T.stored table.old))) }
     ensures cause { T.is_honest table.old → IsLocallySound (M.graph source.now) (M.is_wide source.now) (T.stored table.old)

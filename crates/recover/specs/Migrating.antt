@@ -1,6 +1,6 @@
 -- What becomes of a table where its layout may be an earlier one than today's.
-use Rattle.std.specs.Prelude.{◌≢◌, ◌⊎◌, ℕ, Option, Some, IsTrue}
-use Rattle.sector_disk.specs.Disk.{Picture, Disk, Grew, LeavesOnly, MayLeave}
+use Rattle.std.specs.Prelude.{◌≢◌, ◌⊎◌, ℕ, ◌≤◌, Option, Some, IsTrue}
+use Rattle.sector_disk.specs.Disk.{Picture, Shown, Disk, Grew, LeavesOnly, MayLeave}
 use Rattle.root_pair.specs.Root.{IsTablePicture}
 use Rattle.page_store.specs.Store.{SameHeader}
 use Rattle.table.specs.Fitting.{FitsTogether}
@@ -82,3 +82,27 @@ MigrateCause First Second Today disk before now OutOfMemory = Unit {0}
 MigrateCause First Second Today disk before now Inconsistent =
     IsTrue disk.honest → (kept : Kept) × Holds (in_any First) disk.now.contents (Some kept) × FitsTogether 0 kept.table
 MigrateCause First Second Today disk before now _ = ⊥
+
+-- an honest disk as it is found after a stop: nothing can be left of it that the stop could not leave
+abbrev pub IsFoundThen : Shown → Disk → Type 0
+IsFoundThen left disk = IsTrue disk.honest × ((picture : Picture) → MayLeave disk.now picture → MayLeave left picture)
+
+-- what the disk shows in the course of migrations of this table: at first every stop leaves it, in an earlier layout or
+-- in today's; and any number of migrations begin with what is left, each answered or refused, and a stop may come at
+-- any moment of each
+module _ (Earlier Today : ℕ → Layout) (kept : Option Kept) where
+  pub data AreMigrations : Shown → Type 0 where
+    began : {left : Shown}
+        → ((picture : Picture) → MayLeave left picture → in_any (EitherLayout Earlier Today) picture kept)
+        → AreMigrations left
+    was_migrated : {before : Shown} {disk back : Disk} {count now : ℕ} → AreMigrations before → IsFoundThen before disk
+        → IsMigrated Earlier Today disk count back now → (moment : ℕ) → disk.clock ≤ moment → moment ≤ back.clock
+        → AreMigrations (back.was moment)
+    was_current : {before : Shown} {disk back : Disk} {count now : ℕ} → AreMigrations before → IsFoundThen before disk
+        → IsCurrent Earlier Today disk count back now → (moment : ℕ) → disk.clock ≤ moment → moment ≤ back.clock
+        → AreMigrations (back.was moment)
+    was_refused : {before : Shown} {disk back : Disk} {count now : ℕ} {fault : SolverFault} → AreMigrations before
+        → IsFoundThen before disk
+        → IsNotMigrated Earlier Today disk count back now fault → (moment : ℕ) → disk.clock ≤ moment
+        → moment ≤ back.clock
+        → AreMigrations (back.was moment)

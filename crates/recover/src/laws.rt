@@ -5,8 +5,8 @@ ghost use Rattle.solver.specs.Headline.{Headline, HeadlineFrom};
 ghost use Rattle.solver.specs.Held.{IsSound};
 ghost use Rattle.solver.specs.Histories.{Sitting, History, HistoryFrom};
 ghost use Rattle.tree_table.specs.Held.{StoresTrees};
-ghost use Rattle.game_file.specs.Kept.{Kept};
-ghost use Rattle.recover.specs.Migrating.{EitherLayout, IsMigrated};
+ghost use Rattle.game_file.specs.Kept.{Kept, in_any};
+ghost use Rattle.recover.specs.Migrating.{AreMigrations, EitherLayout, IsCurrent, IsFoundThen, IsMigrated};
 ghost use Rattle.earlier_layouts.specs.Held.{Stores};
 
 use crate::TableFile;
@@ -35,6 +35,30 @@ pub fn the_headline_of_found_tables()
 pub fn a_migrated_table_goes_on()
     ensures { (disk back : Disk) (count now : ℕ) (done : IsMigrated (EitherLayout Stores (StoresTrees 2)) (StoresTrees 3) disk count back now)
         → IsTrue disk.honest → HistoryFrom (StoresTrees 3) done.kept [] back.now }
+{}
+
+/// A picture stores one table at most, whichever of the three layouts it has.
+pub fn a_picture_stores_one_table_of_all_layouts()
+    ensures { (m n : ℕ) (picture : Picture) (one other : Option Kept)
+        → EitherLayout (EitherLayout Stores (StoresTrees 2)) (StoresTrees 3) m picture one
+        → EitherLayout (EitherLayout Stores (StoresTrees 2)) (StoresTrees 3) n picture other → one ≡ other }
+{}
+
+/// However often a migration was stopped or refused, and begun again with what was left, each stop leaves the table
+/// that the first of them found, in its layout or in today's; and once one is answered, a history of that table goes
+/// on.
+pub fn stopped_migrations_go_on()
+    ensures leaves { (kept : Option Kept) (left : Shown) (picture : Picture)
+        → AreMigrations (EitherLayout Stores (StoresTrees 2)) (StoresTrees 3) kept left → MayLeave left picture
+        → in_any (EitherLayout (EitherLayout Stores (StoresTrees 2)) (StoresTrees 3)) picture kept }
+    ensures migrated { (kept : Option Kept) (before : Shown) (disk back : Disk) (count now : ℕ)
+        → AreMigrations (EitherLayout Stores (StoresTrees 2)) (StoresTrees 3) kept before → IsFoundThen before disk
+        → IsMigrated (EitherLayout Stores (StoresTrees 2)) (StoresTrees 3) disk count back now
+        → HistoryFrom (StoresTrees 3) kept [] back.now }
+    ensures current { (kept : Option Kept) (before : Shown) (disk back : Disk) (count now : ℕ)
+        → AreMigrations (EitherLayout Stores (StoresTrees 2)) (StoresTrees 3) kept before → IsFoundThen before disk
+        → IsCurrent (EitherLayout Stores (StoresTrees 2)) (StoresTrees 3) disk count back now
+        → HistoryFrom (StoresTrees 3) kept [] back.now }
 {}
 
 /// A picture stores a table of this program in one number of pages, which its root says.

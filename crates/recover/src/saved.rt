@@ -1,157 +1,159 @@
 //! The headline in brief: the calls of a table in a file, and what holds of every history of them.
-ghost use Rattle.std.specs.Prelude.{◌≡◌, ◌≤◌, ◌<◌, ℕ, List, Option, None, Some, IsTrue, IfOk, IfErr, OnOk, OnErr};
-ghost use Rattle.sector_disk.specs.Disk.{Picture, Shown, Disk, MayLeave};
+ghost use Rattle.std.specs.Prelude.{◌≡◌, ◌≤◌, ◌<◌, ℕ, List, Option, None, Some, Ok, IsTrue, IfOk, IfErr, IfSome, OnOk, OnErr};
+ghost use Rattle.audit.specs.declared.verdict.Verdict.TheVariants.{Right};
+ghost use Rattle.sector_disk.specs.Disk.{Picture, Shown, GoesOn, MayLeave, Grew};
 ghost use Rattle.rbg_game.specs.Goals.{points_of};
-ghost use Rattle.solver.specs.declared.fault.SolverFault.{SolverFault as Fault};
-ghost use Rattle.solver.specs.Machine.{Command as Asked, load as load_it, work as work_on};
+ghost use Rattle.solver.specs.Machine.{load as load_it, work as work_on};
 ghost use Rattle.solver.specs.Units.{units_in};
-ghost use Rattle.recover.specs.aid.Histories.{tells_of, created_by, opened_by, not_opened_by, answered_by, asked_by, broken_by, the_headline_in_brief};
-ghost use Rattle.recover.specs.aid.AtWork.{begins_empty, asked_tells, answered_tells, is_so};
-ghost use Rattle.recover.specs.Brief.{BriefTable, BriefAnswer, IsTrueOfItsGame, Makes, OrBroken, loaded, worked};
-ghost use Rattle.recover.specs.Brief.{refused, TellsValue, TellsText, BriefSitting, BriefHistory, BriefHeadline};
+ghost use Rattle.recover.specs.aid.Histories.{calls_of, the_headline_in_brief};
+ghost use Rattle.recover.specs.aid.AtWork.{solver_is_lawful};
+ghost use Rattle.recover.specs.Brief.{Calls, AreLawful, IsReply, IsQuestion, IsRefusal, OrBroken, BriefTable, loaded, worked};
+ghost use Rattle.recover.specs.Brief.{TellsValue, TellsText, TellsValueOf, TellsRows, TellsLine, TellsCounts};
+ghost use Rattle.recover.specs.Brief.{BriefSitting, BriefHistory, BriefHeadline};
 
 use audit::Verdict;
 use best_line::{KnownMoves, Row, Value};
 use game_file::GameFile;
 use rbg_game::goal::Goal;
+use retrograde::Counts;
 use sector_disk::SectorDisk;
 use solver::{FileSolver, Refused, SolverFault, Units, Worked};
 use std::alloc::Global;
 
-/// A game's table in a file, as its calls leave it. What may be so behind a call is a relation that is named here and not said: each call
-/// keeps to its own, and the last member says what holds of every history that goes by them.
+/// A game's table in a file, as its calls leave it. What may be so behind a call is a relation of `calls`, which is not
+/// said: each call keeps to its own, `lawful` says what holds of them, and `headline` what holds of every history that
+/// goes by them.
 pub trait SavedTable {
     /// The disk that it is on.
     type Device: SectorDisk;
 
-    /// Its disk, through time.
-    ghost disk_of: { Self → Disk };
-
-    /// What its calls tell of the table of the last commit, by a disk that keeps its word.
-    ghost tells: { Self → Option BriefTable → Type 0 };
-
-    /// `create` has made it on this disk.
-    ghost created: { Disk → Self → Type 0 };
-
-    /// `open` has opened it on this disk.
-    ghost opened: { Disk → Self → Type 0 };
-
-    /// `open` has given this disk back as that later one, for this fault.
-    ghost not_opened: { Disk → Disk → Fault → Type 0 };
-
-    /// A command with this answer has led from the one to the other.
-    ghost answered: { Asked → BriefAnswer → Self → Self → Type 0 };
-
-    /// A call that is no command has led from the one to the other.
-    ghost asked: { Self → Self → Type 0 };
-
-    /// A write or a sync has failed in a call, the command that is named or another call, which has led from the one to the other. The sitting is
-    /// over: each later call is refused and leaves all as it is, until the table is opened again.
-    ghost broken: { Option Asked → Self → Self → Type 0 };
+    /// The relations of its calls.
+    ghost calls: { Calls Self };
 
     /// Makes the empty table on this disk.
     fn create(alloc: Global, disk: Self::Device) -> Result<Self, Refused<Self::Device>>
-        ensures { IfOk result (created (Self.Device.disk disk)) };
+        ensures created { IfOk result (calls.created (Self.Device.disk disk)) }
+        ensures refused { IfErr result (λ back. GoesOn (Self.Device.disk disk) (Self.Device.disk back.disk)) }
+        ensures failed { IfErr result (λ back. back.fault ≡ SolverFault.Disk
+            → Grew (Self.Device.failures disk) (Self.Device.failures back.disk)) };
 
     /// Opens the table that this disk holds.
     fn open(alloc: Global, disk: Self::Device) -> Result<Self, Refused<Self::Device>>
-        ensures opened { IfOk result (opened (Self.Device.disk disk)) }
-        ensures refused { IfErr result (λ back. not_opened (Self.Device.disk disk) (Self.Device.disk back.disk) back.fault) };
+        ensures opened { IfOk result (calls.opened (Self.Device.disk disk)) }
+        ensures refused { IfErr result (λ back. calls.not_opened (Self.Device.disk disk) (Self.Device.disk back.disk) back.fault) }
+        ensures failed { IfErr result (λ back. back.fault ≡ SolverFault.Disk
+            → Grew (Self.Device.failures disk) (Self.Device.failures back.disk)) };
 
     /// Loads the game of this text with this goal, if there is one.
     fn load(&mut self, text: &[u8], goal: Option<Goal>) -> Result<(), SolverFault>
-        ensures done { OnOk result (answered (load_it text.now (points_of goal)) loaded self.old self.new) }
-        ensures refused { OnErr result (OrBroken (answered (load_it text.now (points_of goal)) refused self.old self.new)
-            (broken (Some (load_it text.now (points_of goal))) self.old self.new) (disk_of self.old) (disk_of self.new)) };
+        ensures reply { IsReply calls self.old self.new result }
+        ensures done { OnOk result (calls.answered (load_it text.now (points_of goal)) loaded self.old self.new) }
+        ensures refused { OnErr result (IsRefusal calls (load_it text.now (points_of goal)) self.old self.new) };
 
     /// Does this many units of work, or fewer where the table is finished by then.
     fn work(&mut self, units: Units) -> Result<Worked, SolverFault>
-        ensures done { IfOk result (λ done. answered (work_on (units_in units)) (worked done.units) self.old self.new) }
-        ensures refused { OnErr result (OrBroken (answered (work_on (units_in units)) refused self.old self.new)
-            (broken (Some (work_on (units_in units))) self.old self.new) (disk_of self.old) (disk_of self.new)) };
+        ensures reply { IsReply calls self.old self.new result }
+        ensures done { IfOk result (λ done. calls.answered (work_on (units_in units)) (worked done.units) self.old self.new) }
+        ensures counts { calls.ready self.old → (table : Option BriefTable) → calls.tells self.new table
+            → IsTrue (calls.disk self.old).honest
+            → IfOk result (λ done. TellsCounts done.counts table) }
+        ensures refused { OnErr result (IsRefusal calls (work_on (units_in units)) self.old self.new) };
+
+    /// How far the table is; none where no game is loaded.
+    fn status(&self) -> Option<Counts>
+        ensures { (table : Option BriefTable) → calls.tells self.now table → IsTrue (calls.disk self.now).honest
+            → IfSome result (λ counts. TellsCounts counts table) × (result ≡ None → table ≡ None) };
+
+    /// How many pages the table has.
+    fn capacity(&self) -> u32
+        ensures { result ≡ calls.pages self.now };
 
     /// Who wins the position with this number, and in how many moves.
     fn value(&mut self, number: u32) -> Result<Value, SolverFault>
-        ensures asked { asked self.old self.new }
-        ensures told { (table : Option BriefTable) → tells self.old table → IsTrue (disk_of self.old).honest
+        ensures asked { IsQuestion calls self.old self.new result }
+        ensures told { (table : Option BriefTable) → calls.tells self.old table → IsTrue (calls.disk self.old).honest
             → IfOk result (λ value. TellsValue number value table) };
+
+    /// The same of the position with this text.
+    fn find_value(&mut self, text: &[u8]) -> Result<Value, SolverFault>
+        ensures asked { IsQuestion calls self.old self.new result }
+        ensures told { (table : Option BriefTable) → calls.tells self.old table → IsTrue (calls.disk self.old).honest
+            → IfOk result (λ value. TellsValueOf text.now value table) };
 
     /// The text of the position with this number.
     fn show(&mut self, number: u32) -> Result<Vec<u8>, SolverFault>
-        ensures asked { asked self.old self.new }
-        ensures told { (table : Option BriefTable) → tells self.old table → IsTrue (disk_of self.old).honest
+        ensures asked { IsQuestion calls self.old self.new result }
+        ensures told { (table : Option BriefTable) → calls.tells self.old table → IsTrue (calls.disk self.old).honest
             → IfOk result (λ text. TellsText number text.items table) };
 
     /// The number of the position with this text.
     fn find(&mut self, text: &[u8]) -> Result<u32, SolverFault>
-        ensures asked { asked self.old self.new }
-        ensures told { (table : Option BriefTable) → tells self.old table → IsTrue (disk_of self.old).honest
+        ensures asked { IsQuestion calls self.old self.new result }
+        ensures told { (table : Option BriefTable) → calls.tells self.old table → IsTrue (calls.disk self.old).honest
             → IfOk result (λ number. TellsText number text.now table) };
 
     /// The positions from this number on with their values.
     fn list(&mut self, from: u32, count: Units) -> Result<Vec<Row>, SolverFault>
-        ensures { asked self.old self.new };
+        ensures asked { IsQuestion calls self.old self.new result }
+        ensures told { (table : Option BriefTable) → calls.tells self.old table → IsTrue (calls.disk self.old).honest
+            → IfOk result (λ rows. TellsRows from (units_in count) rows.items table) };
 
     /// The numbers of a best line.
     fn line(&mut self, number: u32) -> Result<Vec<u32>, SolverFault>
-        ensures { asked self.old self.new };
+        ensures asked { IsQuestion calls self.old self.new result }
+        ensures told { (table : Option BriefTable) → calls.tells self.old table → IsTrue (calls.disk self.old).honest
+            → IfOk result (λ numbers. TellsLine number numbers.items table) };
 
     /// The moves of the position with this number.
     fn moves(&mut self, number: u32) -> Result<KnownMoves, SolverFault>
-        ensures { asked self.old self.new };
+        ensures { IsQuestion calls self.old self.new result };
 
-    /// Whether the table is right.
+    /// Whether the table is right, whoever made it: where it is, its calls tell it from then on, and what they tell is
+    /// so.
     fn audit(&mut self) -> Result<Verdict, SolverFault>
-        ensures { asked self.old self.new };
+        ensures asked { IsQuestion calls self.old self.new result }
+        ensures right { result ≡ Ok Right → calls.ready self.old → IsTrue (calls.disk self.old).honest
+            → (table : Option BriefTable) × calls.tells self.new table };
 
     /// Makes the file one of this many pages.
     fn grow(&mut self, pages: u32) -> Result<(), SolverFault>
-        ensures { OrBroken (asked self.old self.new) (broken None self.old self.new) (disk_of self.old) (disk_of self.new) };
+        ensures reply { IsReply calls self.old self.new result }
+        ensures grown { calls.ready self.old
+            → OnOk result (calls.asked self.old self.new × (calls.pages self.new ≡ pages)) }
+        ensures refused { calls.ready self.old → OnErr result (calls.pages self.new ≡ calls.pages self.old) }
+        ensures either { OrBroken (calls.asked self.old self.new) (calls.broken None self.old self.new) (calls.disk self.old) (calls.disk self.new) };
 
     /// Gives the disk back.
     fn close(self) -> Self::Device
-        ensures { Self.Device.disk result ≡ disk_of self };
+        ensures disk { Self.Device.disk result ≡ calls.disk self }
+        ensures failures { Self.Device.failures result ≡ calls.failures self };
 
-    /// A table that was just made is the empty one.
-    ghost begins_empty: { (disk : Disk) (made : Self) → IsTrue disk.honest → created disk made → tells made None };
+    /// What holds of its calls.
+    ghost lawful: { AreLawful calls };
 
-    /// A call that is no command leaves the table.
-    ghost asked_tells: { (was is : Self) (table : Option BriefTable) → IsTrue (disk_of was).honest → asked was is → tells was table
-        → tells is table };
-
-    /// A command makes of it what its answer says.
-    ghost answered_tells: { (command : Asked) (answer : BriefAnswer) (was is : Self) (table : Option BriefTable) → IsTrue (disk_of was).honest
-        → answered command answer was is → tells was table → (after : Option BriefTable) × Makes answer command table after × tells is after };
-
-    /// What is told is so.
-    ghost is_so: { (at : Self) (table : Option BriefTable) → IsTrue (disk_of at).honest → tells at table → IsTrueOfItsGame table };
-
-    /// The headline in brief, of every history of such calls.
+    /// The headline in brief, of every history of them.
     ghost headline: { (sittings : List BriefSitting) (left : Shown) (picture : Picture)
-        → BriefHistory disk_of created opened not_opened answered asked broken tells sittings left → MayLeave left picture
-        → BriefHeadline disk_of created opened not_opened answered asked broken tells sittings picture };
+        → BriefHistory calls sittings left → MayLeave left picture
+        → BriefHeadline calls sittings picture };
 }
 
-/// The headline in brief. A table is made, and used in any number of sittings; each opens what was left, and may end by a stop of the power
-/// before or within any write. Whatever the last stop leaves, reopening gives a table that the sittings make: with all that was answered, and
-/// in each at most one command that was not. Each of its settled positions is won by the named player in exactly the named number of moves, and
-/// if it is finished, its positions are those that play can come to, and the unsettled exactly the drawn.
+/// The headline in brief. A table is made, and used in any number of sittings; each opens what was left, and may end by
+/// a stop of the power before or within any write. Whatever the last stop leaves, reopening gives the table behind the
+/// last answer, or what the one command in doubt makes of that; and each value, number, text and line that a call told
+/// in any of the sittings it tells again, but that a value is open. Each of its settled positions is won by the named
+/// player in exactly the named number of moves, and if it is finished, its positions are those that play can come to,
+/// and the unsettled exactly the drawn.
 pub fn the_headline_in_brief<S: SavedTable>()
-    ensures { (sittings : List BriefSitting) (left : Shown) (picture : Picture)
-        → BriefHistory S.disk_of S.created S.opened S.not_opened S.answered S.asked S.broken S.tells sittings left → MayLeave left picture
-        → BriefHeadline S.disk_of S.created S.opened S.not_opened S.answered S.asked S.broken S.tells sittings picture }
+    ensures { (sittings : List BriefSitting) (left : Shown) (picture : Picture) → BriefHistory S.calls sittings left
+        → MayLeave left picture
+        → BriefHeadline S.calls sittings picture }
 {}
 
-/// The table of a sitting: it begins as the empty one or as the one that was opened, each command makes of it what its answer says, other calls
-/// leave it, and what it tells at any time is so by the rules of its game.
+/// What holds of the calls: each goes on from the disk that it was given, what is shut refuses and stays, and the table
+/// of a sitting begins as the empty one or as the one that was opened, each command makes of it what its answer says,
+/// other calls leave it, it is one, and what it tells at any time is so by the rules of its game.
 pub fn the_table_of_a_sitting<S: SavedTable>()
-    ensures begins { (disk : Disk) (made : S) → IsTrue disk.honest → S.created disk made → S.tells made None }
-    ensures asked { (was is : S) (table : Option BriefTable) → IsTrue (S.disk_of was).honest → S.asked was is → S.tells was table
-        → S.tells is table }
-    ensures answered { (command : Asked) (answer : BriefAnswer) (was is : S) (table : Option BriefTable) → IsTrue (S.disk_of was).honest
-        → S.answered command answer was is → S.tells was table
-        → (after : Option BriefTable) × Makes answer command table after × S.tells is after }
-    ensures so { (at : S) (table : Option BriefTable) → IsTrue (S.disk_of at).honest → S.tells at table → IsTrueOfItsGame table }
+    ensures { AreLawful S.calls }
 {}
 
 /// The calls of the solver, over any file.
@@ -160,29 +162,9 @@ impl<F: GameFile> SavedTable for FileSolver<F> {
 
     type Device = F::Device;
 
-    ghost disk_of = { λ solver. (state solver).disk };
+    ghost calls = { calls_of F.stores state IsReady };
 
-    ghost tells = { tells_of state IsReady };
-
-    ghost created = { created_by F.stores state IsReady };
-
-    ghost opened = { opened_by F.stores state IsReady };
-
-    ghost not_opened = { not_opened_by F.stores };
-
-    ghost answered = { answered_by F.stores state IsReady };
-
-    ghost asked = { asked_by F.stores state IsReady };
-
-    ghost broken = { broken_by F.stores state IsReady };
-
-    ghost begins_empty = { begins_empty F.stores state IsReady };
-
-    ghost asked_tells = { asked_tells F.stores state IsReady };
-
-    ghost answered_tells = { answered_tells F.stores state IsReady };
-
-    ghost is_so = { is_so state IsReady };
+    ghost lawful = { solver_is_lawful F.stores state IsReady };
 
     ghost headline = { the_headline_in_brief F.stores state IsReady F.stores_begins };
 
@@ -202,8 +184,20 @@ impl<F: GameFile> SavedTable for FileSolver<F> {
         FileSolver::work(self, units)
     }
 
+    fn status(&self) -> Option<Counts> {
+        FileSolver::status(self)
+    }
+
+    fn capacity(&self) -> u32 {
+        FileSolver::capacity(self)
+    }
+
     fn value(&mut self, number: u32) -> Result<Value, SolverFault> {
         FileSolver::value(self, number)
+    }
+
+    fn find_value(&mut self, text: &[u8]) -> Result<Value, SolverFault> {
+        FileSolver::find_value(self, text)
     }
 
     fn show(&mut self, number: u32) -> Result<Vec<u8>, SolverFault> {

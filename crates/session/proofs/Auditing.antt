@@ -1,5 +1,5 @@
 -- What comes of a command on a table that was opened for it.
-use Rattle.std.proofs.Common.{◌≡◌, ◌⊎◌, ℕ, inl, inr, ap}
+use Rattle.std.proofs.Common.{ℕ, inl}
 use Rattle.sector_disk.specs.Disk.{Disk}
 use Rattle.game_file.specs.Calls.{IsAsked}
 use Rattle.game_file.specs.Kept.{Layout}
@@ -15,8 +15,3 @@ audit_done Stores disk count was is back now opened asked gives (replied said) i
 audit_done Stores disk count was is back now opened asked gives (audited verdict counts) it = (was, is, opened, asked, gives, it)
 audit_done Stores disk count was is back now opened asked gives (brought which) it = absurd it
 audit_done Stores disk count was is back now opened asked gives grown it = absurd it
-
--- nothing was done, so that what is seen of it is as it was
-pub or_same : {X A S T : Type 0} (seen : S → T) (old new : S) → X ⊎ (A × (new ≡ old)) → X ⊎ (A × (seen new ≡ seen old))
-or_same seen old new (inl x) = inl x
-or_same seen old new (inr (a, same)) = inr (a, ap seen same)

@@ -107,12 +107,11 @@ module _ (Stores : ℕ → Layout) where
   abbrev pub IsUnopened : Disk → ℕ → SolverFault → Disk → ℕ → Type 0
   IsUnopened disk count why back now = IsNotOpened disk count back now × OpenCause Stores disk count now why
 
-  -- the table was opened, and the game loaded in one turn with this goal, if there is one, or refused; or there was no memory for the
-  -- reply, and nothing was done
+  -- the table was opened, and the game loaded in one turn with this goal, if there is one, or refused
   abbrev pub IsLoad : List ℕ → Option ℕ → Disk → ℕ → Came → Disk → ℕ → Type 0
   IsLoad text goal disk count (replied said) back now =
       (was : State) × (is : State) × IsOpened Stores disk count was × GivesBack is back now
-      × (IsTurnWithCause Stores (load text goal) said was is ⊎ ((said ≡ reply.Refused fault.OutOfMemory) × (is ≡ was)))
+      × IsTurnWithCause Stores (load text goal) said was is
   IsLoad text goal disk count (refused why) back now = IsUnopened disk count why back now
   IsLoad text goal disk count _ back now = ⊥
 

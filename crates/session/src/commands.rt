@@ -13,7 +13,6 @@ use game_file::GameFile;
 use rbg_game::goal::Goal;
 use retrograde::Counts;
 pub use session_lines::puts::{put_line, put_refused, put_reply, status_of};
-use session_lines::turns::reply_to;
 use session_lines::verdicts::put_verdict;
 use solver::{Command, FileSolver, Reply, SolverFault};
 use std::alloc::Global;
@@ -60,7 +59,7 @@ pub fn command_on<F: GameFile, W: Write>(
         },
         FileCommand::Load(text, goal) => match FileSolver::<F>::open(alloc, disk) {
             Ok(mut solver) => {
-                let reply = reply_to(alloc, &mut solver, Command::Load(text, goal));
+                let reply = solver.answer(&Command::Load(text, goal));
                 (said_reply(out, reply), solver.close())
             }
             Err(refused) => (said_refused(out, refused.fault), refused.disk),

@@ -18,6 +18,4 @@ mod table_words;
 pub mod words;
 
 pub use program::run;
-pub use session_lines::{
-    actions, input, moves, questions, refused, replies, rulebook, turns, verdicts,
-};
+pub use session_lines::{actions, input, moves, questions, refused, replies, rulebook, verdicts};

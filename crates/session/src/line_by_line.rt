@@ -64,19 +64,32 @@ pub fn lines_over<F: Versions, R: Read, W: Write, E: Write>(
 ) -> (u8, F::Device) {
     match FileSolver::<F>::open(alloc, disk) {
         Ok(mut solver) => {
-            let mut manner = match lines {
-                Lines::Session => Manner::Work(Vec::new(alloc)),
-                Lines::Look => Manner::Look,
-            };
-            let status = answer_all(alloc, &mut solver, &mut manner, input, out, told);
-            match manner {
-                Manner::Work(listings) => give_back(&mut solver, listings),
-                Manner::Look => {}
-            }
+            let status = lines_on::<F, R, W, E>(alloc, &mut solver, lines, input, out, told);
             (status, solver.close())
         }
         Err(refused) => (refuse(refused.fault, out, told), refused.disk),
     }
+}
+
+/// The same on a table that is open, and stays so.
+pub fn lines_on<F: Versions, R: Read, W: Write, E: Write>(
+    alloc: Global,
+    solver: &mut FileSolver<F>,
+    lines: Lines,
+    input: &mut R,
+    out: &mut W,
+    told: &mut E,
+) -> u8 {
+    let mut manner = match lines {
+        Lines::Session => Manner::Work(Vec::new(alloc)),
+        Lines::Look => Manner::Look,
+    };
+    let status = answer_all(alloc, solver, &mut manner, input, out, told);
+    match manner {
+        Manner::Work(listings) => give_back(solver, listings),
+        Manner::Look => {}
+    }
+    status
 }
 
 /// Ends all listings that are open.

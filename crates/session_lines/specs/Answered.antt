@@ -105,18 +105,17 @@ IsAnsweredOrRefused Answers Cause old status line =
     ⊎ ((why : SolverFault) × (status ≡ status_of_fault why) × (line ≡ fault_line why) × Cause why)
 
 module _ (Stores : ℕ → Layout) where
-  -- this many units are asked for: their reply as a line, and what was done is the turn of that command; or there is no room for the
-  -- reply, and nothing was done
+  -- this many units are asked for: their reply as a line, and what was done is the turn of that command
   pub record IsWorkReplied (units : ℕ) (old new : State) (status : ℕ) (line : List ℕ) : Type 0 where
     pub reply : Reply
-    pub turn : IsTurnWithCause Stores (work units) reply old new ⊎ ((reply ≡ answer.Refused fault.OutOfMemory) × (new ≡ old))
+    pub turn : IsTurnWithCause Stores (work units) reply old new
     pub status_is : status ≡ status_of_reply reply
     pub line_is : IsReplyLine reply line
 
-  -- what is done for a line that asks this, whether its reply can be written or not: units are worked, or there is no room for the
-  -- reply and nothing is done; a question changes nothing that is kept; and else nothing is done
+  -- what is done for a line that asks this, whether its reply can be written or not: units are worked; a question changes nothing
+  -- that is kept; and else nothing is done
   abbrev pub IsDoneFor : Asked → State → State → Type 0
-  IsDoneFor (asked.Work units) old new = ((reply : Reply) × IsTurnWithCause Stores (work (units_in units)) reply old new) ⊎ (new ≡ old)
+  IsDoneFor (asked.Work units) old new = (reply : Reply) × IsTurnWithCause Stores (work (units_in units)) reply old new
   IsDoneFor (asked.Question about) old new = IsAsked Stores old new
   IsDoneFor _ old new = new ≡ old
 

@@ -21,6 +21,7 @@ pub mod Told
 pub mod Asked
 pub mod Answered
 pub mod Listed
+pub mod Printed
 pub mod Looked
 pub mod Looks
 pub mod aid

@@ -43,17 +43,26 @@ IsNextText table place next count text kept =
 abbrev pub IsNoneOpen : {Version : Type 0} → List (Listing Version) → List (Listing Version) → ℕ → List ℕ → Type 0
 IsNoneOpen before after status line = (before ≡ []) × (after ≡ []) × (status ≡ 0) × (line ≡ codes "usage" ++ 10 ∷ [])
 
-module _ {F Version : Type 0} (state : F → State) (IsVersion : Version → Stored (List ℕ) → F → Type 0) where
-  -- a listing of the table of the last commit, at its first row, stands after those that were open, and is told
+-- every version that was open is open still, of the table that it was of
+abbrev pub AllLast : {F Version : Type 0} → (Version → Stored (List ℕ) → F → Type 0) → F → F → Type 0
+AllLast {F} {Version} IsVersion old new = (other : Version) (table : Stored (List ℕ)) → IsVersion other table old → IsVersion other table new
+
+module _ {F Version : Type 0} (state : F → State) (IsVersion : Version → Stored (List ℕ) → F → Type 0) (AreTwo : Version → Version → Type 0) where
+  -- a listing of the table of the last commit, at its first row, stands after those that were open, and is told; it is none of those, and they
+  -- last
   pub record IsBegun (old new : F) (before after : List (Listing Version)) (line : List ℕ) : Type 0 where
     pub listing : Listing Version
     pub behind : after ≡ before ++ listing ∷ []
     pub first : listing.next ≡ 0
     pub of_table : (kept : Kept) → (state old).kept ≡ Some kept → IsVersion listing.version kept.table new
+    pub is_table : (kept : Kept) → (state old).kept ≡ Some kept → IsTable kept.table
+    pub others : AllLast IsVersion old new
+    pub apart : (other : Version) (table : Stored (List ℕ)) → IsVersion other table old → AreTwo other listing.version
     pub line_is : line ≡ codes "listing" ++ 10 ∷ []
 
-  -- none is begun: `list_begin` refuses it, or memory is short
-  pub record IsNotBegun (UsedUp : Type 0) (old : F) (before after : List (Listing Version)) (status : ℕ) (line : List ℕ) : Type 0 where
+  -- none is begun: `list_begin` refuses it, or memory is short; those that were open last
+  pub record IsNotBegun (UsedUp : Type 0) (old new : F) (before after : List (Listing Version)) (status : ℕ) (line : List ℕ) : Type 0 where
+    pub others : AllLast IsVersion old new
     pub why : SolverFault
     pub status_is : status ≡ status_of_fault why
     pub line_is : line ≡ fault_line why
@@ -66,7 +75,7 @@ module _ {F Version : Type 0} (state : F → State) (IsVersion : Version → Sto
       ((status ≡ 0) × IsNextText table place next count line (state old).kept)
       ⊎ ((why : SolverFault) × (status ≡ status_of_fault why) × (line ≡ fault_line why) × NextCause (state old) (state new) why)
 
-  -- the listing that was begun last tells its next rows, this many or up to the last, and goes on after them; the others stay
+  -- the listing that was begun last tells its next rows, this many or up to the last, and goes on after them; the others stay, and all last
   pub record IsNext (count : ℕ) (old new : F) (before after : List (Listing Version)) (status : ℕ) (line : List ℕ) : Type 0 where
     pub others : List (Listing Version)
     pub listing : Listing Version
@@ -74,21 +83,23 @@ module _ {F Version : Type 0} (state : F → State) (IsVersion : Version → Sto
     pub was : before ≡ others ++ listing ∷ []
     pub is : after ≡ others ++ moved ∷ []
     pub same : moved.version ≡ listing.version
+    pub all : AllLast IsVersion old new
     pub told : IsSome (state old).kept → (table : Stored (List ℕ)) → IsTable table → IsVersion listing.version table old
         → IsNextTold count old new table listing.next moved.next status line
 
-  -- the listing that was begun last is ended, and that is told; the others stay
-  pub record IsEnded (new : F) (before after : List (Listing Version)) (line : List ℕ) : Type 0 where
+  -- the listing that was begun last is ended, and that is told; the others stay, and each that is none with it lasts
+  pub record IsEnded (old new : F) (before after : List (Listing Version)) (line : List ℕ) : Type 0 where
     pub listing : Listing Version
     pub was : before ≡ after ++ listing ∷ []
     pub ended : (table : Stored (List ℕ)) → ¬ IsVersion listing.version table new
+    pub others : (other : Version) (table : Stored (List ℕ)) → AreTwo other listing.version → IsVersion other table old → IsVersion other table new
     pub line_is : line ≡ codes "ended" ++ 10 ∷ []
 
   -- what a line about listings is answered, with these before and after it; it acts on the one that was begun last
   abbrev pub IsListingReplied : ListingLine → Type 0 → F → F → List (Listing Version) → List (Listing Version) → ℕ → List ℕ → Type 0
   IsListingReplied Begin UsedUp old new before after status line =
-      ((status ≡ 0) × IsBegun old new before after line) ⊎ IsNotBegun UsedUp old before after status line
+      ((status ≡ 0) × IsBegun old new before after line) ⊎ IsNotBegun UsedUp old new before after status line
   IsListingReplied (Next units) UsedUp old new before after status line =
-      IsNoneOpen before after status line ⊎ IsNext (units_in units) old new before after status line
+      (IsNoneOpen before after status line × AllLast IsVersion old new) ⊎ IsNext (units_in units) old new before after status line
   IsListingReplied End UsedUp old new before after status line =
-      IsNoneOpen before after status line ⊎ ((status ≡ 0) × IsEnded new before after line)
+      (IsNoneOpen before after status line × AllLast IsVersion old new) ⊎ ((status ≡ 0) × IsEnded old new before after line)

@@ -1,3 +1,4 @@
 pub mod Lines
 pub mod Stops
 pub mod Words
+pub mod Printed

@@ -11,7 +11,7 @@ ghost use Rattle.solver.specs.Units.{units_in};
 ghost use Rattle.solver.specs.declared.listing.Listing.{Listing};
 ghost use Rattle.solver.specs.declared.fault.SolverFault.{SolverFault};
 ghost use Rattle.session_lines.specs.Answered.{status_of_fault};
-ghost use Rattle.session_lines.specs.Listed.{IsNextText, IsNextTold, IsNoneOpen, IsNext, IsListingReplied};
+ghost use Rattle.session_lines.specs.Listed.{IsNextText, IsNextTold, IsNoneOpen, IsNext, IsListingReplied, AllLast};
 ghost use Rattle.session_lines.specs.Told.{fault_line};
 
 use crate::input::ListingLine;
@@ -35,7 +35,7 @@ pub fn put_listing<F: Versions, W: Write, E: Write>(
     ensures ready { IsReady solver.old → IsReady solver.new }
     ensures asked { IsReady solver.old → IsTrue (state solver.old).disk.honest → IsAsked F.stores (state solver.old) (state solver.new) }
     ensures replied { IsReady solver.old → IsTrue (state solver.old).disk.honest → IfOk result (λ status. (text : List ℕ)
-        × IsListingReplied F.state F.is_version line (F.is_used_up solver.old.file) solver.old.file solver.new.file
+        × IsListingReplied F.state F.is_version F.are_two line (F.is_used_up solver.old.file) solver.old.file solver.new.file
         listings.old.items listings.new.items status text
         × Appends (W.contents out.old) (W.contents out.new) text) }
 {
@@ -59,8 +59,10 @@ pub fn put_listing<F: Versions, W: Write, E: Write>(
 fn end<F: Versions>(solver: &mut FileSolver<F>, listings: &mut Vec<Listing<F::Version>>) -> bool
     ensures ready { IsReady solver.old → IsReady solver.new }
     ensures state { IsReady solver.old → IsTrue (state solver.old).disk.honest → state solver.new ≡ state solver.old }
-    ensures ended { result ≡ true → (listing : Listing F.Version) × (listings.old.items ≡ listings.new.items ++ listing ∷ [])
-        × ((table : Stored (List ℕ)) → ¬ F.is_version listing.version table solver.new.file) }
+    ensures ended { result ≡ true → ((listing : Listing F.Version) × (listings.old.items ≡ listings.new.items ++ listing ∷ [])
+        × ((table : Stored (List ℕ)) → ¬ F.is_version listing.version table solver.new.file)
+        × ((other : F.Version) (table : Stored (List ℕ)) → F.are_two other listing.version → F.is_version other table solver.old.file
+        → F.is_version other table solver.new.file)) }
     ensures none { result ≡ false → (listings.old.items ≡ []) × (listings.new.items ≡ []) × (solver.new ≡ solver.old) }
 {
     match listings.pop() {
@@ -82,7 +84,9 @@ fn begin<F: Versions>(
     ensures begun { OnOk result ((listing : Listing F.Version) × (listings.new.items ≡ listings.old.items ++ listing ∷ [])
         × (listing.next ≡ 0)
         × (IsReady solver.old → IsTrue (state solver.old).disk.honest → (kept : Kept) → (state solver.old).kept ≡ Some kept
-        → F.is_version listing.version kept.table solver.new.file)) }
+        → F.is_version listing.version kept.table solver.new.file × IsTable kept.table)
+        × ((other : F.Version) (table : Stored (List ℕ)) → F.is_version other table solver.old.file → F.are_two other listing.version)) }
+    ensures all { AllLast F.is_version solver.old.file solver.new.file }
     ensures refused { OnErr result (listings.new.items ≡ listings.old.items) }
     ensures cause { IfErr result (λ why. BeginCause (state solver.old) (F.is_used_up solver.old.file) why ⊎ (why ≡ SolverFault.OutOfMemory)) }
 {
@@ -136,7 +140,7 @@ fn put_next<F: Versions, W: Write, E: Write>(
     ensures same { listing.new.version ≡ listing.old.version }
     ensures replied { IsReady solver.old → IsTrue (state solver.old).disk.honest → IfOk result (λ status. (line : List ℕ)
         × (IsSome (state solver.old).kept → (table : Stored (List ℕ)) → IsTable table → F.is_version listing.old.version table solver.old.file
-        → IsNextTold F.state F.is_version (units_in count) solver.old.file solver.new.file table listing.old.next listing.new.next status line)
+        → IsNextTold F.state F.is_version F.are_two (units_in count) solver.old.file solver.new.file table listing.old.next listing.new.next status line)
         × Appends (W.contents out.old) (W.contents out.new) line) }
 {
     match next_text(alloc, solver, listing, count) {
@@ -157,8 +161,8 @@ fn put_next_of_last<F: Versions, W: Write, E: Write>(
     ensures ready { IsReady solver.old → IsReady solver.new }
     ensures asked { IsReady solver.old → IsAsked F.stores (state solver.old) (state solver.new) }
     ensures replied { IsReady solver.old → IsTrue (state solver.old).disk.honest → IfOk result (λ status. (text : List ℕ)
-        × (IsNoneOpen listings.old.items listings.new.items status text
-        ⊎ IsNext F.state F.is_version (units_in count) solver.old.file solver.new.file listings.old.items listings.new.items status text)
+        × ((IsNoneOpen listings.old.items listings.new.items status text × AllLast F.is_version solver.old.file solver.new.file)
+        ⊎ IsNext F.state F.is_version F.are_two (units_in count) solver.old.file solver.new.file listings.old.items listings.new.items status text)
         × Appends (W.contents out.old) (W.contents out.new) text) }
 {
     let Some(mut listing) = listings.pop() else {

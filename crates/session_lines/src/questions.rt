@@ -16,7 +16,6 @@ use crate::advice::{tell_fault, tell_full};
 use crate::input::{Asked, Question, SESSION_LINES};
 use crate::puts::{put_line, put_refused, put_reply, status_of};
 use crate::replies::{found_line, numbers_line, put_status, row_lines, value_line};
-use crate::turns::reply_to;
 use game_file::GameFile;
 use solver::{Command, FileSolver, Reply, SolverFault, Units};
 use std::alloc::Global;
@@ -33,6 +32,7 @@ pub fn put_answer<F: GameFile, W: Write, E: Write>(
     told: &mut E,
 ) -> io::Result<u8>
     ensures ready { IsReady solver.old → IsReady solver.new }
+    ensures lasts { F.lasts solver.old.file solver.new.file }
     ensures done { IsReady solver.old → IsDoneFor F.stores asked.entry (state solver.old) (state solver.new) }
     ensures replied { IsReady solver.old → IfOk result (λ status. (line : List ℕ)
         × IsReplied F.stores asked.entry (state solver.old) (state solver.new) status line
@@ -51,7 +51,7 @@ pub fn put_answer<F: GameFile, W: Write, E: Write>(
             out.flush()?;
             Ok(0)
         }
-        Asked::Work(units) => put_worked(alloc, solver, units, out, told),
+        Asked::Work(units) => put_worked(solver, units, out, told),
         Asked::Question(question) => match text_of(alloc, solver, question) {
             Ok(text) => put_done(out, &text),
             Err(fault) => put_fault(fault, out, told),
@@ -84,21 +84,20 @@ pub fn put_fault<W: Write, E: Write>(
 
 /// Works, and writes the reply.
 fn put_worked<F: GameFile, W: Write, E: Write>(
-    alloc: Global,
     solver: &mut FileSolver<F>,
     units: Units,
     out: &mut W,
     told: &mut E,
 ) -> io::Result<u8>
     ensures ready { IsReady solver.old → IsReady solver.new }
+    ensures lasts { F.lasts solver.old.file solver.new.file }
     ensures done { IsReady solver.old
-        → ((reply : Reply) × IsTurnWithCause F.stores (work_on (units_in units)) reply (state solver.old) (state solver.new))
-        ⊎ ((state solver.new) ≡ (state solver.old)) }
+        → (reply : Reply) × IsTurnWithCause F.stores (work_on (units_in units)) reply (state solver.old) (state solver.new) }
     ensures worked { IsReady solver.old → IfOk result (λ status. (line : List ℕ)
         × IsWorkReplied F.stores (units_in units) (state solver.old) (state solver.new) status line
         × Appends (W.contents out.old) (W.contents out.new) line) }
 {
-    match reply_to(alloc, solver, Command::Work(units)) {
+    match solver.answer(&Command::Work(units)) {
         Reply::Refused(SolverFault::TableFull) => {
             put_refused(out, SolverFault::TableFull)?;
             tell_full(told, solver.capacity());
@@ -119,6 +118,7 @@ pub(crate) fn text_of<F: GameFile>(
     question: Question<'_>,
 ) -> Result<Vec<u8>, SolverFault>
     ensures ready { IsReady solver.old → IsReady solver.new }
+    ensures lasts { F.lasts solver.old.file solver.new.file }
     ensures asked { IsReady solver.old → IsAsked F.stores (state solver.old) (state solver.new) }
     ensures text { IsReady solver.old → IfOk result (λ text. Tells (IsAnswerTo question.entry text.items) (state solver.old)) }
     ensures cause { IsReady solver.old → IfErr result (QuestionCause question.entry (state solver.old) (state solver.new)) }
@@ -139,6 +139,7 @@ fn value_of<F: GameFile>(
     number: u32,
 ) -> Result<Vec<u8>, SolverFault>
     ensures ready { IsReady solver.old → IsReady solver.new }
+    ensures lasts { F.lasts solver.old.file solver.new.file }
     ensures asked { IsReady solver.old → IsAsked F.stores (state solver.old) (state solver.new) }
     ensures text { IsReady solver.old → IfOk result (λ text. Tells (IsValueLine number text.items) (state solver.old)) }
     ensures cause { IsReady solver.old → IfErr result (NumberCause number (state solver.old) (state solver.new)) }
@@ -155,6 +156,7 @@ fn rows_of<F: GameFile>(
     count: Units,
 ) -> Result<Vec<u8>, SolverFault>
     ensures ready { IsReady solver.old → IsReady solver.new }
+    ensures lasts { F.lasts solver.old.file solver.new.file }
     ensures asked { IsReady solver.old → IsAsked F.stores (state solver.old) (state solver.new) }
     ensures text { IsReady solver.old → IfOk result (λ text. Tells (AreRowLines from (units_in count) text.items) (state solver.old)) }
     ensures cause { IsReady solver.old → IfErr result (NumberCause from (state solver.old) (state solver.new)) }
@@ -170,6 +172,7 @@ fn play_of<F: GameFile>(
     number: u32,
 ) -> Result<Vec<u8>, SolverFault>
     ensures ready { IsReady solver.old → IsReady solver.new }
+    ensures lasts { F.lasts solver.old.file solver.new.file }
     ensures asked { IsReady solver.old → IsAsked F.stores (state solver.old) (state solver.new) }
     ensures text { IsReady solver.old → IfOk result (λ text. Tells (IsPlayLine number text.items) (state solver.old)) }
     ensures cause { IsReady solver.old → IfErr result (LineCause number (state solver.old) (state solver.new)) }
@@ -181,6 +184,7 @@ fn play_of<F: GameFile>(
 /// The line of a position's text.
 fn shown<F: GameFile>(solver: &mut FileSolver<F>, number: u32) -> Result<Vec<u8>, SolverFault>
     ensures ready { IsReady solver.old → IsReady solver.new }
+    ensures lasts { F.lasts solver.old.file solver.new.file }
     ensures asked { IsReady solver.old → IsAsked F.stores (state solver.old) (state solver.new) }
     ensures text { IsReady solver.old → IfOk result (λ text. Tells (IsShownLine number text.items) (state solver.old)) }
     ensures cause { IsReady solver.old → IfErr result (ShowCause number (state solver.old) (state solver.new)) }
@@ -197,6 +201,7 @@ fn found<F: GameFile>(
     text: &[u8],
 ) -> Result<Vec<u8>, SolverFault>
     ensures ready { IsReady solver.old → IsReady solver.new }
+    ensures lasts { F.lasts solver.old.file solver.new.file }
     ensures asked { IsReady solver.old → IsAsked F.stores (state solver.old) (state solver.new) }
     ensures text { IsReady solver.old → IfOk result (λ line. Tells (IsFoundLine text.now line.items) (state solver.old)) }
     ensures cause { IsReady solver.old → IfErr result (FindCause text.now (state solver.old) (state solver.new)) }

@@ -163,6 +163,15 @@ module _ (k : Kept) (stored : Stored (List ℕ)) (same : stored ≡ k.table) (fi
         of_any compiled k made (λ p w g. IsTableSo (graph_of p w g) (view_of k.table)) game read
         (subst (λ (t : Stored (List ℕ)). IsTableSo (graph_of (packing_kind compiled) (compiled_goal compiled) (compiled_game compiled)) (view_of t)) same (found its_table))
 
+    -- a table that is right is locally sound
+    pub sound_found : (IsTable stored → IsLocallySound (graph_of (packing_kind compiled) (compiled_goal compiled) (compiled_game compiled)) (IsWideAt (packing_kind compiled) (compiled_game compiled)) stored) → IsSound (Some k)
+    sound_found found = (
+      compiled_game compiled,
+      made.reads,
+      of_any compiled k made (λ p w g. IsLocallySound (graph_of p w g) (IsWideAt p g) k.table) (compiled_game compiled) made.reads
+          (subst (λ (t : Stored (List ℕ)). IsLocallySound (graph_of (packing_kind compiled) (compiled_goal compiled) (compiled_game compiled)) (IsWideAt (packing_kind compiled) (compiled_game compiled)) t) same (found its_table)),
+    )
+
     -- and that some expanded position is too wide
     pub wide_found : HasWide (IsWideAt (packing_kind compiled) (compiled_game compiled)) stored → HasWidePosition k
     wide_found found = λ game read.

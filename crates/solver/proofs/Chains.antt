@@ -19,8 +19,8 @@ use Rattle.solver.proofs.Prefixes.{what_sittings_lead_to_is_sound, sitting_leads
 -- one sitting more
 lead_more : (sittings : List Sitting) (sitting : Sitting) (old mid new : Option Kept) → LeadTo sittings old mid → LeadTo (sitting ∷ []) mid new → LeadTo (sittings ++ (sitting ∷ [])) old new
 lead_more [] sitting old mid new same leads = subst (λ (k : Option Kept). LeadTo (sitting ∷ []) k new) same leads
-lead_more (s ∷ sittings) sitting old mid new (begins, (last, all, (left, may, rest))) leads =
-    (begins, (last, all, (left, may, lead_more sittings sitting left mid new rest leads)))
+lead_more (s ∷ sittings) sitting old mid new (begins, (all, (left, may, rest))) leads =
+    (begins, (all, (left, may, lead_more sittings sitting left mid new rest leads)))
 
 module _ (Stores : ℕ → Layout) where
   -- a table that the sittings lead to, stored

@@ -7,6 +7,7 @@ pub mod Asking
 pub mod MovesAsking
 pub mod Turning
 pub mod Prefixes
+pub mod OneTable
 pub mod Chains
 pub mod Making
 pub mod Starts

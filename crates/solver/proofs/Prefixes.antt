@@ -70,8 +70,8 @@ may_sound (Some command) old new may sound = what_may_be_done_is_sound command o
 -- what sittings lead to from a sound table is sound
 pub what_sittings_lead_to_is_sound : (sittings : List Sitting) (old new : Option Kept) → LeadTo sittings old new → IsSound old → IsSound new
 what_sittings_lead_to_is_sound [] old new same sound = subst (λ (k : Option Kept). IsSound k) (sym same) sound
-what_sittings_lead_to_is_sound (sitting ∷ sittings) old new (begins, (mid, all, (left, may, rest))) sound =
-    what_sittings_lead_to_is_sound sittings left new rest (may_sound sitting.in_doubt mid left may (all_sound sitting.answered old mid all sound))
+what_sittings_lead_to_is_sound (sitting ∷ sittings) old new (begins, (all, (left, may, rest))) sound =
+    what_sittings_lead_to_is_sound sittings left new rest (may_sound sitting.in_doubt sitting.reached left may (all_sound sitting.answered old sitting.reached all sound))
 
 module _ (Stores : ℕ → Layout) where
   -- a solver that is open was open before
@@ -202,7 +202,7 @@ module _ (Stores : ℕ → Layout) where
       record {
         kept = behind.kept;
         pages = behind.pages;
-        leads = (it.begins, (it.last.kept, all, (behind.kept, behind.is.may, refl)));
+        leads = (it.begins, (subst (λ (k : Option Kept). DoAll sitting.answered was.kept k) (sym it.reached) all, (behind.kept, subst (λ (k : Option Kept). DoesInDoubt sitting.in_doubt k behind.kept) (sym it.reached) behind.is.may, refl)));
         stores = behind.is.stores;
         as_many = behind.as_many;
       }
@@ -251,9 +251,9 @@ module _ (Stores : ℕ → Layout) where
       → IsTurnWithCause Stores command reply was mid → (moment < mid.disk.clock) ⊎ (mid.closed ≡ true) → Turns Stores commands replies mid is → (ends : Ends Stores was (Some command) left)
       → (IsInAGrowth ends → ⊥) → IsCut moment (command ∷ commands) (reply ∷ replies) was is left
   cut_before moment command commands reply replies was mid is left open_ turn later rest ends apart = record {
-    sitting = record { begins = was.kept; answered = []; in_doubt = Some command };
+    sitting = record { begins = was.kept; answered = []; reached = was.kept; in_doubt = Some command };
     part = (refl, (mid, turn, later, rest));
-    sits = record { begins = refl; last = was; used = no_call; is_open = open_; ends = ends };
+    sits = record { begins = refl; last = was; reached = refl; used = no_call; is_open = open_; ends = ends };
     steady = refl;
     apart = apart;
   }
@@ -262,9 +262,9 @@ module _ (Stores : ℕ → Layout) where
       → IsTurnWithCause Stores command reply was mid → mid.disk.clock ≤ moment → mid.closed ≡ false → IsCut moment commands replies mid is left
       → IsCut moment (command ∷ commands) (reply ∷ replies) was is left
   cut_behind moment command commands reply replies was mid is left turn by_then open_ cut = record {
-    sitting = record { begins = was.kept; answered = (command, reply) ∷ cut.sitting.answered; in_doubt = cut.sitting.in_doubt };
+    sitting = record { begins = was.kept; answered = (command, reply) ∷ cut.sitting.answered; reached = cut.sitting.reached; in_doubt = cut.sitting.in_doubt };
     part = (refl, refl, (mid, turn, by_then, open_, cut.part));
-    sits = record { begins = refl; last = cut.sits.last; used = a_command turn.turn cut.sits.used; is_open = cut.sits.is_open; ends = cut.sits.ends };
+    sits = record { begins = refl; last = cut.sits.last; reached = cut.sits.reached; used = a_command turn.turn cut.sits.used; is_open = cut.sits.is_open; ends = cut.sits.ends };
     steady = cut.steady ∙ turn.turn.ahead.capacity;
     apart = cut.apart;
   }
@@ -281,9 +281,9 @@ module _ (Stores : ℕ → Layout) where
       let left : is.disk.was moment ≡ was.disk.now = ap is.disk.was at ∙ is.disk.was_now ∙ ap (λ (s : State). s.disk.now) same in
       let (ends, apart) = closing was (is.disk.was moment) left in
       record {
-        sitting = record { begins = was.kept; answered = []; in_doubt = None };
+        sitting = record { begins = was.kept; answered = []; reached = was.kept; in_doubt = None };
         part = same;
-        sits = record { begins = refl; last = was; used = no_call; is_open = open_; ends = ends };
+        sits = record { begins = refl; last = was; reached = refl; used = no_call; is_open = open_; ends = ends };
         steady = refl;
         apart = apart;
       }

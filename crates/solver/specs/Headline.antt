@@ -49,8 +49,8 @@ module _ (Stores : ℕ → Layout) where
     pub fails : (disk : Disk) (before now : ℕ) (fault : SolverFault) → IsTrue disk.honest → disk.now.contents ≡ picture
         → OpenCause Stores disk before now fault → IsUnlucky before now fault
 
-  -- whenever the power stops after these sittings, the table that reopening gives is one that they lead to from this one: with every
-  -- command that was answered as it was answered, and in each sitting at most one that was not; and what it says is so
+  -- whenever the power stops after these sittings, the table that reopening gives is the one that the last of them reached behind its last
+  -- answer, or what the command in doubt may do to that; each began with what the one before left so; and what the table says is so
   abbrev pub HeadlineFrom : Option Kept → List Sitting → Picture → Type 0
   HeadlineFrom begins sittings picture = (kept : Option Kept) × LeadTo sittings begins kept × Reopens picture kept × IsExact kept
 

@@ -10,11 +10,12 @@ use Rattle.solver.specs.Machine.{Command, Does, MayDo}
 use Rattle.solver.specs.Opening.{IsCreated, IsOpened}
 use Rattle.solver.specs.Runs.{IsTurn}
 
--- what is known of one sitting: the table that it began with, the commands that were answered, each with its reply, and the one in
--- doubt, if there is one: it was begun and not answered, or answered E1 for a write or a sync that failed
+-- what is known of one sitting: the table that it began with, the commands that were answered, each with its reply, the table behind the
+-- last answer, and the command in doubt, if there is one: it was begun and not answered, or answered E1 for a write or a sync that failed
 pub record Sitting : Type 0 where
   pub begins : Option Kept
   pub answered : List (Command × Reply)
+  pub reached : Option Kept
   pub in_doubt : Option Command
 
 -- commands that were answered lead from the one table to the other: each does what its reply says
@@ -27,11 +28,12 @@ abbrev pub DoesInDoubt : Option Command → Option Kept → Option Kept → Type
 DoesInDoubt None old new = new ≡ old
 DoesInDoubt (Some command) old new = MayDo command old new
 
--- the sittings lead from the one table to the other: in each all that was answered is held, and one command more at most
+-- the sittings lead from the one table to the other: in each all that was answered is held, and of the table that it reached there is left
+-- that or what one command more may do
 abbrev pub LeadTo : List Sitting → Option Kept → Option Kept → Type 0
 LeadTo [] old new = new ≡ old
-LeadTo (sitting ∷ sittings) old new = (sitting.begins ≡ old) × ((mid : Option Kept) × DoAll sitting.answered old mid
-    × ((left : Option Kept) × DoesInDoubt sitting.in_doubt mid left × LeadTo sittings left new))
+LeadTo (sitting ∷ sittings) old new = (sitting.begins ≡ old) × (DoAll sitting.answered old sitting.reached
+    × ((left : Option Kept) × DoesInDoubt sitting.in_doubt sitting.reached left × LeadTo sittings left new))
 
 module _ (Stores : ℕ → Layout) where
   -- calls on a solver, one after another: commands with their replies, questions, which change nothing, and growths, which keep the table
@@ -57,10 +59,11 @@ module _ (Stores : ℕ → Layout) where
     by_a_fault : {asked : Command} {reply : Reply} {is : State} → IsTurn Stores asked reply last is → is.closed ≡ true → (moment : ℕ)
         → last.disk.clock ≤ moment → moment ≤ is.disk.clock → Ends last (Some asked) (is.disk.was moment)
 
-  -- a sitting with a solver from this state on, at whose end the disk shows this
+  -- a sitting with a solver from this state on, at whose end the disk shows this; the table that it reached is that of the last state
   pub record IsSitting (was : State) (sitting : Sitting) (left : Shown) : Type 0 where
     pub begins : sitting.begins ≡ was.kept
     pub last : State
+    pub reached : sitting.reached ≡ last.kept
     pub used : IsUsed sitting.answered was last
     pub is_open : last.closed ≡ false
     pub ends : Ends last sitting.in_doubt left

@@ -17,7 +17,7 @@ ghost use Rattle.game_file.specs.Kept.{Kept, in_any};
 ghost use Rattle.game_file.specs.State.{State, GoesAhead};
 ghost use Rattle.solver.specs.Headline.{Headline, HeadlineFrom};
 ghost use Rattle.solver.specs.Held.{Holds, IsSound, graph_in};
-ghost use Rattle.solver.specs.Histories.{Sitting, LeadTo, History, HistoryFrom};
+ghost use Rattle.solver.specs.Histories.{Sitting, DoAll, LeadTo, History, HistoryFrom};
 ghost use Rattle.solver.specs.Machine.{Command, MayDo};
 ghost use Rattle.solver.specs.Opening.{IsOpened};
 ghost use Rattle.solver.specs.Runs.{IsTurnWithCause};
@@ -106,18 +106,28 @@ pub fn what_sittings_lead_to_is_sound()
     ensures { (sittings : List Sitting) (old new : Option Kept) → LeadTo sittings old new → IsSound old → IsSound new }
 {}
 
+/// The table is a function of the commands: whoever does them, with whatever device, in whatever sittings and however often stopped, those that
+/// were answered lead from a locally sound table to one, and one in doubt leaves that or leads from it to one.
+pub fn commands_lead_to_one_table()
+    ensures answered { (answered : List (Command × Reply)) (old a b : Option Kept) → IsSound old → DoAll answered old a → DoAll answered old b
+        → a ≡ b }
+    ensures in_doubt { (command : Command) (old a b : Option Kept) → IsSound old → MayDo command old a → MayDo command old b
+        → (a ≡ old) ⊎ ((b ≡ old) ⊎ (a ≡ b)) }
+{}
+
 /// What the headline says of a made table holds of each that is locally sound as it begins: one that came from an earlier layout, one that
 /// an audit found right, the empty one that a stopped or refused `create` left. It is used in any number of sittings; whatever a stop leaves,
-/// reopening gives a table which they lead to from the one that it began as, and what that says is so.
+/// reopening gives the table behind the last answer, or what the command in doubt may do to that, and what it says is so.
 pub fn the_headline_from<F: GameFile>()
     ensures { (begins : Option Kept) (sittings : List Sitting) (left : Shown) (picture : Picture) → IsSound begins
         → HistoryFrom F.stores begins sittings left → MayLeave left picture → HeadlineFrom F.stores begins sittings picture }
 {}
 
 /// The headline. A table is made, and used in any number of sittings; each opens what was left, and may end by a stop of the power
-/// before or within any write. Whatever the last stop leaves, reopening gives a table which the sittings lead to: with all that was
-/// answered, and in each at most one command that was not. Each of its settled positions is won by the named player in exactly the
-/// named number of moves, and if it says finished, its positions are those that play can come to and the unsettled exactly the drawn.
+/// before or within any write. Whatever the last stop leaves, reopening gives the table behind the last answer, or what the one command in
+/// doubt may do to that; and so it was behind each stop before. By `commands_lead_to_one_table` that is one table. Each of its settled positions
+/// is won by the named player in exactly the named number of moves, and if it says finished, its positions are those that play can come to and
+/// the unsettled exactly the drawn.
 pub fn the_headline<F: GameFile>()
     ensures { (sittings : List Sitting) (left : Shown) (picture : Picture) → History F.stores sittings left → MayLeave left picture
         → Headline F.stores sittings picture }

@@ -1,7 +1,7 @@
 //! What holds of every listing: each is a law, which proofs cite by a call.
 ghost use Rattle.std.specs.Prelude.{◌≡◌, ◌≤◌, ℕ, List, IsTrue, length};
 ghost use Rattle.best_line.specs.Rows.{AreRows};
-ghost use Rattle.game_file.specs.State.{GoesAhead};
+ghost use Rattle.sector_disk.specs.Disk.{GoesOn};
 ghost use Rattle.retrograde.specs.Stored.{Stored, IsTable, view_of};
 ghost use Rattle.solver.specs.Listings.{IsKeptOver, Given, IsListed, asked_in, rows_in};
 
@@ -10,7 +10,7 @@ use game_file::Versions;
 /// An open listing lasts over every call that is not about listings, whether it was answered or refused: each says `lasts`. Over
 /// `list_begin` and `list_end` of another one it lasts by their own clauses.
 pub fn a_listing_lasts<F: Versions>()
-    ensures { (version : F.Version) (old new : F) → GoesAhead (F.state old) (F.state new) → F.lasts old new
+    ensures { (version : F.Version) (old new : F) → GoesOn (F.state old).disk (F.state new).disk → F.lasts old new
         → IsKeptOver F.state F.is_version version old new }
 {}
 

@@ -1,5 +1,5 @@
 //! What is asked of a solver.
-ghost use Rattle.std.specs.Prelude.{◌≡◌, true, false, Ok, None, Some, IfOk, IfErr, IfSome, IfNone, IsErrOf};
+ghost use Rattle.std.specs.Prelude.{◌≡◌, true, false, Ok, None, Some, IfOk, IfErr, IfSome, IfNone, IsErrOf, IsTrue};
 ghost use Rattle.rbg_game.specs.Meaning.{game_of};
 ghost use Rattle.game_file.specs.Calls.{IsAsked};
 ghost use Rattle.game_file.specs.Kept.{text_kept};
@@ -111,6 +111,7 @@ impl<F: GameFile> FileSolver<F> {
         ensures asked { IsReady self.old → IsAsked F.stores (state self.old) (state self.new) }
         ensures verdict { IsReady self.old → IfOk result (λ verdict. Tells (HasVerdict verdict) (state self.old)) }
         ensures so { IsReady self.old → result ≡ Ok Right → Tells IsSoInGame (state self.old) }
+        ensures sound { IsReady self.old → result ≡ Ok Right → IsTrue (state self.old).disk.honest → IsSound (state self.old).kept }
         ensures cause { IsReady self.old → IfErr result (AuditCause (state self.old) (state self.new)) }
         ensures closed { (state self.old).closed ≡ true → IsErrOf result SolverFault.Closed × (self.new ≡ self.old) }
         ensures no_game { (state self.old).closed ≡ false → (state self.old).kept ≡ None

@@ -10,8 +10,8 @@ use crate::{Command, FileSolver, Reply, SolverFault, Worked};
 use game_file::GameFile;
 
 impl<F: GameFile> FileSolver<F> {
-    /// One command of a list, with its reply.
-    fn answer(&mut self, command: &Command) -> Reply
+    /// The reply to one command, which is done as `load` and `work` do it.
+    pub fn answer(&mut self, command: &Command) -> Reply
         ensures ready { IsReady self.old → IsReady self.new }
         ensures lasts { F.lasts self.old.file self.new.file }
         ensures ahead { GoesAhead (state self.old) (state self.new) }

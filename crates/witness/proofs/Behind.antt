@@ -20,13 +20,13 @@ fresh_size disk fresh = let zeros : List ℕ = replicate 512 0 in ap length fres
 module _ (Stores : ℕ → Layout) where
   -- a sitting in which no command is given
   abbrev idle : State → Sitting
-  idle state = record { begins = state.kept; answered = []; in_doubt = None }
+  idle state = record { begins = state.kept; answered = []; reached = state.kept; in_doubt = None }
 
   idle_is_own : (state : State) → IsOwnSitting (idle state)
   idle_is_own state = record { answered = tt; in_doubt = tt }
 
   idle_is_one : (state : State) → state.closed ≡ false → IsSitting Stores state (idle state) state.disk.now
-  idle_is_one state is_open = record { begins = refl; last = state; used = no_call; is_open = is_open; ends = by_closing }
+  idle_is_one state is_open = record { begins = refl; last = state; reached = refl; used = no_call; is_open = is_open; ends = by_closing }
 
   -- an honest disk is found as it was left
   found_so : (disk : Disk) → IsTrue disk.honest → IsFound Stores disk.now disk

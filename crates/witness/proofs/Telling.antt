@@ -72,9 +72,9 @@ own_in_doubt (Some command) old new own does was = own_does does.0 command old n
 own_table : (sittings : List Sitting) (old new : Option Kept) → AllByRecursion IsOwnSitting sittings → LeadTo sittings old new → IsNoneOrIt old → IsNoneOrIt new
 own_table [] old new own leads was = subst IsNoneOrIt (sym leads) was
 own_table (sitting ∷ sittings) old new own leads was =
-    let mid = own_do sitting.answered old leads.1.0 own.0.answered leads.1.1 was in
-    let left = own_in_doubt sitting.in_doubt leads.1.0 leads.1.2.0 own.0.in_doubt leads.1.2.1 mid in
-    own_table sittings leads.1.2.0 new own.1 leads.1.2.2 left
+    let mid = own_do sitting.answered old sitting.reached own.0.answered leads.1.0 was in
+    let left = own_in_doubt sitting.in_doubt sitting.reached leads.1.1.0 own.0.in_doubt leads.1.1.1 mid in
+    own_table sittings leads.1.1.0 new own.1 leads.1.1.2 left
 
 abbrev zeros : List ℕ
 zeros = replicate 512 0

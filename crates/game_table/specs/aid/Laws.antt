@@ -10,7 +10,7 @@ use Rattle.position_pack.specs.declared.kind.PackingKind.{PackingKind}
 use Rattle.position_pack.specs.Shape.{shape_of}
 use Rattle.position_pack.proofs.ShapeLemmas.{fits}
 use Rattle.position_pack.proofs.PackingLemmas.{as_many}
-use Rattle.retrograde.specs.Graph.{IsReachable, at_start, by_move}
+use Rattle.retrograde.specs.Graph.{Graph, IsReachable, at_start, by_move}
 use Rattle.retrograde.specs.Stored.{Stored, loaded}
 use Rattle.retrograde.specs.Sound.{IsLocallySound}
 use Rattle.retrograde.proofs.Sound.{sound_right}
@@ -20,6 +20,8 @@ use Rattle.legal_moves.specs.Sources.{IsPositionBytes, IsWideAt, graph_of}
 use Rattle.legal_moves.proofs.CompiledLemmas.{start_position}
 use Rattle.table.specs.Fitting.{FitsTogether}
 use Rattle.game_table.specs.Tables.{ArePositions, packed_length}
+use Rattle.game_table.specs.Work.{AreDone}
+use Rattle.game_table.specs.aid.OneTable.{one_by_asking}
 use Rattle.rbg_game.specs.declared.limits.TheConstants.{MAX_TEXT_BYTES}
 
 -- a text that reads to a game has at most 65,536 bytes
@@ -56,3 +58,8 @@ sound_tables_fit kind goal game stored start sound =
 pub a_first_table_is_sound : (kind : PackingKind) (goal : Option ℕ) (game : Game)
     → IsLocallySound (graph_of kind goal game) (IsWideAt kind game) (loaded (graph_of kind goal game).start)
 a_first_table_is_sound kind goal game = loaded_sound (graph_of kind goal game) (IsWideAt kind game)
+
+-- work leads from a table to one
+pub work_leads_to_one_table : (graph : Graph (List ℕ)) (IsWide : List ℕ → Type 0) (units n m : ℕ) (old a b : Stored (List ℕ))
+    → AreDone graph IsWide units old n a → AreDone graph IsWide units old m b → (n ≡ m) × (a ≡ b)
+work_leads_to_one_table graph IsWide units n m old a b one other = one_by_asking graph units n m old a b one.by_units one.all other.by_units other.all

@@ -10,7 +10,8 @@ use Rattle.tree_file.specs.Older.{IsOlderTable}
 use Rattle.recover.specs.Migrating.{AreLayouts}
 
 -- a slot of layout 1 says so
-says_first : (root : List ℕ) (pages : ℕ) (kept : Option Kept) (bytes : ℕ → List ℕ) → KeepsTable root pages kept bytes → layout_in root ≡ 1
+pub says_first : (root : List ℕ) (pages : ℕ) (kept : Option Kept) (bytes : ℕ → List ℕ)
+    → KeepsTable root pages kept bytes → layout_in root ≡ 1
 says_first root pages None bytes keeps = keeps.layout
 says_first root pages (Some kept) bytes keeps = keeps.layout
 

@@ -30,7 +30,7 @@ module _ (kind : PackingKind) (goal : Option ℕ) (game : Game) (sound : IsSound
       → IsAt kind game (packed_by kind (shape_of game) next) next
   next_bytes x at next here leads_to = at_bytes kind game next (position_of game at next sound here.position_is leads_to)
 
-  step_down : (x y : List ℕ) (at : Position) → IsAt kind game x at → (graph_of kind goal game).Successor x y
+  pub step_down : (x y : List ℕ) (at : Position) → IsAt kind game x at → (graph_of kind goal game).Successor x y
       → (next : Position) × IsAt kind game y next × IsSuccessor game at next
   step_down x y at here (before, next, from, to, leads_to) =
       (next, to, subst (λ (p : Position). IsSuccessor game p next) (one_position kind game sound x at before here from) leads_to)

@@ -1,41 +1,49 @@
 -- The table in brief of what is kept: what it tells is so, and what a command does is told.
-use Rattle.std.specs.Prelude.{◌≡◌, ℕ, zero, suc, ◌+◌, ◌^◌, List, [], ◌∷◌, ◌++◌, length, Option, None, Some, slice_get}
+use Rattle.std.specs.Prelude.{◌≡◌, ℕ, zero, suc, ◌+◌, ◌-◌, ◌^◌, min, List, [], ◌∷◌, ◌++◌, length, Option, None, Some, slice_get}
 use Rattle.std.proofs.Common.{refl, sym, subst, ◌∙◌, ap, inl, inr}
 use Rattle.std.proofs.lemmas.Option.{same_Some}
 use Rattle.rbg_game.specs.Games.{Game}
+use Rattle.rbg_game.specs.Sound.{IsSoundGame}
 use Rattle.rbg_game.specs.declared.position.Position.{Position}
+use Rattle.rbg_game.specs.declared.roles.Player.{Player}
 use Rattle.rbg_text.specs.Token.{Text}
 use Rattle.rbg_read.specs.Reading.{Reads, reads}
 use Rattle.rbg_read.proofs.OneReading.{one_game, one_meaning}
 use Rattle.rbg_read.proofs.SoundGames.{read_sound}
 use Rattle.position_pack.specs.declared.kind.PackingKind.{PackingKind}
 use Rattle.position_pack.specs.declared.kind.PackingKind.TheVariants.{Bits}
-use Rattle.legal_moves.specs.Moves.{start_of}
+use Rattle.legal_moves.specs.Moves.{IsSuccessor, start_of}
 use Rattle.legal_moves.specs.Sources.{IsAt, IsPositionBytes, graph_of}
 use Rattle.legal_moves.proofs.SourceLemmas.{one_position}
 use Rattle.retrograde.specs.Sound.{IsLocallySound}
 use Rattle.retrograde.specs.Stored.{Stored, view_of, count_below, loaded as just_loaded}
 use Rattle.retrograde.specs.declared.records.Counts.{Counts}
+use Rattle.retrograde.specs.Changes.{counts_of}
 use Rattle.retrograde.specs.Successors.{packed_cmp}
 use Rattle.retrograde.specs.Units.{processed_in_view}
 use Rattle.retrograde.specs.View.{HasNumber, IsFinished}
-use Rattle.retrograde.proofs.Units.{grows_from, settled_stays}
+use Rattle.retrograde.proofs.Units.{grows_from}
 use Rattle.game_table.specs.aid.Laws.{starts_are_positions, sound_tables_fit, a_first_table_is_sound}
 use Rattle.game_table.specs.Work.{AreDone}
 use Rattle.game_table.specs.Texts.{IsText}
 use Rattle.best_line.specs.declared.answers.Value.{Value}
 use Rattle.best_line.specs.declared.answers.Value.TheVariants.{Won, Drawn as NobodyWins, Open}
-use Rattle.best_line.specs.Values.{IsValue}
+use Rattle.best_line.specs.Lines.{IsBestStep, IsBestLine}
+use Rattle.best_line.specs.declared.answers.Row.{Row}
+use Rattle.best_line.specs.Values.{IsComplete, IsValue}
+use Rattle.best_line.proofs.FinishLemmas.{complete_finished, finished_complete}
 use Rattle.game_file.specs.Kept.{Kept}
 use Rattle.solver.specs.Held.{IsSound, graph_in, wide_in}
 use Rattle.solver.specs.Machine.{Command, load, work, Does, Loads, WorksOnTable}
 use Rattle.solver.specs.declared.replies.Reply.{Reply}
 use Rattle.solver.specs.declared.replies.Reply.TheVariants.{Loaded, Worked, Refused}
-use Rattle.solver.specs.Queries.{OfKept, HasValueAt, HasText}
+use Rattle.solver.specs.Queries.{OfKept, HasLine, HasRows, HasValueAt, HasText}
 use Rattle.solver.specs.aid.Laws.{a_sound_table_is_right, what_is_settled_is_won, finished_is_all, finished_leaves_the_drawn}
 use Rattle.recover.specs.Brief.{TextSays, BriefTable, IsTrueIn, IsTrueOfItsGame, BriefAnswer, loaded, worked, refused}
-use Rattle.recover.specs.Brief.{IsJustLoaded, GoesOnBy, Makes, units_so_far, TellsValue, TellsText}
-use Rattle.recover.specs.aid.Plays.{won_down, drawn_same, reached_up, reached_down}
+use Rattle.recover.specs.Brief.{IsJustLoaded, GoesOnBy, Makes, units_so_far, TellsValue, TellsText, TellsRows, TellsCounts, IsMoveIn, IsLineIn, TellsLine}
+use Rattle.recover.specs.Brief.{Told, the_value, the_text, the_line, IsTold, IsForGood}
+use Rattle.recover.specs.aid.Finished.{settled_at, same_known, same_expanded, same_processed, same_value}
+use Rattle.recover.specs.aid.Plays.{step_down, won_down, drawn_same, reached_up, reached_down}
 
 -- ---- the positions of bytes
 
@@ -96,6 +104,58 @@ brief_of kept sound = record {
 abbrev pub table_of : (kept : Option Kept) → IsSound kept → Option BriefTable
 table_of None sound = None
 table_of (Some kept) sound = Some (brief_of kept sound)
+
+-- ---- one table is told
+
+-- positions are those of their bytes, however that is known
+one_list : (kind : PackingKind) (game : Game) → IsSoundGame game → (xs : List (List ℕ)) (are so : AreBytes kind game xs)
+    → positions_of kind game xs are ≡ positions_of kind game xs so
+unfolding positions_of
+one_list kind game sound [] are so = refl
+one_list kind game sound (x ∷ xs) are so = λ i.
+    one_position kind game sound x (so zero x refl).0 (are zero x refl).0 (so zero x refl).1 (are zero x refl).1 i
+    ∷ one_list kind game sound xs (λ j y at. are (suc j) y at) (λ j y at. so (suc j) y at) i
+
+-- nor on how the list is written
+moved_list : (kind : PackingKind) (game : Game) → IsSoundGame game → (xs ys : List (List ℕ)) → ys ≡ xs
+    → (are : AreBytes kind game xs) (so : AreBytes kind game ys)
+    → positions_of kind game ys so ≡ positions_of kind game xs are
+moved_list kind game sound xs ys same are so =
+    subst (λ (zs : List (List ℕ)). (these : AreBytes kind game zs) → positions_of kind game zs these ≡ positions_of kind game xs are) (sym same)
+    (λ these. one_list kind game sound xs these are) so
+
+-- a sound table tells one table, however it is known to be sound
+one_of_game : (kept : Kept) (game : Game) (is_read : Reads kept.text game) (sound : IsLocallySound (graph_in game kept) (wide_in game kept) kept.table)
+    (r : Reads kept.text game) (s : IsLocallySound (graph_in game kept) (wide_in game kept) kept.table)
+    → brief_of kept (game, is_read, sound) ≡ brief_of kept (game, r, s)
+unfolding brief_of
+one_of_game kept game is_read sound r s = λ i. record {
+  text = kept.text;
+  goal = kept.goal;
+  view = record {
+    known = one_list kept.packing game (read_sound kept.text game is_read) kept.table.positions
+        (are_positions kept (game, is_read, sound)) (are_positions kept (game, r, s)) i;
+    expanded = (view_of kept.table).expanded;
+    processed = (view_of kept.table).processed;
+    value = (view_of kept.table).value;
+  };
+}
+
+one_brief : (kept : Kept) (one other : IsSound (Some kept)) → brief_of kept one ≡ brief_of kept other
+one_brief kept (game, is_read, sound) (other, also, too) =
+    subst (λ (g : Game). (r : Reads kept.text g) (s : IsLocallySound (graph_in g kept) (wide_in g kept) kept.table)
+    → brief_of kept (game, is_read, sound) ≡ brief_of kept (g, r, s))
+    (one_game kept.text game other is_read also) (one_of_game kept game is_read sound) also too
+
+-- what is kept is told by this table
+abbrev pub IsToldBy : Option Kept → Option BriefTable → Type 0
+IsToldBy kept table = (sound : IsSound kept) × (table ≡ table_of kept sound)
+
+-- and by no other
+pub told_by_one : (kept : Option Kept) (one other : Option BriefTable) → IsToldBy kept one → IsToldBy kept other
+    → one ≡ other
+told_by_one None one other (sound, is) (too, so) = is ∙ sym so
+told_by_one (Some kept) one other (sound, is) (too, so) = is ∙ ap (λ t. Some t) (one_brief kept sound too) ∙ sym so
 
 module _ (kept : Kept) (sound : IsSound (Some kept)) where
   number_down : (i : ℕ) (x : List ℕ) → HasNumber (view_of kept.table) i x
@@ -254,6 +314,31 @@ module _ (units done : ℕ) (was : Kept) (stored : Stored (List ℕ)) (sound : I
       stored.positions are.works.grows in
       subst (λ (xs : List (List ℕ)). slice_get xs i ≡ Some x) (sym is) (get_before was.table.positions rest i x number)
 
+  settled_later : (i : ℕ) (w : Player) (n : ℕ) → (view_of was.table).value i ≡ Some (w, n)
+      → (view_of stored).value i ≡ Some (w, n)
+  settled_later = settled_at (graph_in sound.0 was) (wide_in sound.0 was) (2 ^ 24) (view_of was.table) (view_of stored) done are.works number_later
+
+  -- a finished table stays as it is
+  stays_finished : IsFinished (view_of was.table) → brief_of (with_table was stored) now_sound ≡ brief_of was sound
+  unfolding with_table now_sound brief_of
+  stays_finished finished =
+      let graph = graph_in sound.0 was in
+      let wide = wide_in sound.0 was in
+      let old = view_of was.table in
+      let new = view_of stored in
+      λ i. record {
+        text = was.text;
+        goal = was.goal;
+        view = record {
+          known = moved_list was.packing sound.0 (read_sound was.text sound.0 sound.1) was.table.positions stored.positions
+              (same_known graph wide (2 ^ 24) old new done are.works finished) (are_positions was sound)
+              (are_positions (with_table was stored) now_sound) i;
+          expanded = same_expanded graph wide (2 ^ 24) old new done are.works finished i;
+          processed = λ (j : ℕ). same_processed graph wide (2 ^ 24) old new done are.works finished j i;
+          value = λ (j : ℕ). same_value graph wide (2 ^ 24) old new done are.works finished j i;
+        };
+      }
+
   -- a position with these bytes has the number that the bytes have
   told_later : (i : ℕ) (x : List ℕ) (at : Position) → HasNumber (view_of stored) i x → IsAt was.packing sound.0 x at
       → HasNumber (brief_of (with_table was stored) now_sound).view i at
@@ -269,12 +354,8 @@ module _ (units done : ℕ) (was : Kept) (stored : Stored (List ℕ)) (sound : I
     text_is = refl;
     goal_is = refl;
     known = λ i at number. let (x, there, here) = number_up was sound i at number in told_later i x at (number_later i x there) here;
-    settled = λ at w n (i, number, is).
-        let (x, there, here) = number_up was sound i at number in
-        let (j, later, value) =
-        settled_stays packed_cmp (graph_in sound.0 was) (wide_in sound.0 was) (2 ^ 24) (view_of was.table) (view_of stored) done are.works
-        x w n (i, there, is) in
-        (j, told_later j x at later here, value);
+    settled = settled_later;
+    finished = λ finished. stays_finished (finished_up was sound finished);
     units = so_far (with_table was stored) now_sound ∙ are.works.units ∙ ap (λ (n : ℕ). n + done) (sym (so_far was sound));
     all = elim are.all [ inl same ↦ inl same | inr (fewer, finished) ↦ inr (fewer, finished_down (with_table was stored) now_sound finished) ];
   }
@@ -319,10 +400,6 @@ does_so (Refused fault) command old new same sound = stays old new same sound
 
 -- ---- what is answered of the table
 
--- what is kept is told by this table
-abbrev pub IsToldBy : Option Kept → Option BriefTable → Type 0
-IsToldBy kept table = (sound : IsSound kept) × (table ≡ table_of kept sound)
-
 value_of_brief : (kept : Kept) (sound : IsSound (Some kept)) (number : ℕ) (value : Value) → IsValue (view_of kept.table) number value
     → IsValue (brief_of kept sound).view number value
 unfolding brief_of
@@ -357,3 +434,131 @@ text_told (Some kept) table (sound, is) number text has =
           subst (λ (p : Position). HasNumber (brief_of kept sound).view number p) one told,
           is_text.spelled.text_is,
         )
+
+module _ (kept : Kept) (sound : IsSound (Some kept)) where
+  -- a best step is a move
+  step_told : (i : ℕ) (w : Player) (n j : ℕ) → IsBestStep (graph_in sound.0 kept) (view_of kept.table) i w n j
+      → IsMoveIn sound.0 (brief_of kept sound).view i j
+  step_told i w n j step =
+      let is_sound = read_sound kept.text sound.0 sound.1 in
+      let (from, told, here) = number_down kept sound i step.from step.from_number in
+      let (to, there, at) = number_down kept sound j step.to step.to_number in
+      let (next, same, leads) = step_down kept.packing kept.goal sound.0 is_sound step.from step.to from here step.move in
+      record {
+        from = from;
+        to = to;
+        from_number = told;
+        to_number = there;
+        leads = subst (λ (p : Position). IsSuccessor sound.0 from p) (one_position kept.packing sound.0 is_sound step.to to next at same) leads;
+      }
+
+  line_is : (w : Player) (n : ℕ) (numbers : List ℕ)
+      → IsBestLine (graph_in sound.0 kept) (view_of kept.table) w n numbers
+      → IsLineIn sound.0 (brief_of kept sound).view w n numbers
+  unfolding brief_of
+  line_is w zero [] line = line
+  line_is w zero (i ∷ []) line = line
+  line_is w zero (i ∷ j ∷ rest) line = line
+  line_is w (suc n) [] line = line
+  line_is w (suc n) (i ∷ []) line = line
+  line_is w (suc n) (i ∷ j ∷ rest) (value, step, line) = (value, step_told i w n j step, line_is w n (j ∷ rest) line)
+
+-- so is a best line
+pub line_told : (kept : Option Kept) (table : Option BriefTable) → IsToldBy kept table → (number : ℕ) (numbers : List ℕ)
+    → OfKept (HasLine number numbers) kept → TellsLine number numbers table
+unfolding brief_of
+line_told None table told number numbers has = absurd has
+line_told (Some kept) table (sound, is) number numbers has =
+    let best = has sound.0 sound.1 in
+    subst (λ (t : Option BriefTable). TellsLine number numbers t) (sym is) (
+      sound.0,
+      best.winner,
+      best.distance,
+      says_so kept sound,
+      best.begins,
+      line_is kept sound best.winner best.distance numbers best.line,
+    )
+
+-- so are rows
+pub rows_told : (kept : Option Kept) (table : Option BriefTable) → IsToldBy kept table
+    → (from count : ℕ) (rows : List Row)
+    → OfKept (HasRows from count rows) kept → TellsRows from count rows table
+unfolding brief_of
+rows_told None table told from count rows has = absurd has
+rows_told (Some kept) table (sound, is) from count rows has =
+    subst (λ (t : Option BriefTable). TellsRows from count rows t) (sym is) (record {
+      all = has.rows_are.all ∙ ap (λ (n : ℕ). min count (n - from)) (sym (same_length kept sound));
+      numbers = has.rows_are.numbers;
+      values = λ k row at. value_of_brief kept sound row.number row.value (has.rows_are.values k row at);
+    })
+
+-- so are counts
+pub counts_told : (kept : Option Kept) (table : Option BriefTable) → IsToldBy kept table
+    → (counts : Counts) (here : Kept) → kept ≡ Some here
+    → counts ≡ counts_of here.table → TellsCounts counts table
+unfolding brief_of
+counts_told None table told counts here none are = absurd cc
+counts_told (Some kept) table (sound, is) counts here same are =
+    let all : counts ≡ counts_of kept.table = are ∙ ap (λ (k : Kept). counts_of k.table) (sym (same_Some kept here same)) in
+    let fits = sound.2.table in
+    subst (λ (t : Option BriefTable). TellsCounts counts t) (sym is) (
+      ap (λ (c : Counts). c.known) all ∙ sym (same_length kept sound),
+      ap (λ (c : Counts). c.expanded) all,
+      (
+        λ complete. finished_down kept sound (complete_finished kept.table fits (subst IsComplete all complete)),
+        λ finished. subst IsComplete (sym all) (finished_complete kept.table fits (finished_up kept sound finished)),
+      ),
+    )
+
+-- ---- what is told again
+
+-- nothing is told where no game is loaded
+nothing_told : (one : Told) → IsTold one None → ⊥
+nothing_told (the_value number value) told = told
+nothing_told (the_text number text) told = told
+nothing_told (the_line number numbers) told = told
+
+line_again : (asked done : ℕ) (old new : BriefTable) → GoesOnBy asked done old new
+    → (game : Game) (w : Player) (n : ℕ) (numbers : List ℕ)
+    → IsLineIn game old.view w n numbers → IsLineIn game new.view w n numbers
+line_again asked done old new goes game w zero [] line = line
+line_again asked done old new goes game w zero (i ∷ []) line = goes.settled i w 0 line
+line_again asked done old new goes game w zero (i ∷ j ∷ rest) line = line
+line_again asked done old new goes game w (suc n) [] line = line
+line_again asked done old new goes game w (suc n) (i ∷ []) line = line
+line_again asked done old new goes game w (suc n) (i ∷ j ∷ rest) (value, step, line) = (
+  goes.settled i w (suc n) value,
+  record {
+    from = step.from;
+    to = step.to;
+    from_number = goes.known i step.from step.from_number;
+    to_number = goes.known j step.to step.to_number;
+    leads = step.leads;
+  },
+  line_again asked done old new goes game w n (j ∷ rest) line,
+)
+
+worked_again : (asked done : ℕ) (old new : BriefTable) → GoesOnBy asked done old new → (one : Told) → IsForGood one
+    → IsTold one (Some old)
+    → IsTold one (Some new)
+worked_again asked done old new goes (the_value number (Won w n)) good is = goes.settled number w n is
+worked_again asked done old new goes (the_value number NobodyWins) good (none, finished) =
+    subst (λ (t : BriefTable). (t.view.value number ≡ None) × IsFinished t.view) (sym (goes.finished finished)) (none, finished)
+worked_again asked done old new goes (the_value number Open) good is = absurd good
+worked_again asked done old new goes (the_text number text) good (game, at, says, number_is, text_is) =
+    (game, at, subst (λ (t : Text). TextSays t game) (sym goes.text_is) says, goes.known number at number_is, text_is)
+worked_again asked done old new goes (the_line number numbers) good (game, w, n, says, begins, line) =
+    (game, w, n, subst (λ (t : Text). TextSays t game) (sym goes.text_is) says, begins, line_again asked done old new goes game w n numbers line)
+
+-- whatever a command makes of a table tells what that told for good
+pub told_again : (answer : BriefAnswer) (command : Command) (old new : Option BriefTable)
+    → Makes answer command old new → (one : Told) → IsForGood one
+    → IsTold one old → IsTold one new
+told_again loaded (load text goal) old new makes one good told =
+    absurd (nothing_told one (subst (λ (t : Option BriefTable). IsTold one t) makes.none told))
+told_again loaded (work asked) old new makes one good told = absurd makes
+told_again (worked done) (load text goal) old new makes one good told = absurd makes
+told_again (worked done) (work asked) None new makes one good told = absurd makes
+told_again (worked done) (work asked) (Some old) None makes one good told = absurd makes
+told_again (worked done) (work asked) (Some old) (Some new) makes one good told = worked_again asked done old new makes one good told
+told_again refused command old new same one good told = subst (λ (t : Option BriefTable). IsTold one t) (sym same) told

@@ -1,6 +1,7 @@
 use Rattle.std.proofs.Common.{◌≡◌, ◌↔◌, ◌^◌, ◌≤◌}
 use Rattle.retrograde.specs.Stored.{IsTable}
 use Rattle.retrograde.specs.Sound.{IsLocallySound}
+use Rattle.game_table.specs.Units.{AreUnits}
 use Rattle.game_table.specs.Work.{Works}
 use Rattle.game_table.proofs.steps.work.Given as goal
 
@@ -14,6 +15,8 @@ invariant-loop-done g l = record {
       → IsLocallySound (g.M.GameGraph.graph l.fn.source) (g.M.GameGraph.is_wide l.fn.source) (g.T.Table.stored l.table);
   works : g.T.Table.is_honest l.fn.table → IsLocallySound (g.M.GameGraph.graph l.fn.source) (g.M.GameGraph.is_wide l.fn.source) (g.T.Table.stored l.fn.table)
       → Works (g.M.GameGraph.graph l.fn.source) (g.M.GameGraph.is_wide l.fn.source) (g.T.Table.stored l.fn.table) l.done (g.T.Table.stored l.table);
+  by_units : g.T.Table.is_honest l.fn.table → IsLocallySound (g.M.GameGraph.graph l.fn.source) (g.M.GameGraph.is_wide l.fn.source) (g.T.Table.stored l.fn.table)
+      → AreUnits (g.M.GameGraph.graph l.fn.source) (g.T.Table.stored l.fn.table) l.done (g.T.Table.stored l.table);
   fits : g.T.Table.is_honest l.fn.table → IsTable (g.T.Table.stored l.fn.table) → IsTable (g.T.Table.stored l.table);
   idle : l.done ≡ 0 → l.table ≡ l.fn.table;
 }

@@ -1,7 +1,7 @@
 use Rattle.std.proofs.Common.{inl, inr, refl}
 use Rattle.solver.specs.Solvers.{state}
 use Rattle.session.specs.Commands.{grown, made, refused, replied}
-use Rattle.session.proofs.Auditing.{audit_done, or_same}
+use Rattle.session.proofs.Auditing.{audit_done}
 use Rattle.session.proofs.commands.command_on.Goals as goal
 
 pub audited-requires-clause-open : goal.audited-requires-clause-open
@@ -25,13 +25,13 @@ returns-in-Err g c = (
 
 pub returns-in-Ok-open : goal.returns-in-Ok-open
 returns-in-Ok-open g c = (
-  replied c.reply_to-reply.result,
+  replied c.answer-reply.result,
   rw c.in-Load.is (
     state c.in-Ok-open.solver,
-    state c.reply_to-reply.new.solver,
+    state c.answer-reply.new.self,
     c.in-Ok-open.ensures.opened,
     record { disk = c.close-in-Ok-open.ensures.disk; failures = c.close-in-Ok-open.ensures.failures },
-    or_same state c.in-Ok-open.solver c.reply_to-reply.new.solver (c.reply_to-reply.ensures.turn c.in-Ok-open.ensures.ready),
+    c.answer-reply.ensures.turn c.in-Ok-open.ensures.ready,
   ),
   c.said_reply.ensures.refused,
   c.said_reply.ensures.told,

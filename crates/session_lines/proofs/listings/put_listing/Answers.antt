@@ -7,11 +7,23 @@ returns-in-Ok-clause-replied g c = λ ready honest.
     let begun = c.in-Ok.ensures.begun in
     rw c.in-Begin.is
     (replied _ _ c.put_done.result 0 _ c.put_done.ensures.status c.put_done.ensures.line
-    (inl (refl, record { listing = begun.0; behind = begun.1; first = begun.2; of_table = begun.3 ready honest; line_is = refl })))
+    (inl (
+      refl,
+      record {
+        listing = begun.0;
+        behind = begun.1;
+        first = begun.2;
+        of_table = λ kept is. (begun.3 ready honest kept is).0;
+        is_table = λ kept is. (begun.3 ready honest kept is).1;
+        others = c.begin.ensures.all;
+        apart = begun.4;
+        line_is = refl;
+      },
+    )))
 
 pub returns-then-end-clause-replied : goal.returns-then-end-clause-replied
 returns-then-end-clause-replied g c = λ ready honest.
     let ended = c.if-end.ensures.ended (search rules) in
     rw c.in-End.is
     (replied _ _ c.put_done-then-end.result 0 _ c.put_done-then-end.ensures.status c.put_done-then-end.ensures.line
-    (inr (refl, record { listing = ended.0; was = ended.1; ended = ended.2; line_is = refl })))
+    (inr (refl, record { listing = ended.0; was = ended.1; ended = ended.2; others = ended.3; line_is = refl })))

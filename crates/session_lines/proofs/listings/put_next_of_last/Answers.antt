@@ -12,6 +12,7 @@ returns-clause-replied g c = λ ready honest.
       was = c.in-Some.ensures.items;
       is = c.push_reserved.ensures.items;
       same = c.put_next-written.ensures.same;
+      all = λ other table there. g.met.F.Versions.version_lasts other table _ _ honest c.put_next-written.ensures.lasts there;
       told = told;
     }))
     (c.put_next-written.ensures.replied ready honest)

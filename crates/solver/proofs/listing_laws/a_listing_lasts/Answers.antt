@@ -3,4 +3,4 @@ use Rattle.solver.proofs.listing_laws.a_listing_lasts.Goals as goal
 
 pub returns : goal.returns
 returns g c = λ version old new ahead lasts table honest it.
-    (still_honest ahead.goes_on honest, g.met.F.Versions.version_lasts version table old new honest lasts it)
+    (still_honest ahead honest, g.met.F.Versions.version_lasts version table old new honest lasts it)

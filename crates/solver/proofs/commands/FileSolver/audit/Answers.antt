@@ -2,7 +2,7 @@ use Rattle.std.proofs.Common.{ap, subst, Option, Err, rules, refl}
 use Rattle.legal_moves.specs.declared.compiled.Compiled.{Compiled}
 use Rattle.audit.specs.declared.fault.AuditFault.{AuditFault}
 use Rattle.solver.specs.State.{IsSourceOf}
-use Rattle.solver.proofs.Asking.{verdict_found, so_found, wide_found, audit_cause, ok_is, audit_asked}
+use Rattle.solver.proofs.Asking.{verdict_found, so_found, sound_found, wide_found, audit_cause, ok_is, audit_asked}
 use Rattle.solver.proofs.Loading.{same_source}
 use Rattle.solver.proofs.Passing.{passed_on, passed_as, gives_none, gives_not, not_refused}
 use Rattle.solver.proofs.Working.{kept_there}
@@ -111,3 +111,19 @@ returns-in_err-audit-clause-no_game g c = λ is_open none. absurd (not_refused _
 
 pub returns-clause-no_game : goal.returns-clause-no_game
 returns-clause-no_game g c = λ is_open none. absurd (not_refused _ _ (c.in_ok-source.ensures.no_game is_open none))
+
+pub returns-clause-sound : goal.returns-clause-sound
+returns-clause-sound g c = λ ready right honest.
+    let file = c.args.self.now.file in
+    let source = subst (λ (o : Option Compiled). IsSourceOf o (g.F.GameFile.state file).kept) c.in_ok-source.ensures.game ready.1 in
+    let (k, is, made) = kept_there c.in_ok-source.source.now _ source in
+    let stored = g.met.F.GameFile.whole_stored file k ready.0 honest is in
+    rw is
+    (sound_found k _ stored.1 stored.2 _ (g.met.F.Table.counts_are file stored.0) c.in_ok-source.source.now made
+    (λ fits. rw c.moves.ensures.is at c.in_ok-audit.ensures.sound stored.0 fits (ok_is _ _ right)))
+
+pub returns-in_err-source-clause-sound : goal.returns-in_err-source-clause-sound
+returns-in_err-source-clause-sound g c = λ ready right. absurd (gives_not c.from_residual.result _ _ c.from_residual.ensures right)
+
+pub returns-in_err-audit-clause-sound : goal.returns-in_err-audit-clause-sound
+returns-in_err-audit-clause-sound g c = λ ready right. absurd (gives_not c.from_residual-in_err-audit.result _ _ c.from_residual-in_err-audit.ensures right)

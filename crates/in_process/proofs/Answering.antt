@@ -1,0 +1,40 @@
+-- A command that was done is answered.
+use Rattle.std.proofs.Common.{◌≡◌, ◌≢◌, ℕ, ◌<◌, ◌≤◌, List, [], ◌++◌, length, Some, inl, inr, sym, ◌∙◌, ap, subst}
+use Rattle.std.proofs.lemmas.Bool.{cases_lt}
+use Rattle.std.proofs.lemmas.Bool.Decides.{eqb_tells}
+use Rattle.std.specs.Io.KnownBytes.{Appends}
+use Rattle.sector_disk.specs.Disk.{Disk}
+use Rattle.session.specs.Commands.{Came, IsLineOf, IsPrinted}
+use Rattle.in_process.specs.Calls.{IsAnswered, IsDone, bytes_of}
+use Rattle.in_process.specs.Given.{IsGiven, over}
+
+-- it was done and printed, or memory ran out for its line; and what give_table says
+pub answered : {Does : Disk → ℕ → Came → Disk → ℕ → Type 0} {disk : Disk} {before after out given : List ℕ} {count result failures : ℕ}
+    (back : Disk) (now : ℕ) (came : Came) (status : ℕ) {empty items text bytes : List ℕ} → empty ≡ [] → text ≡ items → bytes ≡ bytes_of back
+    → failures ≡ 0 → Does disk failures came back now → IsPrinted (Appends (Some empty) (Some items)) came status
+    → (status ≡ 4 → (result ≡ 5) × (count ≡ 0) × (given ≡ out) × (after ≡ before))
+    → (status ≢ 4 → IsGiven text out given count)
+    → (status ≢ 4 → length text ≤ length out → (result ≡ status) × (after ≡ over bytes before))
+    → (status ≢ 4 → length out < length text → (result ≡ 6) × (after ≡ before))
+    → IsAnswered Does disk before after out given count result
+answered {Does} {disk} {before} {after} {out} {given} {count} {result} back now came status {empty} {items} {text} {bytes}
+    none same shown unfailed does printed no_memory gives fits long = elim (eqb_tells status 4) [
+      | inl four ↦ nothing four.1
+      | inr differs ↦ let other : status ≢ 4 = differs.1 in elim printed [
+        | IsPrinted.told line is_line prints status_is ↦
+            let is_text : line ≡ text = sym (same ∙ prints ∙ ap (λ (xs : List ℕ). xs ++ line) none) in
+            let done : IsDone Does disk text status back = (came, now, subst (λ (n : ℕ). Does disk n came back now) unfailed does, subst (IsLineOf came) is_text is_line, status_is) in
+            elim (cases_lt (length out) (length text)) [
+              | inl less ↦ subst (λ (n : ℕ). IsAnswered Does disk before after out given count n) (sym (long other less).0)
+                  (IsAnswered.too_long back text status done less (gives other).counted ((gives other).too_long less) (long other less).1)
+              | inr enough ↦ subst (λ (n : ℕ). IsAnswered Does disk before after out given count n) (sym (fits other enough).0)
+                  (IsAnswered.done back text status done enough (gives other).counted ((gives other).fits enough)
+                  ((fits other enough).1 ∙ ap (λ (bs : List ℕ). over bs before) shown))
+            ]
+        | IsPrinted.untold is ↦ nothing is
+      ]
+    ]
+  where
+    nothing : status ≡ 4 → IsAnswered Does disk before after out given count result
+    nothing is = subst (λ (n : ℕ). IsAnswered Does disk before after out given count n) (sym (no_memory is).0)
+        (IsAnswered.no_memory (no_memory is).1 (no_memory is).2 (no_memory is).3)

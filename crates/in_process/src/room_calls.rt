@@ -1,0 +1,224 @@
+//! A room of tables that stay open, so that a question need not open one anew. Each table has a number in its room, which no other
+//! table gets; a number that was given back is refused.
+ghost use Rattle.std.specs.Prelude.{◌≡◌, ◌≢◌, ◌⊎◌, ◌<◌, ◌≤◌, None, length, slice_set, IfSome, IfNone};
+ghost use Rattle.in_process.specs.Rooms.{table_at, IsOnTable, GivesAnswers, GivesBytes};
+
+use crate::given::{NO_MEMORY, NOT_OPEN, TOO_LONG, give_text};
+use crate::held::HeldTable;
+use crate::loose::LooseBox;
+use crate::places::HeldTables;
+use crate::room::Room;
+use byte_disk::ByteDisk;
+use recover::Solver;
+use session::commands::said_refused;
+use session::line_by_line::Lines;
+use std::alloc::Global;
+use std::mem;
+
+/// Makes a room with no table, and puts its pointer there.
+#[unsafe(no_mangle)]
+pub extern "C" fn rbg_room_new(alloc: Global, room: &mut *mut u8) -> u8 {
+    match Box::new(alloc, HeldTables::none(alloc)) {
+        Ok(tables) => {
+            *room = Box::into_raw(tables) as *mut u8;
+            0
+        }
+        Err(_) => NO_MEMORY,
+    }
+}
+
+/// Gives back a room with all its tables.
+#[unsafe(no_mangle)]
+pub extern "C" fn rbg_room_free(room: Room) {
+    drop(room.into_loose().into_box());
+}
+
+/// Takes the tables out of the room, and leaves none there; nothing where memory ran out.
+fn take_tables(alloc: Global, room: &mut Room) -> Option<Box<HeldTables>>
+    ensures taken { IfSome result (λ tables. tables.value ≡ room.old.tables) }
+    ensures kept { IfNone result (room.new.tables ≡ room.old.tables) }
+{
+    let Ok(none) = Box::new(alloc, HeldTables::none(alloc)) else {
+        return None;
+    };
+    let room = mem::replace(room, Room::of(LooseBox::of(none)));
+    Some(room.into_loose().into_box())
+}
+
+/// Puts the tables into the room again.
+fn put_tables(room: &mut Room, tables: Box<HeldTables>)
+    ensures { room.new.tables ≡ tables.value }
+{
+    let none = mem::replace(room, Room::of(LooseBox::of(tables)));
+    drop(none.into_loose().into_box());
+}
+
+/// Opens the table of these bytes, which are copied, and tells its number; or answers `refused` and a code.
+#[unsafe(no_mangle)]
+pub extern "C" fn rbg_open(
+    alloc: Global,
+    room: &mut Room,
+    table: &[u8],
+    number: &mut u64,
+    out: &mut [u8],
+    count: &mut usize,
+) -> u8
+    ensures refused { result ≢ 0 → (room.new.tables.places.items ≡ room.old.tables.places.items) × (number.new ≡ number.old) }
+{
+    *count = 0;
+    let Some(mut tables) = take_tables(alloc, room) else {
+        return NO_MEMORY;
+    };
+    let status = open_in(alloc, &mut tables, table, number, out, count);
+    put_tables(room, tables);
+    status
+}
+
+/// The same among these tables.
+fn open_in(
+    alloc: Global,
+    tables: &mut HeldTables,
+    table: &[u8],
+    number: &mut u64,
+    out: &mut [u8],
+    count: &mut usize,
+) -> u8
+    ensures refused { result ≢ 0 → (tables.new.places.items ≡ tables.old.places.items) × (number.new ≡ number.old) }
+{
+    let Ok(disk) = ByteDisk::from_bytes(alloc, table) else {
+        return NO_MEMORY;
+    };
+    let solver = match Solver::<ByteDisk>::open(alloc, disk) {
+        Ok(solver) => solver,
+        Err(refused) => {
+            let mut line = Vec::new(alloc);
+            let status = said_refused(&mut line, refused.fault).status;
+            give_text(&line, out, count);
+            return status;
+        }
+    };
+    match tables.add(alloc, HeldTable::new(alloc, solver)) {
+        Ok(added) => {
+            *number = added;
+            0
+        }
+        Err(_) => NO_MEMORY,
+    }
+}
+
+/// Answers these lines on the table of this number, as `rbgsolve session` does, or `rbgsolve look` where it only looks. The answers
+/// wait, behind those that waited before, until `rbg_answers` gives them; how many bytes they are is told.
+#[unsafe(no_mangle)]
+pub extern "C" fn rbg_lines(
+    alloc: Global,
+    room: &mut Room,
+    number: u64,
+    looks: bool,
+    lines: &[u8],
+    count: &mut usize,
+) -> u8
+    ensures { IsOnTable (λ was is status. count.new ≡ length is.answers.items) room.old.tables room.new.tables number result }
+{
+    *count = 0;
+    let Some(mut tables) = take_tables(alloc, room) else {
+        return NO_MEMORY;
+    };
+    let manner = if looks { Lines::Look } else { Lines::Session };
+    let status = match tables.take(number) {
+        Some(mut table) => {
+            let status = table.answer(alloc, manner, lines);
+            *count = table.waiting();
+            tables.put(number, table);
+            status
+        }
+        None => NOT_OPEN,
+    };
+    put_tables(room, tables);
+    status
+}
+
+/// Gives the answers that wait, and none waits then; or tells how many bytes they are, where they do not fit.
+#[unsafe(no_mangle)]
+pub extern "C" fn rbg_answers(
+    alloc: Global,
+    room: &mut Room,
+    number: u64,
+    out: &mut [u8],
+    count: &mut usize,
+) -> u8
+    ensures { IsOnTable (GivesAnswers out.old out.new count.new) room.old.tables room.new.tables number result }
+{
+    *count = 0;
+    let Some(mut tables) = take_tables(alloc, room) else {
+        return NO_MEMORY;
+    };
+    let status = match tables.take(number) {
+        Some(mut table) => {
+            table.give_answers(out, count);
+            tables.put(number, table);
+            status_of_given(*count, out)
+        }
+        None => NOT_OPEN,
+    };
+    put_tables(room, tables);
+    status
+}
+
+/// Gives the bytes of the table, or tells how many they are, where they do not fit.
+#[unsafe(no_mangle)]
+pub extern "C" fn rbg_bytes(
+    alloc: Global,
+    room: &mut Room,
+    number: u64,
+    out: &mut [u8],
+    count: &mut usize,
+) -> u8
+    ensures { IsOnTable (GivesBytes out.old out.new count.new) room.old.tables room.new.tables number result }
+{
+    *count = 0;
+    let Some(mut tables) = take_tables(alloc, room) else {
+        return NO_MEMORY;
+    };
+    let status = match tables.take(number) {
+        Some(mut table) => {
+            table.give_bytes(alloc, out, count);
+            tables.put(number, table);
+            status_of_given(*count, out)
+        }
+        None => NOT_OPEN,
+    };
+    put_tables(room, tables);
+    status
+}
+
+/// The status where so many bytes were to be given.
+fn status_of_given(count: usize, out: &[u8]) -> u8
+    ensures given { count ≤ length out.now → result ≡ 0 }
+    ensures too_long { length out.now < count → result ≡ 6 }
+{
+    if count <= out.len() { 0 } else { TOO_LONG }
+}
+
+/// Gives the number of the table back, with what waits.
+#[unsafe(no_mangle)]
+pub extern "C" fn rbg_close(alloc: Global, room: &mut Room, number: u64) -> u8
+    ensures closed { result ≡ 0 → (table_at room.old.tables number ≢ None)
+        × (room.new.tables.places.items ≡ slice_set room.old.tables.places.items number None) }
+    ensures not_open { result ≡ 7 → (table_at room.old.tables number ≡ None)
+        × (room.new.tables.places.items ≡ room.old.tables.places.items) }
+    ensures no_memory { result ≡ 5 → room.new.tables ≡ room.old.tables }
+    ensures one { (result ≡ 0) ⊎ ((result ≡ 7) ⊎ (result ≡ 5)) }
+{
+    let Some(mut tables) = take_tables(alloc, room) else {
+        return NO_MEMORY;
+    };
+    let status = match tables.take(number) {
+        Some(table) => {
+            drop(table);
+            0
+        }
+        None => NOT_OPEN,
+    };
+    put_tables(room, tables);
+    status
+}

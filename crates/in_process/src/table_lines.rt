@@ -1,0 +1,59 @@
+//! Lines on a table whose bytes the caller keeps.
+
+use crate::given::NO_MEMORY;
+use crate::table_bytes::give_table;
+use byte_disk::ByteDisk;
+use recover::TableFile;
+use session::line_by_line::{Lines, lines_over};
+use std::alloc::Global;
+use std::io;
+
+/// Answers these lines on the table, as `rbgsolve session` does.
+#[unsafe(no_mangle)]
+pub extern "C" fn rbg_session(
+    alloc: Global,
+    table: &mut [u8],
+    lines: &[u8],
+    out: &mut [u8],
+    count: &mut usize,
+) -> u8 {
+    answered(alloc, Lines::Session, table, lines, out, count)
+}
+
+/// The same of lines that only look, as `rbgsolve look` does.
+#[unsafe(no_mangle)]
+pub extern "C" fn rbg_look(
+    alloc: Global,
+    table: &mut [u8],
+    lines: &[u8],
+    out: &mut [u8],
+    count: &mut usize,
+) -> u8 {
+    answered(alloc, Lines::Look, table, lines, out, count)
+}
+
+/// Answers lines on the table.
+fn answered(
+    alloc: Global,
+    manner: Lines,
+    table: &mut [u8],
+    lines: &[u8],
+    out: &mut [u8],
+    count: &mut usize,
+) -> u8 {
+    let Ok(disk) = ByteDisk::from_bytes(alloc, table) else {
+        *count = 0;
+        return NO_MEMORY;
+    };
+    let mut text = Vec::new(alloc);
+    let mut input = lines;
+    let (status, disk) = lines_over::<TableFile<ByteDisk>, _, _, _>(
+        alloc,
+        disk,
+        manner,
+        &mut input,
+        &mut text,
+        &mut io::sink(),
+    );
+    give_table(&text, disk.bytes(), status, table, out, count)
+}

@@ -1,0 +1,17 @@
+use Rattle.solver.specs.Queries.{LineCause}
+use Rattle.solver.specs.Solvers.{state, IsReady}
+use Rattle.recover.proofs.Calls.{is_question, tells_line}
+use Rattle.recover.proofs.saved.FileSolverSavedTable.line.Goals as goal
+
+pub returns-clause-asked : goal.returns-clause-asked
+returns-clause-asked g c =
+    let state_of = state {F = g.row.F.Denot} {Device = g.row.F-Device.Denot} {file = g.F.GameFile} {table = g.F.Table} {disk = g.F.Device.SectorDisk} in
+    let ready = IsReady {F = g.row.F.Denot} {Device = g.row.F-Device.Denot} {file = g.F.GameFile} {table = g.F.Table} {disk = g.F.Device.SectorDisk} in
+    is_question g.F.GameFile.stores state_of ready c.args.self.now c.line.new.self c.line.result (LineCause c.args.number (state_of c.args.self.now) (state_of c.line.new.self)) c.line.ensures.ready c.line.ensures.asked
+    c.line.ensures.closed (λ it. it) c.line.ensures.cause
+
+pub returns-clause-told : goal.returns-clause-told
+returns-clause-told g c =
+    let state_of = state {F = g.row.F.Denot} {Device = g.row.F-Device.Denot} {file = g.F.GameFile} {table = g.F.Table} {disk = g.F.Device.SectorDisk} in
+    let ready = IsReady {F = g.row.F.Denot} {Device = g.row.F-Device.Denot} {file = g.F.GameFile} {table = g.F.Table} {disk = g.F.Device.SectorDisk} in
+    tells_line state_of ready c.args.self.now c.line.result c.args.number (λ numbers. numbers.items) c.line.ensures.line
