@@ -13,11 +13,11 @@ OUT = ROOT / "library" / "out"
 
 
 def setUpModule():
-    made("library")
+    make("library")
     sys.path.insert(0, str(OUT))
 
 
-def made(tool):
+def make(tool):
     """Makes the library or the module, over the libraries that are built here."""
     if not shutil.which("rt"):
         raise unittest.SkipTest("there is no toolchain")
@@ -177,7 +177,7 @@ class Wasm(Case):
         for tool in ("node", "wasm-opt"):
             if not shutil.which(tool):
                 self.skipTest(f"there is no {tool}")
-        made("wasm")
+        make("wasm")
         self.file("made.mjs", MADE_IN_NODE)
         for name, pages in (("take", 16), ("tictactoe", 1024)):
             with self.subTest(name):
