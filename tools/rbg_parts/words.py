@@ -97,8 +97,13 @@ def pages(word):
 
 
 def fail(status, message):
-    print(f"{NAME}: {message}", file=sys.stderr)
+    say(message)
     sys.exit(status)
+
+
+def say(message):
+    """A line on standard error."""
+    print(f"{NAME}: {message}", file=sys.stderr)
 
 
 def contents(name):
@@ -160,15 +165,15 @@ def built_program():
     return program()
 
 
-def ran(words, **streams):
-    """Exit status and output of a program that is run; what ends this tool, as TERM, ends it too."""
+def ran(words, tell=None, **streams):
+    """Exit status and output of a program that is run; what ends this tool, as TERM, ends it too. `tell` is called once a second meanwhile."""
     before = signal.signal(signal.SIGTERM, lambda *_: sys.exit(128 + signal.SIGTERM))
     try:
         running = subprocess.Popen(words, stdin=subprocess.DEVNULL, **streams)
     except OSError as error:
         fail(2, f"{words[0]}: {error.strerror}")
     try:
-        output, _ = running.communicate()
+        output = finished(running, tell)
     except BaseException:
         running.terminate()
         running.wait()
@@ -176,6 +181,15 @@ def ran(words, **streams):
     finally:
         signal.signal(signal.SIGTERM, before)
     return running.returncode if running.returncode >= 0 else 128 - running.returncode, output
+
+
+def finished(running, tell):
+    """The output of a program that runs to its end."""
+    while True:
+        try:
+            return running.communicate(timeout=1 if tell else None)[0]
+        except subprocess.TimeoutExpired:
+            tell()
 
 
 def table(name):

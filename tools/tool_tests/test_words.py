@@ -4,7 +4,8 @@ import subprocess
 
 from .common import ROOT, Case
 
-TOOLS = ("board", "expand", "export", "grid", "lint", "moves", "new_table", "play", "report", "second_opinion", "size", "solve", "stats", "trust")
+TOOLS = ("board", "expand", "export", "grid", "lint", "moves", "new_table", "play", "publish", "report", "second_opinion", "shrink", "size", "solve")
+TOOLS += ("stats", "trust")
 
 
 class Words(Case):
