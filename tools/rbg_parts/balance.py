@@ -5,7 +5,7 @@ from array import array
 
 import rbgtable
 
-from . import fields
+from . import fields, progress
 
 DRAWN, OPEN = 0, 3
 # a main line that nobody wins is followed so far
@@ -23,6 +23,7 @@ class Balance:
         # 0 for drawn, 1 for open, else the winner from 0 and twice the distance, and two more
         self.codes = array("Q")
         sides, codes = {}, {}
+        reading = progress.Told("positions", table.counts.known)
         for number, reply in enumerate(table.listed()):
             told = reply.partition(" ")[2]
             if told not in sides:
@@ -35,6 +36,8 @@ class Balance:
             self.counts[value] += 1
             self.winners.append(side)
             self.codes.append(codes[told])
+            if number % 4096 == 0:
+                reading.tell(number)
 
     def number(self, holds):
         return sum(count for value, count in self.counts.items() if holds(value))

@@ -18,7 +18,7 @@ class Told:
         if now < self.last + 1:
             return
         self.last = now
-        if done is None or not self.whole:
+        if done is None or not self.whole or not done:
             far = f"{now - self.begun:.0f} s so far" + (f", of {done:,}" if done is not None else "")
         else:
             left = (now - self.begun) * (self.whole - done) / max(done, 1)

@@ -96,6 +96,13 @@ def pages(word):
     return int(match[1]) * {"": 1, "K": 2**10, "M": 2**20, "G": 2**30}[match[2]] // (4096 if match[2] else 1)
 
 
+def seconds(word):
+    """How long something may take."""
+    if not re.fullmatch(r"[0-9]{1,5}([.][0-9]{1,6})?|[.][0-9]{1,6}", word) or not 0 < float(word) <= 86400:
+        raise argparse.ArgumentTypeError(f"the number behind --seconds is over 0, and 86,400 at most: {word}")
+    return float(word)
+
+
 def fail(status, message):
     say(message)
     sys.exit(status)
@@ -264,7 +271,7 @@ def run(main):
     except TooWide:
         fail(1, "a search for moves reaches more than 65,536 configurations (S4)")
     except TooLong:
-        fail(1, "a search for moves takes too long")
+        fail(1, "a search for moves takes longer than it may; --seconds gives it more")
     except language.Fault as fault:
         fail(1, f"the table's game is none that the tools can read: {fault.code} {fault.message}")
     except MemoryError:
