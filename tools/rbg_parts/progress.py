@@ -18,8 +18,10 @@ class Told:
         if now < self.last + 1:
             return
         self.last = now
-        if done is None or not self.whole or not done:
-            far = f"{now - self.begun:.0f} s so far" + (f", of {done:,}" if done is not None else "")
+        if done is None:
+            far = f"{now - self.begun:.0f} s so far"
+        elif not self.whole or not done:
+            far = f"{done:,} in {now - self.begun:.0f} s"
         else:
             left = (now - self.begun) * (self.whole - done) / max(done, 1)
             far = f"{done:,} of {self.whole:,}, about {left:.0f} s left"
