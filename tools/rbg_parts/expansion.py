@@ -128,10 +128,10 @@ def write_board(written, tokens):
 
 def write_rules(written, tokens):
     """A line for what stands before each switch, and more where that is long; what fits into half a line is not cut."""
-    deep, room, whole = 1, 0, 0
+    deep, room, whole, multiply = 1, 0, 0, products(tokens)
     for at, token in enumerate(tokens):
         deep -= is_sign(tokens, at, ")")
-        space = gap(tokens, at)
+        space = gap(tokens, at, multiply)
         end = end_of_group(tokens, at)
         long = sum(len(part.text) + 1 for part in tokens[at:end])
         is_cut = is_sign(tokens, at, "->", "->>") or (space and room + len(space) + long > WIDTH)
@@ -163,14 +163,14 @@ def end_of_group(tokens, at):
     return len(tokens)
 
 
-def gap(tokens, at):
-    """What stands between a token and the one before it."""
+def gap(tokens, at, multiply=()):
+    """What stands between a token and the one before it; `multiply` are the places of the `*` that are no star."""
     if at == 0:
         return ""
     before, token = tokens[at - 1], tokens[at]
     if token.is_sign and token.text in (")", "]", "}", ",", ":"):
         return ""
-    if token.is_sign and token.text == "*" and (before.text in (")", "]", "}") or not in_expression(tokens, at)):
+    if token.is_sign and token.text == "*" and at not in multiply:
         return ""
     if before.is_sign and before.text in ("(", "[", "{", "->") and token.text != "$":
         return ""
@@ -185,17 +185,17 @@ def gap(tokens, at):
     return " "
 
 
-def in_expression(tokens, at):
-    """Whether a `*` is one of an expression: a `$` stands behind the brace or bracket that is open."""
-    open_ = 0
-    for before in range(at - 1, -1, -1):
-        if is_sign(tokens, before, "]", "}"):
-            open_ += 1
-        elif is_sign(tokens, before, "[", "{"):
-            if open_ == 0:
-                return is_sign(tokens, before + 1, "$")
-            open_ -= 1
-    return False
+def products(tokens):
+    """The places of the `*` that multiply: they stand in a comparison or an assignment."""
+    found, open_ = set(), []
+    for at, token in enumerate(tokens):
+        if is_sign(tokens, at, "[", "{"):
+            open_.append(is_sign(tokens, at + 1, "$"))
+        elif is_sign(tokens, at, "]", "}") and open_:
+            open_.pop()
+        elif is_sign(tokens, at, "*") and open_ and open_[-1]:
+            found.add(at)
+    return found
 
 
 def in_board(tokens):
