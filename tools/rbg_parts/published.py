@@ -17,6 +17,8 @@ from .play import Play
 
 SUMS, README, GAME, TABLE, PAGE, CERTIFICATE = "SHA256SUMS", "README.md", "game.rbg", "game.table.xz", "page.html", "certificate"
 AT_ONCE, BLOCK = 2048, 1 << 20
+# the head of the first column of the table in README.md
+HEAD = "what"
 # a table has so many pages at most, and what unpacks it takes so much memory at most
 MOST_BYTES, MOST_MEMORY = 4096 << 20, 256 << 20
 SUM = re.compile(r"([0-9a-f]{64})  ([A-Za-z0-9_.]{1,64})")
@@ -80,6 +82,8 @@ def rows_of(text):
     found = {}
     for line in text.splitlines():
         match = ROW.fullmatch(line)
+        if match and match[1] == HEAD:
+            continue
         if match and match[1] in found:
             raise Wrong(f"{README}: `{match[1]}` stands twice")
         if match:

@@ -6,8 +6,10 @@ import re
 import select
 import time
 
-# what only asks, with the number of lines of its reply; `list A B` has B of them
-ASKS = re.compile(r"status|(?:value|line|show) [0-9]{1,10}|list [0-9]{1,10} ([0-9]{1,3})|find \S.*")
+import rbgtable
+
+# what only asks; the reply to `list A B` has B lines, or as many as there are known positions from A on
+ASKS = re.compile(r"status|(?:value|line|show) [0-9]{1,10}|list ([0-9]{1,10}) ([0-9]{1,3})|find \S.*")
 MOST_BYTES = 70000
 # so long is answered before the work goes on
 SECONDS = 0.5
@@ -50,4 +52,5 @@ class Questions:
         match = ASKS.fullmatch(line)
         if not match:
             return ["usage"]
-        return session.question(line, int(match[1] or 1))
+        known = rbgtable.counts_of(session.last).known
+        return session.question(line, min(int(match[2]), known - int(match[1])) if match[1] else 1)

@@ -63,7 +63,7 @@ class Expand(Case):
         path = self.folder / "low.rbg"
         self.assertEqual(self.ran("expand", self.file("high.rbg", MACROS), "-o", path), (0, "", ""))
         told = subprocess.run([ROOT / "rbgsolve", "actions", path], capture_output=True, check=True).stdout.decode()
-        self.assertIn("[$ white = 1", told)
+        self.assertIn(" white = 1\n", told)
         told = subprocess.run([ROOT / "rbgsolve", "moves", path], capture_output=True, check=True).stdout.decode()
         self.assertEqual(told.count("\n"), 1)
 

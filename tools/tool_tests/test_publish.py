@@ -85,7 +85,7 @@ class Publish(Case):
         self.sums_again(folder)
         self.wrong(folder, "audit wrong 0 A6")
         for data, told in (
-            (b"no xz", "Input format not supported"),
+            (b"this is a text, and no xz", "Input format not supported"),
             (kept["game.table.xz"][:-30], "ends too early"),
             (kept["game.table.xz"] * 2, "something behind its end"),
             (lzma.compress(b"no table"), ""),
