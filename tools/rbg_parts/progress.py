@@ -15,12 +15,12 @@ class Told:
 
     def tell(self, done=None):
         now = time.monotonic()
-        if now < self.last + 1:
+        if now < self.last + 1 or done == 0:
             return
         self.last = now
         if done is None:
             far = f"{now - self.begun:.0f} s so far"
-        elif not self.whole or not done:
+        elif not self.whole:
             far = f"{done:,} in {now - self.begun:.0f} s"
         else:
             left = (now - self.begun) * (self.whole - done) / max(done, 1)

@@ -152,14 +152,14 @@ class Publish(Case):
 
 class Shrink(Case):
     def test_a_table_in_few_pages(self):
-        self.assertEqual(self.ran("new_table", GAMES / "tictactoe.rbg", "t.table", "--pages", "4M")[0], 0)
+        self.assertEqual(self.ran("new_table", GAMES / "hexapawn.rbg", "t.table", "--pages", "4M")[0], 0)
         self.assertEqual(self.ran("solve", "t.table")[0], 0)
         status, out, err = self.ran("shrink", "t.table", "-o", "small.table")
         self.assertEqual(status, 0, out + err)
         self.assertRegex(out, r"\Asmall\.table: [0-9]+ pages in the place of 1024\n\Z")
-        self.assertLess((self.folder / "small.table").stat().st_size, 2**20)
+        self.assertLess((self.folder / "small.table").stat().st_size, 2**18)
         self.assertEqual(self.ran("export", "small.table", "--positions")[1], self.ran("export", "t.table", "--positions")[1])
-        self.assertEqual(self.ran("trust", "small.table", GAMES / "tictactoe.rbg")[0], 0)
+        self.assertEqual(self.ran("trust", "small.table", GAMES / "hexapawn.rbg")[0], 0)
         self.assertEqual(self.ran("shrink", "t.table", "-o", "small.table")[0], 1)
 
     def test_what_is_refused(self):
