@@ -27,7 +27,10 @@ async function strip(client, player, numbers) {
         card.href = `#${number}`;
         said.textContent = `${number}: ${position.turn === ">>" ? "the keeper" : position.turn}`;
         card.append(drawBoard(game, position, { marks: { changed: new Set(changed) }, size: 130 }), said);
-        card.onclick = () => player.go(number);
+        card.onclick = (event) => {
+            event.preventDefault();
+            player.go(number);
+        };
         cards.push(card);
         before = position;
     }

@@ -68,6 +68,13 @@ class Report(Case):
         self.assertEqual((found["main"], found["longest"]), (4, 4))
         self.assertEqual(found["last"]["said"], "position 4: the play has ended; black in 0; white 0, black 1, heap 0")
 
+    def test_moves_have_their_short_names_best_first(self):
+        self.page("small_checkers")
+        moves = self.walked(most=0)["first"]["moves"]
+        self.assertEqual([kind for kind, _ in moves], ["draw", "draw", "loss"])
+        told = [line.split("  ")[-1] for line in self.ran("moves", "small_checkers.table", 1)[1].splitlines()[1:]]
+        self.assertEqual(sorted(text.partition(": ")[0] for _, text in moves), sorted(told))
+
     def test_totals_are_those_of_stats(self):
         self.page("chomp")
         rows = [row[:2] for row in self.walked()["statistics"]]
