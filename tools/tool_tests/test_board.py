@@ -119,7 +119,8 @@ class Moves(Case):
         self.assertEqual([int(line.split()[0]) for line in out.splitlines()], [2, 3, 4])
         self.assertEqual(self.ran("moves", table, "white * * *")[:2], (1, ""))
         # what no position can have is looked for in vain, however it is written
-        for text in ("grey * * * *", "white 999 * * *", "white * z9 * *", "white * * w,w *", "white * * x,w,e,e,e,e,b,b *", "white * * * 0,-1", "white * * * 00,*"):
+        wrong = ("grey * * * *", "white 999 * * *", "white * z9 * *", "white * * w,w *", "white * * x,w,e,e,e,e,b,b *", "white * * * 0,-1", "white * * * 00,*")
+        for text in wrong:
             self.assertEqual(self.ran("moves", table, text)[:2], (1, ""), text)
         # the few texts that fit are looked up, and many are found by a look at each row: both find the same
         some = self.ran("moves", table, "* * * w,w,e,e,e,e,b,b *")

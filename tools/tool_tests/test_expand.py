@@ -132,7 +132,9 @@ class Expand(Case):
         nothing = "#n(x) =\n" + "".join(f"#m{at} = n(m{at + 1} m{at + 1})\n" for at in range(60)) + "#m60 = a\n#rules = m0 a"
         chain = "".join(f"#m{at} = m{at + 1}\n" for at in range(3000)) + "#m3000 = a\n#rules = m0"
         wide = f"#w(x) = {'x ' * 9000}\n#rules = w({'a ' * 9000})"
-        for text in (doubled, nothing, chain, wide, "#rules = " + "(" * 30000, "/* " * 20000, "#rules = " + "f(" * 20000 + "\n#f(x) = x", "#" * 60000, "#rules = b" + " a*" * 20000, "#rules = " + "(" * 64 + "a " * 30000 + ")" * 64):
+        calls, stars = "#rules = " + "f(" * 20000 + "\n#f(x) = x", "#rules = b" + " a*" * 20000
+        deep = "#rules = " + "(" * 64 + "a " * 30000 + ")" * 64
+        for text in (doubled, nothing, chain, wide, "#rules = " + "(" * 30000, "/* " * 20000, calls, "#" * 60000, stars, deep):
             begin = time.monotonic()
             self.refused(one + text)
             self.assertLess(time.monotonic() - begin, 20)
