@@ -120,7 +120,7 @@ export class Packed {
     #answer(line) {
         const [word, given] = line.split(" ");
         const at = this.#place(Number(given));
-        if (at < 0) return "refused S7";
+        if (at < 0) return "refused: it is not in this page";
         if (word === "value") return this.#value(at);
         if (word === "show") return this.#text(at);
         if (word !== "moves") return "usage";

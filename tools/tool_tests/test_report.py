@@ -99,7 +99,7 @@ class Report(Case):
         # a move may lead out of the page, which is told there
         self.page("connect_three", "--most", "20")
         whole = self.walked("#500", 0)["first"]["said"]
-        self.assertEqual(whole, "position 500: refused S7")
+        self.assertEqual(whole, "position 500: refused: it is not in this page")
         told = [self.walked(f"#{number}", 0)["first"]["said"] for number in range(10, 30)]
         self.assertTrue(any("how it goes on is not in this page" in one for one in told), told)
         self.page("breakthrough", "--moves", "1")
