@@ -6,6 +6,8 @@ const SVG = "http://www.w3.org/2000/svg";
 const STEP = 48;
 // names of colours that a piece may have; a piece of another name gets one of the discs below
 const NAMED = ["red", "yellow", "green", "blue", "orange", "purple", "brown", "white", "black", "gold", "silver", "pink", "gray", "grey"];
+// colours that are drawn as another shade, so that letters and edges are seen on them
+const SHADES = { white: "#f7f5ee", black: "#2b2b2b" };
 const DISCS = ["#f7f5ee", "#2b2b2b", "#b5793a", "#3d8a94", "#a8464f", "#7c8a3d", "#8d6fb0", "#ffe2a0", "#1f3f7a", "#cfe4f7"];
 
 function make(parent, name, attributes, text) {
@@ -35,21 +37,27 @@ function circle(count) {
     });
 }
 
-/** The colour of a piece's disc: that of its name, if it is one, else one by its place among the pieces. */
-export function colourOf(piece, pieces) {
-    const named = NAMED.find((name) => piece.toLowerCase() === name);
-    if (named) return named;
-    const others = pieces.filter((name) => !isEmpty(name));
+/** The colour of a piece's disc: the one that the game tells; else that of its name, or of the player whose name begins so, if that is a
+ * colour; else one by its place among the pieces. */
+export function colourOf(piece, game) {
+    if (game.colours?.[piece]) return game.colours[piece];
+    const name = piece.toLowerCase();
+    const named = [name, ...game.players.filter((player) => player.toLowerCase().startsWith(name))].find((one) => NAMED.includes(one.toLowerCase()));
+    if (named) return SHADES[named.toLowerCase()] ?? named.toLowerCase();
+    const others = game.pieces.filter((one) => !isEmpty(one));
     return DISCS[others.indexOf(piece) % DISCS.length] ?? "#9a9a9a";
 }
 
+const DARK = ["red", "green", "blue", "purple", "brown"];
+
 function inkOn(colour) {
-    const dark = ["#2b2b2b", "#1f3f7a", "#a8464f", "#b5793a", "#3d8a94", "#8d6fb0", "#7c8a3d", "red", "green", "blue", "purple", "brown", "black"];
-    return dark.includes(colour) ? "#fff" : "#111";
+    if (!colour.startsWith("#")) return DARK.includes(colour) ? "#fff" : "#111";
+    const [red, green, blue] = [1, 3, 5].map((at) => parseInt(colour.slice(at, at + 2), 16));
+    return 3 * red + 6 * green + blue > 1280 ? "#111" : "#fff";
 }
 
-function putDisc(parent, [x, y], piece, pieces) {
-    const colour = colourOf(piece, pieces);
+function putDisc(parent, [x, y], piece, game) {
+    const colour = colourOf(piece, game);
     make(parent, "circle", { cx: x, cy: y, r: 17, fill: colour, stroke: "#222" });
     const size = piece.length < 2 ? 19 : piece.length < 4 ? 13 : 9;
     make(parent, "text", { x, y, dy: ".36em", "font-size": size, fill: inkOn(colour) }, piece);
@@ -102,7 +110,7 @@ export function drawBoard(game, position, { marks = {}, choose = null, size = 36
         const shade = grid && (spots[at][0] + spots[at][1]) % 2 ? "dark" : "light";
         if (grid) make(group, "rect", { x: x - STEP / 2, y: y - STEP / 2, width: STEP, height: STEP, class: `field ${shade}` });
         else make(group, "circle", { cx: x, cy: y, r: 21, class: "field light" });
-        if (!isEmpty(position.pieces[at])) putDisc(group, [x, y], position.pieces[at], game.pieces);
+        if (!isEmpty(position.pieces[at])) putDisc(group, [x, y], position.pieces[at], game);
         if (!grid) make(group, "text", { x, y: y + 32, "font-size": 10, class: "name" }, vertex.name);
         for (const kind of kinds) make(group, "rect", { x: x - 22, y: y - 22, width: 44, height: 44, rx: 5, class: `mark ${kind}` });
         if (choose) group.addEventListener("click", () => choose(vertex.name));

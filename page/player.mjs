@@ -71,20 +71,22 @@ export class Player {
         }
         const position = readPosition(lines[1]);
         const rows = lines.slice(2).filter((line) => line.includes(" => "));
+        const isLeftOut = lines[2] === "left out";
         const moves = nameMoves(this.#game, position, rows.map(readMove));
-        this.#shown = { number, position, value: readValue(lines[0]), moves, changed: before ? changes(this.#game, before, position) : [] };
+        this.#shown = { number, position, value: readValue(lines[0]), moves, isLeftOut, changed: before ? changes(this.#game, before, position) : [] };
         this.#chosen = new Set();
         this.#draw();
         this.#answer();
     }
 
     #draw() {
-        const { number, position, value, moves, changed } = this.#shown;
+        const { number, position, value, moves, changed, isLeftOut } = this.#shown;
         const marks = { changed: new Set(changed.map((change) => change.vertex)), chosen: this.#chosen };
         this.#at("board").replaceChildren(drawBoard(this.#game, position, { marks, choose: (vertex) => this.#choose(vertex) }));
         const names = [...this.#game.players, ...this.#game.variables];
         const amounts = position.values.map((amount, at) => `${names[at]} ${amount}`).join(", ");
-        const turn = position.turn === KEEPER ? "the keeper moves" : moves.length ? `${position.turn} to move` : "the play has ended";
+        const who = position.turn === KEEPER ? "the keeper moves" : `${position.turn} to move`;
+        const turn = isLeftOut ? `${who}, and how it goes on is not in this page` : moves.length || value.isOpen ? who : "the play has ended";
         this.#at("said").textContent = `position ${number}: ${turn}; ${valueText(value)}; ${amounts}`;
         this.#at("number").value = number;
         this.#at("best").disabled = moves.length === 0;
@@ -174,12 +176,12 @@ function tableOf(rows) {
 function bars(found, first, second) {
     const [one, other] = [found.wins[first] ?? [], found.wins[second] ?? []];
     const far = Math.max(one.length, other.length);
-    const counts = Array.from({ length: far }, (_, at) => [one[at] ?? 0, other[at] ?? 0]);
-    const most = Math.max(...counts.map(([a, b]) => a + b));
-    const table = tableOf(counts.map(([a, b], at) => [String(at), a.toLocaleString("en"), b.toLocaleString("en"), ""]));
+    const rows = Array.from({ length: far }, (_, at) => ({ at, pair: [one[at] ?? 0, other[at] ?? 0] })).filter(({ pair: [a, b] }) => a + b > 0);
+    const most = rows.reduce((found, { pair: [a, b] }) => Math.max(found, a + b), 0);
+    const table = tableOf(rows.map(({ at, pair: [a, b] }) => [String(at), a.toLocaleString("en"), b.toLocaleString("en"), ""]));
     table.className = "bars";
-    counts.forEach((pair, at) => {
-        const cell = table.rows[at].cells[3];
+    rows.forEach(({ pair }, row) => {
+        const cell = table.rows[row].cells[3];
         pair.forEach((count, who) => {
             const bar = document.createElement("i");
             bar.className = who === 0 ? "first" : "second";

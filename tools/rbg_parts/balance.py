@@ -1,9 +1,11 @@
 """How a game is to play, by its table: who wins, how many moves there are, and how easily a result is thrown away."""
 from __future__ import annotations
 
+from array import array
+
 import rbgtable
 
-from . import fields
+from . import fields, progress
 
 DRAWN, OPEN = 0, 3
 # a main line that nobody wins is followed so far
@@ -18,17 +20,24 @@ class Balance:
         # how many positions have each value, and the first of them
         self.counts, self.first = {}, {}
         self.winners = bytearray()
-        sides = {}
+        # 0 for drawn, 1 for open, else the winner from 0 and twice the distance, and two more
+        self.codes = array("Q")
+        sides, codes = {}, {}
+        reading = progress.Told("positions", table.counts.known)
         for number, reply in enumerate(table.listed()):
             told = reply.partition(" ")[2]
             if told not in sides:
                 value = rbgtable.value_of(told.split(" "))
                 sides[told] = (value, 1 + play.players.index(value.winner) if value.winner else OPEN if value.is_open else DRAWN)
+                codes[told] = 2 + 2 * value.distance + sides[told][1] - 1 if value.winner else int(value.is_open)
                 self.first[value] = number
                 self.counts[value] = 0
             value, side = sides[told]
             self.counts[value] += 1
             self.winners.append(side)
+            self.codes.append(codes[told])
+            if number % 4096 == 0:
+                reading.tell(number)
 
     def number(self, holds):
         return sum(count for value, count in self.counts.items() if holds(value))

@@ -8,6 +8,11 @@ import rbgtable
 
 GRID_NAME = re.compile(r"([A-Za-z])([0-9]{1,3})")
 EMPTY = rbgtable.EMPTY
+# names of colours that a piece or a player may have
+NAMED = {
+    "white": "#f7f5ee", "black": "#2b2b2b", "red": "#d0342c", "yellow": "#f2d024", "green": "#3f8f4f", "blue": "#2f62b5", "orange": "#e8872b",
+    "purple": "#7d4fa5", "brown": "#7a4f2a", "gold": "#d9b13b", "silver": "#c3c7cb", "pink": "#efa9bd", "gray": "#8f8f8f", "grey": "#8f8f8f",
+}
 # the discs of the pieces that the first player puts, of those that the second one puts, and of the others
 COLOURS = {
     1: ("#f7f5ee", "#ffe2a0", "#cfe4f7", "#dcefd2", "#f4d3df"),
@@ -74,8 +79,15 @@ def movers(play):
     return found
 
 
+def named_colour(piece, roles, players):
+    """The colour that a piece has by its name, or by that of the player who alone puts it; None if neither is the name of one."""
+    owners = [players[role - 1] for role in roles if role and len(roles) == 1]
+    return next((NAMED[name.lower()] for name in (piece, *owners) if name.lower() in NAMED), None)
+
+
 def colours(play):
-    """A colour for each piece that is not empty, light for those that the first player alone puts, dark for those of the second one."""
+    """A colour for each piece that is not empty: that of its name or its player, if it is one; else light for those that the first player
+    alone puts, dark for those of the second one."""
     put = {}
     for action, roles in zip(play.follow.actions, movers(play)):
         if action.kind == "off":
@@ -84,8 +96,10 @@ def colours(play):
     for piece in (name.text for name in play.game.pieces):
         if piece not in EMPTY:
             roles = put.get(piece, set())
-            side = roles.pop() if len(roles) == 1 else 0
-            found[piece] = COLOURS[side][used[side] % len(COLOURS[side])]
+            side = next(iter(roles)) if len(roles) == 1 else 0
+            named = named_colour(piece, roles, play.players)
+            is_new = named not in found.values()
+            found[piece] = named if named and is_new else COLOURS[side][used[side] % len(COLOURS[side])]
             used[side] += 1
     return found
 

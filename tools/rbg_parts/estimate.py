@@ -3,6 +3,7 @@ from __future__ import annotations
 
 import random
 import time
+from collections import Counter
 
 from .play import TooLong, TooWide
 
@@ -44,41 +45,43 @@ def rounded(count):
     return round(count / unit) * unit
 
 
-def two_samples(play, known, seconds, most_moves=200):
-    """Positions of random plays that are not known, those of each second play and those of the others; and how many plays were made."""
-    chance, samples, number = random.Random(SEED), (set(), set()), 0
+def met_by_chance(play, graph, seconds, most_moves=60):
+    """How often random plays from positions that are not expanded meet each position that is not known."""
+    chance, counts, begins = random.Random(SEED), Counter(), graph.positions[len(graph.successors) :]
     play.ends = time.monotonic() + seconds
     try:
-        while time.monotonic() < play.ends:
-            position = play.start()
+        while begins and time.monotonic() < play.ends:
+            position = chance.choice(begins)
             for _ in range(most_moves):
                 moves = play.moves(position)
                 if not moves:
                     break
                 position = chance.choice(moves).to
-                if position not in known:
-                    samples[number % 2].add(position)
-            number += 1
+                if position not in graph.number:
+                    counts[position] += 1
     except TooLong:
         pass
     finally:
         play.ends = None
-    return *samples, number
+    return counts
 
 
-def by_recapture(first, second):
-    """How many positions there are from which two samples were drawn, by how many are in both; None if these are too few to tell."""
-    both = len(first & second)
-    return (len(first) + 1) * (len(second) + 1) // (both + 1) if both >= 5 else None
+def by_rare_ones(counts):
+    """How many there are of what was met so often, by how many were met once and twice; None where many were met once."""
+    met, times = sum(counts.values()), Counter(counts.values())
+    if met < 100 or times[1] > met / 4:
+        return None
+    return len(counts) + times[1] * (times[1] - 1) // (2 * (times[2] + 1))
 
 
 def guess(play, graph, seconds):
-    """About how many positions a game has that was explored in part; None if random plays do not tell."""
+    """About how many positions a game has that was explored in part, and from how many to how many; None if random plays do not tell."""
     try:
-        first, second, plays = two_samples(play, graph.number, seconds)
+        counts = met_by_chance(play, graph, seconds)
     except TooWide:
         return None
-    if not first and not second:
-        return len(graph.positions) if plays else None
-    beyond = by_recapture(first, second)
-    return None if beyond is None else len(graph.positions) + beyond
+    beyond = by_rare_ones(counts)
+    if beyond is None:
+        return None
+    found = len(graph.positions)
+    return found + beyond, found + len(counts), min(MOST_POSITIONS, (found + beyond) * 3 // 2)

@@ -14,12 +14,16 @@ def of_value(value):
     return {"value": str(value), "winner": value.winner, "distance": value.distance if value.winner else None}
 
 
-def of_position(play, number, text, value):
-    """The fields of a position; `play` is its game."""
+def of_text(play, text):
+    """The fields of a position's text; `play` is its game."""
     turn, place, vertex, pieces, values = text.split(" ")
     board, amounts = zip(play.names, pieces.split(",")), zip((name for name, _ in play.game.values), map(int, values.split(",")))
-    where = {"turn": turn, "place": int(place), "vertex": vertex, "board": dict(board), "values": dict(amounts)}
-    return {"number": number, "text": text, **where, **of_value(value)}
+    return {"text": text, "turn": turn, "place": int(place), "vertex": vertex, "board": dict(board), "values": dict(amounts)}
+
+
+def of_position(play, number, text, value):
+    """The fields of a position that a table has."""
+    return {"number": number, **of_text(play, text), **of_value(value)}
 
 
 def of_counts(counts):

@@ -4,10 +4,13 @@ from __future__ import annotations
 import random
 import time
 
+from . import lint_text
 from .play import TooLong, TooWide
 from .syntax import Action, Star, actions_in
 
 SEED = 20261127
+# so many random plays that one player wins are no chance
+MOST_PLAYS = 20
 
 
 class Seen:
@@ -17,6 +20,8 @@ class Seen:
         self.play, self.most = play, most
         self.moves = {}
         self.choice = None
+        # how many random plays have ended so: nobody, the first player and the second ahead
+        self.ends = [0, 0, 0]
         self.wide = self.late = False
 
     def look(self, position):
@@ -57,6 +62,7 @@ class Seen:
                 moves = self.look(position)
                 steps, length = steps + 1, length + 1
                 if not moves:
+                    self.ends[self.play.ahead(position)] += 1
                     break
                 position = chance.choice(moves).to
             steps += 1
@@ -84,6 +90,17 @@ def found_in(play, seen):
     yield from idle_roles(play, seen, rules)
     yield from alike(play, seen, rules)
     yield from leads(play, seen)
+    yield from one_sided(play, seen, rules)
+
+
+def one_sided(play, seen, rules):
+    """L10: one player who wins each random play, though the other one is given points too."""
+    plays, never = sum(seen.ends), lint_text.only_nought(play.game)
+    for role in (1, 2):
+        can_lose = play.game.players[2 - role][1] > 0 and play.players[2 - role] not in never
+        if can_lose and plays >= MOST_PLAYS and seen.ends[role] == plays and len(seen.moves) >= MOST_PLAYS and not seen.choice:
+            name, other = play.players[role - 1], play.players[2 - role]
+            yield rules, f"L10 {name} won all {plays:,} random plays: does a rule let {other} win?"
 
 
 def choice(play, seen):

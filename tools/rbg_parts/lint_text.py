@@ -18,6 +18,20 @@ def written(game):
     return {action.what[0].text for action in actions_in(game.rules) if action.kind == "assign"}
 
 
+def names_of(names):
+    return [name.text for name in names]
+
+
+def only_nought(game):
+    """The players whose score no assignment sets to anything but the number 0."""
+    more = {
+        action.what[0].text
+        for action in actions_in(game.rules)
+        if action.kind == "assign" and action.what[1] != ("number", 0)
+    }
+    return {name.text for name, _ in game.players} - more
+
+
 def stars_in(tree):
     """The parts of the rules that are repeated."""
     if isinstance(tree, Star):
@@ -28,12 +42,19 @@ def stars_in(tree):
 
 
 def scores(game):
-    """L1: a score that is never set."""
+    """L1: a score that is never set, or never to more than 0."""
     names = [name for name, bound in game.players if bound > 0]
     known = written(game)
     if names and not known & {name.text for name, _ in game.players}:
         yield game.section_at["players"], "L1 no score is ever set, so that every play is drawn"
         return
+    nought = only_nought(game)
+    if names and set(names_of(names)) & known and set(names_of(names)) <= nought:
+        yield game.section_at["players"], "L1 no score is ever more than 0, so that every play is drawn"
+        return
+    for name in names:
+        if name.text in nought and name.text in known:
+            yield name.at, f"L1 {name.text} is only ever given 0, so that {name.text} never wins; is that meant, the bound 0 says so: `{name.text}(0)`"
     repeated = {
         action.what[0].text
         for star in stars_in(game.rules)

@@ -25,7 +25,7 @@ def hints(text, fault):
         yield "the file is written in UTF-16: save it as ASCII or UTF-8"
         return
     if is_high_level(text):
-        yield "this looks like the language with macros, or with boards that are made: here each vertex is listed, and macros are expanded"
+        yield "this looks like the language with macros, or with boards that are made: `tools/expand` makes a text of it that is read here"
         return
     if b"/*" in text[: fault.at + 2]:
         yield "comments go from `//` to the end of the line; there are none from `/*` to `*/`"

@@ -1,35 +1,24 @@
-"""The HTML page of tools/report."""
+"""The HTML page of tools/report: the player of page/ beside the positions of a table, packed."""
 from __future__ import annotations
 
+import base64
 import html
-import json
-import re
-from collections import Counter
+import struct
+import zlib
+from array import array
 from pathlib import Path
 
-import rbgtable
-
-from . import boards, language
+from . import boards, language, progress, scripts
+from .balance import Balance
 from .play import Play
 
-HERE = Path(__file__).resolve().parent
-
-
-def totals(table, players):
-    """How many positions each winner has at each distance, how many have none, and the first of those with the greatest distance."""
-    wins, others, far, longest = Counter(), Counter(), -1, None
-    for number, value in enumerate(table.values()):
-        if value.winner:
-            wins[players.index(value.winner), value.distance] += 1
-            if value.distance > far:
-                far, longest = value.distance, number
-        else:
-            others["open" if value.is_open else "drawn"] += 1
-    return wins, others, longest
+# each behind those that it imports
+MODULES = ("game_text", "board", "moves", "packed", "player", "report")
+AT_ONCE = 4096
 
 
 def kept(table, most, moves):
-    """The positions that can be walked through, and within how many moves of the start all are; None if all positions are."""
+    """The positions that can be gone on from, and within how many moves of the start all are; None if all positions are."""
     if table.counts.known <= most and moves is None:
         return set(range(table.counts.known)), None
     met, layer, depth = {0}, [0], 0
@@ -44,110 +33,110 @@ def kept(table, most, moves):
     return met, depth
 
 
-def names_of_moves(table, number):
-    """The name of each move of a position, by the text of the position that it leads to; nothing where the search for moves is too wide."""
-    try:
-        moves = table.moves(number)
-    except rbgtable.Refused as refused:
-        if refused.code != "S4":
-            raise
-        return {}
-    return {move.text: move.name for move in moves}
+def packed_numbers(numbers):
+    """Numbers in a column: seven bits in each byte, the lowest first, and the highest bit where more follow."""
+    found = bytearray()
+    for number in numbers:
+        while number > 127:
+            found.append(128 | number & 127)
+            number >>= 7
+        found.append(number)
+    return bytes(found)
 
 
-def value_pair(value, players):
-    """A value as the page has it: the winner and the distance, or 0 for drawn and -1 for open."""
-    return [players.index(value.winner) + 1, value.distance] if value.winner else [-1 if value.is_open else 0, 0]
+def steps(numbers):
+    """By how much each of the numbers, which grow, is greater than the one before."""
+    last = 0
+    for number in numbers:
+        yield number - last
+        last = number
 
 
-def position_row(play, text, value):
-    """A position as the page has it: who has the turn, the pieces, the values, and who wins."""
-    role, _, _, pieces, values = text.split(" ")
-    turn = 0 if role == ">>" else play.players.index(role) + 1
-    standing = [play.pieces[piece] for piece in pieces.split(",")]
-    return [turn, standing, [int(amount) for amount in values.split(",")], *value_pair(value, play.players)]
+class Columns:
+    """The positions that are in the page, a column for each thing that is told of them (page/packed.mjs reads them)."""
+
+    def __init__(self, table, play, balance, walked):
+        self.table, self.play, self.balance, self.walked = table, play, balance, walked
+        self.shown = sorted({*walked, *(to for number in walked for to in table.successors(number))})
+        self.places, self.at_places = {}, array("I")
+        self.pieces, self.amounts = [], []
+        told = progress.Told("positions", len(self.shown))
+        for begin in range(0, len(self.shown), AT_ONCE):
+            for text in table.ask_all(f"show {number}" for number in self.shown[begin : begin + AT_ONCE]):
+                self.add(text)
+            told.tell(begin)
+
+    def add(self, text):
+        place, pieces, values = text.rsplit(" ", 2)
+        self.at_places.append(self.places.setdefault(place, len(self.places)))
+        self.pieces.append(bytes(map(self.play.pieces.__getitem__, pieces.split(","))))
+        self.amounts.append(tuple(map(int, values.split(","))))
+
+    def moves(self):
+        """One more than how many moves each position has, 0 where they are left out; and where they lead."""
+        counts, to = [], bytearray()
+        place = {number: at for at, number in enumerate(self.shown)}
+        told = progress.Told("moves", len(self.shown))
+        for at, number in enumerate(self.shown):
+            behind = sorted(map(place.__getitem__, self.table.successors(number))) if number in self.walked else None
+            counts.append(0 if behind is None else 1 + len(behind))
+            to += packed_numbers(steps(behind or ()))
+            told.tell(at)
+        return packed_numbers(counts), bytes(to)
+
+    def packed(self):
+        """All columns, each behind its length, in base64 of what zlib makes of them."""
+        columns = [
+            packed_numbers(steps(self.shown)),
+            packed_numbers(self.at_places),
+            b"".join(bytes(column) for column in zip(*self.pieces)),
+            packed_numbers(amount for column in zip(*self.amounts) for amount in column),
+            packed_numbers(map(self.balance.codes.__getitem__, self.shown)),
+            *self.moves(),
+        ]
+        whole = b"".join(struct.pack(">I", len(column)) + column for column in columns)
+        return base64.b64encode(zlib.compress(whole, 9)).decode()
 
 
-def walked(table, play, numbers):
-    """The positions that can be walked through and those behind them, and the moves of the first."""
-    numbers = sorted(numbers)
-    moves = {number: table.successors(number) for number in numbers}
-    shown = sorted({*numbers, *(to for after in moves.values() for to in after)})
-    texts = dict(zip(shown, table.ask_all(f"show {number}" for number in shown)))
-    values = dict(zip(shown, (rbgtable.value_of(reply.split()) for reply in table.ask_all(f"value {number}" for number in shown))))
-    positions = {number: position_row(play, texts[number], values[number]) for number in shown}
-    ways = {}
-    for number, after in moves.items():
-        names = names_of_moves(table, number) if after else {}
-        ways[number] = [[to, names.get(texts[to], "")] for to in after]
-    return positions, ways
+def statistics(found):
+    """Who wins how often, in the form that page/worker.mjs counts."""
+    wins = {name: [] for name in found["players"]}
+    for row in found["distances"]:
+        for name, count in zip(found["players"], row["wins"]):
+            wins[name] += [0] * (row["distance"] - len(wins[name])) + [count] if row["distance"] < 100000 else []
+    longest = found["longest"]
+    longest = longest and {name: longest[name] for name in ("number", "winner", "distance")}
+    return {"known": found["known"], "drawn": found["drawn"], "open": found["open"], "wins": wins, "longest": longest}
 
 
-def bar_rows(wins, players):
-    """One row of a table for each distance at which anybody wins."""
-    distances = sorted({distance for _, distance in wins})
-    most = max((wins[0, at] + wins[1, at] for at in distances), default=1)
-    rows = []
-    for at in distances:
-        first, second = wins[0, at], wins[1, at]
-        bars = "".join(
-            f'<i class="p{who}" style="width:{max(60 * count / most, 0.25):.2f}%" title="{html.escape(players[who])}: {count:,}"></i>'
-            for who, count in enumerate((first, second))
-            if count
-        )
-        rows.append(f'<tr><th scope="row">{at}</th><td class="bar">{bars}</td><td>{first:,}</td><td>{second:,}</td></tr>')
-    return "\n".join(rows)
-
-
-def total_rows(wins, others, known, players):
-    counts = [sum(count for (who, _), count in wins.items() if who == at) for at in (0, 1)]
-    rows = [("p0", f"{players[0]} wins", counts[0]), ("p1", f"{players[1]} wins", counts[1])]
-    rows += [(name, name, others[name]) for name in ("drawn", "open") if others[name] or name == "drawn"]
-    return "\n".join(
-        f'<tr><th scope="row"><i class="key {kind}"></i> {html.escape(name)}</th>'
-        f"<td>{count:,}</td><td>{100 * count / known:.1f} %</td></tr>"
-        for kind, name, count in rows
-    )
-
-
-def extent(table, numbers, depth):
-    if len(numbers) == table.counts.known:
-        return f"All {table.counts.known:,} positions can be walked through."
+def extent(known, shown, walked, depth):
+    if len(walked) == known:
+        return f"All {known:,} positions can be walked through."
     reach = "some" if depth is None else f"those within {depth} moves of the start"
-    return f"Of {table.counts.known:,} positions {reach}, and those of the longest win, {len(numbers):,} in all, can be walked through."
+    return f"Of {known:,} positions {reach}, and those of the longest win and of best play, {len(walked):,} in all, can be walked through, {shown:,} looked at."
 
 
 def made(table, name, most, moves):
     """The page of a table."""
     play = Play(language.read(table.game))
-    wins, others, longest = totals(table, play.players)
-    numbers, depth = kept(table, most, moves)
-    line = table.line(longest) if longest is not None else []
-    numbers |= set(line)
-    positions, ways = walked(table, play, numbers)
-    colours = boards.colours(play)
-    data = {
-        "players": play.players,
-        "pieces": [[piece.text, colours[piece.text]] if piece.text in colours else ["", ""] for piece in play.game.pieces],
-        "vertices": play.names,
-        "places": boards.places(play.names),
-        "values": [name for name, _ in play.game.values],
-        "positions": positions,
-        "moves": ways,
-        "line": line,
-    }
+    balance = Balance(table, play)
+    found, main = balance.summary(), balance.main_line()
+    walked, depth = kept(table, most, moves)
+    longest = found["longest"]["line"] if found["longest"] else []
+    walked.update(longest, main)
+    columns = Columns(table, play, balance, walked)
+    text = play.game.text.decode("utf-8", "replace")
+    data = {"game": text, "colours": boards.colours(play), "columns": columns.packed(), "places": list(columns.places)}
+    data.update({"longest": longest, "main": main, "statistics": statistics(found)})
     state = "finished" if table.counts.is_finished else "worked on still"
+    script = scripts.written(scripts.script(MODULES), {"RBG_DATA": scripts.literal(data)})
     fields = {
         "TITLE": html.escape(Path(name).name),
+        "STYLE": scripts.part("page.css"),
+        "PLAYER": scripts.part("player.html"),
         "STATE": html.escape(f"{table.counts.known:,} positions, {state}; the start is {table.value(0)}"),
-        "TOTALS": total_rows(wins, others, table.counts.known, play.players),
-        "FIRST": html.escape(play.players[0]),
-        "SECOND": html.escape(play.players[1]),
-        "BARS": bar_rows(wins, play.players),
-        "EXTENT": extent(table, numbers, depth),
-        "GAME": html.escape(play.game.text.decode("utf-8", "replace")),
-        # nothing in a script may look like its end
-        "DATA": json.dumps(data, separators=(",", ":")).replace("<", "\\u003c"),
+        "EXTENT": extent(table.counts.known, len(columns.shown), walked, depth),
+        "GAME": html.escape(text),
+        "SCRIPT": script,
     }
-    text = (HERE / "page.html").read_text(encoding="utf-8")
-    return re.sub(r"\{\{([A-Z]+)\}\}", lambda match: fields[match[1]], text)
+    return scripts.filled("report.html", fields)

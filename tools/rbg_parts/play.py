@@ -10,6 +10,8 @@ from . import language
 from .syntax import Action, Star, Sum
 
 MOST_CONFIGURATIONS = 65536
+# so many answers of patterns are remembered: with all of them a text could fill the memory
+MOST_KNOWN = 1 << 18
 
 
 class Position(NamedTuple):
@@ -218,7 +220,10 @@ class Play:
             key = (mark, state)
             found = self.known.get(key)
             if found is None:
-                found = self.known[key] = follow.empty or self.has_word(follow, steps, state)
+                found = follow.empty or self.has_word(follow, steps, state)
+                if len(self.known) >= MOST_KNOWN:
+                    self.known.clear()
+                self.known[key] = found
             return state if found == wanted else None
 
         return step

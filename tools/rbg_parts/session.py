@@ -45,6 +45,15 @@ class Session:
         self.last = reply or self.last
         return reply
 
+    def question(self, line, lines=1):
+        """The reply to a line that asks, of so many lines where it is not refused; what the session said last is not touched by it."""
+        last, reply = self.last, self.ask(line)
+        found = [reply] if reply else []
+        while reply and reply.partition(" ")[0] not in ("refused", "usage") and len(found) < lines:
+            found.append(self.process.stdout.readline().decode().rstrip("\n"))
+        self.last = last if reply else self.last
+        return found
+
     def end(self):
         """Ends the session: its exit status."""
         try:

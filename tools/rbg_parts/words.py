@@ -96,9 +96,21 @@ def pages(word):
     return int(match[1]) * {"": 1, "K": 2**10, "M": 2**20, "G": 2**30}[match[2]] // (4096 if match[2] else 1)
 
 
+def seconds(word):
+    """How long something may take."""
+    if not re.fullmatch(r"[0-9]{1,5}([.][0-9]{1,6})?|[.][0-9]{1,6}", word) or not 0 < float(word) <= 86400:
+        raise argparse.ArgumentTypeError(f"the number behind --seconds is over 0, and 86,400 at most: {word}")
+    return float(word)
+
+
 def fail(status, message):
-    print(f"{NAME}: {message}", file=sys.stderr)
+    say(message)
     sys.exit(status)
+
+
+def say(message):
+    """A line on standard error."""
+    print(f"{NAME}: {message}", file=sys.stderr)
 
 
 def contents(name):
@@ -160,15 +172,15 @@ def built_program():
     return program()
 
 
-def ran(words, **streams):
-    """Exit status and output of a program that is run; what ends this tool, as TERM, ends it too."""
+def ran(words, tell=None, **streams):
+    """Exit status and output of a program that is run; what ends this tool, as TERM, ends it too. `tell` is called once a second meanwhile."""
     before = signal.signal(signal.SIGTERM, lambda *_: sys.exit(128 + signal.SIGTERM))
     try:
         running = subprocess.Popen(words, stdin=subprocess.DEVNULL, **streams)
     except OSError as error:
         fail(2, f"{words[0]}: {error.strerror}")
     try:
-        output, _ = running.communicate()
+        output = finished(running, tell)
     except BaseException:
         running.terminate()
         running.wait()
@@ -176,6 +188,15 @@ def ran(words, **streams):
     finally:
         signal.signal(signal.SIGTERM, before)
     return running.returncode if running.returncode >= 0 else 128 - running.returncode, output
+
+
+def finished(running, tell):
+    """The output of a program that runs to its end."""
+    while True:
+        try:
+            return running.communicate(timeout=1 if tell else None)[0]
+        except subprocess.TimeoutExpired:
+            tell()
 
 
 def table(name):
@@ -250,7 +271,7 @@ def run(main):
     except TooWide:
         fail(1, "a search for moves reaches more than 65,536 configurations (S4)")
     except TooLong:
-        fail(1, "a search for moves takes too long")
+        fail(1, "a search for moves takes longer than it may; --seconds gives it more")
     except language.Fault as fault:
         fail(1, f"the table's game is none that the tools can read: {fault.code} {fault.message}")
     except MemoryError:

@@ -96,6 +96,18 @@ class Moves(Case):
         found = json.loads(out)
         self.assertEqual((found["value"], [move["value"] for move in found["moves"]]), ("drawn", ["drawn", "drawn", "black in 5"]))
 
+    def test_by_numbers_and_of_a_game_alone(self):
+        table, game = self.table("small_checkers"), GAMES / "small_checkers.rbg"
+        word = self.ran("moves", table, 1, "--numbers")[1].splitlines()[1].split("  ")[-1]
+        self.assertRegex(word, r"\A([0-9]+@[a-d][1-4] ?)+\Z")
+        self.assertIn(f"{word} => ", self.ran("moves", game, "white 1 a1 w,w,e,e,e,e,b,b 0,0", "--numbers")[1])
+        told = json.loads(self.ran("moves", table, 1, "--json")[1])["moves"]
+        alone = json.loads(self.ran("moves", game, "white 1 a1 w,w,e,e,e,e,b,b 0,0", "--json")[1])["moves"]
+        key = lambda move: (move["text"], move["turn"], move["place"], move["board"], move["values"], move["name"], move["word"])
+        self.assertEqual(sorted(map(key, told), key=str), sorted(map(key, alone), key=str))
+        for words in (["--words", "--numbers"], ["--json", "--numbers"], ["--numbers", "--actions"]):
+            self.assertEqual(self.ran("moves", game, *words)[0], 2)
+
     def test_positions_that_are_not_known_whole(self):
         table = self.table("small_checkers")
         whole = self.ran("moves", table, "white 1 a1 w,w,e,e,e,e,b,b 0,0")
@@ -106,6 +118,14 @@ class Moves(Case):
         status, out, _ = self.ran("moves", table, "black * * *,*,*,*,e,e,b,b 1,0")
         self.assertEqual([int(line.split()[0]) for line in out.splitlines()], [2, 3, 4])
         self.assertEqual(self.ran("moves", table, "white * * *")[:2], (1, ""))
+        # what no position can have is looked for in vain, however it is written
+        wrong = ("grey * * * *", "white 999 * * *", "white * z9 * *", "white * * w,w *", "white * * x,w,e,e,e,e,b,b *", "white * * * 0,-1", "white * * * 00,*")
+        for text in wrong:
+            self.assertEqual(self.ran("moves", table, text)[:2], (1, ""), text)
+        # the few texts that fit are looked up, and many are found by a look at each row: both find the same
+        some = self.ran("moves", table, "* * * w,w,e,e,e,e,b,b *")
+        self.assertEqual(some[1].splitlines()[0], "0  >> 0 a1 w,w,e,e,e,e,b,b 0,0    drawn")
+        self.assertEqual(self.ran("moves", table, "* * * *,*,e,e,e,e,b,b *")[1].splitlines()[:2], some[1].splitlines())
         status, out, err = self.ran("moves", table, "* * * * *")
         self.assertEqual((status, len(out.splitlines())), (1, 100))
         self.assertIn("more than 100", err)

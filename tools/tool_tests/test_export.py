@@ -124,7 +124,8 @@ class Json(Case):
         self.assertEqual((move["number"], move["value"], move["winner"]), (None, "open", None))
 
     def test_a_game(self):
-        self.assertEqual(self.printed("size", GAMES / "chomp.rbg"), [{"positions": 67, "how": "all", "pages": 64, "found": 67, "edges_each": 4.96}])
+        wanted = {"positions": 67, "how": "all", "range": [67, 67], "pages": 64, "found": 67, "edges_each": 4.96}
+        self.assertEqual(self.printed("size", GAMES / "chomp.rbg"), [wanted])
         name = "a\"<b>,\n.rbg"
         self.file(name, "#players = white(1), black(1)\n#pieces = e\n#board = v[e]{}\n#rules = ->grey")
         (found,) = self.printed("lint", name, status=1)

@@ -29,6 +29,26 @@ class Lint(Case):
         self.assertIn("game.rbg:1:22: L1 the score of black is never set", out)
         self.assertEqual(codes[0], "L1")
 
+    def test_a_player_who_only_ever_gets_nought(self):
+        """By a slip black's turn gives the win to white: nothing else looks wrong, and every play is white's."""
+        turn = "[$ n = n - 1] [$ white = 1, black = 0]"
+        rules = f"[$ n = 9] ->white ({turn} ([$ n = n - 1] + {{$ n > 0}}) ->black [$ n = n - 1] [$ white = 1] ->white)*"
+        codes, out = self.codes(ONE.format("n(9)") + rules)
+        self.assertEqual(codes, ["L1"])
+        self.assertIn("game.rbg:1:22: L1 black is only ever given 0, so that black never wins", out)
+        # a bound of 0 says that it is meant
+        self.assertEqual(self.codes(ONE.replace("black(1)", "black(0)").format("n(9)") + rules)[0], [])
+        _, out = self.codes(ONE.format("n(9)") + "->white [$ white = 0, black = 0] ->black")
+        self.assertIn("L1 no score is ever more than 0, so that every play is drawn", out)
+
+    def test_a_player_who_wins_each_play_by_chance(self):
+        """Black would win with nine points, but there are eight turns."""
+        turn = "([$ n = n + 1] + [$ n = n + 1, k = k + 1])"
+        rules = f"->white ({{$ n < 8}} {turn} [$ white = 1, black = 0] ->black {turn} ({{$ k < 9}} + {{$ k >= 9}} [$ white = 0, black = 1]) ->white)*"
+        codes, out = self.codes(ONE.format("n(9), k(9)") + rules)
+        self.assertEqual(codes, ["L10"])
+        self.assertRegex(out, r"L10 white won all [\d,]+ random plays: does a rule let black win\?")
+
     def test_no_score_at_all(self):
         _, out = self.codes(HEAD + LINE + "#rules = ->white {w} [e] right {e} [w] left ->black")
         self.assertIn("L1 no score is ever set", out)
@@ -39,7 +59,7 @@ class Lint(Case):
             "#rules = ->white {w} {$ x == 0} [$ y = 1, white = 1, black = 0] up {e} [w] ->black"
         )
         codes, out = self.codes(text)
-        self.assertEqual(codes, ["L3", "L2", "L2", "L4"])
+        self.assertEqual(codes, ["L1", "L3", "L2", "L2", "L4"])
         for part in ("piece b never stands", "variable x is never set", "variable y is set and never asked", "label down"):
             self.assertIn(part, out)
 
@@ -61,7 +81,8 @@ class Lint(Case):
     def test_a_place_for_each_branch(self):
         white, black = "[$ n = n - 1] [$ white = 1, black = 0]", "[$ n = n - 1] [$ white = 0, black = 1]"
         codes, _ = self.codes(ONE.format("n(99)") + f"[$ n = 99] ->white ({white} (->black + ->black) {black} ->white)*")
-        self.assertEqual(codes, ["L8"])
+        # the plays have one length, so that one player wins them all
+        self.assertEqual(codes, ["L8", "L10"])
 
     def test_a_search_that_is_too_wide(self):
         rules = "[$ x = x + 1]* [$ y = y + 1]* ->white [$ white = 1] ->black [$ black = 1] ->white {$ x + y > 0}"

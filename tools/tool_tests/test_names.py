@@ -85,9 +85,6 @@ class Names(Case):
                 self.assertEqual(done.returncode, 0, done.stderr.decode())
                 self.assertEqual(json.loads(done.stdout), names, game)
 
-    def test_the_report_names_them_too(self):
-        self.assertIn('[2,"w a1-b2"]', self.ran("report", self.table("small_checkers"))[1])
-
 
 class Drawn(Case):
     def test_what_board_draws_is_read(self):

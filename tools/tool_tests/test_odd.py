@@ -31,7 +31,20 @@ class Texts(Case):
         (status, out, _), seconds = self.took("size", "--seconds", "1", "--plain", "searches.rbg")
         self.assertEqual((status, out.split()[1]), (0, "least"))
         self.assertLess(seconds, 20)
-        self.assertEqual(self.ran("lint", "--seconds", "0", "searches.rbg")[0], 2)
+        for words in (["moves", "searches.rbg", "white 1 v e 0,0,0,0,0,0"], ["second_opinion", "searches.rbg"]):
+            (status, out, err), seconds = self.took(*words, "--seconds", "1")
+            self.assertEqual((status, out), (1, ""))
+            self.assertRegex(err, r"longer than it may|1 s are over, and 2 positions found")
+            self.assertLess(seconds, 20)
+        (status, out, err), seconds = self.took("play", "--random", "searches.rbg", "9" * 18, "1", "--seconds", "1")
+        self.assertEqual((status, out.splitlines()[0]), (1, "white 0 of 0 plays"))
+        self.assertIn("1 s are over, and 0 of 999,999,999,999,999,999 plays made; --seconds gives more", err)
+        self.assertLess(seconds, 20)
+        for tool in ("lint", "moves", "second_opinion"):
+            for number in ("0", "-1", "nan", "1e9"):
+                self.assertEqual(self.ran(tool, f"--seconds={number}", "searches.rbg")[0], 2, (tool, number))
+        status, _, err = self.ran("second_opinion", GAMES / "tictactoe.rbg", "--positions", "1000")
+        self.assertEqual((status, "over 1,000 positions" in err), (1, True))
 
     def test_stars_of_stars(self):
         (_, out, _), seconds = self.took("lint", "--positions", "9", "--seconds", "5", self.file("stars.rbg", STARS))

@@ -1,4 +1,8 @@
 """What tools/size tells, and tables that are made with so many pages."""
+import json
+import re
+from collections import Counter
+
 from rbg_parts import estimate, play, solve
 
 from .common import GAMES, Case
@@ -26,10 +30,29 @@ class Size(Case):
         for name, length in lengths.items():
             self.assertEqual(estimate.packed_length(play.play_of((GAMES / f"{name}.rbg").read_bytes())), length)
 
-    def test_recapture(self):
-        first, second = set(range(0, 60)), set(range(40, 100))
-        self.assertEqual(estimate.by_recapture(first, second), 61 * 61 // 21)
-        self.assertIsNone(estimate.by_recapture(first, set(range(57, 90))))
+    def test_by_how_many_were_met_once_and_twice(self):
+        # of 70 positions 20 were met once, 10 twice, and 40 thrice
+        counts = Counter({at: 1 if at < 20 else 2 if at < 30 else 3 for at in range(70)})
+        self.assertEqual(estimate.by_rare_ones(counts), 70 + 20 * 19 // 22)
+        self.assertIsNone(estimate.by_rare_ones(Counter(range(200))))
+        self.assertIsNone(estimate.by_rare_ones(Counter()))
+
+    def test_numbers_are_less_than_a_factor_of_two_off(self):
+        known = re.findall(r"^\| `([a-z0-9_/]+)` \| [^|]* \| ([0-9,]+) \|", (GAMES / "README.md").read_text(), re.M)
+        self.assertGreater(len(known), 25)
+        told = 0
+        for name, positions in known:
+            positions = int(positions.replace(",", ""))
+            if positions < 3000:
+                continue
+            out = json.loads(self.ran("size", "--seconds", "0.5", "--json", GAMES / f"{name}.rbg")[1])
+            if out["how"] == "about":
+                told += 1
+                self.assertTrue(positions / 2 < out["positions"] < 2 * positions, (name, positions, out))
+                self.assertTrue(out["range"][0] <= positions <= out["range"][1], (name, positions, out))
+            elif out["how"] == "all":
+                self.assertEqual(out["positions"], positions)
+        self.assertGreater(told, 0)
 
     def test_numbers_are_not_over_what_a_table_holds(self):
         game = play.play_of((GAMES / "take.rbg").read_bytes())

@@ -15,6 +15,53 @@ def pages_of(path):
         return rbgtable.root_of(file).capacity
 
 
+class Ask(Case):
+    def asked(self, given, *words):
+        status, out, err = self.ran("solve", *words, "--ask", given=given)
+        self.assertEqual(status, 0, err)
+        return out.splitlines()
+
+    def test_questions_while_it_works(self):
+        self.assertEqual(self.ran("new_table", GAMES / "chomp.rbg")[0], 0)
+        lines = b"value 0\nshow 1\n\nlist 0 3\nlist 0 300\nlist 66 100\nlist 67 1\nvalue 99\nwork 1\n"
+        lines += b"find first 1 a1 p,c,c,c,c,c,c,c,c,c,c,c 0,0\nline 0\n\xff\nquit"
+        found = self.asked(lines, "chomp.table")
+        self.assertEqual(found[:5], ["first in 8", "first 1 a1 p,c,c,c,c,c,c,c,c,c,c,c 0,0", "0 first in 8", "1 first in 7", found[4]])
+        self.assertEqual(found[5:], ["usage", found[6], "refused S7", "refused S7", "usage", "number 1", "line 0 1 7 20 47 17 44 14 41", "usage", "usage",
+                                     "units 134 known 67 expanded 67 settled 67 processed 67 finished"])
+
+    def shell(self, line):
+        return subprocess.run(["sh", "-c", line], cwd=self.folder, capture_output=True, check=False, timeout=100)
+
+    def test_questions_that_do_not_end(self):
+        """They are answered for a while at a time, and the work goes on; a line without an end is none."""
+        table = self.folder / "t.table"
+        self.assertEqual(self.ran("new_table", GAMES / "tictactoe.rbg", table)[0], 0)
+        done = self.shell(f"yes value 0 | head -n 20000 | {ROOT}/tools/solve t.table --ask")
+        self.assertEqual((done.returncode, done.stdout.count(b"\n")), (0, 20001))
+        self.assertEqual(self.asked(b"x" * 300000, table)[-1].split()[-1], "finished")
+        # an output that is closed ends it, and a question that is stopped leaves the table
+        done = self.shell(f"yes value 0 | {ROOT}/tools/solve t.table --ask | head -n 1")
+        self.assertEqual((done.stdout, b"BrokenPipe" in done.stderr), (b"drawn\n", False))
+        self.assertEqual(self.ran("trust", table, GAMES / "tictactoe.rbg")[0], 0)
+
+    def test_a_stop_among_the_questions(self):
+        self.assertEqual(self.ran("new_table", GAMES / "breakthrough.rbg", "--pages", "4M")[0], 0)
+        status, out, err = self.ran("solve", "breakthrough.table", "--ask", given=b"status\nstop\n")
+        self.assertEqual(status, 130)
+        self.assertIn("stopped; start it again to go on", err)
+        self.assertRegex(out, r"\Aknown \d+ expanded 256 .* open\nunits 256 .* open\n\Z")
+
+    def test_growing_begins_without_an_estimate(self):
+        begin = time.monotonic()
+        status, out, err = self.ran("solve", "--grow", GAMES / "hexapawn.rbg")
+        self.assertEqual((status, "64 pages" in err), (0, True), err)
+        status, out, err = self.ran("solve", "--grow", GAMES / "connect_three.rbg")
+        self.assertEqual((status, out.split()[-1]), (0, "finished"))
+        self.assertIn("rbgsolve grow connect_three.table --pages 128", err)
+        self.assertLess(time.monotonic() - begin, 60)
+
+
 class Anew(Case):
     def setUp(self):
         super().setUp()

@@ -4,7 +4,8 @@ import subprocess
 
 from .common import ROOT, Case
 
-TOOLS = ("board", "export", "grid", "lint", "moves", "new_table", "play", "report", "second_opinion", "size", "solve", "stats", "trust")
+TOOLS = ("board", "expand", "export", "grid", "lint", "moves", "new_table", "play", "publish", "report", "second_opinion", "shrink", "size", "solve")
+TOOLS += ("stats", "trust")
 
 
 class Words(Case):
@@ -61,7 +62,7 @@ class Words(Case):
                 self.assertRegex(done.stderr.decode(), rf"\A{tool}: the output: .*\n\Z")
 
     def test_a_file_that_cannot_be_read(self):
-        for tool in ("lint", "size", "second_opinion", "new_table", "trust"):
+        for tool in ("lint", "size", "second_opinion", "new_table", "trust", "expand"):
             status, out, err = self.ran(tool, "no_such_file", *(["game"] if tool == "trust" else []))
             self.assertEqual((status, out), (4, ""), tool)
             self.assertIn("no_such_file", err)
