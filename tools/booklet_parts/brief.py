@@ -35,16 +35,22 @@ class Parts:
 
 
 def parts_of(project: Project, uses: Uses, rules: Rules) -> Parts:
-    """What these uses rest on. Which cases are named is known once all is found, so it is looked for until nothing more is named."""
+    """What these uses rest on. An enumeration of which the chapter apart names more cases stands in both, each time with those named there."""
+    here, named = all_named(project, uses, rules, rules.apart)
+    every, all_the_names = all_named(project, uses, rules, ())
+    more = {key for key, _ in all_the_names - named if every.definitions[key].name in rules.cases}
+    apart = {key: shortened(made, rules, all_the_names) for key, made in every.definitions.items() if key not in here.definitions or key in more}
+    return Parts({key: shortened(made, rules, named) for key, made in here.definitions.items()}, apart, here)
+
+
+def all_named(project: Project, uses: Uses, rules: Rules, without: tuple[str, ...]) -> tuple[Uses, set]:
+    """All that is used, and the cases that are named by it; these are known once all is found, so it is looked for until none is new."""
     named: set[tuple[tuple[str, int], str]] = set()
     while True:
-        every = gone_through(project, uses, rules, named, ())
-        if every.constructors == named:
-            break
-        named = every.constructors
-    here = gone_through(project, uses, rules, named, rules.apart)
-    apart = {key: made for key, made in every.definitions.items() if key not in here.definitions}
-    return Parts({key: shortened(made, rules, named) for key, made in here.definitions.items()}, apart, here)
+        found = gone_through(project, uses, rules, named, without)
+        if found.constructors == named:
+            return found, named
+        named = found.constructors
 
 
 def gone_through(project: Project, uses: Uses, rules: Rules, named: set, without: tuple[str, ...]) -> Uses:
@@ -73,7 +79,7 @@ def uses_of(project: Project, made: Definition, rules: Rules, named: set) -> Use
 
 def shortened(made: Definition, rules: Rules, named: set) -> Definition:
     """The definition as it is printed."""
-    return replace(made, text=on_one_line(chosen_lines(made, rules, named))) if made.kind in TYPES else made
+    return replace(made, text=on_one_line(with_comments_behind(chosen_lines(made, rules, named)))) if made.kind in TYPES else made
 
 
 def chosen_lines(made: Definition, rules: Rules, named: set) -> list[str]:
@@ -101,6 +107,18 @@ def with_cases(text: list[str], names: set[str]) -> list[str]:
             others += 1
         comment = []
     return [*kept, *([f"    // and {others} more"] if others else []), text[-1]]
+
+
+def with_comments_behind(text: list[str]) -> list[str]:
+    """An enumeration with the comment of each case behind it, where there is room."""
+    found: list[str] = []
+    for line in text:
+        before = found[-1].strip() if found else ""
+        if before.startswith("/// ") and re.match(r" {4}[A-Z]", line) and len(line) + len(before) + 1 <= WIDTH:
+            found[-1] = f"{line} //{before.removeprefix('///')}"
+        else:
+            found.append(line)
+    return found
 
 
 def on_one_line(text: list[str]) -> list[str]:
