@@ -52,10 +52,12 @@ class Definition:
 
 
 class Uses:
-    """What a text uses: definitions, names of the toolchain's library, names from proofs; and words that nothing explains."""
+    """What a text uses: definitions, and which constructors of them by name, names of the toolchain's library, names from proofs; and
+    words that nothing explains."""
 
     def __init__(self) -> None:
         self.definitions: dict[tuple[str, int], Definition] = {}
+        self.constructors: set[tuple[tuple[str, int], str]] = set()
         self.library: set[str] = set()
         self.proofs: set[str] = set()
         self.unknown: set[str] = set()  # each with its place
@@ -70,6 +72,7 @@ class Uses:
     def merge(self, other: "Uses") -> None:
         for definition in other.definitions.values():
             self.add(definition)
+        self.constructors |= other.constructors
         self.library |= other.library
         self.proofs |= other.proofs
         self.unknown |= other.unknown
@@ -107,3 +110,4 @@ class Constructor:
     """A constructor of a type; of several where types of one module have one of the same name."""
 
     definitions: tuple[Definition, ...]
+    name: str

@@ -4,6 +4,7 @@ from __future__ import annotations
 import textwrap
 from dataclasses import dataclass, field
 
+from booklet_parts.brief import WIDTH, fitted
 from booklet_parts.definition import Context, Definition, Uses
 from booklet_parts.order import reached, reading_order
 from booklet_parts.project import Project
@@ -31,12 +32,6 @@ class Booklet:
     @property
     def definitions(self) -> list[Definition]:
         return [made for chapter in self.chapters for made in chapter.definitions]
-
-
-def opened(booklet: Booklet, opening: list[str]) -> Booklet:
-    """The same booklet, which begins with these lines and what is stated."""
-    booklet.chapters[0].opening = opening
-    return booklet
 
 
 def booklet_of(project: Project, parts: list[tuple[str, list[Statement]]]) -> Booklet:
@@ -95,7 +90,7 @@ def statement_lines(statements: list[Statement]) -> list[str]:
     return lines + (["}"] if before is not None and before.above else [])
 
 
-def library_paragraph(names: set[str]) -> list[str]:
+def library_paragraph(names: set[str], width: int = 120) -> list[str]:
     if not names:
         return []
     shown = sorted({name.removeprefix("Rattle.") for name in names})
@@ -104,21 +99,28 @@ def library_paragraph(names: set[str]) -> list[str]:
         module, _, word = name.rpartition(".")
         groups.setdefault(module, []).append(word)
     text = "; ".join(f"{module}: {', '.join(words)}" for module, words in sorted(groups.items()))
-    return ["", *textwrap.wrap(f"from the toolchain's library: {text}.", 120, break_on_hyphens=False)]
+    return ["", *textwrap.wrap(f"from the toolchain's library: {text}.", width, break_on_hyphens=False)]
 
 
 def totals(definitions: list[Definition]) -> str:
     return f"{len(definitions)} definitions, {sum(made.lines for made in definitions)} lines"
 
 
+def fitted_print(booklet: Booklet) -> str:
+    """A booklet of one chapter that sentences open, in lines of 100 columns; it counts all of them, but for blank lines and headings."""
+    chapter = booklet.chapters[0]
+    lines = [*chapter.opening]
+    if chapter.statements:
+        lines += [*statement_lines(chapter.statements), "", CHAPTER + "what it rests on"]
+    lines = [*fitted([*lines, *definition_lines(chapter.definitions)]), *library_paragraph(booklet.uses.library, WIDTH)]
+    count = sum(1 for line in lines if line.strip() and not line.startswith((HEADING, CHAPTER)))
+    return "\n".join([*lines, "", f"{len(chapter.definitions)} definitions, {count} lines"]) + "\n"
+
+
 def printed(booklet: Booklet) -> str:
     """The whole booklet."""
     lines: list[str] = []
     for chapter in booklet.chapters:
-        if chapter.opening:
-            lines += [*chapter.opening, *statement_lines(chapter.statements)]
-            lines += ["", CHAPTER + "what it rests on", *definition_lines(chapter.definitions)]
-            continue
         if len(booklet.chapters) > 1:
             lines += ["", CHAPTER + chapter.title]
         lines += definition_lines(chapter.definitions)

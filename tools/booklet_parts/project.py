@@ -169,7 +169,7 @@ class Project:
         if made is None:
             return {}
         if path[end + 1 :] == ["TheVariants"]:
-            variants = {word: Constructor((made,)) for word in made.constructors}
+            variants = {word: Constructor((made,), word) for word in made.constructors}
             if one.alias:
                 return {one.alias: Namespace(variants.get)}
             return {here: variants[there] for there, here in one.names if there in variants}
@@ -180,7 +180,7 @@ class Project:
         for made in module.definitions:
             for word in made.constructors:
                 before = names.get(word)
-                names[word] = Constructor((*(before.definitions if isinstance(before, Constructor) else ()), made))
+                names[word] = Constructor((*(before.definitions if isinstance(before, Constructor) else ()), made), word)
         names.update({made.name: made for made in module.definitions})
         return names
 

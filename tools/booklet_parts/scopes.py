@@ -46,9 +46,11 @@ class Walker:
         """Notes what is used; gives what the first name stands for, where members can be taken of it."""
         if isinstance(target, Definition):
             self.uses.add(target)
+            self.uses.constructors |= {(target.key, name) for name in rest[:1] if name in target.constructors}
         elif isinstance(target, Constructor):
             for made in target.definitions:
                 self.uses.add(made)
+                self.uses.constructors.add((made.key, target.name))
         elif isinstance(target, Library):
             self.uses.library.add(target.name)
         elif isinstance(target, Proof):

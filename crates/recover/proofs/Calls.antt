@@ -1,10 +1,9 @@
 -- What the contracts of the solver's calls give for the calls of a saved table.
-use Rattle.std.specs.Prelude.{◌≡◌, ◌⊎◌, ◌↔◌, ℕ, Bool, true, false, List, length, Option, None, Some, Result, Ok, Err, option_map}
+use Rattle.std.specs.Prelude.{◌≡◌, ℕ, Bool, true, false, List, Option, None, Some, Result, Ok, Err, option_map}
 use Rattle.std.specs.Prelude.{IsTrue, IfOk, IfErr, OnOk, OnErr, IfSome, IsErrOf}
 use Rattle.std.proofs.Common.{refl, sym, subst, ◌∙◌, ap, inl, inr}
 use Rattle.std.proofs.lemmas.Option.{same_Some}
 use Rattle.sector_disk.specs.Disk.{Disk, Grew}
-use Rattle.sector_disk.specs.aid.Moments.{still_honest, goes_on_refl}
 use Rattle.best_line.specs.declared.answers.Row.{Row}
 use Rattle.best_line.specs.declared.answers.Value.{Value}
 use Rattle.retrograde.specs.declared.records.Counts.{Counts}
@@ -16,21 +15,22 @@ use Rattle.game_file.specs.State.{State, GoesAhead}
 use Rattle.solver.specs.declared.fault.SolverFault.{SolverFault}
 use Rattle.solver.specs.declared.fault.SolverFault.TheVariants.{Closed, Disk as DiskFailed}
 use Rattle.solver.specs.declared.replies.Reply.{Reply}
-use Rattle.solver.specs.declared.replies.Reply.TheVariants.{Worked, Refused}
-use Rattle.solver.specs.declared.replies.Worked.{Worked as Done}
+use Rattle.solver.specs.declared.replies.Reply.TheVariants.{Loaded, Worked, Refused}
 use Rattle.solver.specs.Growing.{IsGrowth}
 use Rattle.solver.specs.Held.{IsSound}
-use Rattle.solver.specs.Machine.{Command, load, work, HasReason}
+use Rattle.solver.specs.Machine.{Command, load, work, Does, HasReason}
 use Rattle.solver.specs.Moves.{HasValueByText}
 use Rattle.solver.specs.Opening.{CreateCause, OpenCause}
 use Rattle.solver.specs.Queries.{OfKept, HasLine, HasRows, HasValueAt, HasText, Tells}
-use Rattle.solver.specs.Runs.{IsTurn}
+use Rattle.solver.specs.Runs.{IsTurnWithCause}
 use Rattle.solver.specs.Steps.{IsDone, IsRefused}
 use Rattle.solver.proofs.Refusing.{apart}
 use Rattle.solver.proofs.Turning.{done_turn, refused_turn}
-use Rattle.recover.specs.Brief.{BriefTable, BriefAnswer, OrBroken, IsReply, IsQuestion, IsRefusal, loaded, worked, refused}
-use Rattle.recover.specs.Brief.{TellsValue, TellsText, TellsValueOf, TellsRows, TellsLine, TellsCounts}
-use Rattle.recover.specs.aid.Telling.{IsToldBy, table_of, told_by_one, value_told, text_told, line_told, rows_told, counts_told, brief_answer}
+use Rattle.recover.specs.Tables.{BriefTable}
+use Rattle.recover.specs.Brief.{answer_of, reply_of, OrBroken, IsReply, IsQuestion, HasDone, IsAnswered}
+use Rattle.recover.specs.aid.Causes.{why_in_brief}
+use Rattle.recover.specs.Tables.{TellsValue, TellsText, TellsValueOf, TellsRows, TellsLine, TellsCounts}
+use Rattle.recover.specs.aid.Telling.{IsToldBy, table_of, value_told, text_told, line_told, rows_told, counts_told}
 use Rattle.recover.specs.aid.Histories.{calls_of, tells_of, AnsweredBy, AskedBy, BrokenBy, by_question, by_growth}
 
 -- a fault with its cause, where E1 has that one
@@ -51,6 +51,22 @@ create_failed disk before now fault cause is = subst (λ (f : SolverFault). Crea
 pub open_failed : (Stores : ℕ → Layout) (disk : Disk) (before now : ℕ) (fault : SolverFault) → OpenCause Stores disk before now fault
     → fault ≡ DiskFailed → Grew before now
 open_failed Stores disk before now fault cause is = subst (λ (f : SolverFault). OpenCause Stores disk before now f) is cause
+
+-- E1 has its cause, whichever the command
+disk_failed : (command : Command) (old new : State) → HasReason (Refused DiskFailed) command old new → Grew old.failures new.failures
+disk_failed (load text goal) old new cause = cause
+disk_failed (work units) old new cause = cause
+
+-- what is not shut is open
+not_shut : (closed : Bool) → (closed ≡ true → ⊥) → closed ≡ false
+not_shut false never = refl
+not_shut true never = absurd (never refl)
+
+-- units are told of `work` alone, with the counts of the table
+work_does : (command : Command) (old new : Option Kept) (units : ℕ) (counts : Counts) → Does (Worked units counts) command old new
+    → (kept : Kept) × (new ≡ Some kept) × (counts ≡ counts_of kept.table)
+work_does (load text goal) old new units counts does = absurd does
+work_does (work asked) old new units counts does = (does.is, does.worked, does.counted)
 
 module _ {S : Type 0} (Stores : ℕ → Layout) (state : S → State) (ready : S → Type 0) (was is : S) where
   -- what a call answers
@@ -79,84 +95,98 @@ module _ {S : Type 0} (Stores : ℕ → Layout) (state : S → State) (ready : S
     reply = is_reply result Cause (λ closed. (shut closed).0) so cause;
   }
 
-  -- why a command was refused
-  pub why_refused : {T : Type 0} (result : Result T SolverFault) (command : Command)
-      → (HasReason (Refused DiskFailed) command (state was) (state is) → Grew (state was).failures (state is).failures)
-      → ((state was).closed ≡ true → IsErrOf result Closed × (is ≡ was))
-      → (ready was → IfErr result (IsRefused Stores command (state was) (state is))) → IsReply (calls_of Stores state ready) was is result
-  why_refused {T} result command so shut refuses =
-      is_reply result (λ fault. HasReason (Refused fault) command (state was) (state is)) (λ closed. (shut closed).0) so (λ here. go result (refuses here))
-    where
-      go : (r : Result T SolverFault) → IfErr r (IsRefused Stores command (state was) (state is))
-          → IfErr r (λ fault. HasReason (Refused fault) command (state was) (state is))
-      go (Ok value) it = tt
-      go (Err fault) it = it.step.reason
-
-  -- a command that was refused, or in which a write or a sync failed
-  pub is_refused : {T : Type 0} (result : Result T SolverFault) (command : Command) → (ready was → ready is)
-      → GoesAhead (state was) (state is) → (ready was → IfErr result (IsRefused Stores command (state was) (state is)))
-      → ((state was).closed ≡ true → IsErrOf result Closed × (is ≡ was)) → OnErr result (IsRefusal (calls_of Stores state ready) command was is)
-  is_refused (Ok value) command still ahead refuses shut = tt
-  is_refused (Err fault) command still ahead refuses shut = go (state was).closed refl (state is).closed refl
-    where
-      turn : ready was → IsTurn Stores command (Refused fault) (state was) (state is)
-      turn here = (refused_turn Stores command (state was) (state is) ahead fault (refuses here)
-          (λ closed. let it = shut closed in let err = it.0 in (cc, ap (λ s. state s) it.1))).turn
-
-      go : (before : Bool) → (state was).closed ≡ before → (after : Bool) → (state is).closed ≡ after
-          → IsRefusal (calls_of Stores state ready) command was is
-      go true closed after now = inl (record {
-        shut = λ _. (refl, (shut closed).1);
-        answered = λ here. record {
-          ready_still = still here;
-          goes_on = ahead.goes_on;
-          answers = λ is_open. absurd (apart (state was).closed is_open closed);
+  -- a command with its reply
+  module _ (command : Command) (reply : Reply) (still : ready was → ready is) (ahead : GoesAhead (state was) (state is))
+      (turn : ready was → IsTurnWithCause Stores command reply (state was) (state is))
+      (shut : (state was).closed ≡ true → (reply ≡ Refused Closed) × (is ≡ was)) where
+    is_answer : (reply ≡ Refused DiskFailed → ⊥) → AnsweredBy Stores state ready command (answer_of reply) was is
+    is_answer no_failure = record {
+      shut = λ closed. (ap answer_of (shut closed).0, (shut closed).1);
+      answered = λ here. record {
+        ready_still = still here;
+        goes_on = ahead.goes_on;
+        answers = λ is_open. record {
+          open_still = not_shut (state is).closed (λ now. no_failure (((turn here).turn.failed is_open now).reply_is));
+          reply = reply;
+          turn = (turn here).turn;
+          answer_is = refl;
         };
-      })
-      go false is_open false now = inl (record {
-        shut = λ closed. absurd (apart (state was).closed is_open closed);
-        answered = λ here. record {
-          ready_still = still here;
-          goes_on = ahead.goes_on;
-          answers = λ _. record { open_still = now; reply = Refused fault; turn = turn here; answer_is = refl };
-        };
-      })
-      go false is_open true now = inr (
-        record { was_open = is_open; shut = now; ready_still = still; goes_on = ahead.goes_on; breaks = λ here. (Refused fault, turn here) },
-        ahead.closes.cause is_open now,
-      )
-
-  -- a command that was done with this reply
-  pub is_done : {T : Type 0} (result : Result T SolverFault) (command : Command) (reply_of : T → Reply) (answer_of : T → BriefAnswer)
-      → ((value : T) → answer_of value ≡ brief_answer (reply_of value)) → (ready was → ready is) → GoesAhead (state was) (state is)
-      → (ready was → IfOk result (λ value. IsDone Stores command (reply_of value) (state was) (state is)))
-      → ((state was).closed ≡ true → IsErrOf result Closed × (is ≡ was))
-      → IfOk result (λ value. AnsweredBy Stores state ready command (answer_of value) was is)
-  is_done (Ok value) command reply_of answer_of same still ahead does shut = record {
-    shut = λ closed. let it = (shut closed).0 in absurd cc;
-    answered = λ here. record {
-      ready_still = still here;
-      goes_on = ahead.goes_on;
-      answers = λ is_open. record {
-        open_still = (does here).stops.is_open;
-        reply = reply_of value;
-        turn = (done_turn Stores command (state was) (state is) ahead (reply_of value) (does here)
-            (λ closed. let it = (shut closed).0 in absurd cc)).turn;
-        answer_is = same value;
       };
-    };
-  }
-  is_done (Err fault) command reply_of answer_of same still ahead does shut = tt
+    }
 
-  -- the counts that work answers
-  pub work_counts : (result : Result Done SolverFault) (units : ℕ)
-      → (ready was → IfOk result (λ done. IsDone Stores (work units) (Worked done.units done.counts) (state was) (state is)))
-      → GoesAhead (state was) (state is) → ready was → (table : Option BriefTable) → tells_of state ready is table → IsTrue (state was).disk.honest
-      → IfOk result (λ done. TellsCounts done.counts table)
-  work_counts (Ok done) units does ahead here table (still, is_open, told) honest =
-      let it = (does here).step.does honest in
-      counts_told (state is).kept table (told (still_honest ahead.goes_on honest)) done.counts it.is it.worked it.counted
-  work_counts (Err fault) units does ahead here table told honest = tt
+    is_refusal : OrBroken (AnsweredBy Stores state ready command (answer_of reply) was is) (BrokenBy Stores state ready (Some command) was is)
+        (state was).disk (state is).disk
+    is_refusal = go (state was).closed refl (state is).closed refl
+      where
+        go : (before : Bool) → (state was).closed ≡ before → (after : Bool) → (state is).closed ≡ after
+            → OrBroken (AnsweredBy Stores state ready command (answer_of reply) was is) (BrokenBy Stores state ready (Some command) was is)
+            (state was).disk (state is).disk
+        go true closed after now = inl (record {
+          shut = λ _. (ap answer_of (shut closed).0, (shut closed).1);
+          answered = λ here. record {
+            ready_still = still here;
+            goes_on = ahead.goes_on;
+            answers = λ is_open. absurd (apart (state was).closed is_open closed);
+          };
+        })
+        go false is_open false now = inl (record {
+          shut = λ closed. absurd (apart (state was).closed is_open closed);
+          answered = λ here. record {
+            ready_still = still here;
+            goes_on = ahead.goes_on;
+            answers = λ _. record { open_still = now; reply = reply; turn = (turn here).turn; answer_is = refl };
+          };
+        })
+        go false is_open true now = inr (
+          record { was_open = is_open; shut = now; ready_still = still; goes_on = ahead.goes_on; breaks = λ here. (reply, (turn here).turn) },
+          ahead.closes.cause is_open now,
+        )
+
+    counted : (units : ℕ) (counts : Counts) → reply ≡ Worked units counts → ready was → (table : Option BriefTable) → tells_of state ready is table
+        → IsTrue (state is).disk.honest → TellsCounts counts table
+    counted units counts replied here table (there, is_open, told) honest =
+        let before : IsTrue (state was).disk.honest = subst (λ (h : Bool). IsTrue h) ahead.goes_on.honest honest in
+        let does = subst (λ (r : Reply). Does r command (state was).kept (state is).kept) replied ((turn here).turn.does before) in
+        let (kept, loaded_is, so) = work_does command (state was).kept (state is).kept units counts does in
+        counts_told (state is).kept table (told honest) counts kept loaded_is so
+
+    reason_of : (fault : SolverFault) → reply ≡ Refused fault → ready was → HasReason (Refused fault) command (state was) (state is)
+    reason_of fault replied here = subst (λ (r : Reply). HasReason r command (state was) (state is)) replied (turn here).reason
+
+    pub is_answered : HasDone (calls_of Stores state ready) command reply was is → IsAnswered (calls_of Stores state ready) command reply was is
+    is_answered done = record {
+      done = done;
+      counts = counted;
+      closed = λ closed. (shut closed).0;
+      failed = λ here replied. disk_failed command (state was) (state is) (reason_of DiskFailed replied here);
+      cause = λ fault replied table (here, is_open, told) honest.
+          why_in_brief (state was) (state is) table (told honest) honest is_open command fault (reason_of fault replied here);
+    }
+
+  -- by the reply, with what is done
+  pub is_replied : (command : Command) (reply : Reply) → (ready was → ready is) → GoesAhead (state was) (state is)
+      → (ready was → IsTurnWithCause Stores command reply (state was) (state is))
+      → ((state was).closed ≡ true → (reply ≡ Refused Closed) × (is ≡ was)) → IsAnswered (calls_of Stores state ready) command reply was is
+  is_replied command Loaded still ahead turn shut =
+      is_answered command Loaded still ahead turn shut (is_answer command Loaded still ahead turn shut (λ same. cc))
+  is_replied command (Worked units counts) still ahead turn shut = is_answered command (Worked units counts) still ahead turn shut
+      (is_answer command (Worked units counts) still ahead turn shut (λ same. cc))
+  is_replied command (Refused fault) still ahead turn shut =
+      is_answered command (Refused fault) still ahead turn shut (is_refusal command (Refused fault) still ahead turn shut)
+
+  -- by what a call answers
+  pub is_command : {T : Type 0} (result : Result T SolverFault) (command : Command) (reply_for : T → Reply) → (ready was → ready is)
+      → GoesAhead (state was) (state is) → (ready was → IfOk result (λ value. IsDone Stores command (reply_for value) (state was) (state is)))
+      → (ready was → IfErr result (IsRefused Stores command (state was) (state is)))
+      → ((state was).closed ≡ true → IsErrOf result Closed × (is ≡ was))
+      → IsAnswered (calls_of Stores state ready) command (reply_of reply_for result) was is
+  is_command (Ok value) command reply_for still ahead does refuses shut = is_replied command (reply_for value) still ahead
+      (λ here. done_turn Stores command (state was) (state is) ahead (reply_for value) (does here) (λ closed. let it = (shut closed).0 in absurd cc))
+      (λ closed. let it = (shut closed).0 in absurd cc)
+  is_command (Err fault) command reply_for still ahead does refuses shut = is_replied command (Refused fault) still ahead
+      (λ here. refused_turn Stores command (state was) (state is) ahead fault (refuses here)
+      (λ closed. let it = shut closed in let err = it.0 in (cc, ap (λ s. state s) it.1)))
+      (λ closed. let it = shut closed in let err = it.0 in (cc, it.1))
 
   -- a growth, in which a write or a sync may have failed
   pub has_grown : {T : Type 0} (result : Result T SolverFault) (pages : ℕ) → (ready was → ready is) → GrowsAhead (state was) (state is)

@@ -1,145 +1,38 @@
 -- The headline in brief: what a reader has to know of a table in a file, and no more. It names no layout of the file,
--- no packing of positions, and no step of the work. The calls of `SavedTable` go by the relations of one record,
--- `Calls`, which are not said here; `AreLawful` says what holds of them, and the headline in brief of each history of
--- such calls.
-use Rattle.std.specs.Prelude.{◌≡◌, ◌⊎◌, ◌↔◌, ℕ, zero, suc, ◌+◌, ◌≤◌, ◌<◌, List, [], ◌∷◌, ◌++◌, length, slice_get, Contains, Option, None, Some, IsTrue, Result, IfErr, IsErrOf}
+-- no packing of positions, and no step of the work. What a table tells stands in `Tables`. The calls of `SavedTable` go
+-- by the relations of one record, `Calls`, which are not said here; `AreLawful` says what holds of them, and the headline
+-- in brief of each history of such calls.
+use Rattle.std.specs.Prelude.{◌≡◌, ◌⊎◌, ℕ, ◌+◌, ◌≤◌, ◌<◌, List, [], ◌∷◌, ◌++◌, length, Contains, Option, None, Some, IsTrue, Result, Ok, Err, IfErr, IsErrOf}
 use Rattle.sector_disk.specs.Disk.{Picture, Shown, Disk, GoesOn, MayLeave, Grew}
 use Rattle.rbg_text.specs.Token.{Text}
-use Rattle.rbg_text.specs.Syntax.{Tokens, Section}
-use Rattle.rbg_game.specs.Games.{Game}
 use Rattle.rbg_game.specs.declared.position.Position.{Position}
 use Rattle.rbg_game.specs.declared.roles.Player.{Player}
-use Rattle.rbg_game.specs.declared.roles.Player.TheVariants.{First, Second}
-use Rattle.position_pack.specs.Texts.{text_of}
-use Rattle.rbg_read.specs.Means.{Means}
-use Rattle.rbg_read.specs.Reading.{Parses}
-use Rattle.legal_moves.specs.Moves.{IsSuccessor, start_of, score}
-use Rattle.legal_moves.specs.Sources.{leader}
-use Rattle.retrograde.specs.Graph.{Graph, IsReachable}
 use Rattle.retrograde.specs.Units.{processed_in_view}
-use Rattle.retrograde.specs.Values.{WonIn, Drawn}
 use Rattle.retrograde.specs.declared.records.Counts.{Counts}
-use Rattle.retrograde.specs.View.{View, HasNumber, IsKnown, HasValue, IsFinished}
-use Rattle.best_line.specs.declared.answers.Value.{Value}
-use Rattle.best_line.specs.declared.answers.Value.TheVariants.{Open}
-use Rattle.best_line.specs.declared.answers.Row.{Row}
-use Rattle.best_line.specs.Rows.{AreRows}
-use Rattle.best_line.specs.Values.{IsComplete, IsValue}
+use Rattle.retrograde.specs.View.{View, HasNumber, IsFinished}
 use Rattle.solver.specs.declared.fault.SolverFault.{SolverFault}
 use Rattle.solver.specs.declared.fault.SolverFault.TheVariants.{Disk as DiskFailed, OutOfMemory, Closed}
+use Rattle.solver.specs.declared.replies.Reply.{Reply}
+use Rattle.solver.specs.declared.replies.Reply.TheVariants.{Loaded, Worked, Refused}
 use Rattle.solver.specs.Machine.{Command, load, work}
-
--- the game that a text says, by the grammar and by what its sections mean; a text that names what it does not declare, or passes a limit, is
--- refused by `load`
-pub record TextSays (text : Text) (game : Game) : Type 0 where
-  pub tokens : Tokens
-  pub sections : List Section
-  pub parses : Parses text tokens sections
-  pub means : Means sections game
-
--- the game as a graph of its positions, without a goal or with this one
-abbrev pub play_of : Option ℕ → Game → Graph Position
-play_of goal game = record {
-  start = start_of game;
-  mover = λ at. at.state.mover;
-  ahead = λ at. leader goal (score First at.state) (score Second at.state);
-  Successor = IsSuccessor game;
-}
-
--- what a table tells: the text of its game, its goal, if it has one, and how far each known position has come
-pub record BriefTable : Type 0 where
-  pub text : Text
-  pub goal : Option ℕ
-  pub view : View Position
-
--- what it tells is so by the rules of the game, the only one that its text says: a known position has one number, and the start number 0;
--- a settled one is won by the named player in exactly the named number of moves; and where the table is finished, its positions are those
--- that play can come to, and the unsettled are exactly the drawn
-pub record IsTrueIn (game : Game) (table : BriefTable) : Type 0 where
-  pub says : TextSays table.text game
-  pub only : (other : Game) → TextSays table.text other → other ≡ game
-  pub once : (i j : ℕ) (at : Position) → HasNumber table.view i at → HasNumber table.view j at → i ≡ j
-  pub start : HasNumber table.view 0 (start_of game)
-  pub won : (at : Position) (w : Player) (n : ℕ) → HasValue table.view at w n → WonIn (play_of table.goal game) w n at
-  pub all : IsFinished table.view → (at : Position) → IsKnown table.view at ↔ IsReachable (play_of table.goal game) at
-  pub drawn : IsFinished table.view → (i : ℕ) (at : Position) → HasNumber table.view i at
-      → (table.view.value i ≡ None) ↔ Drawn (play_of table.goal game) at
-
--- no game is loaded, or what the table tells is so
-abbrev pub IsTrueOfItsGame : Option BriefTable → Type 0
-IsTrueOfItsGame None = Unit {0}
-IsTrueOfItsGame (Some table) = (game : Game) × IsTrueIn game table
-
--- a game is loaded, and this is the value of the position with this number: its winner and distance, or whether it is drawn or still open
-abbrev pub TellsValue : ℕ → Value → Option BriefTable → Type 0
-TellsValue number value None = ⊥
-TellsValue number value (Some table) = IsValue table.view number value
-
--- and this is the text of that position
-abbrev pub TellsText : ℕ → Text → Option BriefTable → Type 0
-TellsText number text None = ⊥
-TellsText number text (Some table) =
-    (game : Game) × (at : Position) × TextSays table.text game × HasNumber table.view number at × (text ≡ text_of game at)
-
--- and it is the text of a position that has this value
-abbrev pub TellsValueOf : Text → Value → Option BriefTable → Type 0
-TellsValueOf text value table = (number : ℕ) × TellsText number text table × TellsValue number value table
-
--- and these are the rows from this number on: this many, or up to the last
-abbrev pub TellsRows : ℕ → ℕ → List Row → Option BriefTable → Type 0
-TellsRows from count rows None = ⊥
-TellsRows from count rows (Some table) = AreRows table.view from count rows
-
--- and these are its counts: how many positions are known, and how many of them expanded; and nothing is left to do by
--- them exactly if it is finished, as a reply says with that word
-abbrev pub TellsCounts : Counts → Option BriefTable → Type 0
-TellsCounts counts None = ⊥
-TellsCounts counts (Some table) =
-    (counts.known ≡ length table.view.known) × (counts.expanded ≡ table.view.expanded) × (IsComplete counts ↔ IsFinished table.view)
-
--- a move leads from the position with the one number to that with the other
-pub record IsMoveIn (game : Game) (view : View Position) (i j : ℕ) : Type 0 where
-  pub from : Position
-  pub to : Position
-  pub from_number : HasNumber view i from
-  pub to_number : HasNumber view j to
-  pub leads : IsSuccessor game from to
-
--- w wins the first of these numbers in n moves; a move leads from each to the next, which w wins in one fewer; and it
--- wins the last in 0
-abbrev pub IsLineIn : Game → View Position → Player → ℕ → List ℕ → Type 0
-IsLineIn game view w zero (i ∷ []) = view.value i ≡ Some (w, 0)
-IsLineIn game view w (suc n) (i ∷ j ∷ rest) = (view.value i ≡ Some (w, suc n)) × IsMoveIn game view i j × IsLineIn game view w n (j ∷ rest)
-IsLineIn game view w _ _ = ⊥
-
--- and these numbers are a shortest win that begins with that position
-abbrev pub TellsLine : ℕ → List ℕ → Option BriefTable → Type 0
-TellsLine number numbers None = ⊥
-TellsLine number numbers (Some table) =
-    (game : Game) × (w : Player) × (n : ℕ) × TextSays table.text game × (slice_get numbers 0 ≡ Some number) × IsLineIn game table.view w n numbers
-
--- what a call tells of a position: its value; its text, or by its text the number; or a shortest win
-pub data Told : Type 0 where
-  the_value : (number : ℕ) (value : Value) → Told
-  the_text : (number : ℕ) (text : Text) → Told
-  the_line : (number : ℕ) (numbers : List ℕ) → Told
-
--- the table tells this
-abbrev pub IsTold : Told → Option BriefTable → Type 0
-IsTold (the_value number value) table = TellsValue number value table
-IsTold (the_text number text) table = TellsText number text table
-IsTold (the_line number numbers) table = TellsLine number numbers table
-
--- it is told for good: all but that a value is open, which work may settle
-abbrev pub IsForGood : Told → Type 0
-IsForGood (the_value number Open) = ⊥
-IsForGood _ = Unit {0}
+use Rattle.recover.specs.Tables.{BriefTable, IsTrueOfItsGame, TellsCounts, Told, IsTold, IsForGood, MayRefuse}
 
 -- what a command answers: the game is loaded, this many units are done, or it is refused
 pub data BriefAnswer : Type 0 where
   loaded : BriefAnswer
   worked : (units : ℕ) → BriefAnswer
   refused : BriefAnswer
+
+-- a reply as such an answer
+abbrev pub answer_of : Reply → BriefAnswer
+answer_of Loaded = loaded
+answer_of (Worked units counts) = worked units
+answer_of (Refused fault) = refused
+
+-- what `load` or `work` answers as a reply, with what is replied where it is done
+abbrev pub reply_of : {T : Type 0} → (T → Reply) → Result T SolverFault → Reply
+reply_of done (Ok value) = done value
+reply_of done (Err fault) = Refused fault
 
 -- how many units were done so far: each expanded a position or processed one
 abbrev pub units_so_far : View Position → ℕ
@@ -234,6 +127,10 @@ module _ {S : Type 0} (calls : Calls S) where
   abbrev pub IsLater : S → S → Type 0
   IsLater was is = calls.ready was → calls.ready is × GoesOn (calls.disk was) (calls.disk is)
 
+  -- of an honest disk, this is so of the table that its calls tell
+  abbrev pub OfTable : S → (Option BriefTable → Type 0) → Type 0
+  OfTable s Such = (table : Option BriefTable) → calls.tells s table → IsTrue (calls.disk s).honest → Such table
+
   -- what a call answers where it is shut: E9; and E1 is answered only where the disk failed in the call
   pub record IsReply {T : Type 0} (was is : S) (result : Result T SolverFault) : Type 0 where
     pub closed : calls.shut was → IsErrOf result Closed
@@ -245,9 +142,21 @@ module _ {S : Type 0} (calls : Calls S) where
     pub asked : calls.asked was is
     pub reply : IsReply was is result
 
-  -- a command that was refused; or a write or a sync has failed in it
-  abbrev pub IsRefusal : Command → S → S → Type 0
-  IsRefusal command was is = OrBroken (calls.answered command refused was is) (calls.broken (Some command) was is) (calls.disk was) (calls.disk is)
+  -- a command is done as its reply says; or it is refused, or a write or a sync has failed in it
+  abbrev pub HasDone : Command → Reply → S → S → Type 0
+  HasDone command (Refused fault) was is =
+      OrBroken (calls.answered command refused was is) (calls.broken (Some command) was is) (calls.disk was) (calls.disk is)
+  HasDone command reply was is = calls.answered command (answer_of reply) was is
+
+  -- a command with its reply: the counts of a reply are those of the table; what is shut answers E9; E1 comes only where
+  -- the disk failed in the call, and any refusal with its cause
+  pub record IsAnswered (command : Command) (reply : Reply) (was is : S) : Type 0 where
+    pub done : HasDone command reply was is
+    pub counts : (units : ℕ) (counts : Counts) → reply ≡ Worked units counts → calls.ready was → OfTable is (TellsCounts counts)
+    pub closed : calls.shut was → reply ≡ Refused Closed
+    pub failed : calls.ready was → reply ≡ Refused DiskFailed → Grew (calls.failures was) (calls.failures is)
+    pub cause : (fault : SolverFault) → reply ≡ Refused fault
+        → OfTable was (λ table. MayRefuse command (calls.pages was) table fault)
 
   -- what holds of the calls: each goes on from the disk that it was given; what is shut refuses each command and stays
   -- as it is; a table begins as the empty one, a command makes of it what its answer says, any other call leaves it; it
@@ -294,7 +203,7 @@ module _ {S : Type 0} (calls : Calls S) where
         → calls.answered command answer was mid → AreCalls later told mid is
         → AreCalls ((command, answer) ∷ later) told was is
     it_told : {one : Told} {later : List (Command × BriefAnswer)} {told : List Told} {was is : S}
-        → ((table : Option BriefTable) → calls.tells was table → IsTrue (calls.disk was).honest → IsTold one table)
+        → OfTable was (IsTold one)
         → AreCalls later told was is
         → AreCalls later (one ∷ told) was is
 

@@ -1,4 +1,5 @@
 pub use Rattle.tree_table.specs.Held
 pub mod Migrating
 pub mod aid
+pub mod Tables
 pub mod Brief

@@ -4,5 +4,6 @@ pub mod Plays
 pub mod Finished
 pub mod Telling
 pub mod Histories
+pub mod Causes
 pub mod AtWork
 pub mod Migrations

@@ -4,11 +4,12 @@ ghost use Rattle.audit.specs.declared.verdict.Verdict.TheVariants.{Right};
 ghost use Rattle.sector_disk.specs.Disk.{Picture, Shown, GoesOn, MayLeave, Grew};
 ghost use Rattle.rbg_game.specs.Goals.{points_of};
 ghost use Rattle.solver.specs.Machine.{load as load_it, work as work_on};
+ghost use Rattle.solver.specs.Runs.{command_of};
 ghost use Rattle.solver.specs.Units.{units_in};
 ghost use Rattle.recover.specs.aid.Histories.{calls_of, the_headline_in_brief};
 ghost use Rattle.recover.specs.aid.AtWork.{solver_is_lawful};
-ghost use Rattle.recover.specs.Brief.{Calls, AreLawful, IsReply, IsQuestion, IsRefusal, OrBroken, BriefTable, loaded, worked};
-ghost use Rattle.recover.specs.Brief.{TellsValue, TellsText, TellsValueOf, TellsRows, TellsLine, TellsCounts};
+ghost use Rattle.recover.specs.Tables.{BriefTable, TellsValue, TellsText, TellsValueOf, TellsRows, TellsLine, TellsCounts};
+ghost use Rattle.recover.specs.Brief.{Calls, AreLawful, OfTable, IsReply, IsQuestion, IsAnswered, reply_of, OrBroken};
 ghost use Rattle.recover.specs.Brief.{BriefSitting, BriefHistory, BriefHeadline};
 
 use audit::Verdict;
@@ -17,7 +18,7 @@ use game_file::GameFile;
 use rbg_game::goal::Goal;
 use retrograde::Counts;
 use sector_disk::SectorDisk;
-use solver::{FileSolver, Refused, SolverFault, Units, Worked};
+use solver::{Command, FileSolver, Refused, Reply, SolverFault, Units, Worked};
 use std::alloc::Global;
 
 /// A game's table in a file, as its calls leave it. What may be so behind a call is a relation of `calls`, which is not
@@ -46,23 +47,19 @@ pub trait SavedTable {
 
     /// Loads the game of this text with this goal, if there is one.
     fn load(&mut self, text: &[u8], goal: Option<Goal>) -> Result<(), SolverFault>
-        ensures reply { IsReply calls self.old self.new result }
-        ensures done { OnOk result (calls.answered (load_it text.now (points_of goal)) loaded self.old self.new) }
-        ensures refused { OnErr result (IsRefusal calls (load_it text.now (points_of goal)) self.old self.new) };
+        ensures { IsAnswered calls (load_it text.now (points_of goal)) (reply_of (λ _. Reply.Loaded) result) self.old self.new };
 
     /// Does this many units of work, or fewer where the table is finished by then.
     fn work(&mut self, units: Units) -> Result<Worked, SolverFault>
-        ensures reply { IsReply calls self.old self.new result }
-        ensures done { IfOk result (λ done. calls.answered (work_on (units_in units)) (worked done.units) self.old self.new) }
-        ensures counts { calls.ready self.old → (table : Option BriefTable) → calls.tells self.new table
-            → IsTrue (calls.disk self.old).honest
-            → IfOk result (λ done. TellsCounts done.counts table) }
-        ensures refused { OnErr result (IsRefusal calls (work_on (units_in units)) self.old self.new) };
+        ensures { IsAnswered calls (work_on (units_in units)) (reply_of (λ done. Reply.Worked done.units done.counts) result) self.old self.new };
+
+    /// The reply to one command, which is done as `load` and `work` do it: the program makes this call for each command.
+    fn answer(&mut self, command: &Command) -> Reply
+        ensures { IsAnswered calls (command_of command.now) result self.old self.new };
 
     /// How far the table is; none where no game is loaded.
     fn status(&self) -> Option<Counts>
-        ensures { (table : Option BriefTable) → calls.tells self.now table → IsTrue (calls.disk self.now).honest
-            → IfSome result (λ counts. TellsCounts counts table) × (result ≡ None → table ≡ None) };
+        ensures { OfTable calls self.now (λ table. IfSome result (λ counts. TellsCounts counts table) × (result ≡ None → table ≡ None)) };
 
     /// How many pages the table has.
     fn capacity(&self) -> u32
@@ -71,38 +68,32 @@ pub trait SavedTable {
     /// Who wins the position with this number, and in how many moves.
     fn value(&mut self, number: u32) -> Result<Value, SolverFault>
         ensures asked { IsQuestion calls self.old self.new result }
-        ensures told { (table : Option BriefTable) → calls.tells self.old table → IsTrue (calls.disk self.old).honest
-            → IfOk result (λ value. TellsValue number value table) };
+        ensures told { OfTable calls self.old (λ t. IfOk result (λ value. TellsValue number value t)) };
 
     /// The same of the position with this text.
     fn find_value(&mut self, text: &[u8]) -> Result<Value, SolverFault>
         ensures asked { IsQuestion calls self.old self.new result }
-        ensures told { (table : Option BriefTable) → calls.tells self.old table → IsTrue (calls.disk self.old).honest
-            → IfOk result (λ value. TellsValueOf text.now value table) };
+        ensures told { OfTable calls self.old (λ t. IfOk result (λ value. TellsValueOf text.now value t)) };
 
     /// The text of the position with this number.
     fn show(&mut self, number: u32) -> Result<Vec<u8>, SolverFault>
         ensures asked { IsQuestion calls self.old self.new result }
-        ensures told { (table : Option BriefTable) → calls.tells self.old table → IsTrue (calls.disk self.old).honest
-            → IfOk result (λ text. TellsText number text.items table) };
+        ensures told { OfTable calls self.old (λ t. IfOk result (λ text. TellsText number text.items t)) };
 
     /// The number of the position with this text.
     fn find(&mut self, text: &[u8]) -> Result<u32, SolverFault>
         ensures asked { IsQuestion calls self.old self.new result }
-        ensures told { (table : Option BriefTable) → calls.tells self.old table → IsTrue (calls.disk self.old).honest
-            → IfOk result (λ number. TellsText number text.now table) };
+        ensures told { OfTable calls self.old (λ t. IfOk result (λ number. TellsText number text.now t)) };
 
     /// The positions from this number on with their values.
     fn list(&mut self, from: u32, count: Units) -> Result<Vec<Row>, SolverFault>
         ensures asked { IsQuestion calls self.old self.new result }
-        ensures told { (table : Option BriefTable) → calls.tells self.old table → IsTrue (calls.disk self.old).honest
-            → IfOk result (λ rows. TellsRows from (units_in count) rows.items table) };
+        ensures told { OfTable calls self.old (λ t. IfOk result (λ rows. TellsRows from (units_in count) rows.items t)) };
 
     /// The numbers of a best line.
     fn line(&mut self, number: u32) -> Result<Vec<u32>, SolverFault>
         ensures asked { IsQuestion calls self.old self.new result }
-        ensures told { (table : Option BriefTable) → calls.tells self.old table → IsTrue (calls.disk self.old).honest
-            → IfOk result (λ numbers. TellsLine number numbers.items table) };
+        ensures told { OfTable calls self.old (λ t. IfOk result (λ numbers. TellsLine number numbers.items t)) };
 
     /// The moves of the position with this number.
     fn moves(&mut self, number: u32) -> Result<KnownMoves, SolverFault>
@@ -182,6 +173,10 @@ impl<F: GameFile> SavedTable for FileSolver<F> {
 
     fn work(&mut self, units: Units) -> Result<Worked, SolverFault> {
         FileSolver::work(self, units)
+    }
+
+    fn answer(&mut self, command: &Command) -> Reply {
+        FileSolver::answer(self, command)
     }
 
     fn status(&self) -> Option<Counts> {

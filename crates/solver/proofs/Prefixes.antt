@@ -19,7 +19,7 @@ use Rattle.solver.specs.declared.replies.Reply.{Reply}
 use Rattle.solver.specs.declared.replies.Reply.TheVariants.{Loaded, Worked, Refused}
 use Rattle.solver.specs.Held.{Holds, IsSound}
 use Rattle.solver.specs.Headline.{IsExact, IsAnsweredBy, LeavesAPrefix}
-use Rattle.solver.specs.Histories.{Sitting, DoAll, DoesInDoubt, LeadTo, IsUsed, no_call, a_question, a_command, a_growth, Ends, by_closing, in_a_question, in_a_growth, in_a_command, by_a_fault, IsSitting}
+use Rattle.solver.specs.Histories.{Sitting, DoAll, DoesInDoubt, LeadTo, IsUsed, no_call, a_question, a_command, a_growth, Ends, by_closing, in_a_question, in_a_growth, in_a_command, IsSitting}
 use Rattle.solver.specs.aid.Laws.{a_sound_table_is_held, what_is_settled_is_won, finished_is_all, finished_leaves_the_drawn}
 use Rattle.solver.specs.Growing.{IsGrowth}
 use Rattle.solver.specs.Machine.{Command, load, work, Does, MayDo}
@@ -137,7 +137,6 @@ module _ (Stores : ℕ → Layout) where
   IsInAGrowth (in_a_question asked moment from to) = ⊥
   IsInAGrowth (in_a_growth growth moment from to) = Unit {0}
   IsInAGrowth (in_a_command turn moment from to) = ⊥
-  IsInAGrowth (by_a_fault turn shut moment from to) = ⊥
 
   -- what is left of a table in a sitting: it is stored in this many pages, and the sitting leads to it
   record IsLeft (in_doubt : Option Command) (last : State) (pages : ℕ) (picture : Picture) (kept : Option Kept) : Type 0 where
@@ -181,9 +180,6 @@ module _ (Stores : ℕ → Layout) where
       ]
   ends_left {last} (in_a_command {asked} {reply} {is} turn moment from to) open_ fit picture left =
       let (kept, it) = in_command is.closed asked reply last is turn open_ refl fit moment picture from to left in
-      record { kept = kept; pages = last.capacity; is = it; as_many = λ not. refl }
-  ends_left {last} (by_a_fault {asked} {reply} {is} turn shut moment from to) open_ fit picture left =
-      let (kept, it) = in_command true asked reply last is turn open_ shut fit moment picture from to left in
       record { kept = kept; pages = last.capacity; is = it; as_many = λ not. refl }
 
   -- what is left of a sitting is a table that it leads to, in some number of pages
@@ -312,7 +308,7 @@ module _ (Stores : ℕ → Layout) where
           let clock : is.disk.clock ≡ mid.disk.clock = ap (λ (s : State). s.disk.clock) (turns_shut commands replies mid is rest shut) in
           let le : moment ≤ mid.disk.clock = omega (arith, to, clock) in
           subst (λ (shown : Shown). IsCut moment (command ∷ commands) (reply ∷ replies) was is shown) (then_shown le)
-          (cut_before moment command commands reply replies was mid is (mid.disk.was moment) open_ it (inr shut) rest (by_a_fault turn shut moment from le) (λ never. never))
+          (cut_before moment command commands reply replies was mid is (mid.disk.was moment) open_ it (inr shut) rest (in_a_command turn moment from le) (λ never. never))
       by false mid_open then = elim (cases_lt moment mid.disk.clock) [
         | inl less ↦ before less
         | inr le ↦ cut_behind moment command commands reply replies was mid is (is.disk.was moment) it le mid_open (then mid_open le)

@@ -56,8 +56,6 @@ module _ (Stores : ℕ → Layout) where
         → moment ≤ is.disk.clock → Ends last None (is.disk.was moment)
     in_a_command : {asked : Command} {reply : Reply} {is : State} → IsTurn Stores asked reply last is → (moment : ℕ)
         → last.disk.clock ≤ moment → moment ≤ is.disk.clock → Ends last (Some asked) (is.disk.was moment)
-    by_a_fault : {asked : Command} {reply : Reply} {is : State} → IsTurn Stores asked reply last is → is.closed ≡ true → (moment : ℕ)
-        → last.disk.clock ≤ moment → moment ≤ is.disk.clock → Ends last (Some asked) (is.disk.was moment)
 
   -- a sitting with a solver from this state on, at whose end the disk shows this; the table that it reached is that of the last state
   pub record IsSitting (was : State) (sitting : Sitting) (left : Shown) : Type 0 where

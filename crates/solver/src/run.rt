@@ -1,5 +1,5 @@
 //! Many commands at once.
-ghost use Rattle.std.specs.Prelude.{◌≡◌, ◌+◌, ◌++◌, false, List, [], length, map, IsTrue, IsOk, OnOk, OnErr, IfErr};
+ghost use Rattle.std.specs.Prelude.{◌≡◌, ◌+◌, ◌++◌, true, false, List, [], length, map, IsTrue, IsOk, OnOk, OnErr, IfErr};
 ghost use Rattle.solver.specs.Headline.{LeavesAPrefix};
 ghost use Rattle.solver.specs.Held.{IsSound};
 ghost use Rattle.solver.specs.Runs.{command_of, IsTurnWithCause, IsRun};
@@ -17,6 +17,7 @@ impl<F: GameFile> FileSolver<F> {
         ensures ahead { GoesAhead (state self.old) (state self.new) }
         ensures turn { IsReady self.old
             → IsTurnWithCause F.stores (command_of command.now) result (state self.old) (state self.new) }
+        ensures closed { (state self.old).closed ≡ true → (result ≡ Reply.Refused SolverFault.Closed) × (self.new ≡ self.old) }
         ensures sound { IsReady self.old → IsTrue (state self.old).disk.honest
             → IsSound (state self.old).kept
             → IsSound (state self.new).kept }

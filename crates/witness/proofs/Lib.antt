@@ -6,3 +6,5 @@ pub mod Finishing
 pub mod Units
 pub mod Behind
 pub mod Telling
+pub mod Telltwice
+pub mod OneTable

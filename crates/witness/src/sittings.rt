@@ -19,14 +19,14 @@ use solver::{Command, FileSolver, SolverFault, Units};
 use std::alloc::Global;
 
 /// The text of the small game.
-fn text() -> &'static [u8]
+pub fn text() -> &'static [u8]
     ensures { result.now ≡ witness_text }
 {
     b"#players = white(1), black(1)  #pieces = e  #board = v[e]{}  #rules = ->white ([$black=1] + [$white=1]) ->>"
 }
 
 /// This many units of work.
-fn units(count: u32) -> Units
+pub fn units(count: u32) -> Units
     requires some { 1 ≤ count }
     requires few { count ≤ 256 }
     ensures { units_in result ≡ count }

@@ -4,8 +4,9 @@ use Rattle.std.proofs.Common.{refl, sym, subst, ◌∙◌}
 use Rattle.game_file.specs.Kept.{Kept, Layout}
 use Rattle.game_file.specs.State.{State}
 use Rattle.solver.specs.Machine.{Command}
-use Rattle.recover.specs.Brief.{AreLawful, BriefTable, BriefAnswer, IsTrueOfItsGame, Makes}
-use Rattle.recover.specs.aid.Telling.{IsToldBy, told_by_one, table_of, table_is_so, brief_answer, does_so}
+use Rattle.recover.specs.Tables.{BriefTable, IsTrueOfItsGame}
+use Rattle.recover.specs.Brief.{answer_of, AreLawful, BriefAnswer, Makes}
+use Rattle.recover.specs.aid.Telling.{IsToldBy, told_by_one, table_of, table_is_so, does_so}
 use Rattle.recover.specs.aid.Histories.{calls_of, tells_of, AnsweredBy, AskedBy, Leaves, by_question, by_growth, by_nothing}
 
 module _ {S : Type 0} (Stores : ℕ → Layout) (state : S → State) (ready : S → Type 0) where
@@ -36,7 +37,7 @@ module _ {S : Type 0} (Stores : ℕ → Layout) (state : S → State) (ready : S
       let (now, makes) = does_so it.reply command (state was).kept (state is).kept (it.turn.does honest) sound in (
         table_of (state is).kept now,
         subst (λ (a : BriefAnswer). Makes a command table (table_of (state is).kept now)) (sym it.answer_is)
-            (subst (λ (t : Option BriefTable). Makes (brief_answer it.reply) command t (table_of (state is).kept now)) (sym so) makes),
+            (subst (λ (t : Option BriefTable). Makes (answer_of it.reply) command t (table_of (state is).kept now)) (sym so) makes),
         ((answered.answered here).ready_still, it.open_still, λ _. (now, refl)),
       )
 

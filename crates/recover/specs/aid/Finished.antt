@@ -1,13 +1,12 @@
 -- A finished table stays as it is, whatever is asked of it.
-use Rattle.std.specs.Prelude.{◌≡◌, ℕ, zero, suc, ◌+◌, ◌≤◌, ◌<◌, Bool, true, false, List, length, slice_get, Option, None, Some, IsSome}
+use Rattle.std.specs.Prelude.{◌≡◌, ℕ, zero, suc, ◌+◌, ◌≤◌, ◌<◌, Bool, true, false, List, length, slice_get, None, Some, IsSome}
 use Rattle.std.proofs.Common.{refl, sym, subst, ◌∙◌, ap, inl, inr, arith}
-use Rattle.std.proofs.lemmas.Option.{slice_get_within, same_Some}
+use Rattle.std.proofs.lemmas.Option.{slice_get_within}
 use Rattle.rbg_game.specs.declared.roles.Player.{Player}
 use Rattle.retrograde.specs.Graph.{Graph}
-use Rattle.retrograde.specs.Right.{IsRight}
 use Rattle.retrograde.specs.Successors.{packed_cmp}
 use Rattle.retrograde.specs.Units.{Grows, UnitsOfWork}
-use Rattle.retrograde.specs.View.{View, HasNumber, HasValue, IsFinished}
+use Rattle.retrograde.specs.View.{View, HasNumber, IsFinished}
 use Rattle.retrograde.proofs.Finished.{draws, element, is_some_at, none_or_some, values_are_won}
 use Rattle.retrograde.proofs.Units.{settled_stays}
 

@@ -11,7 +11,6 @@ use Rattle.solver.specs.declared.fault.SolverFault.{SolverFault}
 use Rattle.solver.specs.declared.fault.SolverFault.TheVariants.{Disk as DiskFailed, OutOfMemory}
 use Rattle.solver.specs.declared.replies.Reply.{Reply}
 use Rattle.solver.specs.Growing.{IsGrowth}
-use Rattle.solver.specs.Held.{IsSound}
 use Rattle.solver.specs.Histories.{Sitting, DoAll, DoesInDoubt, LeadTo, IsUsed, no_call, a_question, a_command, a_growth}
 use Rattle.solver.specs.Histories.{Ends, by_closing, in_a_question, in_a_growth, in_a_command, IsSitting, IsFound}
 use Rattle.solver.specs.Histories.{HistoryFrom, was_made, was_reopened, was_not_opened}
@@ -21,16 +20,17 @@ use Rattle.solver.specs.Opening.{IsOpened, IsCreated, OpenCause}
 use Rattle.solver.specs.Runs.{IsTurn}
 use Rattle.solver.proofs.Chains.{the_headline}
 use Rattle.recover.specs.Brief as brief
-use Rattle.recover.specs.Brief.{BriefTable, BriefAnswer, BriefSitting, IsTrueOfItsGame, Makes, MakeInTurn, MayMake, SittingsMake}
-use Rattle.recover.specs.Brief.{Told, IsTold, IsForGood}
+use Rattle.recover.specs.Tables.{BriefTable, IsTrueOfItsGame}
+use Rattle.recover.specs.Brief.{answer_of, BriefAnswer, BriefSitting, Makes, MakeInTurn, MayMake, SittingsMake}
+use Rattle.recover.specs.Tables.{Told, IsTold, IsForGood}
 use Rattle.recover.specs.Brief.{Calls, refused, AreCalls, EndsWith, IsBriefSitting, IsFoundAs, BriefHistory, BriefHeadline}
-use Rattle.recover.specs.aid.Telling.{IsToldBy, told_by_one, told_again, table_of, table_is_so, brief_answer, does_so}
+use Rattle.recover.specs.aid.Telling.{IsToldBy, told_by_one, told_again, table_of, table_is_so, does_so}
 
 -- ---- what sittings do
 
 -- a command and its reply, in brief
 abbrev pub brief_call : Command × Reply → Command × BriefAnswer
-brief_call (command, reply) = (command, brief_answer reply)
+brief_call (command, reply) = (command, answer_of reply)
 
 -- a sitting with what it is in brief
 pub record IsInBrief (whole : Sitting) (sitting : BriefSitting) : Type 0 where
@@ -56,7 +56,7 @@ all_told [] old new before after same told later = told_by_one new after before 
 all_told ((command, reply) ∷ answered) old new before after (mid, does, rest) (sound, is) later =
     let (mid_sound, makes) = does_so reply command old mid does sound in (
       table_of mid mid_sound,
-      subst (λ (t : Option BriefTable). Makes (brief_answer reply) command t (table_of mid mid_sound)) (sym is) makes,
+      subst (λ (t : Option BriefTable). Makes (answer_of reply) command t (table_of mid mid_sound)) (sym is) makes,
       all_told answered mid new (table_of mid mid_sound) after rest (mid_sound, refl) later,
     )
 
@@ -69,7 +69,7 @@ may_told (Some command) old new before (reply, does) (sound, is) =
     let (now, makes) = does_so reply command old new does sound in (
       table_of new now,
       (now, refl),
-      (brief_answer reply, subst (λ (t : Option BriefTable). Makes (brief_answer reply) command t (table_of new now)) (sym is) makes),
+      (answer_of reply, subst (λ (t : Option BriefTable). Makes (answer_of reply) command t (table_of new now)) (sym is) makes),
     )
 
 leads_told : (wholes : List Sitting) (sittings : List BriefSitting) (old new : Option Kept) (before : Option BriefTable)
@@ -158,7 +158,7 @@ module _ {S : Type 0} (Stores : ℕ → Layout) (state : S → State) (ready : S
     pub open_still : (state is).closed ≡ false
     pub reply : Reply
     pub turn : IsTurn Stores command reply (state was) (state is)
-    pub answer_is : answer ≡ brief_answer reply
+    pub answer_is : answer ≡ answer_of reply
 
   -- on a solver that is ready; one that is closed refuses it and stays as it is
   pub record AnswersIfReady (command : Command) (answer : BriefAnswer) (was is : S) : Type 0 where
@@ -321,11 +321,11 @@ module _ {S : Type 0} (Stores : ℕ → Layout) (state : S → State) (ready : S
       let it = (answers.answered here).answers is_open in
       let (mid_sound, makes) = does_so it.reply command (state was).kept (state mid).kept (it.turn.does honest) sound in
       let table = table_of (state mid).kept mid_sound in
-      let made : Makes (brief_answer it.reply) command before table =
-      subst (λ (t : Option BriefTable). Makes (brief_answer it.reply) command t table) (sym so) makes in
+      let made : Makes (answer_of it.reply) command before table =
+      subst (λ (t : Option BriefTable). Makes (answer_of it.reply) command t table) (sym so) makes in
       let more = calls_keep rest ready_mid it.open_still (still_honest it.turn.ahead.goes_on honest) table (mid_sound, refl) in
       record {
-        again = λ one good after later tells. more.again one good after later (told_again (brief_answer it.reply) command before table made one good tells);
+        again = λ one good after later tells. more.again one good after later (told_again (answer_of it.reply) command before table made one good tells);
         of_these = more.of_these;
       }
   calls_keep {answered} {told} {was} {is} (brief.it_told {one = first} {told = others} says rest) here is_open honest before now =

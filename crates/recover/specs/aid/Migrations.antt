@@ -1,7 +1,7 @@
 -- Migrations of one table, one after another: a picture stores one table, of whichever layout, so each of them finds
 -- the same.
-use Rattle.std.specs.Prelude.{◌≡◌, ◌⊎◌, ℕ, ◌<◌, [], Option, IsTrue}
-use Rattle.std.proofs.Common.{refl, sym, subst, ◌∙◌, ap, inl, inr, arith}
+use Rattle.std.specs.Prelude.{◌≡◌, ℕ, ◌<◌, [], Option}
+use Rattle.std.proofs.Common.{sym, subst, ◌∙◌, ap, inl, inr, arith}
 use Rattle.sector_disk.specs.Disk.{Picture, Shown, Disk, MayLeave}
 use Rattle.sector_disk.specs.aid.Moments.{reads_left}
 use Rattle.game_file.specs.Fields.{layout_in}
@@ -11,7 +11,7 @@ use Rattle.earlier_layouts.specs.aid.ReadLaws.{a_picture_stores_one_table}
 use Rattle.tree_table.specs.Held.{StoresTrees}
 use Rattle.tree_table.specs.aid.OneTable.{a_picture_stores_one_tree_table}
 use Rattle.solver.specs.Histories.{HistoryFrom, was_left}
-use Rattle.recover.specs.Migrating.{EitherLayout, IsMigrated, IsCurrent, IsNotMigrated, IsFoundThen, OldTable}
+use Rattle.recover.specs.Migrating.{EitherLayout, IsMigrated, IsCurrent, IsFoundThen}
 use Rattle.recover.specs.Migrating.{AreMigrations, began, was_migrated, was_current, was_refused}
 use Rattle.recover.specs.aid.Layouts.{says_first}
 

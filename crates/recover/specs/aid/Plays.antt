@@ -18,7 +18,7 @@ use Rattle.legal_moves.proofs.CompiledLemmas.{start_position}
 use Rattle.legal_moves.proofs.FieldLemmas.{role_is, leader_is, leads}
 use Rattle.legal_moves.proofs.ReachLemmas.{position_of}
 use Rattle.legal_moves.proofs.SourceLemmas.{one_position}
-use Rattle.recover.specs.Brief.{play_of}
+use Rattle.recover.specs.Tables.{play_of}
 
 -- a position of the game has bytes
 at_bytes : (kind : PackingKind) (game : Game) (at : Position) → IsPositionOf game at → IsAt kind game (packed_by kind (shape_of game) at) at

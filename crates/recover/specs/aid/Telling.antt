@@ -39,9 +39,11 @@ use Rattle.solver.specs.declared.replies.Reply.{Reply}
 use Rattle.solver.specs.declared.replies.Reply.TheVariants.{Loaded, Worked, Refused}
 use Rattle.solver.specs.Queries.{OfKept, HasLine, HasRows, HasValueAt, HasText}
 use Rattle.solver.specs.aid.Laws.{a_sound_table_is_right, what_is_settled_is_won, finished_is_all, finished_leaves_the_drawn}
-use Rattle.recover.specs.Brief.{TextSays, BriefTable, IsTrueIn, IsTrueOfItsGame, BriefAnswer, loaded, worked, refused}
-use Rattle.recover.specs.Brief.{IsJustLoaded, GoesOnBy, Makes, units_so_far, TellsValue, TellsText, TellsRows, TellsCounts, IsMoveIn, IsLineIn, TellsLine}
-use Rattle.recover.specs.Brief.{Told, the_value, the_text, the_line, IsTold, IsForGood}
+use Rattle.recover.specs.Tables.{TextSays, BriefTable, IsTrueIn, IsTrueOfItsGame}
+use Rattle.recover.specs.Brief.{BriefAnswer, loaded, worked, refused, answer_of}
+use Rattle.recover.specs.Tables.{TellsValue, TellsText, TellsRows, TellsCounts, IsMoveIn, IsLineIn, TellsLine}
+use Rattle.recover.specs.Brief.{IsJustLoaded, GoesOnBy, Makes, units_so_far}
+use Rattle.recover.specs.Tables.{Told, the_value, the_text, the_line, IsTold, IsForGood}
 use Rattle.recover.specs.aid.Finished.{settled_at, same_known, same_expanded, same_processed, same_value}
 use Rattle.recover.specs.aid.Plays.{step_down, won_down, drawn_same, reached_up, reached_down}
 
@@ -188,7 +190,7 @@ module _ (kept : Kept) (sound : IsSound (Some kept)) where
           record { tokens = ts; sections = all; parses = parses; means = means }
 
   -- what it tells is so
-  brief_is_so : IsTrueIn sound.0 (brief_of kept sound)
+  pub brief_is_so : IsTrueIn sound.0 (brief_of kept sound)
   unfolding brief_of
   brief_is_so =
       let game = sound.0 in
@@ -239,12 +241,6 @@ table_is_so None sound = tt
 table_is_so (Some kept) sound = (sound.0, brief_is_so kept sound)
 
 -- ---- what a command does
-
--- a reply in brief
-abbrev pub brief_answer : Reply → BriefAnswer
-brief_answer Loaded = loaded
-brief_answer (Worked units counts) = worked units
-brief_answer (Refused fault) = refused
 
 -- a table that stays is told alike
 stays : (old new : Option Kept) → new ≡ old → (sound : IsSound old) → (now : IsSound new) × (table_of new now ≡ table_of old sound)
@@ -391,7 +387,7 @@ works_so units (Some was) done counts (Some is) works sound =
 
 -- what a command with its reply does to a sound table is what its answer in brief makes of what it tells
 pub does_so : (reply : Reply) (command : Command) (old new : Option Kept) → Does reply command old new → (sound : IsSound old)
-    → (now : IsSound new) × Makes (brief_answer reply) command (table_of old sound) (table_of new now)
+    → (now : IsSound new) × Makes (answer_of reply) command (table_of old sound) (table_of new now)
 does_so Loaded (load text goal) old new loads sound = loads_so text goal old new loads sound
 does_so Loaded (work units) old new does sound = absurd does
 does_so (Worked done counts) (load text goal) old new does sound = absurd does

@@ -1,0 +1,171 @@
+-- Tables in brief: what a table tells, when that is so by the rules of its game, and why a command may be refused.
+use Rattle.std.specs.Prelude.{◌≡◌, ◌≢◌, ◌↔◌, ℕ, zero, suc, ◌<◌, List, [], ◌∷◌, length, slice_get, Option, None, Some, IsSome}
+use Rattle.rbg_text.specs.Token.{Text}
+use Rattle.rbg_text.specs.Syntax.{Tokens, Section}
+use Rattle.rbg_game.specs.Games.{Game}
+use Rattle.rbg_game.specs.declared.position.Position.{Position}
+use Rattle.rbg_game.specs.declared.roles.Player.{Player}
+use Rattle.rbg_game.specs.declared.roles.Player.TheVariants.{First, Second}
+use Rattle.rbg_game.specs.declared.roles.Role.TheVariants.{Keeper}
+use Rattle.position_pack.specs.Texts.{text_of}
+use Rattle.rbg_read.specs.Means.{Means}
+use Rattle.rbg_read.specs.Reading.{Parses, Fault}
+use Rattle.rbg_read.specs.declared.fault.GameFault.TheVariants as game_fault
+use Rattle.legal_moves.specs.Moves.{IsSuccessor, start_of, score}
+use Rattle.legal_moves.specs.Searches.{IsWide}
+use Rattle.legal_moves.specs.Sources.{leader}
+use Rattle.retrograde.specs.Graph.{Graph, IsReachable}
+use Rattle.retrograde.specs.Values.{WonIn, Drawn}
+use Rattle.retrograde.specs.declared.records.Counts.{Counts}
+use Rattle.retrograde.specs.View.{View, HasNumber, IsKnown, HasValue, IsFinished}
+use Rattle.best_line.specs.declared.answers.Value.{Value}
+use Rattle.best_line.specs.declared.answers.Value.TheVariants.{Open}
+use Rattle.best_line.specs.declared.answers.Row.{Row}
+use Rattle.best_line.specs.Rows.{AreRows}
+use Rattle.best_line.specs.Values.{IsComplete, IsValue}
+use Rattle.solver.specs.declared.fault.SolverFault.{SolverFault}
+use Rattle.solver.specs.declared.fault.SolverFault.TheVariants.{Disk, TableFull, OutOfMemory, Game as BadGame, NoGame, GameAlready}
+use Rattle.solver.specs.declared.fault.SolverFault.TheVariants.{KeeperChooses, TooWide, TooManyPositions}
+use Rattle.solver.specs.Machine.{Command, load, work}
+
+-- the game that a text says, by the grammar and by what its sections mean; a text that names what it does not declare, or passes a limit, is
+-- refused by `load`
+pub record TextSays (text : Text) (game : Game) : Type 0 where
+  pub tokens : Tokens
+  pub sections : List Section
+  pub parses : Parses text tokens sections
+  pub means : Means sections game
+
+-- the game as a graph of its positions, without a goal or with this one
+abbrev pub play_of : Option ℕ → Game → Graph Position
+play_of goal game = record {
+  start = start_of game;
+  mover = λ at. at.state.mover;
+  ahead = λ at. leader goal (score First at.state) (score Second at.state);
+  Successor = IsSuccessor game;
+}
+
+-- what a table tells: the text of its game, its goal, if it has one, and how far each known position has come
+pub record BriefTable : Type 0 where
+  pub text : Text
+  pub goal : Option ℕ
+  pub view : View Position
+
+-- what it tells is so by the rules of the game, the only one that its text says: a known position has one number, and the start number 0;
+-- a settled one is won by the named player in exactly the named number of moves; and where the table is finished, its positions are those
+-- that play can come to, and the unsettled are exactly the drawn
+pub record IsTrueIn (game : Game) (table : BriefTable) : Type 0 where
+  pub says : TextSays table.text game
+  pub only : (other : Game) → TextSays table.text other → other ≡ game
+  pub once : (i j : ℕ) (at : Position) → HasNumber table.view i at → HasNumber table.view j at → i ≡ j
+  pub start : HasNumber table.view 0 (start_of game)
+  pub won : (at : Position) (w : Player) (n : ℕ) → HasValue table.view at w n → WonIn (play_of table.goal game) w n at
+  pub all : IsFinished table.view → (at : Position) → IsKnown table.view at ↔ IsReachable (play_of table.goal game) at
+  pub drawn : IsFinished table.view → (i : ℕ) (at : Position) → HasNumber table.view i at
+      → (table.view.value i ≡ None) ↔ Drawn (play_of table.goal game) at
+
+-- no game is loaded, or what the table tells is so
+abbrev pub IsTrueOfItsGame : Option BriefTable → Type 0
+IsTrueOfItsGame None = Unit {0}
+IsTrueOfItsGame (Some table) = (game : Game) × IsTrueIn game table
+
+-- a game is loaded, and this is the value of the position with this number: its winner and distance, or whether it is drawn or still open
+abbrev pub TellsValue : ℕ → Value → Option BriefTable → Type 0
+TellsValue number value None = ⊥
+TellsValue number value (Some table) = IsValue table.view number value
+
+-- and this is the text of that position
+abbrev pub TellsText : ℕ → Text → Option BriefTable → Type 0
+TellsText number text None = ⊥
+TellsText number text (Some table) =
+    (game : Game) × (at : Position) × TextSays table.text game × HasNumber table.view number at × (text ≡ text_of game at)
+
+-- and it is the text of a position that has this value
+abbrev pub TellsValueOf : Text → Value → Option BriefTable → Type 0
+TellsValueOf text value table = (number : ℕ) × TellsText number text table × TellsValue number value table
+
+-- and these are the rows from this number on: this many, or up to the last
+abbrev pub TellsRows : ℕ → ℕ → List Row → Option BriefTable → Type 0
+TellsRows from count rows None = ⊥
+TellsRows from count rows (Some table) = AreRows table.view from count rows
+
+-- and these are its counts: how many positions are known, and how many of them expanded; and nothing is left to do by
+-- them exactly if it is finished, as a reply says with that word
+abbrev pub TellsCounts : Counts → Option BriefTable → Type 0
+TellsCounts counts None = ⊥
+TellsCounts counts (Some table) =
+    (counts.known ≡ length table.view.known) × (counts.expanded ≡ table.view.expanded) × (IsComplete counts ↔ IsFinished table.view)
+
+-- a move leads from the position with the one number to that with the other
+pub record IsMoveIn (game : Game) (view : View Position) (i j : ℕ) : Type 0 where
+  pub from : Position
+  pub to : Position
+  pub from_number : HasNumber view i from
+  pub to_number : HasNumber view j to
+  pub leads : IsSuccessor game from to
+
+-- w wins the first of these numbers in n moves; a move leads from each to the next, which w wins in one fewer; and it
+-- wins the last in 0
+abbrev pub IsLineIn : Game → View Position → Player → ℕ → List ℕ → Type 0
+IsLineIn game view w zero (i ∷ []) = view.value i ≡ Some (w, 0)
+IsLineIn game view w (suc n) (i ∷ j ∷ rest) = (view.value i ≡ Some (w, suc n)) × IsMoveIn game view i j × IsLineIn game view w n (j ∷ rest)
+IsLineIn game view w _ _ = ⊥
+
+-- and these numbers are a shortest win that begins with that position
+abbrev pub TellsLine : ℕ → List ℕ → Option BriefTable → Type 0
+TellsLine number numbers None = ⊥
+TellsLine number numbers (Some table) =
+    (game : Game) × (w : Player) × (n : ℕ) × TextSays table.text game × (slice_get numbers 0 ≡ Some number) × IsLineIn game table.view w n numbers
+
+-- what a call tells of a position: its value; its text, or by its text the number; or a shortest win
+pub data Told : Type 0 where
+  the_value : (number : ℕ) (value : Value) → Told
+  the_text : (number : ℕ) (text : Text) → Told
+  the_line : (number : ℕ) (numbers : List ℕ) → Told
+
+-- the table tells this
+abbrev pub IsTold : Told → Option BriefTable → Type 0
+IsTold (the_value number value) table = TellsValue number value table
+IsTold (the_text number text) table = TellsText number text table
+IsTold (the_line number numbers) table = TellsLine number numbers table
+
+-- it is told for good: all but that a value is open, which work may settle
+abbrev pub IsForGood : Told → Type 0
+IsForGood (the_value number Open) = ⊥
+IsForGood _ = Unit {0}
+
+-- a game is loaded, and play comes to a position of it of which this is so
+abbrev pub ComesTo : Option BriefTable → (Game → Position → Type 0) → Type 0
+ComesTo None Such = ⊥
+ComesTo (Some table) Such =
+    (game : Game) × (at : Position) × TextSays table.text game × IsReachable (play_of table.goal game) at × Such game at
+
+-- the keeper has the turn, and moves to two positions
+abbrev pub KeeperHasChoice : Game → Position → Type 0
+KeeperHasChoice game at =
+    (at.state.mover ≡ Keeper) × ((one : Position) × (other : Position) × IsSuccessor game at one × IsSuccessor game at other × (one ≢ other))
+
+-- why `load` may be refused this text, by a table of this many pages on an honest disk; E1 and E8 are not said
+abbrev pub RefusesText : Text → ℕ → Option BriefTable → SolverFault → Type 0
+RefusesText text pages table Disk = Unit {0}
+RefusesText text pages table OutOfMemory = Unit {0}
+RefusesText text pages table TableFull = pages < 24
+RefusesText text pages table (BadGame fault) = fault ≢ game_fault.OutOfMemory → Fault text fault
+RefusesText text pages table GameAlready = IsSome table
+RefusesText text pages table _ = ⊥
+
+-- why `work` may be refused by a table on an honest disk; E1, E7, E8 and S5 are not said
+abbrev pub RefusesWork : Option BriefTable → SolverFault → Type 0
+RefusesWork table Disk = Unit {0}
+RefusesWork table OutOfMemory = Unit {0}
+RefusesWork table TableFull = Unit {0}
+RefusesWork table TooManyPositions = Unit {0}
+RefusesWork table NoGame = table ≡ None
+RefusesWork table (KeeperChooses number) = ComesTo table KeeperHasChoice
+RefusesWork table TooWide = ComesTo table IsWide
+RefusesWork table _ = ⊥
+
+-- why a command may be refused
+abbrev pub MayRefuse : Command → ℕ → Option BriefTable → SolverFault → Type 0
+MayRefuse (load text goal) pages table fault = RefusesText text pages table fault
+MayRefuse (work units) pages table fault = RefusesWork table fault
