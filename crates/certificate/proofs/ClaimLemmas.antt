@@ -1,0 +1,41 @@
+-- What is claimed, by the packing and the game of a source, and what is answered.
+use Rattle.std.proofs.Common.{◌≡◌, ◌∙◌, sym, ap, subst, ◌⊎◌, inl, inr, ℕ, List, Option}
+use Rattle.rbg_game.specs.Games.{Game}
+use Rattle.rbg_game.specs.declared.position.Position.{Position}
+use Rattle.position_pack.specs.declared.kind.PackingKind.{PackingKind}
+use Rattle.position_pack.specs.declared.kind.PackingKind.TheVariants.{Bits}
+use Rattle.position_pack.specs.Packings.{Form, form_of, packed_by}
+use Rattle.position_pack.specs.Shape.{shape_of}
+use Rattle.legal_moves.specs.Sources.{graph_of}
+use Rattle.certificate.specs.declared.claim.Claimed.{Claimed}
+use Rattle.certificate.specs.declared.fault.CertificateFault.{CertificateFault}
+use Rattle.certificate.specs.Claims.{IsSo, IsCertified}
+use Rattle.certificate.specs.Answers.{IsAnswer, certified, refused, refusal_line, shown_lines, status_of}
+
+-- what is so in the graph of a source is so in that of its game
+pub same_claim : (claim : Claimed) (kind : PackingKind) (goal given : Option ℕ) (game read : Game) (form : Form) (at : Position) (x : List ℕ)
+    → kind ≡ Bits → goal ≡ given → game ≡ read → form ≡ form_of kind game → x ≡ packed_by form.kind form.shape at
+    → IsSo (graph_of kind goal game) claim x → IsSo (graph_of Bits given read) claim (packed_by Bits (shape_of read) at)
+same_claim claim kind goal given game read form at x kind_is goal_is game_is form_is packed so =
+    let bytes : x ≡ packed_by kind (shape_of game) at = packed ∙ ap (λ (q : Form). packed_by q.kind q.shape at) form_is in
+    let one = subst (λ (y : List ℕ). IsSo (graph_of kind goal game) claim y) bytes so in
+    let two = subst (λ (q : PackingKind). IsSo (graph_of q goal game) claim (packed_by q (shape_of game) at)) kind_is one in
+    let three = subst (λ (q : Option ℕ). IsSo (graph_of Bits q game) claim (packed_by Bits (shape_of game) at)) goal_is two in
+    subst (λ (q : Game). IsSo (graph_of Bits given q) claim (packed_by Bits (shape_of q) at)) game_is three
+
+module _ (certificate : List ℕ) (given : Option (List ℕ)) (Prints : List ℕ → Type 0) (status : ℕ) where
+  -- what is printed of a value that was shown
+  pub answers_shown : (value position : List ℕ) (looked : ℕ) → IsCertified certificate given position value
+      → (status ≡ 4) ⊎ ((status ≡ 0) × Prints (shown_lines value position looked))
+      → (status ≡ 4) ⊎ ((written : List ℕ) × IsAnswer certificate given status written × Prints written)
+  answers_shown value position looked shown (inl failed) = inl failed
+  answers_shown value position looked shown (inr (zero_is, prints)) =
+      let lines = shown_lines value position looked in
+      inr (lines, subst (λ (s : ℕ). IsAnswer certificate given s lines) (sym zero_is) (certified value position looked shown), prints)
+
+  -- and of a refusal
+  pub answers_refused : (fault : CertificateFault) → (status ≡ 4) ⊎ ((status ≡ status_of fault) × Prints (refusal_line fault))
+      → (status ≡ 4) ⊎ ((written : List ℕ) × IsAnswer certificate given status written × Prints written)
+  answers_refused fault (inl failed) = inl failed
+  answers_refused fault (inr (status_is, prints)) =
+      inr (refusal_line fault, subst (λ (s : ℕ). IsAnswer certificate given s (refusal_line fault)) (sym status_is) (refused fault), prints)

@@ -1,0 +1,6 @@
+use Rattle.rbg_game.specs.Meaning.{game_of}
+use Rattle.rbg_read.proofs.ProperNames.{proper}
+use Rattle.certificate.proofs.certified.game_in.Goals as goal
+
+pub returns-in-Ok-clause-names : goal.returns-in-Ok-clause-names
+returns-in-Ok-clause-names c = proper c.args.head.now.text.now (game_of c.in-Ok.game) c.in-Ok.ensures.reads

@@ -1,0 +1,4 @@
+use Rattle.certificate.proofs.going.some_below.Given as goal
+
+abbrev pub invariant-loop-next : goal.invariant-loop-next
+invariant-loop-next l = Unit {0}

@@ -1,0 +1,119 @@
+//! What is asked of the ranks at one position, by the moves that lead from it.
+ghost use Rattle.std.specs.Prelude.{◌≡◌, ◌↔◌, true, IfOk, Some};
+ghost use Rattle.std.specs.Bool.{OnTrue};
+ghost use Rattle.rbg_game.specs.declared.roles.Role.{Role};
+ghost use Rattle.certificate.specs.Lists.{Stands};
+ghost use Rattle.certificate.specs.Strategies.{GoesDown, IsHeld, RanksBelow, RanksFrom};
+ghost use Rattle.certificate.specs.aid.Found.{SomeOf, EachOf};
+
+use crate::ranked::{Ranked, ranks_below, ranks_from};
+use legal_moves::{MoveFault, MoveSource};
+use position_pack::Packed;
+use rbg_game::roles::{Player, Role};
+use std::alloc::Global;
+
+/// Whether the player has the turn.
+fn has_turn(mover: Role, player: Player) -> bool
+    ensures { (result ≡ true) ↔ (mover ≡ Role.Player player) }
+{
+    mover == Role::Player(player)
+}
+
+/// Whether the player is the one who is ahead.
+fn is_ahead(ahead: Option<Player>, player: Player) -> bool
+    ensures { (result ≡ true) ↔ (ahead ≡ Some player) }
+{
+    ahead == Some(player)
+}
+
+/// Whether some of these positions is found with a rank below this one.
+fn some_below(list: &[Ranked], found: &[Packed], rank: u32) -> bool
+    ensures { OnTrue result (SomeOf found.now (RanksBelow (Stands list.now) rank)) }
+{
+    for next in found {
+        if ranks_below(list, next, rank) {
+            return true;
+        }
+    }
+    false
+}
+
+/// Whether each of these positions is found with a rank below this one.
+fn each_below(list: &[Ranked], found: &[Packed], rank: u32) -> bool
+    ensures { OnTrue result (EachOf found.now (RanksBelow (Stands list.now) rank)) }
+{
+    for next in found {
+        if !ranks_below(list, next, rank) {
+            return false;
+        }
+    }
+    true
+}
+
+/// Whether some of these positions is found with this rank or a greater one.
+fn some_from(list: &[Ranked], found: &[Packed], rank: u32) -> bool
+    ensures { OnTrue result (SomeOf found.now (RanksFrom (Stands list.now) rank)) }
+{
+    for next in found {
+        if ranks_from(list, next, rank) {
+            return true;
+        }
+    }
+    false
+}
+
+/// Whether each of these positions is found with this rank or a greater one.
+fn each_from(list: &[Ranked], found: &[Packed], rank: u32) -> bool
+    ensures { OnTrue result (EachOf found.now (RanksFrom (Stands list.now) rank)) }
+{
+    for next in found {
+        if !ranks_from(list, next, rank) {
+            return false;
+        }
+    }
+    true
+}
+
+/// Whether the ranks of a list go down at this position from this rank. A fault is that of the search for the moves.
+pub fn goes_down<M: MoveSource>(
+    alloc: Global,
+    source: &M,
+    player: Player,
+    list: &[Ranked],
+    at: &Packed,
+    rank: u32,
+) -> Result<bool, MoveFault>
+    requires { M.is_sound source.now }
+    ensures { IfOk result (λ is. OnTrue is (GoesDown (M.graph source.now) player (Stands list.now) at.now.items rank)) }
+{
+    let found = source.successors(alloc, at)?;
+    if found.is_empty() {
+        return Ok(is_ahead(source.ahead(at), player));
+    }
+    if has_turn(source.mover(at), player) {
+        return Ok(some_below(list, &found, rank));
+    }
+    Ok(each_below(list, &found, rank))
+}
+
+/// Whether the player is held at this position in what has this rank in a list or a greater one. A fault is that of the search for the moves.
+pub fn is_held<M: MoveSource>(
+    alloc: Global,
+    source: &M,
+    player: Player,
+    list: &[Ranked],
+    at: &Packed,
+    rank: u32,
+) -> Result<bool, MoveFault>
+    requires { M.is_sound source.now }
+    ensures { IfOk result (λ is. OnTrue is (IsHeld (M.graph source.now) player (RanksFrom (Stands list.now) rank) at.now.items)) }
+{
+    let found = source.successors(alloc, at)?;
+    if found.is_empty() {
+        return Ok(!is_ahead(source.ahead(at), player));
+    }
+    if has_turn(source.mover(at), player) {
+        return Ok(each_from(list, &found, rank));
+    }
+    Ok(some_from(list, &found, rank))
+}
