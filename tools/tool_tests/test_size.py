@@ -40,19 +40,23 @@ class Size(Case):
     def test_numbers_are_less_than_a_factor_of_two_off(self):
         known = re.findall(r"^\| `([a-z0-9_/]+)` \| [^|]* \| ([0-9,]+) \|", (GAMES / "README.md").read_text(), re.M)
         self.assertGreater(len(known), 25)
-        told = 0
         for name, positions in known:
             positions = int(positions.replace(",", ""))
             if positions < 3000:
                 continue
             out = json.loads(self.ran("size", "--seconds", "0.5", "--json", GAMES / f"{name}.rbg")[1])
             if out["how"] == "about":
-                told += 1
                 self.assertTrue(positions / 2 < out["positions"] < 2 * positions, (name, positions, out))
                 self.assertTrue(out["range"][0] <= positions <= out["range"][1], (name, positions, out))
             elif out["how"] == "all":
                 self.assertEqual(out["positions"], positions)
-        self.assertGreater(told, 0)
+
+    def test_a_number_that_is_told(self):
+        game = play.play_of((GAMES / "fox_and_hounds.rbg").read_bytes())
+        graph = solve.Graph(game)
+        graph.explore(8000, 60)
+        count, least, most = estimate.guess(game, graph, 5)
+        self.assertTrue(10358 / 2 < count < 2 * 10358 and least <= 10358 <= most, (count, least, most))
 
     def test_numbers_are_not_over_what_a_table_holds(self):
         game = play.play_of((GAMES / "take.rbg").read_bytes())
