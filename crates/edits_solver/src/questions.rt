@@ -1,6 +1,8 @@
 //! What is asked of a table.
-ghost use Rattle.std.specs.Prelude.{◌≡◌, ◌<◌, true, IfOk, IsErrOf};
+ghost use Rattle.std.specs.Prelude.{◌≡◌, ◌<◌, true, IfOk, IsErrOf, Ok, IsTrue};
+ghost use Rattle.audit.specs.declared.verdict.Verdict.TheVariants.{Right};
 ghost use Rattle.solver.specs.Audits.{HasVerdict};
+ghost use Rattle.solver.specs.Held.{IsSound};
 ghost use Rattle.solver.specs.Queries.{Tells, HasText};
 ghost use Rattle.solver.specs.Solvers.{state, IsReady};
 
@@ -30,6 +32,13 @@ pub fn audit<F: GameFile>(solver: &mut FileSolver<F>) -> Result<Verdict, SolverF
     ensures { IsReady solver.old → IfOk result (λ verdict. Tells (HasVerdict verdict) (state solver.old)) }
 {
     solver.audit()
+}
+
+/// `sound` of `FileSolver::audit`.
+pub fn found_right<F: GameFile>(found: &mut FileSolver<F>) -> Result<Verdict, SolverFault>
+    ensures { IsReady found.old → result ≡ Ok Right → IsTrue (state found.old).disk.honest → IsSound (state found.old).kept }
+{
+    found.audit()
 }
 
 /// `closed` of `FileSolver::list`.

@@ -1,5 +1,5 @@
 -- Of two tables to which the same commands led, one is the other.
-use Rattle.std.proofs.Common.{◌≡◌, ℕ, List, [], ◌∷◌, Option, None, Some, refl, sym, subst}
+use Rattle.std.proofs.Common.{◌≡◌, ℕ, List, [], ◌∷◌, Option, None, refl, sym, subst}
 use Rattle.std.specs.Prelude.{IsTrue}
 use Rattle.game_file.specs.Kept.{Kept, Layout}
 use Rattle.game_file.specs.State.{State, GoesAhead}
