@@ -1,7 +1,8 @@
 -- The codes of refusals.
 use Rattle.std.specs.Prelude.{ℕ, List, codes}
 use Rattle.certificate.specs.declared.fault.CertificateFault.{CertificateFault}
-use Rattle.certificate.specs.declared.fault.CertificateFault.TheVariants.{Malformed, NoGame, OtherGame, NoPosition, DoesNotFollow, NotShown, TooWide, OutOfMemory}
+use Rattle.certificate.specs.declared.fault.CertificateFault.TheVariants.{Malformed, NoGame, OtherGame, NoPosition}
+use Rattle.certificate.specs.declared.fault.CertificateFault.TheVariants.{DoesNotFollow, NotShown, TooWide, OutOfMemory}
 
 -- the code that is printed for it
 abbrev pub fault_code : CertificateFault → List ℕ

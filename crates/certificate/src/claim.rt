@@ -22,7 +22,7 @@ pub enum Claimed {
 }
 
 /// The value that these bytes write.
-pub fn claimed_in(game: &Game, value: &[u8]) -> Option<Claimed>
+pub(crate) fn claimed_in(game: &Game, value: &[u8]) -> Option<Claimed>
     requires { IsSoundGame (game_of game.now) }
 {
     if value == b"drawn".as_slice() {

@@ -65,10 +65,10 @@ fn text_in(bytes: &[u8]) -> Result<(&[u8], &[u8]), Refusal> {
     }
 }
 
-/// The text of the game in a certificate, if it has one.
-pub fn text_of(certificate: &[u8]) -> Option<&[u8]> {
+/// The text of the game in a certificate; no byte where it has none.
+pub fn text_of(certificate: &[u8]) -> &[u8] {
     match head_in(certificate) {
-        Ok(head) => Some(head.text),
-        Err(_) => None,
+        Ok(head) => head.text,
+        Err(_) => &[],
     }
 }

@@ -17,8 +17,6 @@ mod values;
 mod whole;
 
 pub use answer::{Answer, check_to};
-pub use certified::{Certified, check};
-pub use claim::Claimed;
 pub use fault::{CertificateFault, Refusal};
 pub use head::text_of;
 pub use limits::MAX_CERTIFICATE_BYTES;

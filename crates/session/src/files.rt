@@ -355,7 +355,7 @@ fn refused_for(rt: &HostRuntime, name: &str, refused: Refused, fault: SolverFaul
 }
 
 /// Says on standard error what a refusal means.
-fn tell_refusal(rt: &HostRuntime, name: &str, fault: SolverFault) {
+pub fn tell_refusal(rt: &HostRuntime, name: &str, fault: SolverFault) {
     let advice = advice(fault);
     tell(rt, format_args!("{name}: {fault}: {advice}"));
 }

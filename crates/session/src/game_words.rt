@@ -1,6 +1,6 @@
-//! The words of the commands on the text of a game.
+//! The words of the commands on the text of a game, and on a certificate.
 
-use crate::words::{game_word, named};
+use crate::words::{game_word, named, required_word};
 use clap::{Arg, ArgAction, ArgMatches, Command};
 use std::alloc::{AllocError, Global};
 
@@ -26,6 +26,19 @@ const ACTIONS_LONG_ABOUT: &str = concat!(
     "there, in one line. A pattern is one action, and each assignment of a list is one.",
 );
 
+const CHECK_ABOUT: &str = "Says whether a certificate shows its value, without a table";
+
+const CHECK_LONG_ABOUT: &str = concat!(
+    "Says whether a certificate shows the value that it claims, without a table, whoever made it.\n",
+    "\n",
+    "A certificate has the text of a game, a position of it, its value, and positions that show it. If it prints ",
+    "`certified white in 10`, then by the rules of that game white wins the position in exactly ten moves; if it prints `certified drawn`, ",
+    "nobody wins it. The position, and how many positions were looked at, stand behind that. A certificate that shows nothing is answered ",
+    "by `refused` and a code, C1 to C8, and standard error says which line of it is why.\n",
+    "\n",
+    "With GAME the text in the certificate has to be that of GAME, byte for byte.",
+);
+
 /// The command `moves`, as words spell it.
 pub fn moves_command<'a>(alloc: Global) -> Result<Command<'a>, AllocError> {
     named(alloc, "moves", MOVES_ABOUT, MOVES_LONG_ABOUT)
@@ -44,10 +57,14 @@ fn position_word<'a>(alloc: Global) -> Arg<'a> {
         .value_name("POSITION")
 }
 
-/// The position that was named, if one was.
-pub fn position_in(alloc: Global, matches: &ArgMatches<'_>) -> Result<Option<String>, AllocError> {
-    match matches.get_str("at") {
-        Some(position) => Ok(Some(String::from_str(alloc, position)?)),
+/// The word that was given for this argument, if one was.
+pub fn word_in(
+    alloc: Global,
+    matches: &ArgMatches<'_>,
+    id: &str,
+) -> Result<Option<String>, AllocError> {
+    match matches.get_str(id) {
+        Some(word) => Ok(Some(String::from_str(alloc, word)?)),
         None => Ok(None),
     }
 }
@@ -55,4 +72,15 @@ pub fn position_in(alloc: Global, matches: &ArgMatches<'_>) -> Result<Option<Str
 /// The command `actions`, as words spell it.
 pub fn actions_command<'a>(alloc: Global) -> Result<Command<'a>, AllocError> {
     named(alloc, "actions", ACTIONS_ABOUT, ACTIONS_LONG_ABOUT).arg(game_word(alloc))
+}
+
+/// The command `check`, as words spell it.
+pub fn check_command<'a>(alloc: Global) -> Result<Command<'a>, AllocError> {
+    named(alloc, "check", CHECK_ABOUT, CHECK_LONG_ABOUT)
+        .arg(required_word(alloc, "CERTIFICATE", "The file with the certificate"))?
+        .arg(
+            Arg::new(alloc, "GAME")
+                .help("The file with the text of the game that it has to be about")
+                .action(ArgAction::Set),
+        )
 }

@@ -51,7 +51,7 @@ pub fn actions_of_game(rt: &HostRuntime, alloc: Global, game: &str) -> u8 {
 }
 
 /// The text in the file of a game; or the status, once it was said why there is none.
-fn text_of_game(rt: &HostRuntime, alloc: Global, game: &str) -> Result<Vec<u8>, u8> {
+pub fn text_of_game(rt: &HostRuntime, alloc: Global, game: &str) -> Result<Vec<u8>, u8> {
     let mut text = Vec::new(alloc);
     match read_start(rt, game, &mut text) {
         Ok(()) => Ok(text),

@@ -1,6 +1,7 @@
 //! The program `rbgsolve` but for its `main`: the command line, the commands on files, and sessions.
 #![tactic(auto)]
 
+mod certificates;
 pub mod commands;
 mod files;
 mod game_words;

@@ -1,5 +1,6 @@
 //! What the command line says is done here: the words are read, and each command is handed on.
 
+use crate::certificates::{certify_file, check_certificate};
 use crate::files::{audit_file, create_file, grow_file, load_file, migrate_file};
 use crate::games::{actions_of_game, moves_of_game};
 use crate::sessions::{look_at_file, session_of_file};
@@ -55,6 +56,10 @@ fn run_words(rt: &HostRuntime) -> u8 {
         Ok(Words::Audit { file }) => audit_file(rt, alloc, &file),
         Ok(Words::Migrate { file }) => migrate_file(rt, alloc, &file),
         Ok(Words::Grow { file, pages }) => grow_file(rt, alloc, &file, pages),
+        Ok(Words::Certify { file, number }) => certify_file(rt, alloc, &file, number),
+        Ok(Words::Check { certificate, game }) => {
+            check_certificate(rt, alloc, &certificate, game.as_deref())
+        }
         Err(refusal) => show(rt, &refusal),
     }
 }

@@ -90,6 +90,16 @@ const GROW_LONG_ABOUT: &str = concat!(
     "table has as many pages as before or N, and nothing in it is lost.",
 );
 
+const CERTIFY_ABOUT: &str = "Writes the certificate of a value, which shows it without the table";
+
+const CERTIFY_LONG_ABOUT: &str = concat!(
+    "Writes the certificate of the value of a position on standard output: a text which shows that value without the table.\n",
+    "\n",
+    "NUMBER is the position, 0, the start, if it is left out. The certificate has the game's text, the position, its value, and those ",
+    "positions of the table that show it; standard error says how many. `check` says whether a certificate shows its value. A value that ",
+    "is open is answered by `refused S8`. The table is asked, and not changed.",
+);
+
 /// The command `create`, as words spell it.
 pub fn create_command<'a>(alloc: Global) -> Result<Command<'a>, AllocError> {
     named(alloc, "create", CREATE_ABOUT, CREATE_LONG_ABOUT)
@@ -136,6 +146,17 @@ pub fn grow_command<'a>(alloc: Global) -> Result<Command<'a>, AllocError> {
     named(alloc, "grow", GROW_ABOUT, GROW_LONG_ABOUT)
         .arg(file_word(alloc))?
         .arg(pages_word(alloc))
+}
+
+/// The command `certify`, as words spell it.
+pub fn certify_command<'a>(alloc: Global) -> Result<Command<'a>, AllocError> {
+    named(alloc, "certify", CERTIFY_ABOUT, CERTIFY_LONG_ABOUT)
+        .arg(file_word(alloc))?
+        .arg(
+            Arg::new(alloc, "NUMBER")
+                .help("The number of the position, 0 if it is left out")
+                .action(ArgAction::Set),
+        )
 }
 
 /// The word for the file of a table.

@@ -2,11 +2,11 @@
 ghost use Rattle.std.specs.Prelude.{IfErr};
 ghost use Rattle.session.specs.Statuses.{IsStatusOfWords};
 
-use crate::game_words::{actions_command, moves_command, position_in};
+use crate::game_words::{actions_command, check_command, moves_command, word_in};
 use crate::page_counts::{is_number, pages_of};
 use crate::table_words::{
-    audit_command, create_command, grow_command, load_command, look_command, migrate_command,
-    session_command,
+    audit_command, certify_command, create_command, grow_command, load_command, look_command,
+    migrate_command, session_command,
 };
 use clap::error::ErrorKind;
 use clap::{Arg, ArgAction, ArgMatches, Command, Error};
@@ -59,6 +59,16 @@ pub enum Words {
         file: String,
         pages: u32,
     },
+    /// The certificate of the value of this position of the table of this file.
+    Certify {
+        file: String,
+        number: u32,
+    },
+    /// Whether the certificate in this file shows its value, of the game in the other file, if one is given.
+    Check {
+        certificate: String,
+        game: Option<String>,
+    },
 }
 
 /// Why there is nothing to do: help was asked for, or the words are no command.
@@ -98,6 +108,8 @@ const AFTER_HELP: &str = concat!(
 const NO_PAGES: &str =
     "`--pages` takes 1 to 1048576 pages of 4,096 bytes, or as many bytes with K, M or G behind the number, as 64M";
 
+const NO_NUMBER: &str = "the number of a position is one to ten digits, at most 4294967295";
+
 const NO_GOAL: &str = "the number behind `--goal` is one to ten digits";
 
 /// The command that the words ask for; the first word is the program's name.
@@ -116,6 +128,9 @@ fn parsed<'a>(alloc: Global, words: &'a [String]) -> Result<Words, Error> {
     if has_no_pages(&matches) {
         return Err(command.error(ErrorKind::ValueValidation, NO_PAGES)?);
     }
+    if has_no_number(&matches) {
+        return Err(command.error(ErrorKind::ValueValidation, NO_NUMBER)?);
+    }
     if has_signed_goal(&matches) {
         return Err(command.error(ErrorKind::ValueValidation, NO_GOAL)?);
     }
@@ -127,6 +142,26 @@ fn has_no_pages(matches: &ArgMatches<'_>) -> bool {
     match matches.subcommand() {
         Some(("create" | "grow", inner)) => pages_in(inner).is_none(),
         _ => false,
+    }
+}
+
+/// Whether what stands for the number of a position is none.
+fn has_no_number(matches: &ArgMatches<'_>) -> bool {
+    match matches.subcommand() {
+        Some(("certify", inner)) => number_in(inner).is_none(),
+        _ => false,
+    }
+}
+
+/// The number of a position that was given, 0 if none was.
+fn number_in(matches: &ArgMatches<'_>) -> Option<u32> {
+    let word = matches.get_str("NUMBER").unwrap_or("0");
+    if !is_number(word) {
+        return None;
+    }
+    match word.parse::<u32>() {
+        Ok(number) => Some(number),
+        Err(_) => None,
     }
 }
 
@@ -184,9 +219,17 @@ fn asked_for(alloc: Global, name: &str, inner: &ArgMatches<'_>) -> Result<Words,
         "actions" => Ok(Words::Actions {
             game: given(alloc, inner, "GAME")?,
         }),
+        "certify" => Ok(Words::Certify {
+            file: given(alloc, inner, "FILE")?,
+            number: number_in(inner).unwrap_or(0),
+        }),
+        "check" => Ok(Words::Check {
+            certificate: given(alloc, inner, "CERTIFICATE")?,
+            game: word_in(alloc, inner, "GAME")?,
+        }),
         _ => Ok(Words::Moves {
             game: given(alloc, inner, "GAME")?,
-            at: position_in(alloc, inner)?,
+            at: word_in(alloc, inner, "at")?,
         }),
     }
 }
@@ -213,7 +256,9 @@ fn command<'a>(alloc: Global) -> Result<Command<'a>, AllocError> {
     let command = with(command, migrate_command(alloc))?;
     let command = with(command, grow_command(alloc))?;
     let command = with(command, moves_command(alloc))?;
-    with(command, actions_command(alloc))
+    let command = with(command, actions_command(alloc))?;
+    let command = with(command, certify_command(alloc))?;
+    with(command, check_command(alloc))
 }
 
 /// A command, and what help says of it, at the short and at length.
