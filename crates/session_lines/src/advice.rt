@@ -11,7 +11,8 @@ const NO_PAGE: &str =
 /// What to do after a refusal.
 pub fn advice(fault: SolverFault) -> &'static str {
     match fault {
-        SolverFault::Disk => "see that the file can be read and written and that its disk has room, and start again",
+        SolverFault::Disk =>
+            "see that the file can be read and written and that its disk has room, and start again",
         SolverFault::NotATable =>
             "`rbgsolve create` makes one; if a table's file was cut short, go back to a copy",
         SolverFault::AlreadyATable => "it stays as it is, so give the name of another file",
