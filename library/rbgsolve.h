@@ -31,7 +31,7 @@ enum rbg_status {
     RBG_REFUSED = 1,   /* `refused` and a code, or a table that is wrong */
     RBG_NO_GOAL = 2,   /* a goal over 1,000,000 points */
     RBG_DAMAGED = 3,   /* a damaged table */
-    RBG_NO_TEXT = 4,   /* memory ran out for the text: of rbg_moves, rbg_moves_at, rbg_actions, rbg_open and rbg_lines */
+    RBG_NO_TEXT = 4,   /* memory ran out for the text: of rbg_moves, rbg_moves_at, rbg_actions and rbg_lines */
     RBG_NO_MEMORY = 5, /* memory ran out; a call on the bytes of a table has left them as they were */
     RBG_TOO_LONG = 6,  /* the text is longer than `most`, and nothing was done; or, of rbg_answers and rbg_bytes, nothing was given */
     RBG_NOT_OPEN = 7   /* no table of the room has this number, or it was given back */

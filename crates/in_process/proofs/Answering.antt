@@ -5,7 +5,7 @@ use Rattle.std.proofs.lemmas.Bool.Decides.{eqb_tells}
 use Rattle.std.specs.Io.KnownBytes.{Appends}
 use Rattle.sector_disk.specs.Disk.{Disk}
 use Rattle.session.specs.Commands.{Came, IsLineOf, IsPrinted}
-use Rattle.in_process.specs.Calls.{IsAnswered, IsDone, bytes_of}
+use Rattle.in_process.specs.Calls.{IsAnswered, IsCalled, IsDone, bytes_of}
 use Rattle.in_process.specs.Given.{IsGiven, over}
 
 -- it was done and printed, or memory ran out for its line; and what give_table says
@@ -38,3 +38,14 @@ answered {Does} {disk} {before} {after} {out} {given} {count} {result} back now 
     nothing : status ≡ 4 → IsAnswered Does disk before after out given count result
     nothing is = subst (λ (n : ℕ). IsAnswered Does disk before after out given count n) (sym (no_memory is).0)
         (IsAnswered.no_memory (no_memory is).1 (no_memory is).2 (no_memory is).3)
+
+-- a call by an equal argument, or on equal bytes
+pub same_call : {A : Type 0} (Does : A → Disk → ℕ → Came → Disk → ℕ → Type 0) {x y : A} {bytes before after out told : List ℕ} {count status : ℕ} → x ≡ y
+    → IsCalled (Does x) bytes before after out told count status → IsCalled (Does y) bytes before after out told count status
+same_call Does {bytes = bytes} {before} {after} {out} {told} {count} {status} same =
+    subst (λ a. IsCalled (Does a) bytes before after out told count status) same
+
+pub same_bytes : {Does : Disk → ℕ → Came → Disk → ℕ → Type 0} {bytes others before after out told : List ℕ} {count status : ℕ} → bytes ≡ others
+    → IsCalled Does bytes before after out told count status → IsCalled Does others before after out told count status
+same_bytes {Does} {before = before} {after} {out} {told} {count} {status} same =
+    subst (λ bs. IsCalled Does bs before after out told count status) same

@@ -1,3 +1,4 @@
 mod Answering
 mod InRooms
 mod Loosened
+mod Opening

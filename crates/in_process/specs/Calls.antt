@@ -1,5 +1,5 @@
 -- What a call on the bytes of a table does.
-use Rattle.std.specs.Prelude.{◌≡◌, ℕ, ◌<◌, ◌≤◌, List, length, IsTrue}
+use Rattle.std.specs.Prelude.{◌≡◌, ℕ, ◌/◌, ◌<◌, ◌≤◌, min, List, length, IsTrue}
 use Rattle.std.specs.List.{flat_map}
 use Rattle.byte_disk.specs.Bytes.{sectors_of}
 use Rattle.sector_disk.specs.Disk.{Disk, AllSynced}
@@ -15,6 +15,10 @@ pub record IsDiskOf (bytes : List ℕ) (disk : Disk) : Type 0 where
 -- the bytes of a disk
 abbrev pub bytes_of : Disk → List ℕ
 bytes_of disk = flat_map (λ sector. sector) disk.now.contents
+
+-- how many whole pages these bytes make, 4,294,967,295 at most
+abbrev pub pages_in : List ℕ → ℕ
+pages_in bytes = min (length bytes / 4096) 4294967295
 
 -- a command was done on a disk that never failed before: this line tells what came of it, with this status
 abbrev pub IsDone : (Disk → ℕ → Came → Disk → ℕ → Type 0) → Disk → List ℕ → ℕ → Disk → Type 0

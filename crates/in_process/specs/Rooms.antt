@@ -1,9 +1,17 @@
 -- What a call on a room of tables does.
-use Rattle.std.specs.Prelude.{◌≡◌, ◌⊎◌, ℕ, List, [], slice_index_or, slice_set, Option, None, Some, Box}
+use Rattle.std.specs.Prelude.{◌≡◌, ◌⊎◌, ℕ, List, [], ◌∷◌, ◌++◌, length, slice_index_or, slice_set, Option, None, Some, Box}
 use Rattle.std.specs.declared.alloc.Global.{Global}
-use Rattle.in_process.specs.Calls.{bytes_of}
+use Rattle.game_file.specs.State.{State}
+use Rattle.sector_disk.specs.Disk.{Disk}
+use Rattle.session.specs.Commands.{IsUnopened}
+use Rattle.session_lines.specs.Answered.{status_of_fault}
+use Rattle.session_lines.specs.Told.{fault_line}
+use Rattle.solver.specs.Opening.{IsOpened}
+use Rattle.solver.specs.declared.fault.SolverFault.{SolverFault}
+use Rattle.tree_table.specs.Held.{StoresTrees}
+use Rattle.in_process.specs.Calls.{IsDiskOf, bytes_of}
 use Rattle.in_process.specs.Given.{IsGiven}
-use Rattle.in_process.specs.Kept.{disk_kept}
+use Rattle.in_process.specs.Kept.{disk_kept, IsOpenOn}
 use Rattle.in_process.specs.declared.held.HeldTable.{HeldTable}
 use Rattle.in_process.specs.declared.places.HeldTables.{HeldTables}
 
@@ -14,6 +22,34 @@ Boxed = Box HeldTable Global
 -- the table of a number, if it is there
 abbrev pub table_at : HeldTables → ℕ → Option Boxed
 table_at tables number = slice_index_or tables.places.items number None
+
+-- a table was opened on this disk, and is kept so with no answer that waits, behind the tables that were there; its number is told
+pub record IsAdded (disk : Disk) (before after : HeldTables) (number : ℕ) : Type 0 where
+  pub is : State
+  pub opened : IsOpened (StoresTrees 3) disk 0 is
+  pub held : Boxed
+  pub is_open : IsOpenOn is held.value.kept
+  pub none : held.value.answers.items ≡ []
+  pub added : after.places.items ≡ before.places.items ++ Some held ∷ []
+  pub numbered : number ≡ length before.places.items
+
+-- no table was added, and no number told
+pub record IsUnchanged (before after : HeldTables) (number_was number_is : ℕ) : Type 0 where
+  pub tables : after.places.items ≡ before.places.items
+  pub number : number_is ≡ number_was
+
+-- the table of these bytes is taken into the room, with the status:
+--   opened     it was opened and has a number
+--   refused    it could not be opened: the line of the refusal is given
+--   no_memory  memory ran out
+pub data IsTaken (bytes : List ℕ) (before after : HeldTables) (number_was number_is : ℕ) (out told : List ℕ) (count : ℕ) : ℕ → Type 0 where
+  opened : (disk : Disk) → IsDiskOf bytes disk → IsAdded disk before after number_is → count ≡ 0 → told ≡ out
+      → IsTaken bytes before after number_was number_is out told count 0
+  refused : (disk back : Disk) (now : ℕ) (why : SolverFault) → IsDiskOf bytes disk → IsUnopened (StoresTrees 3) disk 0 why back now
+      → IsGiven (fault_line why) out told count → IsUnchanged before after number_was number_is
+      → IsTaken bytes before after number_was number_is out told count (status_of_fault why)
+  no_memory : IsUnchanged before after number_was number_is → count ≡ 0 → told ≡ out
+      → IsTaken bytes before after number_was number_is out told count 5
 
 -- a call on the table of a number, with its status:
 --   found      this was done to the table of the number, and to no other

@@ -3,7 +3,7 @@ ghost use Rattle.std.specs.Prelude.{◌≡◌, ◌<◌, ◌≤◌, [], length};
 ghost use Rattle.solver.specs.Solvers.{state};
 ghost use Rattle.in_process.specs.Calls.{bytes_of};
 ghost use Rattle.in_process.specs.Given.{IsGiven};
-ghost use Rattle.in_process.specs.Kept.{disk_kept};
+ghost use Rattle.in_process.specs.Kept.{disk_kept, IsOpenOn};
 
 use crate::given::give_text;
 use crate::kept::Kept;
@@ -24,7 +24,7 @@ pub struct HeldTable {
 impl HeldTable {
     /// A table that is open, with no answer.
     pub fn new(alloc: Global, solver: Solver<ByteDisk>) -> Self
-        ensures disk { disk_kept result.kept ≡ (state solver).disk }
+        ensures opened { IsOpenOn (state solver) result.kept }
         ensures none { result.answers.items ≡ [] }
     {
         HeldTable {

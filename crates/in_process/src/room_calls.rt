@@ -1,7 +1,10 @@
 //! A room of tables that stay open, so that a question need not open one anew. Each table has a number in its room, which no other
 //! table gets; a number that was given back is refused.
 ghost use Rattle.std.specs.Prelude.{◌≡◌, ◌≢◌, ◌⊎◌, ◌<◌, ◌≤◌, None, length, slice_set, IfSome, IfNone};
-ghost use Rattle.in_process.specs.Rooms.{table_at, IsOnTable, GivesAnswers, GivesBytes};
+ghost use Rattle.session_lines.specs.Answered.{status_of_fault};
+ghost use Rattle.session_lines.specs.Told.{fault_line};
+ghost use Rattle.in_process.specs.Given.{IsGiven};
+ghost use Rattle.in_process.specs.Rooms.{table_at, IsOnTable, IsTaken, GivesAnswers, GivesBytes};
 
 use crate::given::{NO_MEMORY, NOT_OPEN, TOO_LONG, give_text};
 use crate::held::HeldTable;
@@ -9,7 +12,7 @@ use crate::loose::LooseBox;
 use crate::places::HeldTables;
 use crate::room::Room;
 use byte_disk::ByteDisk;
-use recover::Solver;
+use recover::{Solver, SolverFault};
 use session::commands::said_refused;
 use session::line_by_line::Lines;
 use std::alloc::Global;
@@ -63,10 +66,10 @@ pub extern "C" fn rbg_open(
     out: &mut [u8],
     count: &mut usize,
 ) -> u8
-    ensures refused { result ≢ 0 → (room.new.tables.places.items ≡ room.old.tables.places.items) × (number.new ≡ number.old) }
+    ensures { IsTaken table.now room.old.tables room.new.tables number.old number.new out.old out.new count.new result }
 {
-    *count = 0;
     let Some(mut tables) = take_tables(alloc, room) else {
+        *count = 0;
         return NO_MEMORY;
     };
     let status = open_in(alloc, &mut tables, table, number, out, count);
@@ -83,19 +86,15 @@ fn open_in(
     out: &mut [u8],
     count: &mut usize,
 ) -> u8
-    ensures refused { result ≢ 0 → (tables.new.places.items ≡ tables.old.places.items) × (number.new ≡ number.old) }
+    ensures { IsTaken table.now tables.old tables.new number.old number.new out.old out.new count.new result }
 {
+    *count = 0;
     let Ok(disk) = ByteDisk::from_bytes(alloc, table) else {
         return NO_MEMORY;
     };
     let solver = match Solver::<ByteDisk>::open(alloc, disk) {
         Ok(solver) => solver,
-        Err(refused) => {
-            let mut line = Vec::new(alloc);
-            let status = said_refused(&mut line, refused.fault).status;
-            give_text(&line, out, count);
-            return status;
-        }
+        Err(refused) => return give_refused(alloc, refused.fault, out, count),
     };
     match tables.add(alloc, HeldTable::new(alloc, solver)) {
         Ok(added) => {
@@ -103,6 +102,24 @@ fn open_in(
             0
         }
         Err(_) => NO_MEMORY,
+    }
+}
+
+/// Gives the line of a refusal, and its status; nothing where memory ran out for it.
+fn give_refused(alloc: Global, fault: SolverFault, out: &mut [u8], count: &mut usize) -> u8
+    ensures given { result ≢ 5 → (result ≡ status_of_fault fault) × IsGiven (fault_line fault) out.old out.new count.new }
+    ensures no_memory { result ≡ 5 → (count.new ≡ 0) × (out.new ≡ out.old) }
+{
+    let mut line = Vec::new(alloc);
+    match said_refused(&mut line, fault).status {
+        4 | NO_MEMORY => {
+            *count = 0;
+            NO_MEMORY
+        }
+        status => {
+            give_text(&line, out, count);
+            status
+        }
     }
 }
 

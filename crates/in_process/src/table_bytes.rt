@@ -1,10 +1,11 @@
 //! Commands on a table whose bytes the caller keeps.
-ghost use Rattle.std.specs.Prelude.{◌≡◌, ◌≢◌, ◌<◌, ◌≤◌, length};
+ghost use Rattle.std.specs.Prelude.{◌≡◌, ◌≢◌, ◌<◌, ◌≤◌, length, take, None, Some};
 ghost use Rattle.byte_disk.specs.InMemory.{disk_in};
 ghost use Rattle.earlier_layouts.specs.Held.{Stores};
-ghost use Rattle.session.specs.Commands.{IsCreate, IsAudit, IsBrought, IsDoneOnFile};
+ghost use Rattle.rbg_game.specs.Goals.{CanBeGoal, points_of};
+ghost use Rattle.session.specs.Commands.{IsCreate, IsLoad, IsAudit, IsGrow, IsBrought, IsDoneOnFile};
 ghost use Rattle.tree_table.specs.Held.{StoresTrees};
-ghost use Rattle.in_process.specs.Calls.{IsAnswered, IsCalled};
+ghost use Rattle.in_process.specs.Calls.{IsAnswered, IsCalled, pages_in};
 ghost use Rattle.in_process.specs.Given.{IsGiven, over};
 
 use crate::given::{NO_GOAL, NO_MEMORY, TOO_LONG, give_text, put_over};
@@ -45,7 +46,12 @@ pub extern "C" fn rbg_load(
     goal: u32,
     out: &mut [u8],
     count: &mut usize,
-) -> u8 {
+) -> u8
+    ensures without { goal ≡ 0 → IsCalled (IsLoad (StoresTrees 3) text.now None) table.old table.old table.new out.old out.new count.new result }
+    ensures with_goal { CanBeGoal goal
+        → IsCalled (IsLoad (StoresTrees 3) text.now (Some goal)) table.old table.old table.new out.old out.new count.new result }
+    ensures no_goal { goal ≢ 0 → ¬ CanBeGoal goal → (result ≡ 2) × (count.new ≡ 0) × (out.new ≡ out.old) × (table.new ≡ table.old) }
+{
     if goal == 0 {
         return loaded(alloc, table, text, None, out, count);
     }
@@ -66,12 +72,13 @@ fn loaded(
     goal: Option<Goal>,
     out: &mut [u8],
     count: &mut usize,
-) -> u8 {
-    let mut own = Vec::new(alloc);
-    if own.extend_from_slice(text).is_err() {
+) -> u8
+    ensures { IsCalled (IsLoad (StoresTrees 3) text.now (points_of goal)) table.old table.old table.new out.old out.new count.new result }
+{
+    let Ok(own) = text.to_vec(alloc) else {
         *count = 0;
         return NO_MEMORY;
-    }
+    };
     let Ok(disk) = ByteDisk::from_bytes(alloc, table) else {
         *count = 0;
         return NO_MEMORY;
@@ -104,7 +111,9 @@ pub extern "C" fn rbg_grow(
     had: usize,
     out: &mut [u8],
     count: &mut usize,
-) -> u8 {
+) -> u8
+    ensures { IsCalled (IsGrow (StoresTrees 3) (pages_in table.old)) (take had table.old) table.old table.new out.old out.new count.new result }
+{
     let first = had.min(table.len());
     let Ok(disk) = ByteDisk::from_bytes(alloc, &table[..first]) else {
         *count = 0;
