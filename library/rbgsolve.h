@@ -31,7 +31,7 @@ enum rbg_status {
     RBG_REFUSED = 1,   /* `refused` and a code, or a table that is wrong */
     RBG_NO_GOAL = 2,   /* a goal over 1,000,000 points */
     RBG_DAMAGED = 3,   /* a damaged table */
-    RBG_NO_TEXT = 4,   /* memory ran out for the text: of rbg_moves, rbg_moves_at, rbg_actions and rbg_lines */
+    RBG_NO_TEXT = 4,   /* memory ran out for the text: of rbg_moves, rbg_moves_at, rbg_actions, rbg_check and rbg_lines */
     RBG_NO_MEMORY = 5, /* memory ran out; a call on the bytes of a table has left them as they were */
     RBG_TOO_LONG = 6,  /* the text is longer than `most`, and nothing was done; or, of rbg_answers and rbg_bytes, nothing was given */
     RBG_NOT_OPEN = 7   /* no table of the room has this number, or it was given back */
@@ -51,6 +51,11 @@ uint8_t rbg_actions(const uint8_t *game, size_t game_length, uint8_t *out, size_
 
 /* where and why a text is no game: RBG_REFUSED with `LINE COLUMN CODE WORDS`, or RBG_DONE with no text where it is one */
 uint8_t rbg_fault(const uint8_t *game, size_t game_length, uint8_t *out, size_t most, size_t *count);
+
+/* what `rbgsolve check CERTIFICATE` prints; where `has_game`, what `rbgsolve check CERTIFICATE GAME` does. A game that is not asked for
+   has the length 0 */
+uint8_t rbg_check(const uint8_t *certificate, size_t certificate_length, const uint8_t *game, size_t game_length, bool has_game,
+                  uint8_t *out, size_t most, size_t *count);
 
 /* Tables whose bytes you keep, 4,096 for each page. Each call works on a copy of them, and puts it into their place only once it is done
    and its text has gone to `out`: after RBG_TOO_LONG and RBG_NO_MEMORY they are as they were. 64 bytes are enough for the line of each

@@ -39,6 +39,7 @@ for _name, _words in {
     "moves_at": [*_READ, *_READ, *_TEXT],
     "actions": [*_READ, *_TEXT],
     "fault": [*_READ, *_TEXT],
+    "check": [*_READ, *_READ, c_bool, *_TEXT],
     "create": [*_WRITTEN, *_TEXT],
     "load": [*_WRITTEN, *_READ, c_uint32, *_TEXT],
     "audit": [*_WRITTEN, *_TEXT],
@@ -126,6 +127,11 @@ def fault(game):
         return None
     line, column, code, message = text.decode().split(" ", 3)
     return int(line), int(column), code, message
+
+
+def check(certificate, game=None):
+    """What a certificate shows, as `rbgsolve check` prints it; of this game, if one is given."""
+    return _told(*_asked("check", *_read(_bytes(certificate)), *_read(_bytes(game or b"")), game is not None))
 
 
 def audit(table):

@@ -83,6 +83,21 @@ class Library(Case):
                 self.rbgsolve.moves(bad)
             self.assertEqual(refused.exception.code, code)
 
+    def test_a_certificate(self):
+        self.program("create", self.folder / "take.table", "--pages", "16")
+        self.program("load", self.folder / "take.table", GAMES / "take.rbg")
+        self.program("session", self.folder / "take.table", given=b"work 256\n")
+        certificate = self.program("certify", self.folder / "take.table").stdout
+        told = self.program("check", self.file("take.certificate", certificate)).stdout.decode()
+        self.assertTrue(told.startswith("certified black in 3\n"))
+        self.assertEqual(self.rbgsolve.check(certificate), told)
+        self.assertEqual(self.rbgsolve.check(certificate, self.game("take")), told)
+        for bad, game in ((certificate, self.game("nim")), (certificate, b""), (certificate[:-1], None), (b"", None), (bytes(range(256)), None)):
+            words = [self.file("bad.certificate", bad)] + ([self.file("other.rbg", game)] if game is not None else [])
+            with self.assertRaises(self.rbgsolve.Refused) as refused:
+                self.rbgsolve.check(bad, game)
+            self.assertEqual(self.program("check", *words).stdout.decode(), f"refused {refused.exception.code}\n")
+
     def test_where_a_text_is_no_game(self):
         game = self.game("take")
         self.assertIsNone(self.rbgsolve.fault(game))

@@ -14,3 +14,4 @@ pub mod StoredLaws
 pub mod Whole
 pub mod CopyParts
 pub mod MovingSteps
+pub mod Free

@@ -1,5 +1,6 @@
 //! A table in a file.
 ghost use Rattle.std.specs.Prelude.{◌≡◌, ◌≢◌, ◌≤◌, ◌^◌, ℕ, true, None, length, OnOk, OnErr, IfOk, IfErr, IsTrue};
+ghost use Rattle.std.proofs.Common.{ap};
 ghost use Rattle.table.specs.InMemory.{stored_in, counted_in};
 ghost use Rattle.root_pair.specs.Root.{HoldsRoot};
 ghost use Rattle.earlier_layouts.specs.Slot.{commits_in};
@@ -18,6 +19,9 @@ ghost use Rattle.earlier_layouts.specs.aid.Calls.{IsPutInFile, IsNotPutInFile};
 ghost use Rattle.earlier_layouts.specs.aid.Causes.{PutCause};
 ghost use Rattle.earlier_layouts.specs.Pages.{ArePages};
 ghost use Rattle.earlier_layouts.specs.aid.Drafts.{few_stored};
+ghost use Rattle.page_store.specs.Marks.{free_count};
+ghost use Rattle.page_store.specs.Store.{Store};
+ghost use Rattle.earlier_layouts.specs.aid.Free.{whole_free, empty_free, no_page_is_missed};
 ghost use Rattle.earlier_layouts.specs.aid.Whole.{the_table_is_kept, unwritten_ahead, unwritten_asked, memory_cause, whole_counts};
 ghost use Rattle.position_pack.specs.declared.limits.TheConstants.{MAX_PACKED};
 ghost use Rattle.rbg_game.specs.declared.limits.TheConstants.{MAX_TEXT_BYTES};
@@ -243,6 +247,16 @@ impl<D: SectorDisk> GameFile for FlatTable<D> {
 
     ghost fails_lasts = { λ old new fault it. tt };
 
+    ghost free = { λ t. free_count (file_in t).store.marks };
+
+    ghost stays_free = { λ old new it. ap (λ (s : Store). free_count s.marks) it.unwritten.store };
+
+    ghost fails_full = { λ old new it. absurd (no_page_is_missed it.1) };
+
+    ghost whole_free = { λ t whole. whole_free (file_in t) whole.0 };
+
+    ghost empty_free = { λ t whole is_open none. empty_free (file_in t) whole.0 is_open none };
+
     ghost few = { λ t. few_stored t.draft t.game };
 
     fn create(alloc: Global, disk: D) -> Result<Self, Refused<D>> {
@@ -314,6 +328,10 @@ impl<D: SectorDisk> GameFile for FlatTable<D> {
 
     fn capacity(&self) -> u32 {
         self.store.capacity()
+    }
+
+    fn free_pages(&self) -> u32 {
+        self.store.free_pages()
     }
 
     fn grow(&mut self, pages: u32) -> Result<(), FileFault> {

@@ -2,6 +2,8 @@ mod Slots
 mod Filling
 mod Placing
 mod Flushing
+mod Noting
+mod Failing
 mod Showing
 mod Resizing
 mod Unsealed

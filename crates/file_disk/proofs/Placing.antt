@@ -5,9 +5,9 @@ use Rattle.std.proofs.lemmas.Bool.{cases_eq, cases_lt}
 use Rattle.std.proofs.lemmas.List.{get_or-set_same, get_or-set_other}
 use Rattle.file_disk.specs.declared.waiting_page.WaitingPage.{WaitingPage}
 use Rattle.file_disk.specs.Bytes.{sector_of, LeavesOthers}
-use Rattle.file_disk.specs.Waiting.{no_page, page_at, has_sector, place_of, slot_in, given, shown_of}
+use Rattle.file_disk.specs.Waiting.{no_page, page_at, has_sector, place_of, slot_in, slot_of, given, shown_of}
 use Rattle.file_disk.specs.aid.Waiting.{AreDistinct, ArePlaced}
-use Rattle.file_disk.proofs.Slots.{place_found, place_is, none_is, place_same, shown_same, stands}
+use Rattle.file_disk.proofs.Slots.{place_found, place_is, none_is, place_same, shown_same, slots_same, stands}
 
 -- the page at a place, once it is put there
 set_here : (pages : List WaitingPage) (place : ℕ) (page : WaitingPage) → place < length pages → page_at (slice_set pages place page) place ≡ page
@@ -39,6 +39,32 @@ added_same pages count page room empty none bytes content k =
           rw test (place_same pages (slice_set pages count page) count (k / 8) (λ p lt. ap (λ (w : WaitingPage). w.number) (set_else pages count p page (omega arith)))) in
           shown_same pages (slice_set pages count page) count (suc count) bytes bytes content k same
           (λ q found. (ap (λ (p : WaitingPage). has_sector p (k % 8)) (set_else pages count q page (omega (arith, (place_is pages count (k / 8) q found).0))), refl))
+    ]
+  where
+    next : count + 1 ≡ suc count
+    next = omega arith
+
+-- nor does a sector wait that did not
+pub added_slots : (pages : List WaitingPage) (count : ℕ) (page : WaitingPage) → count < length pages
+    → ((s : ℕ) → s < 8 → has_sector page s ≡ false) → place_of pages count page.number ≡ None
+    → (k : ℕ) → slot_of (slice_set pages count page) (count + 1) k ≡ slot_of pages count k
+added_slots pages count page room empty none k =
+    ap (λ (n : ℕ). slot_of (slice_set pages count page) n k) next
+    ∙ elim (cases_eq (k / 8) page.number) [
+      | inl its ↦
+          let test : ((page_at (slice_set pages count page) count).number == (k / 8)) ≡ true =
+          eq-eqb _ _ (ap (λ (p : WaitingPage). p.number) (set_here pages count page room) ∙ sym its) in
+          let missing : has_sector (page_at (slice_set pages count page) count) (k % 8) ≡ false =
+          ap (λ (p : WaitingPage). has_sector p (k % 8)) (set_here pages count page room) ∙ empty (k % 8) (omega arith) in
+          let gone : place_of pages count (k / 8) ≡ None = ap (place_of pages count) its ∙ none in
+          rw test (rw missing (rw gone refl))
+      | inr other ↦
+          let test : ((page_at (slice_set pages count page) count).number == (k / 8)) ≡ false =
+          ne_eqb _ _ (λ is. other (sym is ∙ ap (λ (p : WaitingPage). p.number) (set_here pages count page room))) in
+          let same : place_of (slice_set pages count page) (suc count) (k / 8) ≡ place_of pages count (k / 8) =
+          rw test (place_same pages (slice_set pages count page) count (k / 8) (λ p lt. ap (λ (w : WaitingPage). w.number) (set_else pages count p page (omega arith)))) in
+          slots_same pages (slice_set pages count page) count (suc count) k same
+          (λ q found. ap (λ (p : WaitingPage). has_sector p (k % 8)) (set_else pages count q page (omega (arith, (place_is pages count (k / 8) q found).0))))
     ]
   where
     next : count + 1 ≡ suc count
@@ -140,6 +166,28 @@ fill_others pages count place at page bytes written content lt le its gets leave
     stays q found (inr behind) =
         let ne : 8 * q + k % 8 ≢ 8 * place + at % 8 = apart_slots q found in
         leaves.behind (512 * (8 * q + k % 8)) 512 (omega arith)
+
+-- no other sector begins to wait
+pub fill_slots : (pages : List WaitingPage) (count place at : ℕ) (page : WaitingPage) → place < count
+    → count ≤ length pages → (page_at pages place).number ≡ at / 8 → GetsSector (page_at pages place) page (at % 8)
+    → (k : ℕ) → k ≢ at → slot_of (slice_set pages place page) count k ≡ slot_of pages count k
+fill_slots pages count place at page lt le its gets k other =
+    slots_same pages (slice_set pages place page) count count k (fill_place pages count place page (at % 8) here gets (k / 8))
+    (λ q found. has q found (cases_eq q place))
+  where
+    here : place < length pages
+    here = omega arith
+
+    has : (q : ℕ) → place_of pages count (k / 8) ≡ Some q → (q ≡ place) ⊎ (q ≡ place → ⊥)
+        → has_sector (page_at (slice_set pages place page) q) (k % 8) ≡ has_sector (page_at pages q) (k % 8)
+    has q found (inl is) =
+        let its_too : (page_at pages place).number ≡ k / 8 = ap (λ (n : ℕ). (page_at pages n).number) (sym is) ∙ (place_is pages count (k / 8) q found).1 in
+        let apart : k % 8 ≢ at % 8 = λ same. other (omega arith) in
+        ap (λ (n : ℕ). has_sector (page_at (slice_set pages place page) n) (k % 8)) is
+        ∙ ap (λ (w : WaitingPage). has_sector w (k % 8)) (set_here pages place page here)
+        ∙ gets.others (k % 8) apart
+        ∙ ap (λ (n : ℕ). has_sector (page_at pages n) (k % 8)) (sym is)
+    has q found (inr ne) = ap (λ (w : WaitingPage). has_sector w (k % 8)) (set_else pages place q page ne)
 
 -- a page that is lent and gets a sector
 pub gets_sector : (pages : List WaitingPage) (place sector : ℕ) (lent : WaitingPage) (has : List Bool) → lent ≡ get_or pages place lent

@@ -113,3 +113,14 @@ shown_same pages later count more bytes written content k same each =
 -- what stands at an index is what is read there
 pub stands : (pages : List WaitingPage) (p : ℕ) (page : WaitingPage) → page ≡ get_or pages p page → p < length pages → page_at pages p ≡ page
 stands pages p page is lt = get_or_default pages p no_page page lt ∙ sym is
+
+-- a sector that is found at the same place, where it waits as before, has the slot that it had
+pub slots_same : (pages later : List WaitingPage) (count more : ℕ) (k : ℕ) → place_of later more (k / 8) ≡ place_of pages count (k / 8)
+    → ((q : ℕ) → place_of pages count (k / 8) ≡ Some q → has_sector (page_at later q) (k % 8) ≡ has_sector (page_at pages q) (k % 8))
+    → slot_of later more k ≡ slot_of pages count k
+slots_same pages later count more k same each = ap (slot_in later (k % 8)) same ∙ at (place_of pages count (k / 8)) each
+  where
+    at : (o : Option ℕ) → ((q : ℕ) → o ≡ Some q → has_sector (page_at later q) (k % 8) ≡ has_sector (page_at pages q) (k % 8))
+        → slot_in later (k % 8) o ≡ slot_in pages (k % 8) o
+    at None each = refl
+    at (Some q) each = ap (λ (b : Bool). if b then Some (8 * q + k % 8) else None) (each q refl)

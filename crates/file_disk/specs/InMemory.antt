@@ -1,5 +1,6 @@
 -- What is stated of a file in memory.
 use Rattle.std.specs.Prelude.{ℕ, List}
+use Rattle.file_disk.specs.declared.file_event.FileEvent.{FileEvent}
 use Rattle.file_disk.specs.declared.memory_file.MemoryFile.{MemoryFile}
 
 -- what reads give
@@ -9,3 +10,7 @@ bytes_of f = f.bytes.items
 -- and what they gave at the last sync
 abbrev pub synced_of : MemoryFile → List ℕ
 synced_of f = f.synced.items
+
+-- and what happened to it
+abbrev pub events_of : MemoryFile → List FileEvent
+events_of f = f.events.items

@@ -1,6 +1,9 @@
 pub mod Bytes
+pub mod Events
+pub mod Failing
 pub mod File
 pub mod InMemory
 pub mod Shown
+pub mod Touched
 pub mod Waiting
 pub mod aid

@@ -1,8 +1,11 @@
 //! A file of bytes by sectors, where what is written waits until the sync.
-ghost use Rattle.std.specs.Prelude.{◌≡◌, ◌≢◌, ◌⊎◌, ◌+◌, ◌*◌, ◌/◌, ◌^◌, ◌<◌, ◌≤◌, ℕ, true, false, length, replicate, IsTrue, IfOk, Some};
+ghost use Rattle.std.specs.Prelude.{◌≡◌, ◌≢◌, ◌⊎◌, ◌+◌, ◌*◌, ◌/◌, ◌^◌, ◌<◌, ◌≤◌, ℕ, true, false, length, replicate, IsTrue, IfOk, IfErr, Some};
 ghost use Rattle.std.specs.Bool.{OnTrue, OnFalse};
+ghost use Rattle.sector_disk.specs.Disk.{Grew};
 ghost use Rattle.file_disk.specs.Bytes.{sector_of};
-ghost use Rattle.file_disk.specs.Shown.{shown};
+ghost use Rattle.file_disk.specs.Events.{Adds, IsLengthening};
+ghost use Rattle.file_disk.specs.Shown.{shown, Waits};
+ghost use Rattle.file_disk.specs.Touched.{WritesOnly, WritesAndSyncs};
 ghost use Rattle.file_disk.specs.Waiting.{HasRoom, slot_of};
 ghost use Rattle.file_disk.specs.aid.Waiting.{AreInside, IsCopyOf};
 
@@ -36,6 +39,7 @@ impl<F: ByteFile + Drop> BufferedFile<F> {
         requires fits { 4096 * room < 2 ^ 63 }
         ensures sectors { IfOk result (λ f. IsTrue (F.honest f.file) → f.sectors ≡ length (F.content f.file) / 512) }
         ensures file { IfOk result (λ f. f.file ≡ file) }
+        ensures cause { IsTrue (F.honest file) → IfErr result (λ fault. fault ≡ FileRefused.NoLength → F.tells_length file ≡ false) }
         ensures none { IfOk result (λ f. f.waiting.count ≡ 0) }
         ensures found { IfOk result (λ f. f.lost ≡ false) }
     {
@@ -63,6 +67,9 @@ impl<F: ByteFile + Drop> BufferedFile<F> {
         ensures at_hand { (slot : ℕ) → slot_of self.old.waiting.pages.items self.old.waiting.count at ≡ Some slot
             → self.old.lost ≡ false → result ≡ true }
         ensures lasts { IsTrue (F.honest self.old.file) → F.durable self.new.file ≡ F.durable self.old.file }
+        ensures touched { IsTrue (F.honest self.old.file) → F.events self.new.file ≡ F.events self.old.file }
+        ensures cause { IsTrue (F.honest self.old.file)
+            → OnFalse result ((self.old.lost ≡ true) ⊎ Grew (F.failures self.old.file) (F.failures self.new.file)) }
         ensures same_honest { F.honest self.new.file ≡ F.honest self.old.file }
         ensures sectors { self.new.sectors ≡ self.old.sectors }
         ensures refused { self.old.lost ≡ true → result ≡ false }
@@ -81,6 +88,8 @@ impl<F: ByteFile + Drop> BufferedFile<F> {
         ensures unchanged { IsTrue (F.honest self.old.file) → F.content self.new.file ≡ F.content self.old.file }
         ensures waits { self.new.waiting ≡ self.old.waiting }
         ensures lasts { IsTrue (F.honest self.old.file) → F.durable self.new.file ≡ F.durable self.old.file }
+        ensures touched { IsTrue (F.honest self.old.file) → F.events self.new.file ≡ F.events self.old.file }
+        ensures cause { IsTrue (F.honest self.old.file) → OnFalse result (Grew (F.failures self.old.file) (F.failures self.new.file)) }
         ensures same_honest { F.honest self.new.file ≡ F.honest self.old.file }
         ensures sectors { self.new.sectors ≡ self.old.sectors }
         ensures same_lost { self.new.lost ≡ self.old.lost }
@@ -100,6 +109,8 @@ impl<F: ByteFile + Drop> BufferedFile<F> {
         ensures unchanged { IsTrue (F.honest self.old.file) → F.content self.new.file ≡ F.content self.old.file }
         ensures waits { self.new.waiting ≡ self.old.waiting }
         ensures lasts { IsTrue (F.honest self.old.file) → F.durable self.new.file ≡ F.durable self.old.file }
+        ensures touched { IsTrue (F.honest self.old.file) → F.events self.new.file ≡ F.events self.old.file }
+        ensures later { IsTrue (F.honest self.old.file) → F.failures self.old.file ≤ F.failures self.new.file }
         ensures same_honest { F.honest self.new.file ≡ F.honest self.old.file }
         ensures sectors { self.new.sectors ≡ self.old.sectors }
         ensures same_lost { self.new.lost ≡ self.old.lost }
@@ -115,9 +126,14 @@ impl<F: ByteFile + Drop> BufferedFile<F> {
         ensures written { IsTrue (F.honest self.old.file) → OnTrue result (shown self.new.waiting (F.content self.new.file) at ≡ from.now) }
         ensures others { IsTrue (F.honest self.old.file) → (k : ℕ) → k ≢ at
             → shown self.new.waiting (F.content self.new.file) k ≡ shown self.old.waiting (F.content self.old.file) k }
+        ensures only { (k : ℕ) → Waits self.new.waiting k → (k ≡ at) ⊎ Waits self.old.waiting k }
         ensures waits { HasRoom self.old.waiting.pages.items self.old.waiting.count at → self.new.file ≡ self.old.file }
         ensures done { HasRoom self.old.waiting.pages.items self.old.waiting.count at → self.old.lost ≡ false → result ≡ true }
         ensures lasts { IsTrue (F.honest self.old.file) → F.durable self.new.file ≡ F.durable self.old.file }
+        ensures touched { IsTrue (F.honest self.old.file) → WritesOnly self.old.waiting (F.events self.old.file) (F.events self.new.file) }
+        ensures cause { IsTrue (F.honest self.old.file)
+            → OnFalse result ((self.old.lost ≡ true) ⊎ Grew (F.failures self.old.file) (F.failures self.new.file)) }
+        ensures told { IsTrue (F.honest self.old.file) → OnTrue result (F.failures self.new.file ≡ F.failures self.old.file) }
         ensures same_honest { F.honest self.new.file ≡ F.honest self.old.file }
         ensures sectors { self.new.sectors ≡ self.old.sectors }
         ensures refused { self.old.lost ≡ true → result ≡ false }
@@ -142,6 +158,10 @@ impl<F: ByteFile + Drop> BufferedFile<F> {
         ensures still { OnFalse result (self.new.waiting ≡ self.old.waiting) }
         ensures why { OnFalse result ((0 < self.new.waiting.count) ⊎ (self.old.lost ≡ true)) }
         ensures lasts { IsTrue (F.honest self.old.file) → F.durable self.new.file ≡ F.durable self.old.file }
+        ensures touched { IsTrue (F.honest self.old.file) → WritesOnly self.old.waiting (F.events self.old.file) (F.events self.new.file) }
+        ensures cause { IsTrue (F.honest self.old.file)
+            → OnFalse result ((self.old.lost ≡ true) ⊎ Grew (F.failures self.old.file) (F.failures self.new.file)) }
+        ensures told { IsTrue (F.honest self.old.file) → OnTrue result (F.failures self.new.file ≡ F.failures self.old.file) }
         ensures same_honest { F.honest self.new.file ≡ F.honest self.old.file }
         ensures sectors { self.new.sectors ≡ self.old.sectors }
         ensures refused { self.old.lost ≡ true → result ≡ false }
@@ -166,7 +186,18 @@ impl<F: ByteFile + Drop> BufferedFile<F> {
         ensures shown { IsTrue (F.honest self.old.file) → (k : ℕ)
             → shown self.new.waiting (F.content self.new.file) k ≡ shown self.old.waiting (F.content self.old.file) k }
         ensures none { OnTrue result (self.new.waiting.count ≡ 0) }
+        ensures only { (k : ℕ) → Waits self.new.waiting k → Waits self.old.waiting k }
         ensures remembered { OnFalse result ((0 < self.new.waiting.count) ⊎ (self.new.lost ≡ true)) }
+        ensures touched { IsTrue (F.honest self.old.file)
+            → OnTrue result (WritesAndSyncs self.old.waiting (F.events self.old.file) (F.events self.new.file)) }
+        ensures tried { IsTrue (F.honest self.old.file)
+            → OnFalse result (WritesOnly self.old.waiting (F.events self.old.file) (F.events self.new.file)) }
+        ensures cause { IsTrue (F.honest self.old.file)
+            → OnFalse result ((self.old.lost ≡ true) ⊎ Grew (F.failures self.old.file) (F.failures self.new.file)) }
+        ensures found { OnTrue result (self.new.lost ≡ false) }
+        ensures still { OnFalse result (((self.new.waiting ≡ self.old.waiting) × (self.new.lost ≡ self.old.lost))
+            ⊎ ((self.new.waiting.count ≡ 0) × (self.new.lost ≡ true))) }
+        ensures told { IsTrue (F.honest self.old.file) → OnTrue result (F.failures self.new.file ≡ F.failures self.old.file) }
         ensures same_honest { F.honest self.new.file ≡ F.honest self.old.file }
         ensures sectors { self.new.sectors ≡ self.old.sectors }
         ensures refused { self.old.lost ≡ true → (result ≡ false) × (self.new.lost ≡ true) }
@@ -192,6 +223,12 @@ impl<F: ByteFile + Drop> BufferedFile<F> {
             → (result ≡ false) × (self.new.file ≡ self.old.file) }
         ensures waits { self.new.waiting ≡ self.old.waiting }
         ensures lasts { IsTrue (F.honest self.old.file) → F.durable self.new.file ≡ F.durable self.old.file }
+        ensures touched { IsTrue (F.honest self.old.file)
+            → Adds (IsLengthening self.old.sectors sectors) (F.events self.old.file) (F.events self.new.file) }
+        ensures cause { IsTrue (F.honest self.old.file) → OnFalse result ((self.old.lost ≡ true) ⊎ (2 ^ 64 ≤ 512 * sectors)
+            ⊎ (F.tells_length self.old.file ≡ false) ⊎ (length (F.content self.old.file) / 512 ≢ self.old.sectors)
+            ⊎ Grew (F.failures self.old.file) (F.failures self.new.file)) }
+        ensures told { IsTrue (F.honest self.old.file) → OnTrue result (F.failures self.new.file ≡ F.failures self.old.file) }
         ensures same_honest { F.honest self.new.file ≡ F.honest self.old.file }
         ensures refused { self.old.lost ≡ true → result ≡ false }
         ensures same_lost { self.new.lost ≡ self.old.lost }
@@ -212,7 +249,9 @@ impl<F: ByteFile + Drop> BufferedFile<F> {
 
     /// Whether the file ends with its last sector, or after it before there is room for one more.
     fn ends_here(&self) -> bool
-        ensures { IsTrue (F.honest self.now.file) → OnTrue result (length (F.content self.now.file) < 512 * (self.now.sectors + 1)) }
+        ensures ends { IsTrue (F.honest self.now.file) → OnTrue result (length (F.content self.now.file) < 512 * (self.now.sectors + 1)) }
+        ensures not { IsTrue (F.honest self.now.file) → OnFalse result
+            ((F.tells_length self.now.file ≡ false) ⊎ (length (F.content self.now.file) / 512 ≢ self.now.sectors)) }
     {
         match self.file.len() {
             Some(bytes) => bytes / 512 == self.sectors,

@@ -2,6 +2,8 @@
 ghost use Rattle.std.specs.Prelude.{◌≡◌, ◌+◌, ◌*◌, ◌^◌, ◌-◌, ◌<◌, ◌≤◌, ℕ, Some, length, IsTrue, IfSome, IsSome, is_some};
 ghost use Rattle.std.specs.Bool.{OnTrue, OnFalse};
 ghost use Rattle.file_disk.specs.Bytes.{sector_of};
+ghost use Rattle.file_disk.specs.Failing.{TellsFailure};
+ghost use Rattle.file_disk.specs.Touched.{WritesOnly};
 ghost use Rattle.file_disk.specs.Waiting.{page_at, slot_of};
 ghost use Rattle.file_disk.specs.aid.Waiting.{AreInside, AreInFile, IsInFile, IsRun, Puts};
 
@@ -25,6 +27,8 @@ fn put_slots<F: ByteFile>(
     ensures put { IsTrue (F.honest file.old) → OnTrue result ((k : ℕ) → k < sectors
         → sector_of (F.content file.new) (first + k) ≡ sector_of waiting.now.bytes.items (slot + k)) }
     ensures lasts { IsTrue (F.honest file.old) → F.durable file.new ≡ F.durable file.old }
+    ensures touched { IsTrue (F.honest file.old) → WritesOnly waiting.now (F.events file.old) (F.events file.new) }
+    ensures counted { IsTrue (F.honest file.old) → TellsFailure result (F.failures file.old) (F.failures file.new) }
     ensures same_honest { F.honest file.new ≡ F.honest file.old }
 {
     let start = 512 * slot;
@@ -41,6 +45,8 @@ fn put_one<F: ByteFile>(file: &mut F, waiting: &WaitingWrites, place: usize, sec
     ensures put { IsTrue (F.honest file.old) → OnTrue result
         (IsInFile waiting.now.pages.items waiting.now.bytes.items (F.content file.new) place sector) }
     ensures lasts { IsTrue (F.honest file.old) → F.durable file.new ≡ F.durable file.old }
+    ensures touched { IsTrue (F.honest file.old) → WritesOnly waiting.now (F.events file.old) (F.events file.new) }
+    ensures counted { IsTrue (F.honest file.old) → TellsFailure result (F.failures file.old) (F.failures file.new) }
     ensures same_honest { F.honest file.new ≡ F.honest file.old }
 {
     let page = waiting.pages[place];
@@ -65,6 +71,8 @@ fn put_page<F: ByteFile>(file: &mut F, waiting: &WaitingWrites, place: usize) ->
     ensures put { IsTrue (F.honest file.old) → OnTrue result ((s : ℕ) → s < 8
         → IsInFile waiting.now.pages.items waiting.now.bytes.items (F.content file.new) place s) }
     ensures lasts { IsTrue (F.honest file.old) → F.durable file.new ≡ F.durable file.old }
+    ensures touched { IsTrue (F.honest file.old) → WritesOnly waiting.now (F.events file.old) (F.events file.new) }
+    ensures counted { IsTrue (F.honest file.old) → TellsFailure result (F.failures file.old) (F.failures file.new) }
     ensures same_honest { F.honest file.new ≡ F.honest file.old }
 {
     for sector in 0..8 {
@@ -85,6 +93,8 @@ fn put_run<F: ByteFile>(file: &mut F, waiting: &WaitingWrites, place: usize, run
     ensures put { IsTrue (F.honest file.old) → OnTrue result ((k s : ℕ) → k < run → s < 8
         → IsInFile waiting.now.pages.items waiting.now.bytes.items (F.content file.new) (place + k) s) }
     ensures lasts { IsTrue (F.honest file.old) → F.durable file.new ≡ F.durable file.old }
+    ensures touched { IsTrue (F.honest file.old) → WritesOnly waiting.now (F.events file.old) (F.events file.new) }
+    ensures counted { IsTrue (F.honest file.old) → TellsFailure result (F.failures file.old) (F.failures file.new) }
     ensures same_honest { F.honest file.new ≡ F.honest file.old }
 {
     let number = waiting.pages[place].number;
@@ -101,6 +111,8 @@ fn put_from<F: ByteFile>(file: &mut F, waiting: &WaitingWrites, place: usize) ->
         (page_at waiting.now.pages.items place).number next (F.content file.new)) }
     ensures later { IfSome result (λ next. ((page_at waiting.now.pages.items place).number < next) × (next ≤ 2 ^ 64 - 1)) }
     ensures lasts { IsTrue (F.honest file.old) → F.durable file.new ≡ F.durable file.old }
+    ensures touched { IsTrue (F.honest file.old) → WritesOnly waiting.now (F.events file.old) (F.events file.new) }
+    ensures counted { IsTrue (F.honest file.old) → TellsFailure (is_some result) (F.failures file.old) (F.failures file.new) }
     ensures same_honest { F.honest file.new ≡ F.honest file.old }
 {
     let first = waiting.pages[place].number;
@@ -126,6 +138,8 @@ pub fn put_all<F: ByteFile>(file: &mut F, waiting: &WaitingWrites) -> bool
         → IsInFile waiting.now.pages.items waiting.now.bytes.items (F.content file.new) p s) }
     ensures refused { OnFalse result (0 < waiting.now.count) }
     ensures lasts { IsTrue (F.honest file.old) → F.durable file.new ≡ F.durable file.old }
+    ensures touched { IsTrue (F.honest file.old) → WritesOnly waiting.now (F.events file.old) (F.events file.new) }
+    ensures counted { IsTrue (F.honest file.old) → TellsFailure result (F.failures file.old) (F.failures file.new) }
     ensures same_honest { F.honest file.new ≡ F.honest file.old }
 {
     let mut next = 0;

@@ -5,6 +5,7 @@
 mod buffered_file;
 mod byte_file;
 mod file;
+mod file_event;
 mod flush;
 mod memory_file;
 mod open_file;
@@ -17,5 +18,6 @@ mod waiting_writes;
 pub use buffered_file::BufferedFile;
 pub use byte_file::ByteFile;
 pub use file::FileDisk;
+pub use file_event::FileEvent;
 pub use memory_file::MemoryFile;
 pub use refused::FileRefused;

@@ -1,7 +1,9 @@
 //! A file of bytes in memory.
-ghost use Rattle.std.specs.Prelude.{◌≡◌, ◌+◌, ◌≤◌, length, true, []};
+ghost use Rattle.std.specs.Prelude.{◌≡◌, ◌+◌, ◌≤◌, length, true, false, []};
+ghost use Rattle.file_disk.specs.Failing.{TellsFailure};
 
 use crate::byte_file::ByteFile;
+use crate::file_event::FileEvent;
 use crate::put_bytes::put_bytes;
 use std::alloc::Global;
 
@@ -11,6 +13,10 @@ pub struct MemoryFile {
     pub bytes: Vec<u8>,
     /// As they were at the last sync.
     pub synced: Vec<u8>,
+    /// What happened to it since it was made.
+    pub events: Vec<FileEvent>,
+    /// How many of its calls have failed, up to the greatest number that fits.
+    pub failures: u64,
     /// The calls before the one that fails, while it is still to come.
     ahead: Option<u64>,
 }
@@ -20,10 +26,13 @@ impl MemoryFile {
     pub fn new(alloc: Global, bytes: Vec<u8>) -> Self
         ensures bytes { result.bytes ≡ bytes }
         ensures synced { result.synced.items ≡ [] }
+        ensures events { result.events.items ≡ [] }
     {
         MemoryFile {
             bytes,
             synced: Vec::new(alloc),
+            events: Vec::new(alloc),
+            failures: 0,
             ahead: None,
         }
     }
@@ -32,9 +41,18 @@ impl MemoryFile {
     pub fn fail_after(&mut self, calls: u64)
         ensures bytes { self.new.bytes ≡ self.old.bytes }
         ensures synced { self.new.synced ≡ self.old.synced }
+        ensures events { self.new.events ≡ self.old.events }
     {
         self.ahead = Some(calls);
     }
+}
+
+/// A call is not done, which counts.
+fn refused(failures: &mut u64) -> bool
+    ensures { (result ≡ false) × TellsFailure false failures.old failures.new }
+{
+    *failures = failures.saturating_add(1);
+    false
 }
 
 /// Whether it is this call that fails.
@@ -60,11 +78,17 @@ fn has_part(bytes: &Vec<u8>, at: u64, count: usize) -> bool
 }
 
 impl ByteFile for MemoryFile {
-    ghost use Rattle.file_disk.specs.InMemory.{bytes_of, synced_of};
+    ghost use Rattle.file_disk.specs.InMemory.{bytes_of, synced_of, events_of};
 
     ghost content = { bytes_of };
 
     ghost durable = { synced_of };
+
+    ghost events = { events_of };
+
+    ghost failures = { λ f. f.failures };
+
+    ghost tells_length = { λ f. true };
 
     ghost honest = { λ f. true };
 
@@ -74,7 +98,7 @@ impl ByteFile for MemoryFile {
 
     fn read_at(&mut self, at: u64, into: &mut [u8]) -> bool {
         if strikes(&mut self.ahead) || !has_part(&self.bytes, at, into.len()) {
-            return false;
+            return refused(&mut self.failures);
         }
         into.copy_from_slice(&self.bytes[at as usize..at as usize + into.len()]);
         true
@@ -82,32 +106,43 @@ impl ByteFile for MemoryFile {
 
     fn write_at(&mut self, at: u64, from: &[u8]) -> bool {
         if strikes(&mut self.ahead) || !has_part(&self.bytes, at, from.len()) {
-            return false;
+            return refused(&mut self.failures);
         }
-        put_bytes(&mut self.bytes, at as usize, from);
-        true
+        match self.events.push(FileEvent::Wrote(at, from.len())) {
+            Ok(()) => {
+                put_bytes(&mut self.bytes, at as usize, from);
+                true
+            }
+            Err(_) => refused(&mut self.failures),
+        }
     }
 
     fn sync(&mut self) -> bool {
         if strikes(&mut self.ahead) {
-            return false;
+            return refused(&mut self.failures);
         }
-        match self.bytes.clone() {
-            Ok(synced) => {
+        let Ok(synced) = self.bytes.clone() else {
+            return refused(&mut self.failures);
+        };
+        match self.events.push(FileEvent::Synced) {
+            Ok(()) => {
                 self.synced = synced;
                 true
             }
-            Err(_) => false,
+            Err(_) => refused(&mut self.failures),
         }
     }
 
     fn set_len(&mut self, bytes: u64) -> bool {
         if strikes(&mut self.ahead) {
-            return false;
+            return refused(&mut self.failures);
+        }
+        if self.events.push(FileEvent::Resized(bytes)).is_err() {
+            return refused(&mut self.failures);
         }
         match self.bytes.resize(bytes as usize, 0) {
             Ok(()) => true,
-            Err(_) => false,
+            Err(_) => refused(&mut self.failures),
         }
     }
 }

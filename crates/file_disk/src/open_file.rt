@@ -16,6 +16,12 @@ impl ByteFile for OpenFile {
 
     ghost durable = { λ f. [] };
 
+    ghost events = { λ f. [] };
+
+    ghost failures = { λ f. 0 };
+
+    ghost tells_length = { λ f. false };
+
     ghost honest = { λ f. false };
 
     fn len(&self) -> Option<u64> {

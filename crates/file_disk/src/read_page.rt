@@ -1,5 +1,5 @@
 //! The page of a file that was read last.
-ghost use Rattle.std.specs.Prelude.{◌≡◌, ◌*◌, ◌/◌, ◌%◌, ◌^◌, ◌<◌, None, Some, IsTrue};
+ghost use Rattle.std.specs.Prelude.{◌≡◌, ◌*◌, ◌/◌, ◌%◌, ◌^◌, ◌<◌, ◌≤◌, None, Some, IsTrue};
 ghost use Rattle.std.specs.Bool.{OnTrue};
 ghost use Rattle.file_disk.specs.Bytes.{sector_of};
 ghost use Rattle.file_disk.specs.aid.Waiting.{IsCopyOf};
@@ -50,6 +50,8 @@ impl ReadPage {
         ensures copied { IsTrue (F.honest file.old) → IsCopyOf self.new.number self.new.bytes (F.content file.old) }
         ensures unchanged { IsTrue (F.honest file.old) → F.content file.new ≡ F.content file.old }
         ensures lasts { IsTrue (F.honest file.old) → F.durable file.new ≡ F.durable file.old }
+        ensures touched { IsTrue (F.honest file.old) → F.events file.new ≡ F.events file.old }
+        ensures later { IsTrue (F.honest file.old) → F.failures file.old ≤ F.failures file.new }
         ensures same_honest { F.honest file.new ≡ F.honest file.old }
     {
         self.number = None;

@@ -98,6 +98,7 @@ impl WaitingWrites {
         ensures placed { IfSome result (λ p. (p < self.new.count) × ((page_at self.new.pages.items p).number ≡ page)) }
         ensures same { (content : List ℕ) (k : ℕ) → shown_of self.new.pages.items self.new.count self.new.bytes.items content k
             ≡ shown_of self.old.pages.items self.old.count self.old.bytes.items content k }
+        ensures slots { (k : ℕ) → slot_of self.new.pages.items self.new.count k ≡ slot_of self.old.pages.items self.old.count k }
         ensures inside { (end : ℕ) → AreInside self.old.pages.items self.old.count end
             → AreInside self.new.pages.items self.new.count end }
         ensures full { IfNone result ((place_of self.old.pages.items self.old.count page ≡ None) × (length self.old.pages.items ≤ self.old.count)) }
@@ -126,6 +127,7 @@ impl WaitingWrites {
         ensures put { (content : List ℕ) → shown_of self.new.pages.items self.new.count self.new.bytes.items content at ≡ from.now }
         ensures others { (content : List ℕ) (k : ℕ) → k ≢ at → shown_of self.new.pages.items self.new.count self.new.bytes.items content k
             ≡ shown_of self.old.pages.items self.old.count self.old.bytes.items content k }
+        ensures slots { (k : ℕ) → k ≢ at → slot_of self.new.pages.items self.new.count k ≡ slot_of self.old.pages.items self.old.count k }
         ensures inside { (end : ℕ) → 512 * (at + 1) ≤ end → AreInside self.old.pages.items self.old.count end
             → AreInside self.new.pages.items self.new.count end }
         ensures room { length self.new.pages.items ≡ length self.old.pages.items }
@@ -143,6 +145,7 @@ impl WaitingWrites {
         ensures put { (content : List ℕ) → OnTrue result (shown_of self.new.pages.items self.new.count self.new.bytes.items content at ≡ from.now) }
         ensures others { (content : List ℕ) (k : ℕ) → k ≢ at → shown_of self.new.pages.items self.new.count self.new.bytes.items content k
             ≡ shown_of self.old.pages.items self.old.count self.old.bytes.items content k }
+        ensures slots { (k : ℕ) → k ≢ at → slot_of self.new.pages.items self.new.count k ≡ slot_of self.old.pages.items self.old.count k }
         ensures inside { (end : ℕ) → 512 * (at + 1) ≤ end → AreInside self.old.pages.items self.old.count end
             → AreInside self.new.pages.items self.new.count end }
         ensures refused { OnFalse result (self.new ≡ self.old) }

@@ -4,3 +4,4 @@ pub mod Packings
 pub mod Words
 pub mod Loading
 pub mod Growing
+pub mod Free

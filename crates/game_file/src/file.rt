@@ -1,6 +1,6 @@
 //! What a game's table in a file promises.
-ghost use Rattle.std.specs.Prelude.{◌≡◌, ◌≢◌, ◌≤◌, ◌^◌, ℕ, true, false, Option, None, Some, length, OnOk, OnErr, IfOk, IfErr, IsErrOf};
-ghost use Rattle.std.specs.Prelude.{IfSome, IfNone, IsTrue, option_map};
+ghost use Rattle.std.specs.Prelude.{◌≡◌, ◌≢◌, ◌⊎◌, ◌+◌, ◌≤◌, ◌<◌, ◌^◌, ℕ, true, false, Option, None, Some, length, OnOk, OnErr, IfOk, IfErr};
+ghost use Rattle.std.specs.Prelude.{IsErrOf, IfSome, IfNone, IsTrue, option_map};
 ghost use Rattle.sector_disk.specs.Disk.{Picture};
 ghost use Rattle.root_pair.specs.Root.{IsTablePicture};
 ghost use Rattle.retrograde.specs.Stored.{IsTable, loaded};
@@ -45,6 +45,10 @@ pub trait GameFile: Table {
 
     /// What is kept of an earlier commit, for whoever reads it still, is kept in the later state of the file.
     ghost lasts: { Self → Self → Type 0 };
+
+    /// How many pages are free: not those that the last commit keeps, nor those that were used since, nor those that are kept for whoever
+    /// reads an earlier commit still.
+    ghost free: { Self → ℕ };
 
     /// Makes the empty table on this disk, and opens it: E1, E3 and then E6, E8.
     fn create(alloc: Global, disk: Self::Device) -> Result<Self, Refused<Self::Device>>
@@ -104,6 +108,10 @@ pub trait GameFile: Table {
     fn capacity(&self) -> u32
         ensures { result ≡ (state self.now).capacity };
 
+    /// How many of them are free: so many may be taken before E7. It takes no memory and always answers.
+    fn free_pages(&self) -> u32
+        ensures { result ≡ free self.now };
+
     /// Commits the table of a game that is loaded now, its start and no more, where none was, with this packing and goal: S6 if the start
     /// has no bytes, and E9, E1, E7, E8. After a refusal there is still none, but that after E1 in a write or a sync the file is closed,
     /// and the disk has the one or the other. A layout that has no place for a goal answers E8 where one is asked for.
@@ -147,12 +155,15 @@ pub trait GameFile: Table {
         ensures still { (was : Self) → Self.goes_on was self.old
             → IfErr result (λ fault. fault ≢ FileFault.Disk → (state self.new).closed ≡ (state was).closed) };
 
-    /// Gives a command up: the table is that of the last commit again. It takes no memory and always answers.
+    /// Gives a command up: the table is that of the last commit again, and the pages that the command took are free again. It takes no
+    /// memory and always answers.
     fn discard(&mut self)
         ensures ahead { GoesAhead (state self.old) (state self.new) }
         ensures lasts { lasts self.old self.new }
         ensures back { (was : Self) → is_whole was → Self.goes_on was self.old
             → is_whole self.new × IsNothingPut stores (state was) (state self.new) × ((state self.new).closed ≡ (state was).closed) }
+        ensures freed { (was : Self) → is_whole was → (Self.goes_on was self.old ⊎ ((fault : TableFault) × Self.fails was self.old fault))
+            → free self.new ≡ free was }
         ensures failed { (was : Self) (fault : TableFault) → is_whole was → Self.fails was self.old fault
             → is_whole self.new × IsNothingPut stores (state was) (state self.new) × FileTableCause (state was) (state self.new) fault }
         ensures still { (was : Self) (fault : TableFault) → is_whole was → Self.fails was self.old fault → fault ≢ TableFault.Disk
@@ -221,6 +232,19 @@ pub trait GameFile: Table {
 
     /// So they do where one is not answered.
     ghost fails_lasts: { (old new : Self) (fault : TableFault) → Self.fails old new fault → lasts old new };
+
+    /// The table's reading calls leave as many pages free.
+    ghost stays_free: { (old new : Self) → Self.stays old new → free new ≡ free old };
+
+    /// Where a call of the table finds no page, none is free.
+    ghost fails_full: { (old new : Self) → Self.fails old new TableFault.TableFull → free new ≡ 0 };
+
+    /// The page of the root is never free.
+    ghost whole_free: { (file : Self) → is_whole file → free file < (state file).capacity };
+
+    /// Each other page of an open file that keeps no game is.
+    ghost empty_free: { (file : Self) → is_whole file → (state file).closed ≡ false → (state file).kept ≡ None
+        → (state file).capacity ≡ free file + 1 };
 
     /// No file has more than 16,777,216 positions.
     ghost few: { (file : Self) → (Self.counted file).known ≤ 2 ^ 24 };

@@ -1,4 +1,5 @@
 pub mod Calls
 pub mod Given
 pub mod Kept
+pub mod Lines
 pub mod Rooms

@@ -2,6 +2,7 @@
 //! bytes the caller keeps, and a room of tables that stay open. library/rbgsolve.h says the same to C.
 #![tactic(auto)]
 
+mod certificates;
 mod faults;
 mod given;
 mod held;

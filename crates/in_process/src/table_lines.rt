@@ -1,8 +1,11 @@
 //! Lines on a table whose bytes the caller keeps.
+ghost use Rattle.session.specs.declared.line_by_line.Lines.TheVariants.{Session, Look};
+ghost use Rattle.in_process.specs.Lines.{AreLinesAnswered, OverBytes};
 
 use crate::given::NO_MEMORY;
 use crate::table_bytes::give_table;
 use byte_disk::ByteDisk;
+use game_file::{GameFile, Versions};
 use recover::TableFile;
 use session::line_by_line::{Lines, lines_over};
 use std::alloc::Global;
@@ -16,7 +19,11 @@ pub extern "C" fn rbg_session(
     lines: &[u8],
     out: &mut [u8],
     count: &mut usize,
-) -> u8 {
+) -> u8
+    ensures { AreLinesAnswered (OverBytes ⟦<TableFile<ByteDisk> as GameFile>⟧.stores ⟦<TableFile<ByteDisk> as GameFile>⟧.state
+        ⟦<TableFile<ByteDisk> as Versions>⟧.is_version ⟦<TableFile<ByteDisk> as Versions>⟧.are_two ⟦<TableFile<ByteDisk> as Versions>⟧.is_used_up
+        ⟦<TableFile<ByteDisk> as GameFile>⟧.lasts Session) lines.now table.old table.new out.old out.new count.new result }
+{
     answered(alloc, Lines::Session, table, lines, out, count)
 }
 
@@ -28,7 +35,11 @@ pub extern "C" fn rbg_look(
     lines: &[u8],
     out: &mut [u8],
     count: &mut usize,
-) -> u8 {
+) -> u8
+    ensures { AreLinesAnswered (OverBytes ⟦<TableFile<ByteDisk> as GameFile>⟧.stores ⟦<TableFile<ByteDisk> as GameFile>⟧.state
+        ⟦<TableFile<ByteDisk> as Versions>⟧.is_version ⟦<TableFile<ByteDisk> as Versions>⟧.are_two ⟦<TableFile<ByteDisk> as Versions>⟧.is_used_up
+        ⟦<TableFile<ByteDisk> as GameFile>⟧.lasts Look) lines.now table.old table.new out.old out.new count.new result }
+{
     answered(alloc, Lines::Look, table, lines, out, count)
 }
 
@@ -40,7 +51,11 @@ fn answered(
     lines: &[u8],
     out: &mut [u8],
     count: &mut usize,
-) -> u8 {
+) -> u8
+    ensures { AreLinesAnswered (OverBytes ⟦<TableFile<ByteDisk> as GameFile>⟧.stores ⟦<TableFile<ByteDisk> as GameFile>⟧.state
+        ⟦<TableFile<ByteDisk> as Versions>⟧.is_version ⟦<TableFile<ByteDisk> as Versions>⟧.are_two ⟦<TableFile<ByteDisk> as Versions>⟧.is_used_up
+        ⟦<TableFile<ByteDisk> as GameFile>⟧.lasts manner) lines.now table.old table.new out.old out.new count.new result }
+{
     let Ok(disk) = ByteDisk::from_bytes(alloc, table) else {
         *count = 0;
         return NO_MEMORY;

@@ -1,5 +1,5 @@
 -- Tables in brief: what a table tells, when that is so by the rules of its game, and why a command may be refused.
-use Rattle.std.specs.Prelude.{◌≡◌, ◌≢◌, ◌↔◌, ℕ, zero, suc, ◌<◌, List, [], ◌∷◌, length, slice_get, Option, None, Some, IsSome}
+use Rattle.std.specs.Prelude.{◌≡◌, ◌≢◌, ◌↔◌, ℕ, zero, suc, ◌<◌, ◌^◌, List, [], ◌∷◌, length, slice_get, Option, None, Some, IsSome}
 use Rattle.rbg_text.specs.Token.{Text}
 use Rattle.rbg_text.specs.Syntax.{Tokens, Section}
 use Rattle.rbg_game.specs.Games.{Game}
@@ -140,6 +140,17 @@ ComesTo None Such = ⊥
 ComesTo (Some table) Such =
     (game : Game) × (at : Position) × TextSays table.text game × IsReachable (play_of table.goal game) at × Such game at
 
+-- these positions all differ, and play comes to each
+pub record AreComeTo (game : Game) (goal : Option ℕ) (positions : List Position) : Type 0 where
+  pub differ : (i j : ℕ) (at : Position) → slice_get positions i ≡ Some at → slice_get positions j ≡ Some at → i ≡ j
+  pub each : (i : ℕ) (at : Position) → slice_get positions i ≡ Some at → IsReachable (play_of goal game) at
+
+-- a game is loaded, and play comes to more positions of it than this
+abbrev pub ComesToMore : ℕ → Option BriefTable → Type 0
+ComesToMore limit None = ⊥
+ComesToMore limit (Some table) =
+    (game : Game) × (positions : List Position) × TextSays table.text game × AreComeTo game table.goal positions × (limit < length positions)
+
 -- the keeper has the turn, and moves to two positions
 abbrev pub KeeperHasChoice : Game → Position → Type 0
 KeeperHasChoice game at =
@@ -154,12 +165,12 @@ RefusesText text pages table (BadGame fault) = fault ≢ game_fault.OutOfMemory 
 RefusesText text pages table GameAlready = IsSome table
 RefusesText text pages table _ = ⊥
 
--- why `work` may be refused by a table on an honest disk; E1, E7, E8 and S5 are not said
+-- why `work` may be refused by a table on an honest disk; E1, E7 and E8 are not said
 abbrev pub RefusesWork : Option BriefTable → SolverFault → Type 0
 RefusesWork table Disk = Unit {0}
 RefusesWork table OutOfMemory = Unit {0}
 RefusesWork table TableFull = Unit {0}
-RefusesWork table TooManyPositions = Unit {0}
+RefusesWork table TooManyPositions = ComesToMore (2 ^ 24) table
 RefusesWork table NoGame = table ≡ None
 RefusesWork table (KeeperChooses number) = ComesTo table KeeperHasChoice
 RefusesWork table TooWide = ComesTo table IsWide

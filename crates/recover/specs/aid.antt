@@ -4,6 +4,7 @@ pub mod Plays
 pub mod Finished
 pub mod Telling
 pub mod Histories
+pub mod Limit
 pub mod Causes
 pub mod AtWork
 pub mod Migrations

@@ -1,2 +1,6 @@
 mod Auditing
 mod Bringing
+mod Cutting
+mod Saying
+mod UnderWay
+mod InputLemmas

@@ -1,5 +1,6 @@
 -- What a command on a table's file does, prints and answers.
 use Rattle.std.specs.Prelude.{◌≡◌, ◌⊎◌, ℕ, List, [], ◌∷◌, ◌++◌, codes, Option, None, Some}
+use Rattle.std.specs.Io.KnownBytes.{Appends}
 use Rattle.sector_disk.specs.Disk.{Disk}
 use Rattle.rbg_game.specs.Goals.{points_of}
 use Rattle.retrograde.specs.declared.records.Counts.{Counts}
@@ -24,6 +25,7 @@ use Rattle.solver.specs.Queries.{Tells}
 use Rattle.solver.specs.Runs.{IsTurnWithCause}
 use Rattle.session_lines.specs.Verdicts.{IsVerdictLine}
 use Rattle.session_lines.specs.Answered.{status_of_fault, status_of_reply}
+use Rattle.session_lines.specs.Parts.{AppendsPart}
 use Rattle.session_lines.specs.Told.{fault_line, IsReplyLine}
 use Rattle.session.specs.declared.commands.FileCommand.{FileCommand}
 use Rattle.session.specs.declared.commands.FileCommand.TheVariants as asked
@@ -80,10 +82,11 @@ refusal_of (audited verdict counts) = None
 refusal_of (brought which) = None
 refusal_of grown = None
 
--- it is told with this status: its line is printed and the status is its own, or the output failed and the status is 4
-pub data IsPrinted (Prints : List ℕ → Type 0) (came : Came) (status : ℕ) : Type 0 where
-  told : (line : List ℕ) → IsLineOf came line → Prints line → status ≡ status_of_came came → IsPrinted Prints came status
-  untold : status ≡ 4 → IsPrinted Prints came status
+-- it is told with this status: its line is printed and the status is its own, or the output failed, a part of the line is printed, from its
+-- start on, and the status is 4
+pub data IsPrinted (before after : Option (List ℕ)) (came : Came) (status : ℕ) : Type 0 where
+  told : (line : List ℕ) → IsLineOf came line → Appends before after line → status ≡ status_of_came came → IsPrinted before after came status
+  untold : (line : List ℕ) → IsLineOf came line → AppendsPart before after line → status ≡ 4 → IsPrinted before after came status
 
 -- the disk that is given back is that of the table in this state
 pub record GivesBack (state : State) (back : Disk) (now : ℕ) : Type 0 where

@@ -1,9 +1,7 @@
 //! The commands on a table's file that are one command each.
-ghost use Rattle.std.specs.Prelude.{◌≡◌, List, ℕ, false, Some, None, OnOk};
-ghost use Rattle.std.specs.Io.KnownBytes.{Appends};
+ghost use Rattle.std.specs.Prelude.{◌≡◌, false, Some, None};
 ghost use Rattle.game_file.specs.Calls.{IsAsked};
 ghost use Rattle.session_lines.specs.Answered.{status_of_reply};
-ghost use Rattle.session_lines.specs.Verdicts.{IsVerdictLine};
 ghost use Rattle.session.specs.Commands.{Came, refused as refused_for, replied, audited as audited_as, IsDoneOnFile};
 ghost use Rattle.session.specs.Commands.{IsAudited, IsPrinted, IsLineOf, refusal_in, refusal_of, status_of_came, status_of_verdict};
 ghost use Rattle.solver.specs.Solvers.{state, IsReady};
@@ -16,7 +14,7 @@ pub use session_lines::puts::{put_line, put_refused, put_reply, status_of};
 use session_lines::verdicts::put_verdict;
 use solver::{Command, FileSolver, Reply, SolverFault};
 use std::alloc::Global;
-use std::io::{self, Write};
+use std::io::Write;
 
 /// What is done to a file.
 #[derive(Drop)]
@@ -50,7 +48,7 @@ pub fn command_on<F: GameFile, W: Write>(
 ) -> (Outcome, F::Device)
     ensures { (came : Came) × IsDoneOnFile F.stores command (F.Device.disk disk) (F.Device.failures disk) came (F.Device.disk result.1)
         (F.Device.failures result.1) × (result.0.refused ≡ refusal_of came)
-        × IsPrinted (Appends (W.contents out.old) (W.contents out.new)) came result.0.status }
+        × IsPrinted (W.contents out.old) (W.contents out.new) came result.0.status }
 {
     match command {
         FileCommand::Create => match FileSolver::<F>::create(alloc, disk) {
@@ -84,7 +82,7 @@ fn audited<F: GameFile, W: Write>(solver: &mut FileSolver<F>, out: &mut W) -> Ou
     requires open { (state solver.old).closed ≡ false }
     ensures asked { IsAsked F.stores (state solver.old) (state solver.new) }
     ensures came { (came : Came) × IsAudited (state solver.old) (state solver.new) came × (result.refused ≡ refusal_of came)
-        × IsPrinted (Appends (W.contents out.old) (W.contents out.new)) came result.status }
+        × IsPrinted (W.contents out.old) (W.contents out.new) came result.status }
 {
     let Some(counts) = solver.status() else {
         return said_refused(out, SolverFault::NoGame);
@@ -93,14 +91,6 @@ fn audited<F: GameFile, W: Write>(solver: &mut FileSolver<F>, out: &mut W) -> Ou
         Ok(verdict) => said_verdict(out, verdict, counts),
         Err(fault) => said_refused(out, fault),
     }
-}
-
-/// Writes the line of a verdict at once.
-fn put_audited<W: Write>(out: &mut W, verdict: Verdict, counts: Counts) -> io::Result<()>
-    ensures { OnOk result ((line : List ℕ) × IsVerdictLine counts verdict line × Appends (W.contents out.old) (W.contents out.new) line) }
-{
-    put_verdict(out, verdict, counts)?;
-    out.flush()
 }
 
 /// The exit status of a verdict.
@@ -116,9 +106,9 @@ fn status_of_verdict(verdict: Verdict) -> u8
 /// Writes the line of a verdict.
 fn said_verdict<W: Write>(out: &mut W, verdict: Verdict, counts: Counts) -> Outcome
     ensures refused { result.refused ≡ None }
-    ensures told { IsPrinted (Appends (W.contents out.old) (W.contents out.new)) (audited_as verdict counts) result.status }
+    ensures told { IsPrinted (W.contents out.old) (W.contents out.new) (audited_as verdict counts) result.status }
 {
-    let status = match put_audited(out, verdict, counts) {
+    let status = match put_verdict(out, verdict, counts) {
         Ok(()) => status_of_verdict(verdict),
         Err(_) => 4,
     };
@@ -132,7 +122,7 @@ fn said_verdict<W: Write>(out: &mut W, verdict: Verdict, counts: Counts) -> Outc
 fn said<W: Write>(out: &mut W, line: &[u8]) -> Outcome
     ensures refused { result.refused ≡ None }
     ensures told { (came : Came) → IsLineOf came line.now → status_of_came came ≡ 0
-        → IsPrinted (Appends (W.contents out.old) (W.contents out.new)) came result.status }
+        → IsPrinted (W.contents out.old) (W.contents out.new) came result.status }
 {
     let status = match put_line(out, line) {
         Ok(()) => 0,
@@ -147,7 +137,7 @@ fn said<W: Write>(out: &mut W, line: &[u8]) -> Outcome
 /// Writes the line of a reply.
 fn said_reply<W: Write>(out: &mut W, reply: Reply) -> Outcome
     ensures refused { result.refused ≡ refusal_in reply }
-    ensures told { IsPrinted (Appends (W.contents out.old) (W.contents out.new)) (replied reply) result.status }
+    ensures told { IsPrinted (W.contents out.old) (W.contents out.new) (replied reply) result.status }
 {
     let refused = refusal_in(reply);
     let status = match put_reply(out, reply) {
@@ -180,7 +170,7 @@ fn status_of_reply(reply: Reply) -> u8
 /// Writes the line of a refusal.
 pub fn said_refused<W: Write>(out: &mut W, fault: SolverFault) -> Outcome
     ensures refused { result.refused ≡ Some fault }
-    ensures told { IsPrinted (Appends (W.contents out.old) (W.contents out.new)) (refused_for fault) result.status }
+    ensures told { IsPrinted (W.contents out.old) (W.contents out.new) (refused_for fault) result.status }
 {
     let status = match put_refused(out, fault) {
         Ok(()) => status_of(fault),

@@ -230,9 +230,21 @@ fn command_on_file(
                 "{name}: the table has as many pages or more: give `--pages` more than it has"
             ),
         ),
+        Some(SolverFault::NotATable) if is_game(rt, alloc, name) => tell(
+            rt,
+            format_args!(
+                "{name}: no table is there, but the text of a game: `rbgsolve create` makes a table in another file, and `rbgsolve load` loads the text"
+            ),
+        ),
         Some(fault) => tell_refusal(rt, name, fault),
     }
     outcome
+}
+
+/// Whether the text of a game is in a file.
+fn is_game(rt: &HostRuntime, alloc: Global, name: &str) -> bool {
+    let mut text = Vec::new(alloc);
+    read_start(rt, name, &mut text).is_ok() && read_game(alloc, &text).is_ok()
 }
 
 /// What came of a command that was refused before a table was looked for, where all is said.

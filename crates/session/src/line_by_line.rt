@@ -1,4 +1,16 @@
 //! A session: commands as lines on an input, each with its reply.
+ghost use Rattle.std.specs.Prelude.{◌≡◌, ◌≢◌, ◌⊎◌, ℕ, List, [], ◌∷◌, ◌++◌, Option, Some, None, ◌<◌, ◌≤◌, IsTrue, IfOk, OnErr};
+ghost use Rattle.std.specs.Io.KnownBytes.{Appends, Consumes};
+ghost use Rattle.sector_disk.specs.Disk.{Disk};
+ghost use Rattle.solver.specs.Solvers.{state, IsReady};
+ghost use Rattle.solver.specs.Opening.{IsOpened};
+ghost use Rattle.session_lines.specs.declared.input.Asked.TheVariants.{Quit};
+ghost use Rattle.session_lines.specs.declared.looked.Looked.TheVariants.{Quit as LookQuit};
+ghost use Rattle.session.specs.Commands.{IsPrinted, refused as refused_for};
+ghost use Rattle.session.specs.Cut.{HasRead};
+ghost use Rattle.session.specs.Sessions.{SessionState, LineOutcome, OutcomeOf, IsLineAnswered, IsLookAnswered, IsUnderWay, Continues, IsSession, AsItIs, WithEnd, session_state};
+ghost use Rattle.session.specs.Sessions.{first_state, IsSessionOver};
+ghost use Rattle.session.specs.declared.line_by_line.Lines.TheVariants.{Session, Look};
 
 use crate::commands::said_refused;
 use game_file::Versions;
@@ -10,7 +22,7 @@ use session_lines::looks::put_looked;
 use session_lines::questions::put_answer;
 use solver::{FileSolver, Listing, SolverFault};
 use std::alloc::Global;
-use std::io::{ErrorKind, Read, Write};
+use std::io::{self, ErrorKind, Read, Write};
 
 /// Which lines are taken.
 #[derive(Clone, Copy, PartialEq, Eq, Drop)]
@@ -23,7 +35,7 @@ pub enum Lines {
 
 /// What a session may do, and what it keeps.
 enum Manner<V> {
-    /// It works, asks and keeps listings; those that are open stand here.
+    /// It works, asks and keeps listings; those that are open session_state here.
     Work(Vec<Listing<V>>),
     /// It only looks.
     Look,
@@ -38,7 +50,11 @@ pub fn session_over<F: Versions, R: Read, W: Write, E: Write>(
     input: &mut R,
     out: &mut W,
     told: &mut E,
-) -> (u8, F::Device) {
+) -> (u8, F::Device)
+    ensures { IsTrue (F.Device.disk disk).honest → (bytes : List ℕ) × Consumes (R.remaining input.old) (R.remaining input.new) bytes
+        × IsSessionOver F.stores F.state F.is_version F.are_two F.is_used_up F.lasts Session (F.Device.disk disk) (F.Device.failures disk) bytes (R.remaining input.new)
+        (W.contents out.old) (W.contents out.new) result.0 (F.Device.disk result.1) (F.Device.failures result.1) }
+{
     lines_over::<F, R, W, E>(alloc, disk, Lines::Session, input, out, told)
 }
 
@@ -49,7 +65,11 @@ pub fn look_over<F: Versions, R: Read, W: Write, E: Write>(
     input: &mut R,
     out: &mut W,
     told: &mut E,
-) -> (u8, F::Device) {
+) -> (u8, F::Device)
+    ensures { IsTrue (F.Device.disk disk).honest → (bytes : List ℕ) × Consumes (R.remaining input.old) (R.remaining input.new) bytes
+        × IsSessionOver F.stores F.state F.is_version F.are_two F.is_used_up F.lasts Look (F.Device.disk disk) (F.Device.failures disk) bytes (R.remaining input.new)
+        (W.contents out.old) (W.contents out.new) result.0 (F.Device.disk result.1) (F.Device.failures result.1) }
+{
     lines_over::<F, R, W, E>(alloc, disk, Lines::Look, input, out, told)
 }
 
@@ -61,7 +81,11 @@ pub fn lines_over<F: Versions, R: Read, W: Write, E: Write>(
     input: &mut R,
     out: &mut W,
     told: &mut E,
-) -> (u8, F::Device) {
+) -> (u8, F::Device)
+    ensures { IsTrue (F.Device.disk disk).honest → (bytes : List ℕ) × Consumes (R.remaining input.old) (R.remaining input.new) bytes
+        × IsSessionOver F.stores F.state F.is_version F.are_two F.is_used_up F.lasts lines (F.Device.disk disk) (F.Device.failures disk) bytes (R.remaining input.new)
+        (W.contents out.old) (W.contents out.new) result.0 (F.Device.disk result.1) (F.Device.failures result.1) }
+{
     match FileSolver::<F>::open(alloc, disk) {
         Ok(mut solver) => {
             let status = lines_on::<F, R, W, E>(alloc, &mut solver, lines, input, out, told);
@@ -79,7 +103,13 @@ pub fn lines_on<F: Versions, R: Read, W: Write, E: Write>(
     input: &mut R,
     out: &mut W,
     told: &mut E,
-) -> u8 {
+) -> u8
+    ensures ready { IsReady solver.old → IsReady solver.new }
+    ensures came { IsReady solver.old → IsTrue (state solver.old).disk.honest → (bytes : List ℕ) × (ends : SessionState F F.Version)
+        × Consumes (R.remaining input.old) (R.remaining input.new) bytes
+        × IsSession F.stores F.state F.is_version F.are_two F.is_used_up F.lasts bytes (first_state solver.old.file lines) ends (R.remaining input.new) (W.contents out.old) (W.contents out.new) result
+        × (state solver.new ≡ F.state ends.file) }
+{
     let mut manner = match lines {
         Lines::Session => Manner::Work(Vec::new(alloc)),
         Lines::Look => Manner::Look,
@@ -93,7 +123,10 @@ pub fn lines_on<F: Versions, R: Read, W: Write, E: Write>(
 }
 
 /// Ends all listings that are open.
-fn give_back<F: Versions>(solver: &mut FileSolver<F>, open: Vec<Listing<F::Version>>) {
+fn give_back<F: Versions>(solver: &mut FileSolver<F>, open: Vec<Listing<F::Version>>)
+    ensures ready { IsReady solver.old → IsReady solver.new }
+    ensures state { IsReady solver.old → IsTrue (state solver.old).disk.honest → state solver.new ≡ state solver.old }
+{
     let mut listings = open;
     while let Some(listing) = listings.pop() {
         solver.list_end(listing);
@@ -102,7 +135,9 @@ fn give_back<F: Versions>(solver: &mut FileSolver<F>, open: Vec<Listing<F::Versi
 }
 
 /// Writes a refusal that ends the session, and gives its status, or 4 where the output fails.
-fn refuse<W: Write, E: Write>(fault: SolverFault, out: &mut W, told: &mut E) -> u8 {
+fn refuse<W: Write, E: Write>(fault: SolverFault, out: &mut W, told: &mut E) -> u8
+    ensures { IsPrinted (W.contents out.old) (W.contents out.new) (refused_for fault) result }
+{
     let outcome = said_refused(out, fault);
     tell_fault(told, fault);
     outcome.status
@@ -116,7 +151,12 @@ fn answer_all<F: Versions, R: Read, W: Write, E: Write>(
     input: &mut R,
     out: &mut W,
     told: &mut E,
-) -> u8 {
+) -> u8
+    ensures ready { IsReady solver.old → IsReady solver.new }
+    ensures honest { IsReady solver.old → IsTrue (state solver.old).disk.honest → IsTrue (state solver.new).disk.honest }
+    ensures came { IsReady solver.old → IsTrue (state solver.old).disk.honest → (bytes : List ℕ) × Consumes (R.remaining input.old) (R.remaining input.new) bytes
+        × IsSession F.stores F.state F.is_version F.are_two F.is_used_up F.lasts bytes (session_state solver.old.file manner.old) (session_state solver.new.file manner.new) (R.remaining input.new) (W.contents out.old) (W.contents out.new) result }
+{
     let mut line = Line::new(alloc);
     let mut chunk = [0; 4096];
     // An input that gave a byte in each turn would be read for longer than any machine runs.
@@ -148,7 +188,13 @@ fn answer_chunk<F: Versions, W: Write, E: Write>(
     chunk: &[u8],
     out: &mut W,
     told: &mut E,
-) -> Option<u8> {
+) -> Option<u8>
+    ensures ready { IsReady solver.old → IsReady solver.new }
+    ensures honest { IsReady solver.old → IsTrue (state solver.old).disk.honest → IsTrue (state solver.new).disk.honest }
+    ensures came { IsReady solver.old → IsTrue (state solver.old).disk.honest → (bytes : List ℕ) (begins : SessionState F F.Version) (before : Option (List ℕ))
+        → IsUnderWay F.stores F.state F.is_version F.are_two F.is_used_up F.lasts bytes begins before (session_state solver.old.file manner.old) line.old (W.contents out.old)
+        → Continues F.stores F.state F.is_version F.are_two F.is_used_up F.lasts (bytes ++ chunk.now) begins before (session_state solver.new.file manner.new) line.new (W.contents out.new) result }
+{
     for byte in chunk {
         let ended = answer_byte(alloc, solver, manner, line, *byte, out, told);
         if ended.is_some() {
@@ -167,7 +213,13 @@ fn answer_byte<F: Versions, W: Write, E: Write>(
     byte: u8,
     out: &mut W,
     told: &mut E,
-) -> Option<u8> {
+) -> Option<u8>
+    ensures ready { IsReady solver.old → IsReady solver.new }
+    ensures honest { IsReady solver.old → IsTrue (state solver.old).disk.honest → IsTrue (state solver.new).disk.honest }
+    ensures came { IsReady solver.old → IsTrue (state solver.old).disk.honest → (bytes : List ℕ) (begins : SessionState F F.Version) (before : Option (List ℕ))
+        → IsUnderWay F.stores F.state F.is_version F.are_two F.is_used_up F.lasts bytes begins before (session_state solver.old.file manner.old) line.old (W.contents out.old)
+        → Continues F.stores F.state F.is_version F.are_two F.is_used_up F.lasts (bytes ++ byte ∷ []) begins before (session_state solver.new.file manner.new) line.new (W.contents out.new) result }
+{
     if byte != b'\n' {
         return match line.push(byte) {
             Ok(()) => None,
@@ -187,7 +239,13 @@ fn answer_ended<F: Versions, W: Write, E: Write>(
     line: &Line,
     out: &mut W,
     told: &mut E,
-) -> Option<u8> {
+) -> Option<u8>
+    ensures ready { IsReady solver.old → IsReady solver.new }
+    ensures honest { IsReady solver.old → IsTrue (state solver.old).disk.honest → IsTrue (state solver.new).disk.honest }
+    ensures came { IsReady solver.old → IsTrue (state solver.old).disk.honest → (bytes : List ℕ) → HasRead line.now bytes
+        → OutcomeOf F.stores F.state F.is_version F.are_two F.is_used_up F.lasts WithEnd bytes (session_state solver.old.file manner.old) (session_state solver.new.file manner.new)
+        (W.contents out.old) (W.contents out.new) result }
+{
     match manner {
         Manner::Work(listings) => answer(alloc, solver, listings, line.asked(), out, told),
         Manner::Look => answer_look(alloc, solver, line.looked(), out, told),
@@ -202,7 +260,13 @@ fn answer_last<F: Versions, W: Write, E: Write>(
     line: &Line,
     out: &mut W,
     told: &mut E,
-) -> Option<u8> {
+) -> Option<u8>
+    ensures ready { IsReady solver.old → IsReady solver.new }
+    ensures honest { IsReady solver.old → IsTrue (state solver.old).disk.honest → IsTrue (state solver.new).disk.honest }
+    ensures came { IsReady solver.old → IsTrue (state solver.old).disk.honest → (bytes : List ℕ) → HasRead line.now bytes
+        → OutcomeOf F.stores F.state F.is_version F.are_two F.is_used_up F.lasts AsItIs bytes (session_state solver.old.file manner.old) (session_state solver.new.file manner.new)
+        (W.contents out.old) (W.contents out.new) result }
+{
     match manner {
         Manner::Work(listings) => answer(alloc, solver, listings, line.asked_last(), out, told),
         Manner::Look => answer_look(alloc, solver, line.looked_last(), out, told),
@@ -217,15 +281,18 @@ fn answer<F: Versions, W: Write, E: Write>(
     asked: Asked<'_>,
     out: &mut W,
     told: &mut E,
-) -> Option<u8> {
-    let replied = match asked {
-        Asked::Quit => return Some(0),
-        Asked::Listing(about) => put_listing(alloc, solver, listings, about, out, told),
-        asked => put_answer(alloc, solver, asked, out, told),
-    };
-    match replied {
-        Ok(status) => (status > 1).then_some(status),
-        Err(_) => Some(4),
+) -> Option<u8>
+    ensures ready { IsReady solver.old → IsReady solver.new }
+    ensures honest { IsReady solver.old → IsTrue (state solver.old).disk.honest → IsTrue (state solver.new).disk.honest }
+    ensures came { IsReady solver.old → IsTrue (state solver.old).disk.honest → LineOutcome
+        (λ status text. IsLineAnswered F.stores F.state F.is_version F.are_two F.is_used_up F.lasts solver.old.file solver.new.file listings.old.items listings.new.items status text asked.entry)
+        ((asked.entry ≡ Quit) × (solver.new ≡ solver.old) × (listings.new ≡ listings.old))
+        (W.contents out.old) (W.contents out.new) result }
+{
+    match asked {
+        Asked::Quit => Some(0),
+        Asked::Listing(about) => ended_by(put_listing(alloc, solver, listings, about, out, told)),
+        asked => ended_by(put_answer(alloc, solver, asked, out, told)),
     }
 }
 
@@ -236,11 +303,26 @@ fn answer_look<F: Versions, W: Write, E: Write>(
     looked: Looked<'_>,
     out: &mut W,
     told: &mut E,
-) -> Option<u8> {
-    if looked == Looked::Quit {
-        return Some(0);
+) -> Option<u8>
+    ensures ready { IsReady solver.old → IsReady solver.new }
+    ensures honest { IsReady solver.old → IsTrue (state solver.old).disk.honest → IsTrue (state solver.new).disk.honest }
+    ensures came { IsReady solver.old → LineOutcome
+        (λ status text. IsLookAnswered F.stores F.state F.is_version F.are_two F.is_used_up F.lasts looked.entry solver.old.file solver.new.file status text)
+        ((looked.entry ≡ LookQuit) × (solver.new ≡ solver.old))
+        (W.contents out.old) (W.contents out.new) result }
+{
+    match looked {
+        Looked::Quit => Some(0),
+        looked => ended_by(put_looked(alloc, solver, looked, out, told)),
     }
-    match put_looked(alloc, solver, looked, out, told) {
+}
+
+/// The status with which a session ends behind a reply, if it does: a refusal by more than 1, and 4 where the output failed.
+fn ended_by(replied: io::Result<u8>) -> Option<u8>
+    ensures written { IfOk replied (λ status. (1 < status → result ≡ Some status) × (status ≤ 1 → result ≡ None)) }
+    ensures unwritten { OnErr replied (result ≡ Some 4) }
+{
+    match replied {
         Ok(status) => (status > 1).then_some(status),
         Err(_) => Some(4),
     }

@@ -25,7 +25,7 @@ fn line_of(which: Migration) -> &'static [u8]
 /// Writes the line that tells it.
 fn said<W: Write>(out: &mut W, which: Migration) -> Outcome
     ensures refused { result.refused ≡ None }
-    ensures told { IsPrinted (Appends (W.contents out.old) (W.contents out.new)) (brought_to which) result.status }
+    ensures told { IsPrinted (W.contents out.old) (W.contents out.new) (brought_to which) result.status }
 {
     let status = match put_line(out, line_of(which)) {
         Ok(()) => 0,
@@ -49,7 +49,7 @@ where
     requires { AreLayouts First.stores Second.stores First.is_older Second.is_older Today.is_older Second.copies }
     ensures { (came : Came) × IsBrought First.stores Second.stores Today.stores (D.disk disk) (D.failures disk) came (D.disk result.1)
         (D.failures result.1) × (result.0.refused ≡ refusal_of came)
-        × IsPrinted (Appends (W.contents out.old) (W.contents out.new)) came result.0.status }
+        × IsPrinted (W.contents out.old) (W.contents out.new) came result.0.status }
 {
     match migrate::<D, Today, Second, First>(alloc, disk) {
         Ok((disk, which)) => (said(out, which), disk),

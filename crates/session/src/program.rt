@@ -10,6 +10,7 @@ use explanations::explain::{Explanation, explain};
 use rbg_game::limits::MAX_TEXT_BYTES;
 use rbg_read::fault::GameFault;
 use rbg_read::numbered::lines::{LineColumn, line_column};
+use root_pair::MAGIC;
 use session_lines::refused::Refused;
 use std::alloc::Global;
 use std::fmt::Display;
@@ -93,6 +94,15 @@ pub fn status_of_refused(rt: &HostRuntime, refused: Refused) -> u8 {
 
 /// Says on standard error why the text is no game.
 pub fn tell_game_fault(rt: &HostRuntime, alloc: Global, game: &str, text: &[u8], fault: GameFault) {
+    if text.starts_with(&MAGIC) {
+        tell(
+            rt,
+            format_args!(
+                "{game}: this is a table, not the text of a game: `echo game | rbgsolve look FILE` prints the text of its game"
+            ),
+        );
+        return;
+    }
     if let Ok(Explanation { at, message }) = explain(alloc, text, fault) {
         let LineColumn { line, column } = line_column(text, at);
         tell(rt, format_args!("{game}:{line}:{column}: {message}"));

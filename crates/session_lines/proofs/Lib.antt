@@ -1,10 +1,12 @@
 pub mod Appending
+pub mod PartLemmas
 mod KnownLemmas
 mod LineLemmas
 mod WritingLemmas
 mod AnswerLemmas
 mod Asked
 mod PrintTelling
+mod CountLemmas
 mod Listing
 mod OneReply
 mod AskLemmas

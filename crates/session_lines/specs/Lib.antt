@@ -18,6 +18,7 @@ pub mod Counted
 pub mod Known
 pub mod Verdicts
 pub mod Told
+pub mod Parts
 pub mod Asked
 pub mod Answered
 pub mod Listed

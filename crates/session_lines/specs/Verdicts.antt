@@ -23,7 +23,11 @@ pub data IsRightLine (counts : Counts) : List ℕ → Type 0 where
   finished : IsComplete counts → IsRightLine counts (codes "audit right finished" ++ 10 ∷ [])
   unfinished : ¬ IsComplete counts → IsRightLine counts (codes "audit right open" ++ 10 ∷ [])
 
+-- the line of a table that is wrong at this number, by this condition
+abbrev pub wrong_line : ℕ → Reason → List ℕ
+wrong_line number reason = codes "audit wrong " ++ (decimal number ++ 32 ∷ (code_of_reason reason ++ 10 ∷ []))
+
 -- the line of a verdict: right, or the lowest number that fails, with the code of the lowest condition that fails there
 abbrev pub IsVerdictLine : Counts → Verdict → List ℕ → Type 0
 IsVerdictLine counts Right line = IsRightLine counts line
-IsVerdictLine counts (Wrong number reason) line = line ≡ codes "audit wrong " ++ (decimal number ++ 32 ∷ (code_of_reason reason ++ 10 ∷ []))
+IsVerdictLine counts (Wrong number reason) line = line ≡ wrong_line number reason

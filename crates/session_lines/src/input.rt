@@ -54,7 +54,8 @@ impl Line {
     pub fn push(&mut self, byte: u8) -> Result<(), AllocError>
         ensures room { length self.old.bytes.items ≤ MAX_LINE_BYTES → self.old.is_too_long ≡ false
             → OnOk result ((self.new.bytes.items ≡ self.old.bytes.items ++ byte ∷ []) × (self.new.is_too_long ≡ false)) }
-        ensures full { MAX_LINE_BYTES < length self.old.bytes.items → IsTrue self.new.is_too_long }
+        ensures full { MAX_LINE_BYTES < length self.old.bytes.items
+            → IsTrue self.new.is_too_long × (self.new.bytes.items ≡ self.old.bytes.items) }
     {
         if self.bytes.len() > MAX_LINE_BYTES {
             self.is_too_long = true;

@@ -12,6 +12,7 @@ ghost use Rattle.solver.specs.declared.listing.Listing.{Listing};
 ghost use Rattle.solver.specs.declared.fault.SolverFault.{SolverFault};
 ghost use Rattle.session_lines.specs.Answered.{status_of_fault};
 ghost use Rattle.session_lines.specs.Listed.{IsNextText, IsNextTold, IsNoneOpen, IsNext, IsListingReplied, AllLast};
+ghost use Rattle.session_lines.specs.Parts.{AppendsPart};
 ghost use Rattle.session_lines.specs.Told.{fault_line};
 
 use crate::input::ListingLine;
@@ -38,6 +39,10 @@ pub fn put_listing<F: Versions, W: Write, E: Write>(
         × IsListingReplied F.state F.is_version F.are_two line (F.is_used_up solver.old.file) solver.old.file solver.new.file
         listings.old.items listings.new.items status text
         × Appends (W.contents out.old) (W.contents out.new) text) }
+    ensures untold { IsReady solver.old → IsTrue (state solver.old).disk.honest → OnErr result ((status : ℕ) × (text : List ℕ)
+        × IsListingReplied F.state F.is_version F.are_two line (F.is_used_up solver.old.file) solver.old.file solver.new.file
+        listings.old.items listings.new.items status text
+        × AppendsPart (W.contents out.old) (W.contents out.new) text) }
 {
     match line {
         ListingLine::Begin => match begin(solver, listings) {
@@ -142,6 +147,10 @@ fn put_next<F: Versions, W: Write, E: Write>(
         × (IsSome (state solver.old).kept → (table : Stored (List ℕ)) → IsTable table → F.is_version listing.old.version table solver.old.file
         → IsNextTold F.state F.is_version F.are_two (units_in count) solver.old.file solver.new.file table listing.old.next listing.new.next status line)
         × Appends (W.contents out.old) (W.contents out.new) line) }
+    ensures untold { IsReady solver.old → IsTrue (state solver.old).disk.honest → OnErr result ((status : ℕ) × (line : List ℕ)
+        × (IsSome (state solver.old).kept → (table : Stored (List ℕ)) → IsTable table → F.is_version listing.old.version table solver.old.file
+        → IsNextTold F.state F.is_version F.are_two (units_in count) solver.old.file solver.new.file table listing.old.next listing.new.next status line)
+        × AppendsPart (W.contents out.old) (W.contents out.new) line) }
 {
     match next_text(alloc, solver, listing, count) {
         Ok(text) => put_done(out, &text),
@@ -164,6 +173,10 @@ fn put_next_of_last<F: Versions, W: Write, E: Write>(
         × ((IsNoneOpen listings.old.items listings.new.items status text × AllLast F.is_version solver.old.file solver.new.file)
         ⊎ IsNext F.state F.is_version F.are_two (units_in count) solver.old.file solver.new.file listings.old.items listings.new.items status text)
         × Appends (W.contents out.old) (W.contents out.new) text) }
+    ensures untold { IsReady solver.old → IsTrue (state solver.old).disk.honest → OnErr result ((status : ℕ) × (text : List ℕ)
+        × ((IsNoneOpen listings.old.items listings.new.items status text × AllLast F.is_version solver.old.file solver.new.file)
+        ⊎ IsNext F.state F.is_version F.are_two (units_in count) solver.old.file solver.new.file listings.old.items listings.new.items status text)
+        × AppendsPart (W.contents out.old) (W.contents out.new) text) }
 {
     let Some(mut listing) = listings.pop() else {
         return put_done(out, b"usage\n");

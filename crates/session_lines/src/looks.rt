@@ -1,12 +1,13 @@
 //! What a session that only looks replies to its lines.
 
-ghost use Rattle.std.specs.Prelude.{◌≡◌, ℕ, List, IfOk, IfErr};
+ghost use Rattle.std.specs.Prelude.{◌≡◌, ℕ, List, IfOk, IfErr, OnErr};
 ghost use Rattle.std.specs.Io.KnownBytes.{Appends};
 ghost use Rattle.game_file.specs.Calls.{IsAsked};
 ghost use Rattle.solver.specs.Moves.{MovesCause};
 ghost use Rattle.solver.specs.Queries.{Tells, FindCause};
 ghost use Rattle.solver.specs.Solvers.{state, IsReady};
 ghost use Rattle.session_lines.specs.Looks.{AreMoveLines, IsLookedAt, IsLookReplied, IsValueLineOf};
+ghost use Rattle.session_lines.specs.Parts.{AppendsPart};
 
 use crate::known::known_move_lines;
 use crate::looked::{LOOK_LINES, Looked};
@@ -31,6 +32,9 @@ pub fn put_looked<F: GameFile, W: Write, E: Write>(
     ensures replied { IsReady solver.old → IfOk result (λ status. (line : List ℕ)
         × IsLookReplied looked.entry (state solver.old) (state solver.new) status line
         × Appends (W.contents out.old) (W.contents out.new) line) }
+    ensures untold { IsReady solver.old → OnErr result ((status : ℕ) × (line : List ℕ)
+        × IsLookReplied looked.entry (state solver.old) (state solver.new) status line
+        × AppendsPart (W.contents out.old) (W.contents out.new) line) }
 {
     match looked {
         Looked::Nothing | Looked::Quit => Ok(0),
@@ -42,7 +46,6 @@ pub fn put_looked<F: GameFile, W: Write, E: Write>(
         }
         Looked::Status => {
             put_status(out, solver.status())?;
-            out.flush()?;
             Ok(0)
         }
         Looked::Game => match solver.text() {

@@ -1,6 +1,6 @@
 //! What a session replies to its lines.
 
-ghost use Rattle.std.specs.Prelude.{◌≡◌, ◌⊎◌, ℕ, List, true, IfOk, IfErr, OnOk, IsErrOf};
+ghost use Rattle.std.specs.Prelude.{◌≡◌, ◌⊎◌, ℕ, List, true, IfOk, IfErr, OnOk, OnErr, IsErrOf};
 ghost use Rattle.std.specs.Io.KnownBytes.{Appends};
 ghost use Rattle.game_file.specs.Calls.{IsAsked};
 ghost use Rattle.solver.specs.Machine.{work as work_on};
@@ -10,6 +10,7 @@ ghost use Rattle.solver.specs.Solvers.{state, IsReady};
 ghost use Rattle.solver.specs.Units.{units_in};
 ghost use Rattle.session_lines.specs.Answered.{IsValueLine, AreRowLines, IsPlayLine, IsShownLine, IsFoundLine, IsAnswerTo, QuestionCause};
 ghost use Rattle.session_lines.specs.Answered.{status_of_fault, IsDoneFor, IsReplied, IsWorkReplied};
+ghost use Rattle.session_lines.specs.Parts.{AppendsPart};
 ghost use Rattle.session_lines.specs.Told.{fault_line};
 
 use crate::advice::{tell_fault, tell_full};
@@ -37,6 +38,9 @@ pub fn put_answer<F: GameFile, W: Write, E: Write>(
     ensures replied { IsReady solver.old → IfOk result (λ status. (line : List ℕ)
         × IsReplied F.stores asked.entry (state solver.old) (state solver.new) status line
         × Appends (W.contents out.old) (W.contents out.new) line) }
+    ensures untold { IsReady solver.old → OnErr result ((status : ℕ) × (line : List ℕ)
+        × IsReplied F.stores asked.entry (state solver.old) (state solver.new) status line
+        × AppendsPart (W.contents out.old) (W.contents out.new) line) }
 {
     match asked {
         Asked::Nothing | Asked::Quit => Ok(0),
@@ -48,7 +52,6 @@ pub fn put_answer<F: GameFile, W: Write, E: Write>(
         }
         Asked::Status => {
             put_status(out, solver.status())?;
-            out.flush()?;
             Ok(0)
         }
         Asked::Work(units) => put_worked(solver, units, out, told),
@@ -63,6 +66,7 @@ pub fn put_answer<F: GameFile, W: Write, E: Write>(
 pub fn put_done<W: Write>(out: &mut W, line: &[u8]) -> io::Result<u8>
     ensures status { IfOk result (λ status. status ≡ 0) }
     ensures line { OnOk result (Appends (W.contents out.old) (W.contents out.new) line.now) }
+    ensures part { OnErr result (AppendsPart (W.contents out.old) (W.contents out.new) line.now) }
 {
     put_line(out, line)?;
     Ok(0)
@@ -76,6 +80,7 @@ pub fn put_fault<W: Write, E: Write>(
 ) -> io::Result<u8>
     ensures status { IfOk result (λ status. status ≡ status_of_fault fault) }
     ensures line { OnOk result (Appends (W.contents out.old) (W.contents out.new) (fault_line fault)) }
+    ensures part { OnErr result (AppendsPart (W.contents out.old) (W.contents out.new) (fault_line fault)) }
 {
     put_refused(out, fault)?;
     tell_fault(told, fault);
@@ -96,6 +101,9 @@ fn put_worked<F: GameFile, W: Write, E: Write>(
     ensures worked { IsReady solver.old → IfOk result (λ status. (line : List ℕ)
         × IsWorkReplied F.stores (units_in units) (state solver.old) (state solver.new) status line
         × Appends (W.contents out.old) (W.contents out.new) line) }
+    ensures untold { IsReady solver.old → OnErr result ((status : ℕ) × (line : List ℕ)
+        × IsWorkReplied F.stores (units_in units) (state solver.old) (state solver.new) status line
+        × AppendsPart (W.contents out.old) (W.contents out.new) line) }
 {
     match solver.answer(&Command::Work(units)) {
         Reply::Refused(SolverFault::TableFull) => {

@@ -1,6 +1,6 @@
 //! The lines of the replies in a session.
 
-ghost use Rattle.std.specs.Prelude.{◌≡◌, ◌∷◌, [], ◌++◌, ℕ, List, codes, IfOk, OnOk};
+ghost use Rattle.std.specs.Prelude.{◌≡◌, ◌∷◌, [], ◌++◌, ℕ, List, codes, IfOk, OnOk, OnErr};
 ghost use Rattle.std.specs.Io.KnownBytes.{Appends};
 ghost use Rattle.std.specs.Fmt.{decimal};
 ghost use Rattle.std.specs.List.{flat_map};
@@ -8,8 +8,10 @@ ghost use Rattle.rbg_game.specs.Meaning.{game_of};
 ghost use Rattle.position_pack.specs.Texts.{variable_name, role_text};
 ghost use Rattle.rbg_game.specs.declared.roles.Role.TheVariants as role;
 ghost use Rattle.session_lines.specs.Replies.{value_text, row_line, spaced, line_line};
-ghost use Rattle.session_lines.specs.Counted.{IsCountsLine, IsStatusLine, IsWorkLine};
+ghost use Rattle.session_lines.specs.Counted.{counts_text, IsCountsLine, IsStatusLine, IsWorkLine};
+ghost use Rattle.session_lines.specs.Parts.{AppendsPart};
 
+use crate::puts::{put_bytes, put_decimal, put_line};
 use best_line::{Row, Value};
 use rbg_game::game::Game;
 use rbg_game::roles::Player;
@@ -128,27 +130,53 @@ pub fn found_line(alloc: Global, number: u32) -> Result<Vec<u8>, AllocError>
     Ok(line)
 }
 
-/// Writes the line that tells what work was done. It takes no memory.
+/// Writes the line that tells what work was done, at once. It takes no memory.
 pub fn put_work<W: Write>(out: &mut W, units: u32, counts: Counts) -> io::Result<()>
-    ensures { OnOk result ((line : List ℕ) × IsWorkLine units counts line × Appends (W.contents out.old) (W.contents out.new) line) }
+    ensures all { OnOk result ((line : List ℕ) × IsWorkLine units counts line × Appends (W.contents out.old) (W.contents out.new) line) }
+    ensures part { OnErr result ((line : List ℕ) × IsWorkLine units counts line × AppendsPart (W.contents out.old) (W.contents out.new) line) }
 {
-    write!(out, "units {units} ")?;
+    put_field(out, b"units ", units)?;
+    put_bytes(out, b" ")?;
     put_counts(out, counts)
 }
 
-/// Writes the line that tells how far a table is; `no game` where there is none. It takes no memory.
+/// Writes the line that tells how far a table is, at once; `no game` where there is none. It takes no memory.
 pub fn put_status<W: Write>(out: &mut W, counts: Option<Counts>) -> io::Result<()>
-    ensures { OnOk result ((line : List ℕ) × IsStatusLine counts line × Appends (W.contents out.old) (W.contents out.new) line) }
+    ensures all { OnOk result ((line : List ℕ) × IsStatusLine counts line × Appends (W.contents out.old) (W.contents out.new) line) }
+    ensures part { OnErr result ((line : List ℕ) × IsStatusLine counts line × AppendsPart (W.contents out.old) (W.contents out.new) line) }
 {
     match counts {
         Some(counts) => put_counts(out, counts),
-        None => out.write_all(b"no game\n"),
+        None => put_line(out, b"no game\n"),
     }
 }
 
-/// Writes how far a table is, in words.
+/// Writes a number behind what it counts.
+pub(crate) fn put_field<W: Write>(out: &mut W, name: &[u8], number: u32) -> io::Result<()>
+    ensures all { OnOk result (Appends (W.contents out.old) (W.contents out.new) (name.now ++ decimal number)) }
+    ensures part { OnErr result (AppendsPart (W.contents out.old) (W.contents out.new) (name.now ++ decimal number)) }
+{
+    put_bytes(out, name)?;
+    put_decimal(out, number)
+}
+
+/// Writes how far a table is, as a line.
 fn put_counts<W: Write>(out: &mut W, counts: Counts) -> io::Result<()>
-    ensures { OnOk result ((line : List ℕ) × IsCountsLine counts line × Appends (W.contents out.old) (W.contents out.new) line) }
+    ensures all { OnOk result ((line : List ℕ) × IsCountsLine counts line × Appends (W.contents out.old) (W.contents out.new) line) }
+    ensures part { OnErr result ((line : List ℕ) × IsCountsLine counts line × AppendsPart (W.contents out.old) (W.contents out.new) line) }
+{
+    put_fields(out, counts)?;
+    if counts.expanded == counts.known && counts.processed == counts.settled {
+        put_line(out, b" finished\n")
+    } else {
+        put_line(out, b" open\n")
+    }
+}
+
+/// Writes the counts of a table, each behind its name.
+fn put_fields<W: Write>(out: &mut W, counts: Counts) -> io::Result<()>
+    ensures all { OnOk result (Appends (W.contents out.old) (W.contents out.new) (counts_text counts)) }
+    ensures part { OnErr result (AppendsPart (W.contents out.old) (W.contents out.new) (counts_text counts)) }
 {
     let Counts {
         known,
@@ -156,13 +184,8 @@ fn put_counts<W: Write>(out: &mut W, counts: Counts) -> io::Result<()>
         settled,
         processed,
     } = counts;
-    write!(
-        out,
-        "known {known} expanded {expanded} settled {settled} processed {processed}"
-    )?;
-    if expanded == known && processed == settled {
-        out.write_all(b" finished\n")
-    } else {
-        out.write_all(b" open\n")
-    }
+    put_field(out, b"known ", known)?;
+    put_field(out, b" expanded ", expanded)?;
+    put_field(out, b" settled ", settled)?;
+    put_field(out, b" processed ", processed)
 }

@@ -1,8 +1,11 @@
 //! The line of an audit.
-ghost use Rattle.std.specs.Prelude.{◌≡◌, ℕ, List, OnOk};
+ghost use Rattle.std.specs.Prelude.{◌≡◌, ℕ, List, OnOk, OnErr};
 ghost use Rattle.std.specs.Io.KnownBytes.{Appends};
-ghost use Rattle.session_lines.specs.Verdicts.{code_of_reason, IsRightLine, IsVerdictLine};
+ghost use Rattle.session_lines.specs.Parts.{AppendsPart};
+ghost use Rattle.session_lines.specs.Verdicts.{code_of_reason, wrong_line, IsRightLine, IsVerdictLine};
 
+use crate::puts::{put_bytes, put_line};
+use crate::replies::put_field;
 use audit::{Reason, Verdict};
 use retrograde::Counts;
 use std::io::{self, Write};
@@ -24,7 +27,8 @@ fn code_of(reason: Reason) -> &'static str
 
 /// Writes that a table with these counts is right.
 fn put_right<W: Write>(out: &mut W, counts: Counts) -> io::Result<()>
-    ensures { OnOk result ((line : List ℕ) × IsRightLine counts line × Appends (W.contents out.old) (W.contents out.new) line) }
+    ensures all { OnOk result ((line : List ℕ) × IsRightLine counts line × Appends (W.contents out.old) (W.contents out.new) line) }
+    ensures part { OnErr result ((line : List ℕ) × IsRightLine counts line × AppendsPart (W.contents out.old) (W.contents out.new) line) }
 {
     let Counts {
         known,
@@ -33,22 +37,30 @@ fn put_right<W: Write>(out: &mut W, counts: Counts) -> io::Result<()>
         processed,
     } = counts;
     if expanded == known && processed == settled {
-        out.write_all(b"audit right finished\n")
+        put_line(out, b"audit right finished\n")
     } else {
-        out.write_all(b"audit right open\n")
+        put_line(out, b"audit right open\n")
     }
 }
 
-/// Writes the verdict of a table with these counts.
+/// Writes the verdict of a table with these counts at once.
 pub fn put_verdict<W: Write>(out: &mut W, verdict: Verdict, counts: Counts) -> io::Result<()>
-    ensures { OnOk result ((line : List ℕ) × IsVerdictLine counts verdict line × Appends (W.contents out.old) (W.contents out.new) line) }
+    ensures all { OnOk result ((line : List ℕ) × IsVerdictLine counts verdict line × Appends (W.contents out.old) (W.contents out.new) line) }
+    ensures part { OnErr result ((line : List ℕ) × IsVerdictLine counts verdict line × AppendsPart (W.contents out.old) (W.contents out.new) line) }
 {
     match verdict {
         Verdict::Right => put_right(out, counts),
-        Verdict::Wrong(number, reason) => {
-            write!(out, "audit wrong {number} ")?;
-            out.write_all(code_of(reason).as_bytes())?;
-            out.write_all(b"\n")
-        }
+        Verdict::Wrong(number, reason) => put_wrong(out, number, reason),
     }
+}
+
+/// Writes that a table is wrong at this number, by this condition.
+fn put_wrong<W: Write>(out: &mut W, number: u32, reason: Reason) -> io::Result<()>
+    ensures all { OnOk result (Appends (W.contents out.old) (W.contents out.new) (wrong_line number reason)) }
+    ensures part { OnErr result (AppendsPart (W.contents out.old) (W.contents out.new) (wrong_line number reason)) }
+{
+    put_field(out, b"audit wrong ", number)?;
+    put_bytes(out, b" ")?;
+    put_bytes(out, code_of(reason).as_bytes())?;
+    put_line(out, b"\n")
 }

@@ -1,5 +1,5 @@
 //! A table that is full gets more pages.
-ghost use Rattle.std.specs.Prelude.{◌≡◌, ◌≢◌, true, false, OnOk, OnErr, IfErr, IsErrOf, IsTrue};
+ghost use Rattle.std.specs.Prelude.{◌≡◌, ◌≢◌, ◌+◌, ◌<◌, true, false, None, OnOk, OnErr, IfErr, IsErrOf, IsTrue};
 ghost use Rattle.game_file.specs.Growing.{GrowsAhead, IsNoGrowth, IsGrownFile, IsNotGrown};
 ghost use Rattle.game_file.specs.Stops.{LeavesNow};
 ghost use Rattle.solver.specs.Growing.{GrowthCause, IsGrowth};
@@ -17,6 +17,16 @@ impl<F: GameFile> FileSolver<F> {
         ensures { result ≡ (state self.now).capacity }
     {
         self.file.capacity()
+    }
+
+    /// How many of them are free: so many may be taken before E7. It takes no memory and always answers, of a closed solver too.
+    pub fn free_pages(&self) -> u32
+        ensures told { result ≡ F.free self.now.file }
+        ensures used { IsReady self.now → result < (state self.now).capacity }
+        ensures empty { IsReady self.now → (state self.now).closed ≡ false → (state self.now).kept ≡ None
+            → (state self.now).capacity ≡ result + 1 }
+    {
+        self.file.free_pages()
     }
 
     /// Makes the file one of this many pages, by one commit that keeps the table: E9, then E6 unless that is more than there are and at most

@@ -2,7 +2,8 @@
 
 use crate::scripts::Deed;
 use Deed::{Extend, Read, Sectors, Sync, Write};
-use file_disk::{BufferedFile, MemoryFile};
+use FileEvent::{Resized, Synced, Wrote};
+use file_disk::{BufferedFile, FileEvent, MemoryFile};
 use sector_disk::{MemDisk, SectorDisk};
 use std::test::Fail;
 use test_aids::expect;
@@ -166,7 +167,16 @@ fn what_a_refused_flush_leaves_is_written_again(rt: HostRuntime) -> Result<(), F
     expect(first_bytes(&file.file.bytes), part, 0)?;
     expect(file.sync(), true, 1)?;
     let all = [0, 7, 0, 7, 0, 0, 0, 0, 0, 7, 0, 0, 0, 0, 0, 0];
-    expect(first_bytes(&file.file.synced), all, 1)
+    expect(first_bytes(&file.file.synced), all, 1)?;
+    expect(file.file.failures, 1, 1)?;
+    let events = [
+        Wrote(512, 512),
+        Wrote(512, 512),
+        Wrote(1536, 512),
+        Wrote(4608, 512),
+        Synced,
+    ];
+    expect(file.file.events.as_slice() == &events[..], true, 1)
 }
 
 #[test]
@@ -178,6 +188,11 @@ fn pages_side_by_side_go_by_one_call_and_a_failed_sync_is_the_last(
     write_each(&mut file, &sectors, 7)?;
     expect((file.sync(), file.lost), (false, true), 0)?;
     expect(first_bytes(&file.file.bytes), [7; 16], 0)?;
+    expect(
+        file.file.events.as_slice() == &[Wrote(0, 8192)][..],
+        true,
+        0,
+    )?;
     let mut bytes = [0; 512];
     let sectors = file.sectors;
     if sectors == 0 {
@@ -196,4 +211,16 @@ fn pages_side_by_side_go_by_one_call_and_a_failed_sync_is_the_last(
         (false, false, false, false, false),
         1,
     )
+}
+
+#[test]
+fn a_file_that_gets_longer_is_cut_to_its_sectors_first(rt: HostRuntime) -> Result<(), Fail> {
+    let bytes = vec![in rt.alloc(); 7; 512 * 3 + 100]?;
+    let mut file = BufferedFile::new(rt.alloc(), MemoryFile::new(rt.alloc(), bytes), 2)?;
+    if file.sectors != 3 {
+        return expect(file.sectors, 3, 0);
+    }
+    expect(file.extend(5), true, 0)?;
+    let events = [Resized(1536), Resized(2560)];
+    expect(file.file.events.as_slice() == &events[..], true, 0)
 }

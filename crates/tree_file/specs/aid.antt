@@ -11,3 +11,4 @@ pub mod Frames
 pub mod Whole
 pub mod Reading
 pub mod Making
+pub mod Free

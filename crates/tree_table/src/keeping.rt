@@ -3,7 +3,7 @@ ghost use Rattle.std.specs.Prelude.{◌≡◌, ◌≢◌, ◌≤◌, ℕ, [], le
 ghost use Rattle.sector_disk.specs.Disk.{GoesOn, size};
 ghost use Rattle.page_store.specs.declared.marks.Mark.TheVariants.{Waiting};
 ghost use Rattle.page_store.specs.Causes.{StoreCommitCause};
-ghost use Rattle.page_store.specs.Marks.{mark as mark_of};
+ghost use Rattle.page_store.specs.Marks.{mark as mark_of, AreDiscarded};
 ghost use Rattle.page_store.specs.Spelling.{IsCalm};
 ghost use Rattle.page_store.specs.Store.{Store, StoreCloses, IsRemarked};
 ghost use Rattle.retrograde.specs.Stored.{loaded};
@@ -110,6 +110,7 @@ impl<P: Pages> TreeTable<P> {
         ensures still { IsStill (work_in self.old).store (work_in self.new).store }
         ensures held { KeepsHolds (work_in self.old).store (work_in self.new).store }
         ensures calm { IsCalm (work_in self.new).store }
+        ensures marks { AreDiscarded (work_in self.old).store.marks (work_in self.new).store.marks }
         ensures others { IsRemarked (work_in self.old).store (work_in self.new).store }
     {
         self.torn = true;

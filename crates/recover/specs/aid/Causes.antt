@@ -1,5 +1,5 @@
 -- Why a command is refused has a cause in brief too.
-use Rattle.std.specs.Prelude.{◌≡◌, ℕ, Bool, true, false, List, Option, None, Some, IsSome, IsTrue}
+use Rattle.std.specs.Prelude.{◌≡◌, ℕ, ◌^◌, Bool, true, false, List, Option, None, Some, IsSome, IsTrue}
 use Rattle.std.proofs.Common.{refl, sym, subst, ◌∙◌, ap}
 use Rattle.rbg_game.specs.Games.{Game}
 use Rattle.rbg_game.specs.declared.position.Position.{Position}
@@ -27,12 +27,14 @@ use Rattle.solver.specs.declared.fault.SolverFault.{SolverFault}
 use Rattle.solver.specs.declared.fault.SolverFault.TheVariants.{Disk, NotATable, AlreadyATable, Damaged, OldLayout, TooSmall, TableFull, OutOfMemory, Closed, Game as BadGame}
 use Rattle.solver.specs.declared.fault.SolverFault.TheVariants.{NoGame, GameAlready, KeeperChooses, TooWide, TooManyPositions, Inconsistent, NoSuchPosition, NotSettled, ListingsUsedUp, BadPosition}
 use Rattle.solver.specs.declared.replies.Reply.TheVariants.{Refused}
-use Rattle.recover.specs.Tables.{BriefTable, play_of, ComesTo, KeeperHasChoice, RefusesText, RefusesWork, MayRefuse}
+use Rattle.recover.specs.Tables.{BriefTable, play_of, ComesTo, ComesToMore, KeeperHasChoice, RefusesText, RefusesWork, MayRefuse}
 use Rattle.recover.specs.aid.Telling.{IsToldBy, brief_of, brief_is_so}
+use Rattle.recover.specs.aid.Limit.{comes_to_more}
 use Rattle.recover.specs.aid.Plays.{step_down, reached_down}
 
 -- play comes to the position of bytes that a sound table knows
-known_reached : (kept : Kept) (game : Game) → Reads kept.text game → (stored : Stored (List ℕ)) → IsLocallySound (graph_in game kept) (wide_in game kept) stored
+known_reached : (kept : Kept) (game : Game) → Reads kept.text game → (stored : Stored (List ℕ))
+    → IsLocallySound (graph_in game kept) (wide_in game kept) stored
     → (i : ℕ) (x : List ℕ) → HasNumber (view_of stored) i x → (at : Position) → IsAt kept.packing game x at
     → IsReachable (play_of kept.goal game) at
 known_reached kept game is_read stored sound i x number at here =
@@ -87,6 +89,15 @@ stops_at_choice (Some kept) table ((game, is_read, local), is) units n stops =
     (known_reached kept game is_read it.reached it.sound (expanded_count it.reached) x number at here)
     (choice_down kept game is_read x at here choice)
 
+stops_at_limit : (kept : Option Kept) (table : Option BriefTable) → IsToldBy kept table → (units : ℕ) → StopsAt units kept step.TooManyPositions
+    → ComesToMore (2 ^ 24) table
+stops_at_limit None table told units stops = absurd stops
+stops_at_limit (Some kept) table ((game, is_read, local), is) units stops =
+    let it = stops game is_read local in
+    let (x, number, (not_wide, no_choice, many)) = it.cause tt in
+    subst (λ (t : Option BriefTable). ComesToMore (2 ^ 24) t) (sym is)
+    (comes_to_more kept (game, is_read, local) it.reached it.sound x number many)
+
 -- a game is loaded in the one exactly if it is in the other
 some_told : (kept : Option Kept) (table : Option BriefTable) → IsToldBy kept table → IsSome kept → IsSome table
 some_told None table told some = absurd cc
@@ -137,7 +148,7 @@ module _ (old new : State) (table : Option BriefTable) (told : IsToldBy old.kept
   why_work units GameAlready cause = absurd cause
   why_work units (KeeperChooses number) cause = stops_at_choice old.kept table told units number (cause honest)
   why_work units TooWide cause = stops_wide old.kept table told units (cause honest)
-  why_work units TooManyPositions cause = tt
+  why_work units TooManyPositions cause = stops_at_limit old.kept table told units (cause honest)
   why_work units Inconsistent cause = absurd (cause honest told.0)
   why_work units NoSuchPosition cause = absurd cause
   why_work units NotSettled cause = absurd cause

@@ -1,5 +1,6 @@
 use Rattle.std.proofs.Common.{◌≡◌, ◌-◌, ◌^◌, ◌≤◌, true}
 use Rattle.std.specs.Prelude.{IsTrue}
+use Rattle.file_disk.specs.Touched.{WritesOnly}
 use Rattle.file_disk.specs.aid.Waiting.{AreInFile, Puts}
 use Rattle.file_disk.proofs.flush.put_all.Given as goal
 
@@ -7,7 +8,9 @@ abbrev pub invariant-loop-place : goal.invariant-loop-place
 invariant-loop-place g l = (IsTrue (g.F.ByteFile.honest l.fn.file)
     → Puts l.waiting.pages.items l.waiting.count l.waiting.bytes.items (g.F.ByteFile.content l.fn.file) (g.F.ByteFile.content l.file) true
     × AreInFile l.waiting.pages.items l.waiting.count l.waiting.bytes.items 0 l.next (g.F.ByteFile.content l.file)
-    × (g.F.ByteFile.durable l.file ≡ g.F.ByteFile.durable l.fn.file))
+    × (g.F.ByteFile.durable l.file ≡ g.F.ByteFile.durable l.fn.file)
+    × WritesOnly l.waiting (g.F.ByteFile.events l.fn.file) (g.F.ByteFile.events l.file)
+    × (g.F.ByteFile.failures l.file ≡ g.F.ByteFile.failures l.fn.file))
     × (g.F.ByteFile.honest l.file ≡ g.F.ByteFile.honest l.fn.file)
     × (l.next ≤ 2 ^ 64 - 1)
 

@@ -2,6 +2,7 @@ use Rattle.std.proofs.Common.{ℕ, arith, refl, sym, subst, below_more, ◌∙�
 use Rattle.std.specs.Prelude.{IsTrue}
 use Rattle.file_disk.specs.aid.Waiting.{IsInFile}
 use Rattle.file_disk.proofs.Flushing.{puts_then}
+use Rattle.file_disk.proofs.Noting.{adds_then}
 use Rattle.file_disk.proofs.flush.put_page.Goals as goal
 
 pub loop-sector-preserved : goal.loop-sector-preserved
@@ -14,6 +15,8 @@ loop-sector-preserved g c = (
         below_more (λ (s : ℕ). IsInFile c.args.waiting.now.pages.items c.args.waiting.now.bytes.items (g.F.ByteFile.content c.put_one.new.file) c.args.place s) _
             (λ s lt. this.stays refl c.args.place s c.requires.there (omega arith) (so_far.1 s lt)) (c.if-not-put_one.ensures.put now),
         c.put_one.ensures.lasts now ∙ so_far.2,
+        adds_then so_far.3 (c.put_one.ensures.touched now),
+        (c.if-not-put_one.ensures.counted now).spared ∙ so_far.4,
       ),
   c.put_one.ensures.same_honest ∙ c.loop-sector.invariant.1,
 )

@@ -1,8 +1,23 @@
-use Rattle.std.proofs.Common.{rules}
+use Rattle.std.proofs.Common.{refl, rules}
+use Rattle.solver.specs.declared.fault.SolverFault.TheVariants.{TableFull}
+use Rattle.session_lines.specs.Answered.{status_of_reply}
+use Rattle.session_lines.specs.Told.{fault_line}
+use Rattle.session_lines.proofs.Replying.{untold, untold_at}
 use Rattle.session_lines.proofs.questions.put_worked.Goals as goal
 
 pub returns-in-Refused-clause-done : goal.returns-in-Refused-clause-done
 returns-in-Refused-clause-done g c = λ ready. (_, c.answer.ensures.turn ready)
+
+pub returns-in-Refused-clause-untold : goal.returns-in-Refused-clause-untold
+returns-in-Refused-clause-untold g c = λ ready.
+    untold _ _ _ c.put_fault.result (status_of_reply c.answer.result) (fault_line c.in-Refused.fault) c.put_fault.ensures.part
+    (record { reply = c.answer.result; turn = c.answer.ensures.turn ready; status_is = refl; line_is = rw c.in-Refused.is refl })
+
+pub returns-in_err-put_refused-in-Refused-TableFull-clause-untold : goal.returns-in_err-put_refused-in-Refused-TableFull-clause-untold
+returns-in_err-put_refused-in-Refused-TableFull-clause-untold g c = λ ready.
+    untold_at _ c.from_residual.result (status_of_reply c.answer.result) (fault_line TableFull)
+    (record { reply = c.answer.result; turn = c.answer.ensures.turn ready; status_is = refl; line_is = rw c.in-Refused-TableFull.is (rw c.in-Refused-TableFull.field-0-is refl) })
+    c.in_err-put_refused-in-Refused-TableFull.ensures.part
 
 pub returns-in_err-put_reply-in_default : goal.returns-in_err-put_reply-in_default
 returns-in_err-put_reply-in_default g c = record {
@@ -10,4 +25,8 @@ returns-in_err-put_reply-in_default g c = record {
   ready = c.answer.ensures.ready;
   lasts = c.answer.ensures.lasts;
   worked = search rules;
+  untold = λ ready.
+      let (line, is_line, part) = c.in_err-put_reply-in_default.ensures.part in
+      untold_at _ c.from_residual-in_err-put_reply-in_default.result (status_of_reply c.answer.result) line
+      (record { reply = c.answer.result; turn = c.answer.ensures.turn ready; status_is = refl; line_is = is_line }) part;
 }

@@ -1,6 +1,6 @@
 use Rattle.std.proofs.Common.{rules, ◌≡◌, ◌<◌, length, None}
 use Rattle.file_disk.specs.Waiting.{place_of}
-use Rattle.file_disk.proofs.Placing.{added_same, added_distinct, added_placed, has_none}
+use Rattle.file_disk.proofs.Placing.{added_same, added_slots, added_distinct, added_placed, has_none}
 use Rattle.file_disk.proofs.waiting_writes.WaitingWrites.place_for.Goals as goal
 
 pub invariant_of-self : goal.invariant_of-self
@@ -19,3 +19,9 @@ returns-clause-same c =
     let room : c.args.self.now.count < length c.args.self.now.pages.items = search rules in
     let none : place_of c.args.self.now.pages.items c.args.self.now.count c.args.page ≡ None = search rules in
     λ content k. added_same _ _ _ room (λ s lt. has_none s) none _ content k
+
+pub returns-clause-slots : goal.returns-clause-slots
+returns-clause-slots c =
+    let room : c.args.self.now.count < length c.args.self.now.pages.items = search rules in
+    let none : place_of c.args.self.now.pages.items c.args.self.now.count c.args.page ≡ None = search rules in
+    λ k. added_slots _ _ _ room (λ s lt. has_none s) none k

@@ -1,4 +1,5 @@
-use Rattle.std.proofs.Common.{refl, ◌∙◌}
+use Rattle.std.proofs.Common.{refl, ◌∙◌, inl, inr}
+use Rattle.game_file.specs.aid.Free.{given_up_free}
 use Rattle.tree_table.specs.InTrees.{work_in}
 use Rattle.tree_file.specs.File.{file_of}
 use Rattle.tree_file.specs.aid.Backed.{IsBackedFile, backed_still}
@@ -51,3 +52,13 @@ returns-clause-ahead g c =
 
 pub returns-clause-still : goal.returns-clause-still
 returns-clause-still g c = λ begun fault whole fails other. c.restore.ensures.others.closed ∙ fails.work.still other
+
+pub returns-clause-freed : goal.returns-clause-freed
+returns-clause-freed g c = λ begun whole since.
+    let was = (work_in begun.table).store in
+    let mid = (work_in c.args.self.now.table).store in
+    let new = (work_in c.restore.new.self).store in
+    elim since [
+      | inl it ↦ given_up_free was mid new whole.calm it.work.works c.restore.ensures.marks
+      | inr it ↦ given_up_free was mid new whole.calm it.1.work.works c.restore.ensures.marks
+    ]

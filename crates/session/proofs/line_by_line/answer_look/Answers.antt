@@ -1,0 +1,18 @@
+use Rattle.std.proofs.Common.{refl, sym, subst}
+use Rattle.std.specs.Prelude.{IsTrue}
+use Rattle.session.specs.Sessions.{LineOutcome}
+use Rattle.session.proofs.UnderWay.{outcome_of, outcome_by, looked_honest}
+use Rattle.session.proofs.line_by_line.answer_look.Goals as goal
+
+pub returns-in-Quit-clause-came : goal.returns-in-Quit-clause-came
+returns-in-Quit-clause-came g c = λ ready. LineOutcome.quits (c.in-Quit.is, refl) refl
+
+pub returns-in_default : goal.returns-in_default
+returns-in_default g c = record {
+  ready = c.put_looked.ensures.ready;
+  honest = λ ready honest. subst IsTrue (sym (looked_honest _ c.args.looked _ _ (c.put_looked.ensures.done ready))) honest;
+  came = λ ready.
+      outcome_by (λ status text is. record { goes_on = c.in_default.not-Quit; at = c.put_looked.ensures.done ready; replied = is }) (λ q. q)
+      (outcome_of c.put_looked.result (c.put_looked.ensures.replied ready) (c.put_looked.ensures.untold ready) c.ended_by.ensures.written
+      c.ended_by.ensures.unwritten);
+}
