@@ -7,7 +7,7 @@
 //
 // What is refused throws `Refused`, with the program's code. docs/SESSION.md has the lines, rbgsolve.h what each call does.
 
-const NO_MEMORY = 5, TOO_LONG = 6, PAGE = 4096;
+const NO_TEXT = 4, NO_MEMORY = 5, PAGE = 4096;
 
 export class Refused extends Error {
     constructor(text, status) {
@@ -48,7 +48,7 @@ export async function load(bytes) {
     };
     const done = ({ status, told }) => {
         const text = decode.decode(told);
-        if (status === NO_MEMORY) throw new RangeError("the solver found no memory");
+        if (status === NO_MEMORY || status === NO_TEXT) throw new RangeError("the solver found no memory");
         if (status && !text.startsWith("wrong")) throw new Refused(text.trim(), status);
         return text;
     };
@@ -170,6 +170,15 @@ export async function load(bytes) {
             const moved = table.slice();
             onTable("migrate", moved, []);
             return moved;
+        },
+        // what a certificate shows, `certified VALUE` with the position; of this game, if one is given
+        check: (certificate, game = null) => {
+            const given = [certificate, game ?? ""].map(put);
+            try {
+                return done(asked("check", [...given.flatMap((part) => part.words), game === null ? 0 : 1])).trim();
+            } finally {
+                for (const part of given) solver.give_back(part.at);
+            }
         },
         audit: (table) => onTable("audit", table.slice(), []).trim(),
         open: (bytes) => new Table(bytes),

@@ -115,11 +115,49 @@ async function open(file) {
     enable(false);
 }
 
+/** The text of the game that stands in a certificate, behind the line `text BYTES`. */
+function gameOf(certificate) {
+    const letters = new TextDecoder("latin1").decode(certificate.subarray(0, 1 << 17));
+    const line = /^text ([0-9]+)\n/m.exec(letters);
+    if (line === null) return "";
+    const begins = line.index + line[0].length;
+    return new TextDecoder().decode(certificate.subarray(begins, begins + Number(line[1])));
+}
+
+/** Tells what a certificate shows; the game that it is about takes the place of the text. */
+async function checkCertificate(bytes) {
+    tell("checking the certificate");
+    const began = performance.now();
+    const shown = await client.ask("certificate", { bytes }).catch((error) => error.message);
+    if (shown.startsWith("certified")) {
+        at("text").value = gameOf(bytes);
+        at("text").oninput();
+    }
+    tell(`${shown}\n(${((performance.now() - began) / 1000).toFixed(1)} s)`);
+}
+
+/** Takes a file that was dropped on the page: a certificate is checked, and anything else is opened as a table. */
+async function take(file) {
+    const begins = await file.slice(0, 20).text();
+    if (begins === "rbgsolve certificate") await checkCertificate(new Uint8Array(await file.arrayBuffer()));
+    else await open(file);
+}
+
 at("solve").onclick = solve;
 at("stop").onclick = () => client.stop();
 at("audit").onclick = audit;
 at("save").onclick = save;
 at("open").onchange = () => at("open").files[0] && open(at("open").files[0]);
+at("certificate").onchange = async () => {
+    const [file] = at("certificate").files;
+    if (file) await checkCertificate(new Uint8Array(await file.arrayBuffer()));
+};
+document.ondragover = (event) => event.preventDefault();
+document.ondrop = (event) => {
+    event.preventDefault();
+    const [file] = event.dataTransfer.files;
+    if (file) take(file);
+};
 at("games").replaceChildren(...Object.keys(GAMES).map((name) => new Option(name, name)));
 at("games").onchange = () => {
     at("text").value = GAMES[at("games").value];

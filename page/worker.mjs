@@ -89,6 +89,7 @@ const calls = {
     work: (_, tell) => work(tell),
     look: ({ lines }) => table.look(lines),
     audit: () => solver.audit(table.bytes()),
+    certificate: ({ bytes }) => solver.check(bytes),
     statistics: (_, tell) => statistics(tell),
     save: () => table.bytes(),
     open: ({ bytes }) => {

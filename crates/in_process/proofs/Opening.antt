@@ -11,7 +11,7 @@ use Rattle.solver.specs.declared.fault.SolverFault.{SolverFault}
 use Rattle.tree_table.specs.Held.{StoresTrees}
 use Rattle.in_process.specs.Calls.{IsDiskOf}
 use Rattle.in_process.specs.Given.{IsGiven}
-use Rattle.in_process.specs.Kept.{IsOpenOn}
+use Rattle.in_process.specs.Kept.{IsAskable, IsOpenOn}
 use Rattle.in_process.specs.Rooms.{Boxed, IsAdded, IsTaken}
 use Rattle.in_process.specs.declared.held.HeldTable.{HeldTable}
 use Rattle.in_process.specs.declared.places.HeldTables.{HeldTables}
@@ -31,14 +31,15 @@ not_taken {bytes} {out} {told} {tables} {number} {given} {result} disk back coun
 
 -- it was opened, and its box stands behind the tables that were there
 pub added : {tables after : HeldTables} {number : ℕ} (disk : Disk) (count : ℕ) (is : State) (table : HeldTable) → count ≡ 0
-    → IsOpened (StoresTrees 3) disk count is → IsOpenOn is table.kept → table.answers.items ≡ []
+    → IsOpened (StoresTrees 3) disk count is → IsOpenOn is table.kept → IsAskable table.kept → table.answers.items ≡ []
     → (held : Boxed) × (held.value ≡ table) × (after.places.items ≡ tables.places.items ++ Some held ∷ []) → number ≡ length tables.places.items
     → IsAdded disk tables after number
-added disk count is table zero opened on none (held, same, behind) numbered = record {
+added disk count is table zero opened on askable none (held, same, behind) numbered = record {
   is = is;
   opened = subst (λ n. IsOpened (StoresTrees 3) disk n is) zero opened;
   held = held;
   is_open = subst (λ (t : HeldTable). IsOpenOn is t.kept) (sym same) on;
+  askable = subst (λ (t : HeldTable). IsAskable t.kept) (sym same) askable;
   none = subst (λ (t : HeldTable). t.answers.items ≡ []) (sym same) none;
   added = behind;
   numbered = numbered;

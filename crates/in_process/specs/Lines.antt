@@ -1,13 +1,19 @@
 -- What a call that answers lines does.
-use Rattle.std.specs.Prelude.{◌≡◌, ℕ, ◌<◌, ◌≤◌, List, [], ◌++◌, length, Option, Some}
+use Rattle.std.specs.Prelude.{◌≡◌, ℕ, ◌<◌, ◌≤◌, List, [], ◌++◌, length, Bool, false, true, Option, Some}
 use Rattle.game_file.specs.Kept.{Layout}
 use Rattle.game_file.specs.State.{State}
 use Rattle.retrograde.specs.Stored.{Stored}
 use Rattle.sector_disk.specs.Disk.{Disk}
-use Rattle.session.specs.Sessions.{IsSessionOver}
+use Rattle.session.specs.Commands.{IsPrinted, refused}
+use Rattle.session.specs.Sessions.{IsSession, IsSessionOver, SessionState, first_state}
 use Rattle.session.specs.declared.line_by_line.Lines.{Lines}
+use Rattle.session.specs.declared.line_by_line.Lines.TheVariants.{Session, Look}
+use Rattle.solver.specs.declared.fault.SolverFault.{SolverFault}
 use Rattle.in_process.specs.Calls.{IsDiskOf, bytes_of}
 use Rattle.in_process.specs.Given.{over}
+use Rattle.in_process.specs.Kept.{IsAskable, IsFoundIn, IsKeptUnopened, IsLeftIn}
+use Rattle.in_process.specs.declared.held.HeldTable.{HeldTable}
+use Rattle.in_process.specs.declared.kept.Kept.{Kept}
 
 -- lines are answered on the table of these bytes, for a caller whose bytes of the table are those before and then those after, with bytes for the
 -- answers, out and then told; Answers says of a disk that never failed, and of the lines that are read, what is told, with which status, and
@@ -25,9 +31,30 @@ pub data AreLinesAnswered (Answers : Disk → List ℕ → Option (List ℕ) →
       → AreLinesAnswered Answers lines before after out told count 6
   no_memory : count ≡ 0 → told ≡ out → after ≡ before → AreLinesAnswered Answers lines before after out told count 5
 
--- a session, or a look, on a disk that never failed, of which this text is all that was written
-abbrev pub OverBytes : {F Version : Type 0} (Stores : ℕ → Layout) (state : F → State) (IsVersion : Version → Stored (List ℕ) → F → Type 0)
-    (AreTwo : Version → Version → Type 0) (IsUsedUp : F → Type 0) (Lasts : F → F → Type 0) → Lines → Disk → List ℕ → Option (List ℕ) → List ℕ → ℕ → Disk
-    → ℕ → Type 0
-OverBytes Stores state IsVersion AreTwo IsUsedUp Lasts lines disk read left text status back now =
-    IsSessionOver Stores state IsVersion AreTwo IsUsedUp Lasts lines disk 0 read left (Some []) (Some text) status back now
+-- which lines are taken
+abbrev pub lines_taken : Bool → Lines
+lines_taken true = Look
+lines_taken false = Session
+
+module _ {F Version : Type 0} (Stores : ℕ → Layout) (state : F → State) (IsVersion : Version → Stored (List ℕ) → F → Type 0)
+    (AreTwo : Version → Version → Type 0) (IsUsedUp : F → Type 0) (Lasts : F → F → Type 0) where
+  -- a session, or a look, on a disk that never failed, of which this text is all that was written
+  abbrev pub OverBytes : Lines → Disk → List ℕ → Option (List ℕ) → List ℕ → ℕ → Disk → ℕ → Type 0
+  OverBytes manner disk read left text status back now =
+      IsSessionOver Stores state IsVersion AreTwo IsUsedUp Lasts manner disk 0 read left (Some []) (Some text) status back now
+
+  -- lines were answered on a table that is kept, behind the answers that waited, with this status:
+  --   answered  as a session, or a look, from the state in which they found it
+  --   unopened  the table could not be opened, which is their answer; none of them was read
+  pub data IsAnsweredOn (manner : Lines) (lines : List ℕ) (was is : Kept) (before after : List ℕ) (status : ℕ) : Type 0 where
+    answered : (begins : F) (ends : SessionState F Version) (read left : List ℕ) → lines ≡ read ++ left → IsFoundIn Stores (state begins) was
+        → IsSession Stores state IsVersion AreTwo IsUsedUp Lasts read (first_state begins manner) ends (Some left) (Some before) (Some after) status
+        → IsLeftIn (state ends.file) status is → IsAnsweredOn manner lines was is before after status
+    unopened : (why : SolverFault) → IsKeptUnopened Stores why was is → IsPrinted (Some before) (Some after) (refused why) status
+        → IsAnsweredOn manner lines was is before after status
+
+  -- the same of a held table on which lines can be answered, and then again; and how many bytes of answers wait is told
+  pub record AnswersLinesOn (manner : Lines) (lines : List ℕ) (count : ℕ) (was is : HeldTable) (status : ℕ) : Type 0 where
+    pub answered : IsAskable was.kept → IsAnsweredOn manner lines was.kept is.kept was.answers.items is.answers.items status
+    pub again : IsAskable was.kept → IsAskable is.kept
+    pub waits : count ≡ length is.answers.items

@@ -11,7 +11,7 @@ use Rattle.solver.specs.declared.fault.SolverFault.{SolverFault}
 use Rattle.tree_table.specs.Held.{StoresTrees}
 use Rattle.in_process.specs.Calls.{IsDiskOf, bytes_of}
 use Rattle.in_process.specs.Given.{IsGiven}
-use Rattle.in_process.specs.Kept.{disk_kept, IsOpenOn}
+use Rattle.in_process.specs.Kept.{disk_kept, IsAskable, IsOpenOn}
 use Rattle.in_process.specs.declared.held.HeldTable.{HeldTable}
 use Rattle.in_process.specs.declared.places.HeldTables.{HeldTables}
 
@@ -29,6 +29,7 @@ pub record IsAdded (disk : Disk) (before after : HeldTables) (number : ℕ) : Ty
   pub opened : IsOpened (StoresTrees 3) disk 0 is
   pub held : Boxed
   pub is_open : IsOpenOn is held.value.kept
+  pub askable : IsAskable held.value.kept
   pub none : held.value.answers.items ≡ []
   pub added : after.places.items ≡ before.places.items ++ Some held ∷ []
   pub numbered : number ≡ length before.places.items
@@ -71,5 +72,6 @@ pub record GivesAnswers (out told : List ℕ) (count : ℕ) (was is : HeldTable)
 pub record GivesBytes (out told : List ℕ) (count : ℕ) (was is : HeldTable) (status : ℕ) : Type 0 where
   pub given : IsGiven (bytes_of (disk_kept was.kept)) out told count
   pub disk : disk_kept is.kept ≡ disk_kept was.kept
+  pub askable : IsAskable was.kept → IsAskable is.kept
   pub answers : is.answers ≡ was.answers
   pub either : (status ≡ 0) ⊎ (status ≡ 6)

@@ -4,6 +4,7 @@ ghost use Rattle.std.specs.Prelude.{◌≡◌, ◌≢◌, ◌⊎◌, ◌<◌, �
 ghost use Rattle.session_lines.specs.Answered.{status_of_fault};
 ghost use Rattle.session_lines.specs.Told.{fault_line};
 ghost use Rattle.in_process.specs.Given.{IsGiven};
+ghost use Rattle.in_process.specs.Lines.{AnswersLinesOn, lines_taken};
 ghost use Rattle.in_process.specs.Rooms.{table_at, IsOnTable, IsTaken, GivesAnswers, GivesBytes};
 
 use crate::given::{NO_MEMORY, NOT_OPEN, TOO_LONG, give_text};
@@ -12,7 +13,8 @@ use crate::loose::LooseBox;
 use crate::places::HeldTables;
 use crate::room::Room;
 use byte_disk::ByteDisk;
-use recover::{Solver, SolverFault};
+use game_file::{GameFile, Versions};
+use recover::{Solver, SolverFault, TableFile};
 use session::commands::said_refused;
 use session::line_by_line::Lines;
 use std::alloc::Global;
@@ -134,13 +136,15 @@ pub extern "C" fn rbg_lines(
     lines: &[u8],
     count: &mut usize,
 ) -> u8
-    ensures { IsOnTable (λ was is status. count.new ≡ length is.answers.items) room.old.tables room.new.tables number result }
+    ensures { IsOnTable (AnswersLinesOn ⟦<TableFile<ByteDisk> as GameFile>⟧.stores ⟦<TableFile<ByteDisk> as GameFile>⟧.state
+        ⟦<TableFile<ByteDisk> as Versions>⟧.is_version ⟦<TableFile<ByteDisk> as Versions>⟧.are_two ⟦<TableFile<ByteDisk> as Versions>⟧.is_used_up
+        ⟦<TableFile<ByteDisk> as GameFile>⟧.lasts (lines_taken looks) lines.now count.new) room.old.tables room.new.tables number result }
 {
     *count = 0;
     let Some(mut tables) = take_tables(alloc, room) else {
         return NO_MEMORY;
     };
-    let manner = if looks { Lines::Look } else { Lines::Session };
+    let manner = lines_of(looks);
     let status = match tables.take(number) {
         Some(mut table) => {
             let status = table.answer(alloc, manner, lines);
@@ -152,6 +156,13 @@ pub extern "C" fn rbg_lines(
     };
     put_tables(room, tables);
     status
+}
+
+/// Which lines are taken.
+fn lines_of(looks: bool) -> Lines
+    ensures { result ≡ lines_taken looks }
+{
+    if looks { Lines::Look } else { Lines::Session }
 }
 
 /// Gives the answers that wait, and none waits then; or tells how many bytes they are, where they do not fit.

@@ -105,6 +105,7 @@ pub fn lines_on<F: Versions, R: Read, W: Write, E: Write>(
     told: &mut E,
 ) -> u8
     ensures ready { IsReady solver.old → IsReady solver.new }
+    ensures honest { IsReady solver.old → IsTrue (state solver.old).disk.honest → IsTrue (state solver.new).disk.honest }
     ensures came { IsReady solver.old → IsTrue (state solver.old).disk.honest → (bytes : List ℕ) × (ends : SessionState F F.Version)
         × Consumes (R.remaining input.old) (R.remaining input.new) bytes
         × IsSession F.stores F.state F.is_version F.are_two F.is_used_up F.lasts bytes (first_state solver.old.file lines) ends (R.remaining input.new) (W.contents out.old) (W.contents out.new) result

@@ -1,4 +1,5 @@
-use Rattle.std.proofs.Common.{refl}
+use Rattle.std.proofs.Common.{refl, sym, subst}
+use Rattle.std.specs.Prelude.{IsTrue}
 use Rattle.byte_disk.specs.InMemory.{disk_in}
 use Rattle.solver.specs.Solvers.{state}
 use Rattle.in_process.specs.Rooms.{IsTaken}
@@ -19,6 +20,7 @@ returns-in-Ok-add c =
     IsTaken.opened (disk_in c.in-Ok.disk)
     (record { contents = c.in-Ok.ensures.contents; synced = c.in-Ok.ensures.synced; honest = c.in-Ok.ensures.honest })
     (added (disk_in c.in-Ok.disk) _ (state c.in-Ok-open.solver) c.new.result c.in-Ok.ensures.unfailed c.in-Ok-open.ensures.opened c.new.ensures.opened
+    (c.new.ensures.askable c.in-Ok-open.ensures.ready (subst IsTrue (sym c.in-Ok-open.ensures.opened.from.goes_on.honest) c.in-Ok.ensures.honest))
     c.new.ensures.none c.in-Ok-add.ensures.added c.in-Ok-add.ensures.number) refl refl
 
 pub returns-in-Err-add : goal.returns-in-Err-add

@@ -14,7 +14,7 @@ returns c = elim c.match-take.branch [
       w.in-Some-take.ensures.taken w.deref_mut-in-Some-take-2.ensures.value w.put.ensures (c.put_tables.ensures ∙ ap (λ b. b.value) w.tables-is)
       (moved (λ told count was status. GivesBytes c.args.out.now told count was w.give_bytes.new.self status) w.out-is w.count-is w.status-is
       w.deref_mut-in-Some-take.ensures.value
-      (gives_bytes w.give_bytes.ensures.given w.give_bytes.ensures.disk w.give_bytes.ensures.answers w.status_of_given-status.ensures.given
+      (gives_bytes w.give_bytes.ensures.given w.give_bytes.ensures.disk w.give_bytes.ensures.askable w.give_bytes.ensures.answers w.status_of_given-status.ensures.given
       w.status_of_given-status.ensures.too_long))
   | in-None w ↦ on_none (c.deref_mut.ensures.value ∙ c.in-Some.ensures.taken) w.in-None.ensures.absent w.in-None.ensures.kept
       (c.put_tables.ensures ∙ ap (λ b. b.value) w.tables-is) w.status-is
