@@ -6,6 +6,7 @@ ghost use Rattle.rbg_game.specs.Meaning.{game_of};
 ghost use Rattle.legal_moves.specs.Moves.{start_of};
 ghost use Rattle.session_lines.specs.Answers.{IsMovesAnswer, TellsMoves, TellsMovesAt};
 ghost use Rattle.session_lines.specs.Counted.{IsStatusLine};
+ghost use Rattle.session_lines.specs.Moments.{noted_in};
 ghost use Rattle.session_lines.specs.Replies.{row_line, value_text};
 ghost use Rattle.solver.specs.Solvers.{state, IsReady};
 ghost use Rattle.session_lines.specs.Answered.{IsReplied};
@@ -17,6 +18,7 @@ use rbg_game::game::Game;
 use rbg_game::roles::Player;
 use retrograde::Counts;
 use session_lines::input::{Asked, Line, Question};
+use session_lines::moments::Moments;
 use session_lines::{moves, questions, replies};
 use solver::FileSolver;
 use std::alloc::{AllocError, Global};
@@ -41,7 +43,21 @@ pub fn put_answer<F: GameFile, W: Write, E: Write>(
         × IsReplied F.stores asked.entry (state solver.old) (state solver.new) status line
         × Appends (W.contents out.old) (W.contents out.new) line) }
 {
-    questions::put_answer(alloc, solver, asked, out, told)
+    questions::put_answer(alloc, solver, asked, out, told, &mut Moments::new())
+}
+
+/// `noted` of `put_answer`.
+pub fn answer_noted<F: GameFile, W: Write, E: Write>(
+    alloc: Global,
+    solver: &mut FileSolver<F>,
+    asked: Asked<'_>,
+    out: &mut W,
+    told: &mut E,
+    moments: &mut Moments<FileSolver<F>, W>,
+) -> io::Result<u8>
+    ensures { noted_in moments.new ≡ noted_in moments.old ++ (solver.new, out.old) ∷ [] }
+{
+    questions::put_answer(alloc, solver, asked, out, told, moments)
 }
 
 /// The clause of `put_status`.

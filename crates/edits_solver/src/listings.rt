@@ -6,6 +6,7 @@ ghost use Rattle.solver.specs.Solvers.{state, IsReady};
 use game_file::Versions;
 use session_lines::input::{Asked, ListingLine};
 use session_lines::listings::put_listing;
+use session_lines::moments::Moments;
 use session_lines::questions::put_answer;
 use solver::{FileSolver, Listing};
 use std::alloc::Global;
@@ -23,7 +24,7 @@ pub fn answer_beside<F: Versions, W: Write, E: Write>(
     ensures { F.lasts solver.old.file solver.new.file }
 {
     let _open = listings.len();
-    put_answer(alloc, solver, asked, out, told)
+    put_answer(alloc, solver, asked, out, told, &mut Moments::new())
 }
 
 /// `replied` of `put_listing`, of a line `begin`, and of that what becomes of the listings that are open.
@@ -36,5 +37,14 @@ pub fn begin<F: Versions, W: Write, E: Write>(
 ) -> io::Result<u8>
     ensures { IsReady solver.old → IsTrue (state solver.old).disk.honest → OnOk result (AllLast F.is_version solver.old.file solver.new.file) }
 {
-    put_listing(alloc, solver, listings, ListingLine::Begin, out, told)
+    let moments = &mut Moments::new();
+    put_listing(
+        alloc,
+        solver,
+        listings,
+        ListingLine::Begin,
+        out,
+        told,
+        moments,
+    )
 }

@@ -5,6 +5,7 @@ use audit::Verdict;
 use page_store::MOST_CACHED;
 use retrograde::Counts;
 use session_lines::input::{Asked, Question};
+use session_lines::moments::Moments;
 use session_lines::questions::put_answer;
 use session_lines::replies::row_lines;
 use solver::{FileSolver, Units};
@@ -285,7 +286,7 @@ fn ask_number<F: Layout>(
     }
     let mut text = Vec::new(alloc);
     let show = Asked::Question(Question::Show(number));
-    let status = put_answer(alloc, solver, show, &mut text, said)?;
+    let status = put_answer(alloc, solver, show, &mut text, said, &mut Moments::new())?;
     said.write_all(&text)?;
     writeln!(said, "status {status}")?;
     match text.as_slice() {
@@ -325,7 +326,7 @@ fn ask<F: Layout>(
 ) -> anyhow::Result<()> {
     writeln!(said, "{asked:?}")?;
     let mut told = Vec::new(alloc);
-    let status = put_answer(alloc, solver, asked, said, &mut told)?;
+    let status = put_answer(alloc, solver, asked, said, &mut told, &mut Moments::new())?;
     said.write_all(&told)?;
     writeln!(said, "status {status}")?;
     Ok(())

@@ -2,5 +2,6 @@ mod Auditing
 mod Bringing
 mod Cutting
 mod Saying
+mod Telling
 mod UnderWay
 mod InputLemmas

@@ -1,15 +1,13 @@
 -- What the bytes that have come for a line ask for.
-use Rattle.std.proofs.Common.{◌≡◌, ◌≢◌, ◌<◌, ◌≤◌, ◌+◌, inl, inr, ℕ, Bool, true, false, List, [], ◌∷◌, ◌++◌, length, refl, ap, sym, ◌∙◌, subst, arith}
+use Rattle.std.proofs.Common.{◌≡◌, ◌<◌, ◌≤◌, ◌+◌, inl, inr, ℕ, Bool, true, false, List, [], ◌∷◌, ◌++◌, length, refl, ap, sym, ◌∙◌, subst, arith}
 use Rattle.std.specs.Prelude.{IsTrue, OnOk, Result, Ok, Err}
 use Rattle.std.proofs.lemmas.Bool.{cases_lt}
 use Rattle.std.proofs.lemmas.List.{length-append}
 use Rattle.session_lines.specs.Asked.{Asks, IsBare}
 use Rattle.session_lines.specs.Looked.{Looks}
-use Rattle.session_lines.specs.declared.input.Asked.{Asked}
 use Rattle.session_lines.specs.declared.input.Asked.TheVariants.{Usage}
 use Rattle.session_lines.specs.declared.input.Line.{Line}
 use Rattle.session_lines.specs.declared.input.TheConstants.{MAX_LINE_BYTES}
-use Rattle.session_lines.specs.declared.looked.Looked.{Looked}
 use Rattle.session_lines.specs.declared.looked.Looked.TheVariants.{Usage as LookUsage}
 use Rattle.session.specs.Cut.{HasRead}
 use Rattle.session.proofs.Cutting.{bare_form}

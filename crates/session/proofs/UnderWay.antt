@@ -1,6 +1,6 @@
 -- A session that is under way goes on, or ends.
-use Rattle.std.proofs.Common.{◌≡◌, ◌≢◌, ◌<◌, ◌≤◌, ◌+◌, inl, inr, ℕ, List, [], ◌∷◌, ◌++◌, length, Option, Some, None, true, false, refl, ap, sym, ◌∙◌, subst, append_assoc, append-nil, arith}
-use Rattle.std.specs.Prelude.{IsTrue, IfOk, OnErr, Result, Ok, Err}
+use Rattle.std.proofs.Common.{◌≡◌, ◌≢◌, ◌<◌, ◌≤◌, inl, inr, ℕ, List, [], ◌∷◌, ◌++◌, Option, Some, None, true, false, refl, ap, sym, ◌∙◌, subst}
+use Rattle.std.specs.Prelude.{IfOk, OnErr, Result, Ok, Err}
 use Rattle.std.specs.Option.{is_some}
 use Rattle.std.proofs.lemmas.Bool.{cases_lt, le-ltb, lt-ltb}
 use Rattle.std.specs.Io.KnownBytes.{Appends, IsAtEnd}
@@ -13,8 +13,6 @@ use Rattle.session_lines.specs.Answered.{IsDoneFor}
 use Rattle.session_lines.specs.Looks.{IsLookedAt}
 use Rattle.session_lines.specs.Parts.{AppendsPart}
 use Rattle.session_lines.specs.Told.{fault_line}
-use Rattle.session_lines.proofs.Appending.{appends_then, appends_nothing}
-use Rattle.session_lines.proofs.PartLemmas.{part_behind}
 use Rattle.session_lines.specs.declared.input.Asked.{Asked}
 use Rattle.session_lines.specs.declared.input.Asked.TheVariants as asked
 use Rattle.session_lines.specs.declared.input.Line.{Line}
@@ -22,10 +20,11 @@ use Rattle.session_lines.specs.declared.input.ListingLine.{ListingLine}
 use Rattle.session_lines.specs.declared.looked.Looked.{Looked}
 use Rattle.session_lines.specs.declared.looked.Looked.TheVariants as looked
 use Rattle.session.specs.Commands.{IsPrinted, refused as refused_for}
-use Rattle.session.specs.Cut.{IsCutInto, HasRead, IsOneLine}
-use Rattle.solver.specs.declared.listing.Listing.{Listing}
-use Rattle.session.specs.Sessions.{SessionState, NeedsNoListings, LineOutcome, OutcomeOf, AnswersLines, IsLineAnswered, AnswersIn, IsAnswerToLine, QuitsIn, IsUnderWay, Continues, EndsWithin, IsSession, WithEnd, AsItIs, status_at_end}
+use Rattle.session.specs.Cut.{HasRead}
+use Rattle.session.specs.Seen.{Seen, Tells, moment_at}
+use Rattle.session.specs.Sessions.{SessionState, NeedsNoListings, LineOutcome, OutcomeOf, AnswersLines, QuitsIn, IsUnderWay, Continues, EndsWithin, IsSession, WithEnd, AsItIs, status_at_end}
 use Rattle.session.proofs.Cutting.{another_byte, another_line, more_bytes, no_lines, nothing_waits}
+use Rattle.session.proofs.Telling.{tells_nothing, tells_then, tells_part_then, tells_more, tells_part_more}
 
 -- an honest disk stays so, whatever is done for a line
 module _ (Stores : ℕ → Layout) where
@@ -61,23 +60,26 @@ needs_none asked.Status listing quit = tt
 needs_none (asked.Work units) listing quit = tt
 needs_none (asked.Question about) listing quit = tt
 
--- what came of a reply
-pub outcome_of : {E : Type 0} {P : ℕ → List ℕ → Type 0} {Quits : Type 0} {before after : Option (List ℕ)} {result : Option ℕ} (replied : Result ℕ E)
-    → IfOk replied (λ status. (text : List ℕ) × P status text × Appends before after text)
-    → OnErr replied ((status : ℕ) × (text : List ℕ) × P status text × AppendsPart before after text)
+-- what came of a reply, of which the moment was noted
+pub outcome_of : {E : Type 0} {P : ℕ → List ℕ → Type 0} {Quits : Type 0} {disk : Disk} {before after : Seen} {result : Option ℕ} (replied : Result ℕ E)
+    → IfOk replied (λ status. (text : List ℕ) × P status text × Appends before.written after.written text)
+    → OnErr replied ((status : ℕ) × (text : List ℕ) × P status text × AppendsPart before.written after.written text)
+    → after.moments ≡ before.moments ++ moment_at before disk ∷ []
     → IfOk replied (λ status. (1 < status → result ≡ Some status) × (status ≤ 1 → result ≡ None)) → OnErr replied (result ≡ Some 4)
-    → LineOutcome P Quits before after result
-outcome_of {P = P} {Quits} {before} {after} (Ok status) (text, says, wrote) untold written unwritten = elim (cases_lt 1 status) [
-  | inl high ↦ subst (LineOutcome P Quits before after) (sym (written.0 high)) (LineOutcome.refuses status text says high wrote)
-  | inr low ↦ subst (LineOutcome P Quits before after) (sym (written.1 low)) (LineOutcome.goes_on status text says low wrote)
+    → LineOutcome P Quits disk before after result
+outcome_of {P = P} {Quits} {disk} {before} {after} (Ok status) (text, says, wrote) untold noted written unwritten = elim (cases_lt 1 status) [
+  | inl high ↦ subst (LineOutcome P Quits disk before after) (sym (written.0 high))
+      (LineOutcome.refuses status text says high (record { wrote = wrote; noted = noted }))
+  | inr low ↦ subst (LineOutcome P Quits disk before after) (sym (written.1 low))
+      (LineOutcome.goes_on status text says low (record { wrote = wrote; noted = noted }))
 ]
-outcome_of {P = P} {Quits} {before} {after} (Err error) told (status, text, says, part) written unwritten =
-    subst (LineOutcome P Quits before after) (sym unwritten) (LineOutcome.unwritten status text says part)
+outcome_of {P = P} {Quits} {disk} {before} {after} (Err error) told (status, text, says, part) noted written unwritten =
+    subst (LineOutcome P Quits disk before after) (sym unwritten) (LineOutcome.unwritten status text says (record { wrote = part; noted = noted }))
 
 -- an outcome by other words
-pub outcome_by : {P Q : ℕ → List ℕ → Type 0} {A B : Type 0} {before after : Option (List ℕ)} {result : Option ℕ}
-    → ((status : ℕ) (text : List ℕ) → P status text → Q status text) → (A → B) → LineOutcome P A before after result
-    → LineOutcome Q B before after result
+pub outcome_by : {P Q : ℕ → List ℕ → Type 0} {A B : Type 0} {disk : Disk} {before after : Seen} {result : Option ℕ}
+    → ((status : ℕ) (text : List ℕ) → P status text → Q status text) → (A → B) → LineOutcome P A disk before after result
+    → LineOutcome Q B disk before after result
 outcome_by says quits (LineOutcome.goes_on status text replies low wrote) = LineOutcome.goes_on status text (says status text replies) low wrote
 outcome_by says quits (LineOutcome.quits asks same) = LineOutcome.quits (quits asks) same
 outcome_by says quits (LineOutcome.refuses status text replies high wrote) = LineOutcome.refuses status text (says status text replies) high wrote
@@ -86,40 +88,43 @@ outcome_by says quits (LineOutcome.unwritten status text replies part) = LineOut
 module _ {F Version : Type 0} (Stores : ℕ → Layout) (state : F → State) (IsVersion : Version → Stored (List ℕ) → F → Type 0)
     (AreTwo : Version → Version → Type 0) (IsUsedUp : F → Type 0) (Lasts : F → F → Type 0) where
   -- the line that LF has ended is answered
-  pub line_answered : {bytes : List ℕ} {begins old new : SessionState F Version} {before at after : Option (List ℕ)} {line next : Line} {result : Option ℕ}
+  pub line_answered : {bytes : List ℕ} {begins old new : SessionState F Version} {before at after : Seen} {line next : Line} {result : Option ℕ}
       → (way : IsUnderWay Stores state IsVersion AreTwo IsUsedUp Lasts bytes begins before old line at)
       → OutcomeOf Stores state IsVersion AreTwo IsUsedUp Lasts WithEnd way.rest old new at after result → HasRead next []
       → Continues Stores state IsVersion AreTwo IsUsedUp Lasts (bytes ++ 10 ∷ []) begins before new next after result
-  line_answered {before = before} {at = at} {after = after} way (LineOutcome.goes_on status text replies low wrote) come = record {
-    lines = way.lines ++ way.rest ∷ [];
-    rest = [];
-    text = way.text ++ text;
-    are = another_line way.are way.single;
-    single = nothing_waits;
-    come = come;
-    answers = AnswersLines.more way.rest status text way.answers replies low;
-    wrote = appends_then before at after way.text text way.wrote wrote;
-  }
+  line_answered {new = new} {at = at} way (LineOutcome.goes_on status text replies low wrote) come =
+      let moment = moment_at at (state new.file).disk in record {
+        lines = way.lines ++ way.rest ∷ [];
+        rest = [];
+        text = way.text ++ text;
+        moments = way.moments ++ moment ∷ [];
+        are = another_line way.are way.single;
+        single = nothing_waits;
+        come = come;
+        answers = AnswersLines.more way.rest status text moment way.answers replies low (record { written = way.wrote.wrote; disk_is = refl });
+        wrote = tells_then way.wrote wrote;
+      }
   line_answered {begins = begins} {before = before} way (LineOutcome.quits (asks, same) kept) come =
-      EndsWithin.quits way.lines way.rest [] way.text (another_line way.are way.single)
-      (subst (AnswersLines Stores state IsVersion AreTwo IsUsedUp Lasts begins way.lines way.text) (sym same) way.answers)
+      EndsWithin.quits way.lines way.rest [] way.text way.moments (another_line way.are way.single)
+      (subst (AnswersLines Stores state IsVersion AreTwo IsUsedUp Lasts begins before.written way.lines way.text way.moments) (sym same) way.answers)
       (subst (λ s. QuitsIn Stores state IsVersion AreTwo IsUsedUp Lasts WithEnd way.rest s.listings) (sym same) asks)
-      (subst (λ o. Appends before o way.text) (sym kept) way.wrote)
-  line_answered {before = before} {at = at} {after = after} way (LineOutcome.refuses status text replies high wrote) come =
-      EndsWithin.refuses way.lines way.rest [] way.text text _ status (another_line way.are way.single) way.answers replies high
-      (appends_then before at after way.text text way.wrote wrote)
-  line_answered way (LineOutcome.unwritten status text replies part) come =
-      EndsWithin.unwritten way.lines way.rest [] way.text text _ status (another_line way.are way.single) way.answers replies
-      (part_behind way.text way.wrote part)
+      (subst (λ o. Tells before o way.text way.moments) (sym kept) way.wrote)
+  line_answered {new = new} {at = at} way (LineOutcome.refuses status text replies high wrote) come =
+      EndsWithin.refuses way.lines way.rest [] way.text text way.moments (moment_at at (state new.file).disk) _ status (another_line way.are way.single)
+      way.answers replies high (record { written = way.wrote.wrote; disk_is = refl }) (tells_then way.wrote wrote)
+  line_answered {new = new} {at = at} way (LineOutcome.unwritten status text replies part) come =
+      EndsWithin.unwritten way.lines way.rest [] way.text text way.moments (moment_at at (state new.file).disk) _ status (another_line way.are way.single)
+      way.answers replies (record { written = way.wrote.wrote; disk_is = refl }) (tells_part_then way.wrote part)
 
   -- a byte that is no LF waits in the line
-  pub byte_waits : {bytes : List ℕ} {begins now : SessionState F Version} {before after : Option (List ℕ)} {line next : Line} {byte : ℕ}
+  pub byte_waits : {bytes : List ℕ} {begins now : SessionState F Version} {before after : Seen} {line next : Line} {byte : ℕ}
       → (way : IsUnderWay Stores state IsVersion AreTwo IsUsedUp Lasts bytes begins before now line after) → byte ≢ 10
       → HasRead next (way.rest ++ byte ∷ []) → IsUnderWay Stores state IsVersion AreTwo IsUsedUp Lasts (bytes ++ byte ∷ []) begins before now next after
   byte_waits {byte = byte} way other come = record {
     lines = way.lines;
     rest = way.rest ++ byte ∷ [];
     text = way.text;
+    moments = way.moments;
     are = more_bytes (byte ∷ []) way.are;
     single = another_byte way.rest byte way.single other;
     come = come;
@@ -128,46 +133,47 @@ module _ {F Version : Type 0} (Stores : ℕ → Layout) (state : F → State) (I
   }
 
   -- memory ran out for a byte
-  pub no_room : {bytes : List ℕ} {begins now : SessionState F Version} {before at after : Option (List ℕ)} {line : Line} {status : ℕ} (byte : ℕ)
+  pub no_room : {bytes : List ℕ} {begins now : SessionState F Version} {before at after : Seen} {line : Line} {status : ℕ} (byte : ℕ)
       → IsUnderWay Stores state IsVersion AreTwo IsUsedUp Lasts bytes begins before now line at
-      → IsPrinted at after (refused_for OutOfMemory) status
+      → IsPrinted at.written after.written (refused_for OutOfMemory) status → after.moments ≡ at.moments
       → EndsWithin Stores state IsVersion AreTwo IsUsedUp Lasts (bytes ++ byte ∷ []) begins now before after status
-  no_room {bytes} {begins} {now} {before} {at} {after} byte way (IsPrinted.told line is wrote same) =
+  no_room {bytes} {begins} {now} {before} {at} {after} byte way (IsPrinted.told line is wrote same) none =
       subst (EndsWithin Stores state IsVersion AreTwo IsUsedUp Lasts (bytes ++ byte ∷ []) begins now before after) (sym same)
-      (EndsWithin.no_memory way.lines (way.rest ++ byte ∷ []) way.text (more_bytes (byte ∷ []) way.are) way.answers
-      (appends_then before at after way.text (fault_line OutOfMemory) way.wrote (subst (Appends at after) is wrote)))
-  no_room {bytes} {begins} {now} {before} {at} {after} byte way (IsPrinted.untold line is part same) =
+      (EndsWithin.no_memory way.lines (way.rest ++ byte ∷ []) way.text way.moments (more_bytes (byte ∷ []) way.are) way.answers
+      (tells_more (fault_line OutOfMemory) way.wrote (subst (Appends at.written after.written) is wrote) none))
+  no_room {bytes} {begins} {now} {before} {at} {after} byte way (IsPrinted.untold line is part same) none =
       subst (EndsWithin Stores state IsVersion AreTwo IsUsedUp Lasts (bytes ++ byte ∷ []) begins now before after) (sym same)
-      (EndsWithin.untold way.lines (way.rest ++ byte ∷ []) way.text (more_bytes (byte ∷ []) way.are) way.answers
-      (part_behind way.text way.wrote (subst (AppendsPart at after) is part)))
+      (EndsWithin.untold way.lines (way.rest ++ byte ∷ []) way.text way.moments (more_bytes (byte ∷ []) way.are) way.answers
+      (tells_part_more (fault_line OutOfMemory) way.wrote (subst (AppendsPart at.written after.written) is part) none))
 
   -- what is read behind the end of a session is not looked at
-  pub ended_before : {bytes : List ℕ} {begins ends : SessionState F Version} {before after : Option (List ℕ)} {status : ℕ} (more : List ℕ)
+  pub ended_before : {bytes : List ℕ} {begins ends : SessionState F Version} {before after : Seen} {status : ℕ} (more : List ℕ)
       → EndsWithin Stores state IsVersion AreTwo IsUsedUp Lasts bytes begins ends before after status
       → EndsWithin Stores state IsVersion AreTwo IsUsedUp Lasts (bytes ++ more) begins ends before after status
-  ended_before more (EndsWithin.quits lines line behind text are answers asks wrote) =
-      EndsWithin.quits lines line (behind ++ more) text (more_bytes more are) answers asks wrote
-  ended_before more (EndsWithin.refuses lines line behind text reply old status are answers replies high wrote) =
-      EndsWithin.refuses lines line (behind ++ more) text reply old status (more_bytes more are) answers replies high wrote
-  ended_before more (EndsWithin.no_memory lines rest text are answers wrote) =
-      EndsWithin.no_memory lines (rest ++ more) text (more_bytes more are) answers wrote
-  ended_before more (EndsWithin.unwritten lines line behind text reply old status are answers replies part) =
-      EndsWithin.unwritten lines line (behind ++ more) text reply old status (more_bytes more are) answers replies part
-  ended_before more (EndsWithin.untold lines rest text are answers part) =
-      EndsWithin.untold lines (rest ++ more) text (more_bytes more are) answers part
+  ended_before more (EndsWithin.quits lines line behind text moments are answers asks wrote) =
+      EndsWithin.quits lines line (behind ++ more) text moments (more_bytes more are) answers asks wrote
+  ended_before more (EndsWithin.refuses lines line behind text reply moments moment old status are answers replies high begun wrote) =
+      EndsWithin.refuses lines line (behind ++ more) text reply moments moment old status (more_bytes more are) answers replies high begun wrote
+  ended_before more (EndsWithin.no_memory lines rest text moments are answers wrote) =
+      EndsWithin.no_memory lines (rest ++ more) text moments (more_bytes more are) answers wrote
+  ended_before more (EndsWithin.unwritten lines line behind text reply moments moment old status are answers replies begun part) =
+      EndsWithin.unwritten lines line (behind ++ more) text reply moments moment old status (more_bytes more are) answers replies begun part
+  ended_before more (EndsWithin.untold lines rest text moments are answers part) =
+      EndsWithin.untold lines (rest ++ more) text moments (more_bytes more are) answers part
 
   -- nothing is read yet
-  pub nothing_read : {begins : SessionState F Version} (before : Option (List ℕ)) {line : Line} → HasRead line []
+  pub nothing_read : {begins : SessionState F Version} (before : Seen) {line : Line} → HasRead line []
       → IsUnderWay Stores state IsVersion AreTwo IsUsedUp Lasts [] begins before begins line before
   nothing_read before come = record {
     lines = [];
     rest = [];
     text = [];
+    moments = [];
     are = no_lines;
     single = nothing_waits;
     come = come;
     answers = AnswersLines.none;
-    wrote = appends_nothing before;
+    wrote = tells_nothing before;
   }
 
   -- the status of a session whose last line is answered
@@ -178,37 +184,39 @@ module _ {F Version : Type 0} (Stores : ℕ → Layout) (state : F → State) (I
   one_more status high = rw (lt-ltb 1 status high) refl
 
   -- the input has ended, and what stands behind its last LF is answered
-  pub last_answered : {bytes : List ℕ} {begins old new : SessionState F Version} {left before at after : Option (List ℕ)} {line : Line} {result : Option ℕ} {status : ℕ}
+  pub last_answered : {bytes : List ℕ} {begins old new : SessionState F Version} {left : Option (List ℕ)} {before at after : Seen} {line : Line}
+      {result : Option ℕ} {status : ℕ}
       → (way : IsUnderWay Stores state IsVersion AreTwo IsUsedUp Lasts bytes begins before old line at) → IsAtEnd left
       → OutcomeOf Stores state IsVersion AreTwo IsUsedUp Lasts AsItIs way.rest old new at after result
       → (result ≡ None → status ≡ 0) → ((ended : ℕ) → result ≡ Some ended → status ≡ ended)
       → IsSession Stores state IsVersion AreTwo IsUsedUp Lasts bytes begins new left before after status
   last_answered {bytes} {begins} {old} {new} {left} {before} {at} {after} way at_end (LineOutcome.goes_on status text replies low wrote) none some =
       subst (IsSession Stores state IsVersion AreTwo IsUsedUp Lasts bytes begins new left before after) (no_more status low ∙ sym (none refl))
-      (IsSession.at_end way.lines way.rest way.text text old status way.are way.single at_end way.answers replies
-      (appends_then before at after way.text text way.wrote wrote))
+      (IsSession.at_end way.lines way.rest way.text text way.moments (moment_at at (state new.file).disk) old status way.are way.single at_end way.answers
+      replies (record { written = way.wrote.wrote; disk_is = refl }) (tells_then way.wrote wrote))
   last_answered {bytes} {begins} {old} {new} {left} {before} {at} {after} way at_end (LineOutcome.quits (asks, same) kept) none some =
       subst (IsSession Stores state IsVersion AreTwo IsUsedUp Lasts bytes begins new left before after) (sym (some 0 refl))
-      (IsSession.last_quits way.lines way.rest way.text way.are way.single at_end
-      (subst (AnswersLines Stores state IsVersion AreTwo IsUsedUp Lasts begins way.lines way.text) (sym same) way.answers)
+      (IsSession.last_quits way.lines way.rest way.text way.moments way.are way.single at_end
+      (subst (AnswersLines Stores state IsVersion AreTwo IsUsedUp Lasts begins before.written way.lines way.text way.moments) (sym same) way.answers)
       (subst (λ s. QuitsIn Stores state IsVersion AreTwo IsUsedUp Lasts AsItIs way.rest s.listings) (sym same) asks)
-      (subst (λ o. Appends before o way.text) (sym kept) way.wrote))
+      (subst (λ o. Tells before o way.text way.moments) (sym kept) way.wrote))
   last_answered {bytes} {begins} {old} {new} {left} {before} {at} {after} way at_end (LineOutcome.refuses status text replies high wrote) none some =
       subst (IsSession Stores state IsVersion AreTwo IsUsedUp Lasts bytes begins new left before after) (one_more status high ∙ sym (some status refl))
-      (IsSession.at_end way.lines way.rest way.text text old status way.are way.single at_end way.answers replies
-      (appends_then before at after way.text text way.wrote wrote))
+      (IsSession.at_end way.lines way.rest way.text text way.moments (moment_at at (state new.file).disk) old status way.are way.single at_end way.answers
+      replies (record { written = way.wrote.wrote; disk_is = refl }) (tells_then way.wrote wrote))
   last_answered {bytes} {begins} {old} {new} {left} {before} {at} {after} way at_end (LineOutcome.unwritten status text replies part) none some =
       subst (IsSession Stores state IsVersion AreTwo IsUsedUp Lasts bytes begins new left before after) (sym (some 4 refl))
-      (IsSession.last_unwritten way.lines way.rest way.text text old status way.are way.single at_end way.answers replies (part_behind way.text way.wrote part))
+      (IsSession.last_unwritten way.lines way.rest way.text text way.moments (moment_at at (state new.file).disk) old status way.are way.single at_end
+      way.answers replies (record { written = way.wrote.wrote; disk_is = refl }) (tells_part_then way.wrote part))
 
   -- the input failed
-  pub input_failed : {bytes : List ℕ} {begins now : SessionState F Version} {left before after : Option (List ℕ)} {line : Line}
+  pub input_failed : {bytes : List ℕ} {begins now : SessionState F Version} {left : Option (List ℕ)} {before after : Seen} {line : Line}
       → IsUnderWay Stores state IsVersion AreTwo IsUsedUp Lasts bytes begins before now line after
       → IsSession Stores state IsVersion AreTwo IsUsedUp Lasts bytes begins now left before after 4
-  input_failed way = IsSession.unread way.lines way.rest way.text way.are way.single way.answers way.wrote
+  input_failed way = IsSession.unread way.lines way.rest way.text way.moments way.are way.single way.answers way.wrote
 
   -- it has ended before the last of these bytes
-  pub stopped_within : (first more all : List ℕ) (begins now : SessionState F Version) (before after : Option (List ℕ)) (line : Line) (result : Option ℕ)
+  pub stopped_within : (first more all : List ℕ) (begins now : SessionState F Version) (before after : Seen) (line : Line) (result : Option ℕ)
       → first ++ more ≡ all → is_some result ≡ true → Continues Stores state IsVersion AreTwo IsUsedUp Lasts first begins before now line after result
       → Continues Stores state IsVersion AreTwo IsUsedUp Lasts all begins before now line after result
   stopped_within first more all begins now before after line None same some goes = absurd (nothing some)
@@ -217,3 +225,14 @@ module _ {F Version : Type 0} (Stores : ℕ → Layout) (state : F → State) (I
       nothing e = cc
   stopped_within first more all begins now before after line (Some status) same some ended =
       subst (λ bs. EndsWithin Stores state IsVersion AreTwo IsUsedUp Lasts bs begins now before after status) same (ended_before more ended)
+
+  -- it has not, and goes on with these
+  pub still_under_way : (first all : List ℕ) (begins now : SessionState F Version) (before after : Seen) (line : Line) (result : Option ℕ)
+      → first ≡ all → is_some result ≡ false → Continues Stores state IsVersion AreTwo IsUsedUp Lasts first begins before now line after result
+      → IsUnderWay Stores state IsVersion AreTwo IsUsedUp Lasts all begins before now line after
+  still_under_way first all begins now before after line None same none goes =
+      subst (λ bs. IsUnderWay Stores state IsVersion AreTwo IsUsedUp Lasts bs begins before now line after) same goes
+  still_under_way first all begins now before after line (Some status) same none ended = absurd (differ none)
+    where
+      differ : true ≡ false → ⊥
+      differ e = cc

@@ -1,4 +1,5 @@
 pub mod Statuses
 pub mod Commands
 pub mod Cut
+pub mod Seen
 pub mod Sessions

@@ -1,6 +1,6 @@
 -- What a session reads, answers and writes, line by line.
 use Rattle.std.specs.Prelude.{◌≡◌, ◌≢◌, ◌<◌, ◌≤◌, ℕ, List, [], ◌∷◌, ◌++◌, Option, None, Some, nat_lt, if◌then◌else◌}
-use Rattle.std.specs.Io.KnownBytes.{Appends, IsAtEnd}
+use Rattle.std.specs.Io.KnownBytes.{IsAtEnd}
 use Rattle.game_file.specs.Calls.{IsAsked}
 use Rattle.game_file.specs.Kept.{Layout}
 use Rattle.game_file.specs.State.{State}
@@ -15,7 +15,6 @@ use Rattle.session_lines.specs.Asked.{Asks, IsBare}
 use Rattle.session_lines.specs.Listed.{IsListingReplied}
 use Rattle.session_lines.specs.Looked.{Looks}
 use Rattle.session_lines.specs.Looks.{IsLookedAt, IsLookReplied}
-use Rattle.session_lines.specs.Parts.{AppendsPart}
 use Rattle.session_lines.specs.Told.{fault_line}
 use Rattle.session_lines.specs.declared.input.Asked.{Asked}
 use Rattle.session_lines.specs.declared.input.Asked.TheVariants as asked
@@ -25,6 +24,7 @@ use Rattle.session_lines.specs.declared.looked.Looked.{Looked}
 use Rattle.session_lines.specs.declared.looked.Looked.TheVariants as looked
 use Rattle.session.specs.Commands.{GivesBack, IsPrinted, IsUnopened, refused}
 use Rattle.session.specs.Cut.{IsCutInto, HasRead, IsOneLine}
+use Rattle.session.specs.Seen.{BeginsAt, Moment, Seen, Tells, TellsPart, moment_at}
 use Rattle.session.specs.declared.line_by_line.Lines.{Lines}
 use Rattle.session.specs.declared.line_by_line.Lines.TheVariants.{Session, Look}
 use Rattle.session.specs.declared.line_by_line.Manner.{Manner}
@@ -63,27 +63,34 @@ WithEnd = IsBare
 abbrev pub AsItIs : List ℕ → List ℕ → Type 0
 AsItIs bytes line = line ≡ bytes
 
--- what an answer leaves of a session: it goes on, or ends with a status
+-- what an answer leaves of a session, where this is the disk behind the line: it goes on, or ends with a status. A
+-- reply begins at one moment that is noted: with the output as it was before, and the disk as it is behind the line
 --   goes_on    this was written, and the status is 0 or 1
---   quits      the line asks for the end
+--   quits      the line asks for the end, and has no reply
 --   refuses    this was written, and the status ends the session
 --   unwritten  the output failed, and a part of this was written, from its start on
-pub data LineOutcome (Replies : ℕ → List ℕ → Type 0) (Quits : Type 0) (before after : Option (List ℕ)) : Option ℕ → Type 0 where
-  goes_on : (status : ℕ) (text : List ℕ) → Replies status text → status ≤ 1 → Appends before after text → LineOutcome Replies Quits before after None
-  quits : Quits → after ≡ before → LineOutcome Replies Quits before after (Some 0)
-  refuses : (status : ℕ) (text : List ℕ) → Replies status text → 1 < status → Appends before after text
-      → LineOutcome Replies Quits before after (Some status)
-  unwritten : (status : ℕ) (text : List ℕ) → Replies status text → AppendsPart before after text → LineOutcome Replies Quits before after (Some 4)
+pub data LineOutcome (Replies : ℕ → List ℕ → Type 0) (Quits : Type 0) (disk : Disk) (before after : Seen)
+    : Option ℕ → Type 0 where
+  goes_on : (status : ℕ) (text : List ℕ) → Replies status text → status ≤ 1
+      → Tells before after text (moment_at before disk ∷ []) → LineOutcome Replies Quits disk before after None
+  quits : Quits → after ≡ before → LineOutcome Replies Quits disk before after (Some 0)
+  refuses : (status : ℕ) (text : List ℕ) → Replies status text → 1 < status
+      → Tells before after text (moment_at before disk ∷ []) → LineOutcome Replies Quits disk before after (Some status)
+  unwritten : (status : ℕ) (text : List ℕ) → Replies status text
+      → TellsPart before after text (moment_at before disk ∷ []) → LineOutcome Replies Quits disk before after (Some 4)
 
-module _ {F Version : Type 0} (Stores : ℕ → Layout) (state : F → State) (IsVersion : Version → Stored (List ℕ) → F → Type 0)
-    (AreTwo : Version → Version → Type 0) (IsUsedUp : F → Type 0) (Lasts : F → F → Type 0) where
-  -- the answer to what a line of a session asks: about listings by those that are open, and any other leaves them as they are
-  pub data IsLineAnswered (old new : F) (before after : List (Listing Version)) (status : ℕ) (text : List ℕ) : Asked → Type 0 where
+module _ {F Version : Type 0} (Stores : ℕ → Layout) (state : F → State)
+    (IsVersion : Version → Stored (List ℕ) → F → Type 0) (AreTwo : Version → Version → Type 0) (IsUsedUp : F → Type 0)
+    (Lasts : F → F → Type 0) where
+  -- the answer to what a line of a session asks: about listings by those that are open, and any other leaves them as
+  -- they are
+  pub data IsLineAnswered (old new : F) (before after : List (Listing Version)) (status : ℕ) (text : List ℕ)
+      : Asked → Type 0 where
     about_listings : (about : ListingLine) → IsAsked Stores (state old) (state new)
         → IsListingReplied state IsVersion AreTwo about (IsUsedUp old) old new before after status text
         → IsLineAnswered old new before after status text (asked.Listing about)
-    plain : (about : Asked) → NeedsNoListings about → IsReplied Stores about (state old) (state new) status text → Lasts old new → after ≡ before
-        → IsLineAnswered old new before after status text about
+    plain : (about : Asked) → NeedsNoListings about → IsReplied Stores about (state old) (state new) status text
+        → Lasts old new → after ≡ before → IsLineAnswered old new before after status text about
 
   -- the answer to what a line asks where a session only looks
   pub record IsLookAnswered (about : Looked) (old new : F) (status : ℕ) (text : List ℕ) : Type 0 where
@@ -92,15 +99,18 @@ module _ {F Version : Type 0} (Stores : ℕ → Layout) (state : F → State) (I
     pub replied : IsLookReplied about (state old) (state new) status text
 
   -- the bytes of a line, of which Says tells what they say, are answered
-  abbrev pub AnswersIn : (List ℕ → List ℕ → Type 0) → List ℕ → F → F → Option (List (Listing Version)) → Option (List (Listing Version))
-      → ℕ → List ℕ → Type 0
+  abbrev pub AnswersIn : (List ℕ → List ℕ → Type 0) → List ℕ → F → F → Option (List (Listing Version))
+      → Option (List (Listing Version)) → ℕ → List ℕ → Type 0
   AnswersIn Says bytes old new (Some before) (Some after) status text =
-      (line : List ℕ) × Says bytes line × (about : Asked) × Asks line about × IsLineAnswered old new before after status text about
+      (line : List ℕ) × Says bytes line
+      × (about : Asked) × Asks line about × IsLineAnswered old new before after status text about
   AnswersIn Says bytes old new None None status text =
-      (line : List ℕ) × Says bytes line × (about : Looked) × Looks line about × IsLookAnswered about old new status text
+      (line : List ℕ) × Says bytes line
+      × (about : Looked) × Looks line about × IsLookAnswered about old new status text
   AnswersIn Says bytes old new _ _ status text = ⊥
 
-  abbrev pub IsAnswerToLine : (List ℕ → List ℕ → Type 0) → List ℕ → SessionState F Version → SessionState F Version → ℕ → List ℕ → Type 0
+  abbrev pub IsAnswerToLine : (List ℕ → List ℕ → Type 0) → List ℕ → SessionState F Version → SessionState F Version → ℕ
+      → List ℕ → Type 0
   IsAnswerToLine Says bytes old new = AnswersIn Says bytes old.file new.file old.listings new.listings
 
   -- the line asks for the end of the session
@@ -109,34 +119,52 @@ module _ {F Version : Type 0} (Stores : ℕ → Layout) (state : F → State) (I
   QuitsIn Says bytes None = (line : List ℕ) × Says bytes line × Looks line looked.Quit
 
   -- what came of a line
-  abbrev pub OutcomeOf : (List ℕ → List ℕ → Type 0) → List ℕ → SessionState F Version → SessionState F Version → Option (List ℕ) → Option (List ℕ) → Option ℕ → Type 0
-  OutcomeOf Says bytes old new = LineOutcome (IsAnswerToLine Says bytes old new) (QuitsIn Says bytes old.listings × (new ≡ old))
+  abbrev pub OutcomeOf : (List ℕ → List ℕ → Type 0) → List ℕ → SessionState F Version → SessionState F Version → Seen
+      → Seen → Option ℕ → Type 0
+  OutcomeOf Says bytes old new =
+      LineOutcome (IsAnswerToLine Says bytes old new) (QuitsIn Says bytes old.listings × (new ≡ old))
+      (state new.file).disk
 
-  -- these lines were answered one behind the other, and this was written; the session goes on
-  pub data AnswersLines (begins : SessionState F Version) : List (List ℕ) → List ℕ → SessionState F Version → Type 0 where
-    none : AnswersLines begins [] [] begins
-    more : {lines : List (List ℕ)} {text : List ℕ} {old new : SessionState F Version} (line : List ℕ) (status : ℕ) (reply : List ℕ) → AnswersLines begins lines text old
-        → IsAnswerToLine WithEnd line old new status reply → status ≤ 1 → AnswersLines begins (lines ++ line ∷ []) (text ++ reply) new
+  -- these lines were answered one behind the other, and this was written behind what the output held before; the reply
+  -- to each began at one of these moments, in their order: behind the replies to the lines before it, and with the disk
+  -- as it has left it. The session goes on
+  pub data AnswersLines (begins : SessionState F Version) (before : Option (List ℕ))
+      : List (List ℕ) → List ℕ → List Moment → SessionState F Version → Type 0 where
+    none : AnswersLines begins before [] [] [] begins
+    more : {lines : List (List ℕ)} {text : List ℕ} {moments : List Moment} {old new : SessionState F Version}
+        (line : List ℕ) (status : ℕ) (reply : List ℕ) (moment : Moment)
+        → AnswersLines begins before lines text moments old → IsAnswerToLine WithEnd line old new status reply
+        → status ≤ 1 → BeginsAt before text (state new.file).disk moment
+        → AnswersLines begins before (lines ++ line ∷ []) (text ++ reply) (moments ++ moment ∷ []) new
 
-  -- these bytes were read, and with the status a session has ended within them; what stands in the output was written after what was there:
+  -- these bytes were read, and with the status a session has ended within them; what is seen behind was told after what
+  -- was seen before:
   --   quits      a line asks for the end
   --   refuses    the answer to a line ends the session
   --   no_memory  memory ran out for the bytes of a line, and that is told
   --   unwritten  the output failed in the answer to a line, of which a part was written; the lines before were answered
   --   untold     memory ran out, and the output failed where that was told
-  pub data EndsWithin (bytes : List ℕ) (begins ends : SessionState F Version) (before after : Option (List ℕ)) : ℕ → Type 0 where
-    quits : (lines : List (List ℕ)) (line behind text : List ℕ) → IsCutInto bytes (lines ++ line ∷ []) behind → AnswersLines begins lines text ends
-        → QuitsIn WithEnd line ends.listings → Appends before after text → EndsWithin bytes begins ends before after 0
-    refuses : (lines : List (List ℕ)) (line behind text reply : List ℕ) (old : SessionState F Version) (status : ℕ)
-        → IsCutInto bytes (lines ++ line ∷ []) behind → AnswersLines begins lines text old → IsAnswerToLine WithEnd line old ends status reply → 1 < status
-        → Appends before after (text ++ reply) → EndsWithin bytes begins ends before after status
-    no_memory : (lines : List (List ℕ)) (rest text : List ℕ) → IsCutInto bytes lines rest → AnswersLines begins lines text ends
-        → Appends before after (text ++ fault_line OutOfMemory) → EndsWithin bytes begins ends before after 5
-    unwritten : (lines : List (List ℕ)) (line behind text reply : List ℕ) (old : SessionState F Version) (status : ℕ)
-        → IsCutInto bytes (lines ++ line ∷ []) behind → AnswersLines begins lines text old → IsAnswerToLine WithEnd line old ends status reply
-        → AppendsPart before after (text ++ reply) → EndsWithin bytes begins ends before after 4
-    untold : (lines : List (List ℕ)) (rest text : List ℕ) → IsCutInto bytes lines rest → AnswersLines begins lines text ends
-        → AppendsPart before after (text ++ fault_line OutOfMemory) → EndsWithin bytes begins ends before after 4
+  pub data EndsWithin (bytes : List ℕ) (begins ends : SessionState F Version) (before after : Seen) : ℕ → Type 0 where
+    quits : (lines : List (List ℕ)) (line behind text : List ℕ) (moments : List Moment)
+        → IsCutInto bytes (lines ++ line ∷ []) behind → AnswersLines begins before.written lines text moments ends
+        → QuitsIn WithEnd line ends.listings → Tells before after text moments
+        → EndsWithin bytes begins ends before after 0
+    refuses : (lines : List (List ℕ)) (line behind text reply : List ℕ) (moments : List Moment) (moment : Moment)
+        (old : SessionState F Version) (status : ℕ) → IsCutInto bytes (lines ++ line ∷ []) behind
+        → AnswersLines begins before.written lines text moments old → IsAnswerToLine WithEnd line old ends status reply
+        → 1 < status → BeginsAt before.written text (state ends.file).disk moment
+        → Tells before after (text ++ reply) (moments ++ moment ∷ []) → EndsWithin bytes begins ends before after status
+    no_memory : (lines : List (List ℕ)) (rest text : List ℕ) (moments : List Moment) → IsCutInto bytes lines rest
+        → AnswersLines begins before.written lines text moments ends
+        → Tells before after (text ++ fault_line OutOfMemory) moments → EndsWithin bytes begins ends before after 5
+    unwritten : (lines : List (List ℕ)) (line behind text reply : List ℕ) (moments : List Moment) (moment : Moment)
+        (old : SessionState F Version) (status : ℕ) → IsCutInto bytes (lines ++ line ∷ []) behind
+        → AnswersLines begins before.written lines text moments old → IsAnswerToLine WithEnd line old ends status reply
+        → BeginsAt before.written text (state ends.file).disk moment
+        → TellsPart before after (text ++ reply) (moments ++ moment ∷ []) → EndsWithin bytes begins ends before after 4
+    untold : (lines : List (List ℕ)) (rest text : List ℕ) (moments : List Moment) → IsCutInto bytes lines rest
+        → AnswersLines begins before.written lines text moments ends
+        → TellsPart before after (text ++ fault_line OutOfMemory) moments → EndsWithin bytes begins ends before after 4
 
   -- what a line leaves as the status of a session that ends with the input
   abbrev pub status_at_end : ℕ → ℕ
@@ -148,44 +176,59 @@ module _ {F Version : Type 0} (Stores : ℕ → Layout) (state : F → State) (I
   --   last_quits      what stands behind the last LF asks for the end
   --   last_unwritten  the output failed in the answer to what stands behind the last LF, of which a part was written
   --   unread          the input failed: all lines that were read are answered
-  pub data IsSession (bytes : List ℕ) (begins ends : SessionState F Version) (left before after : Option (List ℕ)) : ℕ → Type 0 where
-    within : (status : ℕ) → EndsWithin bytes begins ends before after status → IsSession bytes begins ends left before after status
-    at_end : (lines : List (List ℕ)) (rest text reply : List ℕ) (old : SessionState F Version) (status : ℕ) → IsCutInto bytes lines rest → IsOneLine rest
-        → IsAtEnd left → AnswersLines begins lines text old → IsAnswerToLine AsItIs rest old ends status reply → Appends before after (text ++ reply)
+  pub data IsSession (bytes : List ℕ) (begins ends : SessionState F Version) (left : Option (List ℕ))
+      (before after : Seen) : ℕ → Type 0 where
+    within : (status : ℕ) → EndsWithin bytes begins ends before after status
+        → IsSession bytes begins ends left before after status
+    at_end : (lines : List (List ℕ)) (rest text reply : List ℕ) (moments : List Moment) (moment : Moment)
+        (old : SessionState F Version) (status : ℕ) → IsCutInto bytes lines rest → IsOneLine rest → IsAtEnd left
+        → AnswersLines begins before.written lines text moments old → IsAnswerToLine AsItIs rest old ends status reply
+        → BeginsAt before.written text (state ends.file).disk moment
+        → Tells before after (text ++ reply) (moments ++ moment ∷ [])
         → IsSession bytes begins ends left before after (status_at_end status)
-    last_quits : (lines : List (List ℕ)) (rest text : List ℕ) → IsCutInto bytes lines rest → IsOneLine rest → IsAtEnd left
-        → AnswersLines begins lines text ends → QuitsIn AsItIs rest ends.listings → Appends before after text
+    last_quits : (lines : List (List ℕ)) (rest text : List ℕ) (moments : List Moment) → IsCutInto bytes lines rest
+        → IsOneLine rest → IsAtEnd left → AnswersLines begins before.written lines text moments ends
+        → QuitsIn AsItIs rest ends.listings → Tells before after text moments
         → IsSession bytes begins ends left before after 0
-    last_unwritten : (lines : List (List ℕ)) (rest text reply : List ℕ) (old : SessionState F Version) (status : ℕ) → IsCutInto bytes lines rest
-        → IsOneLine rest → IsAtEnd left → AnswersLines begins lines text old → IsAnswerToLine AsItIs rest old ends status reply
-        → AppendsPart before after (text ++ reply) → IsSession bytes begins ends left before after 4
-    unread : (lines : List (List ℕ)) (rest text : List ℕ) → IsCutInto bytes lines rest → IsOneLine rest → AnswersLines begins lines text ends
-        → Appends before after text → IsSession bytes begins ends left before after 4
+    last_unwritten : (lines : List (List ℕ)) (rest text reply : List ℕ) (moments : List Moment) (moment : Moment)
+        (old : SessionState F Version) (status : ℕ) → IsCutInto bytes lines rest → IsOneLine rest → IsAtEnd left
+        → AnswersLines begins before.written lines text moments old → IsAnswerToLine AsItIs rest old ends status reply
+        → BeginsAt before.written text (state ends.file).disk moment
+        → TellsPart before after (text ++ reply) (moments ++ moment ∷ [])
+        → IsSession bytes begins ends left before after 4
+    unread : (lines : List (List ℕ)) (rest text : List ℕ) (moments : List Moment) → IsCutInto bytes lines rest
+        → IsOneLine rest → AnswersLines begins before.written lines text moments ends → Tells before after text moments
+        → IsSession bytes begins ends left before after 4
 
-  -- a session is under way: these bytes were read, all their lines are answered, and what stands behind the last LF waits in the line
-  pub record IsUnderWay (bytes : List ℕ) (begins : SessionState F Version) (before : Option (List ℕ)) (now : SessionState F Version) (line : Line)
-      (after : Option (List ℕ)) : Type 0 where
+  -- a session is under way: these bytes were read, all their lines are answered, and what stands behind the last LF
+  -- waits in the line
+  pub record IsUnderWay (bytes : List ℕ) (begins : SessionState F Version) (before : Seen)
+      (now : SessionState F Version) (line : Line) (after : Seen) : Type 0 where
     pub lines : List (List ℕ)
     pub rest : List ℕ
     pub text : List ℕ
+    pub moments : List Moment
     pub are : IsCutInto bytes lines rest
     pub single : IsOneLine rest
     pub come : HasRead line rest
-    pub answers : AnswersLines begins lines text now
-    pub wrote : Appends before after text
+    pub answers : AnswersLines begins before.written lines text moments now
+    pub wrote : Tells before after text moments
 
   -- it goes on, or has ended
-  abbrev pub Continues : List ℕ → SessionState F Version → Option (List ℕ) → SessionState F Version → Line → Option (List ℕ) → Option ℕ → Type 0
+  abbrev pub Continues : List ℕ → SessionState F Version → Seen → SessionState F Version → Line → Seen → Option ℕ
+      → Type 0
   Continues bytes begins before now line after None = IsUnderWay bytes begins before now line after
   Continues bytes begins before now line after (Some status) = EndsWithin bytes begins now before after status
 
   -- a session on the table of a disk, which is given back:
   --   opened    the table was opened, and the session ended so
-  --   unopened  it could not be opened, and that was written, or a part of it, where the output failed; nothing was read
-  pub data IsSessionOver (lines : Lines) (disk : Disk) (count : ℕ) (bytes : List ℕ) (left before after : Option (List ℕ)) (status : ℕ)
-      (back : Disk) (now : ℕ) : Type 0 where
+  --   unopened  it could not be opened, and that was written, or a part of it, where the output failed; nothing was
+  --             read, and no moment noted
+  pub data IsSessionOver (lines : Lines) (disk : Disk) (count : ℕ) (bytes : List ℕ) (left : Option (List ℕ))
+      (before after : Seen) (status : ℕ) (back : Disk) (now : ℕ) : Type 0 where
     opened : (begins : F) (ends : SessionState F Version) → IsOpened Stores disk count (state begins)
-        → IsSession bytes (first_state begins lines) ends left before after status → GivesBack (state ends.file) back now
-        → IsSessionOver lines disk count bytes left before after status back now
-    unopened : (why : SolverFault) → IsUnopened Stores disk count why back now → bytes ≡ [] → IsPrinted before after (refused why) status
+        → IsSession bytes (first_state begins lines) ends left before after status
+        → GivesBack (state ends.file) back now → IsSessionOver lines disk count bytes left before after status back now
+    unopened : (why : SolverFault) → IsUnopened Stores disk count why back now → bytes ≡ []
+        → IsPrinted before.written after.written (refused why) status → after.moments ≡ before.moments
         → IsSessionOver lines disk count bytes left before after status back now

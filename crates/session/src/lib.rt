@@ -19,4 +19,6 @@ mod table_words;
 pub mod words;
 
 pub use program::run;
-pub use session_lines::{actions, input, moves, questions, refused, replies, rulebook, verdicts};
+pub use session_lines::{
+    actions, input, moments, moves, questions, refused, replies, rulebook, verdicts,
+};

@@ -1,14 +1,14 @@
 //! A session: commands as lines on an input, each with its reply.
-ghost use Rattle.std.specs.Prelude.{◌≡◌, ◌≢◌, ◌⊎◌, ℕ, List, [], ◌∷◌, ◌++◌, Option, Some, None, ◌<◌, ◌≤◌, IsTrue, IfOk, OnErr};
-ghost use Rattle.std.specs.Io.KnownBytes.{Appends, Consumes};
-ghost use Rattle.sector_disk.specs.Disk.{Disk};
+ghost use Rattle.std.specs.Prelude.{◌≡◌, ℕ, List, [], ◌∷◌, ◌++◌, Some, None, ◌<◌, ◌≤◌, IsTrue, IfOk, OnErr};
+ghost use Rattle.std.specs.Io.KnownBytes.{Consumes};
 ghost use Rattle.solver.specs.Solvers.{state, IsReady};
-ghost use Rattle.solver.specs.Opening.{IsOpened};
 ghost use Rattle.session_lines.specs.declared.input.Asked.TheVariants.{Quit};
 ghost use Rattle.session_lines.specs.declared.looked.Looked.TheVariants.{Quit as LookQuit};
 ghost use Rattle.session.specs.Commands.{IsPrinted, refused as refused_for};
 ghost use Rattle.session.specs.Cut.{HasRead};
-ghost use Rattle.session.specs.Sessions.{SessionState, LineOutcome, OutcomeOf, IsLineAnswered, IsLookAnswered, IsUnderWay, Continues, IsSession, AsItIs, WithEnd, session_state};
+ghost use Rattle.session.specs.Seen.{Seen, seen};
+ghost use Rattle.session.specs.Sessions.{SessionState, LineOutcome, OutcomeOf, IsLineAnswered, IsLookAnswered};
+ghost use Rattle.session.specs.Sessions.{IsUnderWay, Continues, IsSession, AsItIs, WithEnd, session_state};
 ghost use Rattle.session.specs.Sessions.{first_state, IsSessionOver};
 ghost use Rattle.session.specs.declared.line_by_line.Lines.TheVariants.{Session, Look};
 
@@ -19,6 +19,7 @@ use session_lines::input::{Asked, Line};
 use session_lines::listings::put_listing;
 use session_lines::looked::Looked;
 use session_lines::looks::put_looked;
+use session_lines::moments::Moments;
 use session_lines::questions::put_answer;
 use solver::{FileSolver, Listing, SolverFault};
 use std::alloc::Global;
@@ -35,27 +36,31 @@ pub enum Lines {
 
 /// What a session may do, and what it keeps.
 enum Manner<V> {
-    /// It works, asks and keeps listings; those that are open session_state here.
+    /// It works, asks and keeps listings; those that are open stand here.
     Work(Vec<Listing<V>>),
     /// It only looks.
     Look,
 }
 
-/// Answers each line of the input, on the table of this disk, as a file of whichever layout, before the next line is read. Gives the exit status, which
-/// is 4 where the input or the output failed, and the disk. What a refusal means goes to `told`, whether or not it arrives. However the
-/// session ends, the listings that are open are given back first.
+/// Answers each line of the input, on the table of this disk, as a file of whichever layout, before the next line is
+/// read. Gives the exit status, which is 4 where the input or the output failed, and the disk. What a refusal means
+/// goes to `told`, whether or not it arrives. The moment at which each reply begins is noted: what its line does is
+/// done then. However the session ends, the listings that are open are given back first.
 pub fn session_over<F: Versions, R: Read, W: Write, E: Write>(
     alloc: Global,
     disk: F::Device,
     input: &mut R,
     out: &mut W,
     told: &mut E,
+    moments: &mut Moments<FileSolver<F>, W>,
 ) -> (u8, F::Device)
-    ensures { IsTrue (F.Device.disk disk).honest → (bytes : List ℕ) × Consumes (R.remaining input.old) (R.remaining input.new) bytes
-        × IsSessionOver F.stores F.state F.is_version F.are_two F.is_used_up F.lasts Session (F.Device.disk disk) (F.Device.failures disk) bytes (R.remaining input.new)
-        (W.contents out.old) (W.contents out.new) result.0 (F.Device.disk result.1) (F.Device.failures result.1) }
+    ensures { IsTrue (F.Device.disk disk).honest → (bytes : List ℕ)
+        × Consumes (R.remaining input.old) (R.remaining input.new) bytes
+        × IsSessionOver F.stores F.state F.is_version F.are_two F.is_used_up F.lasts Session (F.Device.disk disk)
+        (F.Device.failures disk) bytes (R.remaining input.new) (seen state W.contents out.old moments.old)
+        (seen state W.contents out.new moments.new) result.0 (F.Device.disk result.1) (F.Device.failures result.1) }
 {
-    lines_over::<F, R, W, E>(alloc, disk, Lines::Session, input, out, told)
+    lines_over::<F, R, W, E>(alloc, disk, Lines::Session, input, out, told, moments)
 }
 
 /// The same for a session that only looks: it writes nothing to the disk.
@@ -65,12 +70,15 @@ pub fn look_over<F: Versions, R: Read, W: Write, E: Write>(
     input: &mut R,
     out: &mut W,
     told: &mut E,
+    moments: &mut Moments<FileSolver<F>, W>,
 ) -> (u8, F::Device)
-    ensures { IsTrue (F.Device.disk disk).honest → (bytes : List ℕ) × Consumes (R.remaining input.old) (R.remaining input.new) bytes
-        × IsSessionOver F.stores F.state F.is_version F.are_two F.is_used_up F.lasts Look (F.Device.disk disk) (F.Device.failures disk) bytes (R.remaining input.new)
-        (W.contents out.old) (W.contents out.new) result.0 (F.Device.disk result.1) (F.Device.failures result.1) }
+    ensures { IsTrue (F.Device.disk disk).honest → (bytes : List ℕ)
+        × Consumes (R.remaining input.old) (R.remaining input.new) bytes
+        × IsSessionOver F.stores F.state F.is_version F.are_two F.is_used_up F.lasts Look (F.Device.disk disk)
+        (F.Device.failures disk) bytes (R.remaining input.new) (seen state W.contents out.old moments.old)
+        (seen state W.contents out.new moments.new) result.0 (F.Device.disk result.1) (F.Device.failures result.1) }
 {
-    lines_over::<F, R, W, E>(alloc, disk, Lines::Look, input, out, told)
+    lines_over::<F, R, W, E>(alloc, disk, Lines::Look, input, out, told, moments)
 }
 
 /// The same where these lines are taken.
@@ -81,14 +89,25 @@ pub fn lines_over<F: Versions, R: Read, W: Write, E: Write>(
     input: &mut R,
     out: &mut W,
     told: &mut E,
+    moments: &mut Moments<FileSolver<F>, W>,
 ) -> (u8, F::Device)
-    ensures { IsTrue (F.Device.disk disk).honest → (bytes : List ℕ) × Consumes (R.remaining input.old) (R.remaining input.new) bytes
-        × IsSessionOver F.stores F.state F.is_version F.are_two F.is_used_up F.lasts lines (F.Device.disk disk) (F.Device.failures disk) bytes (R.remaining input.new)
-        (W.contents out.old) (W.contents out.new) result.0 (F.Device.disk result.1) (F.Device.failures result.1) }
+    ensures { IsTrue (F.Device.disk disk).honest → (bytes : List ℕ)
+        × Consumes (R.remaining input.old) (R.remaining input.new) bytes
+        × IsSessionOver F.stores F.state F.is_version F.are_two F.is_used_up F.lasts lines (F.Device.disk disk)
+        (F.Device.failures disk) bytes (R.remaining input.new) (seen state W.contents out.old moments.old)
+        (seen state W.contents out.new moments.new) result.0 (F.Device.disk result.1) (F.Device.failures result.1) }
 {
     match FileSolver::<F>::open(alloc, disk) {
         Ok(mut solver) => {
-            let status = lines_on::<F, R, W, E>(alloc, &mut solver, lines, input, out, told);
+            let status = lines_on::<F, R, W, E>(
+                alloc,
+                &mut solver,
+                lines,
+                input,
+                out,
+                told,
+                moments,
+            );
             (status, solver.close())
         }
         Err(refused) => (refuse(refused.fault, out, told), refused.disk),
@@ -103,19 +122,23 @@ pub fn lines_on<F: Versions, R: Read, W: Write, E: Write>(
     input: &mut R,
     out: &mut W,
     told: &mut E,
+    moments: &mut Moments<FileSolver<F>, W>,
 ) -> u8
     ensures ready { IsReady solver.old → IsReady solver.new }
     ensures honest { IsReady solver.old → IsTrue (state solver.old).disk.honest → IsTrue (state solver.new).disk.honest }
-    ensures came { IsReady solver.old → IsTrue (state solver.old).disk.honest → (bytes : List ℕ) × (ends : SessionState F F.Version)
+    ensures came { IsReady solver.old → IsTrue (state solver.old).disk.honest
+        → (bytes : List ℕ) × (ends : SessionState F F.Version)
         × Consumes (R.remaining input.old) (R.remaining input.new) bytes
-        × IsSession F.stores F.state F.is_version F.are_two F.is_used_up F.lasts bytes (first_state solver.old.file lines) ends (R.remaining input.new) (W.contents out.old) (W.contents out.new) result
+        × IsSession F.stores F.state F.is_version F.are_two F.is_used_up F.lasts
+        bytes (first_state solver.old.file lines) ends (R.remaining input.new)
+        (seen state W.contents out.old moments.old) (seen state W.contents out.new moments.new) result
         × (state solver.new ≡ F.state ends.file) }
 {
     let mut manner = match lines {
         Lines::Session => Manner::Work(Vec::new(alloc)),
         Lines::Look => Manner::Look,
     };
-    let status = answer_all(alloc, solver, &mut manner, input, out, told);
+    let status = answer_all(alloc, solver, &mut manner, input, out, told, moments);
     match manner {
         Manner::Work(listings) => give_back(solver, listings),
         Manner::Look => {}
@@ -152,11 +175,17 @@ fn answer_all<F: Versions, R: Read, W: Write, E: Write>(
     input: &mut R,
     out: &mut W,
     told: &mut E,
+    moments: &mut Moments<FileSolver<F>, W>,
 ) -> u8
     ensures ready { IsReady solver.old → IsReady solver.new }
-    ensures honest { IsReady solver.old → IsTrue (state solver.old).disk.honest → IsTrue (state solver.new).disk.honest }
-    ensures came { IsReady solver.old → IsTrue (state solver.old).disk.honest → (bytes : List ℕ) × Consumes (R.remaining input.old) (R.remaining input.new) bytes
-        × IsSession F.stores F.state F.is_version F.are_two F.is_used_up F.lasts bytes (session_state solver.old.file manner.old) (session_state solver.new.file manner.new) (R.remaining input.new) (W.contents out.old) (W.contents out.new) result }
+    ensures honest { IsReady solver.old → IsTrue (state solver.old).disk.honest
+        → IsTrue (state solver.new).disk.honest }
+    ensures came { IsReady solver.old → IsTrue (state solver.old).disk.honest → (bytes : List ℕ)
+        × Consumes (R.remaining input.old) (R.remaining input.new) bytes
+        × IsSession F.stores F.state F.is_version F.are_two F.is_used_up F.lasts
+        bytes (session_state solver.old.file manner.old) (session_state solver.new.file manner.new)
+        (R.remaining input.new)
+        (seen state W.contents out.old moments.old) (seen state W.contents out.new moments.new) result }
 {
     let mut line = Line::new(alloc);
     let mut chunk = [0; 4096];
@@ -164,7 +193,7 @@ fn answer_all<F: Versions, R: Read, W: Write, E: Write>(
     for _turn in 0..u64::MAX {
         let count = match input.read(&mut chunk) {
             Ok(0) => {
-                let ended = answer_last(alloc, solver, manner, &line, out, told);
+                let ended = answer_last(alloc, solver, manner, &line, out, told, moments);
                 return ended.unwrap_or(0);
             }
             Ok(count) => count,
@@ -172,7 +201,9 @@ fn answer_all<F: Versions, R: Read, W: Write, E: Write>(
             Err(_) => return 4,
         };
         let bytes = &chunk[..count];
-        if let Some(status) = answer_chunk(alloc, solver, manner, &mut line, bytes, out, told) {
+        if let Some(status) = answer_chunk(
+            alloc, solver, manner, &mut line, bytes, out, told, moments,
+        ) {
             return status;
         }
     }
@@ -189,15 +220,20 @@ fn answer_chunk<F: Versions, W: Write, E: Write>(
     chunk: &[u8],
     out: &mut W,
     told: &mut E,
+    moments: &mut Moments<FileSolver<F>, W>,
 ) -> Option<u8>
     ensures ready { IsReady solver.old → IsReady solver.new }
-    ensures honest { IsReady solver.old → IsTrue (state solver.old).disk.honest → IsTrue (state solver.new).disk.honest }
-    ensures came { IsReady solver.old → IsTrue (state solver.old).disk.honest → (bytes : List ℕ) (begins : SessionState F F.Version) (before : Option (List ℕ))
-        → IsUnderWay F.stores F.state F.is_version F.are_two F.is_used_up F.lasts bytes begins before (session_state solver.old.file manner.old) line.old (W.contents out.old)
-        → Continues F.stores F.state F.is_version F.are_two F.is_used_up F.lasts (bytes ++ chunk.now) begins before (session_state solver.new.file manner.new) line.new (W.contents out.new) result }
+    ensures honest { IsReady solver.old → IsTrue (state solver.old).disk.honest
+        → IsTrue (state solver.new).disk.honest }
+    ensures came { IsReady solver.old → IsTrue (state solver.old).disk.honest
+        → (bytes : List ℕ) (begins : SessionState F F.Version) (before : Seen)
+        → IsUnderWay F.stores F.state F.is_version F.are_two F.is_used_up F.lasts bytes begins before
+        (session_state solver.old.file manner.old) line.old (seen state W.contents out.old moments.old)
+        → Continues F.stores F.state F.is_version F.are_two F.is_used_up F.lasts (bytes ++ chunk.now) begins before
+        (session_state solver.new.file manner.new) line.new (seen state W.contents out.new moments.new) result }
 {
     for byte in chunk {
-        let ended = answer_byte(alloc, solver, manner, line, *byte, out, told);
+        let ended = answer_byte(alloc, solver, manner, line, *byte, out, told, moments);
         if ended.is_some() {
             return ended;
         }
@@ -214,12 +250,17 @@ fn answer_byte<F: Versions, W: Write, E: Write>(
     byte: u8,
     out: &mut W,
     told: &mut E,
+    moments: &mut Moments<FileSolver<F>, W>,
 ) -> Option<u8>
     ensures ready { IsReady solver.old → IsReady solver.new }
-    ensures honest { IsReady solver.old → IsTrue (state solver.old).disk.honest → IsTrue (state solver.new).disk.honest }
-    ensures came { IsReady solver.old → IsTrue (state solver.old).disk.honest → (bytes : List ℕ) (begins : SessionState F F.Version) (before : Option (List ℕ))
-        → IsUnderWay F.stores F.state F.is_version F.are_two F.is_used_up F.lasts bytes begins before (session_state solver.old.file manner.old) line.old (W.contents out.old)
-        → Continues F.stores F.state F.is_version F.are_two F.is_used_up F.lasts (bytes ++ byte ∷ []) begins before (session_state solver.new.file manner.new) line.new (W.contents out.new) result }
+    ensures honest { IsReady solver.old → IsTrue (state solver.old).disk.honest
+        → IsTrue (state solver.new).disk.honest }
+    ensures came { IsReady solver.old → IsTrue (state solver.old).disk.honest
+        → (bytes : List ℕ) (begins : SessionState F F.Version) (before : Seen)
+        → IsUnderWay F.stores F.state F.is_version F.are_two F.is_used_up F.lasts bytes begins before
+        (session_state solver.old.file manner.old) line.old (seen state W.contents out.old moments.old)
+        → Continues F.stores F.state F.is_version F.are_two F.is_used_up F.lasts (bytes ++ byte ∷ []) begins before
+        (session_state solver.new.file manner.new) line.new (seen state W.contents out.new moments.new) result }
 {
     if byte != b'\n' {
         return match line.push(byte) {
@@ -227,7 +268,7 @@ fn answer_byte<F: Versions, W: Write, E: Write>(
             Err(_) => Some(refuse(SolverFault::OutOfMemory, out, told)),
         };
     }
-    let ended = answer_ended(alloc, solver, manner, line, out, told);
+    let ended = answer_ended(alloc, solver, manner, line, out, told, moments);
     line.clear();
     ended
 }
@@ -240,16 +281,21 @@ fn answer_ended<F: Versions, W: Write, E: Write>(
     line: &Line,
     out: &mut W,
     told: &mut E,
+    moments: &mut Moments<FileSolver<F>, W>,
 ) -> Option<u8>
     ensures ready { IsReady solver.old → IsReady solver.new }
-    ensures honest { IsReady solver.old → IsTrue (state solver.old).disk.honest → IsTrue (state solver.new).disk.honest }
-    ensures came { IsReady solver.old → IsTrue (state solver.old).disk.honest → (bytes : List ℕ) → HasRead line.now bytes
-        → OutcomeOf F.stores F.state F.is_version F.are_two F.is_used_up F.lasts WithEnd bytes (session_state solver.old.file manner.old) (session_state solver.new.file manner.new)
-        (W.contents out.old) (W.contents out.new) result }
+    ensures honest { IsReady solver.old → IsTrue (state solver.old).disk.honest
+        → IsTrue (state solver.new).disk.honest }
+    ensures came { IsReady solver.old → IsTrue (state solver.old).disk.honest → (bytes : List ℕ)
+        → HasRead line.now bytes → OutcomeOf F.stores F.state F.is_version F.are_two F.is_used_up F.lasts WithEnd
+        bytes (session_state solver.old.file manner.old) (session_state solver.new.file manner.new)
+        (seen state W.contents out.old moments.old) (seen state W.contents out.new moments.new) result }
 {
     match manner {
-        Manner::Work(listings) => answer(alloc, solver, listings, line.asked(), out, told),
-        Manner::Look => answer_look(alloc, solver, line.looked(), out, told),
+        Manner::Work(listings) => {
+            answer(alloc, solver, listings, line.asked(), out, told, moments)
+        }
+        Manner::Look => answer_look(alloc, solver, line.looked(), out, told, moments),
     }
 }
 
@@ -261,16 +307,29 @@ fn answer_last<F: Versions, W: Write, E: Write>(
     line: &Line,
     out: &mut W,
     told: &mut E,
+    moments: &mut Moments<FileSolver<F>, W>,
 ) -> Option<u8>
     ensures ready { IsReady solver.old → IsReady solver.new }
-    ensures honest { IsReady solver.old → IsTrue (state solver.old).disk.honest → IsTrue (state solver.new).disk.honest }
-    ensures came { IsReady solver.old → IsTrue (state solver.old).disk.honest → (bytes : List ℕ) → HasRead line.now bytes
-        → OutcomeOf F.stores F.state F.is_version F.are_two F.is_used_up F.lasts AsItIs bytes (session_state solver.old.file manner.old) (session_state solver.new.file manner.new)
-        (W.contents out.old) (W.contents out.new) result }
+    ensures honest { IsReady solver.old → IsTrue (state solver.old).disk.honest
+        → IsTrue (state solver.new).disk.honest }
+    ensures came { IsReady solver.old → IsTrue (state solver.old).disk.honest → (bytes : List ℕ)
+        → HasRead line.now bytes → OutcomeOf F.stores F.state F.is_version F.are_two F.is_used_up F.lasts AsItIs
+        bytes (session_state solver.old.file manner.old) (session_state solver.new.file manner.new)
+        (seen state W.contents out.old moments.old) (seen state W.contents out.new moments.new) result }
 {
     match manner {
-        Manner::Work(listings) => answer(alloc, solver, listings, line.asked_last(), out, told),
-        Manner::Look => answer_look(alloc, solver, line.looked_last(), out, told),
+        Manner::Work(listings) => {
+            answer(
+                alloc,
+                solver,
+                listings,
+                line.asked_last(),
+                out,
+                told,
+                moments,
+            )
+        }
+        Manner::Look => answer_look(alloc, solver, line.looked_last(), out, told, moments),
     }
 }
 
@@ -282,18 +341,23 @@ fn answer<F: Versions, W: Write, E: Write>(
     asked: Asked<'_>,
     out: &mut W,
     told: &mut E,
+    moments: &mut Moments<FileSolver<F>, W>,
 ) -> Option<u8>
     ensures ready { IsReady solver.old → IsReady solver.new }
-    ensures honest { IsReady solver.old → IsTrue (state solver.old).disk.honest → IsTrue (state solver.new).disk.honest }
+    ensures honest { IsReady solver.old → IsTrue (state solver.old).disk.honest
+        → IsTrue (state solver.new).disk.honest }
     ensures came { IsReady solver.old → IsTrue (state solver.old).disk.honest → LineOutcome
-        (λ status text. IsLineAnswered F.stores F.state F.is_version F.are_two F.is_used_up F.lasts solver.old.file solver.new.file listings.old.items listings.new.items status text asked.entry)
-        ((asked.entry ≡ Quit) × (solver.new ≡ solver.old) × (listings.new ≡ listings.old))
-        (W.contents out.old) (W.contents out.new) result }
+        (λ status text. IsLineAnswered F.stores F.state F.is_version F.are_two F.is_used_up F.lasts
+        solver.old.file solver.new.file listings.old.items listings.new.items status text asked.entry)
+        ((asked.entry ≡ Quit) × (solver.new ≡ solver.old) × (listings.new ≡ listings.old)) (state solver.new).disk
+        (seen state W.contents out.old moments.old) (seen state W.contents out.new moments.new) result }
 {
     match asked {
         Asked::Quit => Some(0),
-        Asked::Listing(about) => ended_by(put_listing(alloc, solver, listings, about, out, told)),
-        asked => ended_by(put_answer(alloc, solver, asked, out, told)),
+        Asked::Listing(about) => ended_by(put_listing(
+            alloc, solver, listings, about, out, told, moments,
+        )),
+        asked => ended_by(put_answer(alloc, solver, asked, out, told, moments)),
     }
 }
 
@@ -304,21 +368,25 @@ fn answer_look<F: Versions, W: Write, E: Write>(
     looked: Looked<'_>,
     out: &mut W,
     told: &mut E,
+    moments: &mut Moments<FileSolver<F>, W>,
 ) -> Option<u8>
     ensures ready { IsReady solver.old → IsReady solver.new }
-    ensures honest { IsReady solver.old → IsTrue (state solver.old).disk.honest → IsTrue (state solver.new).disk.honest }
+    ensures honest { IsReady solver.old → IsTrue (state solver.old).disk.honest
+        → IsTrue (state solver.new).disk.honest }
     ensures came { IsReady solver.old → LineOutcome
-        (λ status text. IsLookAnswered F.stores F.state F.is_version F.are_two F.is_used_up F.lasts looked.entry solver.old.file solver.new.file status text)
-        ((looked.entry ≡ LookQuit) × (solver.new ≡ solver.old))
-        (W.contents out.old) (W.contents out.new) result }
+        (λ status text. IsLookAnswered F.stores F.state F.is_version F.are_two F.is_used_up F.lasts
+        looked.entry solver.old.file solver.new.file status text)
+        ((looked.entry ≡ LookQuit) × (solver.new ≡ solver.old)) (state solver.new).disk
+        (seen state W.contents out.old moments.old) (seen state W.contents out.new moments.new) result }
 {
     match looked {
         Looked::Quit => Some(0),
-        looked => ended_by(put_looked(alloc, solver, looked, out, told)),
+        looked => ended_by(put_looked(alloc, solver, looked, out, told, moments)),
     }
 }
 
-/// The status with which a session ends behind a reply, if it does: a refusal by more than 1, and 4 where the output failed.
+/// The status with which a session ends behind a reply, if it does: a refusal by more than 1, and 4 where the output
+/// failed.
 fn ended_by(replied: io::Result<u8>) -> Option<u8>
     ensures written { IfOk replied (λ status. (1 < status → result ≡ Some status) × (status ≤ 1 → result ≡ None)) }
     ensures unwritten { OnErr replied (result ≡ Some 4) }

@@ -6,6 +6,7 @@ use crate::open::{Purpose, opened};
 use crate::program::status_of_refused;
 use file_disk::FileDisk;
 use recover::TableFile;
+use session_lines::moments::Moments;
 use session_lines::refused::Refused;
 use std::alloc::Global;
 use std::io::{self, BufWriter};
@@ -47,6 +48,7 @@ fn answer(rt: &HostRuntime, alloc: Global, disk: FileDisk, lines: Lines, is_quie
             &mut input,
             &mut out,
             &mut io::sink(),
+            &mut Moments::new(),
         )
     } else {
         lines_over::<TableFile<FileDisk>, _, _, _>(
@@ -56,6 +58,7 @@ fn answer(rt: &HostRuntime, alloc: Global, disk: FileDisk, lines: Lines, is_quie
             &mut input,
             &mut out,
             &mut rt.stderr(),
+            &mut Moments::new(),
         )
     };
     status

@@ -6,7 +6,7 @@ use Rattle.rbg_game.specs.Sound.{IsSoundGame}
 use Rattle.rbg_game.specs.Positions.{IsPositionOf}
 use Rattle.rbg_game.specs.declared.position.Position.{Position}
 use Rattle.legal_moves.specs.Moves.{HasNoMove}
-use Rattle.legal_moves.specs.Listed.{ShownMove, AreMoves, IsShownMove, IsShortestMove}
+use Rattle.legal_moves.specs.Listed.{ShownMove, AreMoves, IsShownMove}
 use Rattle.position_pack.specs.Bytes.{bytes_of}
 use Rattle.session_lines.specs.aid.Lines.{HasPosition, SaysMoves}
 use Rattle.session_lines.specs.Answers.{status_of, refusal_line, IsListing, IsUntold, TellsMoves}

@@ -1,5 +1,5 @@
 -- What is told of the moves of a position is the answer to the game text, or to the text of the position.
-use Rattle.std.proofs.Common.{◌≡◌, ◌⊎◌, inl, inr, ℕ, List, Option, Some, None, sym, subst}
+use Rattle.std.proofs.Common.{◌≡◌, ◌⊎◌, inl, inr, ℕ, List, Option, sym, subst}
 use Rattle.std.specs.Io.KnownBytes.{Appends}
 use Rattle.rbg_game.specs.Games.{Game}
 use Rattle.rbg_game.specs.declared.position.Position.{Position}

@@ -12,4 +12,5 @@ mod OneReply
 mod AskLemmas
 mod Telling
 mod Replying
+mod Plain
 pub mod LookLemmas

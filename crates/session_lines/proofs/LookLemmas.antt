@@ -1,11 +1,11 @@
 -- What a line asks for in a session that only looks.
-use Rattle.std.proofs.Common.{◌≡◌, ◌≢◌, inl, inr, ℕ, List, [], ◌∷◌, ◌++◌, length, refl, ap, sym, ◌∙◌, subst, arith}
+use Rattle.std.proofs.Common.{◌≡◌, ◌≢◌, inl, inr, ℕ, List, [], ◌∷◌, length, refl, ap, sym, ◌∙◌, subst, arith}
 use Rattle.std.specs.Prelude.{codes}
 use Rattle.session_lines.specs.declared.input.Asked.{Asked}
 use Rattle.session_lines.specs.declared.looked.Looked.{Looked}
 use Rattle.session_lines.specs.declared.looked.Looked.TheVariants.{Game, Usage}
 use Rattle.session_lines.specs.Asked.{AsksInWords, BeginsWith, IsBlank, WritesNumber}
-use Rattle.session_lines.specs.Looked.{GameBehind, HasOtherWord, LooksInWords, MovesBehind, SayMoves, ValueIn, as_look}
+use Rattle.session_lines.specs.Looked.{GameBehind, HasOtherWord, LooksInWords, MovesBehind, SayMoves, as_look}
 use Rattle.session_lines.specs.aid.Words.{IsFirstWord}
 
 -- the first word is this one, and this is after it

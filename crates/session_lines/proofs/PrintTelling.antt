@@ -1,15 +1,9 @@
 -- What is told of a table.
-use Rattle.std.proofs.Common.{◌≡◌, ◌⊎◌, inl, inr, ℕ, List, [], ◌∷◌, ◌++◌, ap, ◌∙◌, append_assoc, Option, Result, Ok, Err}
-use Rattle.std.specs.Prelude.{OnOk, codes}
-use Rattle.std.specs.Fmt.{decimal}
+use Rattle.std.proofs.Common.{◌≡◌, ◌⊎◌, inl, inr, ℕ, List, Option, Result, Ok, Err}
+use Rattle.std.specs.Prelude.{OnOk}
 use Rattle.std.specs.Io.KnownBytes.{Appends}
 use Rattle.retrograde.specs.declared.records.Counts.{Counts}
 use Rattle.best_line.specs.Values.{IsComplete}
-use Rattle.audit.specs.declared.verdict.Reason.{Reason}
-use Rattle.audit.specs.declared.verdict.Verdict.TheVariants.{Wrong}
-use Rattle.session_lines.specs.Counted.{IsCountsLine, IsWorkLine}
-use Rattle.session_lines.specs.Verdicts.{code_of_reason, IsVerdictLine}
-use Rattle.session_lines.proofs.Appending.{appends_then}
 
 pub not_done : (counts : Counts) → ((counts.expanded ≡ counts.known) × (counts.processed ≡ counts.settled → ⊥)) ⊎ (counts.expanded ≡ counts.known → ⊥)
     → ¬ IsComplete counts

@@ -1,5 +1,6 @@
 -- What a session answers to a line, and what the line does.
-use Rattle.std.specs.Prelude.{◌≡◌, ◌⊎◌, ℕ, List, [], ◌∷◌, ◌++◌, codes, Option, Some, option_map, IsTrue}
+use Rattle.std.specs.Prelude.{◌≡◌, ◌⊎◌, ℕ, List, [], ◌∷◌, ◌++◌, codes, Option, Some, option_map, IsTrue, Result, Ok, Err}
+use Rattle.std.specs.Global.{Vec}
 use Rattle.std.specs.List.{flat_map}
 use Rattle.std.specs.Fmt.{decimal}
 use Rattle.rbg_game.specs.Games.{Game}
@@ -91,6 +92,17 @@ status_of_fault _ = 1
 abbrev pub status_of_reply : Reply → ℕ
 status_of_reply (answer.Refused fault) = status_of_fault fault
 status_of_reply _ = 0
+
+-- these bytes with status 0, or this refusal with its own
+abbrev pub IsTextOrRefusal : Result (Vec ℕ) SolverFault → ℕ → List ℕ → Type 0
+IsTextOrRefusal (Ok text) status line = (status ≡ 0) × (line ≡ text.items)
+IsTextOrRefusal (Err why) status line = (status ≡ status_of_fault why) × (line ≡ fault_line why)
+
+-- a line that neither works nor asks about positions
+abbrev pub IsPlain : Asked → Type 0
+IsPlain (asked.Work units) = ⊥
+IsPlain (asked.Question about) = ⊥
+IsPlain _ = Unit {0}
 
 -- the counts of the table that is kept, in a line; said of an honest disk
 pub record SaysStatus (state : State) (line : List ℕ) : Type 0 where

@@ -19,6 +19,7 @@ pub mod Known
 pub mod Verdicts
 pub mod Told
 pub mod Parts
+pub mod Moments
 pub mod Asked
 pub mod Answered
 pub mod Listed

@@ -8,10 +8,9 @@ use Rattle.best_line.specs.declared.known.KnownMoves.{KnownMoves}
 use Rattle.game_file.specs.Calls.{IsAsked}
 use Rattle.game_file.specs.Kept.{Kept, Layout, text_kept}
 use Rattle.game_file.specs.State.{State}
-use Rattle.solver.specs.declared.fault.SolverFault.{SolverFault}
 use Rattle.solver.specs.declared.fault.SolverFault.TheVariants.{NoGame}
 use Rattle.solver.specs.Moves.{HasMoves, HasValueByText, MovesCause}
-use Rattle.solver.specs.Queries.{IsGameOf, Tells, FindCause}
+use Rattle.solver.specs.Queries.{IsGameOf, FindCause}
 use Rattle.session_lines.specs.Known.{known_lines}
 use Rattle.session_lines.specs.Replies.{value_text}
 use Rattle.session_lines.specs.Answered.{IsAnsweredOrRefused, IsAnswerTo, QuestionCause, SaysStatus, status_of_fault}
@@ -42,6 +41,13 @@ abbrev pub IsGameReplied : State → ℕ → List ℕ → Type 0
 IsGameReplied old status line =
     ((status ≡ 0) × (text_kept old.kept ≡ Some line))
     ⊎ ((old.kept ≡ None) × (status ≡ status_of_fault NoGame) × (line ≡ fault_line NoGame))
+
+-- a line that does not ask about positions
+abbrev pub IsPlainLook : Looked → Type 0
+IsPlainLook (looked.Question about) = ⊥
+IsPlainLook (looked.Moves number) = ⊥
+IsPlainLook (looked.ValueOf position) = ⊥
+IsPlainLook _ = Unit {0}
 
 -- what is done for a line that asks this, whether its reply can be written or not: a question changes nothing that is kept, and else
 -- nothing is done

@@ -10,6 +10,7 @@ pub mod listing_laws;
 pub mod listings;
 pub mod looked;
 pub mod looks;
+pub mod moments;
 mod move_lines;
 pub mod moves;
 mod numbers;

@@ -12,11 +12,13 @@ ghost use Rattle.solver.specs.declared.listing.Listing.{Listing};
 ghost use Rattle.solver.specs.declared.fault.SolverFault.{SolverFault};
 ghost use Rattle.session_lines.specs.Answered.{status_of_fault};
 ghost use Rattle.session_lines.specs.Listed.{IsNextText, IsNextTold, IsNoneOpen, IsNext, IsListingReplied, AllLast};
+ghost use Rattle.session_lines.specs.Moments.{noted_in};
 ghost use Rattle.session_lines.specs.Parts.{AppendsPart};
 ghost use Rattle.session_lines.specs.Told.{fault_line};
 
 use crate::input::ListingLine;
-use crate::questions::{put_done, put_fault};
+use crate::moments::Moments;
+use crate::questions::{put_done, put_fault, put_text};
 use crate::replies::row_lines;
 use game_file::Versions;
 use solver::{FileSolver, Listing, SolverFault, Units};
@@ -24,7 +26,8 @@ use std::alloc::{AllocFailed, Global};
 use std::io::{self, Write};
 
 /// Writes the reply to a line about listings at once, and gives the exit status that belongs to it. `begin` puts a listing after
-/// those that are open; `next` and `end` act on the last one, and where none is open they are answered `usage`.
+/// those that are open; `next` and `end` act on the last one, and where none is open they are answered `usage`. The moment at which the
+/// reply begins is noted.
 pub fn put_listing<F: Versions, W: Write, E: Write>(
     alloc: Global,
     solver: &mut FileSolver<F>,
@@ -32,6 +35,7 @@ pub fn put_listing<F: Versions, W: Write, E: Write>(
     line: ListingLine,
     out: &mut W,
     told: &mut E,
+    moments: &mut Moments<FileSolver<F>, W>,
 ) -> io::Result<u8>
     ensures ready { IsReady solver.old → IsReady solver.new }
     ensures asked { IsReady solver.old → IsTrue (state solver.old).disk.honest → IsAsked F.stores (state solver.old) (state solver.new) }
@@ -43,15 +47,24 @@ pub fn put_listing<F: Versions, W: Write, E: Write>(
         × IsListingReplied F.state F.is_version F.are_two line (F.is_used_up solver.old.file) solver.old.file solver.new.file
         listings.old.items listings.new.items status text
         × AppendsPart (W.contents out.old) (W.contents out.new) text) }
+    ensures noted { noted_in moments.new ≡ noted_in moments.old ++ (solver.new, out.old) ∷ [] }
 {
     match line {
-        ListingLine::Begin => match begin(solver, listings) {
-            Ok(()) => put_done(out, b"listing\n"),
-            Err(fault) => put_fault(fault, out, told),
-        },
-        ListingLine::Next(count) => put_next_of_last(alloc, solver, listings, count, out, told),
+        ListingLine::Begin => {
+            let begun = begin(solver, listings);
+            moments.note(solver, out);
+            match begun {
+                Ok(()) => put_done(out, b"listing\n"),
+                Err(fault) => put_fault(fault, out, told),
+            }
+        }
+        ListingLine::Next(count) => {
+            put_next_of_last(alloc, solver, listings, count, out, told, moments)
+        }
         ListingLine::End => {
-            if end(solver, listings) {
+            let ended = end(solver, listings);
+            moments.note(solver, out);
+            if ended {
                 put_done(out, b"ended\n")
             } else {
                 put_done(out, b"usage\n")
@@ -138,6 +151,7 @@ fn put_next<F: Versions, W: Write, E: Write>(
     count: Units,
     out: &mut W,
     told: &mut E,
+    moments: &mut Moments<FileSolver<F>, W>,
 ) -> io::Result<u8>
     ensures ready { IsReady solver.old → IsReady solver.new }
     ensures asked { IsReady solver.old → IsAsked F.stores (state solver.old) (state solver.new) }
@@ -151,11 +165,11 @@ fn put_next<F: Versions, W: Write, E: Write>(
         × (IsSome (state solver.old).kept → (table : Stored (List ℕ)) → IsTable table → F.is_version listing.old.version table solver.old.file
         → IsNextTold F.state F.is_version F.are_two (units_in count) solver.old.file solver.new.file table listing.old.next listing.new.next status line)
         × AppendsPart (W.contents out.old) (W.contents out.new) line) }
+    ensures noted { noted_in moments.new ≡ noted_in moments.old ++ (solver.new, out.old) ∷ [] }
 {
-    match next_text(alloc, solver, listing, count) {
-        Ok(text) => put_done(out, &text),
-        Err(fault) => put_fault(fault, out, told),
-    }
+    let answered = next_text(alloc, solver, listing, count);
+    moments.note(solver, out);
+    put_text(answered, out, told)
 }
 
 /// Writes the lines of the next rows of the listing that was begun last, or the refusal; `usage` where none is open.
@@ -166,6 +180,7 @@ fn put_next_of_last<F: Versions, W: Write, E: Write>(
     count: Units,
     out: &mut W,
     told: &mut E,
+    moments: &mut Moments<FileSolver<F>, W>,
 ) -> io::Result<u8>
     ensures ready { IsReady solver.old → IsReady solver.new }
     ensures asked { IsReady solver.old → IsAsked F.stores (state solver.old) (state solver.new) }
@@ -177,11 +192,13 @@ fn put_next_of_last<F: Versions, W: Write, E: Write>(
         × ((IsNoneOpen listings.old.items listings.new.items status text × AllLast F.is_version solver.old.file solver.new.file)
         ⊎ IsNext F.state F.is_version F.are_two (units_in count) solver.old.file solver.new.file listings.old.items listings.new.items status text)
         × AppendsPart (W.contents out.old) (W.contents out.new) text) }
+    ensures noted { noted_in moments.new ≡ noted_in moments.old ++ (solver.new, out.old) ∷ [] }
 {
     let Some(mut listing) = listings.pop() else {
+        moments.note(solver, out);
         return put_done(out, b"usage\n");
     };
-    let written = put_next(alloc, solver, &mut listing, count, out, told);
+    let written = put_next(alloc, solver, &mut listing, count, out, told, moments);
     listings.push_reserved(listing);
     written
 }

@@ -1,6 +1,6 @@
 //! What a session replies to its lines.
 
-ghost use Rattle.std.specs.Prelude.{◌≡◌, ◌⊎◌, ℕ, List, true, IfOk, IfErr, OnOk, OnErr, IsErrOf};
+ghost use Rattle.std.specs.Prelude.{◌≡◌, ◌∷◌, ◌++◌, [], ℕ, List, IfOk, IfErr, OnOk, OnErr};
 ghost use Rattle.std.specs.Io.KnownBytes.{Appends};
 ghost use Rattle.game_file.specs.Calls.{IsAsked};
 ghost use Rattle.solver.specs.Machine.{work as work_on};
@@ -9,12 +9,14 @@ ghost use Rattle.solver.specs.Queries.{Tells, NumberCause, LineCause, ShowCause,
 ghost use Rattle.solver.specs.Solvers.{state, IsReady};
 ghost use Rattle.solver.specs.Units.{units_in};
 ghost use Rattle.session_lines.specs.Answered.{IsValueLine, AreRowLines, IsPlayLine, IsShownLine, IsFoundLine, IsAnswerTo, QuestionCause};
-ghost use Rattle.session_lines.specs.Answered.{status_of_fault, IsDoneFor, IsReplied, IsWorkReplied};
+ghost use Rattle.session_lines.specs.Answered.{status_of_fault, IsDoneFor, IsPlain, IsReplied, IsTextOrRefusal, IsWorkReplied};
+ghost use Rattle.session_lines.specs.Moments.{noted_in};
 ghost use Rattle.session_lines.specs.Parts.{AppendsPart};
 ghost use Rattle.session_lines.specs.Told.{fault_line};
 
 use crate::advice::{tell_fault, tell_full};
 use crate::input::{Asked, Question, SESSION_LINES};
+use crate::moments::Moments;
 use crate::puts::{put_line, put_refused, put_reply, status_of};
 use crate::replies::{found_line, numbers_line, put_status, row_lines, value_line};
 use game_file::GameFile;
@@ -24,13 +26,15 @@ use std::io::{self, Write};
 
 /// Writes the reply to a line at once, and gives the exit status that belongs to it: 0, or that of the
 /// refusal. A line without a word has no reply, and neither has `quit`. What a refusal means goes to `told`. A line about listings is
-/// answered `usage`, as where none are kept: whoever keeps them answers it by `put_listing`.
+/// answered `usage`, as where none are kept: whoever keeps them answers it by `put_listing`. The moment at which the reply begins is
+/// noted: what the line does is done then.
 pub fn put_answer<F: GameFile, W: Write, E: Write>(
     alloc: Global,
     solver: &mut FileSolver<F>,
     asked: Asked<'_>,
     out: &mut W,
     told: &mut E,
+    moments: &mut Moments<FileSolver<F>, W>,
 ) -> io::Result<u8>
     ensures ready { IsReady solver.old → IsReady solver.new }
     ensures lasts { F.lasts solver.old.file solver.new.file }
@@ -41,10 +45,38 @@ pub fn put_answer<F: GameFile, W: Write, E: Write>(
     ensures untold { IsReady solver.old → OnErr result ((status : ℕ) × (line : List ℕ)
         × IsReplied F.stores asked.entry (state solver.old) (state solver.new) status line
         × AppendsPart (W.contents out.old) (W.contents out.new) line) }
+    ensures noted { noted_in moments.new ≡ noted_in moments.old ++ (solver.new, out.old) ∷ [] }
+{
+    match asked {
+        Asked::Work(units) => put_worked(solver, units, out, told, moments),
+        Asked::Question(question) => {
+            let answered = text_of(alloc, solver, question);
+            moments.note(solver, out);
+            put_text(answered, out, told)
+        }
+        asked => {
+            moments.note(solver, out);
+            put_plain(solver, asked, out, told)
+        }
+    }
+}
+
+/// Writes the reply to a line that neither works nor asks about positions.
+fn put_plain<F: GameFile, W: Write, E: Write>(
+    solver: &FileSolver<F>,
+    asked: Asked<'_>,
+    out: &mut W,
+    told: &mut E,
+) -> io::Result<u8>
+    ensures replied { IsReady solver.now → IsPlain asked.entry → IfOk result (λ status. (line : List ℕ)
+        × IsReplied F.stores asked.entry (state solver.now) (state solver.now) status line
+        × Appends (W.contents out.old) (W.contents out.new) line) }
+    ensures untold { IsReady solver.now → IsPlain asked.entry → OnErr result ((status : ℕ) × (line : List ℕ)
+        × IsReplied F.stores asked.entry (state solver.now) (state solver.now) status line
+        × AppendsPart (W.contents out.old) (W.contents out.new) line) }
 {
     match asked {
         Asked::Nothing | Asked::Quit => Ok(0),
-        Asked::Usage | Asked::Listing(_) => put_done(out, b"usage\n"),
         Asked::Help => {
             let status = put_done(out, b"usage\n")?;
             let _told = writeln!(told, "{SESSION_LINES}");
@@ -54,11 +86,7 @@ pub fn put_answer<F: GameFile, W: Write, E: Write>(
             put_status(out, solver.status())?;
             Ok(0)
         }
-        Asked::Work(units) => put_worked(solver, units, out, told),
-        Asked::Question(question) => match text_of(alloc, solver, question) {
-            Ok(text) => put_done(out, &text),
-            Err(fault) => put_fault(fault, out, told),
-        },
+        _ => put_done(out, b"usage\n"),
     }
 }
 
@@ -87,12 +115,30 @@ pub fn put_fault<W: Write, E: Write>(
     Ok(status_of(fault))
 }
 
-/// Works, and writes the reply.
+/// Writes the text that was asked for, or the refusal, and gives its status.
+pub(crate) fn put_text<W: Write, E: Write>(
+    answered: Result<Vec<u8>, SolverFault>,
+    out: &mut W,
+    told: &mut E,
+) -> io::Result<u8>
+    ensures written { IfOk result (λ status. (line : List ℕ) × IsTextOrRefusal answered status line
+        × Appends (W.contents out.old) (W.contents out.new) line) }
+    ensures part { OnErr result ((status : ℕ) × (line : List ℕ) × IsTextOrRefusal answered status line
+        × AppendsPart (W.contents out.old) (W.contents out.new) line) }
+{
+    match answered {
+        Ok(text) => put_done(out, &text),
+        Err(fault) => put_fault(fault, out, told),
+    }
+}
+
+/// Works, notes the moment, and writes the reply.
 fn put_worked<F: GameFile, W: Write, E: Write>(
     solver: &mut FileSolver<F>,
     units: Units,
     out: &mut W,
     told: &mut E,
+    moments: &mut Moments<FileSolver<F>, W>,
 ) -> io::Result<u8>
     ensures ready { IsReady solver.old → IsReady solver.new }
     ensures lasts { F.lasts solver.old.file solver.new.file }
@@ -104,8 +150,11 @@ fn put_worked<F: GameFile, W: Write, E: Write>(
     ensures untold { IsReady solver.old → OnErr result ((status : ℕ) × (line : List ℕ)
         × IsWorkReplied F.stores (units_in units) (state solver.old) (state solver.new) status line
         × AppendsPart (W.contents out.old) (W.contents out.new) line) }
+    ensures noted { noted_in moments.new ≡ noted_in moments.old ++ (solver.new, out.old) ∷ [] }
 {
-    match solver.answer(&Command::Work(units)) {
+    let reply = solver.answer(&Command::Work(units));
+    moments.note(solver, out);
+    match reply {
         Reply::Refused(SolverFault::TableFull) => {
             put_refused(out, SolverFault::TableFull)?;
             tell_full(told, solver.capacity());

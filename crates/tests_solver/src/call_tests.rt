@@ -5,6 +5,7 @@ use recover::TableFile;
 use sector_disk::MemDisk;
 use session::commands::{FileCommand, command_on};
 use session::line_by_line::session_over;
+use session::moments::Moments;
 use session::moves::moves_to;
 use session::words::{Words, words_of};
 use std::alloc::Global;
@@ -30,7 +31,12 @@ pub fn session_says(alloc: Global, disk: MemDisk, lines: &str) -> (Said, MemDisk
     let mut told = Vec::new(alloc);
     let mut input = lines.as_bytes();
     let (status, disk) = session_over::<TableFile<MemDisk>, _, _, _>(
-        alloc, disk, &mut input, &mut out, &mut told,
+        alloc,
+        disk,
+        &mut input,
+        &mut out,
+        &mut told,
+        &mut Moments::new(),
     );
     ((status, out), disk)
 }

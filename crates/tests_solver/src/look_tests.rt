@@ -5,6 +5,7 @@ use recover::TableFile;
 use sector_disk::MemDisk;
 use session::commands::FileCommand;
 use session::line_by_line::look_over;
+use session::moments::Moments;
 use std::alloc::Global;
 use std::test::Fail;
 use test_aids::TAKE;
@@ -18,7 +19,12 @@ fn look_says(alloc: Global, disk: MemDisk, lines: &str) -> (Said, MemDisk) {
     let mut told = Vec::new(alloc);
     let mut input = lines.as_bytes();
     let (status, disk) = look_over::<TableFile<MemDisk>, _, _, _>(
-        alloc, disk, &mut input, &mut out, &mut told,
+        alloc,
+        disk,
+        &mut input,
+        &mut out,
+        &mut told,
+        &mut Moments::new(),
     );
     ((status, out), disk)
 }

@@ -1,6 +1,6 @@
 -- The rows that a session prints of one listing are those of its table.
-use Rattle.std.specs.Prelude.{◌≡◌, ◌+◌, ℕ, List, [], ◌++◌, length, Option, None, Some, IsTrue}
-use Rattle.std.proofs.Common.{refl, subst, ◌∙◌, inl, inr, arith}
+use Rattle.std.specs.Prelude.{ℕ, List, [], Option, None, Some, IsTrue}
+use Rattle.std.proofs.Common.{refl, subst, inl, inr, arith}
 use Rattle.retrograde.specs.Stored.{Stored, view_of}
 use Rattle.best_line.specs.declared.answers.Row.{Row}
 use Rattle.best_line.specs.Rows.{AreRows}

@@ -1,5 +1,7 @@
 use Rattle.std.proofs.Common.{[], ◌++◌, ap, take, ◌∙◌, arith}
 use Rattle.std.specs.Option.{unwrap_or}
+use Rattle.solver.specs.Solvers.{state}
+use Rattle.session.specs.Seen.{seen}
 use Rattle.session.specs.Sessions.{IsSession}
 use Rattle.session.proofs.InputLemmas.{consumes_nothing, consumes_none, consumes_then, consumes_and_keeps}
 use Rattle.session.proofs.Saying.{come_of_none}
@@ -13,7 +15,7 @@ loop-turn-init g c = (
   λ ready honest. (
     [],
     consumes_nothing (g.R.Read.remaining c.args.input.now),
-    nothing_read _ _ _ _ _ _ (g.W.Write.contents c.args.out.now) (come_of_none c.new-line.result c.new-line.ensures.empty c.new-line.ensures.short),
+    nothing_read _ _ _ _ _ _ (seen state g.W.Write.contents c.args.out.now c.args.moments.now) (come_of_none c.new-line.result c.new-line.ensures.empty c.new-line.ensures.short),
   ),
 )
 

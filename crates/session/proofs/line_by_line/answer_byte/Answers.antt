@@ -1,9 +1,10 @@
+use Rattle.std.proofs.Common.{refl}
 use Rattle.session.proofs.Saying.{come_of_none}
 use Rattle.session.proofs.UnderWay.{line_answered, no_room}
 use Rattle.session.proofs.line_by_line.answer_byte.Goals as goal
 
 pub returns-in-Err-clause-came : goal.returns-in-Err-clause-came
-returns-in-Err-clause-came g c = λ ready honest bytes begins before way. no_room _ _ _ _ _ _ c.args.byte way c.refuse.ensures
+returns-in-Err-clause-came g c = λ ready honest bytes begins before way. no_room _ _ _ _ _ _ c.args.byte way c.refuse.ensures refl
 
 pub returns-clause-came : goal.returns-clause-came
 returns-clause-came g c = λ ready honest bytes begins before way.

@@ -1,6 +1,7 @@
 use Rattle.std.proofs.Common.{refl, sym, subst}
 use Rattle.std.specs.Prelude.{IsTrue}
 use Rattle.session.specs.Sessions.{LineOutcome}
+use Rattle.session.proofs.Telling.{one_noted}
 use Rattle.session.proofs.UnderWay.{outcome_of, outcome_by, looked_honest}
 use Rattle.session.proofs.line_by_line.answer_look.Goals as goal
 
@@ -13,6 +14,6 @@ returns-in_default g c = record {
   honest = λ ready honest. subst IsTrue (sym (looked_honest _ c.args.looked _ _ (c.put_looked.ensures.done ready))) honest;
   came = λ ready.
       outcome_by (λ status text is. record { goes_on = c.in_default.not-Quit; at = c.put_looked.ensures.done ready; replied = is }) (λ q. q)
-      (outcome_of c.put_looked.result (c.put_looked.ensures.replied ready) (c.put_looked.ensures.untold ready) c.ended_by.ensures.written
-      c.ended_by.ensures.unwritten);
+      (outcome_of c.put_looked.result (c.put_looked.ensures.replied ready) (c.put_looked.ensures.untold ready)
+      (one_noted _ _ _ _ c.put_looked.ensures.noted) c.ended_by.ensures.written c.ended_by.ensures.unwritten);
 }

@@ -18,5 +18,5 @@ pub returns-in-Err : goal.returns-in-Err
 returns-in-Err g c = λ honest. (
   [],
   consumes_nothing (g.R.Read.remaining c.args.input.now),
-  IsSessionOver.unopened c.in-Err.refused.fault (c.in-Err.ensures.refused, c.in-Err.ensures.cause) refl c.refuse.ensures,
+  IsSessionOver.unopened c.in-Err.refused.fault (c.in-Err.ensures.refused, c.in-Err.ensures.cause) refl c.refuse.ensures refl,
 )

@@ -1,4 +1,4 @@
-use Rattle.std.proofs.Common.{rules, refl}
+use Rattle.std.proofs.Common.{rules}
 use Rattle.session_lines.specs.Looked.{LooksInWords}
 use Rattle.session_lines.proofs.AskLemmas.{ends_with_nothing, begins_with_space}
 use Rattle.session_lines.proofs.LookLemmas.{asks_moves, asks_game, asks_value, other_word}

@@ -1,4 +1,4 @@
-use Rattle.std.proofs.Common.{arith, subst, sym, ap, ◌+◌}
+use Rattle.std.proofs.Common.{arith}
 use Rattle.session_lines.proofs.Appending.{appends_and_keeps}
 use Rattle.session_lines.proofs.PartLemmas.{taken_part, taken_kept, taken_more}
 use Rattle.session_lines.proofs.puts.put_bytes.Goals as goal

@@ -1,4 +1,4 @@
-use Rattle.std.proofs.Common.{ℕ, List, codes, ◌++◌}
+use Rattle.std.proofs.Common.{codes}
 use Rattle.std.specs.Fmt.{decimal}
 use Rattle.session_lines.proofs.PartLemmas.{on_err, on_err_by, pieces_before, pieces_behind}
 use Rattle.session_lines.proofs.replies.put_fields.Goals as goal

@@ -1,4 +1,4 @@
-use Rattle.std.proofs.Common.{[], ◌∷◌, ◌++◌, ◌∙◌, codes, subst}
+use Rattle.std.proofs.Common.{[], ◌∷◌, ◌∙◌, codes, subst}
 use Rattle.std.specs.Fmt.{decimal}
 use Rattle.std.specs.Io.KnownBytes.{Appends}
 use Rattle.session_lines.specs.Parts.{AppendsPart}
