@@ -1,9 +1,14 @@
 -- Units of work, one after another.
-use Rattle.std.proofs.Common.{◌≡◌, ◌^◌, ◌≤◌, ◌+◌, ℕ, suc, subst, List, length, arith}
+use Rattle.std.proofs.Common.{◌≡◌, ◌^◌, ◌<◌, ◌≤◌, ◌+◌, ℕ, suc, ap, subst, List, length, arith}
+use Rattle.std.specs.Prelude.{Result, Ok, Err, OnErr}
+use Rattle.retrograde.specs.declared.records.Counts.{Counts}
+use Rattle.retrograde.specs.Changes.{counts_of}
 use Rattle.retrograde.specs.Graph.{Graph}
-use Rattle.retrograde.specs.Stored.{Stored, IsTable, view_of}
+use Rattle.retrograde.specs.Stored.{Stored, IsTable, view_of, expanded_count, processed_count}
+use Rattle.retrograde.specs.View.{IsFinished}
 use Rattle.retrograde.specs.Sound.{IsLocallySound}
 use Rattle.retrograde.specs.Successors.{packed_cmp}
+use Rattle.retrograde.proofs.Finished.{element}
 use Rattle.retrograde.proofs.Sound.{sound_right}
 use Rattle.retrograde.proofs.Units.{works_alone, works_along}
 use Rattle.game_table.specs.Units.{IsUnit, AreUnits}
@@ -21,3 +26,34 @@ pub one_unit_more : (graph : Graph (List ℕ)) (old mid new : Stored (List ℕ))
 one_unit_more graph old mid new n are table unit =
     let next : suc n ≡ n + 1 = omega arith in
     subst (λ (k : ℕ). AreUnits graph old k new) next (mid, are, table, unit)
+
+-- ---- a table that is refused a unit is not finished
+
+-- what is so is so of any answer
+pub on_refusal : {T E : Type 0} (result : Result T E) (So : Type 0) → So → OnErr result So
+on_refusal (Ok value) So so = tt
+on_refusal (Err fault) So so = so
+
+module _ (stored : Stored (List ℕ)) (counts : Counts) (are : counts ≡ counts_of stored) where
+  expanded_are : counts.expanded ≡ expanded_count stored
+  expanded_are = ap (λ (k : Counts). k.expanded) are
+
+  known_are : counts.known ≡ length stored.positions
+  known_are = ap (λ (k : Counts). k.known) are
+
+  -- nothing is finished but where as many are expanded as are known
+  pub unlike_is_unfinished : (counts.expanded ≡ counts.known → ⊥) → IsFinished (view_of stored) → ⊥
+  unlike_is_unfinished unlike finished =
+      let all : expanded_count stored ≡ length stored.positions = finished.all_expanded in
+      unlike (omega (arith, all, expanded_are, known_are))
+
+  -- nor where a settled one is not processed
+  pub unprocessed_is_unfinished : IsTable stored → counts.processed < counts.settled → IsFinished (view_of stored) → ⊥
+  unprocessed_is_unfinished table less finished =
+      let processed : counts.processed ≡ processed_count stored = ap (λ (k : Counts). k.processed) are in
+      let settled : counts.settled ≡ length stored.order = ap (λ (k : Counts). k.settled) are in
+      let within : processed_count stored < length stored.order = omega (arith, less, processed, settled) in
+      let (i, at) = element stored.order (processed_count stored) within in
+      let below : processed_count stored < processed_count stored =
+      (table.processed (processed_count stored) i at).0 (finished.all_processed i (table.settled (processed_count stored) i at)) in
+      omega (arith, below)

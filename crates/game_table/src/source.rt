@@ -1,5 +1,5 @@
 //! A game made ready from its text, and its tables.
-ghost use Rattle.std.specs.Prelude.{◌≡◌, ◌≢◌, ◌↔◌, ◌≤◌, ◌^◌, true, IfOk, IfErr, OnOk, Err, length};
+ghost use Rattle.std.specs.Prelude.{◌≡◌, ◌≢◌, ◌↔◌, ◌≤◌, ◌^◌, true, IfOk, IfErr, OnOk, OnErr, Err, length};
 ghost use Rattle.rbg_game.specs.Games.{Game as TextbookGame};
 ghost use Rattle.rbg_game.specs.Meaning.{game_of};
 ghost use Rattle.rbg_game.specs.Names.{HasProperNames};
@@ -9,7 +9,8 @@ ghost use Rattle.legal_moves.specs.Moves.{start_of};
 ghost use Rattle.legal_moves.specs.Sources.{IsPositionBytes, IsWideAt, graph_of};
 ghost use Rattle.legal_moves.specs.Compiled.{compiled_game, packing_kind, compiled_goal};
 ghost use Rattle.rbg_game.specs.Goals.{points_of};
-ghost use Rattle.retrograde.specs.Stored.{IsTable};
+ghost use Rattle.retrograde.specs.Stored.{IsTable, view_of};
+ghost use Rattle.retrograde.specs.View.{IsFinished};
 ghost use Rattle.retrograde.specs.Sound.{IsLocallySound};
 ghost use Rattle.frontier.specs.Causes.{Leaves};
 ghost use Rattle.game_table.specs.Work.{StopsWith};
@@ -117,7 +118,8 @@ impl Source {
     /// many. It is asked of a table within the limit of 16,777,216 positions. After an error the caller gives the table up.
     ///
     /// Of a table that does not agree with itself nothing is said but that it stays within the limit, that its parts still
-    /// fit together if they did, and what is left of a device under it; `Inconsistent` comes of such a table alone.
+    /// fit together if they did, and what is left of a device under it; `Inconsistent` comes of such a table alone. A
+    /// table that does, and is finished, is refused nothing.
     pub fn work<T: Table>(&self, alloc: Global, table: &mut T, units: u32) -> Result<u32, StepFault>
         requires { (T.counted table.old).known ≤ 2 ^ 24 }
         ensures limit { OnOk result ((T.counted table.new).known ≤ 2 ^ 24) }
@@ -134,6 +136,10 @@ impl Source {
             (T.stored table.old)
             → IfErr result (StopsWith (graph_of (packing_kind self.now) (compiled_goal self.now) (compiled_game self.now))
             (IsWideAt (packing_kind self.now) (compiled_game self.now)) (T.stored table.old) units) }
+        ensures unfinished { T.is_honest table.old
+            → IsLocallySound (graph_of (packing_kind self.now) (compiled_goal self.now) (compiled_game self.now))
+            (IsWideAt (packing_kind self.now) (compiled_game self.now)) (T.stored table.old)
+            → OnErr result (¬ IsFinished (view_of (T.stored table.old))) }
         ensures consistent { T.is_honest table.old
             → IsLocallySound (graph_of (packing_kind self.now) (compiled_goal self.now) (compiled_game self.now))
             (IsWideAt (packing_kind self.now) (compiled_game self.now)) (T.stored table.old)

@@ -1,5 +1,5 @@
 //! Units of work, one after another.
-ghost use Rattle.std.specs.Prelude.{◌≡◌, ◌↔◌, ◌⊎◌, ◌^◌, ◌<◌, ◌≤◌, true, false, IfOk, OnOk, IfErr, Err};
+ghost use Rattle.std.specs.Prelude.{◌≡◌, ◌↔◌, ◌⊎◌, ◌^◌, ◌<◌, ◌≤◌, true, false, IfOk, OnOk, IfErr, OnErr, Err};
 ghost use Rattle.retrograde.specs.View.{IsFinished};
 ghost use Rattle.retrograde.specs.Stored.{IsTable, view_of};
 ghost use Rattle.retrograde.specs.Sound.{IsLocallySound};
@@ -37,6 +37,7 @@ fn unit<M: MoveSource, T: Table>(
         → IfOk result (λ done. done ≡ false → (T.stored table.new ≡ T.stored table.old) × IsFinished (view_of (T.stored table.old))) }
     ensures cause { T.is_honest table.old → IsLocallySound (M.graph source.now) (M.is_wide source.now) (T.stored table.old)
         → IfErr result (HasUnitCause (M.graph source.now) (M.is_wide source.now) (T.stored table.old)) }
+    ensures unfinished { T.is_honest table.old → IsTable (T.stored table.old) → OnErr result (¬ IsFinished (view_of (T.stored table.old))) }
     ensures consistent { T.is_honest table.old → IsLocallySound (M.graph source.now) (M.is_wide source.now) (T.stored table.old)
         → result ≡ Err Inconsistent → ⊥ }
     ensures ahead { OnOk result (T.goes_on table.old table.new) }
@@ -61,7 +62,7 @@ fn unit<M: MoveSource, T: Table>(
 ///
 /// It is asked of a table within the limit of 16,777,216 positions. After an error the caller gives the
 /// table up: the cause is that of the unit that failed, after those before it. `Inconsistent` comes
-/// only where the table did not agree with itself, and want of memory at any point.
+/// only where the table did not agree with itself, and want of memory at any point. A finished table is refused nothing.
 pub fn work<M: MoveSource, T: Table>(
     alloc: Global,
     source: &M,
@@ -78,6 +79,8 @@ pub fn work<M: MoveSource, T: Table>(
     ensures idle { IfOk result (λ done. done ≡ 0 → table.new ≡ table.old) }
     ensures cause { T.is_honest table.old → IsLocallySound (M.graph source.now) (M.is_wide source.now) (T.stored table.old)
         → IfErr result (StopsWith (M.graph source.now) (M.is_wide source.now) (T.stored table.old) units) }
+    ensures unfinished { T.is_honest table.old → IsLocallySound (M.graph source.now) (M.is_wide source.now) (T.stored table.old)
+        → OnErr result (¬ IsFinished (view_of (T.stored table.old))) }
     ensures consistent { T.is_honest table.old → IsLocallySound (M.graph source.now) (M.is_wide source.now) (T.stored table.old)
         → result ≡ Err Inconsistent → ⊥ }
     ensures ahead { OnOk result (T.goes_on table.old table.new) }

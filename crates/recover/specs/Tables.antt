@@ -165,11 +165,16 @@ RefusesText text pages table (BadGame fault) = fault ≢ game_fault.OutOfMemory 
 RefusesText text pages table GameAlready = IsSome table
 RefusesText text pages table _ = ⊥
 
--- why `work` may be refused by a table on an honest disk; E1, E7 and E8 are not said
+-- a game is loaded, and something is left to do in its table
+abbrev pub IsLeftToDo : Option BriefTable → Type 0
+IsLeftToDo None = ⊥
+IsLeftToDo (Some table) = ¬ IsFinished table.view
+
+-- why `work` may be refused by a table on an honest disk; of E7 it is not said how few pages are free, and E1 and E8 are not said
 abbrev pub RefusesWork : Option BriefTable → SolverFault → Type 0
 RefusesWork table Disk = Unit {0}
 RefusesWork table OutOfMemory = Unit {0}
-RefusesWork table TableFull = Unit {0}
+RefusesWork table TableFull = IsLeftToDo table
 RefusesWork table TooManyPositions = ComesToMore (2 ^ 24) table
 RefusesWork table NoGame = table ≡ None
 RefusesWork table (KeeperChooses number) = ComesTo table KeeperHasChoice

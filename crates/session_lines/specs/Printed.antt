@@ -1,5 +1,5 @@
 -- What the lines of a session print of one listing.
-use Rattle.std.specs.Prelude.{◌≡◌, ◌⊎◌, ◌+◌, ℕ, List, [], ◌++◌, length, Option}
+use Rattle.std.specs.Prelude.{◌≡◌, ◌≢◌, ◌⊎◌, ◌+◌, ℕ, List, [], ◌++◌, length, Option}
 use Rattle.std.specs.List.{flat_map}
 use Rattle.rbg_game.specs.Games.{Game}
 use Rattle.retrograde.specs.Stored.{Stored, view_of}
@@ -17,7 +17,8 @@ use Rattle.solver.specs.Queries.{OfKept, IsGameOf}
 pub record IsNextPrinted (table : Stored (List ℕ)) (place next count : ℕ) (text : List ℕ) (rows : List Row) (kept : Option Kept) : Type 0 where
   pub are : AreRows (view_of table) place count rows
   pub next_is : next ≡ place + length rows
-  pub text_is : ((rows ≡ []) × (text ≡ done_line)) ⊎ ((game : Game) × OfKept (IsGameOf game) kept × (text ≡ flat_map (row_line game) rows))
+  pub text_is : ((rows ≡ []) × (text ≡ done_line))
+      ⊎ ((rows ≢ []) × ((game : Game) × OfKept (IsGameOf game) kept × (text ≡ flat_map (row_line game) rows)))
 
 module _ {F Version : Type 0} (state : F → State) (IsVersion : Version → Stored (List ℕ) → F → Type 0) (version : Version) (table : Stored (List ℕ)) where
   -- lines from this file and this place of the listing on: how many rows its lines `next` asked for, up to the first that was refused, and which

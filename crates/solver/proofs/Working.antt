@@ -1,5 +1,5 @@
 -- Units of work are done and kept, or not.
-use Rattle.std.proofs.Common.{◌≡◌, ◌≢◌, inl, ℕ, List, Option, None, Some, refl, sym, ◌∙◌, ap, subst, false}
+use Rattle.std.proofs.Common.{◌≡◌, ◌≢◌, ◌<◌, inl, ℕ, List, Option, None, Some, refl, sym, ◌∙◌, ap, subst, false, arith}
 use Rattle.std.specs.Prelude.{IsTrue}
 use Rattle.sector_disk.specs.Disk.{GoesOn}
 use Rattle.sector_disk.specs.aid.Moments.{leaves_now, leaves_more}
@@ -13,7 +13,8 @@ use Rattle.legal_moves.specs.declared.compiled.Compiled.{Compiled}
 use Rattle.retrograde.specs.declared.records.Counts.{Counts}
 use Rattle.retrograde.specs.Changes.{counts_of}
 use Rattle.retrograde.specs.Sound.{IsLocallySound}
-use Rattle.retrograde.specs.Stored.{Stored}
+use Rattle.retrograde.specs.Stored.{Stored, view_of}
+use Rattle.retrograde.specs.View.{IsFinished}
 use Rattle.table.specs.Fitting.{FitsTogether}
 use Rattle.table.specs.declared.fault.TableFault.{TableFault}
 use Rattle.table.specs.declared.fault.TableFault.TheVariants as table
@@ -22,6 +23,7 @@ use Rattle.frontier.specs.declared.fault.StepFault.{StepFault}
 use Rattle.frontier.specs.declared.fault.StepFault.TheVariants as step
 use Rattle.game_table.specs.Work.{StopsWith}
 use Rattle.game_table.specs.aid.Laws.{starts_are_positions, sound_tables_fit}
+use Rattle.game_table.specs.aid.OneTable.{none_of_finished}
 use Rattle.game_table.specs.Tables.{packed_length, IsWorkOf}
 use Rattle.game_file.specs.Calls.{IsPut, IsNotPut, IsNothingPut}
 use Rattle.game_file.specs.Causes.{FileCommitCause, FileTableCause}
@@ -35,7 +37,7 @@ use Rattle.solver.specs.declared.fault.SolverFault.TheVariants as solver
 use Rattle.solver.specs.Faults.{file_fault, step_fault, table_fault}
 use Rattle.solver.specs.Held.{IsSound}
 use Rattle.solver.specs.declared.replies.Reply.TheVariants.{Worked, Refused}
-use Rattle.solver.specs.Machine.{work, WorksOnTable, WorkCause, StopsAt}
+use Rattle.solver.specs.Machine.{work, WorksOnTable, WorkCause, StopsAt, IsUnfinished}
 use Rattle.solver.specs.Queries.{AskCause}
 use Rattle.solver.specs.State.{IsMadeOf, IsSourceOf}
 use Rattle.solver.specs.Steps.{IsDone, IsRefused}
@@ -60,6 +62,12 @@ pub stops_on : (source : Compiled) (k : Kept) (stored : Stored (List ℕ)) → s
 stops_on source k stored same units count fault counted stops =
     subst (λ (n : ℕ). IsLocallySound (graph_of (packing_kind source) (compiled_goal source) (compiled_game source)) (IsWideAt (packing_kind source) (compiled_game source)) k.table → StopsWith (graph_of (packing_kind source) (compiled_goal source) (compiled_game source)) (IsWideAt (packing_kind source) (compiled_game source)) k.table n fault) counted
     (subst (λ (t : Stored (List ℕ)). IsLocallySound (graph_of (packing_kind source) (compiled_goal source) (compiled_game source)) (IsWideAt (packing_kind source) (compiled_game source)) t → StopsWith (graph_of (packing_kind source) (compiled_goal source) (compiled_game source)) (IsWideAt (packing_kind source) (compiled_game source)) t count fault) same stops)
+
+pub unfinished_on : (source : Compiled) (k : Kept) (stored : Stored (List ℕ)) → stored ≡ k.table
+    → (IsLocallySound (graph_of (packing_kind source) (compiled_goal source) (compiled_game source)) (IsWideAt (packing_kind source) (compiled_game source)) stored → IsFinished (view_of stored) → ⊥)
+    → IsLocallySound (graph_of (packing_kind source) (compiled_goal source) (compiled_game source)) (IsWideAt (packing_kind source) (compiled_game source)) k.table → IsFinished (view_of k.table) → ⊥
+unfinished_on source k stored same unfinished =
+    subst (λ (t : Stored (List ℕ)). IsLocallySound (graph_of (packing_kind source) (compiled_goal source) (compiled_game source)) (IsWideAt (packing_kind source) (compiled_game source)) t → IsFinished (view_of t) → ⊥) same unfinished
 
 module _ (source : Compiled) (k : Kept) (made : IsMadeOf source k) where
   -- what holds of the source's game holds of any that the text read to
@@ -137,24 +145,33 @@ module _ (Stores : ℕ → Layout) (old new : State) (source : Compiled) (k : Ke
       subst (λ (kept : Option Kept). IsSound kept) (sym (put.kept honest))
       (worked_sound source k made units done now (works honest) (subst (λ (kept : Option Kept). IsSound kept) loaded sound))
 
-  keep_cause : (fault : FileFault) → FileCommitCause k.table now old new fault → WorkCause units old new (file_fault fault)
-  keep_cause file.Disk cause = cause
-  keep_cause file.NotATable cause = absurd cause
-  keep_cause file.AlreadyATable cause = absurd cause
-  keep_cause file.Damaged cause = cause
-  keep_cause file.OldLayout cause = absurd cause
-  keep_cause file.TooSmall cause = absurd cause
-  keep_cause file.TableFull cause = tt
-  keep_cause file.OutOfMemory cause = tt
-  keep_cause file.Closed cause = cause
-  keep_cause file.Inconsistent cause = λ honest sound.
+  -- of a finished table no unit is done
+  done_is_unfinished : 0 < done → IsTrue old.disk.honest → IsUnfinished old.kept
+  done_is_unfinished some honest =
+      subst (λ (kept : Option Kept). IsUnfinished kept) (sym loaded)
+      (λ sound finished.
+      let graph = graph_of (packing_kind source) (compiled_goal source) (compiled_game source) in
+      let none = none_of_finished graph done k.table now finished (works honest (sound_here source k made sound)).by_units in
+      absurd (omega (arith, some, none)))
+
+  keep_cause : (some : 0 < done) (fault : FileFault) → FileCommitCause k.table now old new fault → WorkCause units old new (file_fault fault)
+  keep_cause some file.Disk cause = cause
+  keep_cause some file.NotATable cause = absurd cause
+  keep_cause some file.AlreadyATable cause = absurd cause
+  keep_cause some file.Damaged cause = cause
+  keep_cause some file.OldLayout cause = absurd cause
+  keep_cause some file.TooSmall cause = absurd cause
+  keep_cause some file.TableFull cause = done_is_unfinished some
+  keep_cause some file.OutOfMemory cause = tt
+  keep_cause some file.Closed cause = cause
+  keep_cause some file.Inconsistent cause = λ honest sound.
       not_unfit source k made units done now (works honest) (subst (λ (kept : Option Kept). IsSound kept) loaded sound) (cause honest)
 
   -- they are not kept
-  pub not_kept : (fault : FileFault) → IsNotPut Stores (kept_as k.text k.packing k.goal now) old new → FileCommitCause k.table now old new fault
+  pub not_kept : 0 < done → (fault : FileFault) → IsNotPut Stores (kept_as k.text k.packing k.goal now) old new → FileCommitCause k.table now old new fault
       → (fault ≢ file.Disk → new.closed ≡ old.closed) → IsRefused Stores (work units) old new (file_fault fault)
-  not_kept fault left cause still = record {
-    step = record { does = left.kept; reason = keep_cause fault cause };
+  not_kept some fault left cause still = record {
+    step = record { does = left.kept; reason = keep_cause some fault cause };
     stops = record {
       commits = left.commits;
       counts = left.counts;
@@ -227,7 +244,14 @@ module _ (Stores : ℕ → Layout) (old new : State) (source : Compiled) (k : Ke
   other_origin : (IsTrue old.disk.honest → IsLocallySound (graph_of (packing_kind source) (compiled_goal source) (compiled_game source)) (IsWideAt (packing_kind source) (compiled_game source)) k.table → ⊥) → IsTrue old.disk.honest → IsSound old.kept → ⊥
   other_origin consistent honest sound = consistent honest (sound_here source k made (subst (λ (kept : Option Kept). IsSound kept) loaded sound))
 
-  module _ (Ahead : Type 0) (Fails : TableFault → Type 0) (cause_of : (f : TableFault) → Fails f → FileTableCause old new f) where
+  unfinished_there : (IsTrue old.disk.honest → IsLocallySound (graph_of (packing_kind source) (compiled_goal source) (compiled_game source)) (IsWideAt (packing_kind source) (compiled_game source)) k.table
+      → IsFinished (view_of k.table) → ⊥) → IsTrue old.disk.honest → IsUnfinished old.kept
+  unfinished_there unfinished honest =
+      subst (λ (kept : Option Kept). IsUnfinished kept) (sym loaded) (λ sound. unfinished honest (sound_here source k made sound))
+
+  module _ (Ahead : Type 0) (Fails : TableFault → Type 0) (cause_of : (f : TableFault) → Fails f → FileTableCause old new f)
+      (unfinished : IsTrue old.disk.honest → IsLocallySound (graph_of (packing_kind source) (compiled_goal source) (compiled_game source)) (IsWideAt (packing_kind source) (compiled_game source)) k.table
+      → IsFinished (view_of k.table) → ⊥) where
     work_cause : (fault : StepFault)
         → (IsTrue old.disk.honest → IsLocallySound (graph_of (packing_kind source) (compiled_goal source) (compiled_game source)) (IsWideAt (packing_kind source) (compiled_game source)) k.table → StopsWith (graph_of (packing_kind source) (compiled_goal source) (compiled_game source)) (IsWideAt (packing_kind source) (compiled_game source)) k.table units fault)
         → (IsTrue old.disk.honest → IsLocallySound (graph_of (packing_kind source) (compiled_goal source) (compiled_game source)) (IsWideAt (packing_kind source) (compiled_game source)) k.table → fault ≡ step.Inconsistent → ⊥)
@@ -242,7 +266,7 @@ module _ (Stores : ℕ → Layout) (old new : State) (source : Compiled) (k : Ke
         by_fault : (f : TableFault) → FileTableCause old new f → WorkCause units old new (table_fault f)
         by_fault table.Disk cause = cause
         by_fault table.Damaged cause = cause
-        by_fault table.TableFull cause = tt
+        by_fault table.TableFull cause = unfinished_there unfinished
         by_fault table.OutOfMemory cause = tt
         by_fault table.Closed cause = cause
 

@@ -10,7 +10,8 @@ use Rattle.legal_moves.specs.Sources.{graph_of}
 use Rattle.retrograde.specs.declared.records.Counts.{Counts}
 use Rattle.retrograde.specs.Changes.{counts_of}
 use Rattle.retrograde.specs.Sound.{IsLocallySound}
-use Rattle.retrograde.specs.Stored.{loaded}
+use Rattle.retrograde.specs.Stored.{loaded, view_of}
+use Rattle.retrograde.specs.View.{IsFinished}
 use Rattle.frontier.specs.declared.fault.StepFault.{StepFault}
 use Rattle.frontier.specs.declared.fault.StepFault.TheVariants as step
 use Rattle.game_table.specs.Work.{AreDone, StopsWith}
@@ -21,7 +22,7 @@ use Rattle.solver.specs.declared.fault.SolverFault.TheVariants.{Disk, Damaged, T
 use Rattle.solver.specs.declared.fault.SolverFault.TheVariants.{GameAlready, KeeperChooses, TooWide, TooManyPositions, Inconsistent}
 use Rattle.solver.specs.declared.replies.Reply.{Reply}
 use Rattle.solver.specs.declared.replies.Reply.TheVariants.{Loaded, Worked, Refused}
-use Rattle.solver.specs.Held.{graph_in, wide_in}
+use Rattle.solver.specs.Held.{IsSound, graph_in, wide_in}
 use Rattle.solver.specs.State.{IsOfOtherOrigin}
 
 -- what changes the table
@@ -84,11 +85,16 @@ LoadCause text old new (BadGame fault) = TextCause text fault
 LoadCause text old new GameAlready = IsSome old.kept
 LoadCause text old new _ = ⊥
 
--- why `work` is refused
+-- a game is loaded, and something is left to do in its table; nothing is said of one that is not sound
+abbrev pub IsUnfinished : Option Kept → Type 0
+IsUnfinished None = ⊥
+IsUnfinished (Some kept) = IsSound (Some kept) → ¬ IsFinished (view_of kept.table)
+
+-- why `work` is refused; how many pages a unit takes, nothing says
 abbrev pub WorkCause : ℕ → State → State → SolverFault → Type 0
 WorkCause units old new Disk = Grew old.failures new.failures
 WorkCause units old new Damaged = ¬ IsTrue old.disk.honest
-WorkCause units old new TableFull = Unit {0}
+WorkCause units old new TableFull = IsTrue old.disk.honest → IsUnfinished old.kept
 WorkCause units old new OutOfMemory = Unit {0}
 WorkCause units old new Closed = old.closed ≡ true
 WorkCause units old new NoGame = old.kept ≡ None

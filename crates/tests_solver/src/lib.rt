@@ -29,3 +29,5 @@ mod run_tests;
 mod session_grow_tests;
 #[cfg(test)]
 mod stop_tests;
+#[cfg(test)]
+mod witness_tests;

@@ -27,8 +27,10 @@ const MOST_CALLS: u64 = 224;
 fn white_wins_in_two(alloc: Global, calls: Range<u64>) -> Result<(), Fail> {
     for call in calls {
         for pick in 0..8 {
-            let value = value_after_a_stop(alloc, call, pick)?;
-            expect(value, Value::Won(Player::First, 2), (call, pick))?;
+            match value_after_a_stop(alloc, call, pick) {
+                Ok(value) => expect(value, Value::Won(Player::First, 2), (call, pick))?,
+                Err(back) => return Err(back.fault.into()),
+            }
         }
     }
     Ok(())

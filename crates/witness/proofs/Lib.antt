@@ -5,6 +5,9 @@ pub mod Winning
 pub mod Finishing
 pub mod Units
 pub mod Behind
+pub mod Wanting
 pub mod Telling
 pub mod Telltwice
 pub mod OneTable
+pub mod Migrating
+pub mod Printing

@@ -3,7 +3,7 @@ use Rattle.std.proofs.Common.{◌≡◌, ℕ, ◌⊎◌, inl, inr, ◌<◌, ◌^
 use Rattle.std.proofs.lemmas.List.{length-replicate}
 use Rattle.std.specs.Prelude.{IsTrue, IfSome, IsSome}
 use Rattle.std.specs.List.{AllByRecursion}
-use Rattle.sector_disk.specs.Disk.{Picture, Shown, Disk, size, MayLeave, IsFresh}
+use Rattle.sector_disk.specs.Disk.{Picture, Shown, Disk, size, MayLeave, IsFresh, Grew}
 use Rattle.sector_disk.specs.aid.Moments.{reads_left}
 use Rattle.root_pair.specs.Root.{Begins}
 use Rattle.rbg_game.specs.Games.{Game}
@@ -114,20 +114,21 @@ module _ (Stores : ℕ → Layout) where
   opened_again disk count state behind =
       reopened disk count state (record { honest = behind.honest; disk = disk; behind = behind; left = reads_left disk })
 
-  unlucky : (before now : ℕ) (why : SolverFault) → IsUnlucky before now why → IsWantOfRoom why
-  unlucky before now why (inl failed) = subst IsWantOfRoom (sym failed.0) tt
-  unlucky before now why (inr memory) = subst IsWantOfRoom (sym memory) tt
+  pub unlucky : (before now : ℕ) (why : SolverFault) → IsUnlucky before now why → IsWantOfRoom (Grew before now) why
+  unlucky before now why (inl failed) = subst (IsWantOfRoom (Grew before now)) (sym failed.0) failed.1
+  unlucky before now why (inr memory) = subst (IsWantOfRoom (Grew before now)) (sym memory) tt
 
   pub not_reopened : (found : Disk) (before now : ℕ) (why : SolverFault) (behind : IsFoundBehind Stores found)
       → ((sittings : List Sitting) (left : Shown) (picture : Picture) → History Stores sittings left → MayLeave left picture → Headline Stores sittings picture)
-      → OpenCause Stores found before now why → IsWantOfRoom why
+      → OpenCause Stores found before now why → IsWantOfRoom (Grew before now) why
   not_reopened found before now why behind law cause =
       let headline = law behind.behind.sittings behind.disk.now found.now.contents behind.behind.history behind.left in
       unlucky before now why (headline.2.fails found before now why behind.honest refl cause)
 
   -- no table was there when this one was made
-  pub not_made : (disk : Disk) (before now : ℕ) (why : SolverFault) → IsFresh 256 disk → CreateCause disk before now why → IsWantOfRoom why
-  not_made disk before now fault.Disk fresh cause = tt
+  pub not_made : (disk : Disk) (before now : ℕ) (why : SolverFault) → IsFresh 256 disk → CreateCause disk before now why
+      → IsWantOfRoom (Grew before now) why
+  not_made disk before now fault.Disk fresh cause = cause
   not_made disk before now fault.NotATable fresh cause = absurd (cause fresh.honest)
   not_made disk before now fault.AlreadyATable fresh cause =
       let begins : Begins zero_disk = subst Begins fresh.contents (cause fresh.honest) in
@@ -150,29 +151,30 @@ module _ (Stores : ℕ → Layout) where
     such = subst IsIt (sym (done.step.does table.honest).is) (refl, refl);
   }
 
-  text_cause : (why : GameFault) → TextCause witness_text why → IsWantOfRoom (fault.Game why)
-  text_cause game_fault.OutOfMemory cause = tt
-  text_cause why cause = absurd (no_fault witness_text witness_game why witness_read (cause (λ same. cc)))
+  text_cause : (Failed : Type 0) (why : GameFault) → TextCause witness_text why → IsWantOfRoom Failed (fault.Game why)
+  text_cause Failed game_fault.OutOfMemory cause = tt
+  text_cause Failed why cause = absurd (no_fault witness_text witness_game why witness_read (cause (λ same. cc)))
 
-  load_cause : (old new : State) (why : SolverFault) → HasSuchTable IsNoneOrIt old → old.kept ≡ None → LoadCause witness_text old new why → IsWantOfRoom why
-  load_cause old new fault.Disk table none cause = tt
+  load_cause : (old new : State) (why : SolverFault) → HasSuchTable IsNoneOrIt old → old.kept ≡ None → LoadCause witness_text old new why
+      → IsWantOfRoom (Grew old.failures new.failures) why
+  load_cause old new fault.Disk table none cause = cause
   load_cause old new fault.Damaged table none cause = absurd (cause table.honest)
   load_cause old new fault.TableFull table none cause = tt
   load_cause old new fault.OutOfMemory table none cause = tt
   load_cause old new fault.Closed table none cause = let is_open = table.is_open in absurd (cc)
-  load_cause old new (fault.Game why) table none cause = text_cause why cause
+  load_cause old new (fault.Game why) table none cause = text_cause (Grew old.failures new.failures) why cause
   load_cause old new fault.GameAlready table none cause = let some : IsSome {T = Kept} None = subst (λ (k : Option Kept). IsSome k) none cause in absurd (cc)
   load_cause old new why table none cause = absurd cause
 
   pub load_refused : (text : List ℕ) (goal : Option ℕ) (old new : State) (why : SolverFault) → text ≡ witness_text → HasSuchTable IsNoneOrIt old → old.kept ≡ None
-      → IsRefused Stores (load text goal) old new why → IsWantOfRoom why
+      → IsRefused Stores (load text goal) old new why → IsWantOfRoom (Grew old.failures new.failures) why
   load_refused text goal old new why is table none refused =
       load_cause old new why table none (subst (λ t. LoadCause t old new why) is refused.step.reason)
 
   -- ---- working
 
   -- the table of the small game is sound for it
-  its_own : (kept : Kept) → kept.text ≡ witness_text → Reads kept.text witness_game
+  pub its_own : (kept : Kept) → kept.text ≡ witness_text → Reads kept.text witness_game
   its_own kept text = subst (λ t. Reads t witness_game) (sym text) witness_read
 
   sound_for_it : (kept : Kept) → IsItsTable kept → IsSound (Some kept) → IsLocallySound (graph kept.packing) (IsWideAt kept.packing witness_game) kept.table
@@ -220,8 +222,9 @@ module _ (Stores : ℕ → Layout) where
       (stops witness_game (its_own kept its.0) (by_its_goal kept its here)) in
       unit_is_done kept.packing at.reached at.works.right why own at.cause
 
-  work_cause : (old new : State) (why : SolverFault) → HasSuchTable IsIt old → WorkCause 256 old new why → IsWantOfRoom why
-  work_cause old new fault.Disk table cause = tt
+  work_cause : (old new : State) (why : SolverFault) → HasSuchTable IsIt old → WorkCause 256 old new why
+      → IsWantOfRoom (Grew old.failures new.failures) why
+  work_cause old new fault.Disk table cause = cause
   work_cause old new fault.Damaged table cause = absurd (cause table.honest)
   work_cause old new fault.TableFull table cause = tt
   work_cause old new fault.OutOfMemory table cause = tt
@@ -234,7 +237,7 @@ module _ (Stores : ℕ → Layout) where
   work_cause old new why table cause = absurd cause
 
   pub work_refused : (units : ℕ) (old new : State) (why : SolverFault) → units ≡ 256 → HasSuchTable IsIt old → IsRefused Stores (work units) old new why
-      → IsWantOfRoom why
+      → IsWantOfRoom (Grew old.failures new.failures) why
   work_refused units old new why all_units table refused =
       work_cause old new why table (subst (λ n. WorkCause n old new why) all_units refused.step.reason)
 
@@ -258,8 +261,9 @@ module _ (Stores : ℕ → Layout) where
           (subst (λ (goal : Option ℕ). IsSo (graph_of kept.packing goal witness_game) (graph kept.packing).start value) it.0.1
           (a_value_is_so kept witness_game sound reads 0 (graph kept.packing).start value first has.value_is))
 
-  ask_cause : (old new : State) (why : SolverFault) → HasSuchTable IsItFinished old → AskCause old new why → IsWantOfRoom why
-  ask_cause old new fault.Disk table cause = tt
+  ask_cause : (old new : State) (why : SolverFault) → HasSuchTable IsItFinished old → AskCause old new why
+      → IsWantOfRoom (Grew old.failures new.failures) why
+  ask_cause old new fault.Disk table cause = cause
   ask_cause old new fault.Damaged table cause = absurd (cause table.honest)
   ask_cause old new fault.OutOfMemory table cause = tt
   ask_cause old new fault.Closed table cause = let is_open = table.is_open in absurd (cc)
@@ -270,6 +274,7 @@ module _ (Stores : ℕ → Layout) where
   is_there None it sound none = it
   is_there (Some kept) it sound none = none (sound_for_it kept it.0 sound).table.started
 
-  pub value_refused : (old new : State) (why : SolverFault) → HasSuchTable IsItFinished old → NumberCause 0 old new why → IsWantOfRoom why
+  pub value_refused : (old new : State) (why : SolverFault) → HasSuchTable IsItFinished old → NumberCause 0 old new why
+      → IsWantOfRoom (Grew old.failures new.failures) why
   value_refused old new fault.NoSuchPosition table cause = absurd (is_there old.kept table.such table.sound (cause.1 table.honest))
   value_refused old new why table cause = ask_cause old new why table cause

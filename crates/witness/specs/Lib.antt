@@ -9,4 +9,5 @@ pub use Rattle.retrograde.specs.Values
 pub use Rattle.sector_disk.specs.Disk
 pub mod Game
 pub mod Sittings
+pub mod Printed
 pub mod aid

@@ -1,1 +1,3 @@
 pub mod Sittings
+pub mod Migrations
+pub mod Printing

@@ -2,20 +2,21 @@
 ghost use Rattle.std.specs.Prelude.{◌≡◌, ◌≤◌, false, IfOk, IfErr, OnOk, IsTrue};
 ghost use Rattle.best_line.specs.declared.answers.Value.TheVariants.{Won};
 ghost use Rattle.rbg_game.specs.declared.roles.Player.TheVariants.{First};
-ghost use Rattle.sector_disk.specs.Disk.{IsFresh};
+ghost use Rattle.sector_disk.specs.Disk.{IsFresh, Grew};
 ghost use Rattle.game_file.specs.State.{GoesAhead};
+ghost use Rattle.game_file.specs.Stops.{LeavesNow};
 ghost use Rattle.solver.specs.Held.{IsSound};
 ghost use Rattle.solver.specs.Solvers.{state, IsReady};
 ghost use Rattle.solver.specs.Units.{units_in};
 ghost use Rattle.witness.specs.Game.{witness_text};
 ghost use Rattle.witness.specs.Sittings.{IsWantOfRoom};
 ghost use Rattle.witness.specs.aid.Sittings.{IsBehindSittings, IsFoundBehind};
-ghost use Rattle.witness.specs.aid.Sittings.{EndsOwnSitting, HasSuchTable, IsNoneOrIt, IsIt};
+ghost use Rattle.witness.specs.aid.Sittings.{EndsOwnSitting, HasSuchTable, IsNoneOrIt, IsIt, IsItFinished};
 
 use best_line::Value;
 use game_file::GameFile;
 use solver::laws::{the_headline, what_sittings_lead_to_is_sound};
-use solver::{Command, FileSolver, SolverFault, Units};
+use solver::{Command, FileSolver, Refused, SolverFault, Units};
 use std::alloc::Global;
 
 /// The text of the small game.
@@ -38,16 +39,14 @@ pub fn units(count: u32) -> Units
 }
 
 /// Makes a table on a new disk, and closes it.
-pub fn make<F: GameFile>(alloc: Global, disk: F::Device) -> Result<F::Device, SolverFault>
-where
-    F::Device: Drop,
+pub fn make<F: GameFile>(alloc: Global, disk: F::Device) -> Result<F::Device, Refused<F::Device>>
     requires { IsFresh 256 (F.Device.disk disk) }
     ensures made { IfOk result (λ made. IsBehindSittings F.stores (F.Device.disk made)) }
-    ensures fault { IfErr result IsWantOfRoom }
+    ensures fault { IfErr result (λ back. IsWantOfRoom (Grew (F.Device.failures disk) (F.Device.failures back.disk)) back.fault) }
 {
     match FileSolver::<F>::create(alloc, disk) {
         Ok(solver) => Ok(solver.close()),
-        Err(refused) => Err(refused.fault),
+        Err(refused) => Err(refused),
     }
 }
 
@@ -57,7 +56,7 @@ where
     F::Device: Drop,
     requires { IsBehindSittings F.stores (F.Device.disk disk) }
     ensures used { IfOk result (λ used. IsBehindSittings F.stores (F.Device.disk used)) }
-    ensures fault { IfErr result IsWantOfRoom }
+    ensures fault { IfErr result (λ fault. fault ≡ SolverFault.OutOfMemory) }
 {
     the_headline::<F>();
     what_sittings_lead_to_is_sound();
@@ -93,22 +92,25 @@ fn use_solver<F: GameFile>(alloc: Global, solver: &mut FileSolver<F>, text: Vec<
 }
 
 /// Opens what is found after a stop, loads the game if it is not there, works to the end, and asks who wins the start.
-pub fn value_of<F: GameFile>(alloc: Global, found: F::Device) -> Result<Value, SolverFault>
+pub fn value_of<F: GameFile>(alloc: Global, found: F::Device) -> Result<Value, Refused<F::Device>>
 where
     F::Device: Drop,
     requires { IsFoundBehind F.stores (F.Device.disk found) }
     ensures value { IfOk result (λ value. value ≡ Won First 2) }
-    ensures fault { IfErr result IsWantOfRoom }
+    ensures fault { IfErr result (λ back. IsWantOfRoom (Grew (F.Device.failures found) (F.Device.failures back.disk)) back.fault) }
 {
     the_headline::<F>();
     what_sittings_lead_to_is_sound();
     match FileSolver::<F>::open(alloc, found) {
         Ok(mut solver) => {
             let value = answer(&mut solver);
-            let _ = solver.close();
-            value
+            let disk = solver.close();
+            match value {
+                Ok(value) => Ok(value),
+                Err(fault) => Err(Refused { disk, fault }),
+            }
         }
-        Err(refused) => Err(refused.fault),
+        Err(refused) => Err(refused),
     }
 }
 
@@ -117,11 +119,35 @@ fn answer<F: GameFile>(solver: &mut FileSolver<F>) -> Result<Value, SolverFault>
     requires ready { IsReady solver.old }
     requires table { HasSuchTable IsNoneOrIt (state solver.old) }
     ensures value { IfOk result (λ value. value ≡ Won First 2) }
-    ensures fault { IfErr result IsWantOfRoom }
+    ensures fault { IfErr result (IsWantOfRoom (Grew (state solver.old).failures (state solver.new).failures)) }
+{
+    finish(solver)?;
+    value_of_finished(solver)
+}
+
+/// Asks who wins the start of the finished table.
+pub fn value_of_finished<F: GameFile>(solver: &mut FileSolver<F>) -> Result<Value, SolverFault>
+    requires ready { IsReady solver.old }
+    requires table { HasSuchTable IsItFinished (state solver.old) }
+    ensures value { IfOk result (λ value. value ≡ Won First 2) }
+    ensures fault { IfErr result (IsWantOfRoom (Grew (state solver.old).failures (state solver.new).failures)) }
+{
+    solver.value(0)
+}
+
+/// Loads the game if it is not there, and works to the end.
+pub fn finish<F: GameFile>(solver: &mut FileSolver<F>) -> Result<(), SolverFault>
+    requires ready { IsReady solver.old }
+    requires table { HasSuchTable IsNoneOrIt (state solver.old) }
+    ensures ready { IsReady solver.new }
+    ensures later { (state solver.old).failures ≤ (state solver.new).failures }
+    ensures table { OnOk result (HasSuchTable IsItFinished (state solver.new)) }
+    ensures left { OnOk result (LeavesNow (F.stores (state solver.new).capacity) (state solver.new).disk (state solver.new).kept) }
+    ensures fault { IfErr result (IsWantOfRoom (Grew (state solver.old).failures (state solver.new).failures)) }
 {
     load(solver)?;
     match solver.work(units(256)) {
-        Ok(_) => solver.value(0),
+        Ok(_) => Ok(()),
         Err(fault) => Err(fault),
     }
 }
@@ -131,8 +157,9 @@ fn load<F: GameFile>(solver: &mut FileSolver<F>) -> Result<(), SolverFault>
     requires ready { IsReady solver.old }
     requires table { HasSuchTable IsNoneOrIt (state solver.old) }
     ensures ready { IsReady solver.new }
+    ensures later { (state solver.old).failures ≤ (state solver.new).failures }
     ensures table { OnOk result (HasSuchTable IsIt (state solver.new)) }
-    ensures fault { IfErr result IsWantOfRoom }
+    ensures fault { IfErr result (IsWantOfRoom (Grew (state solver.old).failures (state solver.new).failures)) }
 {
     match solver.status() {
         Some(_) => Ok(()),

@@ -1,6 +1,6 @@
 -- Units of work lead from a table to one.
 use Rattle.std.specs.Prelude.{◌≡◌, ◌⊎◌, ℕ, zero, suc, ◌≤◌, ◌<◌, List, length, IsSome}
-use Rattle.std.proofs.Common.{sym, subst, ◌∙◌, inl, inr, arith}
+use Rattle.std.proofs.Common.{refl, sym, subst, ◌∙◌, inl, inr, arith}
 use Rattle.std.proofs.lemmas.Bool.{cases_lt}
 use Rattle.std.proofs.lemmas.Cmp.{nat_list_cmp_total}
 use Rattle.std.proofs.lemmas.Option.{slice_get_within, same_Some}
@@ -85,6 +85,11 @@ module _ (graph : Graph (List ℕ)) where
       let (mid, next, there, table, unit) = on_the_way m n old b less more in
       let same : mid ≡ a = one_by_units n old mid a there are in
       none_left mid next table (subst (λ (t : Stored (List ℕ)). IsFinished (view_of t)) (sym same) finished) unit
+
+  -- so of a finished table no unit is done
+  pub none_of_finished : (n : ℕ) (old new : Stored (List ℕ)) → IsFinished (view_of old) → AreUnits graph old n new → n ≡ 0
+  none_of_finished zero old new finished are = refl
+  none_of_finished (suc n) old new finished are = absurd (none_past zero (suc n) old old new (omega arith) refl finished are)
 
   -- as many as are asked, or as are left to do: that is one number of units, and they lead to one table
   pub one_by_asking : (units n m : ℕ) (old a b : Stored (List ℕ)) → AreUnits graph old n a → (n ≡ units) ⊎ ((n < units) × IsFinished (view_of a))

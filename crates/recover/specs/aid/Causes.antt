@@ -22,13 +22,13 @@ use Rattle.game_table.specs.aid.Laws.{starts_are_positions, sound_tables_fit}
 use Rattle.game_file.specs.Kept.{Kept}
 use Rattle.game_file.specs.State.{State}
 use Rattle.solver.specs.Held.{IsSound, graph_in, wide_in}
-use Rattle.solver.specs.Machine.{Command, load, work, LoadCause, WorkCause, StopsAt, HasReason}
+use Rattle.solver.specs.Machine.{Command, load, work, LoadCause, WorkCause, IsUnfinished, StopsAt, HasReason}
 use Rattle.solver.specs.declared.fault.SolverFault.{SolverFault}
 use Rattle.solver.specs.declared.fault.SolverFault.TheVariants.{Disk, NotATable, AlreadyATable, Damaged, OldLayout, TooSmall, TableFull, OutOfMemory, Closed, Game as BadGame}
 use Rattle.solver.specs.declared.fault.SolverFault.TheVariants.{NoGame, GameAlready, KeeperChooses, TooWide, TooManyPositions, Inconsistent, NoSuchPosition, NotSettled, ListingsUsedUp, BadPosition}
 use Rattle.solver.specs.declared.replies.Reply.TheVariants.{Refused}
-use Rattle.recover.specs.Tables.{BriefTable, play_of, ComesTo, ComesToMore, KeeperHasChoice, RefusesText, RefusesWork, MayRefuse}
-use Rattle.recover.specs.aid.Telling.{IsToldBy, brief_of, brief_is_so}
+use Rattle.recover.specs.Tables.{BriefTable, play_of, ComesTo, ComesToMore, KeeperHasChoice, IsLeftToDo, RefusesText, RefusesWork, MayRefuse}
+use Rattle.recover.specs.aid.Telling.{IsToldBy, brief_of, brief_is_so, finished_up}
 use Rattle.recover.specs.aid.Limit.{comes_to_more}
 use Rattle.recover.specs.aid.Plays.{step_down, reached_down}
 
@@ -107,6 +107,12 @@ none_told : (kept : Option Kept) (table : Option BriefTable) → IsToldBy kept t
 none_told None table (sound, is) none = is
 none_told (Some kept) table told none = absurd cc
 
+-- what is left to do in the table that is kept is so in the one that tells it
+left_told : (kept : Option Kept) (table : Option BriefTable) → IsToldBy kept table → IsUnfinished kept → IsLeftToDo table
+left_told None table told left = absurd left
+left_told (Some kept) table (sound, is) left =
+    subst (λ (t : Option BriefTable). IsLeftToDo t) (sym is) (λ finished. left sound (finished_up kept sound finished))
+
 open_not_shut : (closed : Bool) → closed ≡ false → closed ≡ true → ⊥
 open_not_shut closed is_open shut = let both : false ≡ true = sym is_open ∙ shut in cc
 
@@ -140,7 +146,7 @@ module _ (old new : State) (table : Option BriefTable) (told : IsToldBy old.kept
   why_work units Damaged cause = absurd (cause honest)
   why_work units OldLayout cause = absurd cause
   why_work units TooSmall cause = absurd cause
-  why_work units TableFull cause = tt
+  why_work units TableFull cause = left_told old.kept table told (cause honest)
   why_work units OutOfMemory cause = tt
   why_work units Closed cause = absurd (open_not_shut old.closed is_open cause)
   why_work units (BadGame fault) cause = absurd cause

@@ -174,7 +174,7 @@ module _ (kept : Kept) (sound : IsSound (Some kept)) where
   unfolding brief_of
   same_length = as_many kept.packing sound.0 kept.table.positions (are_positions kept sound)
 
-  finished_up : IsFinished (brief_of kept sound).view → IsFinished (view_of kept.table)
+  pub finished_up : IsFinished (brief_of kept sound).view → IsFinished (view_of kept.table)
   unfolding brief_of
   finished_up finished = record { all_expanded = finished.all_expanded ∙ same_length; all_processed = finished.all_processed }
 

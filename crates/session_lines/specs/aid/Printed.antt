@@ -17,7 +17,7 @@ next_printed table place next count text kept (inl (are, same, is_done)) =
     ([], record { are = are; next_is = omega (arith, same); text_is = inl (refl, is_done) })
 next_printed table place next count text None (inr told) = absurd told
 next_printed table place next count text (Some kept) (inr told) =
-    (told.rows, record { are = told.are; next_is = told.next_is; text_is = inr (told.game, told.of_game, told.text_is) })
+    (told.rows, record { are = told.are; next_is = told.next_is; text_is = inr (told.some, (told.game, told.of_game, told.text_is)) })
 
 module _ {F Version : Type 0} (state : F → State) (IsVersion : Version → Stored (List ℕ) → F → Type 0) (version : Version) (table : Stored (List ℕ)) where
   pub printed_rows : {file : F} {place asked : ℕ} {rows : List Row} → ArePrinted state IsVersion version table file place asked rows

@@ -1,4 +1,5 @@
 use Rattle.std.proofs.Common.{◌≡◌, ◌∙◌, ap, length, arith}
+use Rattle.game_table.proofs.WorkLemmas.{on_refusal, unlike_is_unfinished, unprocessed_is_unfinished}
 use Rattle.retrograde.specs.declared.records.Counts.{Counts}
 use Rattle.retrograde.specs.Stored.{expanded_count}
 use Rattle.game_table.specs.Units.{expands, settles}
@@ -14,3 +15,20 @@ returns-then-counts-3-clause-exact g c = λ honest sound done.
     let all : expanded_count (g.T.Table.stored c.args.table.now) ≡ length (g.T.Table.stored c.args.table.now).positions =
     omega (arith, ap (λ (k : Counts). k.expanded) counts, ap (λ (k : Counts). k.known) counts, c.if-counts.false, c.if-counts-2.false) in
     let (s, r, w, it) = c.in_ok-settle_one.ensures.settles honest sound in settles all it
+
+pub returns-in_err-expand_one-clause-unfinished : goal.returns-in_err-expand_one-clause-unfinished
+returns-in_err-expand_one-clause-unfinished g c = λ honest table.
+    let counts = c.counts-counts.ensures ∙ g.met.T.Table.counts_are c.args.table.now honest in
+    on_refusal c.from_residual.result _
+    (unlike_is_unfinished (g.T.Table.stored c.args.table.now) c.counts-counts.result counts (λ same. omega (arith, same, c.if-counts.true)))
+
+pub returns-then-counts-2-clause-unfinished : goal.returns-then-counts-2-clause-unfinished
+returns-then-counts-2-clause-unfinished g c = λ honest table.
+    let counts = c.counts-counts.ensures ∙ g.met.T.Table.counts_are c.args.table.now honest in
+    unlike_is_unfinished (g.T.Table.stored c.args.table.now) c.counts-counts.result counts (λ same. omega (arith, same, c.if-counts-2.true))
+
+pub returns-in_err-settle_one-clause-unfinished : goal.returns-in_err-settle_one-clause-unfinished
+returns-in_err-settle_one-clause-unfinished g c = λ honest table.
+    let counts = c.counts-counts.ensures ∙ g.met.T.Table.counts_are c.args.table.now honest in
+    on_refusal c.from_residual-in_err-settle_one.result _
+    (unprocessed_is_unfinished (g.T.Table.stored c.args.table.now) c.counts-counts.result counts table c.if-counts-3.true)

@@ -1,6 +1,10 @@
-use Rattle.std.proofs.Common.{◌≤◌, ◌^◌, rules, ap, length, refl, arith}
+use Rattle.std.proofs.Common.{◌≡◌, ◌≤◌, ◌^◌, rules, ap, length, List, ℕ, refl, sym, subst, arith}
 use Rattle.retrograde.specs.declared.records.Counts.{Counts}
-use Rattle.game_table.proofs.WorkLemmas.{none_done, one_more, one_unit_more}
+use Rattle.retrograde.specs.Stored.{Stored, view_of}
+use Rattle.retrograde.specs.View.{IsFinished}
+use Rattle.frontier.proofs.Passing.{passed_on}
+use Rattle.game_table.specs.aid.OneTable.{none_of_finished}
+use Rattle.game_table.proofs.WorkLemmas.{none_done, one_more, one_unit_more, on_refusal}
 use Rattle.game_table.proofs.steps.work.Goals as goal
 
 pub loop-done-init : goal.loop-done-init
@@ -38,3 +42,28 @@ loop-done-preserved g c = record {
   fits = search rules;
   idle = λ is. absurd (omega (arith, is));
 }
+
+pub returns-in_err-unit-clause-unfinished : goal.returns-in_err-unit-clause-unfinished
+returns-in_err-unit-clause-unfinished g c = λ honest sound.
+    let it = c.loop-done.invariant in
+    let old = g.T.Table.stored c.args.table.now in
+    let now = g.T.Table.stored c.loop-done.table in
+    on_refusal c.from_residual.result _
+    (λ finished.
+    let none = none_of_finished (g.M.GameGraph.graph c.args.source.now) c.loop-done.done old now finished (it.by_units honest sound) in
+    let same : now ≡ old = ap g.T.Table.stored (it.idle none) in
+    c.in_err-unit.ensures.unfinished (it.honest.0 honest) (it.sound honest sound).table
+    (subst (λ (t : Stored (List ℕ)). IsFinished (view_of t)) (sym same) finished))
+
+pub returns-in_err-unit-clause-cause : goal.returns-in_err-unit-clause-cause
+returns-in_err-unit-clause-cause g c = λ honest sound.
+    let it = c.loop-done.invariant in
+    passed_on _ c.from_residual.result _ c.from_residual.ensures
+    (record {
+      done = c.loop-done.done;
+      fewer = omega arith;
+      reached = g.T.Table.stored c.loop-done.table;
+      works = it.works honest sound;
+      sound = it.sound honest sound;
+      cause = c.in_err-unit.ensures.cause (it.honest.0 honest) (it.sound honest sound);
+    })

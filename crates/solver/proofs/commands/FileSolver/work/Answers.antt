@@ -6,7 +6,7 @@ use Rattle.solver.proofs.Loading.{same_source, source_of_text}
 use Rattle.solver.proofs.Passing.{passed_on, passed_as, gives_none, not_refused}
 use Rattle.solver.proofs.Refusing.{nothing_done}
 use Rattle.solver.proofs.Turning.{ahead_then}
-use Rattle.solver.proofs.Working.{kept_there, works_on, stops_on, worked_done, kept_sound, not_kept, idle_done, given_up, left_so, work_refused, asked_work}
+use Rattle.solver.proofs.Working.{kept_there, works_on, stops_on, unfinished_on, worked_done, kept_sound, not_kept, idle_done, given_up, left_so, work_refused, asked_work}
 use Rattle.solver.proofs.commands.FileSolver.work.Goals as goal
 
 -- no unit is done
@@ -30,7 +30,9 @@ returns-in-Err-clause-refused g c = λ ready.
     let given = given_up (g.F.Table.fails file c.work.new.table) _ c.in-Err.fault c.in-Err.ensures.left
     (λ ahead. c.discard.ensures.back file ready.0 ahead) (λ f fails. c.discard.ensures.failed file f ready.0 fails) in
     rw c.into.ensures
-    (work_refused _ _ _ c.in_ok-source.source.now k made is _ _ (g.F.Table.fails file c.work.new.table) (λ f fails. (c.discard.ensures.failed file f ready.0 fails).2) c.in-Err.fault
+    (work_refused _ _ _ c.in_ok-source.source.now k made is _ _ (g.F.Table.fails file c.work.new.table) (λ f fails. (c.discard.ensures.failed file f ready.0 fails).2)
+    (λ honest. let stored = g.met.F.GameFile.whole_stored file k ready.0 honest is in unfinished_on c.in_ok-source.source.now k _ stored.1 (c.in-Err.ensures.unfinished stored.0))
+    c.in-Err.fault
     (λ honest. let stored = g.met.F.GameFile.whole_stored file k ready.0 honest is in stops_on c.in_ok-source.source.now k _ stored.1 _ _ _ c.count.ensures.is (c.in-Err.ensures.cause stored.0))
     (λ honest sound inconsistent.
     let stored = g.met.F.GameFile.whole_stored file k ready.0 honest is in
@@ -46,7 +48,7 @@ returns-in_err-commit-clause-refused g c = λ ready.
     passed_on _ c.from_residual-in_err-commit.result _ c.from_residual-in_err-commit.ensures
     (not_kept _ _ _ c.in_ok-source.source.now k made is _ c.in-Ok.done _
     (λ honest. let stored = g.met.F.GameFile.whole_stored file k ready.0 honest is in works_on c.in_ok-source.source.now k _ stored.1 _ _ _ _ c.count.ensures.is (c.in-Ok.ensures.works stored.0))
-    _ (refused.err file k ready.0 is c.in-Ok.ensures.ahead (λ honest. let stored = g.met.F.GameFile.whole_stored file k ready.0 honest is in c.in-Ok.ensures.fits stored.0 (rw stored.1 stored.2))).1 (refused.cause file k ready.0 is c.in-Ok.ensures.ahead) (refused.still file c.in-Ok.ensures.ahead))
+    c.if-done-gt0.true _ (refused.err file k ready.0 is c.in-Ok.ensures.ahead (λ honest. let stored = g.met.F.GameFile.whole_stored file k ready.0 honest is in c.in-Ok.ensures.fits stored.0 (rw stored.1 stored.2))).1 (refused.cause file k ready.0 is c.in-Ok.ensures.ahead) (refused.still file c.in-Ok.ensures.ahead))
 
 pub returns-in_err-commit-clause-ready : goal.returns-in_err-commit-clause-ready
 returns-in_err-commit-clause-ready g c = λ ready.
