@@ -5,6 +5,7 @@ use Rattle.game_file.specs.State.{State}
 use Rattle.retrograde.specs.Stored.{Stored}
 use Rattle.sector_disk.specs.Disk.{Disk}
 use Rattle.session.specs.Commands.{IsPrinted, refused}
+use Rattle.session.specs.Seen.{Moment, Seen}
 use Rattle.session.specs.Sessions.{IsSession, IsSessionOver, SessionState, first_state}
 use Rattle.session.specs.declared.line_by_line.Lines.{Lines}
 use Rattle.session.specs.declared.line_by_line.Lines.TheVariants.{Session, Look}
@@ -31,6 +32,10 @@ pub data AreLinesAnswered (Answers : Disk → List ℕ → Option (List ℕ) →
       → AreLinesAnswered Answers lines before after out told count 6
   no_memory : count ≡ 0 → told ≡ out → after ≡ before → AreLinesAnswered Answers lines before after out told count 5
 
+-- an output that holds this text, and these moments that were noted
+abbrev pub seen_with : List ℕ → List Moment → Seen
+seen_with text moments = record { written = Some text; moments = moments }
+
 -- which lines are taken
 abbrev pub lines_taken : Bool → Lines
 lines_taken true = Look
@@ -41,15 +46,17 @@ module _ {F Version : Type 0} (Stores : ℕ → Layout) (state : F → State) (I
   -- a session, or a look, on a disk that never failed, of which this text is all that was written
   abbrev pub OverBytes : Lines → Disk → List ℕ → Option (List ℕ) → List ℕ → ℕ → Disk → ℕ → Type 0
   OverBytes manner disk read left text status back now =
-      IsSessionOver Stores state IsVersion AreTwo IsUsedUp Lasts manner disk 0 read left (Some []) (Some text) status back now
+      (moments : List Moment) × IsSessionOver Stores state IsVersion AreTwo IsUsedUp Lasts manner disk 0 read left (seen_with [] [])
+      (seen_with text moments) status back now
 
   -- lines were answered on a table that is kept, behind the answers that waited, with this status:
   --   answered  as a session, or a look, from the state in which they found it
   --   unopened  the table could not be opened, which is their answer; none of them was read
   pub data IsAnsweredOn (manner : Lines) (lines : List ℕ) (was is : Kept) (before after : List ℕ) (status : ℕ) : Type 0 where
-    answered : (begins : F) (ends : SessionState F Version) (read left : List ℕ) → lines ≡ read ++ left → IsFoundIn Stores (state begins) was
-        → IsSession Stores state IsVersion AreTwo IsUsedUp Lasts read (first_state begins manner) ends (Some left) (Some before) (Some after) status
-        → IsLeftIn (state ends.file) status is → IsAnsweredOn manner lines was is before after status
+    answered : (begins : F) (ends : SessionState F Version) (read left : List ℕ) (moments : List Moment) → lines ≡ read ++ left
+        → IsFoundIn Stores (state begins) was
+        → IsSession Stores state IsVersion AreTwo IsUsedUp Lasts read (first_state begins manner) ends (Some left) (seen_with before [])
+        (seen_with after moments) status → IsLeftIn (state ends.file) status is → IsAnsweredOn manner lines was is before after status
     unopened : (why : SolverFault) → IsKeptUnopened Stores why was is → IsPrinted (Some before) (Some after) (refused why) status
         → IsAnsweredOn manner lines was is before after status
 

@@ -12,6 +12,7 @@ use game_file::{GameFile, Versions};
 use recover::{Refused, Solver, TableFile};
 use session::commands::said_refused;
 use session::line_by_line::{Lines, lines_on};
+use session_lines::moments::Moments;
 use std::alloc::Global;
 use std::io;
 
@@ -60,6 +61,7 @@ impl Kept {
             }
         };
         let mut input = lines;
+        let mut moments = Moments::new();
         let status = lines_on(
             alloc,
             &mut solver,
@@ -67,6 +69,7 @@ impl Kept {
             &mut input,
             answers,
             &mut io::sink(),
+            &mut moments,
         );
         (status, left(solver, status))
     }

@@ -8,6 +8,7 @@ use byte_disk::ByteDisk;
 use game_file::{GameFile, Versions};
 use recover::TableFile;
 use session::line_by_line::{Lines, lines_over};
+use session_lines::moments::Moments;
 use std::alloc::Global;
 use std::io;
 
@@ -62,6 +63,7 @@ fn answered(
     };
     let mut text = Vec::new(alloc);
     let mut input = lines;
+    let mut moments = Moments::new();
     let (status, disk) = lines_over::<TableFile<ByteDisk>, _, _, _>(
         alloc,
         disk,
@@ -69,6 +71,7 @@ fn answered(
         &mut input,
         &mut text,
         &mut io::sink(),
+        &mut moments,
     );
     give_table(&text, disk.bytes(), status, table, out, count)
 }

@@ -10,5 +10,5 @@ pub returns-clause-answered : goal.returns-clause-answered
 returns-clause-answered c = λ askable.
     let (ready, honest) = c.in-Ok.ensures.ready askable in
     let (read, ends, cut, session, same) = c.lines_on-status.ensures.came ready honest in
-    IsAnsweredOn.answered c.in-Ok.solver.file ends read _ cut c.in-Ok.ensures.found session
+    IsAnsweredOn.answered c.in-Ok.solver.file ends read _ _ cut c.in-Ok.ensures.found (rw c.new-moments.ensures at session)
     (subst (λ s. IsLeftIn s c.lines_on-status.result c.left.result) same c.left.ensures.left)
