@@ -1,5 +1,5 @@
 -- A call on a table of a room.
-use Rattle.std.specs.Prelude.{◌≡◌, ℕ, ◌<◌, ◌≤◌, List, [], length, slice_index_or, slice_set, None, Some}
+use Rattle.std.specs.Prelude.{◌≡◌, ℕ, ◌<◌, ◌≤◌, List, [], length, slice_set, None, Some}
 use Rattle.std.proofs.Common.{sym, subst, ◌∙◌, ap, inl, inr, arith, set-set}
 use Rattle.std.proofs.lemmas.Bool.{cases_lt}
 use Rattle.game_file.specs.Kept.{Layout}

@@ -1,6 +1,5 @@
-use Rattle.std.proofs.Common.{◌≡◌, ℕ, List, length, sym, subst, ◌∙◌, ap, rules}
+use Rattle.std.proofs.Common.{◌∙◌, ap}
 use Rattle.in_process.specs.Rooms.{IsOnTable, GivesAnswers}
-use Rattle.in_process.specs.declared.held.HeldTable.{HeldTable}
 use Rattle.in_process.proofs.InRooms.{on_none, on_found, gives_answers, moved}
 use Rattle.in_process.proofs.room_calls.rbg_answers.Goals.{in-Some-take, in-None}
 use Rattle.in_process.proofs.room_calls.rbg_answers.Goals as goal

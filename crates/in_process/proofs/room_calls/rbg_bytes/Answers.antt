@@ -1,6 +1,5 @@
-use Rattle.std.proofs.Common.{◌≡◌, ℕ, List, length, sym, subst, ◌∙◌, ap, rules}
+use Rattle.std.proofs.Common.{◌∙◌, ap}
 use Rattle.in_process.specs.Rooms.{IsOnTable, GivesBytes}
-use Rattle.in_process.specs.declared.held.HeldTable.{HeldTable}
 use Rattle.in_process.proofs.InRooms.{on_none, on_found, gives_bytes, moved}
 use Rattle.in_process.proofs.room_calls.rbg_bytes.Goals.{in-Some-take, in-None}
 use Rattle.in_process.proofs.room_calls.rbg_bytes.Goals as goal

@@ -1,4 +1,4 @@
-use Rattle.std.proofs.Common.{◌≡◌, ℕ, List, length, sym, subst, ◌∙◌, ap, rules}
+use Rattle.std.proofs.Common.{length, ◌∙◌, ap}
 use Rattle.in_process.specs.Rooms.{IsOnTable}
 use Rattle.in_process.specs.declared.held.HeldTable.{HeldTable}
 use Rattle.in_process.proofs.InRooms.{on_none, on_found, answers_lines}
