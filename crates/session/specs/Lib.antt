@@ -2,3 +2,5 @@ pub mod Statuses
 pub mod Commands
 pub mod Cut
 pub mod Sessions
+pub mod Words
+pub mod Building
