@@ -26,6 +26,12 @@ def of_position(play, number, text, value):
     return {"number": number, **of_text(play, text), **of_value(value)}
 
 
+def of_move(play, move):
+    """The fields of a move that a table tells: the position that it leads to, a short name, what it does, and that by numbers."""
+    word = " ".join(f"{number}@{vertex}" for number, vertex in move.word)
+    return {**of_position(play, move.number, move.text, move.value), "name": move.name, "does": play.names_of(move.word), "word": word}
+
+
 def of_counts(counts):
     return {"known": counts.known, "expanded": counts.expanded, "settled": counts.settled, "processed": counts.processed, "finished": counts.is_finished}
 

@@ -4,8 +4,8 @@ import subprocess
 
 from .common import ROOT, Case
 
-TOOLS = ("board", "expand", "export", "grid", "lint", "moves", "new_table", "play", "publish", "report", "second_opinion", "shrink", "size", "solve")
-TOOLS += ("stats", "trust")
+TOOLS = ("ask", "board", "expand", "export", "grid", "lint", "migrate", "moves", "new_table", "play", "publish", "report", "second_opinion", "shrink")
+TOOLS += ("size", "solve", "stats", "trust")
 
 
 class Words(Case):

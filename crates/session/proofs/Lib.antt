@@ -1,4 +1,7 @@
 mod Auditing
+mod CommandLine
+mod CommandWords
+mod Units
 mod Bringing
 mod Cutting
 mod Saying

@@ -1,5 +1,5 @@
 -- What a command on a table's file does, prints and answers.
-use Rattle.std.specs.Prelude.{◌≡◌, ◌⊎◌, ℕ, List, [], ◌∷◌, ◌++◌, codes, Option, None, Some}
+use Rattle.std.specs.Prelude.{◌≡◌, ◌≢◌, ◌⊎◌, ℕ, List, [], ◌∷◌, ◌++◌, codes, Option, None, Some}
 use Rattle.std.specs.Io.KnownBytes.{Appends}
 use Rattle.sector_disk.specs.Disk.{Disk}
 use Rattle.rbg_game.specs.Goals.{points_of}
@@ -11,7 +11,7 @@ use Rattle.audit.specs.declared.verdict.Verdict.{Verdict}
 use Rattle.audit.specs.declared.verdict.Verdict.TheVariants.{Right, Wrong}
 use Rattle.game_file.specs.Calls.{IsAsked, IsNotCreated, IsNotOpened}
 use Rattle.game_file.specs.Growing.{IsGrownFile, IsNotGrown}
-use Rattle.game_file.specs.Kept.{Layout}
+use Rattle.game_file.specs.Kept.{Layout, text_kept}
 use Rattle.game_file.specs.State.{State}
 use Rattle.solver.specs.declared.fault.SolverFault.{SolverFault}
 use Rattle.solver.specs.declared.replies.Reply.{Reply}
@@ -29,13 +29,16 @@ use Rattle.session_lines.specs.Told.{fault_line, IsReplyLine}
 use Rattle.session.specs.declared.commands.FileCommand.{FileCommand}
 use Rattle.session.specs.declared.commands.FileCommand.TheVariants as asked
 
--- what came of a command: the empty table was made; it was refused; it has this reply; the table has this verdict and these counts; it has
--- got more pages; or it was brought into today's layout, which it had before or not
+-- what came of a command: the empty table was made; it was refused; it has this reply; the game has this text; the table has this verdict and
+-- these counts; it is about another game than the one that was meant; it was brought into today's layout, which it had before or not; or it has
+-- got more pages
 pub data Came : Type 0 where
   made : Came
   refused : (why : SolverFault) → Came
   replied : (said : Reply) → Came
+  told_text : (text : List ℕ) → Came
   audited : (verdict : Verdict) (counts : Counts) → Came
+  another : Came
   brought : (which : Migration) → Came
   grown : Came
 
@@ -54,16 +57,20 @@ abbrev pub status_of_came : Came → ℕ
 status_of_came made = 0
 status_of_came (refused why) = status_of_fault why
 status_of_came (replied said) = status_of_reply said
+status_of_came (told_text text) = 0
 status_of_came (audited verdict counts) = status_of_verdict verdict
+status_of_came another = 1
 status_of_came (brought which) = 0
 status_of_came grown = 0
 
--- the line that tells it
+-- the line that tells it; of a text it is the text itself
 abbrev pub IsLineOf : Came → List ℕ → Type 0
 IsLineOf made line = line ≡ codes "created" ++ 10 ∷ []
 IsLineOf (refused why) line = line ≡ fault_line why
 IsLineOf (replied said) line = IsReplyLine said line
+IsLineOf (told_text text) line = line ≡ text
 IsLineOf (audited verdict counts) line = IsVerdictLine counts verdict line
+IsLineOf another line = line ≡ codes "audit wrong game" ++ 10 ∷ []
 IsLineOf (brought which) line = line ≡ word_of_migration which ++ 10 ∷ []
 IsLineOf grown line = line ≡ codes "grown" ++ 10 ∷ []
 
@@ -77,7 +84,9 @@ abbrev pub refusal_of : Came → Option SolverFault
 refusal_of made = None
 refusal_of (refused why) = Some why
 refusal_of (replied said) = refusal_in said
+refusal_of (told_text text) = None
 refusal_of (audited verdict counts) = None
+refusal_of another = None
 refusal_of (brought which) = None
 refusal_of grown = None
 
@@ -91,6 +100,13 @@ pub data IsPrinted (before after : Option (List ℕ)) (came : Came) (status : �
 pub record GivesBack (state : State) (back : Disk) (now : ℕ) : Type 0 where
   pub disk : back ≡ state.disk
   pub failures : now ≡ state.failures
+
+-- the table is about this text, or about another one
+abbrev pub IsAbout : List ℕ → State → Type 0
+IsAbout text was = text_kept was.kept ≡ Some text
+
+abbrev pub IsAboutAnother : List ℕ → State → Type 0
+IsAboutAnother text was = (other : List ℕ) × IsAbout other was × (other ≢ text)
 
 -- the table was audited, and has this verdict and these counts
 pub record HasCome (was : State) (verdict : Verdict) (counts : Counts) : Type 0 where
@@ -126,6 +142,26 @@ module _ (Stores : ℕ → Layout) where
       ⊎ IsUnopened disk count why back now
   IsAudit disk count _ back now = ⊥
 
+  -- the table was opened, and the text of its game told, which leaves it as it was; or there was no game, or it was not opened
+  abbrev pub IsTextTold : Disk → ℕ → Came → Disk → ℕ → Type 0
+  IsTextTold disk count (told_text text) back now = (was : State) × IsOpened Stores disk count was × GivesBack was back now × IsAbout text was
+  IsTextTold disk count (refused why) back now =
+      ((was : State) × IsOpened Stores disk count was × GivesBack was back now × (was.kept ≡ None) × (why ≡ fault.NoGame))
+      ⊎ IsUnopened disk count why back now
+  IsTextTold disk count _ back now = ⊥
+
+  -- the table was opened, and is about this text and was audited, or is about another text; or there was no game, or any of it was refused
+  abbrev pub IsAuditOf : List ℕ → Disk → ℕ → Came → Disk → ℕ → Type 0
+  IsAuditOf text disk count (audited verdict counts) back now =
+      (was : State) × (is : State) × IsOpened Stores disk count was × IsAsked Stores was is × GivesBack is back now
+      × IsAbout text was × HasCome was verdict counts
+  IsAuditOf text disk count another back now =
+      (was : State) × (is : State) × IsOpened Stores disk count was × IsAsked Stores was is × GivesBack is back now × IsAboutAnother text was
+  IsAuditOf text disk count (refused why) back now =
+      ((was : State) × (is : State) × IsOpened Stores disk count was × IsAsked Stores was is × GivesBack is back now × AuditCause was is why)
+      ⊎ IsUnopened disk count why back now
+  IsAuditOf text disk count _ back now = ⊥
+
   -- the table was opened, and has got this many pages, or either was refused
   abbrev pub IsGrow : ℕ → Disk → ℕ → Came → Disk → ℕ → Type 0
   IsGrow pages disk count grown back now =
@@ -147,6 +183,19 @@ abbrev pub IsAudited : State → State → Came → Type 0
 IsAudited was is (audited verdict counts) = HasCome was verdict counts
 IsAudited was is (refused why) = AuditCause was is why
 IsAudited was is _ = ⊥
+
+-- what comes of an audit of an open table that is to be about this text
+abbrev pub IsAuditedAbout : List ℕ → State → State → Came → Type 0
+IsAuditedAbout text was is (audited verdict counts) = IsAbout text was × HasCome was verdict counts
+IsAuditedAbout text was is another = IsAboutAnother text was
+IsAuditedAbout text was is (refused why) = AuditCause was is why
+IsAuditedAbout text was is _ = ⊥
+
+-- what comes of asking an open table for the text of its game
+abbrev pub IsTold : State → Came → Type 0
+IsTold was (told_text text) = IsAbout text was
+IsTold was (refused why) = (was.kept ≡ None) × (why ≡ fault.NoGame)
+IsTold was _ = ⊥
 
 -- what comes of bringing a table into today's layout, where it has that one or the first or the second, and the disk as it is given back
 abbrev pub IsBrought : (ℕ → Layout) → (ℕ → Layout) → (ℕ → Layout) → Disk → ℕ → Came → Disk → ℕ → Type 0

@@ -3,3 +3,5 @@ pub mod Commands
 pub mod Cut
 pub mod Seen
 pub mod Sessions
+pub mod Words
+pub mod Building

@@ -52,7 +52,7 @@ pub fn command_on<F: GameFile, W: Write>(
 {
     match command {
         FileCommand::Create => match FileSolver::<F>::create(alloc, disk) {
-            Ok(solver) => (said(out, b"created\n"), solver.close()),
+            Ok(solver) => (said(out, b"created\n", 0), solver.close()),
             Err(refused) => (said_refused(out, refused.fault), refused.disk),
         },
         FileCommand::Load(text, goal) => match FileSolver::<F>::open(alloc, disk) {
@@ -68,7 +68,7 @@ pub fn command_on<F: GameFile, W: Write>(
         },
         FileCommand::Grow(pages) => match FileSolver::<F>::open(alloc, disk) {
             Ok(mut solver) => match solver.grow(pages) {
-                Ok(()) => (said(out, b"grown\n"), solver.close()),
+                Ok(()) => (said(out, b"grown\n", 0), solver.close()),
                 Err(fault) => (said_refused(out, fault), solver.close()),
             },
             Err(refused) => (said_refused(out, refused.fault), refused.disk),
@@ -77,7 +77,7 @@ pub fn command_on<F: GameFile, W: Write>(
 }
 
 /// Says whether the table is right: the status is 1 where it is not.
-fn audited<F: GameFile, W: Write>(solver: &mut FileSolver<F>, out: &mut W) -> Outcome
+pub(crate) fn audited<F: GameFile, W: Write>(solver: &mut FileSolver<F>, out: &mut W) -> Outcome
     requires ready { IsReady solver.old }
     requires open { (state solver.old).closed ≡ false }
     ensures asked { IsAsked F.stores (state solver.old) (state solver.new) }
@@ -118,14 +118,14 @@ fn said_verdict<W: Write>(out: &mut W, verdict: Verdict, counts: Counts) -> Outc
     }
 }
 
-/// Writes a line of a command that was done.
-fn said<W: Write>(out: &mut W, line: &[u8]) -> Outcome
+/// Writes what tells of a command that was not refused, with the status that belongs to it.
+pub(crate) fn said<W: Write>(out: &mut W, line: &[u8], status: u8) -> Outcome
     ensures refused { result.refused ≡ None }
-    ensures told { (came : Came) → IsLineOf came line.now → status_of_came came ≡ 0
+    ensures told { (came : Came) → IsLineOf came line.now → status_of_came came ≡ status
         → IsPrinted (W.contents out.old) (W.contents out.new) came result.status }
 {
     let status = match put_line(out, line) {
-        Ok(()) => 0,
+        Ok(()) => status,
         Err(_) => 4,
     };
     Outcome {

@@ -230,15 +230,22 @@ fn command_on_file(
                 "{name}: the table has as many pages or more: give `--pages` more than it has"
             ),
         ),
-        Some(SolverFault::NotATable) if is_game(rt, alloc, name) => tell(
+        Some(fault) => tell_refused_table(rt, alloc, name, fault),
+    }
+    outcome
+}
+
+/// Says on standard error why the table of a file was refused, where it may be the text of a game.
+pub fn tell_refused_table(rt: &HostRuntime, alloc: Global, name: &str, fault: SolverFault) {
+    match fault {
+        SolverFault::NotATable if is_game(rt, alloc, name) => tell(
             rt,
             format_args!(
                 "{name}: no table is there, but the text of a game: `rbgsolve create` makes a table in another file, and `rbgsolve load` loads the text"
             ),
         ),
-        Some(fault) => tell_refusal(rt, name, fault),
+        fault => tell_refusal(rt, name, fault),
     }
-    outcome
 }
 
 /// Whether the text of a game is in a file.

@@ -1,7 +1,11 @@
 //! The words of the commands on the text of a game, and on a certificate.
 
-use crate::words::{game_word, named, required_word};
-use clap::{Arg, ArgAction, ArgMatches, Command};
+ghost use Rattle.std.specs.Prelude.{IfOk};
+ghost use Rattle.session.specs.Building.{HasApp, HasRule, leaf};
+ghost use Rattle.session.specs.Words.{actions, check, moves, position_word, shape_in};
+
+use crate::words::{free_word, game_word, named, required_word};
+use clap::{Arg, Command};
 use std::alloc::{AllocError, Global};
 
 const MOVES_ABOUT: &str = "Prints the legal moves of a position of a game";
@@ -40,47 +44,41 @@ const CHECK_LONG_ABOUT: &str = concat!(
 );
 
 /// The command `moves`, as words spell it.
-pub fn moves_command<'a>(alloc: Global) -> Result<Command<'a>, AllocError> {
+pub fn moves_command<'a>(alloc: Global) -> Result<Command<'a>, AllocError>
+    ensures { IfOk result (HasApp (leaf (shape_in moves))) }
+{
     named(alloc, "moves", MOVES_ABOUT, MOVES_LONG_ABOUT)
         .arg(game_word(alloc))?
         .arg(position_word(alloc))
 }
 
 /// The position whose moves are asked for.
-fn position_word<'a>(alloc: Global) -> Arg<'a> {
-    Arg::new(alloc, "at")
-        .help(
-            "The text of the position, as `white 2 v e 0,0,3`; `-` stands for those on standard input",
-        )
-        .action(ArgAction::Set)
+fn position_word<'a>(alloc: Global) -> Arg<'a>
+    ensures { HasRule position_word result }
+{
+    let help =
+        "The text of the position, as `white 2 v e 0,0,3`; `-` stands for those on standard input";
+    free_word(alloc, "at", help)
         .long("at")
         .value_name("POSITION")
 }
 
-/// The word that was given for this argument, if one was.
-pub fn word_in(
-    alloc: Global,
-    matches: &ArgMatches<'_>,
-    id: &str,
-) -> Result<Option<String>, AllocError> {
-    match matches.get_str(id) {
-        Some(word) => Ok(Some(String::from_str(alloc, word)?)),
-        None => Ok(None),
-    }
-}
-
 /// The command `actions`, as words spell it.
-pub fn actions_command<'a>(alloc: Global) -> Result<Command<'a>, AllocError> {
+pub fn actions_command<'a>(alloc: Global) -> Result<Command<'a>, AllocError>
+    ensures { IfOk result (HasApp (leaf (shape_in actions))) }
+{
     named(alloc, "actions", ACTIONS_ABOUT, ACTIONS_LONG_ABOUT).arg(game_word(alloc))
 }
 
 /// The command `check`, as words spell it.
-pub fn check_command<'a>(alloc: Global) -> Result<Command<'a>, AllocError> {
+pub fn check_command<'a>(alloc: Global) -> Result<Command<'a>, AllocError>
+    ensures { IfOk result (HasApp (leaf (shape_in check))) }
+{
     named(alloc, "check", CHECK_ABOUT, CHECK_LONG_ABOUT)
         .arg(required_word(alloc, "CERTIFICATE", "The file with the certificate"))?
-        .arg(
-            Arg::new(alloc, "GAME")
-                .help("The file with the text of the game that it has to be about")
-                .action(ArgAction::Set),
-        )
+        .arg(free_word(
+            alloc,
+            "GAME",
+            "The file with the text of the game that it has to be about",
+        ))
 }

@@ -1,6 +1,7 @@
 //! The program `rbgsolve` but for its `main`: the command line, the commands on files, and sessions.
 #![tactic(auto)]
 
+mod asked_words;
 mod certificates;
 pub mod commands;
 mod files;
@@ -16,6 +17,8 @@ mod program;
 mod sessions;
 mod streams;
 mod table_words;
+mod text_files;
+pub mod texts;
 pub mod words;
 
 pub use program::run;

@@ -5,6 +5,7 @@ use crate::files::{audit_file, create_file, grow_file, load_file, migrate_file};
 use crate::games::{actions_of_game, moves_of_game};
 use crate::sessions::{look_at_file, session_of_file};
 use crate::streams::Streams;
+use crate::text_files::{audit_file_of, text_of_file};
 use crate::words::{Refusal, Words, words_of};
 use explanations::explain::{Explanation, explain};
 use rbg_game::limits::MAX_TEXT_BYTES;
@@ -54,7 +55,11 @@ fn run_words(rt: &HostRuntime) -> u8 {
         Ok(Words::Load { file, game, goal }) => load_file(rt, alloc, &file, &game, goal),
         Ok(Words::Session { file, is_quiet }) => session_of_file(rt, alloc, &file, is_quiet),
         Ok(Words::Look { file, is_quiet }) => look_at_file(rt, alloc, &file, is_quiet),
-        Ok(Words::Audit { file }) => audit_file(rt, alloc, &file),
+        Ok(Words::Game { file }) => text_of_file(rt, alloc, &file),
+        Ok(Words::Audit { file, game }) => match game.as_deref() {
+            Some(game) => audit_file_of(rt, alloc, &file, game),
+            None => audit_file(rt, alloc, &file),
+        },
         Ok(Words::Migrate { file }) => migrate_file(rt, alloc, &file),
         Ok(Words::Grow { file, pages }) => grow_file(rt, alloc, &file, pages),
         Ok(Words::Certify { file, number }) => certify_file(rt, alloc, &file, number),
@@ -98,7 +103,7 @@ pub fn tell_game_fault(rt: &HostRuntime, alloc: Global, game: &str, text: &[u8],
         tell(
             rt,
             format_args!(
-                "{game}: this is a table, not the text of a game: `echo game | rbgsolve look FILE` prints the text of its game"
+                "{game}: this is a table, not the text of a game: `rbgsolve game FILE` prints the text of its game"
             ),
         );
         return;

@@ -1,6 +1,12 @@
 //! The words of the commands on a table.
 
-use crate::words::{game_word, named, required_word};
+ghost use Rattle.std.specs.Prelude.{◌≡◌, IfOk, pos};
+ghost use Rattle.clap.specs.declared.builder.value_parser.ValueParser.TheVariants.{Signed};
+ghost use Rattle.session.specs.Building.{HasApp, HasRule, leaf};
+ghost use Rattle.session.specs.Words.{about_word, audit, certify, create, file_word, game, goal_word, grow, load, look, migrate};
+ghost use Rattle.session.specs.Words.{pages_word, quiet_word, session, shape_in};
+
+use crate::words::{free_word, game_word, named, required_word};
 use clap::builder::ValueParser;
 use clap::{Arg, ArgAction, Command};
 use rbg_game::limits::MAX_POINTS;
@@ -66,7 +72,18 @@ const AUDIT_LONG_ABOUT: &str = concat!(
     "It prints `audit right finished`, or `audit right open` where work is left: then the named player wins each ",
     "settled position in exactly the named number of moves, and of a finished table the positions are all that ",
     "play can reach and the unsettled ones are drawn. Or it prints `audit wrong N REASON` with the lowest number ",
-    "that fails and its lowest condition, and ends with status 1.",
+    "that fails and its lowest condition, and ends with status 1.\n",
+    "\n",
+    "With `--game GAME` the table has to be about the text of GAME, byte for byte. One that is about another text is not audited: that is ",
+    "answered by `audit wrong game`, with status 1.",
+);
+
+const GAME_ABOUT: &str = "Prints the text of the game of a table";
+
+const GAME_LONG_ABOUT: &str = concat!(
+    "Prints the text of the game of a table, byte for byte as it was loaded, and nothing behind it.\n",
+    "\n",
+    "A table in which no game is loaded is answered by `refused S1`. The table is asked, and not changed.",
 );
 
 const MIGRATE_ABOUT: &str = "Brings a table of an earlier layout into today's";
@@ -101,14 +118,18 @@ const CERTIFY_LONG_ABOUT: &str = concat!(
 );
 
 /// The command `create`, as words spell it.
-pub fn create_command<'a>(alloc: Global) -> Result<Command<'a>, AllocError> {
+pub fn create_command<'a>(alloc: Global) -> Result<Command<'a>, AllocError>
+    ensures { IfOk result (HasApp (leaf (shape_in create))) }
+{
     named(alloc, "create", CREATE_ABOUT, CREATE_LONG_ABOUT)
         .arg(file_word(alloc))?
         .arg(pages_word(alloc))
 }
 
 /// The command `load`, as words spell it.
-pub fn load_command<'a>(alloc: Global) -> Result<Command<'a>, AllocError> {
+pub fn load_command<'a>(alloc: Global) -> Result<Command<'a>, AllocError>
+    ensures { IfOk result (HasApp (leaf (shape_in load))) }
+{
     named(alloc, "load", LOAD_ABOUT, LOAD_LONG_ABOUT)
         .arg(file_word(alloc))?
         .arg(game_word(alloc))?
@@ -116,7 +137,9 @@ pub fn load_command<'a>(alloc: Global) -> Result<Command<'a>, AllocError> {
 }
 
 /// The command `session`, as words spell it.
-pub fn session_command<'a>(alloc: Global) -> Result<Command<'a>, AllocError> {
+pub fn session_command<'a>(alloc: Global) -> Result<Command<'a>, AllocError>
+    ensures { IfOk result (HasApp (leaf (shape_in session))) }
+{
     named(alloc, "session", SESSION_ABOUT, SESSION_LONG_ABOUT)
         .after_help(SESSION_LINES)
         .arg(file_word(alloc))?
@@ -124,7 +147,9 @@ pub fn session_command<'a>(alloc: Global) -> Result<Command<'a>, AllocError> {
 }
 
 /// The command `look`, as words spell it.
-pub fn look_command<'a>(alloc: Global) -> Result<Command<'a>, AllocError> {
+pub fn look_command<'a>(alloc: Global) -> Result<Command<'a>, AllocError>
+    ensures { IfOk result (HasApp (leaf (shape_in look))) }
+{
     named(alloc, "look", LOOK_ABOUT, LOOK_LONG_ABOUT)
         .after_help(LOOK_LINES)
         .arg(file_word(alloc))?
@@ -132,40 +157,74 @@ pub fn look_command<'a>(alloc: Global) -> Result<Command<'a>, AllocError> {
 }
 
 /// The command `audit`, as words spell it.
-pub fn audit_command<'a>(alloc: Global) -> Result<Command<'a>, AllocError> {
-    named(alloc, "audit", AUDIT_ABOUT, AUDIT_LONG_ABOUT).arg(file_word(alloc))
+pub fn audit_command<'a>(alloc: Global) -> Result<Command<'a>, AllocError>
+    ensures { IfOk result (HasApp (leaf (shape_in audit))) }
+{
+    named(alloc, "audit", AUDIT_ABOUT, AUDIT_LONG_ABOUT)
+        .arg(file_word(alloc))?
+        .arg(about_word(alloc))
+}
+
+/// The game that a table has to be about.
+fn about_word<'a>(alloc: Global) -> Arg<'a>
+    ensures { HasRule about_word result }
+{
+    free_word(
+        alloc,
+        "game",
+        "The file with the text of the game that the table has to be about",
+    )
+    .long("game")
+    .value_name("GAME")
+}
+
+/// The command `game`, as words spell it.
+pub fn game_command<'a>(alloc: Global) -> Result<Command<'a>, AllocError>
+    ensures { IfOk result (HasApp (leaf (shape_in game))) }
+{
+    named(alloc, "game", GAME_ABOUT, GAME_LONG_ABOUT).arg(file_word(alloc))
 }
 
 /// The command `migrate`, as words spell it.
-pub fn migrate_command<'a>(alloc: Global) -> Result<Command<'a>, AllocError> {
+pub fn migrate_command<'a>(alloc: Global) -> Result<Command<'a>, AllocError>
+    ensures { IfOk result (HasApp (leaf (shape_in migrate))) }
+{
     named(alloc, "migrate", MIGRATE_ABOUT, MIGRATE_LONG_ABOUT).arg(file_word(alloc))
 }
 
 /// The command `grow`, as words spell it.
-pub fn grow_command<'a>(alloc: Global) -> Result<Command<'a>, AllocError> {
+pub fn grow_command<'a>(alloc: Global) -> Result<Command<'a>, AllocError>
+    ensures { IfOk result (HasApp (leaf (shape_in grow))) }
+{
     named(alloc, "grow", GROW_ABOUT, GROW_LONG_ABOUT)
         .arg(file_word(alloc))?
         .arg(pages_word(alloc))
 }
 
 /// The command `certify`, as words spell it.
-pub fn certify_command<'a>(alloc: Global) -> Result<Command<'a>, AllocError> {
+pub fn certify_command<'a>(alloc: Global) -> Result<Command<'a>, AllocError>
+    ensures { IfOk result (HasApp (leaf (shape_in certify))) }
+{
     named(alloc, "certify", CERTIFY_ABOUT, CERTIFY_LONG_ABOUT)
         .arg(file_word(alloc))?
-        .arg(
-            Arg::new(alloc, "NUMBER")
-                .help("The number of the position, 0 if it is left out")
-                .action(ArgAction::Set),
-        )
+        .arg(free_word(
+            alloc,
+            "NUMBER",
+            "The number of the position, 0 if it is left out",
+        ))
 }
 
 /// The word for the file of a table.
-fn file_word<'a>(alloc: Global) -> Arg<'a> {
+fn file_word<'a>(alloc: Global) -> Arg<'a>
+    ensures { HasRule file_word result }
+{
     required_word(alloc, "FILE", "The file with the table")
 }
 
 /// The word that leaves out the sentences on standard error.
-fn quiet_word<'a>(alloc: Global) -> Arg<'a> {
+fn quiet_word<'a>(alloc: Global) -> Arg<'a>
+    ensures { HasRule quiet_word result }
+{
     Arg::new(alloc, "quiet")
         .help("Says nothing on standard error of what is refused")
         .action(ArgAction::SetTrue)
@@ -173,7 +232,9 @@ fn quiet_word<'a>(alloc: Global) -> Arg<'a> {
 }
 
 /// How many pages a table has: what `page_counts::pages_of` takes, which is asked once the words are parsed.
-fn pages_word<'a>(alloc: Global) -> Arg<'a> {
+fn pages_word<'a>(alloc: Global) -> Arg<'a>
+    ensures { HasRule pages_word result }
+{
     required_word(
         alloc,
         "pages",
@@ -185,15 +246,19 @@ fn pages_word<'a>(alloc: Global) -> Arg<'a> {
 
 /// How many points a player needs, a number of the type `u32` within bounds: what `value_parser!(u32).range(1..=1_000_000)` gives, said at
 /// once, since a range takes long to prove.
-fn goal_word<'a>(alloc: Global) -> Arg<'a> {
-    Arg::new(alloc, "goal")
-        .help("How many points win the game, 1 to 1,000,000: who has them while the other has not")
-        .action(ArgAction::Set)
+fn goal_word<'a>(alloc: Global) -> Arg<'a>
+    ensures { HasRule goal_word result }
+{
+    let help = "How many points win the game, 1 to 1,000,000: who has them while the other has not";
+    free_word(alloc, "goal", help)
         .long("goal")
         .value_name("K")
         .value_parser(goals())
 }
 
-fn goals<'a>() -> ValueParser<'a> {
+/// The bounds of a goal.
+fn goals<'a>() -> ValueParser<'a>
+    ensures { result ≡ Signed (pos 1) (pos 1000000) }
+{
     ValueParser::signed(1, i64::from(MAX_POINTS))
 }

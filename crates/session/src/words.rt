@@ -1,12 +1,16 @@
 //! The command line.
-ghost use Rattle.std.specs.Prelude.{IfErr};
+ghost use Rattle.std.specs.Prelude.{IfErr, IfOk, map, string_bytes};
+ghost use Rattle.clap.specs.Values.{kind_of};
+ghost use Rattle.clap.specs.Words.{App, Shape, new_app, subcommand_rows_of, with_subcommand};
+ghost use Rattle.session.specs.Building.{AskNothing, EndsAs, FailAs, HasApp, HasRule, leaf};
 ghost use Rattle.session.specs.Statuses.{IsStatusOfWords};
+ghost use Rattle.session.specs.Words.{AsksBy, Mean, alone_program, free, game_word, needed, program};
 
-use crate::game_words::{actions_command, check_command, moves_command, word_in};
-use crate::page_counts::{is_number, pages_of};
+use crate::asked_words::asked_in;
+use crate::game_words::{actions_command, check_command, moves_command};
 use crate::table_words::{
-    audit_command, certify_command, create_command, grow_command, load_command, look_command,
-    migrate_command, session_command,
+    audit_command, certify_command, create_command, game_command, grow_command, load_command,
+    look_command, migrate_command, session_command,
 };
 use clap::error::ErrorKind;
 use clap::{Arg, ArgAction, ArgMatches, Command, Error};
@@ -46,9 +50,14 @@ pub enum Words {
         file: String,
         is_quiet: bool,
     },
-    /// Whether the table of this file is right.
+    /// The text of the game in the table of this file.
+    Game {
+        file: String,
+    },
+    /// Whether the table of this file is right, and about the game in the other file, if one is given.
     Audit {
         file: String,
+        game: Option<String>,
     },
     /// Brings the table of this file into today's layout.
     Migrate {
@@ -112,9 +121,12 @@ const NO_NUMBER: &str = "the number of a position is one to ten digits, at most 
 
 const NO_GOAL: &str = "the number behind `--goal` is one to ten digits";
 
+const NO_WORD: &str = "a word is missing";
+
 /// The command that the words ask for; the first word is the program's name.
 pub fn words_of(alloc: Global, words: &[String]) -> Result<Words, Refusal>
-    ensures { IfErr result (λ refusal. IsStatusOfWords refusal.status) }
+    ensures ok { IfOk result (Mean (map string_bytes words.now)) }
+    ensures err { IfErr result (λ refusal. IsStatusOfWords (map string_bytes words.now) refusal.status) }
 {
     match parsed(alloc, words) {
         Ok(words) => Ok(words),
@@ -122,136 +134,52 @@ pub fn words_of(alloc: Global, words: &[String]) -> Result<Words, Refusal>
     }
 }
 
-fn parsed<'a>(alloc: Global, words: &'a [String]) -> Result<Words, Error> {
+/// What the words ask for.
+fn parsed<'a>(alloc: Global, words: &'a [String]) -> Result<Words, Error>
+    ensures ok { IfOk result (Mean (map string_bytes words.now)) }
+    ensures err { IfErr result (λ error. FailAs (map string_bytes words.now) (kind_of error)) }
+{
     let mut command: Command<'a> = command(alloc)?;
-    let matches = command.try_get_matches_from_mut(words)?;
-    if has_no_pages(&matches) {
-        return Err(command.error(ErrorKind::ValueValidation, NO_PAGES)?);
-    }
-    if has_no_number(&matches) {
-        return Err(command.error(ErrorKind::ValueValidation, NO_NUMBER)?);
-    }
-    if has_signed_goal(&matches) {
-        return Err(command.error(ErrorKind::ValueValidation, NO_GOAL)?);
-    }
-    Ok(asked_in(alloc, &matches)?)
-}
-
-/// Whether what stands after `--pages` is no number of pages.
-fn has_no_pages(matches: &ArgMatches<'_>) -> bool {
-    match matches.subcommand() {
-        Some(("create" | "grow", inner)) => pages_in(inner).is_none(),
-        _ => false,
+    match command.try_get_matches_from_mut(words) {
+        Ok(matches) => asked_or_wrong(alloc, &mut command, &matches),
+        Err(error) => Err(error),
     }
 }
 
-/// Whether what stands for the number of a position is none.
-fn has_no_number(matches: &ArgMatches<'_>) -> bool {
-    match matches.subcommand() {
-        Some(("certify", inner)) => number_in(inner).is_none(),
-        _ => false,
+/// What the command that was given asks for, or what is wrong with its words.
+fn asked_or_wrong(
+    alloc: Global,
+    command: &mut Command<'_>,
+    matches: &ArgMatches<'_>,
+) -> Result<Words, Error>
+    ensures ok { IfOk result (AsksBy (subcommand_rows_of matches.now)) }
+    ensures err { IfErr result (λ error. AskNothing (subcommand_rows_of matches.now) (kind_of error)) }
+{
+    match asked_in(alloc, matches)? {
+        Some(asked) => Ok(asked),
+        None => Err(command.error(ErrorKind::ValueValidation, why_none(matches))?),
     }
 }
 
-/// The number of a position that was given, 0 if none was.
-fn number_in(matches: &ArgMatches<'_>) -> Option<u32> {
-    let word = matches.get_str("NUMBER").unwrap_or("0");
-    if !is_number(word) {
-        return None;
-    }
-    match word.parse::<u32>() {
-        Ok(number) => Some(number),
-        Err(_) => None,
+/// What is wrong with the words of a command that ask for nothing.
+fn why_none(matches: &ArgMatches<'_>) -> &'static str {
+    match matches.subcommand_name() {
+        Some("create" | "grow") => NO_PAGES,
+        Some("certify") => NO_NUMBER,
+        Some("load") => NO_GOAL,
+        _ => NO_WORD,
     }
 }
 
-/// The pages that stand after `--pages`.
-fn pages_in(matches: &ArgMatches<'_>) -> Option<u32> {
-    pages_of(matches.get_str("pages").unwrap_or(""))
-}
-
-/// Whether what stands after `--goal` is anything but one to ten digits.
-fn has_signed_goal(matches: &ArgMatches<'_>) -> bool {
-    match matches.subcommand() {
-        Some(("load", inner)) => !is_number(inner.get_str("goal").unwrap_or("0")),
-        _ => false,
-    }
-}
-
-/// What the command that was given asks for.
-fn asked_in(alloc: Global, matches: &ArgMatches<'_>) -> Result<Words, AllocError> {
-    match matches.subcommand() {
-        Some((name, inner)) => asked_for(alloc, name, inner),
-        None => asked_for(alloc, "", matches),
-    }
-}
-
-/// What the command of this name asks for, with the words after it.
-fn asked_for(alloc: Global, name: &str, inner: &ArgMatches<'_>) -> Result<Words, AllocError> {
-    match name {
-        "create" => Ok(Words::Create {
-            file: given(alloc, inner, "FILE")?,
-            pages: pages_in(inner).unwrap_or(0),
-        }),
-        "load" => Ok(Words::Load {
-            file: given(alloc, inner, "FILE")?,
-            game: given(alloc, inner, "GAME")?,
-            goal: goal_in(inner),
-        }),
-        "session" => Ok(Words::Session {
-            file: given(alloc, inner, "FILE")?,
-            is_quiet: inner.get_flag("quiet"),
-        }),
-        "look" => Ok(Words::Look {
-            file: given(alloc, inner, "FILE")?,
-            is_quiet: inner.get_flag("quiet"),
-        }),
-        "audit" => Ok(Words::Audit {
-            file: given(alloc, inner, "FILE")?,
-        }),
-        "migrate" => Ok(Words::Migrate {
-            file: given(alloc, inner, "FILE")?,
-        }),
-        "grow" => Ok(Words::Grow {
-            file: given(alloc, inner, "FILE")?,
-            pages: pages_in(inner).unwrap_or(0),
-        }),
-        "actions" => Ok(Words::Actions {
-            game: given(alloc, inner, "GAME")?,
-        }),
-        "certify" => Ok(Words::Certify {
-            file: given(alloc, inner, "FILE")?,
-            number: number_in(inner).unwrap_or(0),
-        }),
-        "check" => Ok(Words::Check {
-            certificate: given(alloc, inner, "CERTIFICATE")?,
-            game: word_in(alloc, inner, "GAME")?,
-        }),
-        _ => Ok(Words::Moves {
-            game: given(alloc, inner, "GAME")?,
-            at: word_in(alloc, inner, "at")?,
-        }),
-    }
-}
-
-/// The goal that was given, if one was.
-fn goal_in(matches: &ArgMatches<'_>) -> Option<Goal> {
-    match matches.get_one("goal") {
-        Some(points) => Goal::new(points),
-        None => None,
-    }
-}
-
-/// The word that was given for this argument.
-fn given(alloc: Global, matches: &ArgMatches<'_>, id: &str) -> Result<String, AllocError> {
-    String::from_str(alloc, matches.get_str(id).unwrap_or(""))
-}
-
-fn command<'a>(alloc: Global) -> Result<Command<'a>, AllocError> {
+/// The program's command.
+fn command<'a>(alloc: Global) -> Result<Command<'a>, AllocError>
+    ensures { IfOk result (HasApp program) }
+{
     let command = with(whole_command(alloc), create_command(alloc))?;
     let command = with(command, load_command(alloc))?;
     let command = with(command, session_command(alloc))?;
     let command = with(command, look_command(alloc))?;
+    let command = with(command, game_command(alloc))?;
     let command = with(command, audit_command(alloc))?;
     let command = with(command, migrate_command(alloc))?;
     let command = with(command, grow_command(alloc))?;
@@ -267,14 +195,18 @@ pub(crate) fn named<'a>(
     name: &'a str,
     about: &'a str,
     long_about: &'a str,
-) -> Command<'a> {
+) -> Command<'a>
+    ensures { HasApp (new_app name.now) result }
+{
     Command::new(alloc, name)
         .about(about)
         .long_about(long_about)
 }
 
 /// The program's command but for what can be done.
-fn whole_command<'a>(alloc: Global) -> Command<'a> {
+fn whole_command<'a>(alloc: Global) -> Command<'a>
+    ensures { HasApp (leaf alone_program) result }
+{
     named(alloc, "rbgsolve", ABOUT, LONG_ABOUT)
         .version(VERSION)
         .after_help(AFTER_HELP)
@@ -286,25 +218,40 @@ fn whole_command<'a>(alloc: Global) -> Command<'a> {
 fn with<'a>(
     command: Command<'a>,
     more: Result<Command<'a>, AllocError>,
-) -> Result<Command<'a>, AllocError> {
+) -> Result<Command<'a>, AllocError>
+    ensures { (app : App) (shape : Shape) → HasApp app command.entry → IfOk more.entry (HasApp (leaf shape))
+        → IfOk result (HasApp (with_subcommand app shape)) }
+{
     command.subcommand(more?)
 }
 
 /// A word that has to be given, and what help says of it.
-pub(crate) fn required_word<'a>(alloc: Global, id: &'a str, help: &'a str) -> Arg<'a> {
+pub(crate) fn required_word<'a>(alloc: Global, id: &'a str, help: &'a str) -> Arg<'a>
+    ensures { HasRule (needed id.now) result }
+{
     Arg::new(alloc, id)
         .help(help)
         .required(true)
         .action(ArgAction::Set)
 }
 
+/// A word that may be left out, and what help says of it.
+pub(crate) fn free_word<'a>(alloc: Global, id: &'a str, help: &'a str) -> Arg<'a>
+    ensures { HasRule (free id.now) result }
+{
+    Arg::new(alloc, id).help(help).action(ArgAction::Set)
+}
+
 /// The word for the file of a game.
-pub(crate) fn game_word<'a>(alloc: Global) -> Arg<'a> {
+pub(crate) fn game_word<'a>(alloc: Global) -> Arg<'a>
+    ensures { HasRule game_word result }
+{
     required_word(alloc, "GAME", "The file with the game text")
 }
 
+/// The status and the text of an error.
 fn refusal_of(alloc: Global, error: Error) -> Refusal
-    ensures { IsStatusOfWords result.status }
+    ensures { EndsAs (kind_of error) result.status }
 {
     let status = match error.kind() {
         ErrorKind::OutOfMemory => 5,
