@@ -14,6 +14,7 @@ use game_file::Versions;
 use session_lines::input::{Asked, ListingLine};
 use session_lines::listing_laws::a_listing_is_printed_as_it_was;
 use session_lines::listings::put_listing;
+use session_lines::moments::Moments;
 use session_lines::questions::put_answer;
 use solver::{FileSolver, Listing, Units};
 use std::alloc::Global;
@@ -90,7 +91,15 @@ fn begin<F: Versions, W: Write, E: Write>(
         → IfOk result (λ done. done ≡ true → IsBegunOf F.state F.is_version F.are_two kept solver.old.file
         solver.new.file listings.old.items listings.new.items) }
 {
-    let status = put_listing(alloc, solver, listings, ListingLine::Begin, out, told)?;
+    let status = put_listing(
+        alloc,
+        solver,
+        listings,
+        ListingLine::Begin,
+        out,
+        told,
+        &mut Moments::new(),
+    )?;
     Ok(status == 0)
 }
 
@@ -114,7 +123,15 @@ fn print_next<F: Versions, W: Write, E: Write>(
         × Appends (W.contents out.old) (W.contents out.new) text) }
 {
     a_listing_is_printed_as_it_was::<F>();
-    let status = put_listing(alloc, solver, listings, ListingLine::Next(count), out, told)?;
+    let status = put_listing(
+        alloc,
+        solver,
+        listings,
+        ListingLine::Next(count),
+        out,
+        told,
+        &mut Moments::new(),
+    )?;
     Ok(status == 0)
 }
 
@@ -153,7 +170,14 @@ fn work_and_grow<F: Versions, W: Write, E: Write>(
     ensures go_on { IsReady solver.old → IsTrue (state solver.old).disk.honest
         → OnOk result (AllGoOn F.state F.is_version solver.old.file solver.new.file) }
 {
-    let _status = put_answer(alloc, solver, Asked::Work(units(256)), out, told)?;
+    let _status = put_answer(
+        alloc,
+        solver,
+        Asked::Work(units(256)),
+        out,
+        told,
+        &mut Moments::new(),
+    )?;
     let _grown = solver.grow(pages);
     Ok(())
 }
@@ -180,7 +204,16 @@ fn print_and_end<F: Versions, W: Write, E: Write>(
         ListingLine::Next(units(256)),
         out,
         told,
+        &mut Moments::new(),
     )?;
-    let _end = put_listing(alloc, solver, listings, ListingLine::End, out, told)?;
+    let _end = put_listing(
+        alloc,
+        solver,
+        listings,
+        ListingLine::End,
+        out,
+        told,
+        &mut Moments::new(),
+    )?;
     Ok(())
 }
