@@ -14,6 +14,7 @@ use Rattle.game_file.specs.Growing.{IsGrownFile, IsNotGrown}
 use Rattle.game_file.specs.Kept.{Layout, text_kept}
 use Rattle.game_file.specs.State.{State}
 use Rattle.solver.specs.declared.fault.SolverFault.{SolverFault}
+use Rattle.solver.specs.declared.fault.SolverFault.TheVariants as fault
 use Rattle.solver.specs.declared.replies.Reply.{Reply}
 use Rattle.solver.specs.declared.replies.Reply.TheVariants as reply
 use Rattle.solver.specs.Audits.{HasVerdict, IsSoInGame, AuditCause}
