@@ -1,11 +1,14 @@
 -- A session is a course of steps on its solver.
-use Rattle.std.proofs.Common.{◌≡◌, ◌≤◌, ℕ, List, [], ◌∷◌, ◌++◌, Option, Some, None, false, map, refl, ap, ◌∙◌, subst}
+use Rattle.std.proofs.Common.{◌≡◌, ◌≤◌, ◌<◌, inl, inr, ◌⊎◌, ℕ, List, [], ◌∷◌, ◌++◌, Option, Some, None, false, map, refl, ap, sym, ◌∙◌}
+use Rattle.std.proofs.Common.{subst, append-nil, arith}
+use Rattle.std.proofs.lemmas.Bool.{cases_lt}
 use Rattle.std.proofs.lemmas.List.{map-append}
-use Rattle.sector_disk.specs.Disk.{Shown}
+use Rattle.sector_disk.specs.Disk.{Disk, GoesOn, Shown}
+use Rattle.sector_disk.specs.aid.Moments.{goes_on_trans}
 use Rattle.game_file.specs.Kept.{Layout}
 use Rattle.game_file.specs.State.{State}
 use Rattle.retrograde.specs.Stored.{Stored}
-use Rattle.solver.specs.Histories.{Sitting, History, no_call, in_a_growth, was_left, was_reopened, was_not_opened}
+use Rattle.solver.specs.Histories.{IsFound, Sitting, History, no_call, in_a_growth, was_left, was_reopened, was_not_opened}
 use Rattle.solver.specs.Machine.{Command}
 use Rattle.solver.specs.Units.{units_in}
 use Rattle.solver.specs.declared.listing.Listing.{Listing}
@@ -16,12 +19,13 @@ use Rattle.session_lines.specs.declared.looked.Looked.{Looked}
 use Rattle.session_lines.specs.declared.looked.Looked.TheVariants as looked
 use Rattle.session_lines.specs.Looks.{IsLookedAt}
 use Rattle.session.specs.Seen.{Moment, Seen}
-use Rattle.session.specs.Sessions.{SessionState, first_state, IsLineAnswered, AnswersIn, AnswersLines, EndsWithin, IsSession, AsItIs, WithEnd}
+use Rattle.session.specs.Sessions.{SessionState, first_state, IsLineAnswered, AnswersIn, AnswersLines, EndsWithin, IsSession, IsSessionOver, AsItIs, WithEnd}
 use Rattle.session.specs.declared.line_by_line.Lines.{Lines}
 use Rattle.session.specs.declared.line_by_line.Lines.TheVariants.{Session, Look}
-use Rattle.lines_kept.specs.Told.{told_by, command_in, command_of, commands_of, commands_in}
+use Rattle.lines_kept.specs.Told.{told_by, command_in, command_of, commands_of, commands_in, commands_over}
 use Rattle.lines_kept.specs.Uses.{Uses}
-use Rattle.lines_kept.proofs.Walks.{AreTold, Step, commanded, questioned, nothing, Walk, here, more, Stopped, low_is_told, walk_stopped, ended_stopped}
+use Rattle.lines_kept.proofs.Walks.{AreTold, Step, commanded, questioned, nothing, step_goes, Walk, here, more, walk_goes, Stopped, low_is_told}
+use Rattle.lines_kept.proofs.Walks.{walk_stopped, ended_stopped}
 
 module _ {F Version : Type 0} (Stores : ℕ → Layout) (state : F → State) (IsVersion : Version → Stored (List ℕ) → F → Type 0)
     (AreTwo : Version → Version → Type 0) (IsUsedUp : F → Type 0) (Lasts : F → F → Type 0) where
@@ -122,6 +126,36 @@ module _ {F Version : Type 0} (Stores : ℕ → Layout) (state : F → State) (I
   session_stopped (IsSession.unread each rest text moments are one answers wrote) open_ stop from to =
       walk_stopped Stores (walk_of answers) open_ stop from to
 
+  -- the disk goes on in a session
+  pub session_goes : {bytes : List ℕ} {begins new : SessionState F Version} {left : Option (List ℕ)} {before after : Seen} {status : ℕ}
+      → (it : IsSession Stores state IsVersion AreTwo IsUsedUp Lasts bytes begins new left before after status)
+      → GoesOn (state begins.file).disk (state new.file).disk
+  session_goes (IsSession.within status (EndsWithin.quits each line behind text moments are answers asks wrote)) = walk_goes Stores (walk_of answers)
+  session_goes {new = new}
+      (IsSession.within status (EndsWithin.refuses each line behind text reply moments moment old status-2 are answers is high begun wrote)) =
+      goes_on_trans (walk_goes Stores (walk_of answers))
+      (step_goes Stores (step_of WithEnd line old.file new.file old.listings new.listings status-2 reply moment begun.disk_is is))
+  session_goes (IsSession.within status (EndsWithin.no_memory each rest text moments are answers wrote)) = walk_goes Stores (walk_of answers)
+  session_goes {new = new}
+      (IsSession.within status (EndsWithin.unwritten each line behind text reply moments moment old status-2 are answers is begun part)) =
+      goes_on_trans (walk_goes Stores (walk_of answers))
+      (step_goes Stores (step_of WithEnd line old.file new.file old.listings new.listings status-2 reply moment begun.disk_is is))
+  session_goes (IsSession.within status (EndsWithin.untold each rest text moments are answers part)) = walk_goes Stores (walk_of answers)
+  session_goes {new = new} (IsSession.at_end each rest text reply moments moment old status are one end answers is begun wrote) =
+      goes_on_trans (walk_goes Stores (walk_of answers))
+      (step_goes Stores (step_of AsItIs rest old.file new.file old.listings new.listings status reply moment begun.disk_is is))
+  session_goes (IsSession.last_quits each rest text moments are one end answers asks wrote) = walk_goes Stores (walk_of answers)
+  session_goes {new = new} (IsSession.last_unwritten each rest text reply moments moment old status are one end answers is begun part) =
+      goes_on_trans (walk_goes Stores (walk_of answers))
+      (step_goes Stores (step_of AsItIs rest old.file new.file old.listings new.listings status reply moment begun.disk_is is))
+  session_goes (IsSession.unread each rest text moments are one answers wrote) = walk_goes Stores (walk_of answers)
+
+  begun_goes : {bytes : List ℕ} {new : SessionState F Version} {left : Option (List ℕ)} {before after : Seen} {status : ℕ} (which : Lines) (begins : F)
+      → (it : IsSession Stores state IsVersion AreTwo IsUsedUp Lasts bytes (first_state begins which) new left before after status)
+      → GoesOn (state begins).disk (state new.file).disk
+  begun_goes Session begins it = session_goes it
+  begun_goes Look begins it = session_goes it
+
   pub begun_stopped : {bytes : List ℕ} {new : SessionState F Version} {left : Option (List ℕ)} {before after : Seen} {status : ℕ} (which : Lines) (begins : F)
       → (it : IsSession Stores state IsVersion AreTwo IsUsedUp Lasts bytes (first_state begins which) new left before after status)
       → (state begins).closed ≡ false → (stop : ℕ) → (state begins).disk.clock ≤ stop → stop ≤ (state new.file).disk.clock
@@ -164,3 +198,40 @@ module _ {F Version : Type 0} (Stores : ℕ → Layout) (state : F → State) (I
       )
   history_of (Uses.nothing before found leaves stop from to) =
       let (sittings, same, history) = history_of before in (sittings, same, was_not_opened history found leaves stop from to)
+
+  -- a session that is over was a use of the file, up to each moment of it
+  pub a_session_is_a_use : (which : Lines) (disk back : Disk) (count now : ℕ) (bytes : List ℕ) (left : Option (List ℕ)) (before after : Seen) (status : ℕ)
+      (told : List (List (Command × Reply))) (shown : Shown) (stop : ℕ) → Uses Stores state IsVersion AreTwo IsUsedUp Lasts told shown
+      → IsFound Stores shown disk
+      → (over : IsSessionOver Stores state IsVersion AreTwo IsUsedUp Lasts which disk count bytes left before after status back now) → disk.clock ≤ stop
+      → stop ≤ back.clock
+      → (more : List (List (Command × Reply)))
+      × ((more ≡ []) ⊎ (more ≡ told_by stop (commands_over Stores state IsVersion AreTwo IsUsedUp Lasts over) ∷ []))
+      × Uses Stores state IsVersion AreTwo IsUsedUp Lasts (told ++ more) (back.was stop)
+  a_session_is_a_use which disk back count now bytes left before after status told shown stop uses found
+      (IsSessionOver.unopened why unopened none printed same) from to = (
+        [],
+        inl refl,
+        subst (λ t. Uses Stores state IsVersion AreTwo IsUsedUp Lasts t (back.was stop)) (sym (append-nil told))
+            (Uses.nothing uses found (unopened.0.leaves found.honest) stop from to),
+      )
+  a_session_is_a_use which disk back count now bytes left before after status told shown stop uses found
+      (IsSessionOver.opened begins ends opened it gives) from to = elim (cases_lt stop (state begins).disk.clock) [
+        | inl lt ↦ (
+          [],
+          inl refl,
+          subst (λ t. Uses Stores state IsVersion AreTwo IsUsedUp Lasts t (back.was stop)) (sym (append-nil told))
+              (subst (Uses Stores state IsVersion AreTwo IsUsedUp Lasts told) (sym (shown_then lt))
+              (Uses.nothing uses found (opened.since found.honest) stop from (omega (arith, lt)))),
+        )
+        | inr le ↦ (
+          told_by stop (commands_in Stores state IsVersion AreTwo IsUsedUp Lasts it) ∷ [],
+          inr refl,
+          subst (Uses Stores state IsVersion AreTwo IsUsedUp Lasts
+              (told ++ told_by stop (commands_in Stores state IsVersion AreTwo IsUsedUp Lasts it) ∷ [])) (sym (ap (λ (d : Disk). d.was stop) gives.disk))
+              (Uses.lines which begins ends uses found opened it stop le (omega (arith, to, ap (λ (d : Disk). d.clock) gives.disk))),
+        )
+      ]
+    where
+      shown_then : stop < (state begins).disk.clock → back.was stop ≡ (state begins).disk.was stop
+      shown_then lt = ap (λ (d : Disk). d.was stop) gives.disk ∙ (begun_goes which begins it).past stop (omega (arith, lt))

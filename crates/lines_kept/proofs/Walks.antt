@@ -110,7 +110,7 @@ module _ (Stores : ℕ → Layout) where
     questioned : {new : State} → IsAsked Stores old new → Step old [] new
     nothing : {new : State} → new ≡ old → Step old [] new
 
-  step_goes : {old new : State} {last : List Answer} → Step old last new → GoesOn old.disk new.disk
+  pub step_goes : {old new : State} {last : List Answer} → Step old last new → GoesOn old.disk new.disk
   step_goes (commanded command said moment turn same) = turn.ahead.goes_on
   step_goes (questioned asked) = asked.ahead.goes_on
   step_goes {old} {new} (nothing same) = subst (λ (s : State). GoesOn old.disk s.disk) (sym same) (goes_on_refl old.disk)
@@ -156,7 +156,7 @@ module _ (Stores : ℕ → Layout) where
     more : {answers last : List Answer} {old new : State} → Walk was answers old → Step old last new → AreTold last
         → Walk was (answers ++ last) new
 
-  walk_goes : {was is : State} {answers : List Answer} → Walk was answers is → GoesOn was.disk is.disk
+  pub walk_goes : {was is : State} {answers : List Answer} → Walk was answers is → GoesOn was.disk is.disk
   walk_goes {was} here = goes_on_refl was.disk
   walk_goes (more walk step its) = goes_on_trans (walk_goes walk) (step_goes step)
 

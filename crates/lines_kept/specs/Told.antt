@@ -1,11 +1,12 @@
 -- Which commands a session tells, and what of them was told when a stop came.
 use Rattle.std.specs.Prelude.{ℕ, List, [], ◌∷◌, ◌++◌, Option, Some, nat_le, if◌then◌else◌}
+use Rattle.sector_disk.specs.Disk.{Disk}
 use Rattle.game_file.specs.Kept.{Layout}
 use Rattle.game_file.specs.State.{State}
 use Rattle.retrograde.specs.Stored.{Stored}
 use Rattle.solver.specs.Machine.{Command, work}
 use Rattle.solver.specs.Units.{units_in}
-use Rattle.solver.specs.declared.fault.SolverFault.TheVariants.{Disk}
+use Rattle.solver.specs.declared.fault.SolverFault.TheVariants.{Disk as DiskFailed}
 use Rattle.solver.specs.declared.listing.Listing.{Listing}
 use Rattle.solver.specs.declared.replies.Reply.{Reply}
 use Rattle.solver.specs.declared.replies.Reply.TheVariants.{Refused}
@@ -13,7 +14,8 @@ use Rattle.session_lines.specs.declared.input.Asked.{Asked}
 use Rattle.session_lines.specs.declared.input.Asked.TheVariants as asked
 use Rattle.session.specs.Seen.{Moment, Seen}
 use Rattle.session.specs.Sessions.{SessionState, IsLineAnswered, AnswersIn, AnswersLines, EndsWithin, IsSession}
-use Rattle.session.specs.Sessions.{AsItIs, WithEnd}
+use Rattle.session.specs.Sessions.{IsSessionOver, AsItIs, WithEnd}
+use Rattle.session.specs.declared.line_by_line.Lines.{Lines}
 
 -- a command that was answered with this reply, which began at this moment
 pub record Answer : Type 0 where
@@ -23,7 +25,7 @@ pub record Answer : Type 0 where
 
 -- the command and its reply; E1 does not tell whether it was done
 abbrev pub told : Command → Reply → List (Command × Reply)
-told command (Refused Disk) = []
+told command (Refused DiskFailed) = []
 told command reply = (command, reply) ∷ []
 
 -- what was told when the clock of the disk showed this: the replies had begun by then
@@ -84,3 +86,11 @@ module _ {F Version : Type 0} (Stores : ℕ → Layout) (state : F → State)
       (IsSession.last_unwritten each rest text reply moments moment old status are one end answers is begun part) =
       commands_of answers ++ command_of AsItIs rest old.file new.file old.listings new.listings status reply moment is
   commands_in (IsSession.unread each rest text moments are one answers wrote) = commands_of answers
+
+  -- the commands of a session that is over; where the table was not opened, none
+  abbrev pub commands_over : {which : Lines} {disk : Disk} {count : ℕ} {bytes : List ℕ} {left : Option (List ℕ)}
+      {before after : Seen} {status : ℕ} {back : Disk} {now : ℕ}
+      → IsSessionOver Stores state IsVersion AreTwo IsUsedUp Lasts which disk count bytes left before after status back
+      now → List Answer
+  commands_over (IsSessionOver.opened begins ends opened session gives) = commands_in session
+  commands_over (IsSessionOver.unopened why unopened none printed same) = []

@@ -42,7 +42,8 @@ module _ {F Version : Type 0} (Stores : ℕ → Layout) (state : F → State)
     loaded : {uses : List (List (Command × Reply))} {shown : Shown} {disk : Disk} {count : ℕ} {was is : State}
         (text : List ℕ) (goal : Option ℕ) (said : Reply) (moment : Moment) → Uses uses shown
         → IsFound Stores shown disk → IsOpened Stores disk count was
-        → IsTurn Stores (Command.load text goal) said was is → moment.disk ≡ is.disk → (stop : ℕ) → was.disk.clock ≤ stop → stop ≤ is.disk.clock
+        → IsTurn Stores (Command.load text goal) said was is → moment.disk ≡ is.disk → (stop : ℕ)
+        → was.disk.clock ≤ stop → stop ≤ is.disk.clock
         → Uses (uses ++ told_by stop (record { command = Command.load text goal; reply = said; moment = moment } ∷ [])
         ∷ []) (is.disk.was stop)
     asked : {uses : List (List (Command × Reply))} {shown : Shown} {disk : Disk} {count : ℕ} {was is : State}

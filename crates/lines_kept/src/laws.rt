@@ -1,8 +1,13 @@
 //! What holds of a file that sessions of lines have used, whatever stops came.
-ghost use Rattle.std.specs.Prelude.{ℕ, List};
-ghost use Rattle.sector_disk.specs.Disk.{Picture, Shown, MayLeave};
+ghost use Rattle.std.specs.Prelude.{◌≡◌, ◌⊎◌, ℕ, ◌≤◌, List, [], ◌∷◌, ◌++◌, Option};
+ghost use Rattle.sector_disk.specs.Disk.{Disk, Picture, Shown, MayLeave};
+ghost use Rattle.solver.specs.Histories.{IsFound};
 ghost use Rattle.solver.specs.Machine.{Command};
 ghost use Rattle.solver.specs.declared.replies.Reply.{Reply};
+ghost use Rattle.session.specs.Seen.{Seen};
+ghost use Rattle.session.specs.Sessions.{IsSessionOver};
+ghost use Rattle.session.specs.declared.line_by_line.Lines.{Lines};
+ghost use Rattle.lines_kept.specs.Told.{commands_over, told_by};
 ghost use Rattle.lines_kept.specs.Uses.{AreKept, Uses};
 
 use file_disk::FileDisk;
@@ -32,3 +37,16 @@ pub fn what_our_lines_told_is_kept()
 {
     what_lines_told_is_kept::<TableFile<FileDisk>>()
 }
+
+/// A session that is over, as `session_over` and `look_over` promise it, was a use of the file that it found, up to
+/// each moment of its disk. It told its commands so far; while it opened the table, nothing.
+pub fn a_session_is_a_use<F: Versions>()
+    ensures { (which : Lines) (disk back : Disk) (count now : ℕ) (bytes : List ℕ) (left : Option (List ℕ))
+        (before after : Seen) (status : ℕ) (told : List (List (Command × Reply))) (shown : Shown) (stop : ℕ)
+        → Uses F.stores F.state F.is_version F.are_two F.is_used_up F.lasts told shown → IsFound F.stores shown disk
+        → (over : IsSessionOver F.stores F.state F.is_version F.are_two F.is_used_up F.lasts which disk count bytes left
+        before after status back now) → disk.clock ≤ stop → stop ≤ back.clock → (more : List (List (Command × Reply)))
+        × ((more ≡ []) ⊎ (more ≡ told_by stop
+        (commands_over F.stores F.state F.is_version F.are_two F.is_used_up F.lasts over) ∷ []))
+        × Uses F.stores F.state F.is_version F.are_two F.is_used_up F.lasts (told ++ more) (back.was stop) }
+{}
