@@ -4,3 +4,4 @@ pub mod Cut
 pub mod Sessions
 pub mod Words
 pub mod Building
+pub mod Plain
