@@ -1,6 +1,6 @@
 -- What `clap` finds in a line that is written out, and that it finds nothing wrong with it.
-use Rattle.std.proofs.Common.{◌≡◌, ◌≢◌, ◌∙◌, ◌==◌, ◌<◌, ◌≤◌, ◌∷◌, ◌++◌, [], ℕ, List, Option, Some, None, true, false, true≢false}
-use Rattle.std.proofs.Common.{codes, refl, sym, ap, subst, inl, inr, arith, nat_lt, lt-ltb}
+use Rattle.std.proofs.Common.{◌≡◌, ◌≢◌, ◌∙◌, ◌<◌, ◌∷◌, ◌++◌, [], ℕ, List, Some, None, false, true≢false}
+use Rattle.std.proofs.Common.{codes, refl, sym, subst, inl, inr, arith, nat_lt, lt-ltb}
 use Rattle.std.specs.Char.{digit_value}
 use Rattle.std.specs.Str.{bytes_eq}
 use Rattle.std.specs.Str.Parse.{IsNumeral}
@@ -62,12 +62,14 @@ pub means : {line : List Text} {asked : Words} {name : Text} {rows : List Row} �
     → AsksIn commands name (λ id. first_of id rows) asked → Mean line asked
 means {asked = asked} right named asks = record { right = right; asks = subst (λ met. AsksBy met asked) (sym named) asks }
 
-pub create_named : (name file number : Text) → IsRead file → IsRead number → subcommand_of program (name ∷ codes "create" ∷ file ∷ codes "--pages" ∷ number ∷ [])
+pub create_named : (name file number : Text) → IsRead file → IsRead number
+    → subcommand_of program (name ∷ codes "create" ∷ file ∷ codes "--pages" ∷ number ∷ [])
     ≡ Some (codes "create", row (codes "FILE") file ∷ row (codes "pages") number ∷ [])
 unfolding clap_on_literals
 create_named name file number is_file is_number = simp (is_file.not_end, is_file.no_flag, is_number.not_end, is_number.no_flag)
 
-pub create_right : (name file number : Text) → IsRead file → IsRead number → fault_of program (name ∷ codes "create" ∷ file ∷ codes "--pages" ∷ number ∷ []) ≡ []
+pub create_right : (name file number : Text) → IsRead file → IsRead number
+    → fault_of program (name ∷ codes "create" ∷ file ∷ codes "--pages" ∷ number ∷ []) ≡ []
 unfolding clap_on_literals
 create_right name file number is_file is_number = simp (is_file.not_end, is_file.no_flag, is_number.not_end, is_number.no_flag)
 
@@ -134,12 +136,14 @@ pub audit_right : (name file : Text) → IsRead file → fault_of program (name 
 unfolding clap_on_literals
 audit_right name file is_file = simp (is_file.not_end, is_file.no_flag)
 
-pub audit_game_named : (name file game : Text) → IsRead file → IsRead game → subcommand_of program (name ∷ codes "audit" ∷ file ∷ codes "--game" ∷ game ∷ [])
+pub audit_game_named : (name file game : Text) → IsRead file → IsRead game
+    → subcommand_of program (name ∷ codes "audit" ∷ file ∷ codes "--game" ∷ game ∷ [])
     ≡ Some (codes "audit", row (codes "FILE") file ∷ row (codes "game") game ∷ [])
 unfolding clap_on_literals
 audit_game_named name file game is_file is_game = simp (is_file.not_end, is_file.no_flag, is_game.not_end, is_game.no_flag)
 
-pub audit_game_right : (name file game : Text) → IsRead file → IsRead game → fault_of program (name ∷ codes "audit" ∷ file ∷ codes "--game" ∷ game ∷ []) ≡ []
+pub audit_game_right : (name file game : Text) → IsRead file → IsRead game
+    → fault_of program (name ∷ codes "audit" ∷ file ∷ codes "--game" ∷ game ∷ []) ≡ []
 unfolding clap_on_literals
 audit_game_right name file game is_file is_game = simp (is_file.not_end, is_file.no_flag, is_game.not_end, is_game.no_flag)
 
@@ -152,12 +156,14 @@ pub migrate_right : (name file : Text) → IsRead file → fault_of program (nam
 unfolding clap_on_literals
 migrate_right name file is_file = simp (is_file.not_end, is_file.no_flag)
 
-pub grow_named : (name file number : Text) → IsRead file → IsRead number → subcommand_of program (name ∷ codes "grow" ∷ file ∷ codes "--pages" ∷ number ∷ [])
+pub grow_named : (name file number : Text) → IsRead file → IsRead number
+    → subcommand_of program (name ∷ codes "grow" ∷ file ∷ codes "--pages" ∷ number ∷ [])
     ≡ Some (codes "grow", row (codes "FILE") file ∷ row (codes "pages") number ∷ [])
 unfolding clap_on_literals
 grow_named name file number is_file is_number = simp (is_file.not_end, is_file.no_flag, is_number.not_end, is_number.no_flag)
 
-pub grow_right : (name file number : Text) → IsRead file → IsRead number → fault_of program (name ∷ codes "grow" ∷ file ∷ codes "--pages" ∷ number ∷ []) ≡ []
+pub grow_right : (name file number : Text) → IsRead file → IsRead number
+    → fault_of program (name ∷ codes "grow" ∷ file ∷ codes "--pages" ∷ number ∷ []) ≡ []
 unfolding clap_on_literals
 grow_right name file number is_file is_number = simp (is_file.not_end, is_file.no_flag, is_number.not_end, is_number.no_flag)
 
@@ -170,12 +176,14 @@ pub moves_right : (name game : Text) → IsRead game → fault_of program (name 
 unfolding clap_on_literals
 moves_right name game is_game = simp (is_game.not_end, is_game.no_flag)
 
-pub moves_at_named : (name game position : Text) → IsRead game → IsRead position → subcommand_of program (name ∷ codes "moves" ∷ game ∷ codes "--at" ∷ position ∷ [])
+pub moves_at_named : (name game position : Text) → IsRead game → IsRead position
+    → subcommand_of program (name ∷ codes "moves" ∷ game ∷ codes "--at" ∷ position ∷ [])
     ≡ Some (codes "moves", row (codes "GAME") game ∷ row (codes "at") position ∷ [])
 unfolding clap_on_literals
 moves_at_named name game position is_game is_position = simp (is_game.not_end, is_game.no_flag, is_position.not_end, is_position.no_flag)
 
-pub moves_at_right : (name game position : Text) → IsRead game → IsRead position → fault_of program (name ∷ codes "moves" ∷ game ∷ codes "--at" ∷ position ∷ []) ≡ []
+pub moves_at_right : (name game position : Text) → IsRead game → IsRead position
+    → fault_of program (name ∷ codes "moves" ∷ game ∷ codes "--at" ∷ position ∷ []) ≡ []
 unfolding clap_on_literals
 moves_at_right name game position is_game is_position = simp (is_game.not_end, is_game.no_flag, is_position.not_end, is_position.no_flag)
 
@@ -206,12 +214,14 @@ pub certify_right : (name file : Text) → IsRead file → fault_of program (nam
 unfolding clap_on_literals
 certify_right name file is_file = simp (is_file.not_end, is_file.no_flag)
 
-pub certify_number_named : (name file number : Text) → IsRead file → IsRead number → subcommand_of program (name ∷ codes "certify" ∷ file ∷ number ∷ [])
+pub certify_number_named : (name file number : Text) → IsRead file → IsRead number
+    → subcommand_of program (name ∷ codes "certify" ∷ file ∷ number ∷ [])
     ≡ Some (codes "certify", row (codes "FILE") file ∷ row (codes "NUMBER") number ∷ [])
 unfolding clap_on_literals
 certify_number_named name file number is_file is_number = simp (is_file.not_end, is_file.no_flag, is_number.not_end, is_number.no_flag)
 
-pub certify_number_right : (name file number : Text) → IsRead file → IsRead number → fault_of program (name ∷ codes "certify" ∷ file ∷ number ∷ []) ≡ []
+pub certify_number_right : (name file number : Text) → IsRead file → IsRead number
+    → fault_of program (name ∷ codes "certify" ∷ file ∷ number ∷ []) ≡ []
 unfolding clap_on_literals
 certify_number_right name file number is_file is_number = simp (is_file.not_end, is_file.no_flag, is_number.not_end, is_number.no_flag)
 
@@ -224,11 +234,13 @@ pub check_right : (name certificate : Text) → IsRead certificate → fault_of 
 unfolding clap_on_literals
 check_right name certificate is_certificate = simp (is_certificate.not_end, is_certificate.no_flag)
 
-pub check_game_named : (name certificate game : Text) → IsRead certificate → IsRead game → subcommand_of program (name ∷ codes "check" ∷ certificate ∷ game ∷ [])
+pub check_game_named : (name certificate game : Text) → IsRead certificate → IsRead game
+    → subcommand_of program (name ∷ codes "check" ∷ certificate ∷ game ∷ [])
     ≡ Some (codes "check", row (codes "CERTIFICATE") certificate ∷ row (codes "GAME") game ∷ [])
 unfolding clap_on_literals
 check_game_named name certificate game is_certificate is_game = simp (is_certificate.not_end, is_certificate.no_flag, is_game.not_end, is_game.no_flag)
 
-pub check_game_right : (name certificate game : Text) → IsRead certificate → IsRead game → fault_of program (name ∷ codes "check" ∷ certificate ∷ game ∷ []) ≡ []
+pub check_game_right : (name certificate game : Text) → IsRead certificate → IsRead game
+    → fault_of program (name ∷ codes "check" ∷ certificate ∷ game ∷ []) ≡ []
 unfolding clap_on_literals
 check_game_right name certificate game is_certificate is_game = simp (is_certificate.not_end, is_certificate.no_flag, is_game.not_end, is_game.no_flag)

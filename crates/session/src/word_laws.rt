@@ -6,10 +6,11 @@ ghost use Rattle.session.specs.Words.{AsksPages, Mean, Owned};
 ghost use Rattle.session.specs.declared.words.Words.TheVariants.{Actions, Audit, Certify, Check, Create, Game, Grow};
 ghost use Rattle.session.specs.declared.words.Words.TheVariants.{Load, Look, Migrate, Moves, Session};
 
-/// Each command asks for what its help says, whatever words stand for its files and its position, as long as none of them begins with `-`; of `load`
-/// the line without a goal. The first word is the program's name.
+/// Each command asks for what its help says, whatever words stand for its files and its position, as long as none of
+/// them begins with `-`; of `load` the line without a goal. The first word is the program's name.
 pub fn commands_ask()
-    ensures create { (name : List ℕ) (file : Owned) (number : List ℕ) (pages : ℕ) → IsPlain (string_bytes file) → AsksPages number pages
+    ensures create { (name : List ℕ) (file : Owned) (number : List ℕ) (pages : ℕ)
+        → IsPlain (string_bytes file) → AsksPages number pages
         → Mean (name ∷ codes "create" ∷ string_bytes file ∷ codes "--pages" ∷ number ∷ []) (Create file pages) }
     ensures load { (name : List ℕ) (file game : Owned) → IsPlain (string_bytes file) → IsPlain (string_bytes game)
         → Mean (name ∷ codes "load" ∷ string_bytes file ∷ string_bytes game ∷ []) (Load file game None) }
@@ -26,25 +27,33 @@ pub fn commands_ask()
     ensures audit { (name : List ℕ) (file : Owned) → IsPlain (string_bytes file)
         → Mean (name ∷ codes "audit" ∷ string_bytes file ∷ []) (Audit file None) }
     ensures audit_game { (name : List ℕ) (file game : Owned) → IsPlain (string_bytes file) → IsPlain (string_bytes game)
-        → Mean (name ∷ codes "audit" ∷ string_bytes file ∷ codes "--game" ∷ string_bytes game ∷ []) (Audit file (Some game)) }
+        → Mean (name ∷ codes "audit" ∷ string_bytes file ∷ codes "--game" ∷ string_bytes game ∷ [])
+        (Audit file (Some game)) }
     ensures migrate { (name : List ℕ) (file : Owned) → IsPlain (string_bytes file)
         → Mean (name ∷ codes "migrate" ∷ string_bytes file ∷ []) (Migrate file) }
-    ensures grow { (name : List ℕ) (file : Owned) (number : List ℕ) (pages : ℕ) → IsPlain (string_bytes file) → AsksPages number pages
+    ensures grow { (name : List ℕ) (file : Owned) (number : List ℕ) (pages : ℕ)
+        → IsPlain (string_bytes file) → AsksPages number pages
         → Mean (name ∷ codes "grow" ∷ string_bytes file ∷ codes "--pages" ∷ number ∷ []) (Grow file pages) }
     ensures moves { (name : List ℕ) (game : Owned) → IsPlain (string_bytes game)
         → Mean (name ∷ codes "moves" ∷ string_bytes game ∷ []) (Moves game None) }
-    ensures moves_at { (name : List ℕ) (game position : Owned) → IsPlain (string_bytes game) → IsPlain (string_bytes position)
-        → Mean (name ∷ codes "moves" ∷ string_bytes game ∷ codes "--at" ∷ string_bytes position ∷ []) (Moves game (Some position)) }
-    ensures moves_of_input { (name : List ℕ) (game hyphen : Owned) → IsPlain (string_bytes game) → string_bytes hyphen ≡ codes "-"
+    ensures moves_at { (name : List ℕ) (game position : Owned)
+        → IsPlain (string_bytes game) → IsPlain (string_bytes position)
+        → Mean (name ∷ codes "moves" ∷ string_bytes game ∷ codes "--at" ∷ string_bytes position ∷ [])
+        (Moves game (Some position)) }
+    ensures moves_of_input { (name : List ℕ) (game hyphen : Owned)
+        → IsPlain (string_bytes game) → string_bytes hyphen ≡ codes "-"
         → Mean (name ∷ codes "moves" ∷ string_bytes game ∷ codes "--at" ∷ codes "-" ∷ []) (Moves game (Some hyphen)) }
     ensures actions { (name : List ℕ) (game : Owned) → IsPlain (string_bytes game)
         → Mean (name ∷ codes "actions" ∷ string_bytes game ∷ []) (Actions game) }
     ensures certify { (name : List ℕ) (file : Owned) → IsPlain (string_bytes file)
         → Mean (name ∷ codes "certify" ∷ string_bytes file ∷ []) (Certify file 0) }
-    ensures certify_number { (name : List ℕ) (file : Owned) (number : List ℕ) (position : ℕ) → IsPlain (string_bytes file) → WritesNumber number position
+    ensures certify_number { (name : List ℕ) (file : Owned) (number : List ℕ) (position : ℕ)
+        → IsPlain (string_bytes file) → WritesNumber number position
         → Mean (name ∷ codes "certify" ∷ string_bytes file ∷ number ∷ []) (Certify file position) }
     ensures check { (name : List ℕ) (certificate : Owned) → IsPlain (string_bytes certificate)
         → Mean (name ∷ codes "check" ∷ string_bytes certificate ∷ []) (Check certificate None) }
-    ensures check_game { (name : List ℕ) (certificate game : Owned) → IsPlain (string_bytes certificate) → IsPlain (string_bytes game)
-        → Mean (name ∷ codes "check" ∷ string_bytes certificate ∷ string_bytes game ∷ []) (Check certificate (Some game)) }
+    ensures check_game { (name : List ℕ) (certificate game : Owned)
+        → IsPlain (string_bytes certificate) → IsPlain (string_bytes game)
+        → Mean (name ∷ codes "check" ∷ string_bytes certificate ∷ string_bytes game ∷ [])
+        (Check certificate (Some game)) }
 {}

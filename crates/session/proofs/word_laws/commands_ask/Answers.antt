@@ -3,7 +3,12 @@ use Rattle.std.specs.Prelude.{string_bytes, Option, List, ℕ}
 use Rattle.std.specs.Option.{option_map_or}
 use Rattle.std.specs.Str.{bytes_eq}
 use Rattle.session.specs.Words.{IsGiven}
-use Rattle.session.proofs.Spelling.{means, plain_number, plain_pages, read, actions_named, actions_right, audit_game_named, audit_game_right, audit_named, audit_right, certify_named, certify_number_named, certify_number_right, certify_right, check_game_named, check_game_right, check_named, check_right, create_named, create_right, game_named, game_right, grow_named, grow_right, load_named, load_right, look_named, look_quiet_named, look_quiet_right, look_right, migrate_named, migrate_right, moves_at_named, moves_at_right, moves_named, moves_of_input_named, moves_of_input_right, moves_right, session_named, session_quiet_named, session_quiet_right, session_right}
+use Rattle.session.proofs.Spelling.{means, plain_number, plain_pages, read, actions_named, actions_right, audit_game_named, audit_game_right}
+use Rattle.session.proofs.Spelling.{audit_named, audit_right, certify_named, certify_number_named, certify_number_right, certify_right}
+use Rattle.session.proofs.Spelling.{check_game_named, check_game_right, check_named, check_right, create_named, create_right, game_named, game_right}
+use Rattle.session.proofs.Spelling.{grow_named, grow_right, load_named, load_right, look_named, look_quiet_named, look_quiet_right, look_right}
+use Rattle.session.proofs.Spelling.{migrate_named, migrate_right, moves_at_named, moves_at_right, moves_named, moves_of_input_named}
+use Rattle.session.proofs.Spelling.{moves_of_input_right, moves_right, session_named, session_quiet_named, session_quiet_right, session_right}
 use Rattle.session.proofs.word_laws.commands_ask.Goals as goal
 
 is_quiet : IsGiven (Some (codes "true")) true
@@ -125,6 +130,8 @@ returns-clause-check c = λ name certificate plain_certificate.
 
 pub returns-clause-check_game : goal.returns-clause-check_game
 returns-clause-check_game c = λ name certificate game plain_certificate plain_game.
-    means (check_game_right name (string_bytes certificate) (string_bytes game) (read (string_bytes certificate) plain_certificate) (read (string_bytes game) plain_game))
-    (check_game_named name (string_bytes certificate) (string_bytes game) (read (string_bytes certificate) plain_certificate) (read (string_bytes game) plain_game))
+    let is_certificate = read (string_bytes certificate) plain_certificate in
+    let is_game = read (string_bytes game) plain_game in
+    means (check_game_right name (string_bytes certificate) (string_bytes game) is_certificate is_game)
+    (check_game_named name (string_bytes certificate) (string_bytes game) is_certificate is_game)
     (inr (inr (inr (inr (inr (inr (inr (inr (inr (inr (inr (inl (refl, (certificate, Some game, refl, refl, refl))))))))))))))
