@@ -26,7 +26,7 @@ read (byte ∷ bytes) plain = elim (eqb_tells byte 45) [
   | inr other ↦ let differs = other.0 in record { not_end = rw differs refl; no_flag = rw differs refl }
 ]
 
-not_a_digit : (byte c : ℕ) → nat_lt (digit_value c) 10 ≡ false → digit_value byte < 10 → byte ≢ c
+pub not_a_digit : (byte c : ℕ) → nat_lt (digit_value c) 10 ≡ false → digit_value byte < 10 → byte ≢ c
 not_a_digit byte c never low same =
     true≢false (sym (lt-ltb (digit_value c) 10 (subst (λ n. digit_value n < 10) same low)) ∙ never)
 
@@ -52,7 +52,7 @@ plain_pages word pages asks = elim asks.unit [
 ]
 
 -- a word that was given, and an option that was not
-abbrev row : Text → Text → Row
+abbrev pub row : Text → Text → Row
 row id word = record { id = id; values = word ∷ []; count = None; source = Some CommandLine; reading = AsWritten }
 
 abbrev left_out : Text → Row

@@ -1,5 +1,7 @@
 //! What lines of words ask for that are written out.
 ghost use Rattle.std.specs.Prelude.{◌≡◌, ◌∷◌, [], ℕ, List, None, Some, codes, false, string_bytes, true};
+ghost use Rattle.rbg_game.specs.Goals.{points_in};
+ghost use Rattle.rbg_game.specs.declared.goal.Goal.{Goal};
 ghost use Rattle.session_lines.specs.Asked.{WritesNumber};
 ghost use Rattle.session.specs.Plain.{IsPlain};
 ghost use Rattle.session.specs.Words.{AsksPages, Mean, Owned};
@@ -7,13 +9,17 @@ ghost use Rattle.session.specs.declared.words.Words.TheVariants.{Actions, Audit,
 ghost use Rattle.session.specs.declared.words.Words.TheVariants.{Load, Look, Migrate, Moves, Session};
 
 /// Each command asks for what its help says, whatever words stand for its files and its position, as long as none of
-/// them begins with `-`; of `load` the line without a goal. The first word is the program's name.
+/// them begins with `-`. The first word is the program's name.
 pub fn commands_ask()
     ensures create { (name : List ℕ) (file : Owned) (number : List ℕ) (pages : ℕ)
         → IsPlain (string_bytes file) → AsksPages number pages
         → Mean (name ∷ codes "create" ∷ string_bytes file ∷ codes "--pages" ∷ number ∷ []) (Create file pages) }
     ensures load { (name : List ℕ) (file game : Owned) → IsPlain (string_bytes file) → IsPlain (string_bytes game)
         → Mean (name ∷ codes "load" ∷ string_bytes file ∷ string_bytes game ∷ []) (Load file game None) }
+    ensures load_goal { (name : List ℕ) (file game : Owned) (points : List ℕ) (goal : Goal)
+        → IsPlain (string_bytes file) → IsPlain (string_bytes game) → WritesNumber points (points_in goal)
+        → Mean (name ∷ codes "load" ∷ string_bytes file ∷ string_bytes game ∷ codes "--goal" ∷ points ∷ [])
+        (Load file game (Some goal)) }
     ensures session { (name : List ℕ) (file : Owned) → IsPlain (string_bytes file)
         → Mean (name ∷ codes "session" ∷ string_bytes file ∷ []) (Session file false) }
     ensures session_quiet { (name : List ℕ) (file : Owned) → IsPlain (string_bytes file)

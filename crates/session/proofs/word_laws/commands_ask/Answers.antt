@@ -2,7 +2,9 @@ use Rattle.std.proofs.Common.{◌≡◌, refl, sym, ap, true, false, true≢fals
 use Rattle.std.specs.Prelude.{string_bytes, Option, List, ℕ}
 use Rattle.std.specs.Option.{option_map_or}
 use Rattle.std.specs.Str.{bytes_eq}
+use Rattle.rbg_game.specs.Goals.{points_in}
 use Rattle.session.specs.Words.{IsGiven}
+use Rattle.session.proofs.GoalLine.{load_goal_named, load_goal_right}
 use Rattle.session.proofs.Spelling.{means, plain_number, plain_pages, read, actions_named, actions_right, audit_game_named, audit_game_right}
 use Rattle.session.proofs.Spelling.{audit_named, audit_right, certify_named, certify_number_named, certify_number_right, certify_right}
 use Rattle.session.proofs.Spelling.{check_game_named, check_game_right, check_named, check_right, create_named, create_right, game_named, game_right}
@@ -31,6 +33,15 @@ returns-clause-load c = λ name file game plain_file plain_game.
     means (load_right name (string_bytes file) (string_bytes game) (read (string_bytes file) plain_file) (read (string_bytes game) plain_game))
     (load_named name (string_bytes file) (string_bytes game) (read (string_bytes file) plain_file) (read (string_bytes game) plain_game))
     (inr (inl (refl, (file, game, None, refl, refl, refl, refl))))
+
+pub returns-clause-load_goal : goal.returns-clause-load_goal
+returns-clause-load_goal c = λ name file game points goal plain_file plain_game writes.
+    let is_file = read (string_bytes file) plain_file in
+    let is_game = read (string_bytes game) plain_game in
+    let is_points = read points (plain_number points writes.digits) in
+    means (load_goal_right name (string_bytes file) (string_bytes game) points is_file is_game is_points goal writes)
+    (load_goal_named name (string_bytes file) (string_bytes game) points is_file is_game is_points)
+    (inr (inl (refl, (file, game, Some goal, refl, refl, refl, (points_in goal, writes, (goal.some, goal.few), refl)))))
 
 pub returns-clause-session : goal.returns-clause-session
 returns-clause-session c = λ name file plain_file.
