@@ -1,6 +1,8 @@
 mod Auditing
 mod CommandLine
 mod CommandWords
+mod GoalLine
+mod Spelling
 mod Units
 mod Bringing
 mod Cutting

@@ -1,12 +1,14 @@
 -- How a command of `clap` is built from the words that it takes, what it finds for them, and how it fails.
 use Rattle.std.specs.Prelude.{◌≡◌, ◌≢◌, ◌⊎◌, ◌<◌, ◌≤◌, ◌*◌, ◌/◌, ◌^◌, ℕ, false, List, [], length, Option, None, Some}
 use Rattle.std.specs.Str.Parse.{IsNumeral, digits_value}
-use Rattle.clap.specs.Words.{App, IsAmong, Row, Rule, Shape, Text, app_of, fault_of, first_of, found_of, rows_of, rule_of}
+use Rattle.clap.specs.Words.{App, IsAmong, Row, Rule, Shape, Text}
+use Rattle.clap.specs.Words.{app_of, fault_of, first_of, found_of, rows_of, rule_of}
 use Rattle.clap.specs.declared.builder.arg.Arg.{Arg}
 use Rattle.clap.specs.declared.builder.command.Command.{Command}
 use Rattle.clap.specs.declared.builder.command.Command.TheViews.{out-Command as fields_of}
 use Rattle.clap.specs.declared.error.kind.ErrorKind.{ErrorKind}
-use Rattle.clap.specs.declared.error.kind.ErrorKind.TheVariants.{DisplayHelp, DisplayVersion, OutOfMemory, ValueValidation}
+use Rattle.clap.specs.declared.error.kind.ErrorKind.TheVariants.{DisplayHelp, DisplayVersion}
+use Rattle.clap.specs.declared.error.kind.ErrorKind.TheVariants.{OutOfMemory, ValueValidation}
 use Rattle.clap.specs.declared.parser.matches.ArgMatches.{ArgMatches}
 use Rattle.session.specs.declared.words.Words.{Words}
 use Rattle.session.specs.Words.{AsksBy, MeanNothing, program}
@@ -59,4 +61,5 @@ FailAs line kind =
 -- the status that belongs to a kind of error; 5 where no memory is left for its text
 abbrev pub EndsAs : ErrorKind → ℕ → Type 0
 EndsAs kind status =
-    ((status ≡ 0) × ((kind ≡ DisplayHelp) ⊎ (kind ≡ DisplayVersion))) ⊎ (((status ≡ 2) × (kind ≢ OutOfMemory)) ⊎ (status ≡ 5))
+    ((status ≡ 0) × ((kind ≡ DisplayHelp) ⊎ (kind ≡ DisplayVersion)))
+    ⊎ (((status ≡ 2) × (kind ≢ OutOfMemory)) ⊎ (status ≡ 5))

@@ -5,3 +5,4 @@ pub mod Seen
 pub mod Sessions
 pub mod Words
 pub mod Building
+pub mod Plain

@@ -1,7 +1,9 @@
--- What the words of a command line ask for: the commands of the program, with the words that each takes and what they mean. How words are
--- told apart (options in any order, `--name value` as `--name=value`, and `--`) is what the kit's `clap` says of its commands:
--- `subcommand_of` finds the command that the words name and what stands for each of its words, and `fault_of` what is wrong with them.
-use Rattle.std.specs.Prelude.{◌≡◌, ◌⊎◌, ◌↔◌, ◌*◌, ◌/◌, ◌≤◌, ℕ, Bool, true, false, List, [], ◌∷◌, ◌++◌, length, map, codes, pos}
+-- What the words of a command line ask for: the commands of the program, with the words that each takes and what they
+-- mean. How words are told apart (options in any order, `--name value` as `--name=value`, and `--`) is what the kit's
+-- `clap` says of its commands: `subcommand_of` finds the command that the words name and what stands for each of its
+-- words, and `fault_of` what is wrong with them.
+use Rattle.std.specs.Prelude.{◌≡◌, ◌⊎◌, ◌↔◌, ◌*◌, ◌/◌, ◌≤◌, ℕ, Bool, true, false, List, [], ◌∷◌, ◌++◌, length, map}
+use Rattle.std.specs.Prelude.{codes, pos}
 use Rattle.std.specs.Prelude.{Option, None, Some, option_map, IsTrue, String, string_bytes}
 use Rattle.std.specs.Global.{Global}
 use Rattle.std.specs.Str.Parse.{IsNumeral, digits_value}
@@ -119,7 +121,8 @@ abbrev pub create : Form
 create = record {
   name = codes "create";
   takes = file_word ∷ pages_word ∷ [];
-  asks = λ found asked. (file : Owned) × (pages : ℕ) × (asked ≡ words.Create file pages) × Is (found (codes "FILE")) file
+  asks = λ found asked. (file : Owned) × (pages : ℕ)
+      × (asked ≡ words.Create file pages) × Is (found (codes "FILE")) file
       × ArePages (found (codes "pages")) pages;
 }
 
@@ -137,7 +140,8 @@ abbrev pub session : Form
 session = record {
   name = codes "session";
   takes = file_word ∷ quiet_word ∷ [];
-  asks = λ found asked. (file : Owned) × (is_quiet : Bool) × (asked ≡ words.Session file is_quiet) × Is (found (codes "FILE")) file
+  asks = λ found asked. (file : Owned) × (is_quiet : Bool)
+      × (asked ≡ words.Session file is_quiet) × Is (found (codes "FILE")) file
       × IsGiven (found (codes "quiet")) is_quiet;
 }
 
@@ -146,7 +150,8 @@ abbrev pub look : Form
 look = record {
   name = codes "look";
   takes = file_word ∷ quiet_word ∷ [];
-  asks = λ found asked. (file : Owned) × (is_quiet : Bool) × (asked ≡ words.Look file is_quiet) × Is (found (codes "FILE")) file
+  asks = λ found asked. (file : Owned) × (is_quiet : Bool)
+      × (asked ≡ words.Look file is_quiet) × Is (found (codes "FILE")) file
       × IsGiven (found (codes "quiet")) is_quiet;
 }
 
@@ -163,7 +168,8 @@ abbrev pub audit : Form
 audit = record {
   name = codes "audit";
   takes = file_word ∷ about_word ∷ [];
-  asks = λ found asked. (file : Owned) × (game : Option Owned) × (asked ≡ words.Audit file game) × Is (found (codes "FILE")) file
+  asks = λ found asked. (file : Owned) × (game : Option Owned)
+      × (asked ≡ words.Audit file game) × Is (found (codes "FILE")) file
       × IsAtMost (found (codes "game")) game;
 }
 
@@ -189,7 +195,8 @@ abbrev pub moves : Form
 moves = record {
   name = codes "moves";
   takes = game_word ∷ position_word ∷ [];
-  asks = λ found asked. (game : Owned) × (at : Option Owned) × (asked ≡ words.Moves game at) × Is (found (codes "GAME")) game
+  asks = λ found asked. (game : Owned) × (at : Option Owned)
+      × (asked ≡ words.Moves game at) × Is (found (codes "GAME")) game
       × IsAtMost (found (codes "at")) at;
 }
 
@@ -206,7 +213,8 @@ abbrev pub certify : Form
 certify = record {
   name = codes "certify";
   takes = file_word ∷ free (codes "NUMBER") ∷ [];
-  asks = λ found asked. (file : Owned) × (number : ℕ) × (asked ≡ words.Certify file number) × Is (found (codes "FILE")) file
+  asks = λ found asked. (file : Owned) × (number : ℕ)
+      × (asked ≡ words.Certify file number) × Is (found (codes "FILE")) file
       × IsPosition (found (codes "NUMBER")) number;
 }
 
@@ -229,7 +237,11 @@ shape_in form = record (new_shape form.name) { rules = form.takes }
 
 -- the program without its commands: it has a version, and shows its help where none is named
 abbrev pub alone_program : Shape
-alone_program = record (new_shape (codes "rbgsolve")) { has_version = true; subcommand_required = true; arg_required_else_help = true }
+alone_program = record (new_shape (codes "rbgsolve")) {
+  has_version = true;
+  subcommand_required = true;
+  arg_required_else_help = true;
+}
 
 -- the program
 abbrev pub program : App

@@ -1,10 +1,12 @@
 //! What the command that was given asks for, by what was found for each of its words.
-ghost use Rattle.std.specs.Prelude.{◌≡◌, ◌↔◌, ℕ, IfOk, IsTrue, MatchOption, Option, Some, codes, option_map, string_bytes};
+ghost use Rattle.std.specs.Prelude.{◌≡◌, ◌↔◌, ℕ, IfOk, IsTrue, MatchOption, Option, Some, codes, option_map};
+ghost use Rattle.std.specs.Prelude.{string_bytes};
 ghost use Rattle.clap.specs.Words.{subcommand_rows_of};
 ghost use Rattle.rbg_game.specs.declared.goal.Goal.{Goal};
 ghost use Rattle.session.specs.Building.{AsksIfAny, word_in};
 ghost use Rattle.session.specs.Words.{ArePages, AsksBy, AsksIn, IsGoal, IsPosition, commands};
-ghost use Rattle.session.specs.Words.{actions, audit, certify, check, create, game, grow, load, look, migrate, moves, session};
+ghost use Rattle.session.specs.Words.{actions, audit, certify, check, create, game};
+ghost use Rattle.session.specs.Words.{grow, load, look, migrate, moves, session};
 
 use crate::page_counts::{number_of, pages_of};
 use crate::words::Words;

@@ -19,6 +19,7 @@ mod streams;
 mod table_words;
 mod text_files;
 pub mod texts;
+pub mod word_laws;
 pub mod words;
 
 pub use program::run;

@@ -3,8 +3,8 @@
 ghost use Rattle.std.specs.Prelude.{◌≡◌, IfOk, pos};
 ghost use Rattle.clap.specs.declared.builder.value_parser.ValueParser.TheVariants.{Signed};
 ghost use Rattle.session.specs.Building.{HasApp, HasRule, leaf};
-ghost use Rattle.session.specs.Words.{about_word, audit, certify, create, file_word, game, goal_word, grow, load, look, migrate};
-ghost use Rattle.session.specs.Words.{pages_word, quiet_word, session, shape_in};
+ghost use Rattle.session.specs.Words.{about_word, file_word, goal_word, pages_word, quiet_word, shape_in};
+ghost use Rattle.session.specs.Words.{audit, certify, create, game, grow, load, look, migrate, session};
 
 use crate::words::{free_word, game_word, named, required_word};
 use clap::builder::ValueParser;
@@ -74,8 +74,8 @@ const AUDIT_LONG_ABOUT: &str = concat!(
     "play can reach and the unsettled ones are drawn. Or it prints `audit wrong N REASON` with the lowest number ",
     "that fails and its lowest condition, and ends with status 1.\n",
     "\n",
-    "With `--game GAME` the table has to be about the text of GAME, byte for byte. One that is about another text is not audited: that is ",
-    "answered by `audit wrong game`, with status 1.",
+    "With `--game GAME` the table has to be about the text of GAME, byte for byte. One that is about another text is ",
+    "not audited: that is answered by `audit wrong game`, with status 1.",
 );
 
 const GAME_ABOUT: &str = "Prints the text of the game of a table";
