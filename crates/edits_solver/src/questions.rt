@@ -1,14 +1,17 @@
 //! What is asked of a table.
-ghost use Rattle.std.specs.Prelude.{◌≡◌, ◌<◌, true, IfOk, IsErrOf, Ok, IsTrue};
+ghost use Rattle.std.specs.Prelude.{◌≡◌, ◌<◌, true, IfOk, IfErr, IsErrOf, Ok, IsTrue};
 ghost use Rattle.audit.specs.declared.verdict.Verdict.TheVariants.{Right};
+ghost use Rattle.recover.specs.Brief.{OfTable};
+ghost use Rattle.recover.specs.Tables.{of_number, MayRefuse};
 ghost use Rattle.solver.specs.Audits.{HasVerdict};
 ghost use Rattle.solver.specs.Held.{IsSound};
 ghost use Rattle.solver.specs.Queries.{Tells, HasText};
 ghost use Rattle.solver.specs.Solvers.{state, IsReady};
 
 use audit::Verdict;
-use best_line::Row;
+use best_line::{Row, Value};
 use game_file::GameFile;
+use recover::SavedTable;
 use retrograde::Record;
 use solver::{FileSolver, SolverFault, Units};
 use table::TableFault;
@@ -58,4 +61,11 @@ pub fn record<F: GameFile>(file: &mut F, number: u32) -> Result<Record, TableFau
     ensures { F.stays file.old file.new }
 {
     file.record(number)
+}
+
+/// `asked` of `SavedTable::value`, and of that the cause of a refusal.
+pub fn saved_value<S: SavedTable>(table: &mut S, asked: u32) -> Result<Value, SolverFault>
+    ensures { OfTable S.calls table.old (λ t. IfErr result (MayRefuse (of_number asked) (S.calls.pages table.old) t)) }
+{
+    table.value(asked)
 }

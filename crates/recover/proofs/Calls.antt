@@ -26,7 +26,7 @@ use Rattle.solver.specs.Runs.{IsTurnWithCause}
 use Rattle.solver.specs.Steps.{IsDone, IsRefused}
 use Rattle.solver.proofs.Refusing.{apart}
 use Rattle.solver.proofs.Turning.{done_turn, refused_turn}
-use Rattle.recover.specs.Tables.{BriefTable}
+use Rattle.recover.specs.Tables.{BriefTable, Request, MayRefuse}
 use Rattle.recover.specs.Brief.{answer_of, reply_of, OrBroken, IsReply, IsQuestion, HasDone, IsAnswered}
 use Rattle.recover.specs.aid.Causes.{why_in_brief}
 use Rattle.recover.specs.Tables.{TellsValue, TellsText, TellsValueOf, TellsRows, TellsLine, TellsCounts}
@@ -79,11 +79,13 @@ module _ {S : Type 0} (Stores : ℕ → Layout) (state : S → State) (ready : S
   }
 
   -- a question
-  pub is_question : {T : Type 0} (result : Result T SolverFault) (Cause : SolverFault → Type 0)
+  pub is_question : {T : Type 0} (result : Result T SolverFault) (Cause : SolverFault → Type 0) (request : Request)
+      → ((table : Option BriefTable) → IsToldBy (state was).kept table → IsTrue (state was).disk.honest → (state was).closed ≡ false
+      → (fault : SolverFault) → Cause fault → MayRefuse request (state was).capacity table fault)
       → (ready was → ready is) → (ready was → IsAsked Stores (state was) (state is))
       → ((state was).closed ≡ true → IsErrOf result Closed × (is ≡ was)) → (Cause DiskFailed → Grew (state was).failures (state is).failures)
-      → (ready was → IfErr result Cause) → IsQuestion (calls_of Stores state ready) was is result
-  is_question result Cause still asks shut so cause = record {
+      → (ready was → IfErr result Cause) → IsQuestion (calls_of Stores state ready) request was is result
+  is_question result Cause request in_brief still asks shut so cause = record {
     asked = record {
       shut = λ closed. (shut closed).1;
       asked = λ here. record {
@@ -93,6 +95,8 @@ module _ {S : Type 0} (Stores : ℕ → Layout) (state : S → State) (ready : S
       };
     };
     reply = is_reply result Cause (λ closed. (shut closed).0) so cause;
+    cause = λ table (here, is_open, told) honest.
+        each_err result Cause (λ fault. MayRefuse request (state was).capacity table fault) (in_brief table (told honest) honest is_open) (cause here);
   }
 
   -- a command with its reply

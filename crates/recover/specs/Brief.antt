@@ -15,7 +15,7 @@ use Rattle.solver.specs.declared.fault.SolverFault.TheVariants.{Disk as DiskFail
 use Rattle.solver.specs.declared.replies.Reply.{Reply}
 use Rattle.solver.specs.declared.replies.Reply.TheVariants.{Loaded, Worked, Refused}
 use Rattle.solver.specs.Machine.{Command, load, work}
-use Rattle.recover.specs.Tables.{BriefTable, IsTrueOfItsGame, TellsCounts, Told, IsTold, IsForGood, MayRefuse}
+use Rattle.recover.specs.Tables.{BriefTable, IsTrueOfItsGame, TellsCounts, Told, IsTold, IsForGood, Request, to_do, MayRefuse}
 
 -- what a command answers: the game is loaded, this many units are done, or it is refused
 pub data BriefAnswer : Type 0 where
@@ -137,10 +137,11 @@ module _ {S : Type 0} (calls : Calls S) where
     pub failed : calls.ready was
         → IfErr result (λ fault. fault ≡ DiskFailed → Grew (calls.failures was) (calls.failures is))
 
-  -- a call that is no command, with what it answers
-  pub record IsQuestion {T : Type 0} (was is : S) (result : Result T SolverFault) : Type 0 where
+  -- a call that is no command, with what it answers: any refusal has its cause
+  pub record IsQuestion {T : Type 0} (request : Request) (was is : S) (result : Result T SolverFault) : Type 0 where
     pub asked : calls.asked was is
     pub reply : IsReply was is result
+    pub cause : OfTable was (λ table. IfErr result (MayRefuse request (calls.pages was) table))
 
   -- a command is done as its reply says; or it is refused, or a write or a sync has failed in it
   abbrev pub HasDone : Command → Reply → S → S → Type 0
@@ -156,7 +157,7 @@ module _ {S : Type 0} (calls : Calls S) where
     pub closed : calls.shut was → reply ≡ Refused Closed
     pub failed : calls.ready was → reply ≡ Refused DiskFailed → Grew (calls.failures was) (calls.failures is)
     pub cause : (fault : SolverFault) → reply ≡ Refused fault
-        → OfTable was (λ table. MayRefuse command (calls.pages was) table fault)
+        → OfTable was (λ table. MayRefuse (to_do command) (calls.pages was) table fault)
 
   -- what holds of the calls: each goes on from the disk that it was given; what is shut refuses each command and stays
   -- as it is; a table begins as the empty one, a command makes of it what its answer says, any other call leaves it; it

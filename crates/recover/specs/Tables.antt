@@ -1,5 +1,5 @@
 -- Tables in brief: what a table tells, when that is so by the rules of its game, and why a command may be refused.
-use Rattle.std.specs.Prelude.{◌≡◌, ◌≢◌, ◌↔◌, ℕ, zero, suc, ◌<◌, ◌^◌, List, [], ◌∷◌, length, slice_get, Option, None, Some, IsSome}
+use Rattle.std.specs.Prelude.{◌≡◌, ◌≢◌, ◌↔◌, ℕ, zero, suc, ◌≤◌, ◌<◌, ◌^◌, List, [], ◌∷◌, length, slice_get, Option, None, Some, IsSome}
 use Rattle.rbg_text.specs.Token.{Text}
 use Rattle.rbg_text.specs.Syntax.{Tokens, Section}
 use Rattle.rbg_game.specs.Games.{Game}
@@ -26,6 +26,7 @@ use Rattle.best_line.specs.Values.{IsComplete, IsValue}
 use Rattle.solver.specs.declared.fault.SolverFault.{SolverFault}
 use Rattle.solver.specs.declared.fault.SolverFault.TheVariants.{Disk, TableFull, OutOfMemory, Game as BadGame, NoGame, GameAlready}
 use Rattle.solver.specs.declared.fault.SolverFault.TheVariants.{KeeperChooses, TooWide, TooManyPositions}
+use Rattle.solver.specs.declared.fault.SolverFault.TheVariants.{NoSuchPosition, NotSettled, BadPosition}
 use Rattle.solver.specs.Machine.{Command, load, work}
 
 -- the game that a text says, by the grammar and by what its sections mean; a text that names what it does not declare, or passes a limit, is
@@ -181,7 +182,67 @@ RefusesWork table (KeeperChooses number) = ComesTo table KeeperHasChoice
 RefusesWork table TooWide = ComesTo table IsWide
 RefusesWork table _ = ⊥
 
--- why a command may be refused
-abbrev pub MayRefuse : Command → ℕ → Option BriefTable → SolverFault → Type 0
-MayRefuse (load text goal) pages table fault = RefusesText text pages table fault
-MayRefuse (work units) pages table fault = RefusesWork table fault
+-- a game is loaded, and no known position of it has this number
+abbrev pub HasNoNumber : ℕ → Option BriefTable → Type 0
+HasNoNumber number None = ⊥
+HasNoNumber number (Some table) = length table.view.known ≤ number
+
+-- a game is loaded, and nobody is known to win the position with this number
+abbrev pub IsUnsettledAt : ℕ → Option BriefTable → Type 0
+IsUnsettledAt number None = ⊥
+IsUnsettledAt number (Some table) = table.view.value number ≡ None
+
+-- why a table on an honest disk may refuse to tell of the position with this number; E1 and E8 are not said
+abbrev pub RefusesNumber : ℕ → Option BriefTable → SolverFault → Type 0
+RefusesNumber number table Disk = Unit {0}
+RefusesNumber number table OutOfMemory = Unit {0}
+RefusesNumber number table NoGame = table ≡ None
+RefusesNumber number table NoSuchPosition = HasNoNumber number table
+RefusesNumber number table _ = ⊥
+
+-- and its best line
+abbrev pub RefusesLine : ℕ → Option BriefTable → SolverFault → Type 0
+RefusesLine number table NotSettled = IsUnsettledAt number table
+RefusesLine number table fault = RefusesNumber number table fault
+
+-- and its moves
+abbrev pub RefusesMoves : ℕ → Option BriefTable → SolverFault → Type 0
+RefusesMoves number table TooWide = ComesTo table IsWide
+RefusesMoves number table fault = RefusesNumber number table fault
+
+-- and of the position with a text; which texts are those of positions, and of known ones, is not said
+abbrev pub RefusesPosition : Option BriefTable → SolverFault → Type 0
+RefusesPosition table Disk = Unit {0}
+RefusesPosition table OutOfMemory = Unit {0}
+RefusesPosition table NoGame = table ≡ None
+RefusesPosition table NoSuchPosition = IsSome table
+RefusesPosition table BadPosition = IsSome table
+RefusesPosition table _ = ⊥
+
+-- and whether the table is right
+abbrev pub RefusesAudit : Option BriefTable → SolverFault → Type 0
+RefusesAudit table Disk = Unit {0}
+RefusesAudit table OutOfMemory = Unit {0}
+RefusesAudit table NoGame = table ≡ None
+RefusesAudit table TooWide = ComesTo table IsWide
+RefusesAudit table _ = ⊥
+
+-- what a call asks of a table: a command; the position with a number, its best line, its moves; the position with a text;
+-- or whether it is right
+pub data Request : Type 0 where
+  to_do : (command : Command) → Request
+  of_number : (number : ℕ) → Request
+  of_line : (number : ℕ) → Request
+  of_moves : (number : ℕ) → Request
+  of_text : Request
+  of_all : Request
+
+-- why that may be refused, by a table of this many pages
+abbrev pub MayRefuse : Request → ℕ → Option BriefTable → SolverFault → Type 0
+MayRefuse (to_do (load text goal)) pages table fault = RefusesText text pages table fault
+MayRefuse (to_do (work units)) pages table fault = RefusesWork table fault
+MayRefuse (of_number number) pages table fault = RefusesNumber number table fault
+MayRefuse (of_line number) pages table fault = RefusesLine number table fault
+MayRefuse (of_moves number) pages table fault = RefusesMoves number table fault
+MayRefuse of_text pages table fault = RefusesPosition table fault
+MayRefuse of_all pages table fault = RefusesAudit table fault

@@ -6,5 +6,6 @@ pub mod Telling
 pub mod Histories
 pub mod Limit
 pub mod Causes
+pub mod Asking
 pub mod AtWork
 pub mod Migrations

@@ -9,6 +9,7 @@ ghost use Rattle.solver.specs.Units.{units_in};
 ghost use Rattle.recover.specs.aid.Histories.{calls_of, the_headline_in_brief};
 ghost use Rattle.recover.specs.aid.AtWork.{solver_is_lawful};
 ghost use Rattle.recover.specs.Tables.{BriefTable, TellsValue, TellsText, TellsValueOf, TellsRows, TellsLine, TellsCounts};
+ghost use Rattle.recover.specs.Tables.{of_number, of_line, of_moves, of_text, of_all};
 ghost use Rattle.recover.specs.Brief.{Calls, AreLawful, OfTable, IsReply, IsQuestion, IsAnswered, reply_of, OrBroken};
 ghost use Rattle.recover.specs.Brief.{BriefSitting, BriefHistory, BriefHeadline};
 
@@ -67,42 +68,42 @@ pub trait SavedTable {
 
     /// Who wins the position with this number, and in how many moves.
     fn value(&mut self, number: u32) -> Result<Value, SolverFault>
-        ensures asked { IsQuestion calls self.old self.new result }
+        ensures asked { IsQuestion calls (of_number number) self.old self.new result }
         ensures told { OfTable calls self.old (λ t. IfOk result (λ value. TellsValue number value t)) };
 
     /// The same of the position with this text.
     fn find_value(&mut self, text: &[u8]) -> Result<Value, SolverFault>
-        ensures asked { IsQuestion calls self.old self.new result }
+        ensures asked { IsQuestion calls of_text self.old self.new result }
         ensures told { OfTable calls self.old (λ t. IfOk result (λ value. TellsValueOf text.now value t)) };
 
     /// The text of the position with this number.
     fn show(&mut self, number: u32) -> Result<Vec<u8>, SolverFault>
-        ensures asked { IsQuestion calls self.old self.new result }
+        ensures asked { IsQuestion calls (of_number number) self.old self.new result }
         ensures told { OfTable calls self.old (λ t. IfOk result (λ text. TellsText number text.items t)) };
 
     /// The number of the position with this text.
     fn find(&mut self, text: &[u8]) -> Result<u32, SolverFault>
-        ensures asked { IsQuestion calls self.old self.new result }
+        ensures asked { IsQuestion calls of_text self.old self.new result }
         ensures told { OfTable calls self.old (λ t. IfOk result (λ number. TellsText number text.now t)) };
 
     /// The positions from this number on with their values.
     fn list(&mut self, from: u32, count: Units) -> Result<Vec<Row>, SolverFault>
-        ensures asked { IsQuestion calls self.old self.new result }
+        ensures asked { IsQuestion calls (of_number from) self.old self.new result }
         ensures told { OfTable calls self.old (λ t. IfOk result (λ rows. TellsRows from (units_in count) rows.items t)) };
 
     /// The numbers of a best line.
     fn line(&mut self, number: u32) -> Result<Vec<u32>, SolverFault>
-        ensures asked { IsQuestion calls self.old self.new result }
+        ensures asked { IsQuestion calls (of_line number) self.old self.new result }
         ensures told { OfTable calls self.old (λ t. IfOk result (λ numbers. TellsLine number numbers.items t)) };
 
     /// The moves of the position with this number.
     fn moves(&mut self, number: u32) -> Result<KnownMoves, SolverFault>
-        ensures { IsQuestion calls self.old self.new result };
+        ensures { IsQuestion calls (of_moves number) self.old self.new result };
 
     /// Whether the table is right, whoever made it: where it is, its calls tell it from then on, and what they tell is
     /// so.
     fn audit(&mut self) -> Result<Verdict, SolverFault>
-        ensures asked { IsQuestion calls self.old self.new result }
+        ensures asked { IsQuestion calls of_all self.old self.new result }
         ensures right { result ≡ Ok Right → calls.ready self.old → IsTrue (calls.disk self.old).honest
             → (table : Option BriefTable) × calls.tells self.new table };
 

@@ -27,13 +27,13 @@ use Rattle.solver.specs.declared.fault.SolverFault.{SolverFault}
 use Rattle.solver.specs.declared.fault.SolverFault.TheVariants.{Disk, NotATable, AlreadyATable, Damaged, OldLayout, TooSmall, TableFull, OutOfMemory, Closed, Game as BadGame}
 use Rattle.solver.specs.declared.fault.SolverFault.TheVariants.{NoGame, GameAlready, KeeperChooses, TooWide, TooManyPositions, Inconsistent, NoSuchPosition, NotSettled, ListingsUsedUp, BadPosition}
 use Rattle.solver.specs.declared.replies.Reply.TheVariants.{Refused}
-use Rattle.recover.specs.Tables.{BriefTable, play_of, ComesTo, ComesToMore, KeeperHasChoice, IsLeftToDo, RefusesText, RefusesWork, MayRefuse}
+use Rattle.recover.specs.Tables.{BriefTable, play_of, ComesTo, ComesToMore, KeeperHasChoice, IsLeftToDo, RefusesText, RefusesWork, to_do, MayRefuse}
 use Rattle.recover.specs.aid.Telling.{IsToldBy, brief_of, brief_is_so, finished_up}
 use Rattle.recover.specs.aid.Limit.{comes_to_more}
 use Rattle.recover.specs.aid.Plays.{step_down, reached_down}
 
 -- play comes to the position of bytes that a sound table knows
-known_reached : (kept : Kept) (game : Game) → Reads kept.text game → (stored : Stored (List ℕ))
+pub known_reached : (kept : Kept) (game : Game) → Reads kept.text game → (stored : Stored (List ℕ))
     → IsLocallySound (graph_in game kept) (wide_in game kept) stored
     → (i : ℕ) (x : List ℕ) → HasNumber (view_of stored) i x → (at : Position) → IsAt kept.packing game x at
     → IsReachable (play_of kept.goal game) at
@@ -64,7 +64,7 @@ comes_to : (kept : Kept) (sound : IsSound (Some kept)) (Such : Game → Position
 unfolding brief_of
 comes_to kept sound Such at reached such = (sound.0, at, (brief_is_so kept sound).says, reached, such)
 
-told_comes : (kept : Kept) (table : Option BriefTable) (told : IsToldBy (Some kept) table) (Such : Game → Position → Type 0) (at : Position)
+pub told_comes : (kept : Kept) (table : Option BriefTable) (told : IsToldBy (Some kept) table) (Such : Game → Position → Type 0) (at : Position)
     → IsReachable (play_of kept.goal told.0.0) at → Such told.0.0 at → ComesTo table Such
 told_comes kept table (sound, is) Such at reached such =
     subst (λ (t : Option BriefTable). ComesTo t Such) (sym is) (comes_to kept sound Such at reached such)
@@ -103,7 +103,7 @@ some_told : (kept : Option Kept) (table : Option BriefTable) → IsToldBy kept t
 some_told None table told some = absurd cc
 some_told (Some kept) table (sound, is) some = subst (λ (t : Option BriefTable). IsSome t) (sym is) refl
 
-none_told : (kept : Option Kept) (table : Option BriefTable) → IsToldBy kept table → kept ≡ None → table ≡ None
+pub none_told : (kept : Option Kept) (table : Option BriefTable) → IsToldBy kept table → kept ≡ None → table ≡ None
 none_told None table (sound, is) none = is
 none_told (Some kept) table told none = absurd cc
 
@@ -113,7 +113,7 @@ left_told None table told left = absurd left
 left_told (Some kept) table (sound, is) left =
     subst (λ (t : Option BriefTable). IsLeftToDo t) (sym is) (λ finished. left sound (finished_up kept sound finished))
 
-open_not_shut : (closed : Bool) → closed ≡ false → closed ≡ true → ⊥
+pub open_not_shut : (closed : Bool) → closed ≡ false → closed ≡ true → ⊥
 open_not_shut closed is_open shut = let both : false ≡ true = sym is_open ∙ shut in cc
 
 module _ (old new : State) (table : Option BriefTable) (told : IsToldBy old.kept table) (honest : IsTrue old.disk.honest) (is_open : old.closed ≡ false) where
@@ -162,6 +162,6 @@ module _ (old new : State) (table : Option BriefTable) (told : IsToldBy old.kept
   why_work units BadPosition cause = absurd cause
 
   -- why a command is refused, in brief
-  pub why_in_brief : (command : Command) (fault : SolverFault) → HasReason (Refused fault) command old new → MayRefuse command old.capacity table fault
+  pub why_in_brief : (command : Command) (fault : SolverFault) → HasReason (Refused fault) command old new → MayRefuse (to_do command) old.capacity table fault
   why_in_brief (load text goal) fault cause = why_load text fault cause
   why_in_brief (work units) fault cause = why_work units fault cause

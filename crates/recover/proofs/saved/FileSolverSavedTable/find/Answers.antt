@@ -1,5 +1,7 @@
 use Rattle.solver.specs.Queries.{FindCause}
 use Rattle.solver.specs.Solvers.{state, IsReady}
+use Rattle.recover.specs.Tables.{of_text}
+use Rattle.recover.specs.aid.Asking.{why_find}
 use Rattle.recover.proofs.Calls.{is_question, tells_text}
 use Rattle.recover.proofs.saved.FileSolverSavedTable.find.Goals as goal
 
@@ -7,8 +9,10 @@ pub returns-clause-asked : goal.returns-clause-asked
 returns-clause-asked g c =
     let state_of = state {F = g.row.F.Denot} {Device = g.row.F-Device.Denot} {file = g.F.GameFile} {table = g.F.Table} {disk = g.F.Device.SectorDisk} in
     let ready = IsReady {F = g.row.F.Denot} {Device = g.row.F-Device.Denot} {file = g.F.GameFile} {table = g.F.Table} {disk = g.F.Device.SectorDisk} in
-    is_question g.F.GameFile.stores state_of ready c.args.self.now c.find.new.self c.find.result (FindCause c.args.text.now (state_of c.args.self.now) (state_of c.find.new.self)) c.find.ensures.ready c.find.ensures.asked
-    c.find.ensures.closed (λ it. it) c.find.ensures.cause
+    is_question g.F.GameFile.stores state_of ready c.args.self.now c.find.new.self c.find.result
+    (FindCause c.args.text.now (state_of c.args.self.now) (state_of c.find.new.self))
+    of_text (λ t told h o. why_find (state_of c.args.self.now) (state_of c.find.new.self) t told h o c.args.text.now)
+    c.find.ensures.ready c.find.ensures.asked c.find.ensures.closed (λ it. it) c.find.ensures.cause
 
 pub returns-clause-told : goal.returns-clause-told
 returns-clause-told g c =

@@ -1,5 +1,7 @@
 use Rattle.solver.specs.Moves.{MovesCause}
 use Rattle.solver.specs.Solvers.{state, IsReady}
+use Rattle.recover.specs.Tables.{of_moves}
+use Rattle.recover.specs.aid.Asking.{why_moves}
 use Rattle.recover.proofs.Calls.{is_question}
 use Rattle.recover.proofs.saved.FileSolverSavedTable.moves.Goals as goal
 
@@ -7,5 +9,7 @@ pub returns : goal.returns
 returns g c =
     let state_of = state {F = g.row.F.Denot} {Device = g.row.F-Device.Denot} {file = g.F.GameFile} {table = g.F.Table} {disk = g.F.Device.SectorDisk} in
     let ready = IsReady {F = g.row.F.Denot} {Device = g.row.F-Device.Denot} {file = g.F.GameFile} {table = g.F.Table} {disk = g.F.Device.SectorDisk} in
-    is_question g.F.GameFile.stores state_of ready c.args.self.now c.moves.new.self c.moves.result (MovesCause c.args.number (state_of c.args.self.now) (state_of c.moves.new.self)) c.moves.ensures.ready c.moves.ensures.asked
-    c.moves.ensures.closed (λ it. it) c.moves.ensures.cause
+    is_question g.F.GameFile.stores state_of ready c.args.self.now c.moves.new.self c.moves.result
+    (MovesCause c.args.number (state_of c.args.self.now) (state_of c.moves.new.self))
+    (of_moves c.args.number) (λ t told h o. why_moves (state_of c.args.self.now) (state_of c.moves.new.self) t told h o c.args.number)
+    c.moves.ensures.ready c.moves.ensures.asked c.moves.ensures.closed (λ it. it) c.moves.ensures.cause

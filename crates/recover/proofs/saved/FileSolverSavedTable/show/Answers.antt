@@ -1,5 +1,7 @@
 use Rattle.solver.specs.Queries.{ShowCause}
 use Rattle.solver.specs.Solvers.{state, IsReady}
+use Rattle.recover.specs.Tables.{of_number}
+use Rattle.recover.specs.aid.Asking.{why_show}
 use Rattle.recover.proofs.Calls.{is_question, tells_text}
 use Rattle.recover.proofs.saved.FileSolverSavedTable.show.Goals as goal
 
@@ -7,8 +9,10 @@ pub returns-clause-asked : goal.returns-clause-asked
 returns-clause-asked g c =
     let state_of = state {F = g.row.F.Denot} {Device = g.row.F-Device.Denot} {file = g.F.GameFile} {table = g.F.Table} {disk = g.F.Device.SectorDisk} in
     let ready = IsReady {F = g.row.F.Denot} {Device = g.row.F-Device.Denot} {file = g.F.GameFile} {table = g.F.Table} {disk = g.F.Device.SectorDisk} in
-    is_question g.F.GameFile.stores state_of ready c.args.self.now c.show.new.self c.show.result (ShowCause c.args.number (state_of c.args.self.now) (state_of c.show.new.self)) c.show.ensures.ready c.show.ensures.asked
-    c.show.ensures.closed (λ it. it) c.show.ensures.cause
+    is_question g.F.GameFile.stores state_of ready c.args.self.now c.show.new.self c.show.result
+    (ShowCause c.args.number (state_of c.args.self.now) (state_of c.show.new.self))
+    (of_number c.args.number) (λ t told h o. why_show (state_of c.args.self.now) (state_of c.show.new.self) t told h o c.args.number)
+    c.show.ensures.ready c.show.ensures.asked c.show.ensures.closed (λ it. it) c.show.ensures.cause
 
 pub returns-clause-told : goal.returns-clause-told
 returns-clause-told g c =

@@ -1,5 +1,7 @@
 use Rattle.solver.specs.Queries.{NumberCause}
 use Rattle.solver.specs.Solvers.{state, IsReady}
+use Rattle.recover.specs.Tables.{of_number}
+use Rattle.recover.specs.aid.Asking.{why_number}
 use Rattle.recover.proofs.Calls.{is_question, tells_value}
 use Rattle.recover.proofs.saved.FileSolverSavedTable.value.Goals as goal
 
@@ -7,8 +9,10 @@ pub returns-clause-asked : goal.returns-clause-asked
 returns-clause-asked g c =
     let state_of = state {F = g.row.F.Denot} {Device = g.row.F-Device.Denot} {file = g.F.GameFile} {table = g.F.Table} {disk = g.F.Device.SectorDisk} in
     let ready = IsReady {F = g.row.F.Denot} {Device = g.row.F-Device.Denot} {file = g.F.GameFile} {table = g.F.Table} {disk = g.F.Device.SectorDisk} in
-    is_question g.F.GameFile.stores state_of ready c.args.self.now c.value.new.self c.value.result (NumberCause c.args.number (state_of c.args.self.now) (state_of c.value.new.self)) c.value.ensures.ready c.value.ensures.asked
-    c.value.ensures.closed (λ it. it) c.value.ensures.cause
+    is_question g.F.GameFile.stores state_of ready c.args.self.now c.value.new.self c.value.result
+    (NumberCause c.args.number (state_of c.args.self.now) (state_of c.value.new.self))
+    (of_number c.args.number) (λ t told h o. why_number (state_of c.args.self.now) (state_of c.value.new.self) t told h o c.args.number)
+    c.value.ensures.ready c.value.ensures.asked c.value.ensures.closed (λ it. it) c.value.ensures.cause
 
 pub returns-clause-told : goal.returns-clause-told
 returns-clause-told g c =
