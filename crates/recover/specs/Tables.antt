@@ -227,8 +227,8 @@ RefusesAudit table NoGame = table ≡ None
 RefusesAudit table TooWide = ComesTo table IsWide
 RefusesAudit table _ = ⊥
 
--- what a call asks of a table: a command; the position with a number, its best line, its moves; the position with a text;
--- or whether it is right
+-- what a call asks of a table: a command; the position with a number, its best line, its moves; the position with a
+-- text; or whether it is right
 pub data Request : Type 0 where
   to_do : (command : Command) → Request
   of_number : (number : ℕ) → Request
