@@ -3,8 +3,9 @@
 import { Client } from "./client.mjs";
 import { readGame } from "./game_text.mjs";
 import { Player } from "./player.mjs";
+import { unpacked } from "./unpacked.mjs";
 
-// what tools/page writes in: the games to begin with, the worker's text, and the solver's module in base64
+// what tools/page writes in: the games to begin with, the worker's text, and the solver's module, packed
 const GAMES = RBG_GAMES;
 const WORKER = RBG_WORKER;
 const WASM = RBG_WASM;
@@ -164,7 +165,7 @@ at("games").onchange = () => {
     check();
 };
 
-const wasm = Uint8Array.from(atob(WASM), (letter) => letter.charCodeAt(0));
+const wasm = await unpacked(WASM);
 at("size").textContent = `${wasm.length.toLocaleString("en")} bytes`;
 await client.ask("load", { wasm });
 at("games").value = "tictactoe";

@@ -1,5 +1,7 @@
 // The positions of a table as tools/report packs them, and the answers that a worker with the solver would give about them.
 
+import { unpacked } from "./unpacked.mjs";
+
 /** The bytes of a column as numbers: seven bits in each byte, the lowest first, and the highest bit where more follow. */
 function numbersOf(bytes) {
     const found = [];
@@ -21,12 +23,6 @@ function numbersOf(bytes) {
 function summed(steps) {
     let last = 0;
     return steps.map((step) => (last += step));
-}
-
-async function unpacked(text) {
-    const bytes = Uint8Array.from(atob(text), (letter) => letter.charCodeAt(0));
-    const stream = new Blob([bytes]).stream().pipeThrough(new DecompressionStream("deflate"));
-    return new Uint8Array(await new Response(stream).arrayBuffer());
 }
 
 export class Packed {

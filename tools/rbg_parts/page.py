@@ -13,7 +13,7 @@ from .balance import Balance
 from .play import Play
 
 # each behind those that it imports
-MODULES = ("game_text", "board", "moves", "packed", "player", "report")
+MODULES = ("game_text", "board", "moves", "unpacked", "packed", "player", "report")
 AT_ONCE = 4096
 
 

@@ -92,7 +92,7 @@ class Library(Case):
         self.assertTrue(told.startswith("certified black in 3\n"))
         self.assertEqual(self.rbgsolve.check(certificate), told)
         self.assertEqual(self.rbgsolve.check(certificate, self.game("take")), told)
-        for bad, game in ((certificate, self.game("nim")), (certificate, b""), (certificate[:-1], None), (b"", None), (bytes(range(256)), None)):
+        for bad, game in ((certificate, self.game("nim")), (certificate, b""), (certificate[:-2], None), (b"", None), (bytes(range(256)), None)):
             words = [self.file("bad.certificate", bad)] + ([self.file("other.rbg", game)] if game is not None else [])
             with self.assertRaises(self.rbgsolve.Refused) as refused:
                 self.rbgsolve.check(bad, game)
