@@ -1,16 +1,15 @@
 -- Two commands, one after the other.
-use Rattle.std.proofs.Common.{◌≡◌, ◌≢◌, ℕ, Bool, true, false, List, [], ◌∷◌, ◌++◌, map, IsTrue, arith, refl, sym, ◌∙◌, subst}
+use Rattle.std.proofs.Common.{◌≡◌, ℕ, Bool, true, false, List, [], ◌∷◌, ◌++◌, IsTrue, arith, refl, sym, ◌∙◌, subst}
 use Rattle.retrograde.specs.declared.records.Counts.{Counts}
 use Rattle.game_file.specs.Kept.{Layout}
 use Rattle.game_file.specs.State.{State, GoesAhead}
-use Rattle.solver.specs.declared.replies.Command.{Command as Asked}
 use Rattle.solver.specs.declared.replies.Command.TheVariants as asked
 use Rattle.solver.specs.declared.replies.Reply.{Reply}
 use Rattle.solver.specs.declared.fault.SolverFault.TheVariants.{Closed}
 use Rattle.solver.specs.declared.replies.Reply.TheVariants.{Worked, Refused}
 use Rattle.solver.specs.declared.replies.Units.{Units}
-use Rattle.solver.specs.Machine.{Command, work}
-use Rattle.solver.specs.Runs.{command_of, Turns, IsRun}
+use Rattle.solver.specs.Machine.{work}
+use Rattle.solver.specs.Runs.{Turns, IsRun}
 use Rattle.solver.specs.Steps.{IsDone}
 use Rattle.solver.specs.Units.{units_in}
 use Rattle.edits_solver.specs.Between.{LeavesTheFirst}
