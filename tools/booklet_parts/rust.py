@@ -237,7 +237,7 @@ def balanced_angles(text: str, at: int) -> int:
 
 
 def bounds_of(head: str) -> dict[str, list[str]]:
-    """The type variables of a head, each with the traits that bind it: `<F: GameFile, D: SectorDisk>`."""
+    """The variables of a head, a type with the traits that bind it, a constant with none: `<F: GameFile, const LAYOUT: u32>`."""
     found: dict[str, list[str]] = {}
     match = re.match(r"\s*(?:pub(?:\([a-z]+\))?\s+)?(?:impl|(?:const\s+)?(?:struct|enum|trait|type|fn)\s+\w+)\s*<", head)
     if not match:
@@ -248,9 +248,9 @@ def bounds_of(head: str) -> dict[str, list[str]]:
         depth += {"<": 1, ">": -1, "(": 1, ")": -1}.get(sign, 0)
         if sign == "," and depth <= 0:
             name, _, traits = part.partition(":")
-            name = name.strip()
+            is_constant, name = name.strip().startswith("const "), name.strip().removeprefix("const ").strip()
             if re.fullmatch(r"[A-Z]\w*", name):
-                found[name] = [re.sub(r"<.*", "", one).strip() for one in traits.split("+") if one.strip()]
+                found[name] = [] if is_constant else [re.sub(r"<.*", "", one).strip() for one in traits.split("+") if one.strip()]
             part = ""
         else:
             part += sign
