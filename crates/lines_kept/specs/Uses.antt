@@ -58,6 +58,6 @@ module _ {F Version : Type 0} (Stores : ℕ → Layout) (state : F → State)
 
 -- of whatever a stop leaves the headline holds, with sittings in which just these commands were answered, each with its
 -- reply; in each at most one more was begun
-abbrev pub AreKept : (ℕ → Layout) → List (List (Command × Reply)) → Picture → Type 0
-AreKept Stores uses picture =
+abbrev pub HeadlineHolds : (ℕ → Layout) → List (List (Command × Reply)) → Picture → Type 0
+HeadlineHolds Stores uses picture =
     (sittings : List Sitting) × (map (λ sitting. sitting.answered) sittings ≡ uses) × Headline Stores sittings picture

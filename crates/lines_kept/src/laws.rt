@@ -8,7 +8,7 @@ ghost use Rattle.session.specs.Seen.{Seen};
 ghost use Rattle.session.specs.Sessions.{IsSessionOver};
 ghost use Rattle.session.specs.declared.line_by_line.Lines.{Lines};
 ghost use Rattle.lines_kept.specs.Told.{commands_over, told_by};
-ghost use Rattle.lines_kept.specs.Uses.{AreKept, Uses};
+ghost use Rattle.lines_kept.specs.Uses.{HeadlineHolds, Uses};
 
 use file_disk::FileDisk;
 use game_file::{GameFile, Versions};
@@ -22,7 +22,7 @@ use solver::laws::the_headline;
 pub fn what_lines_told_is_kept<F: Versions>()
     ensures { (told : List (List (Command × Reply))) (left : Shown) (picture : Picture)
         → Uses F.stores F.state F.is_version F.are_two F.is_used_up F.lasts told left → MayLeave left picture
-        → AreKept F.stores told picture }
+        → HeadlineHolds F.stores told picture }
 {
     the_headline::<F>()
 }
@@ -33,7 +33,7 @@ pub fn what_our_lines_told_is_kept()
         → Uses ⟦<TableFile<FileDisk> as GameFile>⟧.stores ⟦<TableFile<FileDisk> as GameFile>⟧.state
         ⟦<TableFile<FileDisk> as Versions>⟧.is_version ⟦<TableFile<FileDisk> as Versions>⟧.are_two
         ⟦<TableFile<FileDisk> as Versions>⟧.is_used_up ⟦<TableFile<FileDisk> as GameFile>⟧.lasts told left
-        → MayLeave left picture → AreKept ⟦<TableFile<FileDisk> as GameFile>⟧.stores told picture }
+        → MayLeave left picture → HeadlineHolds ⟦<TableFile<FileDisk> as GameFile>⟧.stores told picture }
 {
     what_lines_told_is_kept::<TableFile<FileDisk>>()
 }
