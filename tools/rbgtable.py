@@ -107,6 +107,17 @@ class Counts(NamedTuple):
         return " ".join(f"{name} {count}" for name, count in zip(names, self)) + (" finished" if self.is_finished else " open")
 
 
+class Pages(NamedTuple):
+    """How many pages a table has, how many of them are used, and how many free."""
+
+    all: int
+    used: int
+    free: int
+
+    def __str__(self):
+        return f"pages {self.all} used {self.used} free {self.free}"
+
+
 class Root(NamedTuple):
     """The fields of a root slot that are used here."""
 
@@ -138,6 +149,11 @@ def counts_of(reply):
     """What a reply to `status` or `work` says."""
     words = reply.split()[-9:]
     return Counts(*map(int, words[1:8:2]), words[8] == "finished")
+
+
+def pages_of(reply):
+    """What a reply to `pages` says."""
+    return Pages(*map(int, reply.split()[1::2]))
 
 
 def value_of(words):
@@ -234,7 +250,7 @@ def found_program():
     if named:
         return named
     folder, within = os.path.split(os.path.dirname(os.path.realpath(__file__)))
-    # in a checkout ./rbgsolve would build the program first, which takes an hour
+    # in a checkout ./rbgsolve is a script, which looks at each call whether the program is built
     ours = "crates/solver_main/out/solver_main" if os.path.isdir(os.path.join(folder, "crates")) else "rbgsolve"
     beside = [os.path.join(folder, ours)] if within == "tools" else [os.path.join(folder, within, "bin", "rbgsolve")]
     for path in [*beside, os.path.join(sysconfig.get_path("scripts"), "rbgsolve")]:
@@ -630,6 +646,11 @@ class Table:
         if len(values) > 1:
             raise Refused(f"{self.file}: positions with this board have different values: {', '.join(map(str, numbers))}")
         return numbers[0] if numbers else None
+
+    @property
+    def pages(self):
+        """How many pages the table has, how many of them are used, and how many free."""
+        return pages_of(self.ask("pages"))
 
     @property
     def game(self):

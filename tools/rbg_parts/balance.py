@@ -58,7 +58,8 @@ class Balance:
     def summary(self):
         """What `tools/stats` tells, as data. Lists of two have the players' order."""
         value, far = self.table.value(0), self.longest()
-        found = {**fields.of_counts(self.table.counts), "players": self.play.players, "start": fields.of_value(value)}
+        found = {**fields.of_counts(self.table.counts), "pages": fields.of_pages(self.table.pages)}
+        found.update(players=self.play.players, start=fields.of_value(value))
         found["wins"] = [self.number(lambda value, name=name: value.winner == name) for name in self.play.players]
         found["drawn"] = self.number(lambda value: not value.winner and not value.is_open)
         found["open"] = self.number(lambda value: value.is_open)

@@ -36,6 +36,10 @@ def of_counts(counts):
     return {"known": counts.known, "expanded": counts.expanded, "settled": counts.settled, "processed": counts.processed, "finished": counts.is_finished}
 
 
+def of_pages(pages):
+    return {"all": pages.all, "used": pages.used, "free": pages.free}
+
+
 def columns(play):
     """The columns of positions. A vertex, score or variable that is called as a column before it, but for case, has a number behind it."""
     found = []

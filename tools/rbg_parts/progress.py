@@ -10,8 +10,9 @@ from . import words
 class Told:
     """Tells once a second how far something is, on standard error."""
 
-    def __init__(self, what, whole=0):
-        self.what, self.whole, self.begun, self.last = what, whole, time.monotonic(), time.monotonic()
+    def __init__(self, what, whole=0, unit=""):
+        self.what, self.whole, self.unit = what, whole, unit
+        self.begun = self.last = time.monotonic()
 
     def tell(self, done=None):
         now = time.monotonic()
@@ -21,13 +22,15 @@ class Told:
         if done is None:
             far = f"{now - self.begun:.0f} s so far"
         elif not self.whole:
-            far = f"{done:,} in {now - self.begun:.0f} s"
+            far = f"{done:,}{self.unit} in {now - self.begun:.0f} s"
         else:
             left = (now - self.begun) * (self.whole - done) / max(done, 1)
             far = f"{done:,} of {self.whole:,}, about {left:.0f} s left"
         words.say(f"{self.what}: {far}")
 
 
-def waited(command, what, **streams):
-    """Exit status and output of a program that tells nothing itself: how long it has been working is told for it."""
-    return words.ran(command, Told(what).tell, stdout=subprocess.PIPE, **streams)
+def waited(command, what, done=None, unit="", **streams):
+    """Exit status and output of a program that tells nothing itself: for how long it has been at work is told for it, and how much is done
+    where `done` says so; None where that is not known yet."""
+    told = Told(what, unit=unit)
+    return words.ran(command, lambda: told.tell(done() if done else None), stdout=subprocess.PIPE, **streams)

@@ -9,7 +9,7 @@ import time
 import rbgtable
 
 # what only asks; the reply to `list A B` has B lines, or as many as there are known positions from A on
-ASKS = re.compile(r"status|(?:value|line|show) [0-9]{1,10}|list ([0-9]{1,10}) ([0-9]{1,3})|find \S.*")
+ASKS = re.compile(r"status|pages|(?:value|line|show) [0-9]{1,10}|list ([0-9]{1,10}) ([0-9]{1,3})|find \S.*")
 MOST_BYTES = 70000
 # so long is answered before the work goes on
 SECONDS = 0.5

@@ -161,13 +161,13 @@ def program():
 
 
 def built_program():
-    """The program, built if it is the repository's: by ./build itself, which tells how far it is and ends at an interrupt, and not
-    behind a pipe of a tool. Whether it is built is looked up once for all that a tool asks it."""
+    """The program, where it is built; where it is the repository's and is not, standard error says how it is built, and the tool ends with
+    status 4. Whether it is built is looked up once for all that a tool asks it."""
     is_ours = os.path.realpath(program()) == str(ROOT / "rbgsolve")
     if is_ours and not os.environ.get("RBGSOLVE_PROGRAM") and (ROOT / "build").is_file():
-        status, _ = ran([ROOT / "build"], stdout=sys.stderr)
+        status, _ = ran([ROOT / "build", "--check"], stdout=sys.stderr)
         if status:
-            sys.exit(status)
+            sys.exit(4)
         os.environ["RBGSOLVE_PROGRAM"] = str(ROOT / "crates/solver_main/out/solver_main")
     return program()
 

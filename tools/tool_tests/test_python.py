@@ -110,7 +110,7 @@ class Wheels(Case):
         self.assertEqual(inner, ["rbgtable.py", "rbgsolve.py", "librbgsolve.so", "rbgsolve-0.1.0.data/scripts/rbgsolve"])
 
     def test_a_checkout(self):
-        """./rbgsolve there is a script, which would build."""
+        """./rbgsolve there is a script, and not the program."""
         _, inner = self.made("rbgsolve", "crates/solver_main/out/solver_main")
         self.assertEqual(inner, ["rbgtable.py", "rbgsolve-0.1.0.data/scripts/rbgsolve"])
         (self.folder / "crates/solver_main/out/solver_main").unlink()

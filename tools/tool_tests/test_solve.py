@@ -202,30 +202,19 @@ class Interrupted(Case):
             tool.send_signal(number)
             self.assertEqual(self.ends(tool), (130, b""))
 
-    def test_a_build_that_a_tool_begins_ends_with_it(self):
-        """In a copy without anything built, with a toolchain that only waits."""
+    def test_a_tool_begins_no_build(self):
+        """In a copy without anything built."""
         for name in ("rbgsolve", "build", "crates.txt"):
             shutil.copy(ROOT / name, self.folder)
         shutil.copytree(ROOT / "tools", self.folder / "tools", ignore=shutil.ignore_patterns("bench_parts", "booklet_parts", "crates"))
         (self.folder / "crates/solver_main/src").mkdir(parents=True)
         self.file("crates/solver_main/src/main.rt", "fn main() {}\n")
         self.file("crates.txt", "solver_main:\n")
-        (self.folder / "bin").mkdir()
-        self.file("bin/rt", "#!/bin/sh\nexec 8>>\"$CALLS\"\nflock 8\necho begun >&8\nexec sleep 40\n").chmod(0o755)
-        here = {**os.environ, "PATH": f"{self.folder}/bin:{os.environ['PATH']}", "CALLS": str(self.folder / "calls")}
-        here.pop("RBGSOLVE_PROGRAM")
-        for tool, target, number in (("solve", os.killpg, signal.SIGINT), ("solve", os.kill, signal.SIGTERM), ("stats", os.kill, signal.SIGTERM)):
-            (self.folder / "calls").unlink(missing_ok=True)
-            asked = self.begun(self.folder / "tools" / tool, "some.table", here=here)
-            calls = self.folder / "calls"
-            while not calls.exists() or not calls.read_text():
-                self.assertIsNone(asked.poll())
-                time.sleep(0.05)
-            target(asked.pid, number)
-            self.assertGreater(self.ends(asked)[0], 100)
-            # what runs still has its lock
-            for lock in (self.folder / "crates/solver_main/out/build.lock", calls):
-                self.assertEqual(subprocess.run(["flock", "-w", "5", lock, "true"], check=False).returncode, 0, lock)
+        here = {name: value for name, value in os.environ.items() if name != "RBGSOLVE_PROGRAM"}
+        for tool in ("solve", "stats"):
+            ran = subprocess.run([self.folder / "tools" / tool, "some.table"], env=here, capture_output=True, check=False, timeout=20)
+            self.assertEqual((ran.returncode, ran.stdout), (4, b""))
+            self.assertIn(f"{self.folder}/build ", ran.stderr.decode())
 
     def test_a_build_that_is_done_is_looked_up_once(self):
         """In a copy where ./build only counts its calls, and the program is the one that is tried."""

@@ -30,6 +30,8 @@ class Stats(Case):
     def test_json(self):
         found = json.loads(self.told(self.table("take"), "--more", "--json"))
         self.assertEqual((found["known"], found["finished"], found["players"], found["wins"]), (7, True, ["white", "black"], [2, 5]))
+        # the system page, the text, and a leaf of each of the four trees
+        self.assertEqual(found["pages"], {"all": 64, "used": 6, "free": 58})
         self.assertEqual(found["start"], {"value": "black in 3", "winner": "black", "distance": 3})
         self.assertEqual(found["distances"], [{"distance": at, "wins": wins} for at, wins in enumerate(([1, 1], [1, 2], [0, 1], [0, 1]))])
         self.assertEqual((found["longest"]["number"], found["longest"]["line"], found["main_line"]), (0, [0, 1, 2, 4], [0, 1, 2, 4]))
@@ -48,6 +50,7 @@ class Stats(Case):
         self.assertEqual(lines[0].split(), [str(take), str(chomp)])
         rows = [line.split() for line in lines]
         self.assertIn(["positions", "7", "67"], rows)
+        self.assertIn(["pages", "used", "6", "of", "64", "6", "of", "64"], rows)
         self.assertIn(["the", "first", "player", "white", "first"], rows)
         self.assertIn(["the", "start", "black", "in", "3", "first", "in", "8"], rows)
         self.assertIn(["moves", "of", "the", "main", "line", "3", "8"], rows)

@@ -38,6 +38,7 @@ class Questions:
         """The rows of take, as transcripts/ROWS.md has them."""
         with self.opened("take") as table:
             self.assertEqual(str(table.counts), "known 7 expanded 7 settled 7 processed 7 finished")
+            self.assertEqual(str(table.pages), "pages 64 used 6 free 58")
             self.assertEqual([str(value) for value in table.values()], [
                 "black in 3", "black in 2", "black in 1", "black in 1", "black in 0", "white in 1", "white in 0"])
             self.assertEqual(table.show(1), "white 2 v e 0,0,3")
@@ -213,7 +214,7 @@ class Questions:
                        ["second_opinion", "named.rbg", "--table", "named.table"], ["trust", "named.table", "named.rbg"]):
             self.assertEqual(self.ran(*words_)[0], 0, words_)
         status, out, _ = self.ran("stats", "named.table")
-        rows = [line.split()[:2] for line in out.splitlines()[2:6]]
+        rows = [line.split()[:2] for line in out.splitlines()[3:7]]
         self.assertEqual((status, rows), (0, [["refused", "2"], ["open", "5"], ["drawn", "0"], ["open", "0"]]))
         self.assertIn("the longest win: position 0, open in 3\n", out)
         self.assertEqual(self.ran("export", "named.table")[1].splitlines()[1:3], ["0,open,3", "1,open,2"])

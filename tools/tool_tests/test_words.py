@@ -14,8 +14,15 @@ class Words(Case):
         self.assertEqual((status, out), (0, ""))
 
     def test_words_that_need_the_program(self):
-        for words in (["moves", "take.rbg"], ["session"], ["--bogus", "create"], ["--"]):
+        for words in (["moves", "take.rbg"], ["session"], ["--bogus", "create"], ["--"], [], ["sesion"], ["help", "sesion"]):
             self.assertEqual(self.ran("first_words", *words), (100, "", ""))
+
+    def test_each_way_to_ask_for_help(self):
+        for words in (["help"], ["-h"], ["help", "load"], ["load", "-h"], ["-V"]):
+            here, there = self.ran("first_words", *words), self.ran("../rbgsolve", *words)
+            self.assertEqual((here[0], here[2]), (0, ""), words)
+            # of `-h` the program gives a shorter form
+            self.assertTrue(here[1] == there[1] or words[-1] == "-h", words)
 
     def test_output_that_cannot_be_written(self):
         with open("/dev/full", "wb") as full:

@@ -50,7 +50,7 @@ pub fn ask_again(rt: &HostRuntime, alloc: Global, text: &[u8], name: &str) -> an
     ask_on::<TableFile<FileDisk>>(rt, alloc, disk, &mut seen, text)
 }
 
-/// The same of the table on this disk. The table is opened again where memory was refused.
+/// Makes all calls on the table on this disk, as `ask_again` does, and opens the table again where memory was refused.
 fn ask_on<F: GameFile>(
     rt: &HostRuntime,
     alloc: Global,
@@ -156,7 +156,7 @@ fn is_want(fault: SolverFault) -> bool {
     )
 }
 
-/// A sum that tells the first four sectors of a disk, where the root of its table is, from others, made without memory.
+/// A checksum of the first four sectors of a disk, where the root of its table is. It takes no memory.
 fn sum_of(disk: &mut FileDisk) -> anyhow::Result<u64> {
     let mut sum: u64 = 14_695_981_039_346_656_037;
     let mut bytes = [0; 512];

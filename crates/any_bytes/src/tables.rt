@@ -11,7 +11,7 @@ pub fn worked(alloc: Global, text: &[u8], sectors: u64, times: u64) -> anyhow::R
     Ok(worked_on::<TableFile<MemDisk>>(alloc, MemDisk::new(alloc, sectors)?, text, times)?)
 }
 
-/// The same on this disk.
+/// Loads this game into an empty table on this disk, and works it as `worked` does.
 fn worked_on<F: GameFile>(
     alloc: Global,
     disk: F::Device,

@@ -6,7 +6,7 @@ ghost use Rattle.audit.specs.Answers.{IsAnswer, IsTableSo};
 
 use retrograde::GameGraph;
 
-/// A table of any origin of which audit answers that it is right says what is so in the game.
+/// If an audit answers that a table is right, whoever made it, everything that the table says holds in the game.
 pub fn right_is_so<M: GameGraph>()
     ensures { (game : M) (stored : Stored (List ℕ)) → IsTable stored
         → IsAnswer (M.graph game) (M.is_wide game) stored Right → IsTableSo (M.graph game) (view_of stored) }

@@ -47,8 +47,7 @@ fn is_reached<M: MoveSource, T: Table>(
     Ok(from < number && from < table.counts().expanded)
 }
 
-/// The lowest of the conditions but the first that fails at a number, where nothing is asked of the edges that
-/// lead to it.
+/// The lowest of the conditions A2 to A7 that fails at a number, without what they ask of the edges that lead to it.
 fn later_failing<M: MoveSource, T: Table>(
     alloc: Global,
     source: &M,

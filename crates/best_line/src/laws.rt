@@ -11,7 +11,7 @@ ghost use Rattle.best_line.specs.Laws.{IsSo};
 
 use retrograde::GameGraph;
 
-/// A value that a table that agrees with itself gives a position is so: who is said to win it does, in
+/// Every value in a locally sound table is right: who is said to win a position does, in
 /// this many moves and no fewer, and nobody wins what is said to be drawn.
 pub fn values_are_so<M: GameGraph>()
     ensures { (game : M) (stored : Stored (List ℕ)) (i : ℕ) (x : List ℕ) (value : Value)

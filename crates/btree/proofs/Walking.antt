@@ -165,6 +165,20 @@ not_taken w d page last refuses told old new some fault cause =
     each OutOfMemory never = absurd never
     each Closed closed = closed
 
+-- a leaf is not taken
+pub leaf_not_taken : (w : Widths) (d page : ℕ) (last : List ℕ) (refuses : List Item → Item → Type 0) (told : List Item → Type 0) (old new : StoreStated)
+    → d ≡ 0 → (fault : PageFault) → TakeCause w Leaf page old new fault → WalkBelowCause w d page last refuses told old new (Store fault)
+leaf_not_taken w d page last refuses told old new none fault cause =
+    subst (λ (e : ℕ). WalkBelowCause w e page last refuses told old new (Store fault)) (sym none) (each fault cause)
+  where
+    each : (fault : PageFault) → TakeCause w Leaf page old new fault → WalkBelowCause w 0 page last refuses told old new (Store fault)
+    each Disk grew = grew
+    each NotATable never = absurd never
+    each Damaged not = λ honest tree ready. not honest (ready.waiting page (contains_root w (reads old) 0 page)) tree
+    each TableFull never = absurd never
+    each OutOfMemory never = absurd never
+    each Closed closed = closed
+
 -- at one child of a page
 module _ (w : Widths) (d page : ℕ) (body : List ℕ) (k child : ℕ) (c : Item) (old mid new : StoreStated) (last between : List ℕ) (told more : List Item → Type 0) (some : d ≢ 0) (marks : OnlyMarks old mid)
     (is : IsTrue old.disk.honest → body ≡ reads old page) (got : slice_get (items_in w Inner body) k ≡ Some c) (leads : child ≡ child_of c)

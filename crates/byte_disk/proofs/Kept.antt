@@ -7,9 +7,10 @@ use Rattle.std.proofs.lemmas.Bool.{ne_eqb, lt-ltb}
 use Rattle.std.specs.Prelude.{slice_set, min, replicate}
 use Rattle.sector_disk.specs.declared.log.Event.{Event}
 use Rattle.sector_disk.specs.declared.log.Event.TheVariants.{Wrote, Synced, Extended}
-use Rattle.sector_disk.specs.Disk.{Picture, sector, Steps, Keeps, SyncedMore, AllSynced, Extends, IsLonger, AreZeros}
+use Rattle.sector_disk.specs.Disk.{Picture, sector, GoesOn, Steps, Keeps, SyncedMore, AllSynced, Extends, IsLonger, AreZeros}
 use Rattle.sector_disk.specs.Past.{before, synced_by, synced_after, shown_now, memory_disk}
 use Rattle.sector_disk.specs.Past.{end_by, end_after, lasting_of, lasting_within}
+use Rattle.sector_disk.specs.aid.Moments.{one_moment}
 use Rattle.sector_disk.specs.aid.Unknown.{past}
 
 pub synced_after-push : (synced : ℕ → Bool) (events : List Event) (event : Event) → synced_after synced (events ++ event ∷ []) ≡ synced_by (synced_after synced events) event
@@ -33,10 +34,18 @@ write_lasts events later old new at was is size =
 pub kept : (events : List Event) (event : Event) (old new : Picture) → before event new ≡ old → length new ≡ length old
     → Steps (memory_disk events old) (memory_disk (events ++ event ∷ []) new)
 kept events event old new back size = record {
-  goes_on = record { later = omega (arith, length-append events (event ∷ [])); past = past events event old new back; honest = refl; failed_writes = omega arith };
-  one_moment = omega (arith, length-append events (event ∷ []));
+  goes_on = goes_on;
+  moments = one_moment goes_on (omega (arith, length-append events (event ∷ [])));
   same_size = size;
 }
+  where
+    goes_on : GoesOn (memory_disk events old) (memory_disk (events ++ event ∷ []) new)
+    goes_on = record {
+      later = omega (arith, length-append events (event ∷ []));
+      past = past events event old new back;
+      honest = refl;
+      failed_writes = omega arith;
+    }
 
 pub kept_write : (events later : List Event) (picture : Picture) (at : ℕ) (bytes was : List ℕ) → was ≡ sector picture at → later ≡ events ++ Wrote at was ∷ []
     → Steps (memory_disk events picture) (memory_disk later (slice_set picture at bytes))
@@ -70,14 +79,15 @@ kept_extend events later old new sectors more is_later is_new is_long =
     let long : length new ≡ length old + more = ap (λ (p : Picture). length p) is_new ∙ length-append old (replicate more (replicate 512 0)) ∙ ap (λ (n : ℕ). length old + n) (length-replicate more (replicate 512 0)) in
     let back : before (Extended (length old)) new ≡ old =
     ap (λ (p : Picture). take (length old) p) is_new ∙ take-append-le (length old) old (replicate more (replicate 512 0)) (omega arith) ∙ take_all (length old) old (omega arith) in
+    let goes_on : GoesOn (memory_disk events old) (memory_disk (events ++ Extended (length old) ∷ []) new) = record {
+      later = omega (arith, length-append events (Extended (length old) ∷ []));
+      past = past events (Extended (length old)) old new back;
+      honest = refl;
+      failed_writes = omega arith;
+    } in
     subst (λ (es : List Event). Extends sectors (memory_disk events old) (memory_disk es new)) (sym is_later) (record {
-      goes_on = record {
-        later = omega (arith, length-append events (Extended (length old) ∷ []));
-        past = past events (Extended (length old)) old new back;
-        honest = refl;
-        failed_writes = omega arith;
-      };
-      one_moment = λ honest. omega (arith, length-append events (Extended (length old) ∷ []));
+      goes_on = goes_on;
+      moments = λ honest. one_moment goes_on (omega (arith, length-append events (Extended (length old) ∷ [])));
       no_shorter = omega (arith, long);
       no_longer = omega (arith, long, is_long);
     })

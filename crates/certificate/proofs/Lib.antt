@@ -1,6 +1,14 @@
 pub mod StrategyLemmas
+pub mod LineLemmas
+pub mod ListLemmas
+pub mod HeadLemmas
+pub mod ReadLemmas
+pub mod UnreadLemmas
+pub mod ShownLemmas
 pub mod GoingLemmas
 pub mod RankLemmas
 pub mod PlayLemmas
 pub mod ClaimLemmas
+pub mod FaultLemmas
+pub mod RightLemmas
 pub mod Looking

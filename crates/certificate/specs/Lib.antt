@@ -1,7 +1,11 @@
 pub mod Strategies
+pub mod Format
 pub mod Lists
+pub mod Shown
 pub mod Play
 pub mod Claims
 pub mod Codes
+pub mod Refusals
 pub mod Answers
+pub mod Right
 pub mod aid

@@ -42,9 +42,9 @@ pub fn check_to<W: Write>(
 }
 
 /// Writes what a certificate shows, and gives the status: 0, or 4 where the output fails.
-fn said_shown<W: Write>(out: &mut W, shown: &Certified) -> u8
+fn said_shown<W: Write>(out: &mut W, shown: &Certified<'_>) -> u8
     ensures { (result ≡ 4) ⊎ ((result ≡ 0) × Appends (W.contents out.old) (W.contents out.new)
-        (shown_lines shown.now.value.items shown.now.position.items shown.now.looked)) }
+        (shown_lines shown.now.value.now shown.now.position.now shown.now.looked)) }
 {
     match put_shown(out, shown) {
         Ok(()) => 0,
@@ -73,15 +73,15 @@ fn status_of(fault: CertificateFault) -> u8
 }
 
 /// Writes what a certificate shows at once.
-fn put_shown<W: Write>(out: &mut W, shown: &Certified) -> io::Result<()>
+fn put_shown<W: Write>(out: &mut W, shown: &Certified<'_>) -> io::Result<()>
     ensures { OnOk result (Appends (W.contents out.old) (W.contents out.new)
-        (shown_lines shown.now.value.items shown.now.position.items shown.now.looked)) }
+        (shown_lines shown.now.value.now shown.now.position.now shown.now.looked)) }
 {
     let looked = shown.looked;
     out.write_all(b"certified ")?;
-    out.write_all(&shown.value)?;
+    out.write_all(shown.value)?;
     out.write_all(b"\nposition ")?;
-    out.write_all(&shown.position)?;
+    out.write_all(shown.position)?;
     write!(out, "\nlooked {looked}\n")?;
     out.flush()
 }

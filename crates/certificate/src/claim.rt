@@ -1,5 +1,5 @@
 //! What a certificate claims, as text.
-ghost use Rattle.std.specs.Prelude.{◌≡◌, ◌++◌, IfOk};
+ghost use Rattle.std.specs.Prelude.{◌≡◌, ◌≢◌, ◌<◌, ◌^◌, ◌++◌, ℕ, codes, IfOk, MatchOption};
 ghost use Rattle.std.specs.Fmt.{decimal};
 ghost use Rattle.rbg_game.specs.Goals.{points_of};
 ghost use Rattle.rbg_game.specs.Meaning.{game_of};
@@ -7,8 +7,11 @@ ghost use Rattle.rbg_game.specs.Sound.{IsSoundGame};
 ghost use Rattle.rbg_game.specs.declared.roles.Role.TheVariants as role;
 ghost use Rattle.position_pack.specs.Texts.{role_text};
 ghost use Rattle.certificate.specs.Claims.{goal_line, head_of, value_text};
+ghost use Rattle.certificate.specs.Refusals.{IsCounted};
+ghost use Rattle.certificate.specs.declared.claim.Claimed.{Claimed as SpecClaimed};
 
-use crate::lines::number;
+use crate::lines::{after, number};
+use crate::manner::Manner;
 use rbg_game::game::Game;
 use rbg_game::goal::Goal;
 use rbg_game::roles::Player;
@@ -21,9 +24,56 @@ pub enum Claimed {
     Drawn,
 }
 
+impl Claimed {
+    ghost use Rattle.std.specs.Prelude.{◌≡◌};
+    ghost use Rattle.certificate.specs.Format.{first_manner, first_player, second_manner, second_player};
+
+    /// What the first of the two lists that show it says.
+    pub fn first_manner(self) -> Manner
+        ensures { result ≡ first_manner self }
+    {
+        match self {
+            Claimed::Won(_, _) => Manner::AtMost,
+            Claimed::Drawn => Manner::Never,
+        }
+    }
+
+    /// What the second says.
+    pub fn second_manner(self) -> Manner
+        ensures { result ≡ second_manner self }
+    {
+        match self {
+            Claimed::Won(_, _) => Manner::AtLeast,
+            Claimed::Drawn => Manner::Never,
+        }
+    }
+
+    /// Of whom the first is.
+    pub fn first_player(self) -> Player
+        ensures { result ≡ first_player self }
+    {
+        match self {
+            Claimed::Won(player, _) => player,
+            Claimed::Drawn => Player::First,
+        }
+    }
+
+    /// Of whom the second is.
+    pub fn second_player(self) -> Player
+        ensures { result ≡ second_player self }
+    {
+        match self {
+            Claimed::Won(player, _) => player,
+            Claimed::Drawn => Player::Second,
+        }
+    }
+}
+
 /// The value that these bytes write.
 pub(crate) fn claimed_in(game: &Game, value: &[u8]) -> Option<Claimed>
     requires { IsSoundGame (game_of game.now) }
+    ensures { MatchOption result ((claimed : SpecClaimed) → IsCounted claimed → value.now ≢ value_text (game_of game.now) claimed)
+        (λ claimed. IsCounted claimed × (value.now ≡ value_text (game_of game.now) claimed)) }
 {
     if value == b"drawn".as_slice() {
         return Some(Claimed::Drawn);
@@ -38,9 +88,12 @@ pub(crate) fn claimed_in(game: &Game, value: &[u8]) -> Option<Claimed>
 }
 
 /// In how many moves the player with this name wins, as these bytes write it.
-fn moves_of(value: &[u8], name: &[u8]) -> Option<u32> {
-    let behind = value.strip_prefix(name)?;
-    let digits = behind.strip_prefix(b" in ")?;
+fn moves_of(value: &[u8], name: &[u8]) -> Option<u32>
+    ensures { MatchOption result ((moves : ℕ) → moves < 2 ^ 32 → value.now ≢ name.now ++ codes " in " ++ decimal moves)
+        (λ moves. (moves < 2 ^ 32) × (value.now ≡ name.now ++ codes " in " ++ decimal moves)) }
+{
+    let behind = after(value, name)?;
+    let digits = after(behind, b" in ")?;
     number(digits)
 }
 

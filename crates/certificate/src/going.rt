@@ -1,8 +1,8 @@
 //! What is asked of the ranks at one position, by the moves that lead from it.
-ghost use Rattle.std.specs.Prelude.{◌≡◌, ◌↔◌, true, IfOk, Some};
-ghost use Rattle.std.specs.Bool.{OnTrue};
+ghost use Rattle.std.specs.Prelude.{◌≡◌, ◌↔◌, true, IfOk, IsOk, Some, Err};
 ghost use Rattle.rbg_game.specs.declared.roles.Role.{Role};
-ghost use Rattle.certificate.specs.Lists.{Stands};
+ghost use Rattle.certificate.specs.Format.{Ascends};
+ghost use Rattle.certificate.specs.Lists.{Stands, lines_in};
 ghost use Rattle.certificate.specs.Strategies.{GoesDown, IsHeld, RanksBelow, RanksFrom};
 ghost use Rattle.certificate.specs.aid.Found.{SomeOf, EachOf};
 
@@ -28,7 +28,8 @@ fn is_ahead(ahead: Option<Player>, player: Player) -> bool
 
 /// Whether some of these positions is found with a rank below this one.
 fn some_below(list: &[Ranked], found: &[Packed], rank: u32) -> bool
-    ensures { OnTrue result (SomeOf found.now (RanksBelow (Stands list.now) rank)) }
+    requires { Ascends (lines_in list.now) }
+    ensures { (result ≡ true) ↔ SomeOf found.now (RanksBelow (Stands list.now) rank) }
 {
     for next in found {
         if ranks_below(list, next, rank) {
@@ -40,7 +41,8 @@ fn some_below(list: &[Ranked], found: &[Packed], rank: u32) -> bool
 
 /// Whether each of these positions is found with a rank below this one.
 fn each_below(list: &[Ranked], found: &[Packed], rank: u32) -> bool
-    ensures { OnTrue result (EachOf found.now (RanksBelow (Stands list.now) rank)) }
+    requires { Ascends (lines_in list.now) }
+    ensures { (result ≡ true) ↔ EachOf found.now (RanksBelow (Stands list.now) rank) }
 {
     for next in found {
         if !ranks_below(list, next, rank) {
@@ -52,7 +54,8 @@ fn each_below(list: &[Ranked], found: &[Packed], rank: u32) -> bool
 
 /// Whether some of these positions is found with this rank or a greater one.
 fn some_from(list: &[Ranked], found: &[Packed], rank: u32) -> bool
-    ensures { OnTrue result (SomeOf found.now (RanksFrom (Stands list.now) rank)) }
+    requires { Ascends (lines_in list.now) }
+    ensures { (result ≡ true) ↔ SomeOf found.now (RanksFrom (Stands list.now) rank) }
 {
     for next in found {
         if ranks_from(list, next, rank) {
@@ -64,7 +67,8 @@ fn some_from(list: &[Ranked], found: &[Packed], rank: u32) -> bool
 
 /// Whether each of these positions is found with this rank or a greater one.
 fn each_from(list: &[Ranked], found: &[Packed], rank: u32) -> bool
-    ensures { OnTrue result (EachOf found.now (RanksFrom (Stands list.now) rank)) }
+    requires { Ascends (lines_in list.now) }
+    ensures { (result ≡ true) ↔ EachOf found.now (RanksFrom (Stands list.now) rank) }
 {
     for next in found {
         if !ranks_from(list, next, rank) {
@@ -83,8 +87,11 @@ pub fn goes_down<M: MoveSource>(
     at: &Packed,
     rank: u32,
 ) -> Result<bool, MoveFault>
-    requires { M.is_sound source.now }
-    ensures { IfOk result (λ is. OnTrue is (GoesDown (M.graph source.now) player (Stands list.now) at.now.items rank)) }
+    requires sound { M.is_sound source.now }
+    requires ascends { Ascends (lines_in list.now) }
+    ensures is { IfOk result (λ is. (is ≡ true) ↔ GoesDown (M.graph source.now) player (Stands list.now) at.now.items rank) }
+    ensures wide { result ≡ Err MoveFault.TooWide → M.is_wide source.now at.now.items }
+    ensures narrow { IsOk result → ¬ M.is_wide source.now at.now.items }
 {
     let found = source.successors(alloc, at)?;
     if found.is_empty() {
@@ -105,8 +112,11 @@ pub fn is_held<M: MoveSource>(
     at: &Packed,
     rank: u32,
 ) -> Result<bool, MoveFault>
-    requires { M.is_sound source.now }
-    ensures { IfOk result (λ is. OnTrue is (IsHeld (M.graph source.now) player (RanksFrom (Stands list.now) rank) at.now.items)) }
+    requires sound { M.is_sound source.now }
+    requires ascends { Ascends (lines_in list.now) }
+    ensures is { IfOk result (λ is. (is ≡ true) ↔ IsHeld (M.graph source.now) player (RanksFrom (Stands list.now) rank) at.now.items) }
+    ensures wide { result ≡ Err MoveFault.TooWide → M.is_wide source.now at.now.items }
+    ensures narrow { IsOk result → ¬ M.is_wide source.now at.now.items }
 {
     let found = source.successors(alloc, at)?;
     if found.is_empty() {

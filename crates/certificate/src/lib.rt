@@ -11,12 +11,14 @@ pub mod laws;
 mod limits;
 mod lines;
 mod lists;
+mod manner;
 mod ranked;
 mod shown;
 mod values;
 mod whole;
 
 pub use answer::{Answer, check_to};
+pub use certified::{Certified, check};
 pub use fault::{CertificateFault, Refusal};
 pub use head::text_of;
 pub use limits::MAX_CERTIFICATE_BYTES;

@@ -1,10 +1,13 @@
 //! Positions with ranks.
-ghost use Rattle.std.specs.Prelude.{◌≡◌, IfSome};
-ghost use Rattle.std.specs.Bool.{OnTrue};
-ghost use Rattle.certificate.specs.Lists.{Stands};
+ghost use Rattle.std.specs.Prelude.{◌≡◌, ◌≤◌, ◌↔◌, ℕ, length, true, Some};
+ghost use Rattle.std.specs.Cmp.Lexicographic.{slice_cmp};
+ghost use Rattle.std.specs.Ordering.{is_lt, nat_cmp};
+ghost use Rattle.position_pack.specs.declared.limits.TheConstants.{MAX_PACKED};
+ghost use Rattle.certificate.specs.Format.{Ascends};
+ghost use Rattle.certificate.specs.Lists.{Stands, lines_in};
 ghost use Rattle.certificate.specs.Strategies.{RanksBelow, RanksFrom};
 
-use position_pack::{MAX_PACKED, Packed};
+use position_pack::Packed;
 
 /// A position by its bits, and its rank in a list: in at most, or in at least how many moves a player wins it.
 #[derive(Drop)]
@@ -13,11 +16,19 @@ pub struct Ranked {
     pub rank: u32,
 }
 
-/// The rank of a position. It is looked for by halves, so it is found where the list ascends.
-fn rank_of(list: &[Ranked], at: &[u8]) -> Option<u32>
-    ensures { IfSome result (Stands list.now at.now) }
+/// Whether a position comes before these bytes in the order of its own.
+pub fn is_before(ranked: &Ranked, at: &[u8]) -> bool
+    ensures { result ≡ is_lt (slice_cmp nat_cmp ranked.now.at.items at.now) }
 {
-    let place = list.partition_point(|ranked| ranked.at.as_slice() < at);
+    ranked.at.as_slice() < at
+}
+
+/// The rank of a position. It is looked for by halves, and found since the list ascends.
+fn rank_of(list: &[Ranked], at: &[u8]) -> Option<u32>
+    requires { Ascends (lines_in list.now) }
+    ensures { (n : ℕ) → (result ≡ Some n) ↔ Stands list.now at.now n }
+{
+    let place = list.partition_point(|ranked| is_before(ranked, at));
     if place >= list.len() {
         return None;
     }
@@ -31,7 +42,8 @@ fn rank_of(list: &[Ranked], at: &[u8]) -> Option<u32>
 
 /// Whether a position is found with this rank.
 pub fn ranks_as(list: &[Ranked], at: &[u8], rank: u32) -> bool
-    ensures { OnTrue result (Stands list.now at.now rank) }
+    requires { Ascends (lines_in list.now) }
+    ensures { (result ≡ true) ↔ Stands list.now at.now rank }
 {
     match rank_of(list, at) {
         Some(found) => found == rank,
@@ -41,7 +53,8 @@ pub fn ranks_as(list: &[Ranked], at: &[u8], rank: u32) -> bool
 
 /// Whether a position is found with a rank below this one.
 pub fn ranks_below(list: &[Ranked], at: &[u8], rank: u32) -> bool
-    ensures { OnTrue result (RanksBelow (Stands list.now) rank at.now) }
+    requires { Ascends (lines_in list.now) }
+    ensures { (result ≡ true) ↔ RanksBelow (Stands list.now) rank at.now }
 {
     match rank_of(list, at) {
         Some(found) => found < rank,
@@ -51,7 +64,8 @@ pub fn ranks_below(list: &[Ranked], at: &[u8], rank: u32) -> bool
 
 /// Whether a position is found with this rank or a greater one; where this one is 0, nothing is looked for.
 pub fn ranks_from(list: &[Ranked], at: &[u8], rank: u32) -> bool
-    ensures { OnTrue result (RanksFrom (Stands list.now) rank at.now) }
+    requires { Ascends (lines_in list.now) }
+    ensures { (result ≡ true) ↔ RanksFrom (Stands list.now) rank at.now }
 {
     if rank == 0 {
         return true;
@@ -62,14 +76,12 @@ pub fn ranks_from(list: &[Ranked], at: &[u8], rank: u32) -> bool
     }
 }
 
-/// A copy of the bytes of a position; none where they are more than any position has.
-pub fn packed_of(bytes: &[u8]) -> Option<Packed>
-    ensures { IfSome result (λ packed. packed.items ≡ bytes.now) }
+/// A copy of the bytes of a position.
+pub fn packed_of(bytes: &[u8]) -> Packed
+    requires { length bytes.now ≤ MAX_PACKED }
+    ensures { result.items ≡ bytes.now }
 {
-    if bytes.len() > MAX_PACKED {
-        return None;
-    }
     let mut packed = Packed::new();
     let _fits = packed.try_extend_from_slice(bytes);
-    Some(packed)
+    packed
 }

@@ -1,18 +1,30 @@
 //! Whether the lists of a certificate, as they are written, show a value.
-ghost use Rattle.std.specs.Prelude.{OnOk};
-ghost use Rattle.retrograde.specs.Values.{WonIn, Drawn};
+ghost use Rattle.std.specs.Prelude.{◌≡◌, OnOk, IfOk, IfErr};
+ghost use Rattle.position_pack.specs.declared.kind.PackingKind.TheVariants.{Bits};
 ghost use Rattle.legal_moves.specs.Compiled.{IsSoundCompiled, compiled_game, compiled_goal, packing_kind};
-ghost use Rattle.legal_moves.specs.Sources.{graph_of};
+ghost use Rattle.legal_moves.specs.Sources.{IsWideAt, graph_of};
 ghost use Rattle.certificate.specs.Claims.{IsSo};
+ghost use Rattle.certificate.specs.Refusals.{AreUnread};
+ghost use Rattle.certificate.specs.Right.{AreShown};
+ghost use Rattle.certificate.specs.Shown.{AreNarrow, IsUnshown};
+ghost use Rattle.certificate.specs.Lists.{lines_in};
+ghost use Rattle.certificate.specs.aid.Parts.{AreAsked};
+ghost use Rattle.certificate.specs.aid.Reasons.{AreReadLists, AreTheLists, IsNotShown};
 
 use crate::claim::{Claimed, name_of};
 use crate::fault::{CertificateFault, Refusal};
-use crate::lists::{Manner, list_in};
-use crate::values::{show_never, show_win};
+use crate::lists::{Listed, list_in};
+use crate::values::{show_draw, show_win};
 use legal_moves::Compiled;
 use position_pack::Packed;
-use rbg_game::roles::Player;
 use std::alloc::Global;
+
+/// The two lists of a claim, in the order in which they are written.
+#[derive(Drop)]
+struct Lists {
+    first: Listed,
+    second: Listed,
+}
 
 /// That the position has the value that is claimed, by the lists; and how many positions stand in them.
 pub fn show_value(
@@ -20,64 +32,79 @@ pub fn show_value(
     compiled: &Compiled,
     at: &Packed,
     claimed: Claimed,
-    lists: &[u8],
+    behind: &[u8],
 ) -> Result<usize, Refusal>
-    requires { IsSoundCompiled compiled.now }
-    ensures { OnOk result (IsSo (graph_of (packing_kind compiled.now) (compiled_goal compiled.now) (compiled_game compiled.now)) claimed at.now.items) }
+    requires sound { IsSoundCompiled compiled.now }
+    requires kind { packing_kind compiled.now ≡ Bits }
+    ensures so { OnOk result (IsSo (graph_of (packing_kind compiled.now) (compiled_goal compiled.now) (compiled_game compiled.now)) claimed at.now.items) }
+    ensures shown { OnOk result (AreTheLists (compiled_game compiled.now) (compiled_goal compiled.now) claimed at.now.items behind.now) }
+    ensures fault { IfErr result (λ refusal. IsNotShown (compiled_game compiled.now) (compiled_goal compiled.now) claimed at.now.items behind.now
+        refusal.fault) }
+{
+    let lists = lists_in(alloc, compiled, claimed, behind)?;
+    show_by(alloc, compiled, at, claimed, &lists)?;
+    Ok(
+        lists
+            .first
+            .list
+            .len()
+            .saturating_add(lists.second.list.len()),
+    )
+}
+
+/// The two lists of a claim, behind which nothing stands.
+fn lists_in(
+    alloc: Global,
+    compiled: &Compiled,
+    claimed: Claimed,
+    behind: &[u8],
+) -> Result<Lists, Refusal>
+    requires sound { IsSoundCompiled compiled.now }
+    requires kind { packing_kind compiled.now ≡ Bits }
+    ensures read { IfOk result (λ lists. AreReadLists (compiled_game compiled.now) claimed behind.now lists.first.list.items lists.second.list.items) }
+    ensures fault { IfErr result (λ refusal. AreUnread (compiled_game compiled.now) claimed behind.now refusal.fault) }
+{
+    let packing = compiled.packing();
+    let name = name_of(compiled.game(), claimed.first_player());
+    let (first, rest) = list_in(alloc, packing, behind, claimed.first_manner(), name)?;
+    let name = name_of(compiled.game(), claimed.second_player());
+    let (second, rest) = list_in(alloc, packing, rest, claimed.second_manner(), name)?;
+    if !rest.is_empty() {
+        return Err(Refusal::at(CertificateFault::Malformed, rest));
+    }
+    Ok(Lists { first, second })
+}
+
+/// That the position has the value that is claimed, by lists that were read.
+fn show_by(
+    alloc: Global,
+    compiled: &Compiled,
+    at: &Packed,
+    claimed: Claimed,
+    lists: &Lists,
+) -> Result<(), Refusal>
+    requires sound { IsSoundCompiled compiled.now }
+    requires first { AreAsked lists.now.first.list.items }
+    requires second { AreAsked lists.now.second.list.items }
+    ensures so { OnOk result (IsSo (graph_of (packing_kind compiled.now) (compiled_goal compiled.now) (compiled_game compiled.now)) claimed at.now.items) }
+    ensures shown { OnOk result (AreShown (graph_of (packing_kind compiled.now) (compiled_goal compiled.now) (compiled_game compiled.now)) claimed
+        at.now.items (lines_in lists.now.first.list.items) (lines_in lists.now.second.list.items)) }
+    ensures narrow { OnOk result (AreNarrow (IsWideAt (packing_kind compiled.now) (compiled_game compiled.now)) claimed
+        (lines_in lists.now.first.list.items) (lines_in lists.now.second.list.items)) }
+    ensures fault { IfErr result (λ refusal. IsUnshown (graph_of (packing_kind compiled.now) (compiled_goal compiled.now) (compiled_game compiled.now))
+        (IsWideAt (packing_kind compiled.now) (compiled_game compiled.now)) claimed at.now.items
+        (lines_in lists.now.first.list.items) (lines_in lists.now.second.list.items) refusal.fault) }
 {
     match claimed {
-        Claimed::Won(player, moves) => show_won(alloc, compiled, at, player, moves, lists),
-        Claimed::Drawn => show_drawn(alloc, compiled, at, lists),
-    }
-}
-
-/// That the player wins in exactly so many moves, by a list of what is won in at most so many and one of what is won in at least so many;
-/// and how many positions stand in them.
-fn show_won(
-    alloc: Global,
-    compiled: &Compiled,
-    at: &Packed,
-    player: Player,
-    moves: u32,
-    lists: &[u8],
-) -> Result<usize, Refusal>
-    requires { IsSoundCompiled compiled.now }
-    ensures { OnOk result (WonIn (graph_of (packing_kind compiled.now) (compiled_goal compiled.now) (compiled_game compiled.now)) player moves at.now.items) }
-{
-    let (packing, name) = (compiled.packing(), name_of(compiled.game(), player));
-    let (most, rest) = list_in(alloc, packing, lists, Manner::AtMost, name)?;
-    let (least, rest) = list_in(alloc, packing, rest, Manner::AtLeast, name)?;
-    end_in(rest)?;
-    show_win(alloc, compiled, player, at, moves, &most, &least)?;
-    Ok(most.list.len().saturating_add(least.list.len()))
-}
-
-/// That nobody wins, by a list for each player of what that player never wins; and how many positions stand in them.
-fn show_drawn(
-    alloc: Global,
-    compiled: &Compiled,
-    at: &Packed,
-    lists: &[u8],
-) -> Result<usize, Refusal>
-    requires { IsSoundCompiled compiled.now }
-    ensures { OnOk result (Drawn (graph_of (packing_kind compiled.now) (compiled_goal compiled.now) (compiled_game compiled.now)) at.now.items) }
-{
-    let (packing, game) = (compiled.packing(), compiled.game());
-    let name = name_of(game, Player::First);
-    let (first, rest) = list_in(alloc, packing, lists, Manner::Never, name)?;
-    let name = name_of(game, Player::Second);
-    let (second, rest) = list_in(alloc, packing, rest, Manner::Never, name)?;
-    end_in(rest)?;
-    show_never(alloc, compiled, Player::First, at, &first)?;
-    show_never(alloc, compiled, Player::Second, at, &second)?;
-    Ok(first.list.len().saturating_add(second.list.len()))
-}
-
-/// Refuses what stands behind the last list.
-fn end_in(rest: &[u8]) -> Result<(), Refusal> {
-    if rest.is_empty() {
-        Ok(())
-    } else {
-        Err(Refusal::at(CertificateFault::Malformed, rest))
+        Claimed::Won(player, moves) => show_win(
+            alloc,
+            compiled,
+            player,
+            at,
+            moves,
+            &lists.first,
+            &lists.second,
+        ),
+        Claimed::Drawn => show_draw(alloc, compiled, at, &lists.first, &lists.second),
     }
 }

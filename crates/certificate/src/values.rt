@@ -1,14 +1,20 @@
 //! Whether lists show a value.
-ghost use Rattle.std.specs.Prelude.{ℕ, OnOk};
-ghost use Rattle.retrograde.specs.Values.{WonIn, WinsWithin};
-ghost use Rattle.certificate.specs.Lists.{Stands};
-ghost use Rattle.certificate.specs.Strategies.{IsStrategy, IsDelay, IsSafe, RanksFrom};
-ghost use Rattle.certificate.specs.declared.whole.TheConstants.{NEVER};
+ghost use Rattle.std.specs.Prelude.{◌≡◌, ◌↔◌, ℕ, All, true, OnOk, IfErr};
+ghost use Rattle.retrograde.specs.Values.{WonIn, Drawn};
+ghost use Rattle.certificate.specs.Lists.{lines_in};
+ghost use Rattle.certificate.specs.Right.{AreShown};
+ghost use Rattle.certificate.specs.Shown.{AreNarrow, Follows, IsNarrow, Shows, IsUnfollowed, IsUnshown};
+ghost use Rattle.certificate.specs.Format.{Ascends};
+ghost use Rattle.certificate.specs.aid.Faults.{of_search};
+ghost use Rattle.certificate.specs.aid.Parts.{AreAsked};
+ghost use Rattle.certificate.specs.declared.fault.CertificateFault.TheVariants as fault;
+ghost use Rattle.certificate.specs.declared.claim.Claimed.TheVariants as claimed;
 
 use crate::fault::{CertificateFault, Refusal};
 use crate::lists::Listed;
-use crate::ranked::{ranks_as, ranks_from};
-use crate::whole::{NEVER, first_not_delayed, first_not_down, first_not_safe};
+use crate::manner::{Manner, NEVER};
+use crate::ranked::{Ranked, ranks_as, ranks_from};
+use crate::whole::first_not_following;
 use legal_moves::{MoveFault, MoveSource};
 use position_pack::Packed;
 use rbg_game::roles::Player;
@@ -25,91 +31,100 @@ pub fn show_win<M: MoveSource>(
     most: &Listed,
     least: &Listed,
 ) -> Result<(), Refusal>
-    requires { M.is_sound source.now }
-    ensures { OnOk result (WonIn (M.graph source.now) player moves at.now.items) }
+    requires sound { M.is_sound source.now }
+    requires most { AreAsked most.now.list.items }
+    requires least { AreAsked least.now.list.items }
+    ensures so { OnOk result (WonIn (M.graph source.now) player moves at.now.items) }
+    ensures shown { OnOk result (AreShown (M.graph source.now) (claimed.Won player moves) at.now.items
+        (lines_in most.now.list.items) (lines_in least.now.list.items)) }
+    ensures narrow { OnOk result (AreNarrow (M.is_wide source.now) (claimed.Won player moves)
+        (lines_in most.now.list.items) (lines_in least.now.list.items)) }
+    ensures fault { IfErr result (λ refusal. IsUnshown (M.graph source.now) (M.is_wide source.now) (claimed.Won player moves) at.now.items
+        (lines_in most.now.list.items) (lines_in least.now.list.items) refusal.fault) }
 {
-    all_go_down(alloc, source, player, most)?;
-    all_are_delayed(alloc, source, player, least)?;
-    if !ranks_as(&most.list, at, moves) {
-        return Err(not_shown(most));
-    }
-    if !ranks_from(&least.list, at, moves) {
-        return Err(not_shown(least));
-    }
-    Ok(())
+    all_follow(alloc, source, Manner::AtMost, player, most)?;
+    all_follow(alloc, source, Manner::AtLeast, player, least)?;
+    has_shown(Manner::AtMost, most, at, moves)?;
+    has_shown(Manner::AtLeast, least, at, moves)
 }
 
-/// That the player never wins this position: by a list that is safe from the player and has it.
-pub fn show_never<M: MoveSource>(
+/// That nobody wins this position: by a list for each player that is safe from the player and has it.
+pub fn show_draw<M: MoveSource>(
     alloc: Global,
     source: &M,
-    player: Player,
     at: &Packed,
-    safe: &Listed,
+    first: &Listed,
+    second: &Listed,
 ) -> Result<(), Refusal>
-    requires { M.is_sound source.now }
-    ensures { OnOk result ((n : ℕ) → ¬ WinsWithin (M.graph source.now) player n at.now.items) }
+    requires sound { M.is_sound source.now }
+    requires first { AreAsked first.now.list.items }
+    requires second { AreAsked second.now.list.items }
+    ensures so { OnOk result (Drawn (M.graph source.now) at.now.items) }
+    ensures shown { OnOk result (AreShown (M.graph source.now) claimed.Drawn at.now.items
+        (lines_in first.now.list.items) (lines_in second.now.list.items)) }
+    ensures narrow { OnOk result (AreNarrow (M.is_wide source.now) claimed.Drawn
+        (lines_in first.now.list.items) (lines_in second.now.list.items)) }
+    ensures fault { IfErr result (λ refusal. IsUnshown (M.graph source.now) (M.is_wide source.now) claimed.Drawn at.now.items
+        (lines_in first.now.list.items) (lines_in second.now.list.items) refusal.fault) }
 {
-    all_are_safe(alloc, source, player, safe)?;
-    if !ranks_from(&safe.list, at, NEVER) {
-        return Err(not_shown(safe));
-    }
-    Ok(())
+    all_follow(alloc, source, Manner::Never, Player::First, first)?;
+    has_shown(Manner::Never, first, at, 0)?;
+    all_follow(alloc, source, Manner::Never, Player::Second, second)?;
+    has_shown(Manner::Never, second, at, 0)
 }
 
-/// That a list is a strategy of the player.
-fn all_go_down<M: MoveSource>(
+/// That each line of a list follows from the others.
+fn all_follow<M: MoveSource>(
     alloc: Global,
     source: &M,
+    manner: Manner,
     player: Player,
     listed: &Listed,
 ) -> Result<(), Refusal>
-    requires { M.is_sound source.now }
-    ensures { OnOk result (IsStrategy (M.graph source.now) player (Stands listed.now.list.items)) }
+    requires sound { M.is_sound source.now }
+    requires asked { AreAsked listed.now.list.items }
+    ensures so { OnOk result (All (Follows (M.graph source.now) manner player (lines_in listed.now.list.items)) (lines_in listed.now.list.items)) }
+    ensures narrow { OnOk result (IsNarrow (M.is_wide source.now) manner (lines_in listed.now.list.items)) }
+    ensures fault { IfErr result (λ refusal. IsUnfollowed (M.graph source.now) (M.is_wide source.now) manner player
+        (lines_in listed.now.list.items) refusal.fault) }
 {
-    match first_not_down(alloc, source, player, &listed.list) {
+    match first_not_following(alloc, source, manner, player, &listed.list) {
         Ok(None) => Ok(()),
         Ok(Some(index)) => Err(not_followed(listed, index)),
         Err(fault) => Err(not_searched(listed, fault)),
     }
 }
 
-/// That a list is a delay of the player.
-fn all_are_delayed<M: MoveSource>(
-    alloc: Global,
-    source: &M,
-    player: Player,
-    listed: &Listed,
-) -> Result<(), Refusal>
-    requires { M.is_sound source.now }
-    ensures { OnOk result (IsDelay (M.graph source.now) player (Stands listed.now.list.items)) }
+/// That a list has the position with such a rank.
+fn has_shown(manner: Manner, listed: &Listed, at: &Packed, moves: u32) -> Result<(), Refusal>
+    requires { AreAsked listed.now.list.items }
+    ensures so { OnOk result (Shows manner (lines_in listed.now.list.items) at.now.items moves) }
+    ensures fault { IfErr result (λ refusal. refusal.fault ≡ fault.NotShown) }
+    ensures not_there { IfErr result (λ _. ¬ Shows manner (lines_in listed.now.list.items) at.now.items moves) }
 {
-    match first_not_delayed(alloc, source, player, &listed.list) {
-        Ok(None) => Ok(()),
-        Ok(Some(index)) => Err(not_followed(listed, index)),
-        Err(fault) => Err(not_searched(listed, fault)),
+    if shows(manner, &listed.list, at, moves) {
+        Ok(())
+    } else {
+        Err(not_shown(listed))
     }
 }
 
-/// That a list is safe from the player.
-fn all_are_safe<M: MoveSource>(
-    alloc: Global,
-    source: &M,
-    player: Player,
-    listed: &Listed,
-) -> Result<(), Refusal>
-    requires { M.is_sound source.now }
-    ensures { OnOk result (IsSafe (M.graph source.now) player (RanksFrom (Stands listed.now.list.items) NEVER)) }
+/// Whether a list has the position with such a rank.
+fn shows(manner: Manner, list: &[Ranked], at: &[u8], moves: u32) -> bool
+    requires { Ascends (lines_in list.now) }
+    ensures { (result ≡ true) ↔ Shows manner (lines_in list.now) at.now moves }
 {
-    match first_not_safe(alloc, source, player, &listed.list) {
-        Ok(None) => Ok(()),
-        Ok(Some(index)) => Err(not_followed(listed, index)),
-        Err(fault) => Err(not_searched(listed, fault)),
+    match manner {
+        Manner::AtMost => ranks_as(list, at, moves),
+        Manner::AtLeast => ranks_from(list, at, moves),
+        Manner::Never => ranks_from(list, at, NEVER),
     }
 }
 
 /// The refusal of the line of a list with this index.
-fn not_followed(listed: &Listed, index: usize) -> Refusal {
+fn not_followed(listed: &Listed, index: usize) -> Refusal
+    ensures { result.fault ≡ fault.DoesNotFollow }
+{
     Refusal {
         fault: CertificateFault::DoesNotFollow,
         left: listed.left,
@@ -118,7 +133,9 @@ fn not_followed(listed: &Listed, index: usize) -> Refusal {
 }
 
 /// The refusal of a list at whose positions a search for moves gave no answer.
-fn not_searched(listed: &Listed, fault: MoveFault) -> Refusal {
+fn not_searched(listed: &Listed, fault: MoveFault) -> Refusal
+    ensures { result.fault ≡ of_search fault }
+{
     Refusal {
         fault: CertificateFault::from(fault),
         left: listed.left,
@@ -127,7 +144,9 @@ fn not_searched(listed: &Listed, fault: MoveFault) -> Refusal {
 }
 
 /// The refusal of a list that has not the position that it has to have, at the line above its first position.
-fn not_shown(listed: &Listed) -> Refusal {
+fn not_shown(listed: &Listed) -> Refusal
+    ensures { result.fault ≡ fault.NotShown }
+{
     Refusal {
         fault: CertificateFault::NotShown,
         left: listed.left.saturating_add(1),

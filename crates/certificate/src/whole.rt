@@ -1,121 +1,85 @@
-//! What is asked of the ranks at each position of a list.
-ghost use Rattle.std.specs.Prelude.{IfOk, IfNone};
-ghost use Rattle.std.specs.Bool.{OnTrue};
-ghost use Rattle.certificate.specs.Lists.{Stands};
-ghost use Rattle.certificate.specs.Strategies.{GoesDown, IsStrategy, IsDelay, IsHeldFor, IsSafe, IsHeld, RanksFrom};
-ghost use Rattle.certificate.specs.declared.whole.TheConstants.{NEVER};
+//! Whether the lines of a list follow from one another.
+ghost use Rattle.std.specs.Prelude.{◌≡◌, ◌≢◌, ◌≤◌, ◌↔◌, All, Contains, length, true, IfOk, IsOk, Ok, Err, None, MatchOption};
+ghost use Rattle.position_pack.specs.declared.limits.TheConstants.{MAX_PACKED};
+ghost use Rattle.certificate.specs.Format.{Ascends, Line};
+ghost use Rattle.certificate.specs.Lists.{Stands, line_of, lines_in};
+ghost use Rattle.certificate.specs.Shown.{Follows, IsNarrow, IsSearched};
+ghost use Rattle.certificate.specs.Strategies.{IsHeldFor};
+ghost use Rattle.certificate.specs.aid.Parts.{AllFit};
 
 use crate::going::{goes_down, is_held};
+use crate::manner::{Manner, NEVER};
 use crate::ranked::{Ranked, packed_of};
 use legal_moves::{MoveFault, MoveSource};
+use position_pack::Packed;
 use rbg_game::roles::Player;
 use std::alloc::Global;
 
-/// The rank of each position of a safe set.
-pub const NEVER: u32 = 1;
-
-/// Whether the ranks of a list go down at one of its positions.
-fn goes_down_at<M: MoveSource>(
+/// Whether a player is held at a position for as many moves as this rank.
+fn is_held_for<M: MoveSource>(
     alloc: Global,
     source: &M,
     player: Player,
     list: &[Ranked],
-    ranked: &Ranked,
-) -> Result<bool, MoveFault>
-    requires { M.is_sound source.now }
-    ensures { IfOk result (λ is. OnTrue is (GoesDown (M.graph source.now) player (Stands list.now) ranked.now.at.items ranked.now.rank)) }
-{
-    match packed_of(&ranked.at) {
-        Some(at) => goes_down(alloc, source, player, list, &at, ranked.rank),
-        None => Ok(false),
-    }
-}
-
-/// Whether a player is held at one of the positions of a list in what has this rank or a greater one.
-fn is_held_at<M: MoveSource>(
-    alloc: Global,
-    source: &M,
-    player: Player,
-    list: &[Ranked],
-    ranked: &Ranked,
+    at: &Packed,
     rank: u32,
 ) -> Result<bool, MoveFault>
-    requires { M.is_sound source.now }
-    ensures { IfOk result (λ is. OnTrue is (IsHeld (M.graph source.now) player (RanksFrom (Stands list.now) rank) ranked.now.at.items)) }
+    requires sound { M.is_sound source.now }
+    requires ascends { Ascends (lines_in list.now) }
+    ensures is { IfOk result (λ is. (is ≡ true) ↔ IsHeldFor (M.graph source.now) player (Stands list.now) at.now.items rank) }
+    ensures wide { result ≡ Err MoveFault.TooWide → (rank ≢ 0) × M.is_wide source.now at.now.items }
+    ensures narrow { IsOk result → rank ≢ 0 → ¬ M.is_wide source.now at.now.items }
 {
-    match packed_of(&ranked.at) {
-        Some(at) => is_held(alloc, source, player, list, &at, rank),
-        None => Ok(false),
+    if rank == 0 {
+        return Ok(true);
     }
+    is_held(alloc, source, player, list, at, rank - 1)
 }
 
-/// Whether a player is held at one of the positions of a list in ranks that go down by one at most.
-fn is_delayed_at<M: MoveSource>(
+/// Whether a line of a list follows from the others.
+fn follows<M: MoveSource>(
     alloc: Global,
     source: &M,
+    manner: Manner,
     player: Player,
     list: &[Ranked],
     ranked: &Ranked,
 ) -> Result<bool, MoveFault>
-    requires { M.is_sound source.now }
-    ensures { IfOk result (λ is. OnTrue is (IsHeldFor (M.graph source.now) player (Stands list.now) ranked.now.at.items ranked.now.rank)) }
+    requires sound { M.is_sound source.now }
+    requires ascends { Ascends (lines_in list.now) }
+    requires fits { length ranked.now.at.items ≤ MAX_PACKED }
+    ensures is { IfOk result (λ is. (is ≡ true) ↔ Follows (M.graph source.now) manner player (lines_in list.now) (line_of ranked.now)) }
+    ensures wide { result ≡ Err MoveFault.TooWide → IsSearched manner (line_of ranked.now) × M.is_wide source.now ranked.now.at.items }
+    ensures narrow { IsOk result → IsSearched manner (line_of ranked.now) → ¬ M.is_wide source.now ranked.now.at.items }
 {
-    if ranked.rank == 0 {
-        return Ok(true);
+    let at = packed_of(&ranked.at);
+    match manner {
+        Manner::AtMost => goes_down(alloc, source, player, list, &at, ranked.rank),
+        Manner::AtLeast => is_held_for(alloc, source, player, list, &at, ranked.rank),
+        Manner::Never => is_held(alloc, source, player, list, &at, NEVER),
     }
-    is_held_at(alloc, source, player, list, ranked, ranked.rank - 1)
 }
 
-/// The index of the first position of a list at which the ranks do not go down; none where the list is a strategy of the player.
-pub fn first_not_down<M: MoveSource>(
+/// The index of the first line of a list that does not follow from the others; none where each does.
+pub fn first_not_following<M: MoveSource>(
     alloc: Global,
     source: &M,
+    manner: Manner,
     player: Player,
     list: &[Ranked],
 ) -> Result<Option<usize>, MoveFault>
-    requires { M.is_sound source.now }
-    ensures { IfOk result (λ index. IfNone index (IsStrategy (M.graph source.now) player (Stands list.now))) }
+    requires sound { M.is_sound source.now }
+    requires ascends { Ascends (lines_in list.now) }
+    requires fit { AllFit list.now }
+    ensures is { IfOk result (λ index. MatchOption index
+        (All (Follows (M.graph source.now) manner player (lines_in list.now)) (lines_in list.now))
+        (λ _. (line : Line) × Contains (lines_in list.now) line × ¬ Follows (M.graph source.now) manner player (lines_in list.now) line)) }
+    ensures wide { result ≡ Err MoveFault.TooWide → (line : Line) × Contains (lines_in list.now) line
+        × (IsSearched manner line × M.is_wide source.now line.at) }
+    ensures narrow { result ≡ Ok None → IsNarrow (M.is_wide source.now) manner (lines_in list.now) }
 {
     for (index, ranked) in list.iter().enumerate() {
-        if !goes_down_at(alloc, source, player, list, ranked)? {
-            return Ok(Some(index));
-        }
-    }
-    Ok(None)
-}
-
-/// The index of the first position of a list at which the player is not held in ranks that go down by one at most; none where the list is
-/// a delay of the player.
-pub fn first_not_delayed<M: MoveSource>(
-    alloc: Global,
-    source: &M,
-    player: Player,
-    list: &[Ranked],
-) -> Result<Option<usize>, MoveFault>
-    requires { M.is_sound source.now }
-    ensures { IfOk result (λ index. IfNone index (IsDelay (M.graph source.now) player (Stands list.now))) }
-{
-    for (index, ranked) in list.iter().enumerate() {
-        if !is_delayed_at(alloc, source, player, list, ranked)? {
-            return Ok(Some(index));
-        }
-    }
-    Ok(None)
-}
-
-/// The index of the first position of a list at which the player is not held in the list; none where what has the rank `NEVER` in it or a
-/// greater one is safe from the player.
-pub fn first_not_safe<M: MoveSource>(
-    alloc: Global,
-    source: &M,
-    player: Player,
-    list: &[Ranked],
-) -> Result<Option<usize>, MoveFault>
-    requires { M.is_sound source.now }
-    ensures { IfOk result (λ index. IfNone index (IsSafe (M.graph source.now) player (RanksFrom (Stands list.now) NEVER))) }
-{
-    for (index, ranked) in list.iter().enumerate() {
-        if !is_held_at(alloc, source, player, list, ranked, NEVER)? {
+        if !follows(alloc, source, manner, player, list, ranked)? {
             return Ok(Some(index));
         }
     }

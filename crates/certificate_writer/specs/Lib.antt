@@ -1,1 +1,4 @@
 pub mod Packers
+pub mod Keeping
+pub mod Told
+pub mod Written

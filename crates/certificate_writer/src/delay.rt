@@ -1,35 +1,41 @@
 //! A delay of a player: all moves where the player has the turn, and one that delays elsewhere.
+ghost use Rattle.certificate_writer.specs.Keeping.{KeepsGoal};
 ghost use Rattle.certificate_writer.specs.Packers.{IsProper};
 ghost use Rattle.std.specs.Prelude.{◌<◌, IfSome, length};
 
 use crate::packer::Packer;
+use crate::progress::{Progress, tell};
 use crate::ranks::{NEVER, Ranks};
 use crate::strategy::moves_for;
+use crate::told::{moves_from, shown};
 use game_file::GameFile;
 use rbg_game::roles::{Player, Role};
 use solver::{FileSolver, KnownMove, KnownMoves, SolverFault};
 use std::alloc::Global;
 
 /// The positions of a delay from one that the player wins in no fewer than so many moves, or `NEVER`, each with such a number.
-pub fn delay<F: GameFile>(
+pub fn delay<F: GameFile, P: Progress>(
     alloc: Global,
     solver: &mut FileSolver<F>,
     packer: &Packer,
+    progress: &mut P,
     player: Player,
     number: u32,
     moves: u32,
 ) -> Result<Ranks, SolverFault>
     requires { IsProper packer.now }
+    ensures { KeepsGoal solver.old solver.new }
 {
     let mut ranks = Ranks::new(alloc);
-    let text = solver.show(number)?;
+    let text = shown(solver, number)?;
     ranks.raise(packer, number, &text, moves)?;
     // each position gets a greater rank at most as often as there are ranks
-    for _turn in 0..u64::MAX {
+    for turn in 0..u64::MAX {
         let Some(number) = ranks.next() else {
             break;
         };
         follow(solver, packer, player, &mut ranks, number)?;
+        tell(progress, turn);
     }
     Ok(ranks)
 }
@@ -43,12 +49,13 @@ fn follow<F: GameFile>(
     number: u32,
 ) -> Result<(), SolverFault>
     requires { IsProper packer.now }
+    ensures { KeepsGoal solver.old solver.new }
 {
     let need = less(ranks.rank(number).unwrap_or(0));
     if need == 0 {
         return Ok(());
     }
-    let known = solver.moves(number)?;
+    let known = moves_from(solver, number)?;
     if known.mover == Role::Player(player) {
         for next in &known.moves {
             ranks.raise_next(packer, next, need)?;

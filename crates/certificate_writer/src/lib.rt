@@ -2,10 +2,15 @@
 #![tactic(auto)]
 
 mod delay;
+pub mod laws;
 mod lists;
 mod packer;
+mod progress;
 mod ranks;
+mod shown;
 mod strategy;
+mod told;
 mod write;
 
+pub use progress::Progress;
 pub use write::{Written, write_certificate};

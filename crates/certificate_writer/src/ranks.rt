@@ -78,7 +78,7 @@ impl Ranks {
         Ok(())
     }
 
-    /// The same for the position that a move leads to. One that the table does not know has no number, and is left out.
+    /// Raises the rank of the position that a move leads to. One that the table does not know has no number, and is left out.
     pub fn raise_next(
         &mut self,
         packer: &Packer,

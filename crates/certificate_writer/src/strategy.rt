@@ -1,9 +1,12 @@
 //! A strategy of a player: one best move where the player has the turn, and all moves elsewhere.
+ghost use Rattle.certificate_writer.specs.Keeping.{KeepsGoal};
 ghost use Rattle.certificate_writer.specs.Packers.{IsProper};
 ghost use Rattle.std.specs.Prelude.{◌<◌, IfSome, length};
 
 use crate::packer::Packer;
+use crate::progress::{Progress, tell};
 use crate::ranks::Ranks;
+use crate::told::{moves_from, shown};
 use best_line::Value;
 use game_file::GameFile;
 use rbg_game::roles::{Player, Role};
@@ -11,25 +14,28 @@ use solver::{FileSolver, KnownMove, KnownMoves, SolverFault};
 use std::alloc::Global;
 
 /// The positions of a strategy from one that the player wins in so many moves, each with the number of moves in which the player wins it.
-pub fn strategy<F: GameFile>(
+pub fn strategy<F: GameFile, P: Progress>(
     alloc: Global,
     solver: &mut FileSolver<F>,
     packer: &Packer,
+    progress: &mut P,
     player: Player,
     number: u32,
     moves: u32,
 ) -> Result<Ranks, SolverFault>
     requires { IsProper packer.now }
+    ensures { KeepsGoal solver.old solver.new }
 {
     let mut ranks = Ranks::new(alloc);
-    let text = solver.show(number)?;
+    let text = shown(solver, number)?;
     ranks.raise(packer, number, &text, moves)?;
     // a strategy with more positions than a table has would be looked at for longer than any machine runs
-    for _turn in 0..u64::MAX {
+    for turn in 0..u64::MAX {
         let Some(number) = ranks.next() else {
             break;
         };
         follow(solver, packer, player, &mut ranks, number)?;
+        tell(progress, turn);
     }
     Ok(ranks)
 }
@@ -43,12 +49,13 @@ fn follow<F: GameFile>(
     number: u32,
 ) -> Result<(), SolverFault>
     requires { IsProper packer.now }
+    ensures { KeepsGoal solver.old solver.new }
 {
     let rank = ranks.rank(number).unwrap_or(0);
     if rank == 0 {
         return Ok(());
     }
-    let known = solver.moves(number)?;
+    let known = moves_from(solver, number)?;
     if known.mover != Role::Player(player) {
         return follow_all(packer, player, ranks, &known);
     }

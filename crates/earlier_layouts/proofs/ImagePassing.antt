@@ -1,8 +1,6 @@
 -- What is said of a fault that is passed on, and of what is answered.
-use Rattle.std.proofs.Common.{◌≡◌, ◌∙◌, sym, subst, arith, ℕ, ◌+◌, ◌<◌, ◌≤◌, Result, Ok, Err, OnOk}
-use Rattle.std.specs.Result.{IsErr, IfErr, IsErrAnd}
-use Rattle.table.specs.declared.fault.TableFault.{TableFault}
-use Rattle.table.specs.declared.fault.TableFault.TheVariants.{OutOfMemory}
+use Rattle.std.proofs.Common.{◌≡◌, ◌∙◌, sym, arith, ℕ, ◌+◌, ◌<◌, ◌≤◌, Result, Ok, Err}
+use Rattle.std.specs.Result.{IsErr, IsErrAnd}
 use Rattle.earlier_layouts.specs.declared.image.fault.BytesFault.{BytesFault}
 use Rattle.earlier_layouts.specs.declared.image.fault.BytesFault.TheVariants as bytes
 
@@ -16,16 +14,6 @@ not_damaged (Err f) is same =
 
 pub done_whole : {X : Type 0} (x : X) → ◌≡◌ {A = Result X BytesFault} (Ok x) (Err bytes.Damaged) → ⊥
 done_whole x is = cc
-
--- what is so however a call ends
-pub anyway : {X E : Type 0} (Done : Type 0) (r : Result X E) → Done → OnOk r Done
-anyway Done (Ok x) done = done
-anyway Done (Err f) done = tt
-
--- what is so of want of memory is so of a fault that is nothing else
-pub memory_then : {X : Type 0} (Such : TableFault → Type 0) (r : Result X TableFault) → IfErr r (λ f. f ≡ OutOfMemory) → Such OutOfMemory → IfErr r Such
-memory_then Such (Ok x) is such = tt
-memory_then Such (Err f) is such = subst Such (sym is) such
 
 pub one_more : (n old new : ℕ) → n ≡ old → new ≡ old + 1 → n < new
 one_more n old new is more = omega arith
@@ -41,11 +29,6 @@ front_within n packed more is = omega arith
 
 pub rest_long : (n packed more all : ℕ) → n + packed ≡ all → all ≡ packed + more → n ≡ more
 rest_long n packed more all split is = omega arith
-
-pub memory_passed : {X : Type 0} (Such : TableFault → Type 0) (r : Result X TableFault) (fault : TableFault) → IsErr r × IsErrAnd r (λ f. f ≡ fault) → fault ≡ OutOfMemory
-    → Such OutOfMemory → IfErr r Such
-memory_passed Such (Ok x) fault is memory such = tt
-memory_passed Such (Err f) fault is memory such = subst Such (sym (is.1 ∙ memory)) such
 
 -- damage that is passed on is that of the call
 pub fault_is : {X : Type 0} (r : Result X BytesFault) (fault : BytesFault) → IsErr r × IsErrAnd r (λ f. f ≡ fault) → r ≡ Err bytes.Damaged → fault ≡ bytes.Damaged

@@ -1,6 +1,6 @@
 -- What a call gives is told of what is made of it.
 use Rattle.std.proofs.Common.{◌≡◌, Result, Ok, Err, sym, subst}
-use Rattle.std.specs.Result.{IsErr, IfOk, IfErr, OnErr, IsErrAnd}
+use Rattle.std.specs.Result.{IsErr, IfOk, IfErr, IsErrAnd}
 
 -- what the fault has as its cause, its like above has
 pub passed_on : {X E : Type 0} (Cause : E → Type 0) (r : Result X E) (fault : E) → IsErr r × IsErrAnd r (λ f. f ≡ fault) → Cause fault → IfErr r Cause
@@ -16,12 +16,3 @@ ok_more more (Err f) such = tt
 pub err_more : {X E : Type 0} {Such More : E → Type 0} → ((f : E) → Such f → More f) → (r : Result X E) → IfErr r Such → IfErr r More
 err_more more (Ok x) such = tt
 err_more more (Err f) such = more f such
-
--- what is so, is so after a refusal
-pub so_refused : {X E P : Type 0} (r : Result X E) → P → OnErr r P
-so_refused (Ok x) so = tt
-so_refused (Err f) so = so
-
-pub so_refused_for : {X E P : Type 0} (r : Result X E) → P → IfErr r (λ _. P)
-so_refused_for (Ok x) so = tt
-so_refused_for (Err f) so = so

@@ -1,4 +1,4 @@
--- What the calls on a file of this layout leave, said of its pages and of what is in memory.
+-- A file of this layout, by its pages and what is in memory, and what is stated of it.
 use Rattle.std.specs.Prelude.{length, Option}
 use Rattle.page_store.specs.Store.{Store}
 use Rattle.earlier_layouts.specs.Slot.{commits_in}

@@ -1,4 +1,4 @@
--- What is stated of a table's file.
+-- What is stated of a file of layout 1.
 use Rattle.std.specs.Prelude.{◌≡◌, ℕ, ◌≤◌, ◌<◌, ◌^◌, false, List, [], length, Option, None, Some, Contains, IsTrue}
 use Rattle.page_store.specs.declared.marks.Mark.TheVariants.{Free}
 use Rattle.page_store.specs.Marks.{mark}
@@ -13,7 +13,7 @@ use Rattle.position_pack.specs.declared.limits.TheConstants.{MAX_PACKED}
 use Rattle.rbg_game.specs.declared.limits.TheConstants.{MAX_TEXT_BYTES}
 use Rattle.page_store.specs.declared.limits.TheConstants.{MIN_PAGES}
 
--- a table's file: its pages, and in memory the game of the last commit, if one is loaded
+-- a file of layout 1 that is open: its pages, and in memory the game that they hold, if one is loaded
 pub record FlatFile : Type 0 where
   pub store : Store
   pub game : Option Game
@@ -43,8 +43,7 @@ abbrev pub AreGames : Option Game → Type 0
 AreGames None = Unit {0}
 AreGames (Some game) = IsGame game
 
--- between commands: the pages of the committed root spell what is kept, nothing is handed out or released, and an empty
--- table takes no page
+-- the pages of the committed root spell what is kept, nothing is handed out or released, and an empty table takes no page
 pub record IsBacked (store : Store) (pages : List ℕ) (kept : Option Kept) : Type 0 where
   pub room : MIN_PAGES ≤ length store.marks
   pub there : (p : ℕ) → Contains pages p → (1 ≤ p) × (p < length store.marks)
@@ -53,7 +52,7 @@ pub record IsBacked (store : Store) (pages : List ℕ) (kept : Option Kept) : Ty
   pub stands : IsTrue store.disk.honest → store.closed ≡ false
       → Stands (λ p. Contains pages p) (KeepsTable store.root (length store.marks) kept) store
 
--- the file as it is between commands
+-- the file as it is opened
 pub record IsFile (file : FlatFile) : Type 0 where
   pub sound : IsSoundStore file.store
   pub games : AreGames file.game

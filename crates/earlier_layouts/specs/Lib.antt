@@ -26,11 +26,7 @@ pub mod Slot
 pub mod Held
 pub mod File
 pub mod ReadCauses
-pub mod Saving
-pub mod SaveCauses
-pub mod Pages
 pub mod Calls
-pub mod Drafts
 pub mod InFile
 pub mod Copies
 pub mod Moving

@@ -15,8 +15,3 @@ MoveCause old now TableFull = IsSome old.kept
 MoveCause old now OutOfMemory = IsSome old.kept
 MoveCause old now Inconsistent = IsTrue old.disk.honest → (kept : Kept) × (old.kept ≡ Some kept) × FitsTogether 0 kept.table
 MoveCause old now _ = ⊥
-
--- the same of a file whose table is copied, or is not: the disk failed; or it is copied, and that has such a cause
-abbrev pub MoveOnCause : Type 0 → State → ℕ → FileFault → Type 0
-MoveOnCause Copies old now DiskFailed = Grew old.failures now
-MoveOnCause Copies old now fault = Copies × MoveCause old now fault

@@ -4,7 +4,7 @@ use Rattle.std.specs.List.Sorted.{IsStrictlySortedBy}
 use Rattle.retrograde.specs.Stored.{Stored}
 use Rattle.table.specs.Memory.{edge_cmp}
 use Rattle.game_file.specs.declared.sizes.Sizes.{Sizes}
-use Rattle.game_file.specs.Bytes.{IsCell, IsPlainCell, IsEdge, IsNumber}
+use Rattle.game_file.specs.Bytes.{IsCell, IsEdge, IsNumber}
 
 -- the bytes of these items one after another
 abbrev pub AreSpelled : {A : Type 0} → (List ℕ → A → Type 0) → List ℕ → List A → Type 0
@@ -28,10 +28,3 @@ pub record SpellsTable (sizes : Sizes) (bytes text : List ℕ) (stored : Stored 
   pub edges_are : AreSpelled IsEdge edge_bytes edges
   pub settled : length stored.order ≡ sizes.counts.settled
   pub order_is : AreSpelled IsNumber order stored.order
-
--- after the text these bytes begin with each position and its record as it is written: what is ignored of it is zero
-pub record BeginsPlainly (packed : ℕ) (bytes text : List ℕ) (stored : Stored (List ℕ)) : Type 0 where
-  pub cells : List ℕ
-  pub rest : List ℕ
-  pub is : bytes ≡ text ++ (cells ++ rest)
-  pub plain : AreSpelled (IsPlainCell packed) cells (zip stored.positions stored.records)

@@ -2,16 +2,9 @@ pub mod Items
 pub mod Laws
 pub mod ImageParts
 pub mod ImageReading
-pub mod Writing
-pub mod Bytes
-pub mod Calls
-pub mod Causes
-pub mod Drafts
 pub mod ReadLaws
 pub mod Reading
-pub mod Steps
 pub mod StoredLaws
 pub mod Whole
 pub mod CopyParts
 pub mod MovingSteps
-pub mod Free

@@ -10,10 +10,10 @@ ghost use Rattle.tree_table.specs.Held.{StoresTrees};
 ghost use Rattle.earlier_layouts.specs.Moving.{MoveCause};
 ghost use Rattle.tree_file.specs.Moving.{IsMoved, IsNotMoved};
 
+use crate::FlatTable;
 use crate::committing::{commit_empty, commit_slot};
 use crate::copying::{Attempt, copy_on, write_text};
 use crate::game::Game;
-use crate::{FileParts, FlatTable};
 use game_file::{FileFault, Refused};
 use page_store::Pages;
 use sector_disk::SectorDisk;
@@ -102,11 +102,11 @@ pub fn rebuild<D: SectorDisk>(alloc: Global, file: FlatTable<D>) -> Result<D, Re
         (D.disk back.disk) (D.failures back.disk) back.fault) }
     ensures cause { IfErr result (λ back. MoveCause (state_of (file_in file)) (D.failures back.disk) back.fault) }
 {
-    let FileParts {
+    let FlatTable {
         store,
         commits,
         game,
-    } = file.into_parts();
+    } = file;
     let commits = commits.wrapping_add(1);
     let Attempt { store, result } = move_table(alloc, store, commits, game);
     let disk = store.into_disk();

@@ -1,14 +1,8 @@
 //! The root slot of layout 1: what its 512 bytes say.
-ghost use Rattle.std.specs.Prelude.{◌≡◌, ◌↔◌, ◌+◌, ◌≤◌, ◌<◌, ℕ, true, slice_index, IfSome, IfNone};
-ghost use Rattle.game_file.specs.Numbers.{AreWithinLimits};
-ghost use Rattle.earlier_layouts.specs.Slot.{word_at as word_in, long_at as long_in, layout_in, packing_in, commits_in, first_in};
-ghost use Rattle.earlier_layouts.specs.Slot.{number_of_packing as number_of};
-ghost use Rattle.earlier_layouts.specs.Slot.{sizes_in as sizes_of, IsEmptySlot, AreZero, Says, IsNoSlot};
+ghost use Rattle.std.specs.Prelude.{◌≡◌, ◌↔◌, true, IfSome, IfNone};
+ghost use Rattle.earlier_layouts.specs.Slot.{commits_in, AreZero, Says, IsNoSlot};
 
-use game_file::{
-    Sizes, are_within_limits, are_zero, long_at, number_of_packing, packing_numbered, put_long,
-    put_word, sizes_in, word_at,
-};
+use game_file::{Sizes, are_within_limits, are_zero, long_at, packing_numbered, sizes_in, word_at};
 use position_pack::PackingKind;
 
 /// The number of this layout.
@@ -74,44 +68,4 @@ pub fn read_slot(root: &[u8; 512]) -> Option<Slot>
             sizes,
         }),
     })
-}
-
-/// The slot of a table in which no game is loaded, after no commit.
-pub fn empty_slot() -> [u8; 512]
-    ensures empty { IsEmptySlot result }
-    ensures commits { commits_in result ≡ 0 }
-    ensures zero { (k : ℕ) → 4 ≤ k → slice_index result k ≡ 0 }
-{
-    let mut root = [0; 512];
-    put_word(&mut root, 0, LAYOUT);
-    root
-}
-
-/// The slot of a table with a game, after this many commits. All bytes without a field are zero.
-pub fn game_slot(commits: u64, game: &GameSlot) -> [u8; 512]
-    ensures layout { layout_in result ≡ 1 }
-    ensures packing { packing_in result ≡ number_of game.now.packing }
-    ensures commits { commits_in result ≡ commits }
-    ensures first { first_in result ≡ game.now.first }
-    ensures sizes { sizes_of result ≡ game.now.sizes }
-    ensures between { AreZero 44 60 result }
-    ensures behind { AreZero 68 512 result }
-{
-    let GameSlot {
-        packing,
-        first,
-        sizes,
-    } = *game;
-    let mut root = empty_slot();
-    put_word(&mut root, 4, number_of_packing(packing));
-    put_long(&mut root, 8, commits);
-    put_word(&mut root, 16, first);
-    put_word(&mut root, 20, sizes.text);
-    put_word(&mut root, 24, sizes.packed);
-    put_word(&mut root, 28, sizes.counts.known);
-    put_word(&mut root, 32, sizes.counts.expanded);
-    put_word(&mut root, 36, sizes.counts.settled);
-    put_word(&mut root, 40, sizes.counts.processed);
-    put_long(&mut root, 60, sizes.edges);
-    root
 }

@@ -7,3 +7,5 @@ mod Failing
 mod Showing
 mod Resizing
 mod Unsealed
+mod Buffering
+mod Disks

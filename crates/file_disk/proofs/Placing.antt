@@ -6,7 +6,7 @@ use Rattle.std.proofs.lemmas.List.{get_or-set_same, get_or-set_other}
 use Rattle.file_disk.specs.declared.waiting_page.WaitingPage.{WaitingPage}
 use Rattle.file_disk.specs.Bytes.{sector_of, LeavesOthers}
 use Rattle.file_disk.specs.Waiting.{no_page, page_at, has_sector, place_of, slot_in, slot_of, given, shown_of}
-use Rattle.file_disk.specs.aid.Waiting.{AreDistinct, ArePlaced}
+use Rattle.file_disk.specs.aid.Waiting.{AreDistinct, AreNoted, ArePlaced}
 use Rattle.file_disk.proofs.Slots.{place_found, place_is, none_is, place_same, shown_same, slots_same, stands}
 
 -- the page at a place, once it is put there
@@ -102,6 +102,28 @@ added_placed pages count page room below placed = λ p lt. elim (cases_eq p coun
       let old : (page_at (slice_set pages count page) p).number ≡ (page_at pages p).number = ap (λ (w : WaitingPage). w.number) (set_else pages count p page ne) in
       omega (arith, old, placed p (omega arith))
 ]
+
+-- and are noted
+pub added_noted : (pages : List WaitingPage) (count hint : ℕ) (page : WaitingPage) (hints : List ℕ) → count < length pages
+    → hint ≡ page.number % 4096 → hint < length hints → AreNoted pages count hints
+    → AreNoted (slice_set pages count page) (count + 1) (slice_set hints hint (count + 1))
+added_noted pages count hint page hints room at within noted =
+    let here : get_or (slice_set hints hint (count + 1)) hint 0 ≡ count + 1 = get_or-set_same hints hint (count + 1) 0 within in
+    let some : (n : ℕ) → n % 4096 ≡ hint → get_or (slice_set hints hint (count + 1)) (n % 4096) 0 ≢ 0 =
+    λ n is none. absurd (omega (arith, here, ap (λ (k : ℕ). get_or (slice_set hints hint (count + 1)) k 0) is, none)) in
+    λ p lt. elim (cases_eq p count) [
+      | inl is ↦
+          let new : (page_at (slice_set pages count page) p).number ≡ page.number =
+          ap (λ (n : ℕ). (page_at (slice_set pages count page) n).number) is ∙ ap (λ (w : WaitingPage). w.number) (set_here pages count page room) in
+          some _ (ap (λ (n : ℕ). n % 4096) new ∙ sym at)
+      | inr ne ↦
+          let old : (page_at (slice_set pages count page) p).number ≡ (page_at pages p).number = ap (λ (w : WaitingPage). w.number) (set_else pages count p page ne) in
+          elim (cases_eq ((page_at (slice_set pages count page) p).number % 4096) hint) [
+            | inl is ↦ some _ is
+            | inr other ↦ λ none. noted p (omega arith)
+                (ap (λ (n : ℕ). get_or hints (n % 4096) 0) (sym old) ∙ sym (get_or-set_other hints hint _ (count + 1) 0 other) ∙ none)
+          ]
+    ]
 
 -- a page that gets a sector more
 pub record GetsSector (old new : WaitingPage) (sector : ℕ) : Type 0 where

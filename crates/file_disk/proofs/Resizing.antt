@@ -1,5 +1,5 @@
 -- A file in memory is made longer or cut.
-use Rattle.std.proofs.Common.{◌≡◌, ℕ, ◌+◌, ◌-◌, ◌≤◌, List, ◌++◌, length, refl, sym, ap, ◌∙◌, arith, take, drop, length-append, length-take}
+use Rattle.std.proofs.Common.{◌≡◌, inl, inr, ℕ, ◌+◌, ◌-◌, ◌≤◌, List, ◌++◌, length, refl, sym, ap, ◌∙◌, arith, take, drop, length-append, length-take}
 use Rattle.std.specs.Prelude.{replicate}
 use Rattle.std.proofs.lemmas.List.{take-append-le, take-take, take_all, drop_at, drop-drop, length-replicate, take-replicate, drop-replicate}
 use Rattle.file_disk.specs.Bytes.{bytes_at, IsResized, KeepsUpTo}
@@ -26,6 +26,7 @@ pub resized_keeps : (old new : List ℕ) (bytes : ℕ) → new ≡ take bytes ol
 resized_keeps old new bytes is = record {
   kept = λ from n within fits. before_change old new (from + n) from n (front (from + n) within fits) (omega arith);
   no_shorter = omega (arith, (resized_is old new bytes is).long);
+  no_longer = inr (omega (arith, (resized_is old new bytes is).long));
 }
   where
     front : (m : ℕ) → m ≤ length old → m ≤ bytes → take m new ≡ take m old
@@ -37,4 +38,5 @@ pub same_keeps : (old new : List ℕ) (bytes : ℕ) → new ≡ old → KeepsUpT
 same_keeps old new bytes is = record {
   kept = λ from n within fits. ap (λ (b : List ℕ). bytes_at b from n) is;
   no_shorter = omega (arith, ap (λ (b : List ℕ). length b) is);
+  no_longer = inl (omega (arith, ap (λ (b : List ℕ). length b) is));
 }

@@ -1,5 +1,5 @@
 -- Bytes of a file, by their place.
-use Rattle.std.specs.Prelude.{◌≡◌, ℕ, ◌+◌, ◌*◌, ◌≤◌, List, length, take, drop, replicate, min}
+use Rattle.std.specs.Prelude.{◌≡◌, ◌⊎◌, ℕ, ◌+◌, ◌*◌, ◌≤◌, List, length, take, drop, replicate, min}
 
 -- this many bytes from a place on, as many of them as there are
 abbrev pub bytes_at : List ℕ → ℕ → ℕ → List ℕ
@@ -15,10 +15,11 @@ pub record LeavesOthers (at count : ℕ) (old new : List ℕ) : Type 0 where
   pub before : (from n : ℕ) → from + n ≤ at → bytes_at new from n ≡ bytes_at old from n
   pub behind : (from n : ℕ) → at + count ≤ from → bytes_at new from n ≡ bytes_at old from n
 
--- the length may change to this many bytes, and what stands in front of both ends stays
+-- the length may change to this many bytes, or to any between, and what stands in front of both ends stays
 pub record KeepsUpTo (bytes : ℕ) (old new : List ℕ) : Type 0 where
   pub kept : (from n : ℕ) → from + n ≤ length old → from + n ≤ bytes → bytes_at new from n ≡ bytes_at old from n
   pub no_shorter : min (length old) bytes ≤ length new
+  pub no_longer : (length new ≤ length old) ⊎ (length new ≤ bytes)
 
 -- it has this many bytes now, zeros where there were none
 pub record IsResized (bytes : ℕ) (old new : List ℕ) : Type 0 where

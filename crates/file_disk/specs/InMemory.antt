@@ -1,7 +1,8 @@
 -- What is stated of a file in memory.
 use Rattle.std.specs.Prelude.{ℕ, List}
-use Rattle.file_disk.specs.declared.file_event.FileEvent.{FileEvent}
 use Rattle.file_disk.specs.declared.memory_file.MemoryFile.{MemoryFile}
+use Rattle.file_disk.specs.Events.{Happened}
+use Rattle.file_disk.specs.Noted.{noted_in}
 
 -- what reads give
 abbrev pub bytes_of : MemoryFile → List ℕ
@@ -12,5 +13,5 @@ abbrev pub synced_of : MemoryFile → List ℕ
 synced_of f = f.synced.items
 
 -- and what happened to it
-abbrev pub events_of : MemoryFile → List FileEvent
-events_of f = f.events.items
+abbrev pub events_of : MemoryFile → List Happened
+events_of f = noted_in f.past

@@ -1,8 +1,12 @@
+pub mod Buffered
+pub mod Buffers
 pub mod Bytes
 pub mod Events
 pub mod Failing
 pub mod File
 pub mod InMemory
+pub mod Noted
+pub mod Past
 pub mod Shown
 pub mod Touched
 pub mod Waiting

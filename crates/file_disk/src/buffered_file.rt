@@ -3,7 +3,7 @@ ghost use Rattle.std.specs.Prelude.{◌≡◌, ◌≢◌, ◌⊎◌, ◌+◌, �
 ghost use Rattle.std.specs.Bool.{OnTrue, OnFalse};
 ghost use Rattle.sector_disk.specs.Disk.{Grew};
 ghost use Rattle.file_disk.specs.Bytes.{sector_of};
-ghost use Rattle.file_disk.specs.Events.{Adds, IsLengthening};
+ghost use Rattle.file_disk.specs.Events.{LengthensOnly};
 ghost use Rattle.file_disk.specs.Shown.{shown, Waits};
 ghost use Rattle.file_disk.specs.Touched.{WritesOnly, WritesAndSyncs};
 ghost use Rattle.file_disk.specs.Waiting.{HasRoom, slot_of};
@@ -17,7 +17,8 @@ use crate::waiting_writes::WaitingWrites;
 use std::alloc::Global;
 
 /// A file that nobody else writes, by sectors. What is written waits in memory until the sync, or until there is no more room; a read takes
-/// it from there, and else from a page that is read by one call. A read never writes. After a sync of the file that failed, every call fails.
+/// it from there, and else from a page that is read by one call. A read never writes. After a sync of the file that failed, or a new length
+/// that it refused, every call fails.
 #[derive(Drop)]
 pub struct BufferedFile<F: ByteFile> {
     pub file: F,
@@ -28,7 +29,8 @@ pub struct BufferedFile<F: ByteFile> {
     ghost room: { 0 < length waiting.pages.items },
     ghost placed: { 512 * sectors < 2 ^ 64 },
     ghost inside: { AreInside waiting.pages.items waiting.count (512 * sectors) },
-    ghost long: { IsTrue (F.honest file) → 512 * sectors ≤ length (F.content file) },
+    ghost long: { IsTrue (F.honest file) → lost ≡ false → 512 * sectors ≤ length (F.content file) },
+    ghost ends: { IsTrue (F.honest file) → length (F.content file) < 512 * (sectors + 1) },
     ghost copied: { IsTrue (F.honest file) → IsCopyOf page.number page.bytes (F.content file) },
 }
 
@@ -130,7 +132,8 @@ impl<F: ByteFile + Drop> BufferedFile<F> {
         ensures waits { HasRoom self.old.waiting.pages.items self.old.waiting.count at → self.new.file ≡ self.old.file }
         ensures done { HasRoom self.old.waiting.pages.items self.old.waiting.count at → self.old.lost ≡ false → result ≡ true }
         ensures lasts { IsTrue (F.honest self.old.file) → F.durable self.new.file ≡ F.durable self.old.file }
-        ensures touched { IsTrue (F.honest self.old.file) → WritesOnly self.old.waiting (F.events self.old.file) (F.events self.new.file) }
+        ensures touched { IsTrue (F.honest self.old.file) → WritesOnly self.old.waiting (F.events self.old.file) (F.events self.new.file)
+            (F.content self.old.file) (F.content self.new.file) }
         ensures cause { IsTrue (F.honest self.old.file)
             → OnFalse result ((self.old.lost ≡ true) ⊎ Grew (F.failures self.old.file) (F.failures self.new.file)) }
         ensures told { IsTrue (F.honest self.old.file) → OnTrue result (F.failures self.new.file ≡ F.failures self.old.file) }
@@ -158,7 +161,8 @@ impl<F: ByteFile + Drop> BufferedFile<F> {
         ensures still { OnFalse result (self.new.waiting ≡ self.old.waiting) }
         ensures why { OnFalse result ((0 < self.new.waiting.count) ⊎ (self.old.lost ≡ true)) }
         ensures lasts { IsTrue (F.honest self.old.file) → F.durable self.new.file ≡ F.durable self.old.file }
-        ensures touched { IsTrue (F.honest self.old.file) → WritesOnly self.old.waiting (F.events self.old.file) (F.events self.new.file) }
+        ensures touched { IsTrue (F.honest self.old.file) → WritesOnly self.old.waiting (F.events self.old.file) (F.events self.new.file)
+            (F.content self.old.file) (F.content self.new.file) }
         ensures cause { IsTrue (F.honest self.old.file)
             → OnFalse result ((self.old.lost ≡ true) ⊎ Grew (F.failures self.old.file) (F.failures self.new.file)) }
         ensures told { IsTrue (F.honest self.old.file) → OnTrue result (F.failures self.new.file ≡ F.failures self.old.file) }
@@ -189,9 +193,11 @@ impl<F: ByteFile + Drop> BufferedFile<F> {
         ensures only { (k : ℕ) → Waits self.new.waiting k → Waits self.old.waiting k }
         ensures remembered { OnFalse result ((0 < self.new.waiting.count) ⊎ (self.new.lost ≡ true)) }
         ensures touched { IsTrue (F.honest self.old.file)
-            → OnTrue result (WritesAndSyncs self.old.waiting (F.events self.old.file) (F.events self.new.file)) }
+            → OnTrue result (WritesAndSyncs self.old.waiting (F.events self.old.file) (F.events self.new.file)
+            (F.content self.old.file) (F.content self.new.file)) }
         ensures tried { IsTrue (F.honest self.old.file)
-            → OnFalse result (WritesOnly self.old.waiting (F.events self.old.file) (F.events self.new.file)) }
+            → OnFalse result (WritesOnly self.old.waiting (F.events self.old.file) (F.events self.new.file)
+            (F.content self.old.file) (F.content self.new.file)) }
         ensures cause { IsTrue (F.honest self.old.file)
             → OnFalse result ((self.old.lost ≡ true) ⊎ Grew (F.failures self.old.file) (F.failures self.new.file)) }
         ensures found { OnTrue result (self.new.lost ≡ false) }
@@ -210,11 +216,13 @@ impl<F: ByteFile + Drop> BufferedFile<F> {
         done
     }
 
-    /// Makes it longer: this many sectors, and the new ones are zeros. A file that others have made longer is left alone.
+    /// Makes it longer: this many sectors, and the new ones are zeros. A file that others have made longer is left alone. Where the file
+    /// refuses the new length, its own may be any up to that, and the disk is lost.
     pub fn extend(&mut self, sectors: u64) -> bool
         requires { self.old.sectors ≤ sectors }
         ensures longer { OnTrue result (self.new.sectors ≡ sectors) }
-        ensures same_sectors { OnFalse result (self.new.sectors ≡ self.old.sectors) }
+        ensures same_sectors { OnFalse result ((self.new.sectors ≡ self.old.sectors)
+            ⊎ ((self.new.sectors ≡ sectors) × (self.new.lost ≡ true))) }
         ensures zeros { IsTrue (F.honest self.old.file) → OnTrue result ((k : ℕ) → self.old.sectors ≤ k → k < sectors
             → shown self.new.waiting (F.content self.new.file) k ≡ replicate 512 0) }
         ensures kept { IsTrue (F.honest self.old.file) → (k : ℕ) → k < self.old.sectors
@@ -224,14 +232,16 @@ impl<F: ByteFile + Drop> BufferedFile<F> {
         ensures waits { self.new.waiting ≡ self.old.waiting }
         ensures lasts { IsTrue (F.honest self.old.file) → F.durable self.new.file ≡ F.durable self.old.file }
         ensures touched { IsTrue (F.honest self.old.file)
-            → Adds (IsLengthening self.old.sectors sectors) (F.events self.old.file) (F.events self.new.file) }
+            → LengthensOnly self.old.sectors sectors (F.events self.old.file) (F.events self.new.file)
+            (F.content self.old.file) (F.content self.new.file) }
         ensures cause { IsTrue (F.honest self.old.file) → OnFalse result ((self.old.lost ≡ true) ⊎ (2 ^ 64 ≤ 512 * sectors)
             ⊎ (F.tells_length self.old.file ≡ false) ⊎ (length (F.content self.old.file) / 512 ≢ self.old.sectors)
             ⊎ Grew (F.failures self.old.file) (F.failures self.new.file)) }
         ensures told { IsTrue (F.honest self.old.file) → OnTrue result (F.failures self.new.file ≡ F.failures self.old.file) }
         ensures same_honest { F.honest self.new.file ≡ F.honest self.old.file }
         ensures refused { self.old.lost ≡ true → result ≡ false }
-        ensures same_lost { self.new.lost ≡ self.old.lost }
+        ensures same_lost { OnTrue result (self.new.lost ≡ self.old.lost) }
+        ensures still_lost { self.old.lost ≡ true → self.new ≡ self.old }
     {
         if self.lost || sectors > u64::MAX / 512 || !self.ends_here() {
             return false;
@@ -240,11 +250,10 @@ impl<F: ByteFile + Drop> BufferedFile<F> {
         if !self.file.set_len(512 * self.sectors) {
             return false;
         }
-        if !self.file.set_len(512 * sectors) {
-            return false;
-        }
+        let longer = self.file.set_len(512 * sectors);
         self.sectors = sectors;
-        true
+        self.lost = !longer;
+        longer
     }
 
     /// Whether the file ends with its last sector, or after it before there is room for one more.

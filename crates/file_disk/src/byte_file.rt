@@ -3,7 +3,7 @@ ghost use Rattle.std.specs.Prelude.{◌≡◌, ◌+◌, ◌≤◌, ℕ, List, Bo
 ghost use Rattle.std.specs.Bool.{OnTrue, OnFalse};
 ghost use Rattle.file_disk.specs.declared.file_event.FileEvent.{FileEvent};
 ghost use Rattle.file_disk.specs.Bytes.{bytes_at, LeavesOthers, KeepsUpTo, IsResized};
-ghost use Rattle.file_disk.specs.Events.{IsNoted, IsNotedOrNothing};
+ghost use Rattle.file_disk.specs.Events.{Happened, IsNoted, IsNotedOrNothing};
 ghost use Rattle.file_disk.specs.Failing.{TellsFailure};
 
 use crate::file_event::FileEvent;
@@ -17,9 +17,9 @@ pub trait ByteFile {
     /// What reads gave at the last sync that was done, which a stop of the power leaves where nothing was written since.
     ghost durable: { Self → List ℕ };
 
-    /// What happened to it, the oldest first: each write and each change of its length, done or not, and each sync that was done. A call that
-    /// was refused before it changed anything may be left out.
-    ghost events: { Self → List FileEvent };
+    /// What happened to it, the oldest first, each thing with what reads gave before it: each write and each change of its length, done or
+    /// not, and each sync that was done. A call that was refused before it changed anything may be left out.
+    ghost events: { Self → List Happened };
 
     /// How many of its reads, writes, syncs and changes of its length were not done, a count that ends at 2 ^ 64 - 1.
     ghost failures: { Self → ℕ };
@@ -52,7 +52,7 @@ pub trait ByteFile {
             → LeavesOthers at (length from.now) (content self.old) (content self.new) }
         ensures lasts { IsTrue (honest self.old) → durable self.new ≡ durable self.old }
         ensures noted { IsTrue (honest self.old)
-            → OnTrue result (IsNoted (FileEvent.Wrote at (length from.now)) (events self.old) (events self.new)) }
+            → OnTrue result (IsNoted (FileEvent.Wrote at (length from.now)) (content self.old) (events self.old) (events self.new)) }
         ensures tried { IsTrue (honest self.old) → OnFalse result
             (IsNotedOrNothing (FileEvent.Wrote at (length from.now)) (events self.old) (events self.new) (content self.old) (content self.new)) }
         ensures counted { IsTrue (honest self.old) → TellsFailure result (failures self.old) (failures self.new) }
@@ -62,7 +62,8 @@ pub trait ByteFile {
     fn sync(&mut self) -> bool
         ensures all { IsTrue (honest self.old) → OnTrue result (durable self.new ≡ content self.new) }
         ensures unchanged { IsTrue (honest self.old) → content self.new ≡ content self.old }
-        ensures noted { IsTrue (honest self.old) → OnTrue result (IsNoted FileEvent.Synced (events self.old) (events self.new)) }
+        ensures noted { IsTrue (honest self.old)
+            → OnTrue result (IsNoted FileEvent.Synced (content self.old) (events self.old) (events self.new)) }
         ensures tried { IsTrue (honest self.old) → OnFalse result (events self.new ≡ events self.old) }
         ensures counted { IsTrue (honest self.old) → TellsFailure result (failures self.old) (failures self.new) }
         ensures same_honest { honest self.new ≡ honest self.old };
@@ -72,7 +73,8 @@ pub trait ByteFile {
         ensures resized { IsTrue (honest self.old) → OnTrue result (IsResized bytes (content self.old) (content self.new)) }
         ensures kept { IsTrue (honest self.old) → KeepsUpTo bytes (content self.old) (content self.new) }
         ensures lasts { IsTrue (honest self.old) → durable self.new ≡ durable self.old }
-        ensures noted { IsTrue (honest self.old) → OnTrue result (IsNoted (FileEvent.Resized bytes) (events self.old) (events self.new)) }
+        ensures noted { IsTrue (honest self.old)
+            → OnTrue result (IsNoted (FileEvent.Resized bytes) (content self.old) (events self.old) (events self.new)) }
         ensures tried { IsTrue (honest self.old) → OnFalse result
             (IsNotedOrNothing (FileEvent.Resized bytes) (events self.old) (events self.new) (content self.old) (content self.new)) }
         ensures counted { IsTrue (honest self.old) → TellsFailure result (failures self.old) (failures self.new) }

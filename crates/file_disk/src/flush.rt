@@ -27,7 +27,8 @@ fn put_slots<F: ByteFile>(
     ensures put { IsTrue (F.honest file.old) → OnTrue result ((k : ℕ) → k < sectors
         → sector_of (F.content file.new) (first + k) ≡ sector_of waiting.now.bytes.items (slot + k)) }
     ensures lasts { IsTrue (F.honest file.old) → F.durable file.new ≡ F.durable file.old }
-    ensures touched { IsTrue (F.honest file.old) → WritesOnly waiting.now (F.events file.old) (F.events file.new) }
+    ensures touched { IsTrue (F.honest file.old)
+        → WritesOnly waiting.now (F.events file.old) (F.events file.new) (F.content file.old) (F.content file.new) }
     ensures counted { IsTrue (F.honest file.old) → TellsFailure result (F.failures file.old) (F.failures file.new) }
     ensures same_honest { F.honest file.new ≡ F.honest file.old }
 {
@@ -45,7 +46,8 @@ fn put_one<F: ByteFile>(file: &mut F, waiting: &WaitingWrites, place: usize, sec
     ensures put { IsTrue (F.honest file.old) → OnTrue result
         (IsInFile waiting.now.pages.items waiting.now.bytes.items (F.content file.new) place sector) }
     ensures lasts { IsTrue (F.honest file.old) → F.durable file.new ≡ F.durable file.old }
-    ensures touched { IsTrue (F.honest file.old) → WritesOnly waiting.now (F.events file.old) (F.events file.new) }
+    ensures touched { IsTrue (F.honest file.old)
+        → WritesOnly waiting.now (F.events file.old) (F.events file.new) (F.content file.old) (F.content file.new) }
     ensures counted { IsTrue (F.honest file.old) → TellsFailure result (F.failures file.old) (F.failures file.new) }
     ensures same_honest { F.honest file.new ≡ F.honest file.old }
 {
@@ -71,7 +73,8 @@ fn put_page<F: ByteFile>(file: &mut F, waiting: &WaitingWrites, place: usize) ->
     ensures put { IsTrue (F.honest file.old) → OnTrue result ((s : ℕ) → s < 8
         → IsInFile waiting.now.pages.items waiting.now.bytes.items (F.content file.new) place s) }
     ensures lasts { IsTrue (F.honest file.old) → F.durable file.new ≡ F.durable file.old }
-    ensures touched { IsTrue (F.honest file.old) → WritesOnly waiting.now (F.events file.old) (F.events file.new) }
+    ensures touched { IsTrue (F.honest file.old)
+        → WritesOnly waiting.now (F.events file.old) (F.events file.new) (F.content file.old) (F.content file.new) }
     ensures counted { IsTrue (F.honest file.old) → TellsFailure result (F.failures file.old) (F.failures file.new) }
     ensures same_honest { F.honest file.new ≡ F.honest file.old }
 {
@@ -93,7 +96,8 @@ fn put_run<F: ByteFile>(file: &mut F, waiting: &WaitingWrites, place: usize, run
     ensures put { IsTrue (F.honest file.old) → OnTrue result ((k s : ℕ) → k < run → s < 8
         → IsInFile waiting.now.pages.items waiting.now.bytes.items (F.content file.new) (place + k) s) }
     ensures lasts { IsTrue (F.honest file.old) → F.durable file.new ≡ F.durable file.old }
-    ensures touched { IsTrue (F.honest file.old) → WritesOnly waiting.now (F.events file.old) (F.events file.new) }
+    ensures touched { IsTrue (F.honest file.old)
+        → WritesOnly waiting.now (F.events file.old) (F.events file.new) (F.content file.old) (F.content file.new) }
     ensures counted { IsTrue (F.honest file.old) → TellsFailure result (F.failures file.old) (F.failures file.new) }
     ensures same_honest { F.honest file.new ≡ F.honest file.old }
 {
@@ -111,7 +115,8 @@ fn put_from<F: ByteFile>(file: &mut F, waiting: &WaitingWrites, place: usize) ->
         (page_at waiting.now.pages.items place).number next (F.content file.new)) }
     ensures later { IfSome result (λ next. ((page_at waiting.now.pages.items place).number < next) × (next ≤ 2 ^ 64 - 1)) }
     ensures lasts { IsTrue (F.honest file.old) → F.durable file.new ≡ F.durable file.old }
-    ensures touched { IsTrue (F.honest file.old) → WritesOnly waiting.now (F.events file.old) (F.events file.new) }
+    ensures touched { IsTrue (F.honest file.old)
+        → WritesOnly waiting.now (F.events file.old) (F.events file.new) (F.content file.old) (F.content file.new) }
     ensures counted { IsTrue (F.honest file.old) → TellsFailure (is_some result) (F.failures file.old) (F.failures file.new) }
     ensures same_honest { F.honest file.new ≡ F.honest file.old }
 {
@@ -138,7 +143,8 @@ pub fn put_all<F: ByteFile>(file: &mut F, waiting: &WaitingWrites) -> bool
         → IsInFile waiting.now.pages.items waiting.now.bytes.items (F.content file.new) p s) }
     ensures refused { OnFalse result (0 < waiting.now.count) }
     ensures lasts { IsTrue (F.honest file.old) → F.durable file.new ≡ F.durable file.old }
-    ensures touched { IsTrue (F.honest file.old) → WritesOnly waiting.now (F.events file.old) (F.events file.new) }
+    ensures touched { IsTrue (F.honest file.old)
+        → WritesOnly waiting.now (F.events file.old) (F.events file.new) (F.content file.old) (F.content file.new) }
     ensures counted { IsTrue (F.honest file.old) → TellsFailure result (F.failures file.old) (F.failures file.new) }
     ensures same_honest { F.honest file.new ≡ F.honest file.old }
 {

@@ -2,6 +2,7 @@
 //! buffers do is proved of every file of bytes.
 #![tactic(auto)]
 
+mod buffered_disk;
 mod buffered_file;
 mod byte_file;
 mod file;
@@ -9,12 +10,14 @@ mod file_event;
 mod flush;
 mod memory_file;
 mod open_file;
+mod past;
 mod put_bytes;
 mod read_page;
 mod refused;
 mod waiting_page;
 mod waiting_writes;
 
+pub use buffered_disk::BufferedDisk;
 pub use buffered_file::BufferedFile;
 pub use byte_file::ByteFile;
 pub use file::FileDisk;

@@ -1,9 +1,11 @@
 //! A file of bytes in memory.
 ghost use Rattle.std.specs.Prelude.{◌≡◌, ◌+◌, ◌≤◌, length, true, false, []};
 ghost use Rattle.file_disk.specs.Failing.{TellsFailure};
+ghost use Rattle.file_disk.specs.Noted.{noted_in};
 
 use crate::byte_file::ByteFile;
 use crate::file_event::FileEvent;
+use crate::past::Past;
 use crate::put_bytes::put_bytes;
 use std::alloc::Global;
 
@@ -15,6 +17,8 @@ pub struct MemoryFile {
     pub synced: Vec<u8>,
     /// What happened to it since it was made.
     pub events: Vec<FileEvent>,
+    /// The events of the file so far, each with the bytes before it.
+    pub past: Past,
     /// How many of its calls have failed, up to the greatest number that fits.
     pub failures: u64,
     /// The calls before the one that fails, while it is still to come.
@@ -27,11 +31,13 @@ impl MemoryFile {
         ensures bytes { result.bytes ≡ bytes }
         ensures synced { result.synced.items ≡ [] }
         ensures events { result.events.items ≡ [] }
+        ensures past { noted_in result.past ≡ [] }
     {
         MemoryFile {
             bytes,
             synced: Vec::new(alloc),
             events: Vec::new(alloc),
+            past: Past::new(),
             failures: 0,
             ahead: None,
         }
@@ -42,6 +48,7 @@ impl MemoryFile {
         ensures bytes { self.new.bytes ≡ self.old.bytes }
         ensures synced { self.new.synced ≡ self.old.synced }
         ensures events { self.new.events ≡ self.old.events }
+        ensures past { self.new.past ≡ self.old.past }
     {
         self.ahead = Some(calls);
     }
@@ -108,8 +115,10 @@ impl ByteFile for MemoryFile {
         if strikes(&mut self.ahead) || !has_part(&self.bytes, at, from.len()) {
             return refused(&mut self.failures);
         }
-        match self.events.push(FileEvent::Wrote(at, from.len())) {
+        let event = FileEvent::Wrote(at, from.len());
+        match self.events.push(event) {
             Ok(()) => {
+                self.past.note(event, &self.bytes);
                 put_bytes(&mut self.bytes, at as usize, from);
                 true
             }
@@ -126,6 +135,7 @@ impl ByteFile for MemoryFile {
         };
         match self.events.push(FileEvent::Synced) {
             Ok(()) => {
+                self.past.note(FileEvent::Synced, &self.bytes);
                 self.synced = synced;
                 true
             }
@@ -137,9 +147,11 @@ impl ByteFile for MemoryFile {
         if strikes(&mut self.ahead) {
             return refused(&mut self.failures);
         }
-        if self.events.push(FileEvent::Resized(bytes)).is_err() {
+        let event = FileEvent::Resized(bytes);
+        if self.events.push(event).is_err() {
             return refused(&mut self.failures);
         }
+        self.past.note(event, &self.bytes);
         match self.bytes.resize(bytes as usize, 0) {
             Ok(()) => true,
             Err(_) => refused(&mut self.failures),

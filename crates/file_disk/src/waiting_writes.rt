@@ -3,11 +3,14 @@ ghost use Rattle.std.specs.Prelude.{◌≡◌, ◌≢◌, ◌↔◌, ◌+◌, �
 ghost use Rattle.std.specs.Bool.{OnTrue, OnFalse};
 ghost use Rattle.file_disk.specs.Bytes.{sector_of, LeavesOthers};
 ghost use Rattle.file_disk.specs.Waiting.{page_at, place_of, slot_of, shown_of, HasRoom};
-ghost use Rattle.file_disk.specs.aid.Waiting.{AreDistinct, ArePlaced, AreInside, IsRun};
+ghost use Rattle.file_disk.specs.aid.Waiting.{AreDistinct, ArePlaced, AreInside, AreNoted, IsRun};
 
 use crate::put_bytes::put_bytes;
 use crate::waiting_page::{WaitingPage, is_whole, set_sector};
 use std::alloc::{AllocError, Global};
+
+/// For so many remainders of page numbers a place is noted.
+const HINTS: usize = 4_096;
 
 /// Puts a sector over the one at this slot.
 fn put_sector(bytes: &mut Vec<u8>, slot: usize, from: &[u8; 512])
@@ -26,12 +29,22 @@ pub struct WaitingWrites {
     pub count: usize,
     /// The bytes of all places, one after another.
     pub bytes: Vec<u8>,
-    /// The place that was written last.
-    last: usize,
+    /// For each remainder of a page number one more than the place that got such a page last, or 0 if none did. Whoever finds a place here
+    /// looks whether the page is there.
+    hints: Vec<usize>,
     ghost few: { count ≤ length pages.items },
     ghost sized: { length bytes.items ≡ 4096 * length pages.items },
     ghost distinct: { AreDistinct pages.items count },
     ghost placed: { ArePlaced pages.items count },
+    ghost hinted: { length hints.items ≡ 4096 },
+    ghost noted: { AreNoted pages.items count hints.items },
+}
+
+/// Where the place of this page may be noted.
+fn hint_of(page: u64) -> usize
+    ensures { result ≡ page % 4096 }
+{
+    (page % HINTS as u64) as usize
 }
 
 impl WaitingWrites {
@@ -49,22 +62,36 @@ impl WaitingWrites {
         pages.resize(room, page)?;
         let mut bytes = Vec::new(alloc);
         bytes.resize(4096 * room, 0)?;
+        let mut hints = Vec::new(alloc);
+        hints.resize(HINTS, 0)?;
         Ok(WaitingWrites {
             pages,
             count: 0,
             bytes,
-            last: 0,
+            hints,
         })
     }
 
-    /// The place of a page, if it has one; the one that was written last is looked at first.
+    /// The place of a page, if it has one: none where none is noted, and the noted one if the page is there.
     fn place(&self, page: u64) -> Option<usize>
         ensures is { result ≡ place_of self.now.pages.items self.now.count page }
         ensures there { IfSome result (λ p. (p < self.now.count) × ((page_at self.now.pages.items p).number ≡ page)) }
     {
-        if self.last < self.count && self.pages[self.last].number == page {
-            return Some(self.last);
+        let hint = self.hints[hint_of(page)];
+        if hint == 0 {
+            return None;
         }
+        if hint <= self.count && self.pages[hint - 1].number == page {
+            return Some(hint - 1);
+        }
+        self.place_of_any(page)
+    }
+
+    /// The place of a page, if it has one, looked for at all places.
+    fn place_of_any(&self, page: u64) -> Option<usize>
+        ensures is { result ≡ place_of self.now.pages.items self.now.count page }
+        ensures there { IfSome result (λ p. (p < self.now.count) × ((page_at self.now.pages.items p).number ≡ page)) }
+    {
         for place in 0..self.count {
             if self.pages[place].number == page {
                 return Some(place);
@@ -116,6 +143,7 @@ impl WaitingWrites {
             number: page,
             has: [false; 8],
         };
+        self.hints[hint_of(page)] = place + 1;
         self.count = place + 1;
         Some(place)
     }
@@ -136,7 +164,6 @@ impl WaitingWrites {
         put_sector(&mut self.bytes, 8 * place + sector, from);
         let page = &mut self.pages[place];
         set_sector(&mut page.has, sector);
-        self.last = place;
     }
 
     /// Puts a sector, whose page must have a place or get one. It answers whether there was room.
@@ -165,6 +192,7 @@ impl WaitingWrites {
         ensures room { length self.new.pages.items ≡ length self.old.pages.items }
     {
         self.count = 0;
+        self.hints.fill(0);
     }
 
     /// The place of the first page from this number on.

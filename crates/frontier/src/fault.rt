@@ -3,8 +3,8 @@ use legal_moves::MoveFault;
 use table::TableFault;
 use thiserror::Error;
 
-/// Why a unit of work was not done. After the first three the table has only gone on as after an
-/// answer; after the others it is as the table's own `fails` says.
+/// Why a unit of work was not done. The first three leave the table as an answer does; after the others only what the table's own `fails`
+/// says is known.
 #[derive(Clone, Copy, PartialEq, Eq, Debug, Drop, Error)]
 pub enum StepFault {
     /// The search for the moves of a position reaches too many configurations.

@@ -74,7 +74,7 @@ pub trait GameFile: Table {
         ensures cause { IfErr result (λ back. FileOpenCause (in_any stores) is_older (Self.Device.disk disk) (Self.Device.failures disk)
             (Self.Device.failures back.disk) back.fault) };
 
-    /// The same, with 64 pages kept in memory.
+    /// Opens the table on a disk as `open_with_cache` does, with 64 pages kept in memory.
     fn open(alloc: Global, disk: Self::Device) -> Result<Self, Refused<Self::Device>>
         ensures whole { IfOk result is_whole }
         ensures ok { IfOk result (λ file. IsOpenedFile stores (Self.Device.disk disk) (Self.Device.failures disk) (state file)) }

@@ -15,8 +15,8 @@ use crate::room::Room;
 use byte_disk::ByteDisk;
 use game_file::{GameFile, Versions};
 use recover::{Solver, SolverFault, TableFile};
-use session::commands::said_refused;
 use session::line_by_line::Lines;
+use session::told::said_refused;
 use std::alloc::Global;
 use std::mem;
 
@@ -79,7 +79,7 @@ pub extern "C" fn rbg_open(
     status
 }
 
-/// The same among these tables.
+/// Opens a table among these, and gives its number.
 fn open_in(
     alloc: Global,
     tables: &mut HeldTables,

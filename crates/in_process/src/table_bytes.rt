@@ -15,6 +15,7 @@ use recover::{FirstFile, SecondFile, TableFile};
 use sector_disk::SectorDisk;
 use session::commands::{FileCommand, command_on};
 use session::migrating::migrate_on;
+use session::moments::Moments;
 use std::alloc::Global;
 
 /// The bytes of a page.
@@ -64,7 +65,7 @@ pub extern "C" fn rbg_load(
     }
 }
 
-/// The same with this goal, or none.
+/// Loads a game with this goal, or with none.
 fn loaded(
     alloc: Global,
     table: &mut [u8],
@@ -144,7 +145,7 @@ pub extern "C" fn rbg_migrate(
         SecondFile<ByteDisk>,
         FirstFile<ByteDisk>,
         _,
-    >(alloc, disk, &mut line);
+    >(alloc, disk, &mut line, &mut Moments::new());
     give_table(&line, disk.bytes(), outcome.status, table, out, count)
 }
 
@@ -161,7 +162,13 @@ fn commanded(
     ensures { IsAnswered (IsDoneOnFile (StoresTrees 3) command) (disk_in disk) table.old table.new out.old out.new count.new result }
 {
     let mut line = Vec::new(alloc);
-    let (outcome, disk) = command_on::<TableFile<ByteDisk>, _>(alloc, disk, command, &mut line);
+    let (outcome, disk) = command_on::<TableFile<ByteDisk>, _>(
+        alloc,
+        disk,
+        command,
+        &mut line,
+        &mut Moments::new(),
+    );
     give_table(&line, disk.bytes(), outcome.status, table, out, count)
 }
 

@@ -28,7 +28,7 @@ pub extern "C" fn rbg_session(
     answered(alloc, Lines::Session, table, lines, out, count)
 }
 
-/// The same of lines that only look, as `rbgsolve look` does.
+/// Answers lines that only ask, as `rbgsolve look` does; the table stays as it is.
 #[unsafe(no_mangle)]
 pub extern "C" fn rbg_look(
     alloc: Global,

@@ -24,7 +24,7 @@ pub extern "C" fn rbg_moves(alloc: Global, text: &[u8], out: &mut [u8], count: &
     status
 }
 
-/// The same of the position with this text.
+/// The moves of the position with this text, as `rbg_moves` gives those of the start.
 #[unsafe(no_mangle)]
 pub extern "C" fn rbg_moves_at(
     alloc: Global,

@@ -1,7 +1,8 @@
 //! What tables of all layouts say of one game, compared.
 
-use crate::layout::{Flat, SECTORS, Second, Third};
-use crate::sitting::{Told, begun_in, ended_in, told_of};
+use crate::layout::{First, SECTORS, Second, Third};
+use crate::sitting::{Started, Told, asked_in, begun_in, ended_in, told_of};
+use flat_files::worked_file;
 use page_store::MOST_CACHED;
 use recover::migrate;
 use sector_disk::{MemDisk, SectorDisk};
@@ -24,55 +25,50 @@ pub enum Outcome {
     NotRight,
 }
 
-/// Where a table of this layout begins to say other things than one of layout 1.
+/// Where a table begins to say other things than one of layout 3.
 #[derive(Drop)]
 pub struct Difference {
-    layout: u32,
-    flat: Vec<u8>,
-    trees: Vec<u8>,
+    /// Which table.
+    which: &'static str,
+    wanted: Vec<u8>,
+    said: Vec<u8>,
 }
 
 impl Display for Difference {
     fn fmt<W: Write>(&self, f: &mut Formatter<W>) -> fmt::Result {
-        let flat = from_utf8(&self.flat).unwrap_or("?");
-        let trees = from_utf8(&self.trees).unwrap_or("?");
-        let layout = self.layout;
-        write!(f, "layout 1 says\n{flat}\nlayout {layout} says\n{trees}")
+        let wanted = from_utf8(&self.wanted).unwrap_or("?");
+        let said = from_utf8(&self.said).unwrap_or("?");
+        let which = self.which;
+        write!(f, "layout 3 says\n{wanted}\n{which} says\n{said}")
     }
 }
 
-/// Loads the game of this text into a table of layout 1, one of layout 2, and two of layout 3 of which one keeps this many pages in memory,
-/// two at most; does up to this many units of work in each, and compares all that they say, and what the files with trees hold. Two more
-/// tables, of layouts 1 and 2, come into layout 3 after the first commands, and have to say the same.
+/// Loads the game of this text into a table of layout 3, one of layout 2, and one of layout 3 that keeps this many pages in memory, two at
+/// most; does up to this many units of work in each, and compares all that they say, and what their files hold. Two more tables, of the
+/// layouts 1 and 2, come into layout 3 after the first commands, and one of layout 1 at the end, and have to say the same.
 pub fn compare(alloc: Global, text: &[u8], most: u32, pages: usize) -> anyhow::Result<Outcome> {
-    let flat = told_of::<Flat>(alloc, text, most, MOST_CACHED)?;
-    let second = told_of::<Second>(alloc, text, most, MOST_CACHED)?;
-    if let Some(difference) = first_difference(alloc, 2, &flat.said, &second.said)? {
-        return Ok(Outcome::Differs(difference));
-    }
     let third = told_of::<Third>(alloc, text, most, MOST_CACHED)?;
-    if let Some(difference) = first_difference(alloc, 3, &flat.said, &third.said)? {
-        return Ok(Outcome::Differs(difference));
-    }
+    let second = told_of::<Second>(alloc, text, most, MOST_CACHED)?;
     let spare = told_of::<Third>(alloc, text, most, pages.min(2))?;
-    if let Some(difference) = first_difference(alloc, 3, &flat.said, &spare.said)? {
-        return Ok(Outcome::Differs(difference));
+    let from_second = went_on(alloc, begun_in::<Second>(alloc, text, most)?, most)?;
+    let from_first = went_on(alloc, begun_in_first(alloc, text, most)?, most)?;
+    let others = [
+        ("layout 2", &second),
+        ("layout 3 with few pages", &spare),
+        ("what was of layout 2", &from_second),
+        ("what was of layout 1", &from_first),
+    ];
+    if let Some(outcome) = unlike(alloc, &third, &others)? {
+        return Ok(outcome);
     }
-    if !(flat.is_right && second.is_right && third.is_right && spare.is_right) {
-        return Ok(Outcome::NotRight);
+    let (known, units) = (third.known, third.units);
+    let third = asked_in::<Third>(alloc, third.disk)?;
+    let in_memory = moved(alloc, worked_file(alloc, SECTORS, text, units)?)?;
+    let in_memory = asked_in::<Third>(alloc, in_memory)?;
+    let others = [("what was worked in memory", &in_memory)];
+    if let Some(outcome) = unlike(alloc, &third, &others)? {
+        return Ok(outcome);
     }
-    let from_first = moved(alloc, begun_in::<Flat>(alloc, text, most)?, most)?;
-    if let Some(difference) = first_difference(alloc, 3, &flat.said, &from_first.said)? {
-        return Ok(Outcome::Differs(difference));
-    }
-    let from_second = moved(alloc, begun_in::<Second>(alloc, text, most)?, most)?;
-    if let Some(difference) = first_difference(alloc, 3, &flat.said, &from_second.said)? {
-        return Ok(Outcome::Differs(difference));
-    }
-    if !(from_first.is_right && from_second.is_right) {
-        return Ok(Outcome::NotRight);
-    }
-    let known = third.known;
     if hold_the_same(second.disk, third.disk, spare.disk)? {
         Ok(Outcome::Equal(known))
     } else {
@@ -80,34 +76,63 @@ pub fn compare(alloc: Global, text: &[u8], most: u32, pages: usize) -> anyhow::R
     }
 }
 
+/// What came of the game, if one of these says other things than the table of layout 3, or one of them all is wrong.
+fn unlike(
+    alloc: Global,
+    third: &Told<MemDisk>,
+    others: &[(&'static str, &Told<MemDisk>)],
+) -> anyhow::Result<Option<Outcome>> {
+    for (which, other) in others {
+        if let Some(difference) = first_difference(alloc, which, &third.said, &other.said)? {
+            return Ok(Some(Outcome::Differs(difference)));
+        }
+        if !(third.is_right && other.is_right) {
+            return Ok(Some(Outcome::NotRight));
+        }
+    }
+    Ok(None)
+}
+
+/// A table of layout 1 that has come as far as one of layout 3 where it would be opened for the first time, with what that one said.
+fn begun_in_first(alloc: Global, text: &[u8], most: u32) -> anyhow::Result<Started<MemDisk>> {
+    let Started { said, units, .. } = begun_in::<Third>(alloc, text, most)?;
+    let disk = worked_file(alloc, SECTORS, text, units)?;
+    Ok(Started { disk, said, units })
+}
+
 /// What a table says that began so in an earlier layout, came into layout 3, and went on in that.
-fn moved(alloc: Global, begun: (MemDisk, Vec<u8>), most: u32) -> anyhow::Result<Told<MemDisk>> {
-    let (disk, said) = begun;
-    match migrate::<MemDisk, Third, Second, Flat>(alloc, disk) {
-        Ok((disk, _)) => ended_in::<Third>(alloc, disk, said, most),
+fn went_on(alloc: Global, started: Started<MemDisk>, most: u32) -> anyhow::Result<Told<MemDisk>> {
+    let Started { disk, said, .. } = started;
+    ended_in::<Third>(alloc, moved(alloc, disk)?, said, most)
+}
+
+/// The table of this disk, brought into layout 3.
+fn moved(alloc: Global, disk: MemDisk) -> anyhow::Result<MemDisk> {
+    match migrate::<MemDisk, Third, Second, First>(alloc, disk) {
+        Ok((disk, _)) => Ok(disk),
         Err(refused) => Err(refused.fault.into()),
     }
 }
 
-/// What the two say from the first byte on that differs, if one does; the second has this layout.
+/// What the two say from the first byte on that differs, if one does.
 fn first_difference(
     alloc: Global,
-    layout: u32,
-    flat: &[u8],
-    trees: &[u8],
+    which: &'static str,
+    wanted: &[u8],
+    said: &[u8],
 ) -> anyhow::Result<Option<Difference>> {
-    if flat == trees {
+    if wanted == said {
         return Ok(None);
     }
-    let same = flat
+    let same = wanted
         .iter()
-        .zip(trees)
+        .zip(said)
         .take_while(|(one, other)| one == other)
         .count();
     Ok(Some(Difference {
-        layout,
-        flat: shown(alloc, flat, same)?,
-        trees: shown(alloc, trees, same)?,
+        which,
+        wanted: shown(alloc, wanted, same)?,
+        said: shown(alloc, said, same)?,
     }))
 }
 

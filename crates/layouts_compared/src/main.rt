@@ -1,5 +1,5 @@
-//! Asks the solver over the layouts 1 and 2, and over layout 3 with 64 pages in memory and with fewer, the same of games, and compares
-//! what they answer: `layouts_compared UNITS PAGES GAME..`.
+//! Asks the solver over layout 2, over layout 3 with 64 pages in memory and with fewer, and over what was brought from the layouts 1 and 2,
+//! the same of games, and compares what they answer: `layouts_compared UNITS PAGES GAME..`.
 #![tactic(auto)]
 
 mod compare;

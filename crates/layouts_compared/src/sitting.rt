@@ -31,6 +31,8 @@ pub struct Told<D> {
     pub said: Vec<u8>,
     /// How many positions are known.
     pub known: u32,
+    /// How many units are done.
+    pub units: u32,
     /// What the audit says.
     pub is_right: bool,
     /// Its disk.
@@ -54,19 +56,31 @@ where
     told_at_end(alloc, worked, said)
 }
 
-/// The same up to where the table would be opened for the first time: the disk, and what was said.
+/// A table that has come to where it would be opened for the first time.
+#[derive(Drop)]
+pub struct Started<D> {
+    pub disk: D,
+    /// What was asked so far, and each reply.
+    pub said: Vec<u8>,
+    /// How many units are done.
+    pub units: u32,
+}
+
+/// Creates the table and loads the game, up to where the table would be opened for the first time.
 pub fn begun_in<F: Layout + Drop>(
     alloc: Global,
     text: &[u8],
     most: u32,
-) -> anyhow::Result<(F::Device, Vec<u8>)>
+) -> anyhow::Result<Started<F::Device>>
 where
     F::Device: Drop,
 {
     let mut said = Vec::new(alloc);
     let mut solver = loaded::<F>(alloc, text, MOST_CACHED)?;
     some_steps(alloc, &mut solver, &mut said, 0, most)?;
-    Ok((solver.close(), said))
+    let units = units_of(solver.status());
+    let disk = solver.close();
+    Ok(Started { disk, said, units })
 }
 
 /// The rest of it, on this disk.
@@ -85,6 +99,15 @@ where
         solver = worked(alloc, solver, &mut said, COMMANDS as u32, most, MOST_CACHED)?;
     }
     told_at_end(alloc, solver, said)
+}
+
+/// What the table on this disk says of all that can be asked at the end.
+pub fn asked_in<F: Layout + Drop>(alloc: Global, disk: F::Device) -> anyhow::Result<Told<F::Device>>
+where
+    F::Device: Drop,
+{
+    let solver = opened::<F>(alloc, disk, MOST_CACHED)?;
+    told_at_end(alloc, solver, Vec::new(alloc))
 }
 
 /// A new table with the game of this text and this many pages in memory.
@@ -133,12 +156,14 @@ where
     F::Device: Drop,
 {
     let known = known_of(solver.status());
+    let units = units_of(solver.status());
     ask_all(alloc, &mut solver, &mut said, known)?;
     let is_right = solver.audit()? == Verdict::Right;
     let disk = solver.close();
     Ok(Told {
         said,
         known,
+        units,
         is_right,
         disk,
     })
@@ -242,6 +267,14 @@ fn put_rows<F: Layout>(
 fn known_of(counts: Option<Counts>) -> u32 {
     match counts {
         Some(counts) => counts.known,
+        None => 0,
+    }
+}
+
+/// How many units are done.
+fn units_of(counts: Option<Counts>) -> u32 {
+    match counts {
+        Some(counts) => counts.expanded.saturating_add(counts.processed),
         None => 0,
     }
 }

@@ -30,7 +30,7 @@ abbrev pub place_at : ℕ → ℕ → ℕ
 place_at place zero = place
 place_at place (suc k) = suc k
 
--- The same as a graph: w leads from the opening configuration to the one of T and k, an occurrence at a time,
+-- The search as a graph: w leads from the opening configuration to the one of T and k, an occurrence at a time,
 -- and never on from a switch.
 pub data Searched (game : Game) (e : Regex) (place : ℕ) (S : SemiState) : List ℕ → SemiState → ℕ → Type 0 where
   begun : Searched game e place S [] S 0

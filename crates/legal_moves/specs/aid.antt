@@ -1,4 +1,5 @@
 pub mod Answers
+pub mod Boards
 pub mod Buckets
 pub mod Chains
 pub mod Configurations
@@ -12,6 +13,7 @@ pub mod Relations
 pub mod Repacked
 pub mod Standing
 pub mod Searches
+pub mod Seen
 pub mod Sets
 pub mod Tables
 pub mod Walks

@@ -32,6 +32,20 @@ impl Chains {
         })
     }
 
+    /// Chains of nothing, in the same room.
+    pub fn emptied(self) -> Result<Chains, AllocError>
+        ensures { IfOk result (AreChained []) }
+    {
+        let Chains {
+            mut heads,
+            mut befores,
+        } = self;
+        heads.clear();
+        heads.resize(BUCKETS, 0)?;
+        befores.clear();
+        Ok(Chains { heads, befores })
+    }
+
     /// The latest index that has the bucket.
     pub fn latest(&self, bucket: usize) -> usize
         requires { bucket < 512 }
@@ -40,7 +54,7 @@ impl Chains {
         self.heads[bucket] as usize
     }
 
-    /// Chains the next index, which has the bucket. An index beyond 32 bits, which no search comes to, is refused like a growth.
+    /// Puts the next index to the front of the chain of its bucket. An index over 32 bits, which no search comes to, is answered as out of memory.
     pub fn push(&mut self, bucket: usize) -> Result<(), AllocError>
         requires { bucket < 512 }
         ensures { (buckets : List ℕ) → AreChained buckets self.old → OnOk result (AreChained (buckets ++ bucket ∷ []) self.new) }

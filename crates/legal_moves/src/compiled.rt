@@ -9,7 +9,6 @@ ghost use Rattle.legal_moves.specs.Listed.{AreMoves, IsShortestMove};
 ghost use Rattle.legal_moves.specs.declared.limits.TheConstants.{WIDEST};
 
 use crate::compile::add_table;
-use crate::copies::copied_state;
 use crate::ends::ascending_ends;
 use crate::fault::MoveFault;
 use crate::fields::{byte_at, leader_of, role_with, value_at};
@@ -17,6 +16,7 @@ use crate::found::Found;
 use crate::jumps::{Jumps, all_jumps};
 use crate::moves::Moves;
 use crate::patterns::same_patterns;
+use crate::room::Room;
 use crate::search::Searcher;
 use crate::source::MoveSource;
 use crate::table::Table;
@@ -28,6 +28,7 @@ use rbg_game::position::{Position, SemiState};
 use rbg_game::roles::{Player, Role};
 use retrograde::GameGraph;
 use std::alloc::{AllocError, Global};
+use std::cell::Cell;
 use std::marker::Model;
 
 /// A game with a table for each expression that is searched.
@@ -36,7 +37,7 @@ pub struct Compiled {
     game: Game,
     /// By which positions are asked of and answered.
     packing: Packing,
-    /// Of the rules last, of each pattern before the table that it stands in.
+    /// One for each pattern, inner ones first, and that of the rules last.
     tables: Vec<Table>,
     /// For each pattern the number of the first that asks the same.
     same: Vec<usize>,
@@ -44,6 +45,8 @@ pub struct Compiled {
     jumps: Vec<Jumps>,
     /// The goal of the table, if it has one.
     goal: Option<Goal>,
+    /// Room that one search leaves to the next. Nothing is said of what it holds.
+    room: Cell<Option<Box<Room>>>,
 }
 
 impl Model for Compiled {
@@ -101,6 +104,7 @@ impl Compiled {
             same,
             jumps,
             goal,
+            room: Cell::new(None),
         })
     }
 
@@ -151,13 +155,14 @@ impl Compiled {
         ensures wide { result ≡ Err MoveFault.TooWide → IsWide (compiled_game self.now) at.now }
         ensures narrow { IsOk result → ¬ IsWide (compiled_game self.now) at.now }
     {
-        let found = self.search(alloc, at)?;
+        let mut room = Room::new(alloc);
+        let found = self.search(alloc, &mut room, at)?;
         let moves = Moves::of(alloc, found)?;
         Ok(moves)
     }
 
     /// The search for the moves of a position.
-    fn search(&self, alloc: Global, at: &Position) -> Result<Found, MoveFault>
+    fn search(&self, alloc: Global, room: &mut Room, at: &Position) -> Result<Found, MoveFault>
         requires at { IsPositionOf (compiled_game self.now) at.now }
         ensures found { let game = compiled_game self.now in IfOk result
             (λ found. IsSearch game game.rules at.now.place at.now.state (configurations_of found)) }
@@ -173,9 +178,15 @@ impl Compiled {
             alloc,
         };
         let rules = self.tables.len() - 1;
-        let state = copied_state(&at.state);
-        let mut spare = Vec::new(alloc);
-        searcher.search(&mut spare, rules, at.place, state)
+        searcher.search(room, rules, at.place, &at.state)
+    }
+
+    /// The room that the search before this one has left, or new room.
+    fn room(&self, alloc: Global) -> Result<Box<Room>, AllocError> {
+        match self.room.take() {
+            Some(room) => Ok(room),
+            None => Ok(Box::new(alloc, Room::new(alloc))?),
+        }
     }
 }
 
@@ -236,8 +247,11 @@ impl MoveSource for Compiled {
         let Some(position) = self.packing.unpack(at) else {
             return Ok(Vec::new(alloc));
         };
-        let found = self.search(alloc, &position)?;
+        let mut room = self.room(alloc)?;
+        let found = self.search(alloc, &mut room, &position)?;
         let successors = ascending_ends(alloc, &self.packing, &found)?;
+        room.keep(found);
+        self.room.set(Some(room));
         Ok(successors)
     }
 }

@@ -7,11 +7,22 @@ ghost use Rattle.legal_moves.specs.Effects.{Compares, Effect};
 ghost use Rattle.rbg_game.specs.Positions.{IsStateOf};
 ghost use Rattle.legal_moves.specs.Plain.{IsPlain};
 ghost use Rattle.legal_moves.specs.aid.Looking.{at_vertex, GlanceTells};
+ghost use Rattle.legal_moves.specs.aid.Seen.{state_seen};
 
 use rbg_game::game::{Game, Vertex};
 use rbg_game::position::SemiState;
+use rbg_game::roles::Role;
 use rbg_game::rules::{Action, Comparison};
 use rbg_game::value::value;
+
+/// A semi-state that is seen where it lies.
+#[derive(Clone, Copy)]
+pub(crate) struct Seen<'a> {
+    pub mover: Role,
+    pub pieces: &'a [u8],
+    pub values: &'a [u32],
+    pub vertex: u8,
+}
 
 /// What a glance at an action tells.
 #[derive(Clone, Copy, PartialEq, Eq, Debug)]
@@ -104,15 +115,34 @@ pub fn at_a_glance(game: &Game, action: &Action, state: &SemiState, vertex: u8) 
     requires plain { IsPlain state.now.values.items (action_of action.now) }
     ensures { GlanceTells (game_of game.now) (action_of action.now) (at_vertex state.now vertex) result }
 {
+    glance_where_seen(
+        game,
+        action,
+        Seen {
+            mover: state.mover,
+            pieces: &state.pieces,
+            values: &state.values,
+            vertex,
+        },
+    )
+}
+
+/// What an action comes to in a semi-state that is seen where it lies.
+#[inline(always)]
+pub(crate) fn glance_where_seen(game: &Game, action: &Action, here: Seen<'_>) -> Glance
+    requires state { IsStateOf (game_of game.now) (state_seen here) }
+    requires plain { IsPlain here.values.now (action_of action.now) }
+    ensures { GlanceTells (game_of game.now) (action_of action.now) (state_seen here.entry) result }
+{
     match action {
-        Action::Shift(label) => match neighbour(&game.vertices[usize::from(vertex)], *label) {
+        Action::Shift(label) => match neighbour(&game.vertices[usize::from(here.vertex)], *label) {
             Some(to) => Glance::At(to),
             None => Glance::Fails,
         },
         Action::On(pieces) => {
-            let here = state.pieces[usize::from(vertex)];
-            if pieces.iter().any(|piece| *piece == here) {
-                Glance::At(vertex)
+            let stands = here.pieces[usize::from(here.vertex)];
+            if pieces.iter().any(|piece| *piece == stands) {
+                Glance::At(here.vertex)
             } else {
                 Glance::Fails
             }
@@ -120,10 +150,10 @@ pub fn at_a_glance(game: &Game, action: &Action, state: &SemiState, vertex: u8) 
         Action::Comparison(left, comparison, right) => {
             if compares(
                 *comparison,
-                value(left, &state.values),
-                value(right, &state.values),
+                value(left, here.values),
+                value(right, here.values),
             ) {
-                Glance::At(vertex)
+                Glance::At(here.vertex)
             } else {
                 Glance::Fails
             }

@@ -4,25 +4,29 @@ ghost use Rattle.std.specs.Bool.{OnTrue, OnFalse};
 ghost use Rattle.std.specs.List.{list_any};
 ghost use Rattle.std.specs.Option.{IfNone};
 ghost use Rattle.legal_moves.specs.aid.Configurations.{opening};
-ghost use Rattle.legal_moves.specs.aid.Looking.{at_vertex};
+ghost use Rattle.legal_moves.specs.aid.Boards.{at_turn, board_at, boards_in, IsSameBoard, IsAsLarge};
 ghost use Rattle.legal_moves.specs.aid.Buckets.{bucket_of_board};
-ghost use Rattle.legal_moves.specs.aid.Standing.{IsSameBoard, IsSameStand};
+ghost use Rattle.legal_moves.specs.aid.Going.{state_at};
+ghost use Rattle.legal_moves.specs.aid.Standing.{IsSameStand};
 
+use crate::boards::Boards;
 use crate::bucket::{board_bucket, stand_bucket};
 use crate::chains::Chains;
 use crate::fault::MoveFault;
 use crate::limits::WIDEST;
 use rbg_game::position::SemiState;
+use rbg_game::roles::Role;
 use std::alloc::{AllocError, Global};
 
-/// How many boards there is room for at first.
-const ROOM: usize = 64;
+/// How many configurations there is room for at first.
+const ROOM: usize = 256;
 
-/// A configuration: a board by its number, a vertex and the number of the last action, with how the search came to it.
+/// A configuration: a board by its number, whose turn it is, a vertex and the number of the last action, with how the search came to it.
 #[derive(Clone, Copy)]
 pub struct Stand {
-    /// The number of the semi-state that tells all but the vertex.
+    /// The index of the board, which has the pieces and the values.
     pub board: usize,
+    pub mover: Role,
     pub vertex: u8,
     /// The number of the last action; 0 at the opening.
     pub place: u16,
@@ -34,37 +38,43 @@ pub struct Stand {
     pub ends: bool,
 }
 
+/// A configuration that is worked on: its index, and its semi-state.
+#[derive(Drop)]
+pub struct Shown {
+    pub at: usize,
+    pub state: SemiState,
+}
+
 /// The configurations in the order in which they were found.
 #[derive(Drop)]
 pub struct Found {
-    /// Semi-states that differ in more than their vertices.
-    pub boards: Vec<SemiState>,
+    /// Boards that differ.
+    pub boards: Boards,
     pub stands: Vec<Stand>,
     pub board_chains: Chains,
     pub stand_chains: Chains,
 }
 
 impl Found {
-    ghost use Rattle.legal_moves.specs.aid.Standing.{configurations_of, board_at, AreKept, IsNewBoard, bucket_at, IsNewStand, IsStandAdded};
+    ghost use Rattle.legal_moves.specs.aid.Standing.{configurations_of, AreKept, IsEmpty, IsShown, IsNewBoard, bucket_at, IsNewStand, IsStandAdded};
 
-    /// The opening configuration alone.
-    pub fn begun(alloc: Global, state: SemiState) -> Result<Found, AllocError>
-        ensures opening { IfOk result (λ found. configurations_of found ≡ opening state ∷ []) }
+    /// The opening configuration alone, in the room of a search that is over, if there is one.
+    pub fn begun(
+        alloc: Global,
+        spare: &mut Vec<Found>,
+        state: &SemiState,
+    ) -> Result<Found, AllocError>
+        ensures opening { IfOk result (λ found. configurations_of found ≡ opening state.now ∷ []) }
         ensures kept { IfOk result AreKept }
     {
-        let vertex = state.vertex;
-        let mut found = Found {
-            boards: Vec::with_capacity(alloc, ROOM)?,
-            stands: Vec::with_capacity(alloc, 4 * ROOM)?,
-            board_chains: Chains::new(alloc)?,
-            stand_chains: Chains::new(alloc)?,
-        };
-        found.board_chains.push(board_bucket(&state))?;
+        let mut found = Found::room(alloc, spare, state)?;
+        found.board_chains.push(board_bucket(state))?;
         found.boards.push(state)?;
-        found.stand_chains.push(stand_bucket(0, vertex, 0))?;
+        found.stand_chains.push(stand_bucket(0, state.vertex, 0))?;
         found.stands.push(Stand {
             board: 0,
-            vertex,
+            mover: state.mover,
+            vertex: state.vertex,
             place: 0,
             parent: 0,
             shows: false,
@@ -73,40 +83,98 @@ impl Found {
         Ok(found)
     }
 
-    /// The number of the board of this semi-state, which is kept if there is none like it.
-    pub fn number_of(&mut self, state: SemiState) -> Result<usize, AllocError>
+    /// Nothing found, in the room of a search that is over, if there is one.
+    fn room(alloc: Global, spare: &mut Vec<Found>, state: &SemiState) -> Result<Found, AllocError>
+        ensures { IfOk result (λ found. IsEmpty found state.now) }
+    {
+        if let Some(over) = spare.pop() {
+            return over.emptied(state);
+        }
+        Ok(Found {
+            boards: Boards::new(alloc, state)?,
+            stands: Vec::with_capacity(alloc, ROOM)?,
+            board_chains: Chains::new(alloc)?,
+            stand_chains: Chains::new(alloc)?,
+        })
+    }
+
+    /// Nothing found, in the same room.
+    fn emptied(self, state: &SemiState) -> Result<Found, AllocError>
+        ensures { IfOk result (λ found. IsEmpty found state.now) }
+    {
+        let Found {
+            boards,
+            mut stands,
+            board_chains,
+            stand_chains,
+        } = self;
+        stands.clear();
+        Ok(Found {
+            boards: boards.emptied(state),
+            stands,
+            board_chains: board_chains.emptied()?,
+            stand_chains: stand_chains.emptied()?,
+        })
+    }
+
+    /// Shows the configuration at the index in the place of the one that is shown.
+    pub fn show(&self, at: usize, shown: &mut Shown)
+        requires kept { AreKept self.now }
+        requires at { at < length self.now.stands.items }
+        requires shown { IsShown self.now shown.old }
+        ensures at { shown.new.at ≡ at }
+        ensures state { shown.new.state ≡ state_at (configurations_of self.now) at }
+    {
+        let Stand {
+            board,
+            mover,
+            vertex,
+            ..
+        } = self.stands[at];
+        let Stand { board: before, .. } = self.stands[shown.at];
+        if before == board {
+            shown.state.mover = mover;
+            shown.state.vertex = vertex;
+        } else {
+            self.boards.put(board, mover, vertex, &mut shown.state);
+        }
+        shown.at = at;
+    }
+
+    /// The number of the board of this semi-state, which is added if there is none like it.
+    pub fn number_of(&mut self, state: &SemiState) -> Result<usize, AllocError>
         requires kept { AreKept self.old }
+        requires large { IsAsLarge self.old.boards state.now }
         ensures kept { OnOk result (AreKept self.new) }
         ensures same { OnOk result (configurations_of self.new ≡ configurations_of self.old) }
         ensures stands { self.new.stands ≡ self.old.stands }
-        ensures number { IfOk result (λ number. (number < length self.new.boards.items)
-            × (at_vertex (board_at self.new.boards.items number) state.vertex ≡ state)) }
+        ensures number { IfOk result (λ number. (number < length (boards_in self.new.boards))
+            × (at_turn (board_at (boards_in self.new.boards) number) state.now.mover state.now.vertex ≡ state.now)) }
     {
-        let bucket = board_bucket(&state);
-        match self.like(bucket, &state) {
+        let bucket = board_bucket(state);
+        match self.like(bucket, state) {
             Some(number) => Ok(number),
             None => {
-                let number = self.boards.len();
+                let number = self.boards.count;
                 self.board_chains.push(bucket)?;
-                self.boards.reserve(1)?;
-                self.boards.push_reserved(state);
+                self.boards.push(state)?;
                 Ok(number)
             }
         }
     }
 
-    /// The number of the board that tells the same as this semi-state, but for the vertex.
+    /// The number of the board that tells the same as this semi-state, but for the turn and the vertex.
     fn like(&self, bucket: usize, state: &SemiState) -> Option<usize>
         requires kept { AreKept self.now }
         requires bucket { bucket ≡ bucket_of_board state.now }
         requires small { bucket < 512 }
-        ensures some { IfSome result (λ number. (number < length self.now.boards.items)
-            × IsSameBoard (board_at self.now.boards.items number) state.now) }
-        ensures none { IfNone result (IsNewBoard self.now.boards.items state.now) }
+        ensures some { IfSome result (λ number. (number < length (boards_in self.now.boards))
+            × IsSameBoard (board_at (boards_in self.now.boards) number) state.now) }
+        ensures none { IfNone result (IsNewBoard (boards_in self.now.boards) state.now) }
     {
         let mut at = self.board_chains.latest(bucket);
         while at != 0 {
-            if is_same_board(&self.boards[at - 1], state) {
+            if self.boards.is_same(at - 1, state) {
                 return Some(at - 1);
             }
             at = self.board_chains.befores[at - 1] as usize;
@@ -114,7 +182,7 @@ impl Found {
         None
     }
 
-    /// Whether one with this board, vertex and last action was found.
+    /// Whether one with this board, turn, vertex and last action was found.
     fn has(&self, bucket: usize, stand: Stand) -> bool
         requires kept { AreKept self.now }
         requires bucket { bucket ≡ bucket_at stand }
@@ -133,9 +201,10 @@ impl Found {
     }
 
     /// Adds a configuration if it is new.
+    #[inline(always)]
     pub fn add(&mut self, stand: Stand) -> Result<(), MoveFault>
         requires kept { AreKept self.old }
-        requires board { stand.board < length self.old.boards.items }
+        requires board { stand.board < length (boards_in self.old.boards) }
         ensures boards { self.new.boards ≡ self.old.boards }
         ensures kept { OnOk result (AreKept self.new) }
         ensures added { OnOk result (IsStandAdded self.old.stands.items stand self.new.stands.items) }
@@ -155,20 +224,14 @@ impl Found {
     }
 }
 
-/// Whether two semi-states tell the same but for the vertex.
-fn is_same_board(left: &SemiState, right: &SemiState) -> bool
-    ensures { (result ≡ true) ↔ IsSameBoard left.now right.now }
-{
-    left.mover == right.mover
-        && left.pieces.as_slice() == right.pieces.as_slice()
-        && left.values.as_slice() == right.values.as_slice()
-}
-
 /// Whether two configurations are one, however the search came to them.
 fn is_same_stand(left: Stand, right: Stand) -> bool
     ensures { (result ≡ true) ↔ IsSameStand left right }
 {
-    left.board == right.board && left.vertex == right.vertex && left.place == right.place
+    left.board == right.board
+        && left.vertex == right.vertex
+        && left.place == right.place
+        && left.mover == right.mover
 }
 
 /// Whether the last action of some configuration is one of those.

@@ -67,7 +67,7 @@ pub fn all_jumps(alloc: Global, game: &Game, tables: &[Table]) -> Result<Vec<Jum
     Ok(all)
 }
 
-/// The jumps of a table of which no search is too wide; no rows where they would be too much.
+/// The rows of jumps of a table that is narrow; none if there would be too many.
 fn jumps_of(
     alloc: Global,
     game: &Game,

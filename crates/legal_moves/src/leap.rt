@@ -20,6 +20,7 @@ use crate::fault::MoveFault;
 use crate::jumps::{Jump, Row};
 use crate::looks::{Look, Looks, keep};
 use crate::marks::is_marked;
+use crate::room::Room;
 use crate::search::Searcher;
 use crate::table::Step;
 use rbg_game::position::SemiState;
@@ -28,7 +29,7 @@ impl Searcher<'_> {
     /// Whether some word of a pattern that looks alone is legal from here, by its jumps; none if it has no rows. It ends at the first yes.
     pub fn leap(
         &self,
-        spare: &mut Vec<Looks>,
+        room: &mut Room,
         index: usize,
         state: &SemiState,
         vertex: u8,
@@ -55,16 +56,22 @@ impl Searcher<'_> {
             return Ok(Some(holds));
         }
         let numbers = table.steps.len() + 1;
-        let mut looks = Looks::begun(self.alloc, spare, self.game.vertices.len(), numbers, vertex)?;
+        let mut looks = Looks::begun(
+            self.alloc,
+            &mut room.looks,
+            self.game.vertices.len(),
+            numbers,
+            vertex,
+        )?;
         let mut at = 0;
         while at < looks.looks.len() {
             if self.leap_on(index, state, &mut looks, at)? {
-                keep(spare, looks);
+                keep(&mut room.looks, looks);
                 return Ok(Some(true));
             }
             at += 1;
         }
-        keep(spare, looks);
+        keep(&mut room.looks, looks);
         Ok(Some(false))
     }
 

@@ -2,6 +2,7 @@
 #![tactic(auto)]
 
 mod actions;
+mod boards;
 mod bucket;
 mod chains;
 mod compile;
@@ -21,6 +22,7 @@ mod marks;
 pub mod moves;
 mod patterns;
 mod relation;
+mod room;
 mod same;
 mod search;
 pub mod source;

@@ -76,7 +76,7 @@ impl Looks {
         })
     }
 
-    /// The same room without looks.
+    /// The looks emptied, with the room that they had.
     fn emptied(self, numbers: usize) -> Looks
         ensures numbers { result.numbers ≡ numbers }
         ensures looks { result.looks.items ≡ [] }

@@ -1,13 +1,15 @@
 //! The moves of one position.
 ghost use Rattle.std.specs.Prelude.{◌≡◌, ◌<◌, length, IfOk, map, slice_get, Some, option_map};
 ghost use Rattle.legal_moves.specs.Shown.{ComeFromBefore};
+ghost use Rattle.legal_moves.specs.aid.Boards.{boards_in, AreWhole};
 ghost use Rattle.legal_moves.specs.aid.Configurations.{AreEnds, AreEndsShown, HaveOwnBytes};
 ghost use Rattle.legal_moves.specs.aid.Standing.{stood, configurations_of, AllStand, AreKept};
 
+use crate::boards::Boards;
+use crate::copies::empty_state;
 use crate::found::{Found, Stand};
 use crate::successor::Successor;
 use position_pack::{Packed, pack_bytes_at};
-use rbg_game::position::SemiState;
 use smallvec::SmallVec;
 use std::alloc::{AllocError, Global};
 use std::collections::BTreeMap;
@@ -23,7 +25,7 @@ pub struct Modifier {
 /// The moves of a position, by ascending bytes of their successors.
 #[derive(Drop)]
 pub struct Moves {
-    boards: Vec<SemiState>,
+    boards: Boards,
     stands: Vec<Stand>,
     successors: Vec<Successor>,
 }
@@ -35,11 +37,12 @@ impl Model for Moves {
     ghost Value = { List ShownMove };
 
     ghost use Rattle.legal_moves.specs.Shown.{shown_of, ComeFromBefore};
+    ghost use Rattle.legal_moves.specs.aid.Boards.{boards_in};
     ghost use Rattle.legal_moves.specs.aid.Standing.{stood};
 
-    ghost view = { λ m. map (shown_of (map (stood m.boards.items) m.stands.items)) m.successors.items };
+    ghost view = { λ m. map (shown_of (map (stood (boards_in m.boards)) m.stands.items)) m.successors.items };
 
-    ghost invariant = { λ m. ComeFromBefore (map (stood m.boards.items) m.stands.items)
+    ghost invariant = { λ m. ComeFromBefore (map (stood (boards_in m.boards)) m.stands.items)
         × All (λ s. s.index < length m.stands.items) m.successors.items };
 }
 
@@ -52,10 +55,7 @@ impl Moves {
         ensures { IfOk result (AreEndsShown (configurations_of found)) }
     {
         let ends = ends_by_bytes(alloc, &found.boards, &found.stands)?;
-        let successors = ends
-            .into_iter()
-            .map(|(packed, index)| Successor { packed, index })
-            .collect(alloc)?;
+        let successors = successors_at(alloc, ends)?;
         Ok(Moves {
             boards: found.boards,
             stands: found.stands,
@@ -107,22 +107,31 @@ impl Moves {
 /// The index of each configuration at which a move ends, by its bytes.
 fn ends_by_bytes(
     alloc: Global,
-    boards: &[SemiState],
+    boards: &Boards,
     stands: &[Stand],
 ) -> Result<BTreeMap<Packed, usize>, AllocError>
-    requires within { AllStand boards.now stands.now }
-    requires apart { HaveOwnBytes (map (stood boards.now) stands.now) }
-    ensures { IfOk result (AreEnds (map (stood boards.now) stands.now) (length stands.now)) }
+    requires whole { AreWhole boards.now }
+    requires within { AllStand (boards_in boards.now) stands.now }
+    requires apart { HaveOwnBytes (map (stood (boards_in boards.now)) stands.now) }
+    ensures { IfOk result (AreEnds (map (stood (boards_in boards.now)) stands.now) (length stands.now)) }
 {
+    let mut state = empty_state();
     let mut ends = BTreeMap::new(alloc);
     for (index, stand) in stands.iter().enumerate() {
         if !stand.ends {
             continue;
         }
-        ends.insert(
-            pack_bytes_at(&boards[stand.board], stand.vertex, stand.place),
-            index,
-        )?;
+        boards.put(stand.board, stand.mover, stand.vertex, &mut state);
+        ends.insert(pack_bytes_at(&state, stand.vertex, stand.place), index)?;
     }
     Ok(ends)
+}
+
+/// The successors with these bytes and indices, in the order of their bytes.
+fn successors_at(alloc: Global, ends: BTreeMap<Packed, usize>) -> Result<Vec<Successor>, AllocError>
+    ensures { IfOk result (λ successors. successors.items ≡ map (λ p. record { packed = p.0; index = p.1 }) ends.entries) }
+{
+    ends.into_iter()
+        .map(|(packed, index)| Successor { packed, index })
+        .collect(alloc)
 }

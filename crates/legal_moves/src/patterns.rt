@@ -52,7 +52,7 @@ fn list_patterns<'a>(rules: &'a Rules, list: &mut Vec<&'a Rules>) -> Result<(), 
     }
 }
 
-/// The same of some rules, one after another.
+/// Lists the patterns of some rules, one after another.
 #[cycle(patterns)]
 fn list_patterns_of<'a>(parts: &'a [Rules], list: &mut Vec<&'a Rules>) -> Result<(), AllocError>
     ensures { OnOk result (map (λ r. regex_of r.now) list.new.items ≡ map (λ r. regex_of r.now) list.old.items

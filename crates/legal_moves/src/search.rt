@@ -13,14 +13,15 @@ ghost use Rattle.legal_moves.specs.Jumps.{AreJumps};
 ghost use Rattle.legal_moves.specs.aid.Answers.{IsAnswerAt};
 ghost use Rattle.legal_moves.specs.aid.Going.{began, state_at, IsGoing, IsTried, IsFull};
 ghost use Rattle.legal_moves.specs.aid.Looking.{at_vertex, seen_from, AreMarked, TellsAt};
-ghost use Rattle.legal_moves.specs.aid.Standing.{configurations_of, AreKept};
+ghost use Rattle.legal_moves.specs.aid.Standing.{configurations_of, AreKept, IsShown};
 
 use crate::copies::copied_state;
-use crate::effect::{Glance, at_a_glance};
+use crate::effect::{Glance, at_a_glance, glance_where_seen};
 use crate::fault::MoveFault;
-use crate::found::{Found, Stand, any_stands_last};
+use crate::found::{Found, Shown, Stand, any_stands_last};
 use crate::jumps::Jumps;
 use crate::looks::{Look, Looks, any_looks_last, keep};
+use crate::room::Room;
 use crate::table::{Step, Table};
 use rbg_game::game::Game;
 use rbg_game::position::SemiState;
@@ -51,25 +52,29 @@ impl Searcher<'_> {
     #[cycle(search)]
     pub fn search(
         &self,
-        spare: &mut Vec<Looks>,
+        room: &mut Room,
         index: usize,
         place: u16,
-        state: SemiState,
+        state: &SemiState,
     ) -> Result<Found, MoveFault>
         requires ready { IsReady (game_of self.now.game.now) self.now.tables.now index }
         requires same { AreSame (inner_of (game_of self.now.game.now).rules) self.now.same.now }
         requires jumps { AreJumps (game_of self.now.game.now) self.now.tables.now self.now.jumps.now }
-        requires state { IsStateOf (game_of self.now.game.now) state }
+        requires state { IsStateOf (game_of self.now.game.now) state.now }
         ensures found { let game = game_of self.now.game.now in let e = expression_at game index in IfOk result
-            (λ f. IsSearch game e place state (configurations_of f)) }
+            (λ f. IsSearch game e place state.now (configurations_of f)) }
         ensures kept { IfOk result AreKept }
         ensures wide { let game = game_of self.now.game.now in let e = expression_at game index in result ≡ Err MoveFault.TooWide
-            → IsWideFrom game e place state }
+            → IsWideFrom game e place state.now }
     {
-        let mut found = Found::begun(self.alloc, state)?;
+        let mut found = Found::begun(self.alloc, &mut room.founds, state)?;
+        let mut here = Shown {
+            at: 0,
+            state: copied_state(state),
+        };
         let mut at = 0;
         while at < found.stands.len() {
-            self.expand(spare, index, place, &mut found, at)?;
+            self.expand(room, index, place, &mut found, at, &mut here)?;
             at += 1;
         }
         Ok(found)
@@ -79,20 +84,23 @@ impl Searcher<'_> {
     #[cycle(search)]
     fn expand(
         &self,
-        spare: &mut Vec<Looks>,
+        room: &mut Room,
         index: usize,
         place: u16,
         found: &mut Found,
         at: usize,
+        here: &mut Shown,
     ) -> Result<(), MoveFault>
         requires ready { IsReady (game_of self.now.game.now) self.now.tables.now index }
         requires same { AreSame (inner_of (game_of self.now.game.now).rules) self.now.same.now }
         requires jumps { AreJumps (game_of self.now.game.now) self.now.tables.now self.now.jumps.now }
         requires at { at < length found.old.stands.items }
         requires kept { AreKept found.old }
+        requires shown { IsShown found.old here.old }
         requires going { let game = game_of self.now.game.now in let e = expression_at game index in IsGoing game e place
             (began (configurations_of found.old)) (configurations_of found.old) at }
         ensures kept { OnOk result (AreKept found.new) }
+        ensures shown { OnOk result (IsShown found.new here.new) }
         ensures going { let game = game_of self.now.game.now in let e = expression_at game index in OnOk result
             (IsGoing game e place (began (configurations_of found.old)) (configurations_of found.new) (at + 1)) }
         ensures wide { let game = game_of self.now.game.now in let e = expression_at game index in result ≡ Err MoveFault.TooWide
@@ -110,7 +118,7 @@ impl Searcher<'_> {
         let followers = self.tables[index].followers(from);
         let mut known = None;
         for number in followers {
-            self.attempt(spare, index, found, at, *number, &mut known)?;
+            self.attempt(room, index, found, at, here, *number, &mut known)?;
         }
         Ok(())
     }
@@ -119,10 +127,11 @@ impl Searcher<'_> {
     #[cycle(search)]
     fn attempt(
         &self,
-        spare: &mut Vec<Looks>,
+        room: &mut Room,
         index: usize,
         found: &mut Found,
         at: usize,
+        here: &mut Shown,
         number: u16,
         known: &mut Option<Answer>,
     ) -> Result<(), MoveFault>
@@ -131,12 +140,14 @@ impl Searcher<'_> {
         requires jumps { AreJumps (game_of self.now.game.now) self.now.tables.now self.now.jumps.now }
         requires at { at < length found.old.stands.items }
         requires kept { AreKept found.old }
+        requires shown { IsShown found.old here.old }
         requires state { IsStateOf (game_of self.now.game.now) (state_at (configurations_of found.old) at) }
         requires from { 1 ≤ number }
         requires upto { number ≤ count (expression_at (game_of self.now.game.now) index) }
         requires known { IsAnswerAt (game_of self.now.game.now) (state_at (configurations_of found.old) at) known.old }
         ensures known { OnOk result (IsAnswerAt (game_of self.now.game.now) (state_at (configurations_of found.old) at) known.new) }
         ensures kept { OnOk result (AreKept found.new) }
+        ensures shown { OnOk result (IsShown found.new here.new) }
         ensures tried { let game = game_of self.now.game.now in let e = expression_at game index in OnOk result
             (IsTried game e number at (configurations_of found.old) (configurations_of found.new)) }
         ensures narrow { let game = game_of self.now.game.now in let e = expression_at game index in IsOk result
@@ -145,18 +156,75 @@ impl Searcher<'_> {
             → AsksTooMuch game e number (state_at (configurations_of found.old) at)
             ⊎ IsFull game e number at (configurations_of found.old) }
     {
-        let Stand { board, vertex, .. } = found.stands[at];
-        match self.glance_at(spare, index, &found.boards[board], vertex, number, known)? {
+        match self.glance_from(room, index, found, at, here, number, known)? {
             Glance::Fails => Ok(()),
-            Glance::At(vertex) => found.add(Stand {
-                board,
-                vertex,
-                place: number,
-                parent: at,
-                shows: false,
-                ends: false,
-            }),
-            Glance::Writes => self.write(index, found, at, number),
+            Glance::At(vertex) => {
+                let Stand { board, mover, .. } = found.stands[at];
+                found.add(Stand {
+                    board,
+                    mover,
+                    vertex,
+                    place: number,
+                    parent: at,
+                    shows: false,
+                    ends: false,
+                })
+            }
+            Glance::Writes => self.write(room, index, found, at, number),
+        }
+    }
+
+    /// What the occurrence with the number comes to in the configuration at the index. Only a pattern has it shown.
+    #[cycle(search)]
+    #[inline(always)]
+    fn glance_from(
+        &self,
+        room: &mut Room,
+        index: usize,
+        found: &Found,
+        at: usize,
+        here: &mut Shown,
+        number: u16,
+        known: &mut Option<Answer>,
+    ) -> Result<Glance, MoveFault>
+        requires ready { IsReady (game_of self.now.game.now) self.now.tables.now index }
+        requires same { AreSame (inner_of (game_of self.now.game.now).rules) self.now.same.now }
+        requires jumps { AreJumps (game_of self.now.game.now) self.now.tables.now self.now.jumps.now }
+        requires at { at < length found.now.stands.items }
+        requires kept { AreKept found.now }
+        requires shown { IsShown found.now here.old }
+        requires state { IsStateOf (game_of self.now.game.now) (state_at (configurations_of found.now) at) }
+        requires from { 1 ≤ number }
+        requires upto { number ≤ count (expression_at (game_of self.now.game.now) index) }
+        requires known { IsAnswerAt (game_of self.now.game.now) (state_at (configurations_of found.now) at) known.old }
+        ensures known { OnOk result (IsAnswerAt (game_of self.now.game.now) (state_at (configurations_of found.now) at) known.new) }
+        ensures shown { OnOk result (IsShown found.now here.new) }
+        ensures tells { let game = game_of self.now.game.now in let e = expression_at game index in IfOk result
+            (TellsAt game e number (state_at (configurations_of found.now) at)) }
+        ensures narrow { let game = game_of self.now.game.now in let e = expression_at game index in IsOk result
+            → ¬ AsksTooMuch game e number (state_at (configurations_of found.now) at) }
+        ensures wide { let game = game_of self.now.game.now in let e = expression_at game index in result ≡ Err MoveFault.TooWide
+            → AsksTooMuch game e number (state_at (configurations_of found.now) at) }
+    {
+        match self.tables[index].step(number) {
+            Step::Act(action) => {
+                let Stand {
+                    board,
+                    mover,
+                    vertex,
+                    ..
+                } = found.stands[at];
+                Ok(glance_where_seen(self.game, action, found.boards.seen(board, mover, vertex)))
+            }
+            Step::Ask(positive, inner) => {
+                found.show(at, here);
+                let holds = self.holds(room, *inner, &here.state, here.state.vertex, known)?;
+                Ok(if holds == *positive {
+                    Glance::At(here.state.vertex)
+                } else {
+                    Glance::Fails
+                })
+            }
         }
     }
 
@@ -166,7 +234,7 @@ impl Searcher<'_> {
     #[inline(never)]
     fn is_legal(
         &self,
-        spare: &mut Vec<Looks>,
+        room: &mut Room,
         index: usize,
         state: &SemiState,
         vertex: u8,
@@ -183,19 +251,46 @@ impl Searcher<'_> {
         ensures wide { let game = game_of self.now.game.now in let e = expression_at game index in result ≡ Err MoveFault.TooWide
             → IsWideFrom game e 0 (at_vertex state.now vertex) }
     {
-        if let Some(holds) = self.leap(spare, index, state, vertex)? {
+        if let Some(holds) = self.leap(room, index, state, vertex)? {
             return Ok(holds);
         }
         if self.tables[index].looks
-            && let Some(legal) = self.look(spare, index, state, vertex)?
+            && let Some(legal) = self.look(room, index, state, vertex)?
         {
             return Ok(legal);
         }
+        self.is_legal_by_search(room, index, state, vertex)
+    }
+
+    /// Whether a pattern has a word, by a whole search: a function of its own, since a call pays for all the room that its function may need.
+    #[cycle(search)]
+    #[inline(never)]
+    fn is_legal_by_search(
+        &self,
+        room: &mut Room,
+        index: usize,
+        state: &SemiState,
+        vertex: u8,
+    ) -> Result<bool, MoveFault>
+        requires ready { IsReady (game_of self.now.game.now) self.now.tables.now index }
+        requires same { AreSame (inner_of (game_of self.now.game.now).rules) self.now.same.now }
+        requires jumps { AreJumps (game_of self.now.game.now) self.now.tables.now self.now.jumps.now }
+        requires state { IsStateOf (game_of self.now.game.now) (at_vertex state.now vertex) }
+        requires lacks { LacksSwitch (expression_at (game_of self.now.game.now) index) }
+        ensures answer { let game = game_of self.now.game.now in let e = expression_at game index in IfOk result
+            (λ b. MatchBool b (IsLegal game e (at_vertex state.now vertex)) (¬ IsLegal game e (at_vertex state.now vertex))) }
+        ensures narrow { let game = game_of self.now.game.now in let e = expression_at game index in IsOk result
+            → ¬ IsWideFrom game e 0 (at_vertex state.now vertex) }
+        ensures wide { let game = game_of self.now.game.now in let e = expression_at game index in result ≡ Err MoveFault.TooWide
+            → IsWideFrom game e 0 (at_vertex state.now vertex) }
+    {
         let mut state = copied_state(state);
         state.vertex = vertex;
-        let found = self.search(spare, index, 0, state)?;
+        let found = self.search(room, index, 0, &state)?;
         let ends = &self.tables[index].ends;
-        Ok(ends.nullable || any_stands_last(&found.stands, &ends.last))
+        let legal = ends.nullable || any_stands_last(&found.stands, &ends.last);
+        room.keep(found);
+        Ok(legal)
     }
 
     /// Whether some word of a pattern that only looks is legal from here; none if the search meets an action that writes. Where it cannot be
@@ -203,7 +298,7 @@ impl Searcher<'_> {
     #[cycle(search)]
     fn look(
         &self,
-        spare: &mut Vec<Looks>,
+        room: &mut Room,
         index: usize,
         state: &SemiState,
         vertex: u8,
@@ -222,21 +317,27 @@ impl Searcher<'_> {
     {
         let table = &self.tables[index];
         let numbers = table.steps.len() + 1;
-        let mut looks = Looks::begun(self.alloc, spare, self.game.vertices.len(), numbers, vertex)?;
+        let mut looks = Looks::begun(
+            self.alloc,
+            &mut room.looks,
+            self.game.vertices.len(),
+            numbers,
+            vertex,
+        )?;
         let mut at = 0;
         while at < looks.looks.len() {
             let Look { place, .. } = looks.looks[at];
             if table.is_enough(place) {
-                keep(spare, looks);
+                keep(&mut room.looks, looks);
                 return Ok(Some(true));
             }
-            if !self.look_on(spare, index, state, &mut looks, at)? {
+            if !self.look_on(room, index, state, &mut looks, at)? {
                 return Ok(None);
             }
             at += 1;
         }
         let legal = table.ends.nullable || any_looks_last(&looks.looks, &table.lasts);
-        keep(spare, looks);
+        keep(&mut room.looks, looks);
         Ok(Some(legal))
     }
 
@@ -244,7 +345,7 @@ impl Searcher<'_> {
     #[cycle(search)]
     fn look_on(
         &self,
-        spare: &mut Vec<Looks>,
+        room: &mut Room,
         index: usize,
         state: &SemiState,
         looks: &mut Looks,
@@ -274,7 +375,7 @@ impl Searcher<'_> {
         let mut known = None;
         for number in followers {
             let place = *number;
-            match self.glance_at(spare, index, state, vertex, place, &mut known)? {
+            match self.glance_at(room, index, state, vertex, place, &mut known)? {
                 Glance::Fails => {}
                 Glance::At(vertex) => looks.add(Look {
                     vertex,
@@ -292,7 +393,7 @@ impl Searcher<'_> {
     #[inline(always)]
     fn glance_at(
         &self,
-        spare: &mut Vec<Looks>,
+        room: &mut Room,
         index: usize,
         state: &SemiState,
         vertex: u8,
@@ -317,7 +418,7 @@ impl Searcher<'_> {
         match self.tables[index].step(number) {
             Step::Act(action) => Ok(at_a_glance(self.game, action, state, vertex)),
             Step::Ask(positive, inner) => {
-                let holds = self.holds(spare, *inner, state, vertex, known)?;
+                let holds = self.holds(room, *inner, state, vertex, known)?;
                 Ok(if holds == *positive {
                     Glance::At(vertex)
                 } else {
@@ -331,7 +432,7 @@ impl Searcher<'_> {
     #[cycle(search)]
     fn holds(
         &self,
-        spare: &mut Vec<Looks>,
+        room: &mut Room,
         index: usize,
         state: &SemiState,
         vertex: u8,
@@ -358,7 +459,7 @@ impl Searcher<'_> {
         {
             return Ok(answer.holds);
         }
-        let holds = self.is_legal(spare, index, state, vertex)?;
+        let holds = self.is_legal(room, index, state, vertex)?;
         *known = Some(Answer { pattern, holds });
         Ok(holds)
     }

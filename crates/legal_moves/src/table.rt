@@ -94,7 +94,7 @@ pub struct Ends {
 }
 
 impl Ends {
-    /// Those of no word, or of the empty one alone.
+    /// The ends of no word, or of the empty one alone.
     pub fn none(alloc: Global, nullable: bool) -> Ends
         ensures nullable { result.nullable ≡ nullable }
         ensures first { result.first.items ≡ [] }
@@ -107,7 +107,7 @@ impl Ends {
         }
     }
 
-    /// Those of the word with this one number.
+    /// The ends of the word with this one number.
     pub fn one(alloc: Global, number: usize) -> Result<Ends, AllocError>
         ensures nullable { IfOk result (λ ends. ends.nullable ≡ false) }
         ensures first { IfOk result (λ ends. ends.first.items ≡ number ∷ []) }
@@ -119,7 +119,7 @@ impl Ends {
         Ok(ends)
     }
 
-    /// Those of words with words of the next after.
+    /// The ends of words of this set, each followed by one of the next.
     pub fn then(self, next: Ends) -> Result<Ends, AllocError>
         ensures nullable { IfOk result (λ ends. ends.nullable ≡ self.nullable && next.nullable) }
         ensures first { IfOk result (λ ends. ends.first.items ≡
@@ -152,7 +152,7 @@ impl Ends {
         })
     }
 
-    /// Those of words of either.
+    /// The ends of words of either set.
     pub fn or(self, next: &Ends) -> Result<Ends, AllocError>
         ensures nullable { IfOk result (λ ends. ends.nullable ≡ self.nullable || next.now.nullable) }
         ensures first { IfOk result (λ ends. ends.first.items ≡ self.first.items ++ next.now.first.items) }
@@ -184,7 +184,7 @@ pub struct Table {
     pub lasts: Vec<bool>,
     /// Whether all steps only look, as far as was seen: a search that only looks is tried first then.
     pub looks: bool,
-    /// Whether no search of it is too wide, as far as was seen: one that only has to tell whether a word is legal may end at the first yes then.
+    /// No search of it can be too wide, so that one which only has to tell yes or no may stop at the first yes. It may be false needlessly.
     pub narrow: bool,
     /// For each step that is a set of pieces the bits of those below 64.
     pub sets: Vec<Option<u64>>,

@@ -8,17 +8,19 @@ ghost use Rattle.legal_moves.specs.aid.Going.{state_at, IsTried, IsFull};
 ghost use Rattle.legal_moves.specs.aid.Looking.{IsNoPattern};
 ghost use Rattle.legal_moves.specs.aid.Standing.{configurations_of, AreKept};
 
-use crate::copies::copied_state;
 use crate::effect::act;
 use crate::fault::MoveFault;
 use crate::found::{Found, Stand};
+use crate::room::Room;
 use crate::search::Searcher;
 use crate::table::Step;
+use rbg_game::rules::Action;
 
 impl Searcher<'_> {
-    /// Adds what the occurrence with the number, which is no pattern, leads to from the configuration at the index, on a copy of the semi-state.
+    /// Adds what the occurrence with the number, which is no pattern, leads to from the configuration at the index.
     pub fn write(
         &self,
+        room: &mut Room,
         index: usize,
         found: &mut Found,
         at: usize,
@@ -37,22 +39,38 @@ impl Searcher<'_> {
         ensures wide { let game = game_of self.now.game.now in let e = expression_at game index in result ≡ Err MoveFault.TooWide
             → IsFull game e number at (configurations_of found.old) }
     {
-        let Stand { board, vertex, .. } = found.stands[at];
-        let mut state = copied_state(&found.boards[board]);
-        state.vertex = vertex;
+        let Stand {
+            board,
+            mover,
+            vertex,
+            ..
+        } = found.stands[at];
         let step = self.tables[index].step(number);
-        let valid = match step {
-            Step::Act(action) => act(self.game, action, &mut state),
+        let action = match step {
+            Step::Act(action) => action,
             Step::Ask(_, _) => unreachable!(),
         };
-        if !valid {
+        if let Action::Switch(role) = action {
+            return found.add(Stand {
+                board,
+                mover: *role,
+                vertex,
+                place: number,
+                parent: at,
+                shows: step.is_modifier(),
+                ends: step.is_switch(),
+            });
+        }
+        let there = &mut room.state;
+        found.boards.put(board, mover, vertex, there);
+        if !act(self.game, action, there) {
             return Ok(());
         }
-        let vertex = state.vertex;
-        let board = found.number_of(state)?;
+        let board = found.number_of(there)?;
         found.add(Stand {
             board,
-            vertex,
+            mover: there.mover,
+            vertex: there.vertex,
             place: number,
             parent: at,
             shows: step.is_modifier(),

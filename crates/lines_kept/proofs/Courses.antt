@@ -3,7 +3,7 @@ use Rattle.std.proofs.Common.{◌≡◌, ◌≤◌, ◌<◌, inl, inr, ◌⊎◌
 use Rattle.std.proofs.Common.{subst, append-nil, arith}
 use Rattle.std.proofs.lemmas.Bool.{cases_lt}
 use Rattle.std.proofs.lemmas.List.{map-append}
-use Rattle.sector_disk.specs.Disk.{Disk, GoesOn, Shown}
+use Rattle.sector_disk.specs.Disk.{Disk, GoesOn, Shown, at_moment}
 use Rattle.sector_disk.specs.aid.Moments.{goes_on_trans}
 use Rattle.game_file.specs.Kept.{Layout}
 use Rattle.game_file.specs.State.{State}
@@ -15,9 +15,8 @@ use Rattle.solver.specs.declared.listing.Listing.{Listing}
 use Rattle.solver.specs.declared.replies.Reply.{Reply}
 use Rattle.session_lines.specs.declared.input.Asked.{Asked}
 use Rattle.session_lines.specs.declared.input.Asked.TheVariants as asked
-use Rattle.session_lines.specs.declared.looked.Looked.{Looked}
-use Rattle.session_lines.specs.declared.looked.Looked.TheVariants as looked
-use Rattle.session_lines.specs.Looks.{IsLookedAt}
+use Rattle.session_lines.specs.Answered.{IsReplied}
+use Rattle.session_lines.specs.Asked.{in_look}
 use Rattle.session.specs.Seen.{Moment, Seen}
 use Rattle.session.specs.Sessions.{SessionState, first_state, IsLineAnswered, AnswersIn, AnswersLines, EndsWithin, IsSession, IsSessionOver, AsItIs, WithEnd}
 use Rattle.session.specs.declared.line_by_line.Lines.{Lines}
@@ -40,6 +39,8 @@ module _ {F Version : Type 0} (Stores : ℕ → Layout) (state : F → State) (I
   step_in moment same (IsLineAnswered.plain (asked.Listing line) needs is lasts kept) = nothing is.0
   step_in moment same (IsLineAnswered.plain asked.Help needs is lasts kept) = nothing is.0
   step_in moment same (IsLineAnswered.plain asked.Status needs is lasts kept) = nothing is.0
+  step_in moment same (IsLineAnswered.plain asked.Pages needs is lasts kept) = nothing is.0
+  step_in moment same (IsLineAnswered.plain asked.Game needs is lasts kept) = nothing is.0
   step_in moment same (IsLineAnswered.plain (asked.Work units) needs is lasts kept) =
       commanded (Command.work (units_in units)) is.reply moment is.turn.turn same
   step_in moment same (IsLineAnswered.plain (asked.Question about) needs is lasts kept) = questioned is.0
@@ -54,37 +55,41 @@ module _ {F Version : Type 0} (Stores : ℕ → Layout) (state : F → State) (I
   told_in moment low (IsLineAnswered.plain (asked.Listing line) needs is lasts kept) = tt
   told_in moment low (IsLineAnswered.plain asked.Help needs is lasts kept) = tt
   told_in moment low (IsLineAnswered.plain asked.Status needs is lasts kept) = tt
+  told_in moment low (IsLineAnswered.plain asked.Pages needs is lasts kept) = tt
+  told_in moment low (IsLineAnswered.plain asked.Game needs is lasts kept) = tt
   told_in moment low (IsLineAnswered.plain (asked.Work units) needs is lasts kept) =
       (low_is_told (Command.work (units_in units)) is.reply (subst (λ n. n ≤ 1) is.status_is low), tt)
   told_in moment low (IsLineAnswered.plain (asked.Question about) needs is lasts kept) = tt
 
-  look_is : (about : Looked) (old new : F) → IsLookedAt Stores about (state old) (state new) → Step Stores (state old) [] (state new)
-  look_is looked.Nothing old new is = nothing is
-  look_is looked.Status old new is = nothing is
-  look_is (looked.Question about) old new is = questioned is
-  look_is (looked.Moves number) old new is = questioned is
-  look_is (looked.ValueOf position) old new is = questioned is
-  look_is looked.Game old new is = nothing is
-  look_is looked.Help old new is = nothing is
-  look_is looked.Quit old new is = nothing is
-  look_is looked.Usage old new is = nothing is
+  look_is : (about : Asked) (old new : F) (status : ℕ) (text : List ℕ) → IsReplied Stores (in_look about) (state old) (state new) status text
+      → Step Stores (state old) [] (state new)
+  look_is asked.Nothing old new status text is = nothing is.0
+  look_is asked.Quit old new status text is = nothing is.0
+  look_is asked.Usage old new status text is = nothing is.0
+  look_is (asked.Listing line) old new status text is = nothing is.0
+  look_is asked.Help old new status text is = nothing is.0
+  look_is asked.Status old new status text is = nothing is.0
+  look_is asked.Pages old new status text is = nothing is.0
+  look_is asked.Game old new status text is = nothing is.0
+  look_is (asked.Work units) old new status text is = nothing is.0
+  look_is (asked.Question about) old new status text is = questioned is.0
 
   step_of : (Says : List ℕ → List ℕ → Type 0) (bytes : List ℕ) (old new : F) (before after : Option (List (Listing Version))) (status : ℕ) (text : List ℕ)
       (moment : Moment) → moment.disk ≡ (state new).disk
       → (is : AnswersIn Stores state IsVersion AreTwo IsUsedUp Lasts Says bytes old new before after status text)
       → Step Stores (state old) (command_of Stores state IsVersion AreTwo IsUsedUp Lasts Says bytes old new before after status text moment is) (state new)
   step_of Says bytes old new (Some before) (Some after) status text moment same (line, says, about, asks, is) = step_in moment same is
-  step_of Says bytes old new None None status text moment same (line, says, about, looks, is) = look_is about old new is.at
-  step_of Says bytes old new (Some before) None status text moment same bad = absurd bad
-  step_of Says bytes old new None (Some after) status text moment same bad = absurd bad
+  step_of Says bytes old new None None status text moment same (line, says, about, asks, is) = look_is about old new status text is.replied
+  step_of Says bytes old new (Some before) None status text moment same (line, says, about, asks, bad) = absurd bad
+  step_of Says bytes old new None (Some after) status text moment same (line, says, about, asks, bad) = absurd bad
 
   told_of : (Says : List ℕ → List ℕ → Type 0) (bytes : List ℕ) (old new : F) (before after : Option (List (Listing Version))) (status : ℕ) (text : List ℕ)
       (moment : Moment) → status ≤ 1 → (is : AnswersIn Stores state IsVersion AreTwo IsUsedUp Lasts Says bytes old new before after status text)
       → AreTold (command_of Stores state IsVersion AreTwo IsUsedUp Lasts Says bytes old new before after status text moment is)
   told_of Says bytes old new (Some before) (Some after) status text moment low (line, says, about, asks, is) = told_in moment low is
   told_of Says bytes old new None None status text moment low is = tt
-  told_of Says bytes old new (Some before) None status text moment low bad = absurd bad
-  told_of Says bytes old new None (Some after) status text moment low bad = absurd bad
+  told_of Says bytes old new (Some before) None status text moment low (line, says, about, asks, bad) = absurd bad
+  told_of Says bytes old new None (Some after) status text moment low (line, says, about, asks, bad) = absurd bad
 
   walk_of : {begins : SessionState F Version} {before : Option (List ℕ)} {now : SessionState F Version} {each : List (List ℕ)} {text : List ℕ}
       {moments : List Moment} → (answers : AnswersLines Stores state IsVersion AreTwo IsUsedUp Lasts begins before each text moments now)
@@ -194,10 +199,17 @@ module _ {F Version : Type 0} (Stores : ℕ → Layout) (state : F → State) (I
         sittings ++ sitting ∷ [],
         one_more told [] sittings sitting same refl,
         was_reopened history found opened
-            (record { begins = refl; last = was; reached = refl; used = no_call; is_open = opened.is_open; ends = in_a_growth growth stop from to }),
+            (record {
+              begins = refl;
+              last = was;
+              reached = refl;
+              used = no_call;
+              is_open = opened.is_open;
+              ends = in_a_growth growth (at_moment stop from to);
+            }),
       )
   history_of (Uses.nothing before found leaves stop from to) =
-      let (sittings, same, history) = history_of before in (sittings, same, was_not_opened history found leaves stop from to)
+      let (sittings, same, history) = history_of before in (sittings, same, was_not_opened history found leaves (at_moment stop from to))
 
   -- a session that is over was a use of the file, up to each moment of it
   pub a_session_is_a_use : (which : Lines) (disk back : Disk) (count now : ℕ) (bytes : List ℕ) (left : Option (List ℕ)) (before after : Seen) (status : ℕ)

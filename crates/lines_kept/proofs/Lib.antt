@@ -1,2 +1,3 @@
 mod Walks
 mod Courses
+mod OnFiles

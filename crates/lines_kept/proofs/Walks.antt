@@ -4,7 +4,7 @@ use Rattle.std.proofs.Common.{subst, append_assoc, append-nil, arith}
 use Rattle.std.proofs.lemmas.Bool.{cases_lt, le-leb, lt-leb}
 use Rattle.std.proofs.lemmas.List.{map-append}
 use Rattle.std.specs.Prelude.{nat_le, if◌then◌else◌}
-use Rattle.sector_disk.specs.Disk.{Disk, GoesOn, Shown}
+use Rattle.sector_disk.specs.Disk.{Disk, GoesOn, Shown, StopsIn, at_moment}
 use Rattle.sector_disk.specs.aid.Moments.{goes_on_refl, goes_on_trans}
 use Rattle.game_file.specs.Calls.{IsAsked}
 use Rattle.game_file.specs.Kept.{Layout}
@@ -198,21 +198,17 @@ module _ (Stores : ℕ → Layout) where
       reached = refl;
       used = walk_used walk;
       is_open = walk_open walk open_;
-      ends = subst (Ends Stores is None) (sym (ap is.disk.was e ∙ is.disk.was_now)) by_closing;
+      ends = by_closing (at_moment clock (omega (arith, e)) (omega (arith, e)));
     },
     sym (walk_told walk clock (omega (arith, e))),
   )
 
   step_ends : {old new : State} {last : List Answer} → Step old last new → (clock : ℕ) → old.disk.clock ≤ clock → clock ≤ new.disk.clock
       → (doubt : Option Command) × Ends Stores old doubt (new.disk.was clock)
-  step_ends (commanded command said moment turn same) clock from to = (Some command, in_a_command turn clock from to)
-  step_ends (questioned asked) clock from to = (None, in_a_question asked clock from to)
+  step_ends (commanded command said moment turn same) clock from to = (Some command, in_a_command turn (at_moment clock from to))
+  step_ends (questioned asked) clock from to = (None, in_a_question asked (at_moment clock from to))
   step_ends {old} {new} (nothing same) clock from to =
-      let e : clock ≡ old.disk.clock = omega (arith, from, to, ap (λ (s : State). s.disk.clock) same) in (
-        None,
-        subst (λ (s : State). Ends Stores old None (s.disk.was clock)) (sym same)
-            (subst (Ends Stores old None) (sym (ap old.disk.was e ∙ old.disk.was_now)) by_closing),
-      )
+      (None, by_closing (subst (λ (s : State). StopsIn old.disk s.disk clock (new.disk.was clock)) same (at_moment clock from to)))
 
   -- within the last step, of which nothing is told yet
   in_step : {was old new : State} {answers last : List Answer} → Walk was answers old → was.closed ≡ false → Step old last new → (clock : ℕ)

@@ -4,7 +4,7 @@ use Rattle.sector_disk.specs.Disk.{Disk}
 use Rattle.game_file.specs.Kept.{Layout}
 use Rattle.game_file.specs.State.{State}
 use Rattle.retrograde.specs.Stored.{Stored}
-use Rattle.solver.specs.Machine.{Command, work}
+use Rattle.solver.specs.Machine.{Command, load, work}
 use Rattle.solver.specs.Units.{units_in}
 use Rattle.solver.specs.declared.fault.SolverFault.TheVariants.{Disk as DiskFailed}
 use Rattle.solver.specs.declared.listing.Listing.{Listing}
@@ -12,9 +12,13 @@ use Rattle.solver.specs.declared.replies.Reply.{Reply}
 use Rattle.solver.specs.declared.replies.Reply.TheVariants.{Refused}
 use Rattle.session_lines.specs.declared.input.Asked.{Asked}
 use Rattle.session_lines.specs.declared.input.Asked.TheVariants as asked
+use Rattle.rbg_game.specs.Goals.{points_of}
+use Rattle.session.specs.Commands.{Came, replied}
 use Rattle.session.specs.Seen.{Moment, Seen}
 use Rattle.session.specs.Sessions.{SessionState, IsLineAnswered, AnswersIn, AnswersLines, EndsWithin, IsSession}
 use Rattle.session.specs.Sessions.{IsSessionOver, AsItIs, WithEnd}
+use Rattle.session.specs.declared.commands.FileCommand.{FileCommand}
+use Rattle.session.specs.declared.commands.FileCommand.TheVariants as file
 use Rattle.session.specs.declared.line_by_line.Lines.{Lines}
 
 -- a command that was answered with this reply, which began at this moment
@@ -33,6 +37,12 @@ abbrev pub told_by : ℕ → List Answer → List (Command × Reply)
 told_by clock [] = []
 told_by clock (answer ∷ others) =
     (if nat_le answer.moment.disk.clock clock then told answer.command answer.reply else []) ++ told_by clock others
+
+-- what a command on a file answered: a load has a reply, and any other tells of no unit and of no game
+abbrev pub command_done : FileCommand → Came → Moment → List Answer
+command_done (file.Load text goal) (replied reply) moment =
+    record { command = load text.items (points_of goal); reply = reply; moment = moment } ∷ []
+command_done _ _ moment = []
 
 module _ {F Version : Type 0} (Stores : ℕ → Layout) (state : F → State)
     (IsVersion : Version → Stored (List ℕ) → F → Type 0) (AreTwo : Version → Version → Type 0) (IsUsedUp : F → Type 0)

@@ -1,13 +1,16 @@
 //! What holds of a file that sessions of lines have used, whatever stops came.
-ghost use Rattle.std.specs.Prelude.{◌≡◌, ◌⊎◌, ℕ, ◌≤◌, List, [], ◌∷◌, ◌++◌, Option};
+ghost use Rattle.std.specs.Prelude.{◌≡◌, ◌≢◌, ◌⊎◌, IsTrue, ℕ, ◌≤◌, List, [], ◌∷◌, ◌++◌, Option};
 ghost use Rattle.sector_disk.specs.Disk.{Disk, Picture, Shown, MayLeave};
 ghost use Rattle.solver.specs.Histories.{IsFound};
 ghost use Rattle.solver.specs.Machine.{Command};
 ghost use Rattle.solver.specs.declared.replies.Reply.{Reply};
-ghost use Rattle.session.specs.Seen.{Seen};
+ghost use Rattle.session.specs.Commands.{Came, IsDoneOnFile, made};
+ghost use Rattle.session.specs.Seen.{Moment, Seen};
+ghost use Rattle.session.specs.declared.commands.FileCommand.{FileCommand};
+ghost use Rattle.session.specs.declared.commands.FileCommand.TheVariants.{Create};
 ghost use Rattle.session.specs.Sessions.{IsSessionOver};
 ghost use Rattle.session.specs.declared.line_by_line.Lines.{Lines};
-ghost use Rattle.lines_kept.specs.Told.{commands_over, told_by};
+ghost use Rattle.lines_kept.specs.Told.{command_done, commands_over, told_by};
 ghost use Rattle.lines_kept.specs.Uses.{HeadlineHolds, Uses};
 
 use file_disk::FileDisk;
@@ -27,7 +30,7 @@ pub fn what_lines_told_is_kept<F: Versions>()
     the_headline::<F>()
 }
 
-/// The same of the files that this program makes.
+/// What lines told is kept, for the files that this program makes.
 pub fn what_our_lines_told_is_kept()
     ensures { (told : List (List (Command × Reply))) (left : Shown) (picture : Picture)
         → Uses ⟦<TableFile<FileDisk> as GameFile>⟧.stores ⟦<TableFile<FileDisk> as GameFile>⟧.state
@@ -48,5 +51,19 @@ pub fn a_session_is_a_use<F: Versions>()
         before after status back now) → disk.clock ≤ stop → stop ≤ back.clock → (more : List (List (Command × Reply)))
         × ((more ≡ []) ⊎ (more ≡ told_by stop
         (commands_over F.stores F.state F.is_version F.are_two F.is_used_up F.lasts over) ∷ []))
+        × Uses F.stores F.state F.is_version F.are_two F.is_used_up F.lasts (told ++ more) (back.was stop) }
+{}
+
+/// A command on the file, as `command_on` promises it, was such a use too, up to each moment of its disk; its line began at
+/// this moment, with the disk as it gave it back. `create` begins: of a table that is there it answers E3, and leaves it.
+pub fn a_command_is_a_use<F: Versions>()
+    ensures made { (disk back : Disk) (count now : ℕ) → IsTrue disk.honest → IsDoneOnFile F.stores Create disk count made back now
+        → Uses F.stores F.state F.is_version F.are_two F.is_used_up F.lasts [] back.now }
+    ensures goes_on { (command : FileCommand) (disk back : Disk) (count now : ℕ) (came : Came) (moment : Moment)
+        (told : List (List (Command × Reply))) (shown : Shown) (stop : ℕ) → command ≢ Create
+        → Uses F.stores F.state F.is_version F.are_two F.is_used_up F.lasts told shown → IsFound F.stores shown disk
+        → IsDoneOnFile F.stores command disk count came back now → moment.disk ≡ back → disk.clock ≤ stop → stop ≤ back.clock
+        → (more : List (List (Command × Reply)))
+        × ((more ≡ []) ⊎ (more ≡ told_by stop (command_done command came moment) ∷ []))
         × Uses F.stores F.state F.is_version F.are_two F.is_used_up F.lasts (told ++ more) (back.was stop) }
 {}

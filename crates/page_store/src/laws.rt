@@ -77,7 +77,7 @@ pub fn grown_calm()
         → IsCalm new }
 {}
 
-/// A hold that is taken needs the pages of the committed root, so that what they spell stands until it is let go.
+/// A hold pins the pages of the committed root: what they encode stands until it is released.
 pub fn hold_stands<S: Spelling>()
     ensures { (place : HoldPlace) (old new : Store) → ((p : ℕ) → mark old.marks p ≡ Waiting → ⊥) → IsHoldTaken place old new
         → Stands S.named S.spelt old → StandsHeld place S.named S.spelt new }
@@ -107,7 +107,7 @@ pub fn grow_stands_held<S: Spelling>()
         → StandsHeld place S.named S.spelt old → StandsHeld place S.named S.spelt new }
 {}
 
-/// Another hold is let go: what a hold needs stands.
+/// Releasing one hold leaves what another one pins.
 pub fn let_go_stands_held<S: Spelling>()
     ensures { (place other : HoldPlace) (old new : Store) → place ≢ other → IsLetGo place old new
         → StandsHeld other S.named S.spelt old → StandsHeld other S.named S.spelt new }

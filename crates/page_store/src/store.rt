@@ -70,7 +70,7 @@ impl<D: SectorDisk> PageStore<D> {
         PageStore::open_with_cache(alloc, disk, MOST_CACHED)
     }
 
-    /// The same with a cache of this many pages, 0 for none.
+    /// Opens the store on a disk with a cache of this many pages, 0 for none.
     pub fn open_with_cache(alloc: Global, disk: D, pages: usize) -> Result<Self, Refused<D>>
         requires { pages ≤ 64 }
         ensures ok { IfOk result (λ store. IsOpened (D.disk disk) (D.failures disk) (store_in store)) }

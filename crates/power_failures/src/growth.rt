@@ -10,7 +10,7 @@ const SECTORS: u64 = 128;
 /// The page that the first root names.
 const FIRST: u32 = 1;
 
-/// What a root of this store says: this many pages, and the one that it names, with this byte all over.
+/// A root of this store: how many pages it tells, its one page, and the byte that fills that page.
 #[derive(Clone, Copy, PartialEq, Eq, Debug)]
 pub struct Said {
     pub pages: u8,

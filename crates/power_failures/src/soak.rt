@@ -3,11 +3,10 @@ ghost use Rattle.std.specs.Prelude.{◌≤◌};
 
 use crate::standing::is_right_in;
 use crate::watched::WatchedDisk;
-use earlier_layouts::FlatTable;
 use game_file::GameFile;
 use rand::{Rng, RngExt};
 use rand_pcg::Pcg32;
-use recover::TableFile;
+use recover::{SecondFile, TableFile};
 use sector_disk::{FuseDisk, MemDisk};
 use solver::{FileSolver, SolverFault, Units};
 use std::alloc::Global;
@@ -24,8 +23,8 @@ const COMMANDS: u32 = 24;
 /// This many of the last disk calls of an order are stopped at as often as all others.
 const LAST_CALLS: u64 = 8;
 
-/// The file of a table that is never stopped, of the earlier layout.
-type Model = FlatTable<MemDisk>;
+/// The file of a table that is never stopped, of the layout before today's.
+type Model = SecondFile<MemDisk>;
 
 /// What was done.
 #[derive(Clone, Copy, Default)]
@@ -107,7 +106,7 @@ fn round_of(
     round_beside::<Model>(alloc, random, disk, spare, text, tally)
 }
 
-/// The same, of the empty table on this disk, with a model on the other. What holds a solver has the type of its file as a parameter,
+/// A round on the empty table on this disk, with a model on the other. What holds a solver has the type of its file as a parameter,
 /// so that no proof looks into the file.
 fn round_beside<M: GameFile>(
     alloc: Global,

@@ -18,7 +18,7 @@ pub enum Standing {
     Empty,
     /// The game of takes as it is loaded.
     Loaded,
-    /// The same, seven units of it worked.
+    /// The game of takes, loaded, with seven units worked.
     Worked,
     /// The game of takes as it is loaded, in a table of 64 pages; the others have 16.
     Grown,
@@ -34,7 +34,7 @@ const LOADED: Counts = Counts {
     processed: 0,
 };
 
-/// The same, seven units of it worked.
+/// The counts once seven units are worked.
 const WORKED: Counts = Counts {
     known: 7,
     expanded: 7,

@@ -2,3 +2,5 @@ mod Reading
 mod Refusing
 mod Migrating
 pub mod Calls
+mod FirstLayout
+mod SecondLayout

@@ -1,6 +1,6 @@
 -- How the steps of a migration make one.
-use Rattle.std.proofs.Common.{◌≡◌, ◌≢◌, inl, inr, ℕ, Option, IsTrue, sym, ◌∙◌, ap, subst}
-use Rattle.sector_disk.specs.Disk.{Picture, Disk, sector}
+use Rattle.std.proofs.Common.{◌≡◌, ◌≢◌, ◌≤◌, inl, inr, ℕ, Option, IsTrue, sym, ◌∙◌, ap, subst}
+use Rattle.sector_disk.specs.Disk.{Picture, Disk, Steps, SyncedMore, sector}
 use Rattle.sector_disk.specs.aid.Moments.{leaves_more, leaves_then, still_honest}
 use Rattle.page_store.specs.aid.Works.{grew_since}
 use Rattle.game_file.specs.Calls.{IsNotOpened}
@@ -12,8 +12,9 @@ use Rattle.solver.specs.Faults.{file_fault}
 use Rattle.solver.specs.Held.{Holds}
 use Rattle.solver.specs.Opening.{IsOpened}
 use Rattle.recover.specs.Migrating.{IsMigrated, IsCurrent, IsNotMigrated}
-use Rattle.recover.specs.aid.Steps.{IsMovedFrom, IsNotMovedFrom, IsReadSince, IsUnmoved, IsUnopened}
-use Rattle.recover.proofs.Reading.{from_then, read_on}
+use Rattle.recover.specs.Moving.{IsMovedFrom, IsNotMovedFrom, IsUnmoved, IsUnopened}
+use Rattle.recover.specs.aid.Steps.{IsReadSince}
+use Rattle.recover.proofs.Reading.{from_then, read_on, sync_from, sync_leaves}
 use Rattle.recover.proofs.Refusing.{unmoved_not_older}
 
 -- a picture of the same contents has the same header
@@ -48,6 +49,19 @@ still_there Earlier Today first disk back count now later said read left =
       leaves = λ honest other. leaves_more (λ picture may. inl may) (seen.leaves honest);
       unwritten = λ honest spared. leaves_more (λ picture may. inl may) (seen.leaves honest);
       either = λ honest. leaves_more (λ picture may. inl (inl may)) (seen.leaves honest);
+    }
+
+-- the disk cannot be synced
+pub not_synced : (Earlier Today : ℕ → Layout) (first back : Disk) (count later : ℕ) (said : SolverFault) → Steps first back → count ≤ later
+    → (IsTrue first.honest → SyncedMore first.now back.now) → IsNotMigrated Earlier Today first count back later said
+not_synced Earlier Today first back count later said steps le same =
+    let leaves = sync_leaves first back count later steps le same in
+    record {
+      from = sync_from first back count later steps le same;
+      header = λ honest. header_of (same honest).contents;
+      leaves = λ honest other. leaves_more (λ picture may. inl may) (leaves honest);
+      unwritten = λ honest spared. leaves_more (λ picture may. inl may) (leaves honest);
+      either = λ honest. leaves_more (λ picture may. inl (inl may)) (leaves honest);
     }
 
 module _ (From Earlier Today : ℕ → Layout) (side : (pages : ℕ) (picture : Picture) (kept : Option Kept) → From pages picture kept → Earlier pages picture kept)

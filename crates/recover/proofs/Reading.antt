@@ -56,8 +56,7 @@ module _ (first disk back : Disk) (count now later : ℕ) (read : IsReadSince fi
   left_is : IsTrue first.honest → (picture : Picture) → MayLeave back.now picture → picture ≡ disk.now.contents
   left_is honest picture left =
       read.synced honest picture
-      ((leaves (still_honest read.from.goes_on honest)).each back.clock picture from.goes_on.later (omega arith)
-      (subst (λ (shown : Shown). MayLeave shown picture) (sym back.was_now) left))
+      ((leaves (still_honest read.from.goes_on honest)).present picture left)
 
   same : IsTrue first.honest → back.now.contents ≡ disk.now.contents
   same honest = left_is honest back.now.contents (reads_left back)

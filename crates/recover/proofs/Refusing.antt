@@ -9,7 +9,6 @@ use Rattle.game_file.specs.Kept.{Kept, Layout, Older, in_any}
 use Rattle.game_file.specs.State.{State}
 use Rattle.game_file.specs.declared.fault.FileFault.{FileFault}
 use Rattle.game_file.specs.declared.fault.FileFault.TheVariants as file
-use Rattle.earlier_layouts.specs.Moving.{MoveOnCause}
 use Rattle.solver.specs.declared.fault.SolverFault.{SolverFault}
 use Rattle.solver.specs.declared.fault.SolverFault.TheVariants.{Disk as DiskFailed, NotATable, AlreadyATable, Damaged, OldLayout, TooSmall, TableFull}
 use Rattle.solver.specs.declared.fault.SolverFault.TheVariants.{OutOfMemory, Closed, Game, NoGame, GameAlready, KeeperChooses, TooWide}
@@ -18,7 +17,8 @@ use Rattle.solver.specs.Faults.{file_fault}
 use Rattle.solver.specs.Held.{Holds}
 use Rattle.solver.specs.Opening.{IsOpened, OpenCause, LayoutCause}
 use Rattle.recover.specs.Migrating.{AreLayouts, MigrateCause}
-use Rattle.recover.specs.aid.Steps.{IsNotMovedFrom, IsReadSince, IsUnmoved}
+use Rattle.recover.specs.Moving.{IsNotMovedFrom, IsUnmoved, MoveOnCause}
+use Rattle.recover.specs.aid.Steps.{IsReadSince}
 use Rattle.recover.proofs.Reading.{read_on}
 
 -- what is there of an option that is some

@@ -3,7 +3,7 @@
 -- by the relations of one record, `Calls`, which are not said here; `AreLawful` says what holds of them, and the headline
 -- in brief of each history of such calls.
 use Rattle.std.specs.Prelude.{◌≡◌, ◌⊎◌, ℕ, ◌+◌, ◌≤◌, ◌<◌, List, [], ◌∷◌, ◌++◌, length, Contains, Option, None, Some, IsTrue, Result, Ok, Err, IfErr, IsErrOf}
-use Rattle.sector_disk.specs.Disk.{Picture, Shown, Disk, GoesOn, MayLeave, Grew}
+use Rattle.sector_disk.specs.Disk.{Picture, Shown, Disk, GoesOn, MayLeave, StopsIn, Grew}
 use Rattle.rbg_text.specs.Token.{Text}
 use Rattle.rbg_game.specs.declared.position.Position.{Position}
 use Rattle.rbg_game.specs.declared.roles.Player.{Player}
@@ -208,20 +208,18 @@ module _ {S : Type 0} (calls : Calls S) where
         → AreCalls later told was is
         → AreCalls later (one ∷ told) was is
 
-  -- how a sitting ends, with the command in doubt and what the disk shows then: between two calls; or by a stop at some moment of a call that is
-  -- no command, of a command, or since the beginning of a call in which a write or a sync failed
+  -- how a sitting ends, with the command in doubt and what the disk shows then: between two calls; or by a stop at some
+  -- moment of a call that is no command, of a command, or of a call in which a write or a sync failed
   pub data EndsWith (last : S) : Option Command → Shown → Type 0 where
-    between_calls : EndsWith last None (calls.disk last).now
-    in_a_question : {is : S} → calls.asked last is → (moment : ℕ) → (calls.disk last).clock ≤ moment
-        → moment ≤ (calls.disk is).clock
-        → EndsWith last None ((calls.disk is).was moment)
-    in_a_command : {command : Command} {answer : BriefAnswer} {is : S} → calls.answered command answer last is
-        → (moment : ℕ)
-        → (calls.disk last).clock ≤ moment → moment ≤ (calls.disk is).clock
-        → EndsWith last (Some command) ((calls.disk is).was moment)
-    in_a_failure : {in_doubt : Option Command} {is : S} → calls.broken in_doubt last is → (moment : ℕ)
-        → (calls.disk last).clock ≤ moment → moment ≤ (calls.disk is).clock
-        → EndsWith last in_doubt ((calls.disk is).was moment)
+    between_calls : {moment : ℕ} {left : Shown} → StopsIn (calls.disk last) (calls.disk last) moment left
+        → EndsWith last None left
+    in_a_question : {is : S} {moment : ℕ} {left : Shown} → calls.asked last is
+        → StopsIn (calls.disk last) (calls.disk is) moment left → EndsWith last None left
+    in_a_command : {command : Command} {answer : BriefAnswer} {is : S} {moment : ℕ} {left : Shown}
+        → calls.answered command answer last is → StopsIn (calls.disk last) (calls.disk is) moment left
+        → EndsWith last (Some command) left
+    in_a_failure : {in_doubt : Option Command} {is : S} {moment : ℕ} {left : Shown} → calls.broken in_doubt last is
+        → StopsIn (calls.disk last) (calls.disk is) moment left → EndsWith last in_doubt left
 
   -- a sitting with a solver from this state on, at whose end the disk shows this: the solver tells the table that it
   -- began with, and behind the last answer the one that was reached
@@ -241,12 +239,12 @@ module _ {S : Type 0} (calls : Calls S) where
     was_reopened : {sittings : List BriefSitting} {before left : Shown} {d : Disk} {s : S} {sitting : BriefSitting}
         → BriefHistory sittings before → IsFoundAs before d → calls.opened d s → IsBriefSitting s sitting left
         → BriefHistory (sittings ++ (sitting ∷ [])) left
-    was_stopped : {sittings : List BriefSitting} {before : Shown} {d : Disk} {s : S} → BriefHistory sittings before → IsFoundAs before d
-        → calls.opened d s → (moment : ℕ) → d.clock ≤ moment → moment ≤ (calls.disk s).clock
-        → BriefHistory sittings ((calls.disk s).was moment)
-    was_refused : {sittings : List BriefSitting} {before : Shown} {d later : Disk} {fault : SolverFault} → BriefHistory sittings before
-        → IsFoundAs before d → calls.not_opened d later fault → (moment : ℕ) → d.clock ≤ moment → moment ≤ later.clock
-        → BriefHistory sittings (later.was moment)
+    was_stopped : {sittings : List BriefSitting} {before left : Shown} {d : Disk} {s : S} {moment : ℕ}
+        → BriefHistory sittings before → IsFoundAs before d → calls.opened d s → StopsIn d (calls.disk s) moment left
+        → BriefHistory sittings left
+    was_refused : {sittings : List BriefSitting} {before left : Shown} {d later : Disk} {fault : SolverFault}
+        {moment : ℕ} → BriefHistory sittings before → IsFoundAs before d → calls.not_opened d later fault
+        → StopsIn d later moment left → BriefHistory sittings left
 
   -- whenever the power stops after these sittings, reopening gives the table that the last of them reached behind its
   -- last answer, or what the command in doubt makes of that; each began with what the one before left so, and the first

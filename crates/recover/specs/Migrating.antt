@@ -1,6 +1,6 @@
 -- What becomes of a table where its layout may be an earlier one than today's.
-use Rattle.std.specs.Prelude.{◌≢◌, ◌⊎◌, ℕ, ◌≤◌, Option, Some, IsTrue}
-use Rattle.sector_disk.specs.Disk.{Picture, Shown, Disk, Grew, LeavesOnly, MayLeave}
+use Rattle.std.specs.Prelude.{◌≢◌, ◌⊎◌, ℕ, Option, Some, IsTrue}
+use Rattle.sector_disk.specs.Disk.{Picture, Shown, Disk, Grew, LeavesOnly, MayLeave, StopsIn}
 use Rattle.root_pair.specs.Root.{IsTablePicture}
 use Rattle.page_store.specs.Store.{SameHeader}
 use Rattle.table.specs.Fitting.{FitsTogether}
@@ -89,20 +89,18 @@ IsFoundThen left disk = IsTrue disk.honest × ((picture : Picture) → MayLeave 
 
 -- what the disk shows in the course of migrations of this table: at first every stop leaves it, in an earlier layout or
 -- in today's; and any number of migrations begin with what is left, each answered or refused, and a stop may come at
--- any moment of each
+-- any moment of each, or behind the last
 module _ (Earlier Today : ℕ → Layout) (kept : Option Kept) where
   pub data AreMigrations : Shown → Type 0 where
     began : {left : Shown}
         → ((picture : Picture) → MayLeave left picture → in_any (EitherLayout Earlier Today) picture kept)
         → AreMigrations left
-    was_migrated : {before : Shown} {disk back : Disk} {count now : ℕ} → AreMigrations before → IsFoundThen before disk
-        → IsMigrated Earlier Today disk count back now → (moment : ℕ) → disk.clock ≤ moment → moment ≤ back.clock
-        → AreMigrations (back.was moment)
-    was_current : {before : Shown} {disk back : Disk} {count now : ℕ} → AreMigrations before → IsFoundThen before disk
-        → IsCurrent Earlier Today disk count back now → (moment : ℕ) → disk.clock ≤ moment → moment ≤ back.clock
-        → AreMigrations (back.was moment)
-    was_refused : {before : Shown} {disk back : Disk} {count now : ℕ} {fault : SolverFault} → AreMigrations before
-        → IsFoundThen before disk
-        → IsNotMigrated Earlier Today disk count back now fault → (moment : ℕ) → disk.clock ≤ moment
-        → moment ≤ back.clock
-        → AreMigrations (back.was moment)
+    was_migrated : {before left : Shown} {disk back : Disk} {count now moment : ℕ} → AreMigrations before
+        → IsFoundThen before disk → IsMigrated Earlier Today disk count back now → StopsIn disk back moment left
+        → AreMigrations left
+    was_current : {before left : Shown} {disk back : Disk} {count now moment : ℕ} → AreMigrations before
+        → IsFoundThen before disk → IsCurrent Earlier Today disk count back now → StopsIn disk back moment left
+        → AreMigrations left
+    was_refused : {before left : Shown} {disk back : Disk} {count now moment : ℕ} {fault : SolverFault}
+        → AreMigrations before → IsFoundThen before disk → IsNotMigrated Earlier Today disk count back now fault
+        → StopsIn disk back moment left → AreMigrations left

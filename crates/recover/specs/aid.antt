@@ -9,3 +9,4 @@ pub mod Causes
 pub mod Asking
 pub mod AtWork
 pub mod Migrations
+pub mod Looking

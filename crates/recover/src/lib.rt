@@ -2,10 +2,13 @@
 //! proved again where the trees change.
 #![tactic(auto)]
 
+mod earlier;
+mod first;
 pub mod laws;
 mod migration;
 pub mod saved;
 
+pub use earlier::EarlierFile;
 pub use migration::{Migration, migrate};
 pub use saved::SavedTable;
 pub use solver::{Command, FileSolver, Listing, Refused, Reply, SolverFault, Units, Worked};
@@ -16,7 +19,7 @@ pub type TableFile<D> = tree_file::TreeFile<page_store::PageStore<D>, 3>;
 /// The file of the second layout, which is today's but for the count of pages and the goal.
 pub type SecondFile<D> = tree_file::TreeFile<page_store::PageStore<D>, 2>;
 
-/// The file of the first layout.
+/// The file of the first layout, which is read and not written.
 pub type FirstFile<D> = earlier_layouts::FlatTable<D>;
 
 /// A solver over such a file.

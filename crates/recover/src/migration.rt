@@ -2,10 +2,10 @@
 ghost use Rattle.std.specs.Prelude.{◌≡◌, ◌≢◌, ◌↔◌, ℕ, true, Option, IfOk, IfErr, IsTrue};
 ghost use Rattle.game_file.specs.Kept.{Kept, in_any};
 ghost use Rattle.recover.specs.Migrating.{AreLayouts, EitherLayout, IsCurrent, IsMigrated, IsNotMigrated, MigrateCause};
-ghost use Rattle.recover.specs.aid.Steps.{IsMovedFrom, IsNotMovedFrom, IsReadSince};
+ghost use Rattle.recover.specs.aid.Steps.{IsReadSince};
 ghost use Rattle.sector_disk.specs.Disk.{Disk};
 
-use earlier_layouts::EarlierFile;
+use crate::EarlierFile;
 use game_file::GameFile;
 use sector_disk::SectorDisk;
 use solver::{FileSolver, Refused, SolverFault};
@@ -18,26 +18,6 @@ pub enum Migration {
     Migrated,
     /// Today's; nothing was written.
     Current,
-}
-
-/// Opens the table of this disk in its earlier layout, with all checks of opening, and moves it to today's.
-fn move_from<Today: GameFile, Earlier: EarlierFile<Today>>(
-    alloc: Global,
-    disk: Earlier::Device,
-) -> Result<Earlier::Device, Refused<Earlier::Device>>
-    ensures moved { IfOk result (λ back. IsMovedFrom Earlier.stores Today.stores Earlier.copies Earlier.is_older
-        (Earlier.Device.disk disk) (Earlier.Device.failures disk) (Earlier.Device.disk back) (Earlier.Device.failures back)) }
-    ensures refused { IfErr result (λ back. IsNotMovedFrom Earlier.stores Today.stores Earlier.copies Earlier.is_older
-        (Earlier.Device.disk disk) (Earlier.Device.failures disk) (Earlier.Device.disk back.disk) (Earlier.Device.failures back.disk) back.fault) }
-{
-    let file = FileSolver::<Earlier>::open(alloc, disk)?.into_file();
-    match file.move_on(alloc) {
-        Ok(disk) => Ok(disk),
-        Err(refused) => Err(Refused {
-            disk: refused.disk,
-            fault: refused.fault.into(),
-        }),
-    }
 }
 
 /// Whether a refusal says that the layout is an earlier one.
@@ -75,14 +55,14 @@ where
         → (IsTrue first.honest → (kept : Option Kept) → ¬ in_any Today.stores first.now.contents kept)
         → IfErr result (λ back. MigrateCause First.stores Second.stores Today.stores first count (D.failures back.disk) back.fault) }
 {
-    let refused = match move_from::<Today, Second>(alloc, disk) {
+    let refused = match Second::bring(alloc, disk) {
         Ok(disk) => return Ok(disk),
         Err(refused) => refused,
     };
     if !is_older(refused.fault) {
         return Err(refused);
     }
-    let refused = match move_from::<Today, First>(alloc, refused.disk) {
+    let refused = match First::bring(alloc, refused.disk) {
         Ok(disk) => return Ok(disk),
         Err(refused) => refused,
     };

@@ -71,7 +71,7 @@ pub trait SavedTable {
         ensures asked { IsQuestion calls (of_number number) self.old self.new result }
         ensures told { OfTable calls self.old (λ t. IfOk result (λ value. TellsValue number value t)) };
 
-    /// The same of the position with this text.
+    /// The value of the position with this text.
     fn find_value(&mut self, text: &[u8]) -> Result<Value, SolverFault>
         ensures asked { IsQuestion calls of_text self.old self.new result }
         ensures told { OfTable calls self.old (λ t. IfOk result (λ value. TellsValueOf text.now value t)) };

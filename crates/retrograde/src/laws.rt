@@ -170,7 +170,7 @@ pub fn expanding_keeps_sound<M: GameGraph>()
         → IsLocallySound (M.graph game) (M.is_wide game) new }
 {}
 
-/// To process the next settled number of what is all expanded keeps what is stored so.
+/// Where all is expanded, processing the next settled position keeps a table locally sound.
 pub fn processing_keeps_sound<M: GameGraph>()
     ensures { (game : M) (old new : Stored (List ℕ)) (s : ℕ) (r : Record) (w : Player)
         → IsLocallySound (M.graph game) (M.is_wide game) old → expanded_count old ≡ length old.positions

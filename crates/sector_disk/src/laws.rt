@@ -1,6 +1,5 @@
 //! What holds of every disk: each function's contract is a law, which proofs cite by a call.
-ghost use Rattle.std.specs.Prelude.{◌≡◌};
-ghost use Rattle.sector_disk.specs.Disk.{MayLeave};
+ghost use Rattle.sector_disk.specs.Disk.{MayLeave, Picture};
 
 use crate::SectorDisk;
 
@@ -9,7 +8,8 @@ pub fn reads_are_a_picture<D: SectorDisk>()
     ensures { (disk : D) → MayLeave (D.disk disk).now (D.disk disk).now.contents }
 {}
 
-/// What a stop at the present moment may leave is what a stop now may leave.
+/// What a stop at the last moment leaves a stop now may leave.
 pub fn present_is_now<D: SectorDisk>()
-    ensures { (disk : D) → (D.disk disk).was (D.disk disk).clock ≡ (D.disk disk).now }
+    ensures { (disk : D) (picture : Picture) → MayLeave ((D.disk disk).was (D.disk disk).clock) picture
+        → MayLeave (D.disk disk).now picture }
 {}

@@ -100,7 +100,7 @@ fn last_sync(events: &[Event]) -> usize
     last
 }
 
-/// The same once this event has happened, as the one of this number.
+/// The last event once this one has happened, as the one of this number.
 fn last_after(event: &Event, count: usize, last: usize) -> usize
     ensures { result ≡ last_by event.now count last }
 {

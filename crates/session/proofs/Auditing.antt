@@ -6,7 +6,7 @@ use Rattle.game_file.specs.Kept.{Layout}
 use Rattle.game_file.specs.State.{State}
 use Rattle.solver.specs.Opening.{IsOpened}
 use Rattle.session.specs.Commands.{Came, made, refused, replied, told_text, audited, another, brought, grown, GivesBack}
-use Rattle.session.specs.Commands.{IsAbout, IsAudit, IsAuditOf, IsAudited, IsAuditedAbout, IsTextTold, IsTold}
+use Rattle.session.specs.Commands.{IsAbout, IsAudit, IsAuditOf, IsAudited, IsAuditedAbout, IsTextTold, IsTextOf}
 
 pub audit_done : (Stores : ℕ → Layout) (disk : Disk) (count : ℕ) (was is : State) (back : Disk) (now : ℕ) → IsOpened Stores disk count was → IsAsked Stores was is
     → GivesBack is back now → (came : Came) → IsAudited was is came → IsAudit Stores disk count came back now
@@ -21,7 +21,7 @@ audit_done Stores disk count was is back now opened asked gives grown it = absur
 
 -- the text of its game was asked for
 pub text_done : (Stores : ℕ → Layout) (disk : Disk) (count : ℕ) (was : State) (back : Disk) (now : ℕ) → IsOpened Stores disk count was → GivesBack was back now
-    → (came : Came) → IsTold was came → IsTextTold Stores disk count came back now
+    → (came : Came) → IsTextOf was came → IsTextTold Stores disk count came back now
 text_done Stores disk count was back now opened gives made it = absurd it
 text_done Stores disk count was back now opened gives (refused why) it = inl (was, opened, gives, it.0, it.1)
 text_done Stores disk count was back now opened gives (replied said) it = absurd it

@@ -1,12 +1,8 @@
 mod Auditing
-mod CommandLine
-mod CommandWords
-mod GoalLine
-mod Spelling
-mod Units
 mod Bringing
 mod Cutting
 mod Saying
 mod Telling
 mod UnderWay
 mod InputLemmas
+mod MovesOnInput

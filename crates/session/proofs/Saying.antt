@@ -4,11 +4,10 @@ use Rattle.std.specs.Prelude.{IsTrue, OnOk, Result, Ok, Err}
 use Rattle.std.proofs.lemmas.Bool.{cases_lt}
 use Rattle.std.proofs.lemmas.List.{length-append}
 use Rattle.session_lines.specs.Asked.{Asks, IsBare}
-use Rattle.session_lines.specs.Looked.{Looks}
+use Rattle.session_lines.specs.declared.input.Asked.{Asked}
 use Rattle.session_lines.specs.declared.input.Asked.TheVariants.{Usage}
 use Rattle.session_lines.specs.declared.input.Line.{Line}
 use Rattle.session_lines.specs.declared.input.TheConstants.{MAX_LINE_BYTES}
-use Rattle.session_lines.specs.declared.looked.Looked.TheVariants.{Usage as LookUsage}
 use Rattle.session.specs.Cut.{HasRead}
 use Rattle.session.proofs.Cutting.{bare_form}
 
@@ -16,29 +15,25 @@ use Rattle.session.proofs.Cutting.{bare_form}
 pub long_asks : (line : List ℕ) → MAX_LINE_BYTES < length line → Asks line Usage
 long_asks line long = (λ over. refl, λ few. absurd (omega (arith, few, long)))
 
-pub long_looks : (line : List ℕ) → MAX_LINE_BYTES < length line → Looks line LookUsage
-long_looks line long = (λ over. refl, λ few. absurd (omega (arith, few, long)))
+-- a line that LF has ended
+pub ended_says : (line : Line) (bytes : List ℕ) (asked : Asked) → HasRead line bytes → (IsTrue line.is_too_long → asked ≡ Usage)
+    → (line.is_too_long ≡ false → (bare : List ℕ) × IsBare line.bytes.items bare × Asks bare asked) → (bare : List ℕ) × IsBare bytes bare × Asks bare asked
+ended_says line bytes asked come over kept = by_length line.is_too_long refl
+  where
+    by_length : (b : Bool) → line.is_too_long ≡ b → (bare : List ℕ) × IsBare bytes bare × Asks bare asked
+    by_length false is = let (bare, same, asks) = kept is in (bare, subst (λ bs. IsBare bs bare) (come.kept is) same, asks)
+    by_length true is =
+        let (bare, same, short) = bare_form bytes in
+        (bare, same, subst (Asks bare) (sym (over is)) (long_asks bare (omega (arith, short, (come.long is).0))))
 
-module _ {A : Type 0} (usage : A) (Reads : List ℕ → A → Type 0) (long : (line : List ℕ) → MAX_LINE_BYTES < length line → Reads line usage) where
-  -- a line that LF has ended
-  pub ended_says : (line : Line) (bytes : List ℕ) (asked : A) → HasRead line bytes → (IsTrue line.is_too_long → asked ≡ usage)
-      → (line.is_too_long ≡ false → (bare : List ℕ) × IsBare line.bytes.items bare × Reads bare asked) → (bare : List ℕ) × IsBare bytes bare × Reads bare asked
-  ended_says line bytes asked come over kept = by_length line.is_too_long refl
-    where
-      by_length : (b : Bool) → line.is_too_long ≡ b → (bare : List ℕ) × IsBare bytes bare × Reads bare asked
-      by_length false is = let (bare, same, reads) = kept is in (bare, subst (λ bs. IsBare bs bare) (come.kept is) same, reads)
-      by_length true is =
-          let (bare, same, short) = bare_form bytes in
-          (bare, same, subst (Reads bare) (sym (over is)) (long bare (omega (arith, short, (come.long is).0))))
-
-  -- the line with which the input ends
-  pub last_says : (line : Line) (bytes : List ℕ) (asked : A) → HasRead line bytes → (IsTrue line.is_too_long → asked ≡ usage)
-      → (line.is_too_long ≡ false → Reads line.bytes.items asked) → Reads bytes asked
-  last_says line bytes asked come over kept = by_length line.is_too_long refl
-    where
-      by_length : (b : Bool) → line.is_too_long ≡ b → Reads bytes asked
-      by_length false is = subst (λ bs. Reads bs asked) (come.kept is) (kept is)
-      by_length true is = subst (Reads bytes) (sym (over is)) (long bytes (omega (arith, (come.long is).0)))
+-- the line with which the input ends
+pub last_says : (line : Line) (bytes : List ℕ) (asked : Asked) → HasRead line bytes → (IsTrue line.is_too_long → asked ≡ Usage)
+    → (line.is_too_long ≡ false → Asks line.bytes.items asked) → Asks bytes asked
+last_says line bytes asked come over kept = by_length line.is_too_long refl
+  where
+    by_length : (b : Bool) → line.is_too_long ≡ b → Asks bytes asked
+    by_length false is = subst (λ bs. Asks bs asked) (come.kept is) (kept is)
+    by_length true is = subst (Asks bytes) (sym (over is)) (long_asks bytes (omega (arith, (come.long is).0)))
 
 -- an empty line
 pub come_of_none : (line : Line) → line.bytes.items ≡ [] → line.is_too_long ≡ false → HasRead line []

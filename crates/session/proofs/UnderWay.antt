@@ -10,19 +10,16 @@ use Rattle.retrograde.specs.Stored.{Stored}
 use Rattle.sector_disk.specs.Disk.{Disk}
 use Rattle.solver.specs.declared.fault.SolverFault.TheVariants.{OutOfMemory}
 use Rattle.session_lines.specs.Answered.{IsDoneFor}
-use Rattle.session_lines.specs.Looks.{IsLookedAt}
 use Rattle.session_lines.specs.Parts.{AppendsPart}
 use Rattle.session_lines.specs.Told.{fault_line}
 use Rattle.session_lines.specs.declared.input.Asked.{Asked}
 use Rattle.session_lines.specs.declared.input.Asked.TheVariants as asked
 use Rattle.session_lines.specs.declared.input.Line.{Line}
 use Rattle.session_lines.specs.declared.input.ListingLine.{ListingLine}
-use Rattle.session_lines.specs.declared.looked.Looked.{Looked}
-use Rattle.session_lines.specs.declared.looked.Looked.TheVariants as looked
 use Rattle.session.specs.Commands.{IsPrinted, refused as refused_for}
 use Rattle.session.specs.Cut.{HasRead}
-use Rattle.session.specs.Seen.{Seen, Tells, moment_at}
-use Rattle.session.specs.Sessions.{SessionState, NeedsNoListings, LineOutcome, OutcomeOf, AnswersLines, QuitsIn, IsUnderWay, Continues, EndsWithin, IsSession, WithEnd, AsItIs, status_at_end}
+use Rattle.session.specs.Seen.{Seen, Wrote, moment_at}
+use Rattle.session.specs.Sessions.{SessionState, NeedsNoListings, LineOutcome, OutcomeOf, AnswersLines, IsUnderWay, Continues, EndsWithin, IsSession, WithEnd, AsItIs, status_at_end}
 use Rattle.session.proofs.Cutting.{another_byte, another_line, more_bytes, no_lines, nothing_waits}
 use Rattle.session.proofs.Telling.{tells_nothing, tells_then, tells_part_then, tells_more, tells_part_more}
 
@@ -35,19 +32,10 @@ module _ (Stores : ℕ → Layout) where
   done_honest (asked.Listing about) old new is = ap (λ s. s.disk.honest) is
   done_honest asked.Help old new is = ap (λ s. s.disk.honest) is
   done_honest asked.Status old new is = ap (λ s. s.disk.honest) is
+  done_honest asked.Pages old new is = ap (λ s. s.disk.honest) is
+  done_honest asked.Game old new is = ap (λ s. s.disk.honest) is
   done_honest (asked.Work units) old new is = is.1.turn.ahead.goes_on.honest
   done_honest (asked.Question about) old new is = is.ahead.goes_on.honest
-
-  pub looked_honest : (about : Looked) (old new : State) → IsLookedAt Stores about old new → new.disk.honest ≡ old.disk.honest
-  looked_honest looked.Nothing old new is = ap (λ s. s.disk.honest) is
-  looked_honest looked.Status old new is = ap (λ s. s.disk.honest) is
-  looked_honest (looked.Question about) old new is = is.ahead.goes_on.honest
-  looked_honest (looked.Moves number) old new is = is.ahead.goes_on.honest
-  looked_honest (looked.ValueOf position) old new is = is.ahead.goes_on.honest
-  looked_honest looked.Game old new is = ap (λ s. s.disk.honest) is
-  looked_honest looked.Help old new is = ap (λ s. s.disk.honest) is
-  looked_honest looked.Quit old new is = ap (λ s. s.disk.honest) is
-  looked_honest looked.Usage old new is = ap (λ s. s.disk.honest) is
 
 -- a line that is about no listing and not the end needs no listings
 pub needs_none : (about : Asked) → ((line : ListingLine) → about ≢ asked.Listing line) → about ≢ asked.Quit → NeedsNoListings about
@@ -57,6 +45,8 @@ needs_none asked.Usage listing quit = tt
 needs_none (asked.Listing line) listing quit = absurd (listing line refl)
 needs_none asked.Help listing quit = tt
 needs_none asked.Status listing quit = tt
+needs_none asked.Pages listing quit = tt
+needs_none asked.Game listing quit = tt
 needs_none (asked.Work units) listing quit = tt
 needs_none (asked.Question about) listing quit = tt
 
@@ -107,8 +97,8 @@ module _ {F Version : Type 0} (Stores : ℕ → Layout) (state : F → State) (I
   line_answered {begins = begins} {before = before} way (LineOutcome.quits (asks, same) kept) come =
       EndsWithin.quits way.lines way.rest [] way.text way.moments (another_line way.are way.single)
       (subst (AnswersLines Stores state IsVersion AreTwo IsUsedUp Lasts begins before.written way.lines way.text way.moments) (sym same) way.answers)
-      (subst (λ s. QuitsIn Stores state IsVersion AreTwo IsUsedUp Lasts WithEnd way.rest s.listings) (sym same) asks)
-      (subst (λ o. Tells before o way.text way.moments) (sym kept) way.wrote)
+      asks
+      (subst (λ o. Wrote before o way.text way.moments) (sym kept) way.wrote)
   line_answered {new = new} {at = at} way (LineOutcome.refuses status text replies high wrote) come =
       EndsWithin.refuses way.lines way.rest [] way.text text way.moments (moment_at at (state new.file).disk) _ status (another_line way.are way.single)
       way.answers replies high (record { written = way.wrote.wrote; disk_is = refl }) (tells_then way.wrote wrote)
@@ -198,8 +188,8 @@ module _ {F Version : Type 0} (Stores : ℕ → Layout) (state : F → State) (I
       subst (IsSession Stores state IsVersion AreTwo IsUsedUp Lasts bytes begins new left before after) (sym (some 0 refl))
       (IsSession.last_quits way.lines way.rest way.text way.moments way.are way.single at_end
       (subst (AnswersLines Stores state IsVersion AreTwo IsUsedUp Lasts begins before.written way.lines way.text way.moments) (sym same) way.answers)
-      (subst (λ s. QuitsIn Stores state IsVersion AreTwo IsUsedUp Lasts AsItIs way.rest s.listings) (sym same) asks)
-      (subst (λ o. Tells before o way.text way.moments) (sym kept) way.wrote))
+      asks
+      (subst (λ o. Wrote before o way.text way.moments) (sym kept) way.wrote))
   last_answered {bytes} {begins} {old} {new} {left} {before} {at} {after} way at_end (LineOutcome.refuses status text replies high wrote) none some =
       subst (IsSession Stores state IsVersion AreTwo IsUsedUp Lasts bytes begins new left before after) (one_more status high ∙ sym (some status refl))
       (IsSession.at_end way.lines way.rest way.text text way.moments (moment_at at (state new.file).disk) old status way.are way.single at_end way.answers

@@ -18,7 +18,7 @@ use Rattle.solver.specs.declared.fault.SolverFault.TheVariants as fault
 use Rattle.solver.specs.declared.replies.Reply.{Reply}
 use Rattle.solver.specs.declared.replies.Reply.TheVariants as reply
 use Rattle.solver.specs.Audits.{HasVerdict, IsSoInGame, AuditCause}
-use Rattle.solver.specs.Growing.{GrowthCause}
+use Rattle.solver.specs.Growing.{GrowthCause, IsGrowth}
 use Rattle.solver.specs.Machine.{load}
 use Rattle.solver.specs.Opening.{IsCreated, IsOpened, OpenCause, CreateCause}
 use Rattle.solver.specs.Queries.{Tells}
@@ -29,6 +29,8 @@ use Rattle.session_lines.specs.Parts.{AppendsPart}
 use Rattle.session_lines.specs.Told.{fault_line, IsReplyLine}
 use Rattle.session.specs.declared.commands.FileCommand.{FileCommand}
 use Rattle.session.specs.declared.commands.FileCommand.TheVariants as asked
+use Rattle.session.specs.declared.told.Told.{Told}
+use Rattle.session.specs.declared.told.Told.TheVariants as tells
 
 -- what came of a command: the empty table was made; it was refused; it has this reply; the game has this text; the table has this verdict and
 -- these counts; it is about another game than the one that was meant; it was brought into today's layout, which it had before or not; or it has
@@ -42,6 +44,16 @@ pub data Came : Type 0 where
   another : Came
   brought : (which : Migration) → Came
   grown : Came
+
+-- what is told of a command is what came of it
+abbrev pub came_of : Told → Came
+came_of tells.Made = made
+came_of (tells.Refused why) = refused why
+came_of (tells.Replied reply) = replied reply
+came_of (tells.Audited verdict counts) = audited verdict counts
+came_of tells.Another = another
+came_of (tells.Brought which) = brought which
+came_of tells.Grown = grown
 
 -- the exit status of a verdict
 abbrev pub status_of_verdict : Verdict → ℕ
@@ -166,10 +178,11 @@ module _ (Stores : ℕ → Layout) where
   -- the table was opened, and has got this many pages, or either was refused
   abbrev pub IsGrow : ℕ → Disk → ℕ → Came → Disk → ℕ → Type 0
   IsGrow pages disk count grown back now =
-      (was : State) × (is : State) × IsOpened Stores disk count was × GivesBack is back now × IsGrownFile Stores pages was is
+      (was : State) × (is : State) × IsOpened Stores disk count was × GivesBack is back now × IsGrowth Stores pages was is
+      × IsGrownFile Stores pages was is
   IsGrow pages disk count (refused why) back now =
-      ((was : State) × (is : State) × IsOpened Stores disk count was × GivesBack is back now × IsNotGrown Stores pages was is
-      × GrowthCause pages was is why) ⊎ IsUnopened disk count why back now
+      ((was : State) × (is : State) × IsOpened Stores disk count was × GivesBack is back now × IsGrowth Stores pages was is
+      × IsNotGrown Stores pages was is × GrowthCause pages was is why) ⊎ IsUnopened disk count why back now
   IsGrow pages disk count _ back now = ⊥
 
   -- what is done for a command on the table of a disk, what comes of it, and the disk as it is given back
@@ -193,10 +206,10 @@ IsAuditedAbout text was is (refused why) = AuditCause was is why
 IsAuditedAbout text was is _ = ⊥
 
 -- what comes of asking an open table for the text of its game
-abbrev pub IsTold : State → Came → Type 0
-IsTold was (told_text text) = IsAbout text was
-IsTold was (refused why) = (was.kept ≡ None) × (why ≡ fault.NoGame)
-IsTold was _ = ⊥
+abbrev pub IsTextOf : State → Came → Type 0
+IsTextOf was (told_text text) = IsAbout text was
+IsTextOf was (refused why) = (was.kept ≡ None) × (why ≡ fault.NoGame)
+IsTextOf was _ = ⊥
 
 -- what comes of bringing a table into today's layout, where it has that one or the first or the second, and the disk as it is given back
 abbrev pub IsBrought : (ℕ → Layout) → (ℕ → Layout) → (ℕ → Layout) → Disk → ℕ → Came → Disk → ℕ → Type 0

@@ -22,12 +22,12 @@ abbrev pub moment_at : Seen → Disk → Moment
 moment_at seen disk = record { written = seen.written; disk = disk }
 
 -- from the one to the other this text was written, and these moments were noted
-pub record Tells (before after : Seen) (text : List ℕ) (moments : List Moment) : Type 0 where
+pub record Wrote (before after : Seen) (text : List ℕ) (moments : List Moment) : Type 0 where
   pub wrote : Appends before.written after.written text
   pub noted : after.moments ≡ before.moments ++ moments
 
 -- the same where the output failed: a part of the text was written, from its start on
-pub record TellsPart (before after : Seen) (text : List ℕ) (moments : List Moment) : Type 0 where
+pub record WrotePart (before after : Seen) (text : List ℕ) (moments : List Moment) : Type 0 where
   pub wrote : AppendsPart before.written after.written text
   pub noted : after.moments ≡ before.moments ++ moments
 

@@ -11,24 +11,20 @@ use Rattle.solver.specs.declared.fault.SolverFault.{SolverFault}
 use Rattle.solver.specs.declared.fault.SolverFault.TheVariants.{OutOfMemory}
 use Rattle.solver.specs.declared.listing.Listing.{Listing}
 use Rattle.session_lines.specs.Answered.{IsReplied}
-use Rattle.session_lines.specs.Asked.{Asks, IsBare}
+use Rattle.session_lines.specs.Asked.{Asks, IsBare, in_look}
 use Rattle.session_lines.specs.Listed.{IsListingReplied}
-use Rattle.session_lines.specs.Looked.{Looks}
-use Rattle.session_lines.specs.Looks.{IsLookedAt, IsLookReplied}
 use Rattle.session_lines.specs.Told.{fault_line}
 use Rattle.session_lines.specs.declared.input.Asked.{Asked}
 use Rattle.session_lines.specs.declared.input.Asked.TheVariants as asked
 use Rattle.session_lines.specs.declared.input.Line.{Line}
 use Rattle.session_lines.specs.declared.input.ListingLine.{ListingLine}
-use Rattle.session_lines.specs.declared.looked.Looked.{Looked}
-use Rattle.session_lines.specs.declared.looked.Looked.TheVariants as looked
 use Rattle.session.specs.Commands.{GivesBack, IsPrinted, IsUnopened, refused}
 use Rattle.session.specs.Cut.{IsCutInto, HasRead, IsOneLine}
-use Rattle.session.specs.Seen.{BeginsAt, Moment, Seen, Tells, TellsPart, moment_at}
+use Rattle.session.specs.Seen.{BeginsAt, Moment, Seen, Wrote, WrotePart, moment_at}
 use Rattle.session.specs.declared.line_by_line.Lines.{Lines}
 use Rattle.session.specs.declared.line_by_line.Lines.TheVariants.{Session, Look}
-use Rattle.session.specs.declared.line_by_line.Manner.{Manner}
-use Rattle.session.specs.declared.line_by_line.Manner.TheVariants as manner
+use Rattle.session.specs.declared.dialogue.Manner.{Manner}
+use Rattle.session.specs.declared.dialogue.Manner.TheVariants as manner
 
 -- a line that is neither about listings nor the end of the session
 abbrev pub NeedsNoListings : Asked → Type 0
@@ -50,10 +46,14 @@ listings_kept manner.Look = None
 abbrev pub session_state : {F Version : Type 0} → F → Manner Version → SessionState F Version
 session_state file of_manner = record { file = file; listings = listings_kept of_manner }
 
+-- the listings that it begins with
+abbrev pub first_listings : {Version : Type 0} → Lines → Option (List (Listing Version))
+first_listings Session = Some []
+first_listings Look = None
+
 -- where it begins
 abbrev pub first_state : {F Version : Type 0} → F → Lines → SessionState F Version
-first_state file Session = record { file = file; listings = Some [] }
-first_state file Look = record { file = file; listings = None }
+first_state file lines = record { file = file; listings = first_listings lines }
 
 -- what the bytes of a line say, where LF has ended it: a CR before that belongs to the end
 abbrev pub WithEnd : List ℕ → List ℕ → Type 0
@@ -62,6 +62,10 @@ WithEnd = IsBare
 -- the same of the line with which the input ends
 abbrev pub AsItIs : List ℕ → List ℕ → Type 0
 AsItIs bytes line = line ≡ bytes
+
+-- the line asks for the end of the session
+abbrev pub QuitsIn : (List ℕ → List ℕ → Type 0) → List ℕ → Type 0
+QuitsIn Says bytes = (line : List ℕ) × Says bytes line × Asks line asked.Quit
 
 -- what an answer leaves of a session, where this is the disk behind the line: it goes on, or ends with a status. A
 -- reply begins at one moment that is noted: with the output as it was before, and the disk as it is behind the line
@@ -72,12 +76,12 @@ AsItIs bytes line = line ≡ bytes
 pub data LineOutcome (Replies : ℕ → List ℕ → Type 0) (Quits : Type 0) (disk : Disk) (before after : Seen)
     : Option ℕ → Type 0 where
   goes_on : (status : ℕ) (text : List ℕ) → Replies status text → status ≤ 1
-      → Tells before after text (moment_at before disk ∷ []) → LineOutcome Replies Quits disk before after None
+      → Wrote before after text (moment_at before disk ∷ []) → LineOutcome Replies Quits disk before after None
   quits : Quits → after ≡ before → LineOutcome Replies Quits disk before after (Some 0)
   refuses : (status : ℕ) (text : List ℕ) → Replies status text → 1 < status
-      → Tells before after text (moment_at before disk ∷ []) → LineOutcome Replies Quits disk before after (Some status)
+      → Wrote before after text (moment_at before disk ∷ []) → LineOutcome Replies Quits disk before after (Some status)
   unwritten : (status : ℕ) (text : List ℕ) → Replies status text
-      → TellsPart before after text (moment_at before disk ∷ []) → LineOutcome Replies Quits disk before after (Some 4)
+      → WrotePart before after text (moment_at before disk ∷ []) → LineOutcome Replies Quits disk before after (Some 4)
 
 module _ {F Version : Type 0} (Stores : ℕ → Layout) (state : F → State)
     (IsVersion : Version → Stored (List ℕ) → F → Type 0) (AreTwo : Version → Version → Type 0) (IsUsedUp : F → Type 0)
@@ -92,37 +96,35 @@ module _ {F Version : Type 0} (Stores : ℕ → Layout) (state : F → State)
     plain : (about : Asked) → NeedsNoListings about → IsReplied Stores about (state old) (state new) status text
         → Lasts old new → after ≡ before → IsLineAnswered old new before after status text about
 
-  -- the answer to what a line asks where a session only looks
-  pub record IsLookAnswered (about : Looked) (old new : F) (status : ℕ) (text : List ℕ) : Type 0 where
-    pub goes_on : about ≢ looked.Quit
-    pub at : IsLookedAt Stores about (state old) (state new)
-    pub replied : IsLookReplied about (state old) (state new) status text
+  -- the answer to what a line asks where a session only looks: that of a session, to what it asks for in a look
+  pub record IsLookAnswered (about : Asked) (old new : F) (status : ℕ) (text : List ℕ) : Type 0 where
+    pub goes_on : about ≢ asked.Quit
+    pub replied : IsReplied Stores (in_look about) (state old) (state new) status text
+
+  -- the answer to what a line asks, with these listings open before it and after it; a look keeps none
+  abbrev pub IsAnswered : Asked → F → F → Option (List (Listing Version)) → Option (List (Listing Version)) → ℕ
+      → List ℕ → Type 0
+  IsAnswered about old new (Some before) (Some after) status text =
+      IsLineAnswered old new before after status text about
+  IsAnswered about old new None None status text = IsLookAnswered about old new status text
+  IsAnswered about old new _ _ status text = ⊥
 
   -- the bytes of a line, of which Says tells what they say, are answered
   abbrev pub AnswersIn : (List ℕ → List ℕ → Type 0) → List ℕ → F → F → Option (List (Listing Version))
       → Option (List (Listing Version)) → ℕ → List ℕ → Type 0
-  AnswersIn Says bytes old new (Some before) (Some after) status text =
+  AnswersIn Says bytes old new before after status text =
       (line : List ℕ) × Says bytes line
-      × (about : Asked) × Asks line about × IsLineAnswered old new before after status text about
-  AnswersIn Says bytes old new None None status text =
-      (line : List ℕ) × Says bytes line
-      × (about : Looked) × Looks line about × IsLookAnswered about old new status text
-  AnswersIn Says bytes old new _ _ status text = ⊥
+      × (about : Asked) × Asks line about × IsAnswered about old new before after status text
 
   abbrev pub IsAnswerToLine : (List ℕ → List ℕ → Type 0) → List ℕ → SessionState F Version → SessionState F Version → ℕ
       → List ℕ → Type 0
   IsAnswerToLine Says bytes old new = AnswersIn Says bytes old.file new.file old.listings new.listings
 
-  -- the line asks for the end of the session
-  abbrev pub QuitsIn : (List ℕ → List ℕ → Type 0) → List ℕ → Option (List (Listing Version)) → Type 0
-  QuitsIn Says bytes (Some listings) = (line : List ℕ) × Says bytes line × Asks line asked.Quit
-  QuitsIn Says bytes None = (line : List ℕ) × Says bytes line × Looks line looked.Quit
-
   -- what came of a line
   abbrev pub OutcomeOf : (List ℕ → List ℕ → Type 0) → List ℕ → SessionState F Version → SessionState F Version → Seen
       → Seen → Option ℕ → Type 0
   OutcomeOf Says bytes old new =
-      LineOutcome (IsAnswerToLine Says bytes old new) (QuitsIn Says bytes old.listings × (new ≡ old))
+      LineOutcome (IsAnswerToLine Says bytes old new) (QuitsIn Says bytes × (new ≡ old))
       (state new.file).disk
 
   -- these lines were answered one behind the other, and this was written behind what the output held before; the reply
@@ -147,24 +149,24 @@ module _ {F Version : Type 0} (Stores : ℕ → Layout) (state : F → State)
   pub data EndsWithin (bytes : List ℕ) (begins ends : SessionState F Version) (before after : Seen) : ℕ → Type 0 where
     quits : (lines : List (List ℕ)) (line behind text : List ℕ) (moments : List Moment)
         → IsCutInto bytes (lines ++ line ∷ []) behind → AnswersLines begins before.written lines text moments ends
-        → QuitsIn WithEnd line ends.listings → Tells before after text moments
+        → QuitsIn WithEnd line → Wrote before after text moments
         → EndsWithin bytes begins ends before after 0
     refuses : (lines : List (List ℕ)) (line behind text reply : List ℕ) (moments : List Moment) (moment : Moment)
         (old : SessionState F Version) (status : ℕ) → IsCutInto bytes (lines ++ line ∷ []) behind
         → AnswersLines begins before.written lines text moments old → IsAnswerToLine WithEnd line old ends status reply
         → 1 < status → BeginsAt before.written text (state ends.file).disk moment
-        → Tells before after (text ++ reply) (moments ++ moment ∷ []) → EndsWithin bytes begins ends before after status
+        → Wrote before after (text ++ reply) (moments ++ moment ∷ []) → EndsWithin bytes begins ends before after status
     no_memory : (lines : List (List ℕ)) (rest text : List ℕ) (moments : List Moment) → IsCutInto bytes lines rest
         → AnswersLines begins before.written lines text moments ends
-        → Tells before after (text ++ fault_line OutOfMemory) moments → EndsWithin bytes begins ends before after 5
+        → Wrote before after (text ++ fault_line OutOfMemory) moments → EndsWithin bytes begins ends before after 5
     unwritten : (lines : List (List ℕ)) (line behind text reply : List ℕ) (moments : List Moment) (moment : Moment)
         (old : SessionState F Version) (status : ℕ) → IsCutInto bytes (lines ++ line ∷ []) behind
         → AnswersLines begins before.written lines text moments old → IsAnswerToLine WithEnd line old ends status reply
         → BeginsAt before.written text (state ends.file).disk moment
-        → TellsPart before after (text ++ reply) (moments ++ moment ∷ []) → EndsWithin bytes begins ends before after 4
+        → WrotePart before after (text ++ reply) (moments ++ moment ∷ []) → EndsWithin bytes begins ends before after 4
     untold : (lines : List (List ℕ)) (rest text : List ℕ) (moments : List Moment) → IsCutInto bytes lines rest
         → AnswersLines begins before.written lines text moments ends
-        → TellsPart before after (text ++ fault_line OutOfMemory) moments → EndsWithin bytes begins ends before after 4
+        → WrotePart before after (text ++ fault_line OutOfMemory) moments → EndsWithin bytes begins ends before after 4
 
   -- what a line leaves as the status of a session that ends with the input
   abbrev pub status_at_end : ℕ → ℕ
@@ -184,20 +186,20 @@ module _ {F Version : Type 0} (Stores : ℕ → Layout) (state : F → State)
         (old : SessionState F Version) (status : ℕ) → IsCutInto bytes lines rest → IsOneLine rest → IsAtEnd left
         → AnswersLines begins before.written lines text moments old → IsAnswerToLine AsItIs rest old ends status reply
         → BeginsAt before.written text (state ends.file).disk moment
-        → Tells before after (text ++ reply) (moments ++ moment ∷ [])
+        → Wrote before after (text ++ reply) (moments ++ moment ∷ [])
         → IsSession bytes begins ends left before after (status_at_end status)
     last_quits : (lines : List (List ℕ)) (rest text : List ℕ) (moments : List Moment) → IsCutInto bytes lines rest
         → IsOneLine rest → IsAtEnd left → AnswersLines begins before.written lines text moments ends
-        → QuitsIn AsItIs rest ends.listings → Tells before after text moments
+        → QuitsIn AsItIs rest → Wrote before after text moments
         → IsSession bytes begins ends left before after 0
     last_unwritten : (lines : List (List ℕ)) (rest text reply : List ℕ) (moments : List Moment) (moment : Moment)
         (old : SessionState F Version) (status : ℕ) → IsCutInto bytes lines rest → IsOneLine rest → IsAtEnd left
         → AnswersLines begins before.written lines text moments old → IsAnswerToLine AsItIs rest old ends status reply
         → BeginsAt before.written text (state ends.file).disk moment
-        → TellsPart before after (text ++ reply) (moments ++ moment ∷ [])
+        → WrotePart before after (text ++ reply) (moments ++ moment ∷ [])
         → IsSession bytes begins ends left before after 4
     unread : (lines : List (List ℕ)) (rest text : List ℕ) (moments : List Moment) → IsCutInto bytes lines rest
-        → IsOneLine rest → AnswersLines begins before.written lines text moments ends → Tells before after text moments
+        → IsOneLine rest → AnswersLines begins before.written lines text moments ends → Wrote before after text moments
         → IsSession bytes begins ends left before after 4
 
   -- a session is under way: these bytes were read, all their lines are answered, and what stands behind the last LF
@@ -212,7 +214,7 @@ module _ {F Version : Type 0} (Stores : ℕ → Layout) (state : F → State)
     pub single : IsOneLine rest
     pub come : HasRead line rest
     pub answers : AnswersLines begins before.written lines text moments now
-    pub wrote : Tells before after text moments
+    pub wrote : Wrote before after text moments
 
   -- it goes on, or has ended
   abbrev pub Continues : List ℕ → SessionState F Version → Seen → SessionState F Version → Line → Seen → Option ℕ

@@ -1,12 +1,12 @@
 //! The commands on a certificate: it is written from a table, and checked without one.
 
-use crate::commands::said_refused;
 use crate::files::{TO_READ, disk_over, refused_opening, tell_refusal};
 use crate::games::text_of_game;
 use crate::open::{Purpose, opened};
 use crate::program::{status_of_refused, tell, tell_game_fault};
+use crate::told::said_refused;
 use certificate::{CertificateFault, MAX_CERTIFICATE_BYTES, Refusal, check_to, text_of};
-use certificate_writer::{Written, write_certificate};
+use certificate_writer::{Progress, Written, write_certificate};
 use file_disk::FileDisk;
 use recover::TableFile;
 use session_lines::refused::Refused;
@@ -28,17 +28,40 @@ pub fn certify_file(rt: &HostRuntime, alloc: Global, name: &str, number: u32) ->
         Ok(disk) => disk,
         Err((status, _)) => return status,
     };
-    match certificate_on(alloc, disk, number) {
+    let mut progress = Telling {
+        out: rt.stderr(),
+        name,
+    };
+    match certificate_on(alloc, disk, number, &mut progress) {
         Ok(written) => put_written(rt, alloc, name, &written),
         Err(fault) => put_refused(rt, alloc, name, fault),
     }
 }
 
+/// Tells how far a certificate is, a line each time.
+#[derive(Drop)]
+struct Telling<'a, W: Write> {
+    out: W,
+    name: &'a str,
+}
+
+impl<W: Write> Progress for Telling<'_, W> {
+    fn looked_at(&mut self, count: u64) {
+        let name = self.name;
+        let _told = writeln!(self.out, "{name}: {count} positions looked at");
+    }
+}
+
 /// The certificate of the value of this position of the table of a disk.
-fn certificate_on(alloc: Global, disk: FileDisk, number: u32) -> Result<Written, SolverFault> {
+fn certificate_on<P: Progress>(
+    alloc: Global,
+    disk: FileDisk,
+    number: u32,
+    progress: &mut P,
+) -> Result<Written, SolverFault> {
     match FileSolver::<TableFile<FileDisk>>::open(alloc, disk) {
         Ok(solver) => {
-            let (written, _disk) = write_certificate(alloc, solver, number);
+            let (written, _disk) = write_certificate(alloc, solver, number, progress);
             written
         }
         Err(refused) => Err(refused.fault),

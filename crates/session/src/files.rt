@@ -1,25 +1,23 @@
 //! The commands on files: each is opened here, and the rest is done on a disk over it.
 
-use crate::commands::{FileCommand, Outcome, command_on};
+use crate::commands::{FileCommand, command_on};
 use crate::migrating::migrate_on;
 use crate::open::{Purpose, Unopened, new_file, opened, writable};
 use crate::program::{read_start, status_of_refused, tell, tell_game_fault};
+use crate::room::{Size, begins_as_a_table, folder_of, prepared, prepared_behind};
+use crate::told::Outcome;
 use file_disk::{FileDisk, FileRefused};
 use page_store::MIN_PAGES;
 use rbg_game::goal::Goal;
 use rbg_read::read::read_game;
 use recover::{FirstFile, SecondFile, TableFile};
-use root_pair::MAGIC;
 use session_lines::advice::advice;
+use session_lines::moments::Moments;
 use session_lines::refused::Refused;
 use solver::SolverFault;
 use std::alloc::{AllocError, Global};
 use std::fs::{self, File};
-use std::io::{self, BufWriter, ErrorKind, IsTerminal, Read};
-use std::path::Path;
-
-/// The bytes of a page.
-const PAGE: u64 = 4_096;
+use std::io::{self, BufWriter, ErrorKind, IsTerminal};
 
 /// What to do where a file cannot be read.
 pub const TO_READ: &str = "give a file that is there and may be read";
@@ -40,24 +38,24 @@ const TO_KEEP: &str =
 
 /// Makes a file of this many pages and the empty table in it. A table that is there is not touched, and with too few pages
 /// no file is made or changed.
-pub fn create_file(rt: &HostRuntime, alloc: Global, name: &str, pages: u32) -> u8 {
+pub fn create_file(rt: &HostRuntime, alloc: Global, name: &str, size: Size) -> u8 {
     match opened(rt, name, Purpose::Change) {
-        Ok(file) => create_over(rt, alloc, name, file, pages),
+        Ok(file) => create_over(rt, alloc, name, file, size),
         Err(Unopened::Failed(error)) if error.kind() == ErrorKind::NotFound => {
-            create_new(rt, alloc, name, pages)
+            create_new(rt, alloc, name, size)
         }
         Err(why) => refused_opening(rt, name, why, TO_MAKE),
     }
 }
 
 /// Makes the empty table in a file that was there, unless it begins as a table does. What is lost is said before.
-fn create_over(rt: &HostRuntime, alloc: Global, name: &str, mut file: File, pages: u32) -> u8 {
+fn create_over(rt: &HostRuntime, alloc: Global, name: &str, mut file: File, size: Size) -> u8 {
     match begins_as_a_table(&mut file) {
         Ok(true) => return refused_table(rt, name),
         Ok(false) => {}
         Err(error) => return refused_file(rt, name, &error, TO_MAKE),
     }
-    if pages < MIN_PAGES {
+    if size.pages < MIN_PAGES {
         return refused_for(rt, name, Refused::TooSmall, SolverFault::TooSmall);
     }
     if let Err(error) = writable(rt, name) {
@@ -68,12 +66,12 @@ fn create_over(rt: &HostRuntime, alloc: Global, name: &str, mut file: File, page
         Err(error) => return refused_folder(rt, name, &error),
     };
     tell_loss(rt, name, &file);
-    made(rt, alloc, name, file, &folder, pages).status
+    made(rt, alloc, name, file, &folder, size).status
 }
 
 /// Makes the empty table in a new file, which goes again if no table came to be in it.
-fn create_new(rt: &HostRuntime, alloc: Global, name: &str, pages: u32) -> u8 {
-    if pages < MIN_PAGES {
+fn create_new(rt: &HostRuntime, alloc: Global, name: &str, size: Size) -> u8 {
+    if size.pages < MIN_PAGES {
         return refused_for(rt, name, Refused::TooSmall, SolverFault::TooSmall);
     }
     let folder = match folder_of(rt, name) {
@@ -86,7 +84,7 @@ fn create_new(rt: &HostRuntime, alloc: Global, name: &str, pages: u32) -> u8 {
     };
     // so that no other run gets the file before it is removed
     let _held = file.try_clone();
-    let outcome = made(rt, alloc, name, file, &folder, pages);
+    let outcome = made(rt, alloc, name, file, &folder, size);
     if outcome.refused.is_some() {
         let _ = fs::remove_file(rt, name);
     }
@@ -98,11 +96,11 @@ fn made(
     rt: &HostRuntime,
     alloc: Global,
     name: &str,
-    file: File,
+    mut file: File,
     folder: &File,
-    pages: u32,
+    size: Size,
 ) -> Outcome {
-    match sized(&file, folder, u64::from(pages) * PAGE) {
+    match prepared(&mut file, folder, size) {
         Ok(()) => command_on_file(rt, alloc, name, file, FileCommand::Create),
         Err(error) => undone(refused_file(rt, name, &error, TO_GROW), SolverFault::Disk),
     }
@@ -161,7 +159,7 @@ pub fn migrate_file(rt: &HostRuntime, alloc: Global, name: &str) -> u8 {
         SecondFile<FileDisk>,
         FirstFile<FileDisk>,
         _,
-    >(alloc, disk, &mut out);
+    >(alloc, disk, &mut out, &mut Moments::new());
     match outcome.refused {
         Some(SolverFault::TableFull) => {
             tell(
@@ -176,11 +174,15 @@ pub fn migrate_file(rt: &HostRuntime, alloc: Global, name: &str) -> u8 {
 }
 
 /// Gives the table of a file this many pages.
-pub fn grow_file(rt: &HostRuntime, alloc: Global, name: &str, pages: u32) -> u8 {
-    match opened(rt, name, Purpose::Change) {
-        Ok(file) => command_on_file(rt, alloc, name, file, FileCommand::Grow(pages)).status,
-        Err(why) => refused_opening(rt, name, why, TO_CHANGE),
+pub fn grow_file(rt: &HostRuntime, alloc: Global, name: &str, size: Size) -> u8 {
+    let mut file = match opened(rt, name, Purpose::Change) {
+        Ok(file) => file,
+        Err(why) => return refused_opening(rt, name, why, TO_CHANGE),
+    };
+    if let Err(error) = prepared_behind(&mut file, size) {
+        return refused_file(rt, name, &error, TO_GROW);
     }
+    command_on_file(rt, alloc, name, file, FileCommand::Grow(size.pages)).status
 }
 
 /// The disk over an open file; or the status, once it was said why there is none.
@@ -221,7 +223,13 @@ fn command_on_file(
         return undone(status, SolverFault::OutOfMemory);
     };
     let is_growth = matches!(&command, FileCommand::Grow(_));
-    let (outcome, _disk) = command_on::<TableFile<FileDisk>, _>(alloc, disk, command, &mut out);
+    let (outcome, _disk) = command_on::<TableFile<FileDisk>, _>(
+        alloc,
+        disk,
+        command,
+        &mut out,
+        &mut Moments::new(),
+    );
     match outcome.refused {
         None | Some(SolverFault::Game(_)) => {}
         Some(SolverFault::TooSmall) if is_growth => tell(
@@ -262,16 +270,6 @@ fn undone(status: u8, fault: SolverFault) -> Outcome {
     }
 }
 
-/// Whether a file begins as each table does.
-fn begins_as_a_table(file: &mut File) -> io::Result<bool> {
-    let mut start = [0; 8];
-    match file.read_exact(&mut start) {
-        Ok(()) => Ok(start == MAGIC),
-        Err(error) if error.kind() == ErrorKind::UnexpectedEof => Ok(false),
-        Err(error) => Err(error),
-    }
-}
-
 /// Says that the bytes of a file that is no table are lost, where it has any.
 fn tell_loss(rt: &HostRuntime, name: &str, file: &File) {
     let length = match file.metadata() {
@@ -290,20 +288,6 @@ fn tell_loss(rt: &HostRuntime, name: &str, file: &File) {
                 "{name}: it is no table and becomes one: the {length} bytes in it are lost"
             ),
         ),
-    }
-}
-
-/// Gives the file this length, and its name a place on the disk.
-fn sized(file: &File, folder: &File, length: u64) -> io::Result<()> {
-    file.set_len(length)?;
-    folder.sync_all()
-}
-
-/// The folder that a file is in.
-fn folder_of(rt: &HostRuntime, name: &str) -> io::Result<File> {
-    match Path::new(name).parent() {
-        Some(folder) if !folder.as_str().is_empty() => File::open(rt, folder),
-        _ => File::open(rt, "."),
     }
 }
 

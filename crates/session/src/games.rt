@@ -7,7 +7,7 @@ use session_lines::moves::{moves_at, moves_to};
 use session_lines::refused::Refused;
 use session_lines::rulebook::Rulebook;
 use std::alloc::Global;
-use std::io::{self, BufReader, BufWriter, ErrorKind};
+use std::io::{self, BufWriter, ErrorKind};
 
 /// What stands for the position where the positions are read from standard input.
 const FROM_INPUT: &str = "-";
@@ -103,11 +103,8 @@ fn moves_of_input(rt: &HostRuntime, alloc: Global, game: &str, text: &[u8]) -> u
             return status;
         }
     };
-    let (Ok(input), Ok(mut out)) = (
-        BufReader::new(alloc, rt.stdin()),
-        BufWriter::new(alloc, io::writer(rt)),
-    ) else {
+    let Ok(mut out) = BufWriter::new(alloc, io::writer(rt)) else {
         return status_of_refused(rt, Refused::OutOfMemory);
     };
-    moves_by_line(alloc, &book, input, &mut out)
+    moves_by_line(alloc, &book, &mut rt.stdin(), &mut out)
 }

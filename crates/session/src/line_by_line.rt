@@ -1,29 +1,22 @@
 //! A session: commands as lines on an input, each with its reply.
-ghost use Rattle.std.specs.Prelude.{◌≡◌, ℕ, List, [], ◌∷◌, ◌++◌, Some, None, ◌<◌, ◌≤◌, IsTrue, IfOk, OnErr};
+ghost use Rattle.std.specs.Prelude.{◌≡◌, ℕ, List, [], ◌∷◌, ◌++◌, IsTrue};
 ghost use Rattle.std.specs.Io.KnownBytes.{Consumes};
 ghost use Rattle.solver.specs.Solvers.{state, IsReady};
-ghost use Rattle.session_lines.specs.declared.input.Asked.TheVariants.{Quit};
-ghost use Rattle.session_lines.specs.declared.looked.Looked.TheVariants.{Quit as LookQuit};
 ghost use Rattle.session.specs.Commands.{IsPrinted, refused as refused_for};
 ghost use Rattle.session.specs.Cut.{HasRead};
 ghost use Rattle.session.specs.Seen.{Seen, seen};
-ghost use Rattle.session.specs.Sessions.{SessionState, LineOutcome, OutcomeOf, IsLineAnswered, IsLookAnswered};
-ghost use Rattle.session.specs.Sessions.{IsUnderWay, Continues, IsSession, AsItIs, WithEnd, session_state};
-ghost use Rattle.session.specs.Sessions.{first_state, IsSessionOver};
+ghost use Rattle.session.specs.Sessions.{SessionState, OutcomeOf, IsUnderWay, Continues, IsSession, AsItIs, WithEnd};
+ghost use Rattle.session.specs.Sessions.{first_state, session_state, IsSessionOver};
 ghost use Rattle.session.specs.declared.line_by_line.Lines.TheVariants.{Session, Look};
 
-use crate::commands::said_refused;
+use crate::dialogue::{Dialogue, Manner, answer, begun, give_back};
+use crate::told::said_refused;
 use game_file::Versions;
 use session_lines::advice::tell_fault;
-use session_lines::input::{Asked, Line};
-use session_lines::listings::put_listing;
-use session_lines::looked::Looked;
-use session_lines::looks::put_looked;
 use session_lines::moments::Moments;
-use session_lines::questions::put_answer;
-use solver::{FileSolver, Listing, SolverFault};
+use solver::{FileSolver, SolverFault};
 use std::alloc::Global;
-use std::io::{self, ErrorKind, Read, Write};
+use std::io::{ErrorKind, Read, Write};
 
 /// Which lines are taken.
 #[derive(Clone, Copy, PartialEq, Eq, Drop)]
@@ -31,14 +24,6 @@ pub enum Lines {
     /// All lines of a session.
     Session,
     /// Those that ask alone: nothing is written to the disk.
-    Look,
-}
-
-/// What a session may do, and what it keeps.
-enum Manner<V> {
-    /// It works, asks and keeps listings; those that are open stand here.
-    Work(Vec<Listing<V>>),
-    /// It only looks.
     Look,
 }
 
@@ -63,7 +48,7 @@ pub fn session_over<F: Versions, R: Read, W: Write, E: Write>(
     lines_over::<F, R, W, E>(alloc, disk, Lines::Session, input, out, told, moments)
 }
 
-/// The same for a session that only looks: it writes nothing to the disk.
+/// Answers each line of a look, as `session_over` does those of a session; nothing is written to the disk.
 pub fn look_over<F: Versions, R: Read, W: Write, E: Write>(
     alloc: Global,
     disk: F::Device,
@@ -81,7 +66,7 @@ pub fn look_over<F: Versions, R: Read, W: Write, E: Write>(
     lines_over::<F, R, W, E>(alloc, disk, Lines::Look, input, out, told, moments)
 }
 
-/// The same where these lines are taken.
+/// Answers each line of a session or of a look, as `lines` says, on the table of this disk.
 pub fn lines_over<F: Versions, R: Read, W: Write, E: Write>(
     alloc: Global,
     disk: F::Device,
@@ -114,7 +99,7 @@ pub fn lines_over<F: Versions, R: Read, W: Write, E: Write>(
     }
 }
 
-/// The same on a table that is open, and stays so.
+/// Answers each line of a session or of a look, as `lines` says, on a table that is open, and stays so.
 pub fn lines_on<F: Versions, R: Read, W: Write, E: Write>(
     alloc: Global,
     solver: &mut FileSolver<F>,
@@ -134,28 +119,18 @@ pub fn lines_on<F: Versions, R: Read, W: Write, E: Write>(
         (seen state W.contents out.old moments.old) (seen state W.contents out.new moments.new) result
         × (state solver.new ≡ F.state ends.file) }
 {
-    let mut manner = match lines {
-        Lines::Session => Manner::Work(Vec::new(alloc)),
-        Lines::Look => Manner::Look,
-    };
-    let status = answer_all(alloc, solver, &mut manner, input, out, told, moments);
+    let mut dialogue = begun(alloc, lines);
+    let status = answer_all(&mut dialogue, solver, input, out, told, moments);
+    let Dialogue {
+        manner,
+        alloc: _alloc,
+        line: _line,
+    } = dialogue;
     match manner {
         Manner::Work(listings) => give_back(solver, listings),
         Manner::Look => {}
     }
     status
-}
-
-/// Ends all listings that are open.
-fn give_back<F: Versions>(solver: &mut FileSolver<F>, open: Vec<Listing<F::Version>>)
-    ensures ready { IsReady solver.old → IsReady solver.new }
-    ensures state { IsReady solver.old → IsTrue (state solver.old).disk.honest → state solver.new ≡ state solver.old }
-{
-    let mut listings = open;
-    while let Some(listing) = listings.pop() {
-        solver.list_end(listing);
-    }
-    listings.destroy_empty();
 }
 
 /// Writes a refusal that ends the session, and gives its status, or 4 where the output fails.
@@ -169,9 +144,8 @@ fn refuse<W: Write, E: Write>(fault: SolverFault, out: &mut W, told: &mut E) -> 
 
 /// Answers line by line up to `quit`, the end of the input, or a refusal that ends the session.
 fn answer_all<F: Versions, R: Read, W: Write, E: Write>(
-    alloc: Global,
+    dialogue: &mut Dialogue<F::Version>,
     solver: &mut FileSolver<F>,
-    manner: &mut Manner<F::Version>,
     input: &mut R,
     out: &mut W,
     told: &mut E,
@@ -180,20 +154,19 @@ fn answer_all<F: Versions, R: Read, W: Write, E: Write>(
     ensures ready { IsReady solver.old → IsReady solver.new }
     ensures honest { IsReady solver.old → IsTrue (state solver.old).disk.honest
         → IsTrue (state solver.new).disk.honest }
-    ensures came { IsReady solver.old → IsTrue (state solver.old).disk.honest → (bytes : List ℕ)
-        × Consumes (R.remaining input.old) (R.remaining input.new) bytes
+    ensures came { IsReady solver.old → IsTrue (state solver.old).disk.honest → HasRead dialogue.old.line []
+        → (bytes : List ℕ) × Consumes (R.remaining input.old) (R.remaining input.new) bytes
         × IsSession F.stores F.state F.is_version F.are_two F.is_used_up F.lasts
-        bytes (session_state solver.old.file manner.old) (session_state solver.new.file manner.new)
+        bytes (session_state solver.old.file dialogue.old.manner) (session_state solver.new.file dialogue.new.manner)
         (R.remaining input.new)
         (seen state W.contents out.old moments.old) (seen state W.contents out.new moments.new) result }
 {
-    let mut line = Line::new(alloc);
     let mut chunk = [0; 4096];
     // An input that gave a byte in each turn would be read for longer than any machine runs.
     for _turn in 0..u64::MAX {
         let count = match input.read(&mut chunk) {
             Ok(0) => {
-                let ended = answer_last(alloc, solver, manner, &line, out, told, moments);
+                let ended = answer_last(dialogue, solver, out, told, moments);
                 return ended.unwrap_or(0);
             }
             Ok(count) => count,
@@ -201,9 +174,7 @@ fn answer_all<F: Versions, R: Read, W: Write, E: Write>(
             Err(_) => return 4,
         };
         let bytes = &chunk[..count];
-        if let Some(status) = answer_chunk(
-            alloc, solver, manner, &mut line, bytes, out, told, moments,
-        ) {
+        if let Some(status) = answer_chunk(dialogue, solver, bytes, out, told, moments) {
             return status;
         }
     }
@@ -213,10 +184,8 @@ fn answer_all<F: Versions, R: Read, W: Write, E: Write>(
 /// Answers the lines that end in these bytes, and keeps what stands after the last of them. Gives the status where the
 /// session ends.
 fn answer_chunk<F: Versions, W: Write, E: Write>(
-    alloc: Global,
+    dialogue: &mut Dialogue<F::Version>,
     solver: &mut FileSolver<F>,
-    manner: &mut Manner<F::Version>,
-    line: &mut Line,
     chunk: &[u8],
     out: &mut W,
     told: &mut E,
@@ -228,12 +197,14 @@ fn answer_chunk<F: Versions, W: Write, E: Write>(
     ensures came { IsReady solver.old → IsTrue (state solver.old).disk.honest
         → (bytes : List ℕ) (begins : SessionState F F.Version) (before : Seen)
         → IsUnderWay F.stores F.state F.is_version F.are_two F.is_used_up F.lasts bytes begins before
-        (session_state solver.old.file manner.old) line.old (seen state W.contents out.old moments.old)
+        (session_state solver.old.file dialogue.old.manner) dialogue.old.line
+        (seen state W.contents out.old moments.old)
         → Continues F.stores F.state F.is_version F.are_two F.is_used_up F.lasts (bytes ++ chunk.now) begins before
-        (session_state solver.new.file manner.new) line.new (seen state W.contents out.new moments.new) result }
+        (session_state solver.new.file dialogue.new.manner) dialogue.new.line
+        (seen state W.contents out.new moments.new) result }
 {
     for byte in chunk {
-        let ended = answer_byte(alloc, solver, manner, line, *byte, out, told, moments);
+        let ended = answer_byte(dialogue, solver, *byte, out, told, moments);
         if ended.is_some() {
             return ended;
         }
@@ -243,10 +214,8 @@ fn answer_chunk<F: Versions, W: Write, E: Write>(
 
 /// Puts a byte to the line, or answers the line that it ends.
 fn answer_byte<F: Versions, W: Write, E: Write>(
-    alloc: Global,
+    dialogue: &mut Dialogue<F::Version>,
     solver: &mut FileSolver<F>,
-    manner: &mut Manner<F::Version>,
-    line: &mut Line,
     byte: u8,
     out: &mut W,
     told: &mut E,
@@ -258,27 +227,27 @@ fn answer_byte<F: Versions, W: Write, E: Write>(
     ensures came { IsReady solver.old → IsTrue (state solver.old).disk.honest
         → (bytes : List ℕ) (begins : SessionState F F.Version) (before : Seen)
         → IsUnderWay F.stores F.state F.is_version F.are_two F.is_used_up F.lasts bytes begins before
-        (session_state solver.old.file manner.old) line.old (seen state W.contents out.old moments.old)
+        (session_state solver.old.file dialogue.old.manner) dialogue.old.line
+        (seen state W.contents out.old moments.old)
         → Continues F.stores F.state F.is_version F.are_two F.is_used_up F.lasts (bytes ++ byte ∷ []) begins before
-        (session_state solver.new.file manner.new) line.new (seen state W.contents out.new moments.new) result }
+        (session_state solver.new.file dialogue.new.manner) dialogue.new.line
+        (seen state W.contents out.new moments.new) result }
 {
     if byte != b'\n' {
-        return match line.push(byte) {
+        return match dialogue.line.push(byte) {
             Ok(()) => None,
             Err(_) => Some(refuse(SolverFault::OutOfMemory, out, told)),
         };
     }
-    let ended = answer_ended(alloc, solver, manner, line, out, told, moments);
-    line.clear();
+    let ended = answer_ended(dialogue, solver, out, told, moments);
+    dialogue.line.clear();
     ended
 }
 
 /// Writes the reply to a line that LF has ended. Gives the status where the session ends with it.
 fn answer_ended<F: Versions, W: Write, E: Write>(
-    alloc: Global,
+    dialogue: &mut Dialogue<F::Version>,
     solver: &mut FileSolver<F>,
-    manner: &mut Manner<F::Version>,
-    line: &Line,
     out: &mut W,
     told: &mut E,
     moments: &mut Moments<FileSolver<F>, W>,
@@ -287,24 +256,27 @@ fn answer_ended<F: Versions, W: Write, E: Write>(
     ensures honest { IsReady solver.old → IsTrue (state solver.old).disk.honest
         → IsTrue (state solver.new).disk.honest }
     ensures came { IsReady solver.old → IsTrue (state solver.old).disk.honest → (bytes : List ℕ)
-        → HasRead line.now bytes → OutcomeOf F.stores F.state F.is_version F.are_two F.is_used_up F.lasts WithEnd
-        bytes (session_state solver.old.file manner.old) (session_state solver.new.file manner.new)
+        → HasRead dialogue.old.line bytes
+        → OutcomeOf F.stores F.state F.is_version F.are_two F.is_used_up F.lasts WithEnd bytes
+        (session_state solver.old.file dialogue.old.manner) (session_state solver.new.file dialogue.new.manner)
         (seen state W.contents out.old moments.old) (seen state W.contents out.new moments.new) result }
 {
-    match manner {
-        Manner::Work(listings) => {
-            answer(alloc, solver, listings, line.asked(), out, told, moments)
-        }
-        Manner::Look => answer_look(alloc, solver, line.looked(), out, told, moments),
-    }
+    let asked = dialogue.line.asked();
+    answer(
+        dialogue.alloc,
+        solver,
+        &mut dialogue.manner,
+        asked,
+        out,
+        told,
+        moments,
+    )
 }
 
 /// Writes the reply to the line with which the input ends. Gives the status where it ends the session.
 fn answer_last<F: Versions, W: Write, E: Write>(
-    alloc: Global,
+    dialogue: &mut Dialogue<F::Version>,
     solver: &mut FileSolver<F>,
-    manner: &mut Manner<F::Version>,
-    line: &Line,
     out: &mut W,
     told: &mut E,
     moments: &mut Moments<FileSolver<F>, W>,
@@ -313,86 +285,19 @@ fn answer_last<F: Versions, W: Write, E: Write>(
     ensures honest { IsReady solver.old → IsTrue (state solver.old).disk.honest
         → IsTrue (state solver.new).disk.honest }
     ensures came { IsReady solver.old → IsTrue (state solver.old).disk.honest → (bytes : List ℕ)
-        → HasRead line.now bytes → OutcomeOf F.stores F.state F.is_version F.are_two F.is_used_up F.lasts AsItIs
-        bytes (session_state solver.old.file manner.old) (session_state solver.new.file manner.new)
+        → HasRead dialogue.old.line bytes
+        → OutcomeOf F.stores F.state F.is_version F.are_two F.is_used_up F.lasts AsItIs bytes
+        (session_state solver.old.file dialogue.old.manner) (session_state solver.new.file dialogue.new.manner)
         (seen state W.contents out.old moments.old) (seen state W.contents out.new moments.new) result }
 {
-    match manner {
-        Manner::Work(listings) => {
-            answer(
-                alloc,
-                solver,
-                listings,
-                line.asked_last(),
-                out,
-                told,
-                moments,
-            )
-        }
-        Manner::Look => answer_look(alloc, solver, line.looked_last(), out, told, moments),
-    }
-}
-
-/// Writes the reply to a line. Gives the status where the session ends with it.
-fn answer<F: Versions, W: Write, E: Write>(
-    alloc: Global,
-    solver: &mut FileSolver<F>,
-    listings: &mut Vec<Listing<F::Version>>,
-    asked: Asked<'_>,
-    out: &mut W,
-    told: &mut E,
-    moments: &mut Moments<FileSolver<F>, W>,
-) -> Option<u8>
-    ensures ready { IsReady solver.old → IsReady solver.new }
-    ensures honest { IsReady solver.old → IsTrue (state solver.old).disk.honest
-        → IsTrue (state solver.new).disk.honest }
-    ensures came { IsReady solver.old → IsTrue (state solver.old).disk.honest → LineOutcome
-        (λ status text. IsLineAnswered F.stores F.state F.is_version F.are_two F.is_used_up F.lasts
-        solver.old.file solver.new.file listings.old.items listings.new.items status text asked.entry)
-        ((asked.entry ≡ Quit) × (solver.new ≡ solver.old) × (listings.new ≡ listings.old)) (state solver.new).disk
-        (seen state W.contents out.old moments.old) (seen state W.contents out.new moments.new) result }
-{
-    match asked {
-        Asked::Quit => Some(0),
-        Asked::Listing(about) => ended_by(put_listing(
-            alloc, solver, listings, about, out, told, moments,
-        )),
-        asked => ended_by(put_answer(alloc, solver, asked, out, told, moments)),
-    }
-}
-
-/// The same where it only looks.
-fn answer_look<F: Versions, W: Write, E: Write>(
-    alloc: Global,
-    solver: &mut FileSolver<F>,
-    looked: Looked<'_>,
-    out: &mut W,
-    told: &mut E,
-    moments: &mut Moments<FileSolver<F>, W>,
-) -> Option<u8>
-    ensures ready { IsReady solver.old → IsReady solver.new }
-    ensures honest { IsReady solver.old → IsTrue (state solver.old).disk.honest
-        → IsTrue (state solver.new).disk.honest }
-    ensures came { IsReady solver.old → LineOutcome
-        (λ status text. IsLookAnswered F.stores F.state F.is_version F.are_two F.is_used_up F.lasts
-        looked.entry solver.old.file solver.new.file status text)
-        ((looked.entry ≡ LookQuit) × (solver.new ≡ solver.old)) (state solver.new).disk
-        (seen state W.contents out.old moments.old) (seen state W.contents out.new moments.new) result }
-{
-    match looked {
-        Looked::Quit => Some(0),
-        looked => ended_by(put_looked(alloc, solver, looked, out, told, moments)),
-    }
-}
-
-/// The status with which a session ends behind a reply, if it does: a refusal by more than 1, and 4 where the output
-/// failed.
-fn ended_by(replied: io::Result<u8>) -> Option<u8>
-    ensures written { IfOk replied (λ status. (1 < status → result ≡ Some status) × (status ≤ 1 → result ≡ None)) }
-    ensures unwritten { OnErr replied (result ≡ Some 4) }
-{
-    match replied {
-        Ok(status) => (status > 1).then_some(status),
-        Err(_) => Some(4),
-    }
+    let asked = dialogue.line.asked_last();
+    answer(
+        dialogue.alloc,
+        solver,
+        &mut dialogue.manner,
+        asked,
+        out,
+        told,
+        moments,
+    )
 }

@@ -1,45 +1,25 @@
 //! The command that brings a table into today's layout.
-ghost use Rattle.std.specs.Prelude.{◌≡◌, ◌∷◌, ◌++◌, [], None};
-ghost use Rattle.std.specs.Io.KnownBytes.{Appends};
+ghost use Rattle.std.specs.Prelude.{◌≡◌, ◌∷◌, ◌++◌, []};
 ghost use Rattle.recover.specs.Migrating.{AreLayouts};
-ghost use Rattle.session.specs.Commands.{Came, IsBrought, IsPrinted, brought as brought_to, refusal_of, word_of_migration};
+ghost use Rattle.session_lines.specs.Moments.{noted_in};
+ghost use Rattle.session.specs.Commands.{Came, came_of, IsBrought, IsPrinted, refusal_of};
 
-use crate::commands::{Outcome, put_line, said_refused};
-use earlier_layouts::EarlierFile;
+use crate::told::{Outcome, Told, said};
 use game_file::GameFile;
-use recover::{Migration, migrate};
+use recover::{EarlierFile, migrate};
 use sector_disk::SectorDisk;
+use session_lines::moments::Moments;
 use std::alloc::Global;
 use std::io::Write;
 
-/// The line that tells it.
-fn line_of(which: Migration) -> &'static [u8]
-    ensures { result.now ≡ word_of_migration which ++ 10 ∷ [] }
-{
-    match which {
-        Migration::Migrated => b"migrated\n",
-        Migration::Current => b"current\n",
-    }
-}
-
-/// Writes the line that tells it.
-fn said<W: Write>(out: &mut W, which: Migration) -> Outcome
-    ensures refused { result.refused ≡ None }
-    ensures told { IsPrinted (W.contents out.old) (W.contents out.new) (brought_to which) result.status }
-{
-    let status = match put_line(out, line_of(which)) {
-        Ok(()) => 0,
-        Err(_) => 4,
-    };
-    Outcome {
-        status,
-        refused: None,
-    }
-}
-
 /// Brings the table of this disk into today's layout, and writes one line: `migrated`, `current`, or `refused` and a code. Gives what came of
-/// it, and the disk.
-pub fn migrate_on<D, Today, Second, First, W>(alloc: Global, disk: D, out: &mut W) -> (Outcome, D)
+/// it, and the disk. The moment at which the line begins is noted: the table is in its layout then, and closed.
+pub fn migrate_on<D, Today, Second, First, W>(
+    alloc: Global,
+    disk: D,
+    out: &mut W,
+    moments: &mut Moments<D, W>,
+) -> (Outcome, D)
 where
     D: SectorDisk,
     Today: GameFile<Device = D>,
@@ -47,12 +27,29 @@ where
     First: EarlierFile<Today, Device = D>,
     W: Write,
     requires { AreLayouts First.stores Second.stores First.is_older Second.is_older Today.is_older Second.copies }
-    ensures { (came : Came) × IsBrought First.stores Second.stores Today.stores (D.disk disk) (D.failures disk) came (D.disk result.1)
-        (D.failures result.1) × (result.0.refused ≡ refusal_of came)
+    ensures done { (came : Came) × IsBrought First.stores Second.stores Today.stores (D.disk disk) (D.failures disk) came
+        (D.disk result.1) (D.failures result.1) × (result.0.refused ≡ refusal_of came)
         × IsPrinted (W.contents out.old) (W.contents out.new) came result.0.status }
+    ensures noted { noted_in moments.new ≡ noted_in moments.old ++ (result.1, out.old) ∷ [] }
+{
+    let (told, disk) = brought::<D, Today, Second, First>(alloc, disk);
+    moments.note(&disk, out);
+    (said(out, told), disk)
+}
+
+/// Brings the table into today's layout. Gives what is to be told of it, and the disk.
+fn brought<D, Today, Second, First>(alloc: Global, disk: D) -> (Told, D)
+where
+    D: SectorDisk,
+    Today: GameFile<Device = D>,
+    Second: EarlierFile<Today, Device = D>,
+    First: EarlierFile<Today, Device = D>,
+    requires { AreLayouts First.stores Second.stores First.is_older Second.is_older Today.is_older Second.copies }
+    ensures { IsBrought First.stores Second.stores Today.stores (D.disk disk) (D.failures disk) (came_of result.0) (D.disk result.1)
+        (D.failures result.1) }
 {
     match migrate::<D, Today, Second, First>(alloc, disk) {
-        Ok((disk, which)) => (said(out, which), disk),
-        Err(refused) => (said_refused(out, refused.fault), refused.disk),
+        Ok((disk, which)) => (Told::Brought(which), disk),
+        Err(refused) => (Told::Refused(refused.fault), refused.disk),
     }
 }

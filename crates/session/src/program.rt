@@ -3,10 +3,11 @@
 use crate::certificates::{certify_file, check_certificate};
 use crate::files::{audit_file, create_file, grow_file, load_file, migrate_file};
 use crate::games::{actions_of_game, moves_of_game};
+use crate::room::Size;
 use crate::sessions::{look_at_file, session_of_file};
 use crate::streams::Streams;
 use crate::text_files::{audit_file_of, text_of_file};
-use crate::words::{Refusal, Words, words_of};
+use command_line::words::{Refusal, Words, words_of};
 use explanations::explain::{Explanation, explain};
 use rbg_game::limits::MAX_TEXT_BYTES;
 use rbg_read::fault::GameFault;
@@ -51,7 +52,13 @@ fn run_words(rt: &HostRuntime) -> u8 {
     match words_of(alloc, &words) {
         Ok(Words::Moves { game, at }) => moves_of_game(rt, alloc, &game, at.as_deref()),
         Ok(Words::Actions { game }) => actions_of_game(rt, alloc, &game),
-        Ok(Words::Create { file, pages }) => create_file(rt, alloc, &file, pages),
+        Ok(
+            Words::Create {
+                file,
+                pages,
+                is_reserved,
+            },
+        ) => create_file(rt, alloc, &file, Size { pages, is_reserved }),
         Ok(Words::Load { file, game, goal }) => load_file(rt, alloc, &file, &game, goal),
         Ok(Words::Session { file, is_quiet }) => session_of_file(rt, alloc, &file, is_quiet),
         Ok(Words::Look { file, is_quiet }) => look_at_file(rt, alloc, &file, is_quiet),
@@ -61,7 +68,13 @@ fn run_words(rt: &HostRuntime) -> u8 {
             None => audit_file(rt, alloc, &file),
         },
         Ok(Words::Migrate { file }) => migrate_file(rt, alloc, &file),
-        Ok(Words::Grow { file, pages }) => grow_file(rt, alloc, &file, pages),
+        Ok(
+            Words::Grow {
+                file,
+                pages,
+                is_reserved,
+            },
+        ) => grow_file(rt, alloc, &file, Size { pages, is_reserved }),
         Ok(Words::Certify { file, number }) => certify_file(rt, alloc, &file, number),
         Ok(Words::Check { certificate, game }) => {
             check_certificate(rt, alloc, &certificate, game.as_deref())

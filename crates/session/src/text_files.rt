@@ -1,13 +1,14 @@
 //! The commands about the text of the game in a file's table.
 
-use crate::commands::Outcome;
 use crate::files::{TO_READ, disk_over, refused_opening, tell_refused_table};
 use crate::games::text_of_game;
 use crate::open::{Purpose, opened};
 use crate::program::status_of_refused;
 use crate::texts::{audit_of, text_on};
+use crate::told::Outcome;
 use file_disk::FileDisk;
 use recover::TableFile;
+use session_lines::moments::Moments;
 use session_lines::refused::Refused;
 use std::alloc::Global;
 use std::io::{self, BufWriter};
@@ -38,7 +39,13 @@ pub fn audit_file_of(rt: &HostRuntime, alloc: Global, name: &str, game: &str) ->
     let Ok(mut out) = BufWriter::new(alloc, io::writer(rt)) else {
         return status_of_refused(rt, Refused::OutOfMemory);
     };
-    let (outcome, _disk) = audit_of::<TableFile<FileDisk>, _>(alloc, disk, &text, &mut out);
+    let (outcome, _disk) = audit_of::<TableFile<FileDisk>, _>(
+        alloc,
+        disk,
+        &text,
+        &mut out,
+        &mut Moments::new(),
+    );
     status_of(rt, alloc, name, outcome)
 }
 

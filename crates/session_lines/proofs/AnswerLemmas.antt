@@ -1,6 +1,7 @@
 -- What was written is the answer to the text.
 use Rattle.std.proofs.Common.{◌≡◌, ℕ, List, [], ◌∷◌, ◌++◌, length, map, Result, Ok, Err, refl, sym, subst, inl, inr, arith}
-use Rattle.std.specs.Prelude.{All, OnOk, IfErr, Contains}
+use Rattle.std.specs.Prelude.{All, Option, OnOk, IfErr, Contains}
+use Rattle.std.specs.Io.KnownBytes.{Appends}
 use Rattle.rbg_game.specs.Games.{Game}
 use Rattle.rbg_game.specs.Sound.{IsSoundGame}
 use Rattle.rbg_game.specs.Positions.{IsPositionOf}
@@ -9,12 +10,15 @@ use Rattle.legal_moves.specs.Moves.{HasNoMove}
 use Rattle.legal_moves.specs.Listed.{ShownMove, AreMoves, IsShownMove}
 use Rattle.position_pack.specs.Bytes.{bytes_of}
 use Rattle.session_lines.specs.aid.Lines.{HasPosition, SaysMoves}
-use Rattle.session_lines.specs.Answers.{status_of, refusal_line, IsListing, IsUntold, TellsMoves}
+use Rattle.session_lines.specs.Answers.{status_of, refusal_line, IsListing, IsUntold, TellsMoves, TellsRefusal}
+use Rattle.session_lines.specs.Parts.{AppendsPart, IsWritten}
 use Rattle.session_lines.specs.aid.Stops.{IsStoppedLine, IsStopped}
 use Rattle.session_lines.specs.declared.move_lines.Stop.{Stop}
 use Rattle.session_lines.specs.declared.move_lines.Stop.TheVariants as stop
 use Rattle.session_lines.specs.declared.refused.Refused.{Refused}
 use Rattle.legal_moves.proofs.ReachLemmas.{position_of}
+use Rattle.session_lines.proofs.Appending.{appends_then}
+use Rattle.session_lines.proofs.PartLemmas.{part_behind}
 
 -- each successor that is listed is a position of the game
 pub positions_of : (game : Game) (at : Position) (moves : List ShownMove) → IsSoundGame game → IsPositionOf game at → All (IsShownMove game at) moves → All (HasPosition game) moves
@@ -37,14 +41,22 @@ pub on_ok : {X E : Type 0} {P Q : Type 0} (r : Result X E) → (P → Q) → OnO
 on_ok (Ok x) f h = f h
 on_ok (Err e) f h = tt
 
-pub stopped_of : {X : Type 0} (game : Game) (at : Position) (moves : List ShownMove) (Written : List ℕ → Type 0) (r : Result X Stop) → IsListing game at moves → IfErr r (IsStoppedLine game moves Written) → IfErr r (IsStopped game at Written)
-stopped_of game at moves Written (Ok x) listing h = tt
-stopped_of game at moves Written (Err stop.Output) listing h = tt
-stopped_of game at moves Written (Err (stop.Refused why)) listing h =
+pub stopped_of : {X : Type 0} (game : Game) (at : Position) (moves : List ShownMove) (Written Part : List ℕ → Type 0) (r : Result X Stop) → IsListing game at moves
+    → IfErr r (IsStoppedLine game moves (SaysMoves game moves) Written Part) → IfErr r (IsStopped game at Written Part)
+stopped_of game at moves Written Part (Ok x) listing h = tt
+stopped_of game at moves Written Part (Err stop.Output) listing h = (h.0, answer_of game at moves h.0 listing h.1, h.2)
+stopped_of game at moves Written Part (Err (stop.Refused why)) listing h =
     (h.1.1, subst (λ w. IsUntold game at w h.1.1) (sym h.0) (inr (moves, h.1.0, listing, h.1.2)), h.1.3)
 
-pub refusal_of : (game : Game) (at : Position) (why : Refused) (lines : List ℕ) (status : ℕ) → IsUntold game at why lines → status ≡ status_of why → TellsMoves game at status (lines ++ refusal_line why)
-refusal_of game at why lines status is e = subst (λ n. TellsMoves game at n (lines ++ refusal_line why)) (sym e) (TellsMoves.untold why lines is)
+-- a refusal behind the lines that were written
+pub refused_behind : {before mid after : Option (List ℕ)} (game : Game) (at : Position) (why : Refused) (lines : List ℕ) (status : ℕ) → IsUntold game at why lines
+    → Appends before mid lines → IsWritten (TellsRefusal why) mid after status → IsWritten (TellsMoves game at) before after status
+refused_behind {before} {mid} {after} game at why lines status is wrote (IsWritten.whole text told appends) =
+    IsWritten.whole (lines ++ refusal_line why) (subst (λ n. TellsMoves game at n (lines ++ refusal_line why)) (sym told.0) (TellsMoves.untold why lines is))
+    (appends_then before mid after lines (refusal_line why) wrote (subst (Appends mid after) told.1 appends))
+refused_behind {before} {mid} {after} game at why lines status is wrote (IsWritten.part own text told part four) =
+    IsWritten.part (status_of why) (lines ++ refusal_line why) (TellsMoves.untold why lines is)
+    (part_behind lines wrote (subst (AppendsPart mid after) told.1 part)) four
 
 pub nothing_left : {X : Type 0} (xs : List X) → length xs ≡ 0 → xs ≡ []
 nothing_left [] e = refl

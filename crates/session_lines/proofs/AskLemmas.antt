@@ -91,22 +91,32 @@ module _ (first line a b c ra rb rc : List ℕ) (asked : Asked) where
   four_words is some then more last there =
       many (a ∷ b ∷ c ∷ []) rc (ra, begins line a ra is some, (rb, begins ra b rb then more, (rc, begins rb c rc last there, refl))) refl
 
--- what the words of a line ask for, the first of which is not `find`
-pub in_words : (line first rest : List ℕ) (asked : Asked) → IsFirstWord line first rest → first ≢ [] → first ≢ codes "find" → SaysBehind first rest asked
-    → AsksInWords line asked
-in_words line first rest Usage is some other (many words left starts long) =
-    AsksInWords.many (first ∷ words) left (rest, begins line first rest is some, starts) (omega (arith, long)) other
-in_words line first rest asked is some other (few words _ are short say) =
-    AsksInWords.few (first ∷ words) asked (are.0, (rest, begins line first rest is some, are.1), are.2) (omega (arith, short)) other say
+-- what the words of a line ask for, the first of which is neither `find` nor `value-of`
+pub in_words : (line first rest : List ℕ) (asked : Asked) → IsFirstWord line first rest → first ≢ [] → first ≢ codes "find" → first ≢ codes "value-of"
+    → SaysBehind first rest asked → AsksInWords line asked
+in_words line first rest Usage is some find value (many words left starts long) =
+    AsksInWords.many (first ∷ words) left (rest, begins line first rest is some, starts) (omega (arith, long)) (find, value)
+in_words line first rest asked is some find value (few words _ are short say) =
+    AsksInWords.few (first ∷ words) asked (are.0, (rest, begins line first rest is some, are.1), are.2) (omega (arith, short)) (find, value) say
 
 -- a blank line asks for nothing
 pub no_words : (line word rest : List ℕ) → IsFirstWord line word rest → word ≡ [] → AsksInWords line Nothing
 no_words line word rest is none = AsksInWords.few [] Nothing (line, refl, blank line word rest is none) (omega arith) tt refl
 
--- the first word is `find`, and this is after it
+-- the first word is this one, and this is after it
+pub word_is : (line first rest word behind : List ℕ) → IsFirstWord line first rest → first ≡ word → rest ≡ behind → word ≢ [] → BeginsWith line word behind
+word_is line first rest word behind (inl it) same is some = subst (BeginsWith line word) is (subst (λ w. BeginsWith line w rest) same it)
+word_is line first rest word behind (inr it) same is some = absurd (some (sym same ∙ it.0))
+
+-- the first word is `find`, or `value-of`, and this is after it
 pub finds : (line first rest behind : List ℕ) → IsFirstWord line first rest → first ≡ codes "find" → rest ≡ behind → BeginsWith line (codes "find") behind
-finds line first rest behind (inl it) is_find is = subst (λ r. BeginsWith line (codes "find") r) is (subst (λ w. BeginsWith line w rest) is_find it)
-finds line first rest behind (inr it) is_find is = absurd (omega (arith, ap length (sym it.0 ∙ is_find)))
+finds line first rest behind is same behind_is =
+    word_is line first rest (codes "find") behind is same behind_is (λ none. absurd (omega (arith, ap length none)))
+
+pub values : (line first rest behind : List ℕ) → IsFirstWord line first rest → first ≡ codes "value-of" → rest ≡ behind
+    → BeginsWith line (codes "value-of") behind
+values line first rest behind is same behind_is =
+    word_is line first rest (codes "value-of") behind is same behind_is (λ none. absurd (omega (arith, ap length none)))
 
 -- what ends a word and does not begin with a space is nothing
 pub ends_with_nothing : (line first rest : List ℕ) → IsFirstWord line first rest → ((b : ℕ) (bs : List ℕ) → rest ≡ b ∷ bs → b ≢ 32) → rest ≡ []

@@ -13,4 +13,3 @@ mod AskLemmas
 mod Telling
 mod Replying
 mod Plain
-pub mod LookLemmas

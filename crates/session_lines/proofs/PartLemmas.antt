@@ -4,7 +4,7 @@ use Rattle.std.proofs.Math.Seq.{take-append-add}
 use Rattle.std.proofs.lemmas.List.{take-append-drop, take_all, length-take-le, length-drop}
 use Rattle.std.specs.Prelude.{Result, Ok, Err, OnErr, OnOk}
 use Rattle.std.specs.Io.KnownBytes.{Appends, Keeps}
-use Rattle.session_lines.specs.Parts.{AppendsPart}
+use Rattle.session_lines.specs.Parts.{AppendsPart, IsWritten}
 use Rattle.session_lines.proofs.Appending.{appends_then, appends_nothing, appends_and_keeps}
 
 -- nothing of it
@@ -108,3 +108,9 @@ pub line_all_by : {X E : Type 0} (r : Result X E) (Is Js : List ℕ → Type 0) 
     → ((line : List ℕ) → Is line → Js (whole line)) → ((line : List ℕ) → Appends mid after line → Appends before after (whole line))
     → OnOk r ((text : List ℕ) × Is text × Appends mid after text) → OnOk r ((text : List ℕ) × Js text × Appends before after text)
 line_all_by r Is Js before mid after whole leads more = on_ok_by r (λ done. (whole done.0, leads done.0 done.1, more done.0 done.2))
+
+-- what tells the one tells the other
+pub written_as : {Tells Others : ℕ → List ℕ → Type 0} {old new : Option (List ℕ)} {status : ℕ}
+    → ((status : ℕ) (text : List ℕ) → Tells status text → Others status text) → IsWritten Tells old new status → IsWritten Others old new status
+written_as leads (IsWritten.whole text tells appends) = IsWritten.whole text (leads _ text tells) appends
+written_as leads (IsWritten.part own text tells part four) = IsWritten.part own text (leads own text tells) part four

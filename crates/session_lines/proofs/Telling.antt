@@ -12,8 +12,7 @@ use Rattle.solver.specs.Moves.{HasMoves}
 use Rattle.solver.specs.Queries.{IsGameOf, OfKept, Tells, HasLine, HasToldLine}
 use Rattle.session_lines.specs.Known.{known_lines}
 use Rattle.session_lines.specs.Replies.{line_line}
-use Rattle.session_lines.specs.Answered.{IsPlayLine}
-use Rattle.session_lines.specs.Looks.{AreMoveLines}
+use Rattle.session_lines.specs.Answered.{AreMoveLines, IsPlayLine}
 
 -- the line of a play's numbers, of the table that they are told of
 pub line_told : (number : ℕ) (numbers text : List ℕ) (state : State) → Tells (HasToldLine number numbers) state → (IsSound state.kept → Tells (HasLine number numbers) state)

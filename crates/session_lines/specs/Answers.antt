@@ -40,6 +40,10 @@ status_of BadPosition = 1
 abbrev pub refusal_line : Refused → List ℕ
 refusal_line refused = codes "refused " ++ code_of refused ++ 10 ∷ []
 
+-- the status and the line of a refusal
+abbrev pub TellsRefusal : Refused → ℕ → List ℕ → Type 0
+TellsRefusal why status text = (status ≡ status_of why) × (text ≡ refusal_line why)
+
 -- all moves of a position, each with a shortest word
 pub record IsListing (game : Game) (at : Position) (moves : List ShownMove) : Type 0 where
   pub moves_are : AreMoves game at moves

@@ -24,6 +24,4 @@ pub mod Asked
 pub mod Answered
 pub mod Listed
 pub mod Printed
-pub mod Looked
-pub mod Looks
 pub mod aid

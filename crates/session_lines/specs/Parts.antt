@@ -1,4 +1,4 @@
--- What stands in an output that failed while a text was written.
+-- What stands in an output behind a text that was written, or that was to be.
 use Rattle.std.specs.Prelude.{◌≡◌, ℕ, List, ◌++◌, Option}
 use Rattle.std.specs.Io.KnownBytes.{Appends}
 
@@ -8,3 +8,9 @@ pub record AppendsPart (before after : Option (List ℕ)) (text : List ℕ) : Ty
   pub left : List ℕ
   pub text_is : text ≡ part ++ left
   pub appended : Appends before after part
+
+-- this is told with a status: its text was written; or the output failed, a part of the text was written, from its start on, and the
+-- status is 4
+pub data IsWritten (Tells : ℕ → List ℕ → Type 0) (before after : Option (List ℕ)) (status : ℕ) : Type 0 where
+  whole : (text : List ℕ) → Tells status text → Appends before after text → IsWritten Tells before after status
+  part : (own : ℕ) (text : List ℕ) → Tells own text → AppendsPart before after text → status ≡ 4 → IsWritten Tells before after status

@@ -1,5 +1,5 @@
 -- The lines of a session's replies.
-use Rattle.std.specs.Prelude.{ℕ, List, [], ◌∷◌, ◌++◌, codes}
+use Rattle.std.specs.Prelude.{ℕ, ◌-◌, List, [], ◌∷◌, ◌++◌, codes}
 use Rattle.std.specs.List.{flat_map}
 use Rattle.std.specs.Fmt.{decimal}
 use Rattle.rbg_game.specs.Games.{Game}
@@ -26,3 +26,8 @@ spaced number = 32 ∷ decimal number
 -- `line` and the numbers
 abbrev pub line_line : List ℕ → List ℕ
 line_line numbers = codes "line" ++ flat_map spaced numbers ++ 10 ∷ []
+
+-- how many pages there are, and how many of them are used, and how many free
+abbrev pub pages_line : ℕ → ℕ → List ℕ
+pages_line pages free =
+    codes "pages " ++ (decimal pages ++ (codes " used " ++ (decimal (pages - free) ++ (codes " free " ++ (decimal free ++ 10 ∷ [])))))

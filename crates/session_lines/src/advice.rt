@@ -6,7 +6,7 @@ use std::io::Write;
 
 /// What is said first where no page is free.
 const NO_PAGE: &str =
-    "no page is free: the table stays as it was, and a command of fewer units may still fit; else";
+    "no page is free: the table stays as it was, and a command of fewer units may still fit (the line `pages` says how many are free); else";
 
 /// What to do after a refusal.
 pub fn advice(fault: SolverFault) -> &'static str {
@@ -59,4 +59,12 @@ pub fn tell_full<E: Write>(told: &mut E, pages: u32) {
 pub fn tell_fault<E: Write>(told: &mut E, fault: SolverFault) {
     let advice = advice(fault);
     let _told = writeln!(told, "{fault}: {advice}");
+}
+
+/// Says that a look takes no such line, and what does, whether or not it arrives.
+pub fn tell_look<E: Write>(told: &mut E) {
+    let _told = writeln!(
+        told,
+        "a look only asks: give `work`, `begin`, `next` and `end` to `rbgsolve session FILE`"
+    );
 }

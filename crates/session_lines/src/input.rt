@@ -1,35 +1,16 @@
-//! The lines of a session.
+//! The lines of a session or of a look.
 
 ghost use Rattle.std.specs.Prelude.{◌≡◌, ◌≤◌, ◌<◌, ◌∷◌, [], ◌++◌, List, ℕ, length, false, IsTrue, OnOk};
 ghost use Rattle.session_lines.specs.Asked.{SayWords, Asks, IsBare};
 ghost use Rattle.session_lines.specs.aid.Words.{IsFirstWord, IsTrimmed, IsSplit, SaysBehind};
 ghost use Rattle.session_lines.specs.declared.input.Asked.TheVariants.{Usage};
 
-use crate::numbers::number;
+use line_syntax::numbers::number;
 use solver::Units;
 use std::alloc::{AllocError, Global};
 
 /// The most bytes that a line has, without what ends it.
 pub const MAX_LINE_BYTES: usize = 1_048_576;
-
-/// The lines that a session takes, as its help shows them.
-pub const SESSION_LINES: &str = concat!(
-    "Lines:\n",
-    "  work U     does U units of work, 1 to 256, or fewer where the table is finished then\n",
-    "  status     says how far the table is\n",
-    "  value N    who wins position N and in how many moves, or `drawn`, or `open`\n",
-    "  line N     the numbers of the positions along a shortest win from N\n",
-    "  list A B   the values of B positions, 1 to 256, from A on, one a line\n",
-    "  begin      begins a listing of the table as it is now\n",
-    "  next M     its next M rows, 1 to 256, whatever is worked meanwhile, or `done`\n",
-    "  end        ends the listing that was begun last\n",
-    "  show N     the text of position N\n",
-    "  find TEXT  the number of the position with this text\n",
-    "  help       shows these lines on standard error\n",
-    "  quit       ends the session, as the end of the input does\n",
-    "\n",
-    "Any other line is answered by `usage`, and so is `help`.",
-);
 
 /// The bytes of a line so far.
 #[derive(Drop)]
@@ -100,7 +81,7 @@ impl Line {
     }
 }
 
-/// What a line of a session asks for.
+/// What a line asks for, of a session or of a look.
 #[derive(Clone, Copy, PartialEq, Eq, Debug, Drop)]
 pub enum Asked<'a> {
     /// The line has no word.
@@ -109,11 +90,15 @@ pub enum Asked<'a> {
     Work(Units),
     /// How far the table is.
     Status,
+    /// How full the table is.
+    Pages,
     /// What the table says of positions.
     Question(Question<'a>),
+    /// The text of the game.
+    Game,
     /// The rows of a table that is kept as it was.
     Listing(ListingLine),
-    /// The lines that a session takes.
+    /// The lines that there are.
     Help,
     /// The end of the session.
     Quit,
@@ -126,10 +111,14 @@ pub enum Asked<'a> {
 pub enum Question<'a> {
     /// The value of the position with this number.
     Value(u32),
+    /// The value of the position with this text.
+    ValueOf(&'a [u8]),
     /// A best line from the position with this number.
     Line(u32),
     /// The values of this many positions, from the one with this number on.
     List(u32, Units),
+    /// The moves of the position with this number.
+    Moves(u32),
     /// The text of the position with this number.
     Show(u32),
     /// The number of the position with this text.
@@ -148,7 +137,7 @@ pub enum ListingLine {
 }
 
 /// What a line asks for, without what ends it.
-pub(crate) fn asked_by(line: &[u8]) -> Asked<'_>
+fn asked_by(line: &[u8]) -> Asked<'_>
     ensures { Asks line.now result }
 {
     if line.len() > MAX_LINE_BYTES {
@@ -158,13 +147,19 @@ pub(crate) fn asked_by(line: &[u8]) -> Asked<'_>
     if first.is_empty() {
         return Asked::Nothing;
     }
-    if first != b"find".as_slice() {
-        return words_asked(first, rest);
+    if first == b"find".as_slice() {
+        return match rest {
+            [b' ', text @ ..] => Asked::Question(Question::Find(text)),
+            _ => Asked::Usage,
+        };
     }
-    match rest {
-        [b' ', text @ ..] => Asked::Question(Question::Find(text)),
-        _ => Asked::Usage,
+    if first == b"value-of".as_slice() {
+        return match rest {
+            [b' ', text @ ..] => Asked::Question(Question::ValueOf(text)),
+            _ => Asked::Usage,
+        };
     }
+    words_asked(first, rest)
 }
 
 /// What a word asks for with what stands after it.
@@ -191,6 +186,10 @@ fn word_asked<'a>(word: &[u8]) -> Asked<'a>
 {
     if word == b"status".as_slice() {
         Asked::Status
+    } else if word == b"pages".as_slice() {
+        Asked::Pages
+    } else if word == b"game".as_slice() {
+        Asked::Game
     } else if word == b"quit".as_slice() {
         Asked::Quit
     } else if word == b"help".as_slice() {
@@ -225,6 +224,8 @@ fn one_asked<'a>(word: &[u8], number_word: &[u8]) -> Asked<'a>
         Asked::Question(Question::Value(number))
     } else if word == b"line".as_slice() {
         Asked::Question(Question::Line(number))
+    } else if word == b"moves".as_slice() {
+        Asked::Question(Question::Moves(number))
     } else if word == b"show".as_slice() {
         Asked::Question(Question::Show(number))
     } else {
@@ -250,7 +251,7 @@ fn two_asked<'a>(word: &[u8], from_word: &[u8], count_word: &[u8]) -> Asked<'a>
 }
 
 /// The first word of a line, and what stands after it; no word is empty.
-pub(crate) fn next_word(line: &[u8]) -> (&[u8], &[u8])
+fn next_word(line: &[u8]) -> (&[u8], &[u8])
     ensures { IsFirstWord line.now result.0.now result.1.now }
 {
     split_at_space(trimmed(line))

@@ -8,8 +8,10 @@ ghost use Rattle.session_lines.specs.Lines.{IsLine, AreLines};
 ghost use Rattle.session_lines.specs.aid.Lines.{HasPosition, SaysMoves};
 ghost use Rattle.session_lines.specs.Answers.{TellsMoves};
 ghost use Rattle.session_lines.specs.aid.Stops.{IsStoppedLine, IsStopped};
+ghost use Rattle.session_lines.specs.Parts.{AppendsPart};
 
 use crate::lines::move_line;
+use crate::puts::put_bytes;
 use crate::refused::Refused;
 use legal_moves::compiled::Compiled;
 use legal_moves::fault::MoveFault;
@@ -61,7 +63,8 @@ pub fn write_moves<W: Write>(
     requires at { IsPositionOf (compiled_game compiled.now) at.now }
     ensures ok { OnOk result ((written : List ℕ) × TellsMoves (compiled_game compiled.now) at.now 0 written
         × Appends (W.contents out.old) (W.contents out.new) written) }
-    ensures stopped { IfErr result (IsStopped (compiled_game compiled.now) at.now (Appends (W.contents out.old) (W.contents out.new))) }
+    ensures stopped { IfErr result (IsStopped (compiled_game compiled.now) at.now (Appends (W.contents out.old) (W.contents out.new))
+        (AppendsPart (W.contents out.old) (W.contents out.new))) }
 {
     let moves = match compiled.moves(alloc, at) {
         Ok(moves) => moves,
@@ -82,11 +85,11 @@ fn write_answer<W: Write>(
     requires positions { All (HasPosition (compiled_game compiled.now)) moves.now }
     ensures ok { OnOk result ((written : List ℕ) × SaysMoves (compiled_game compiled.now) moves.now written
         × Appends (W.contents out.old) (W.contents out.new) written) }
-    ensures stopped { IfErr result (IsStoppedLine (compiled_game compiled.now) moves.now (Appends (W.contents out.old)
-        (W.contents out.new))) }
+    ensures stopped { IfErr result (IsStoppedLine (compiled_game compiled.now) moves.now (SaysMoves (compiled_game compiled.now) moves.now)
+        (Appends (W.contents out.old) (W.contents out.new)) (AppendsPart (W.contents out.old) (W.contents out.new))) }
 {
     if moves.len() == 0 {
-        out.write_all(b"ended\n")?;
+        put_bytes(out, b"ended\n")?;
     } else {
         write_lines(alloc, compiled, moves, out)?;
     }
@@ -104,12 +107,12 @@ fn write_lines<W: Write>(
     requires positions { All (HasPosition (compiled_game compiled.now)) moves.now }
     ensures ok { OnOk result ((written : List ℕ) × AreLines (compiled_game compiled.now) moves.now written
         × Appends (W.contents out.old) (W.contents out.new) written) }
-    ensures stopped { IfErr result (IsStoppedLine (compiled_game compiled.now) moves.now (Appends (W.contents out.old)
-        (W.contents out.new))) }
+    ensures stopped { IfErr result (IsStoppedLine (compiled_game compiled.now) moves.now (AreLines (compiled_game compiled.now) moves.now)
+        (Appends (W.contents out.old) (W.contents out.new)) (AppendsPart (W.contents out.old) (W.contents out.new))) }
 {
     for k in 0..moves.len() {
         let line = line_at(alloc, compiled, moves, k)?;
-        out.write_all(&line)?;
+        put_bytes(out, &line)?;
     }
     Ok(())
 }

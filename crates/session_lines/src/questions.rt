@@ -4,22 +4,27 @@ ghost use Rattle.std.specs.Prelude.{◌≡◌, ◌∷◌, ◌++◌, [], ℕ, Lis
 ghost use Rattle.std.specs.Io.KnownBytes.{Appends};
 ghost use Rattle.game_file.specs.Calls.{IsAsked};
 ghost use Rattle.solver.specs.Machine.{work as work_on};
+ghost use Rattle.solver.specs.Moves.{MovesCause};
 ghost use Rattle.solver.specs.Runs.{IsTurnWithCause};
 ghost use Rattle.solver.specs.Queries.{Tells, NumberCause, LineCause, ShowCause, FindCause};
 ghost use Rattle.solver.specs.Solvers.{state, IsReady};
 ghost use Rattle.solver.specs.Units.{units_in};
-ghost use Rattle.session_lines.specs.Answered.{IsValueLine, AreRowLines, IsPlayLine, IsShownLine, IsFoundLine, IsAnswerTo, QuestionCause};
-ghost use Rattle.session_lines.specs.Answered.{status_of_fault, IsDoneFor, IsPlain, IsReplied, IsTextOrRefusal, IsWorkReplied};
+ghost use Rattle.session_lines.specs.Answered.{IsValueLine, IsValueLineOf, AreRowLines, AreMoveLines, IsPlayLine, IsShownLine, IsFoundLine};
+ghost use Rattle.session_lines.specs.Answered.{IsAnswerTo, QuestionCause};
+ghost use Rattle.session_lines.specs.Answered.{status_of_fault, IsDoneFor, IsNoCall, IsReplied, IsTextOrRefusal, IsWorkReplied};
 ghost use Rattle.session_lines.specs.Moments.{noted_in};
 ghost use Rattle.session_lines.specs.Parts.{AppendsPart};
+ghost use Rattle.session_lines.specs.Replies.{pages_line};
 ghost use Rattle.session_lines.specs.Told.{fault_line};
 
 use crate::advice::{tell_fault, tell_full};
-use crate::input::{Asked, Question, SESSION_LINES};
+use crate::input::{Asked, Question};
+use crate::known::known_move_lines;
 use crate::moments::Moments;
 use crate::puts::{put_line, put_refused, put_reply, status_of};
-use crate::replies::{found_line, numbers_line, put_status, row_lines, value_line};
+use crate::replies::{found_line, numbers_line, put_pages, put_status, row_lines, value_line};
 use game_file::GameFile;
+use line_syntax::help::LINES;
 use solver::{Command, FileSolver, Reply, SolverFault, Units};
 use std::alloc::Global;
 use std::io::{self, Write};
@@ -46,6 +51,8 @@ pub fn put_answer<F: GameFile, W: Write, E: Write>(
         × IsReplied F.stores asked.entry (state solver.old) (state solver.new) status line
         × AppendsPart (W.contents out.old) (W.contents out.new) line) }
     ensures noted { noted_in moments.new ≡ noted_in moments.old ++ (solver.new, out.old) ∷ [] }
+    ensures pages { asked.entry ≡ Asked.Pages → OnOk result (Appends (W.contents out.old) (W.contents out.new)
+        (pages_line (state solver.old).capacity (F.free solver.old.file))) }
 {
     match asked {
         Asked::Work(units) => put_worked(solver, units, out, told, moments),
@@ -68,24 +75,34 @@ fn put_plain<F: GameFile, W: Write, E: Write>(
     out: &mut W,
     told: &mut E,
 ) -> io::Result<u8>
-    ensures replied { IsReady solver.now → IsPlain asked.entry → IfOk result (λ status. (line : List ℕ)
+    ensures replied { IsReady solver.now → IsNoCall asked.entry → IfOk result (λ status. (line : List ℕ)
         × IsReplied F.stores asked.entry (state solver.now) (state solver.now) status line
         × Appends (W.contents out.old) (W.contents out.new) line) }
-    ensures untold { IsReady solver.now → IsPlain asked.entry → OnErr result ((status : ℕ) × (line : List ℕ)
+    ensures untold { IsReady solver.now → IsNoCall asked.entry → OnErr result ((status : ℕ) × (line : List ℕ)
         × IsReplied F.stores asked.entry (state solver.now) (state solver.now) status line
         × AppendsPart (W.contents out.old) (W.contents out.new) line) }
+    ensures pages { asked.entry ≡ Asked.Pages → OnOk result (Appends (W.contents out.old) (W.contents out.new)
+        (pages_line (state solver.now).capacity (F.free solver.now.file))) }
 {
     match asked {
         Asked::Nothing | Asked::Quit => Ok(0),
         Asked::Help => {
             let status = put_done(out, b"usage\n")?;
-            let _told = writeln!(told, "{SESSION_LINES}");
+            let _told = writeln!(told, "{LINES}");
             Ok(status)
         }
         Asked::Status => {
             put_status(out, solver.status())?;
             Ok(0)
         }
+        Asked::Pages => {
+            put_pages(out, solver.capacity(), solver.free_pages())?;
+            Ok(0)
+        }
+        Asked::Game => match solver.text() {
+            Some(text) => put_done(out, text),
+            None => put_fault(SolverFault::NoGame, out, told),
+        },
         _ => put_done(out, b"usage\n"),
     }
 }
@@ -169,7 +186,7 @@ fn put_worked<F: GameFile, W: Write, E: Write>(
 }
 
 /// The text that answers a question, in whole lines.
-pub(crate) fn text_of<F: GameFile>(
+fn text_of<F: GameFile>(
     alloc: Global,
     solver: &mut FileSolver<F>,
     question: Question<'_>,
@@ -182,8 +199,10 @@ pub(crate) fn text_of<F: GameFile>(
 {
     match question {
         Question::Value(number) => value_of(alloc, solver, number),
+        Question::ValueOf(text) => value_found(alloc, solver, text),
         Question::List(from, count) => rows_of(alloc, solver, from, count),
         Question::Line(number) => play_of(alloc, solver, number),
+        Question::Moves(number) => moves_of(alloc, solver, number),
         Question::Show(number) => shown(solver, number),
         Question::Find(text) => found(alloc, solver, text),
     }
@@ -205,6 +224,22 @@ fn value_of<F: GameFile>(
     Ok(value_line(alloc, solver.needs_game()?, value)?)
 }
 
+/// The line of the value of the position with this text.
+fn value_found<F: GameFile>(
+    alloc: Global,
+    solver: &mut FileSolver<F>,
+    text: &[u8],
+) -> Result<Vec<u8>, SolverFault>
+    ensures ready { IsReady solver.old → IsReady solver.new }
+    ensures lasts { F.lasts solver.old.file solver.new.file }
+    ensures asked { IsReady solver.old → IsAsked F.stores (state solver.old) (state solver.new) }
+    ensures text { IsReady solver.old → IfOk result (λ line. Tells (IsValueLineOf text.now line.items) (state solver.old)) }
+    ensures cause { IsReady solver.old → IfErr result (FindCause text.now (state solver.old) (state solver.new)) }
+{
+    let value = solver.find_value(text)?;
+    Ok(value_line(alloc, solver.needs_game()?, value)?)
+}
+
 /// The lines of a list.
 fn rows_of<F: GameFile>(
     alloc: Global,
@@ -220,6 +255,23 @@ fn rows_of<F: GameFile>(
 {
     let rows = solver.list(from, count)?;
     Ok(row_lines(alloc, solver.needs_game()?, &rows)?)
+}
+
+/// The lines of a position's moves, the best first for who has the turn.
+fn moves_of<F: GameFile>(
+    alloc: Global,
+    solver: &mut FileSolver<F>,
+    number: u32,
+) -> Result<Vec<u8>, SolverFault>
+    ensures ready { IsReady solver.old → IsReady solver.new }
+    ensures lasts { F.lasts solver.old.file solver.new.file }
+    ensures asked { IsReady solver.old → IsAsked F.stores (state solver.old) (state solver.new) }
+    ensures text { IsReady solver.old → IfOk result (λ text. Tells (AreMoveLines number text.items) (state solver.old)) }
+    ensures cause { IsReady solver.old → IfErr result (MovesCause number (state solver.old) (state solver.new)) }
+{
+    let known = solver.moves(number)?;
+    let sorted = known.into_best_first()?;
+    Ok(known_move_lines(alloc, solver.needs_game()?, &sorted)?)
 }
 
 /// The line of a best line's numbers.

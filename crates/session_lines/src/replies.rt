@@ -7,7 +7,7 @@ ghost use Rattle.std.specs.List.{flat_map};
 ghost use Rattle.rbg_game.specs.Meaning.{game_of};
 ghost use Rattle.position_pack.specs.Texts.{variable_name, role_text};
 ghost use Rattle.rbg_game.specs.declared.roles.Role.TheVariants as role;
-ghost use Rattle.session_lines.specs.Replies.{value_text, row_line, spaced, line_line};
+ghost use Rattle.session_lines.specs.Replies.{value_text, row_line, spaced, line_line, pages_line};
 ghost use Rattle.session_lines.specs.Counted.{counts_text, IsCountsLine, IsStatusLine, IsWorkLine};
 ghost use Rattle.session_lines.specs.Parts.{AppendsPart};
 
@@ -158,6 +158,17 @@ pub(crate) fn put_field<W: Write>(out: &mut W, name: &[u8], number: u32) -> io::
 {
     put_bytes(out, name)?;
     put_decimal(out, number)
+}
+
+/// Writes the line that tells how full a table of this many pages is, of which so many are free. It takes no memory.
+pub fn put_pages<W: Write>(out: &mut W, pages: u32, free: u32) -> io::Result<()>
+    ensures all { OnOk result (Appends (W.contents out.old) (W.contents out.new) (pages_line pages free)) }
+    ensures part { OnErr result (AppendsPart (W.contents out.old) (W.contents out.new) (pages_line pages free)) }
+{
+    put_field(out, b"pages ", pages)?;
+    put_field(out, b" used ", pages.saturating_sub(free))?;
+    put_field(out, b" free ", free)?;
+    put_line(out, b"\n")
 }
 
 /// Writes how far a table is, as a line.

@@ -1,7 +1,6 @@
 //! A game that was read, and what is told of its moves.
 
-ghost use Rattle.std.specs.Prelude.{◌≡◌, ◌⊎◌, ℕ, List, MatchOption, IfOk, IfErr};
-ghost use Rattle.std.specs.Io.KnownBytes.{Appends};
+ghost use Rattle.std.specs.Prelude.{MatchOption, IfOk, IfErr};
 ghost use Rattle.rbg_game.specs.Names.{HasProperNames};
 ghost use Rattle.rbg_game.specs.Positions.{IsPositionOf};
 ghost use Rattle.rbg_game.specs.declared.position.Position.{Position as TextbookPosition};
@@ -10,6 +9,7 @@ ghost use Rattle.rbg_read.specs.Reading.{Reads};
 ghost use Rattle.legal_moves.specs.Compiled.{compiled_game, IsSoundCompiled};
 ghost use Rattle.legal_moves.specs.Moves.{start_of};
 ghost use Rattle.session_lines.specs.Answers.{TellsMoves, TellsMovesAt, IsRefused};
+ghost use Rattle.session_lines.specs.Parts.{IsWritten};
 
 use crate::move_lines::{Stop, write_moves};
 use crate::refusals::write_refused;
@@ -68,8 +68,8 @@ impl Rulebook {
     /// Writes the moves of the start, one a line; `ended` where there is none; or `refused` and a code. Gives the exit status, which
     /// is 4 where the output failed.
     pub fn put_start_moves<W: Write>(&self, alloc: Global, out: &mut W) -> u8
-        ensures { (result ≡ 4) ⊎ ((written : List ℕ) × TellsMoves (compiled_game self.now) (start_of (compiled_game self.now)) result written
-            × Appends (W.contents out.old) (W.contents out.new) written) }
+        ensures { IsWritten (TellsMoves (compiled_game self.now) (start_of (compiled_game self.now))) (W.contents out.old)
+            (W.contents out.new) result }
     {
         let start = self.compiled.start();
         self.put_moves(alloc, &start, out)
@@ -78,8 +78,7 @@ impl Rulebook {
     /// Writes the moves of the position with this text, as `put_start_moves` does those of the start; or `refused S10` where it is
     /// the text of no position of the game.
     pub fn put_moves_at<W: Write>(&self, alloc: Global, position: &[u8], out: &mut W) -> u8
-        ensures { (result ≡ 4) ⊎ ((written : List ℕ) × TellsMovesAt (compiled_game self.now) position.now result written
-            × Appends (W.contents out.old) (W.contents out.new) written) }
+        ensures { IsWritten (TellsMovesAt (compiled_game self.now) position.now) (W.contents out.old) (W.contents out.new) result }
     {
         match read_position(self.compiled.game(), position) {
             Some(at) => self.put_moves(alloc, &at, out),
@@ -90,8 +89,7 @@ impl Rulebook {
     /// Writes the moves of a position, as `put_start_moves` does those of the start.
     fn put_moves<W: Write>(&self, alloc: Global, at: &Position, out: &mut W) -> u8
         requires { IsPositionOf (compiled_game self.now) at.now }
-        ensures { (result ≡ 4) ⊎ ((written : List ℕ) × TellsMoves (compiled_game self.now) at.now result written
-            × Appends (W.contents out.old) (W.contents out.new) written) }
+        ensures { IsWritten (TellsMoves (compiled_game self.now) at.now) (W.contents out.old) (W.contents out.new) result }
     {
         match write_moves(alloc, &self.compiled, at, out) {
             Ok(()) => 0,

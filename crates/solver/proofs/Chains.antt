@@ -2,7 +2,7 @@
 use Rattle.std.proofs.Common.{◌≡◌, inl, inr, ℕ, List, [], ◌∷◌, ◌++◌, Option, None, refl, sym, subst}
 use Rattle.std.specs.Prelude.{IsTrue}
 use Rattle.sector_disk.specs.Disk.{Picture, Shown, Disk, MayLeave}
-use Rattle.sector_disk.specs.aid.Moments.{reads_left, still_honest}
+use Rattle.sector_disk.specs.aid.Moments.{reads_left, still_honest, leaves_at}
 use Rattle.root_pair.specs.Root.{IsTablePicture}
 use Rattle.game_file.specs.Kept.{Kept, Layout, in_any}
 use Rattle.game_file.specs.State.{State}
@@ -47,8 +47,8 @@ module _ (Stores : ℕ → Layout) where
       let (kept, leads, stores) =
       sitting_leads Stores was sitting left sits (still_honest opened.from.goes_on found.honest) (subst (λ (k : Option Kept). IsSound k) (sym same) now_sound) (opened.now found.honest) picture may in
       (kept, lead_more sittings sitting begins old kept led (subst (λ (k : Option Kept). LeadTo (sitting ∷ []) k kept) same leads), stores)
-  history_leads sound (was_not_opened history found leaves moment from to) picture may =
-      history_leads sound history picture (found.as_left picture (leaves.each moment picture from to may))
+  history_leads sound (was_not_opened history found leaves stop) picture may =
+      history_leads sound history picture (found.as_left picture (leaves_at leaves stop picture may))
 
   -- a disk that holds a table is opened with it
   pub opened_so : (disk : Disk) (count : ℕ) (state : State) (kept : Option Kept) → IsTrue disk.honest → Holds (in_any Stores) disk.now.contents kept → IsOpened Stores disk count state

@@ -68,8 +68,7 @@ module _ (Stores : ℕ → Layout) (disk : Disk) (count : ℕ) (file : State) wh
       since : IsOpenedFile Stores disk count file → {later : State} → IsAsked Stores file later → IsTrue disk.honest → LeavesOnly disk later.disk (MayLeave disk.now)
       since found asked honest =
           leaves_then asked.ahead.goes_on (found.leaves honest)
-          (leaves_more (λ picture left. (found.leaves honest).each file.disk.clock picture found.from.goes_on.later (omega arith)
-          (subst (λ shown. MayLeave shown picture) (sym file.disk.was_now) left))
+          (leaves_more (λ picture left. (found.leaves honest).present picture left)
           (asked.leaves (still_honest found.from.goes_on honest)))
 
   -- the disk as it comes back, because the text is no game or a position is not one of its positions
@@ -81,8 +80,7 @@ module _ (Stores : ℕ → Layout) (disk : Disk) (count : ℕ) (file : State) wh
         from = from_first found.from it.later it.asked;
         leaves = λ honest.
             leaves_then it.asked.ahead.goes_on (found.leaves honest)
-            (leaves_more (λ picture left. (found.leaves honest).each file.disk.clock picture found.from.goes_on.later (omega arith)
-            (subst (λ shown. MayLeave shown picture) (sym file.disk.was_now) left))
+            (leaves_more (λ picture left. (found.leaves honest).present picture left)
             (it.asked.leaves (still_honest found.from.goes_on honest)));
       }))
 
@@ -126,8 +124,7 @@ module _ (Stores : ℕ → Layout) (disk : Disk) (count : ℕ) (file : State) wh
   created_since made {later} asked honest =
       subst (λ (pages : ℕ). LeavesOnly disk later.disk (OldOrEmpty (Stores pages) disk.now)) (sym asked.ahead.capacity)
       (leaves_then asked.ahead.goes_on (made.leaves honest)
-      (leaves_more (λ picture left. (made.leaves honest).each file.disk.clock picture made.from.goes_on.later (omega arith)
-      (subst (λ shown. MayLeave shown picture) (sym file.disk.was_now) left))
+      (leaves_more (λ picture left. (made.leaves honest).present picture left)
       (asked.leaves (still_honest made.from.goes_on honest))))
 
   pub created : IsCreatedFile Stores disk count file → (later : State) → IsAsked Stores file later → Leaves Stores later → IsCreated Stores disk count later

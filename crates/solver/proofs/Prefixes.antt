@@ -2,8 +2,8 @@
 use Rattle.std.proofs.Common.{◌≡◌, ◌⊎◌, inl, inr, ℕ, ◌≤◌, ◌<◌, Bool, true, false, List, [], ◌∷◌, ◌++◌, map, Option, None, Some, refl, sym, ◌∙◌, ap, subst, arith}
 use Rattle.std.specs.Prelude.{IsTrue}
 use Rattle.std.proofs.lemmas.Bool.{cases_lt}
-use Rattle.sector_disk.specs.Disk.{Picture, Shown, GoesOn, MayLeave}
-use Rattle.sector_disk.specs.aid.Moments.{still_honest, goes_on_refl, goes_on_trans}
+use Rattle.sector_disk.specs.Disk.{Picture, Shown, GoesOn, MayLeave, StopsIn, at_moment, at_present}
+use Rattle.sector_disk.specs.aid.Moments.{still_honest, goes_on_refl, goes_on_trans, leaves_at, leaves_now}
 use Rattle.rbg_read.specs.Reading.{Reads}
 use Rattle.position_pack.specs.declared.kind.PackingKind.{PackingKind}
 use Rattle.position_pack.specs.declared.kind.PackingKind.TheVariants.{Bits}
@@ -133,10 +133,10 @@ module _ (Stores : ℕ → Layout) where
 
   -- the sitting ends in a growth
   abbrev IsInAGrowth : {last : State} {in_doubt : Option Command} {left : Shown} → Ends Stores last in_doubt left → Type 0
-  IsInAGrowth by_closing = ⊥
-  IsInAGrowth (in_a_question asked moment from to) = ⊥
-  IsInAGrowth (in_a_growth growth moment from to) = Unit {0}
-  IsInAGrowth (in_a_command turn moment from to) = ⊥
+  IsInAGrowth (by_closing stop) = ⊥
+  IsInAGrowth (in_a_question asked stop) = ⊥
+  IsInAGrowth (in_a_growth growth stop) = Unit {0}
+  IsInAGrowth (in_a_command turn stop) = ⊥
 
   -- what is left of a table in a sitting: it is stored in this many pages, and the sitting leads to it
   record IsLeft (in_doubt : Option Command) (last : State) (pages : ℕ) (picture : Picture) (kept : Option Kept) : Type 0 where
@@ -148,13 +148,14 @@ module _ (Stores : ℕ → Layout) where
   either command last next picture does (inl stores) = (last.kept, record { may = (Refused DiskFailed, refl); stores = stores })
   either command last next picture does (inr stores) = (next, record { may = does; stores = stores })
 
-  in_command : (b : Bool) (command : Command) (reply : Reply) (last is : State) → IsTurn Stores command reply last is → last.closed ≡ false → is.closed ≡ b → IsFit last
-      → (moment : ℕ) (picture : Picture) → last.disk.clock ≤ moment → moment ≤ is.disk.clock → MayLeave (is.disk.was moment) picture → (kept : Option Kept) × IsLeft (Some command) last last.capacity picture kept
-  in_command false command reply last is turn open_ its_state fit moment picture from to left =
-      either command last is.kept picture (reply, turn.does fit.honest) ((turn.between fit.honest open_ its_state).each moment picture from to left)
-  in_command true command reply last is turn open_ its_state fit moment picture from to left =
+  in_command : {moment : ℕ} {left : Shown} (b : Bool) (command : Command) (reply : Reply) (last is : State) → IsTurn Stores command reply last is
+      → last.closed ≡ false → is.closed ≡ b → IsFit last → StopsIn last.disk is.disk moment left → (picture : Picture) → MayLeave left picture
+      → (kept : Option Kept) × IsLeft (Some command) last last.capacity picture kept
+  in_command false command reply last is turn open_ its_state fit stop picture may =
+      either command last is.kept picture (reply, turn.does fit.honest) (leaves_at (turn.between fit.honest open_ its_state) stop picture may)
+  in_command true command reply last is turn open_ its_state fit stop picture may =
       let (next, does, leaves) = (turn.failed open_ its_state).leaves fit.honest in
-      either command last next picture does (leaves.each moment picture from to left)
+      either command last next picture does (leaves_at leaves stop picture may)
 
   -- it is left in as many pages as the last state has, but in a growth
   record IsLeftBehind {last : State} {in_doubt : Option Command} {left : Shown} (ends : Ends Stores last in_doubt left) (picture : Picture) : Type 0 where
@@ -165,21 +166,25 @@ module _ (Stores : ℕ → Layout) where
 
   ends_left : {last : State} {in_doubt : Option Command} {left : Shown} (ends : Ends Stores last in_doubt left) → last.closed ≡ false → IsFit last
       → (picture : Picture) → MayLeave left picture → IsLeftBehind ends picture
-  ends_left {last} by_closing open_ fit picture left =
-      record { kept = last.kept; pages = last.capacity; is = record { may = refl; stores = fit.leaves picture left }; as_many = λ not. refl }
-  ends_left {last} (in_a_question asked moment from to) open_ fit picture left = record {
+  ends_left {last} (by_closing stop) open_ fit picture left = record {
     kept = last.kept;
     pages = last.capacity;
-    is = record { may = refl; stores = (asked.since fit.honest open_).each moment picture from to left };
+    is = record { may = refl; stores = leaves_at (leaves_now last.disk fit.leaves) stop picture left };
     as_many = λ not. refl;
   }
-  ends_left {last} (in_a_growth {pages} {is} growth moment from to) open_ fit picture left =
-      elim ((growth.between fit.honest open_).each moment picture from to left) [
+  ends_left {last} (in_a_question asked stop) open_ fit picture left = record {
+    kept = last.kept;
+    pages = last.capacity;
+    is = record { may = refl; stores = leaves_at (asked.since fit.honest open_) stop picture left };
+    as_many = λ not. refl;
+  }
+  ends_left {last} (in_a_growth {pages} {is} growth stop) open_ fit picture left =
+      elim (leaves_at (growth.between fit.honest open_) stop picture left) [
         | inl before ↦ record { kept = last.kept; pages = last.capacity; is = record { may = refl; stores = before }; as_many = λ not. refl }
         | inr after ↦ record { kept = last.kept; pages = pages; is = record { may = refl; stores = after }; as_many = λ not. absurd (not tt) }
       ]
-  ends_left {last} (in_a_command {asked} {reply} {is} turn moment from to) open_ fit picture left =
-      let (kept, it) = in_command is.closed asked reply last is turn open_ refl fit moment picture from to left in
+  ends_left {last} (in_a_command {asked} {reply} {is} turn stop) open_ fit picture left =
+      let (kept, it) = in_command is.closed asked reply last is turn open_ refl fit stop picture left in
       record { kept = kept; pages = last.capacity; is = it; as_many = λ not. refl }
 
   -- what is left of a sitting is a table that it leads to, in some number of pages
@@ -265,61 +270,64 @@ module _ (Stores : ℕ → Layout) where
     apart = cut.apart;
   }
 
-  -- a sitting ends by closing, where the disk shows this
-  closing : (was : State) (left : Shown) → left ≡ was.disk.now → (ends : Ends Stores was None left) × (IsInAGrowth ends → ⊥)
-  closing was left same = subst (λ (shown : Shown). (ends : Ends Stores was None shown) × (IsInAGrowth ends → ⊥)) (sym same) (by_closing, λ never. never)
+  -- where the first command was answered by next, and the solver stays open
+  cut_open : {moment : ℕ} {left : Shown} (command : Command) (commands : List Command) (reply : Reply) (replies : List Reply) (was mid is : State)
+      → was.closed ≡ false → IsTurnWithCause Stores command reply was mid → mid.closed ≡ false → Turns Stores commands replies mid is
+      → ((moment : ℕ) (left : Shown) → StopsIn mid.disk is.disk moment left → IsCut moment commands replies mid is left)
+      → StopsIn was.disk is.disk moment left → IsCut moment (command ∷ commands) (reply ∷ replies) was is left
+  cut_open command commands reply replies was mid is open_ it mid_open rest then at_present =
+      cut_behind is.disk.clock command commands reply replies was mid is is.disk.now it (turns_go_on commands replies mid is rest).later mid_open
+      (then is.disk.clock is.disk.now at_present)
+  cut_open command commands reply replies was mid is open_ it mid_open rest then (at_moment k from to) = elim (cases_lt k mid.disk.clock) [
+    | inl less ↦
+        subst (λ (shown : Shown). IsCut k (command ∷ commands) (reply ∷ replies) was is shown)
+        (sym ((turns_go_on commands replies mid is rest).past k (omega (arith, less))))
+        (cut_before k command commands reply replies was mid is (mid.disk.was k) open_ it (inl less) rest
+        (in_a_command it.turn (at_moment k from (omega (arith, less)))) (λ never. never))
+    | inr le ↦ cut_behind k command commands reply replies was mid is (is.disk.was k) it le mid_open (then k (is.disk.was k) (at_moment k le to))
+  ]
 
-  cut_at : (commands : List Command) (replies : List Reply) (was is : State) → Turns Stores commands replies was is → was.closed ≡ false
-      → (moment : ℕ) → was.disk.clock ≤ moment → moment ≤ is.disk.clock → IsCut moment commands replies was is (is.disk.was moment)
-  cut_at [] [] was is same open_ moment from to =
-      let clock : is.disk.clock ≡ was.disk.clock = ap (λ (s : State). s.disk.clock) same in
-      let at : moment ≡ is.disk.clock = omega (arith, from, to, clock) in
-      let left : is.disk.was moment ≡ was.disk.now = ap is.disk.was at ∙ is.disk.was_now ∙ ap (λ (s : State). s.disk.now) same in
-      let (ends, apart) = closing was (is.disk.was moment) left in
-      record {
-        sitting = record { begins = was.kept; answered = []; reached = was.kept; in_doubt = None };
-        part = same;
-        sits = record { begins = refl; last = was; reached = refl; used = no_call; is_open = open_; ends = ends };
-        steady = refl;
-        apart = apart;
-      }
-  cut_at [] (reply ∷ replies) was is none open_ moment from to = absurd none
-  cut_at (command ∷ commands) [] was is none open_ moment from to = absurd none
-  cut_at (command ∷ commands) (reply ∷ replies) was is (mid, it, rest) open_ moment from to =
-      by mid.closed refl (λ mid_open later. cut_at commands replies mid is rest mid_open moment later to)
+  cut_at : {moment : ℕ} {left : Shown} (commands : List Command) (replies : List Reply) (was is : State) → Turns Stores commands replies was is
+      → was.closed ≡ false → StopsIn was.disk is.disk moment left → IsCut moment commands replies was is left
+  cut_at {moment} {left} [] [] was is same open_ stop = record {
+    sitting = record { begins = was.kept; answered = []; reached = was.kept; in_doubt = None };
+    part = same;
+    sits = record {
+      begins = refl;
+      last = was;
+      reached = refl;
+      used = no_call;
+      is_open = open_;
+      ends = by_closing (subst (λ (s : State). StopsIn was.disk s.disk moment left) same stop);
+    };
+    steady = refl;
+    apart = λ never. never;
+  }
+  cut_at [] (reply ∷ replies) was is none open_ stop = absurd none
+  cut_at (command ∷ commands) [] was is none open_ stop = absurd none
+  cut_at {moment} {left} (command ∷ commands) (reply ∷ replies) was is (mid, it, rest) open_ stop =
+      by mid.closed refl (λ mid_open moment left later. cut_at commands replies mid is rest mid_open later)
     where
-      turn : IsTurn Stores command reply was mid
-      turn = it.turn
-
-      goes_on : GoesOn mid.disk is.disk
-      goes_on = turns_go_on commands replies mid is rest
-
-      -- what was shown by then is not changed
-      then_shown : moment ≤ mid.disk.clock → mid.disk.was moment ≡ is.disk.was moment
-      then_shown le = sym (goes_on.past moment le)
-
-      before : moment < mid.disk.clock → IsCut moment (command ∷ commands) (reply ∷ replies) was is (is.disk.was moment)
-      before less = subst (λ (shown : Shown). IsCut moment (command ∷ commands) (reply ∷ replies) was is shown) (then_shown (omega (arith, less)))
-          (cut_before moment command commands reply replies was mid is (mid.disk.was moment) open_ it (inl less) rest (in_a_command turn moment from (omega (arith, less))) (λ never. never))
-
-      by : (b : Bool) → mid.closed ≡ b → (mid.closed ≡ false → mid.disk.clock ≤ moment → IsCut moment commands replies mid is (is.disk.was moment))
-          → IsCut moment (command ∷ commands) (reply ∷ replies) was is (is.disk.was moment)
+      by : (b : Bool) → mid.closed ≡ b
+          → (mid.closed ≡ false → (moment : ℕ) (left : Shown) → StopsIn mid.disk is.disk moment left → IsCut moment commands replies mid is left)
+          → IsCut moment (command ∷ commands) (reply ∷ replies) was is left
       by true shut then =
-          let clock : is.disk.clock ≡ mid.disk.clock = ap (λ (s : State). s.disk.clock) (turns_shut commands replies mid is rest shut) in
-          let le : moment ≤ mid.disk.clock = omega (arith, to, clock) in
-          subst (λ (shown : Shown). IsCut moment (command ∷ commands) (reply ∷ replies) was is shown) (then_shown le)
-          (cut_before moment command commands reply replies was mid is (mid.disk.was moment) open_ it (inr shut) rest (in_a_command turn moment from le) (λ never. never))
-      by false mid_open then = elim (cases_lt moment mid.disk.clock) [
-        | inl less ↦ before less
-        | inr le ↦ cut_behind moment command commands reply replies was mid is (is.disk.was moment) it le mid_open (then mid_open le)
-      ]
+          cut_before moment command commands reply replies was mid is left open_ it (inr shut) rest
+          (in_a_command it.turn (subst (λ (s : State). StopsIn was.disk s.disk moment left) (turns_shut commands replies mid is rest shut) stop))
+          (λ never. never)
+      by false mid_open then = cut_open command commands reply replies was mid is open_ it mid_open rest (then mid_open) stop
 
   -- a stop in a run leaves a table that the first of its commands lead to
   pub stopped_run : (commands done : List Asked) (before after : List Reply) (was is : State) → done ≡ commands → IsRun Stores done before after was is
       → IsTrue was.disk.honest → was.closed ≡ false → IsSound was.kept
       → (added : List Reply) × (after ≡ before ++ added) × LeavesAPrefix Stores (map command_of commands) added was is
   stopped_run commands done before after was is all run honest open_ sound =
-      let left : LeavesAPrefix Stores (map command_of done) run.added was is = λ moment from to.
-      let cut = cut_at (map command_of done) run.added was is run.turns open_ moment from to in
-      (cut.sitting, cut.part, cut.sits, λ picture may. sitting_holds was cut.sitting (is.disk.was moment) cut.sits cut.steady cut.apart honest sound (run.begins honest open_) picture may) in
+      let left : LeavesAPrefix Stores (map command_of done) run.added was is = λ moment shown stop.
+      let cut = cut_at (map command_of done) run.added was is run.turns open_ stop in (
+        cut.sitting,
+        cut.part,
+        cut.sits,
+        λ picture may.
+            sitting_holds was cut.sitting shown cut.sits cut.steady cut.apart honest sound (run.begins honest open_) picture may,
+      ) in
       (run.added, run.replies_are, subst (λ (cs : List Asked). LeavesAPrefix Stores (map command_of cs) run.added was is) all left)

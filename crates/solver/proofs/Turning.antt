@@ -90,8 +90,7 @@ module _ (Stores : ℕ → Layout) where
         at = λ honest was is picture left.
             subst (λ (pages : ℕ). Stores pages picture new.kept) (sym ahead.capacity)
             (subst (λ (kept : Option Kept). Stores old.capacity picture kept) (sym (it.stops.same honest))
-            ((it.stops.since honest is).each new.disk.clock picture ahead.goes_on.later (omega arith)
-            (subst (λ shown. MayLeave shown picture) (sym new.disk.was_now) left)));
+            ((it.stops.since honest is).present picture left));
         failed = λ was is. record {
           reply_is = ap Refused (is_disk fault old.closed new.closed it.still was is);
           leaves = λ honest. it.stops.failed honest was is;

@@ -1,6 +1,6 @@
 -- The headline: what a stop of the power leaves of a table in the course of many commands, and what that says of the game.
 use Rattle.std.specs.Prelude.{◌≡◌, ◌⊎◌, ◌↔◌, ℕ, ◌≤◌, ◌<◌, true, false, List, [], ◌∷◌, Option, None, Some, IsTrue}
-use Rattle.sector_disk.specs.Disk.{Picture, Disk, MayLeave, Grew}
+use Rattle.sector_disk.specs.Disk.{Picture, Shown, Disk, MayLeave, StopsIn, Grew}
 use Rattle.rbg_game.specs.Games.{Game}
 use Rattle.rbg_game.specs.declared.roles.Player.{Player}
 use Rattle.rbg_read.specs.Reading.{Reads}
@@ -70,12 +70,13 @@ module _ (Stores : ℕ → Layout) where
       × (mid.disk.clock ≤ moment) × (mid.closed ≡ false) × IsAnsweredBy moment answered in_doubt commands replies mid is)
   IsAnsweredBy _ _ _ _ _ _ _ = ⊥
 
-  -- a stop at any moment of the run ends a sitting with the first of the commands: all that were answered by then, and perhaps the
-  -- next, in doubt; what it leaves holds a table that they lead to, and what that says is so
+  -- a stop at any moment of the run, or behind the last, ends a sitting with the first of the commands: all that were
+  -- answered by then, and perhaps the next, in doubt; what it leaves holds a table that they lead to, and what that
+  -- says is so
   abbrev pub LeavesAPrefix : List Command → List Reply → State → State → Type 0
   LeavesAPrefix commands replies old new =
-      (moment : ℕ) → old.disk.clock ≤ moment → moment ≤ new.disk.clock
+      (moment : ℕ) (left : Shown) → StopsIn old.disk new.disk moment left
       → (sitting : Sitting) × IsAnsweredBy moment sitting.answered sitting.in_doubt commands replies old new
-      × IsSitting Stores old sitting (new.disk.was moment)
-      × ((picture : Picture) → MayLeave (new.disk.was moment) picture
+      × IsSitting Stores old sitting left
+      × ((picture : Picture) → MayLeave left picture
       → (kept : Option Kept) × LeadTo (sitting ∷ []) old.kept kept × Holds (Stores old.capacity) picture kept × IsExact kept)

@@ -1,6 +1,6 @@
 -- All that may come of a table in many sittings, each of which a stop of the power may end.
-use Rattle.std.specs.Prelude.{◌≡◌, ℕ, ◌≤◌, true, false, List, [], ◌∷◌, ◌++◌, Option, None, Some, IsTrue}
-use Rattle.sector_disk.specs.Disk.{Picture, Shown, Disk, LeavesOnly, MayLeave}
+use Rattle.std.specs.Prelude.{◌≡◌, ℕ, true, false, List, [], ◌∷◌, ◌++◌, Option, None, Some, IsTrue}
+use Rattle.sector_disk.specs.Disk.{Picture, Shown, Disk, LeavesOnly, MayLeave, StopsIn}
 use Rattle.game_file.specs.Calls.{IsAsked}
 use Rattle.game_file.specs.Kept.{Kept, Layout, in_any}
 use Rattle.game_file.specs.State.{State}
@@ -46,16 +46,17 @@ module _ (Stores : ℕ → Layout) where
     a_growth : {answered : List (Command × Reply)} {pages : ℕ} {was mid is : State} → IsGrowth Stores pages was mid → IsUsed answered mid is
         → IsUsed answered was is
 
-  -- what the disk shows at the end of a sitting, and the command in doubt: the solver is closed; a stop comes in a question, in a growth,
-  -- or in a command, up to its last call of the disk; or a write or a sync fails in a growth or in a command, which is answered E1
+  -- what the disk shows at the end of a sitting, and the command in doubt: the solver is closed, or a stop comes between
+  -- two calls; a stop comes in a question, in a growth, or in a command, up to its last call of the disk and behind it;
+  -- or a write or a sync fails in a growth or in a command, which is answered E1
   pub data Ends (last : State) : Option Command → Shown → Type 0 where
-    by_closing : Ends last None last.disk.now
-    in_a_question : {is : State} → IsAsked Stores last is → (moment : ℕ) → last.disk.clock ≤ moment → moment ≤ is.disk.clock
-        → Ends last None (is.disk.was moment)
-    in_a_growth : {pages : ℕ} {is : State} → IsGrowth Stores pages last is → (moment : ℕ) → last.disk.clock ≤ moment
-        → moment ≤ is.disk.clock → Ends last None (is.disk.was moment)
-    in_a_command : {asked : Command} {reply : Reply} {is : State} → IsTurn Stores asked reply last is → (moment : ℕ)
-        → last.disk.clock ≤ moment → moment ≤ is.disk.clock → Ends last (Some asked) (is.disk.was moment)
+    by_closing : {moment : ℕ} {left : Shown} → StopsIn last.disk last.disk moment left → Ends last None left
+    in_a_question : {is : State} {moment : ℕ} {left : Shown} → IsAsked Stores last is
+        → StopsIn last.disk is.disk moment left → Ends last None left
+    in_a_growth : {pages : ℕ} {is : State} {moment : ℕ} {left : Shown} → IsGrowth Stores pages last is
+        → StopsIn last.disk is.disk moment left → Ends last None left
+    in_a_command : {asked : Command} {reply : Reply} {is : State} {moment : ℕ} {left : Shown}
+        → IsTurn Stores asked reply last is → StopsIn last.disk is.disk moment left → Ends last (Some asked) left
 
   -- a sitting with a solver from this state on, at whose end the disk shows this; the table that it reached is that of the last state
   pub record IsSitting (was : State) (sitting : Sitting) (left : Shown) : Type 0 where
@@ -84,9 +85,9 @@ module _ (Stores : ℕ → Layout) where
     was_reopened : {begins : Option Kept} {sittings : List Sitting} {before left : Shown} {disk : Disk} {count : ℕ} {was : State}
         {sitting : Sitting} → HistoryFrom begins sittings before → IsFound before disk → IsOpened Stores disk count was
         → IsSitting was sitting left → HistoryFrom begins (sittings ++ (sitting ∷ [])) left
-    was_not_opened : {begins : Option Kept} {sittings : List Sitting} {before : Shown} {disk later : Disk}
-        → HistoryFrom begins sittings before → IsFound before disk → LeavesOnly disk later (MayLeave disk.now)
-        → (moment : ℕ) → disk.clock ≤ moment → moment ≤ later.clock → HistoryFrom begins sittings (later.was moment)
+    was_not_opened : {begins : Option Kept} {sittings : List Sitting} {before left : Shown} {disk later : Disk}
+        {moment : ℕ} → HistoryFrom begins sittings before → IsFound before disk
+        → LeavesOnly disk later (MayLeave disk.now) → StopsIn disk later moment left → HistoryFrom begins sittings left
 
   -- the sittings of a table that began as the empty one
   abbrev pub History : List Sitting → Shown → Type 0

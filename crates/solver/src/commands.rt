@@ -78,7 +78,7 @@ impl<F: GameFile> FileSolver<F> {
         FileSolver::open_with_cache(alloc, disk, MOST_CACHED)
     }
 
-    /// The same with this many of the file's pages, 64 at most, kept in memory once they were read or written, and 0 for none: `open` keeps
+    /// Opens the table on a disk with this many of the file's pages, 64 at most, kept in memory once they were read or written, and 0 for none: `open` keeps
     /// 64. What is answered is the same, but for the calls of the disk.
     pub fn open_with_cache(
         alloc: Global,

@@ -47,7 +47,7 @@ pub fn game_in<'a, F: GameFile>(
     }
 }
 
-/// The same where the number is that of a known position: E9, S1, S7.
+/// The game, where this number is that of a known position: else E9, S1 or S7.
 pub fn game_at<'a, F: GameFile>(
     file: &F,
     source: &'a Option<Source>,

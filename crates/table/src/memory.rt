@@ -38,7 +38,7 @@ pub struct MemTable {
     ghost processed_is: { processed ≡ count_by (λ r. is_processed r.state) records.items },
 }
 
-/// The same position.
+/// A copy of a position.
 fn copied(packed: &Packed) -> Packed
     ensures { result.items ≡ packed.now.items }
 {
@@ -106,7 +106,7 @@ impl MemTable {
         Ok(table)
     }
 
-    /// The same table once more.
+    /// A copy of the table.
     pub fn copy(&self) -> Result<MemTable, TableFault>
         ensures same { IfOk result (λ t. stored_in t ≡ stored_in self.now) }
         ensures small { IfOk result (λ t. (counted_in t).known ≤ 2 ^ 24) }

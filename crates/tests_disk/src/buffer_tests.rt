@@ -87,8 +87,11 @@ fn call(
             Ok(done)
         }
         _ => {
+            if file.lost {
+                return Ok(false);
+            }
             expect(file.sectors, model.sectors(), 0)?;
-            Ok(!file.lost)
+            Ok(true)
         }
     }
 }
@@ -110,7 +113,7 @@ fn read_both(
     Ok(done)
 }
 
-/// A script on a file of which one call fails: at most one call is refused, or each one from a sync on.
+/// A script on a file of which one call fails: at most one call is refused, or each one from a sync or an extension on.
 fn run_script(rt: &HostRuntime, script: u64) -> Result<(), Fail> {
     let mut seed = script;
     let mut file = file_of(rt, script)?;

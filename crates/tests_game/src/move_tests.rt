@@ -20,7 +20,7 @@ const SEEN: [u8; 12] = [0, 0, 0, 0, 0, 0, 0, 0, 0, 1, 0, 2];
 /// Black has the turn and is ahead.
 const BLACK_AHEAD: [u8; 12] = [0, 0, 0, 0, 0, 0, 0, 1, 0, 2, 0, 2];
 
-/// The same two by bits: a bit for each piece, each score and the vertex, two for the role and two for the place.
+/// The two positions above by bits: a bit for each piece, each score and the vertex, two for the role and two for the place.
 const SEEN_BY_BITS: [u8; 2] = [0x03, 0x00];
 
 const BLACK_AHEAD_BY_BITS: [u8; 2] = [0x15, 0x00];

@@ -243,7 +243,7 @@ const TAKE_VALUES: [(&str, Option<u32>); 18] = [
     (">> 2 v e 0,0,4", None),
 ];
 
-/// The same of the game of a bound of a million.
+/// Texts of values in the game with a bound of a million, each with the value that it writes.
 const MILLION_VALUES: [(&str, Option<u32>); 7] = [
     (">> 0 v e 0,0,0", Some(0)),
     (">> 0 v e 0,0,1000000", Some(1_000_000)),

@@ -1,5 +1,6 @@
 //! A table is made, loaded, worked, asked and audited by the calls that the program makes.
 
+use command_line::words::{Words, words_of};
 use rbg_game::goal::Goal;
 use recover::TableFile;
 use sector_disk::MemDisk;
@@ -7,7 +8,6 @@ use session::commands::{FileCommand, command_on};
 use session::line_by_line::session_over;
 use session::moments::Moments;
 use session::moves::moves_to;
-use session::words::{Words, words_of};
 use std::alloc::Global;
 use std::test::Fail;
 use test_aids::{TAKE, expect};
@@ -21,7 +21,13 @@ pub type Said = (u8, Vec<u8>);
 /// What the command prints that is done on this disk; it gives the disk back.
 pub fn command_says(alloc: Global, disk: MemDisk, command: FileCommand) -> (Said, MemDisk) {
     let mut out = Vec::new(alloc);
-    let (outcome, disk) = command_on::<TableFile<MemDisk>, _>(alloc, disk, command, &mut out);
+    let (outcome, disk) = command_on::<TableFile<MemDisk>, _>(
+        alloc,
+        disk,
+        command,
+        &mut out,
+        &mut Moments::new(),
+    );
     ((outcome.status, out), disk)
 }
 

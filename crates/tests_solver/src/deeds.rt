@@ -102,7 +102,7 @@ where
     Ok(verdict?)
 }
 
-/// The same disk, of which no call fails.
+/// A disk of which no call fails.
 pub fn unfailing(disk: MemDisk) -> FlakyDisk<MemDisk> {
     FlakyDisk::new(disk, u64::MAX, false)
 }

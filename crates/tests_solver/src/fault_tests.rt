@@ -14,9 +14,9 @@ use test_aids::expect;
 /// for the position of number 0.
 const TO_OPEN: u64 = 4 + 8 * 4;
 
-/// The same with no page in memory: eight times a page is read. The text; the one leaf of the positions twice, as the depth is found and
-/// as the tree is walked; that of the records twice; both once more as number 0 is looked at; and the records again, for the position of
-/// number 0.
+/// How many calls it takes to open the table with no page in memory: eight times a page is read. The text; the one leaf of the positions
+/// twice, as the depth is found and as the tree is walked; that of the records twice; both once more as number 0 is looked at; and the
+/// records again, for the position of number 0.
 const TO_OPEN_UNCACHED: u64 = 4 + 8 * 8;
 
 /// The disk calls of seven units, each of which expands a position, without those of the commit. Each tree is one leaf, or empty at
@@ -27,8 +27,8 @@ const TO_OPEN_UNCACHED: u64 = 4 + 8 * 8;
 /// entries lie.
 const TO_WORK: u64 = 8 * (1 + 5) + (6 * 2 + 7 + 7 + 2 - 5);
 
-/// The same with no page in memory. A look at a tree reads its page, and a put reads and writes it; the first edge and the first settled
-/// number write alone. A unit reads the position (1 page; that of number 0 was seen as the table was opened), looks for the number of each
+/// How many calls the work takes with no page in memory. A look at a tree reads its page, and a put reads and writes it; the first edge
+/// and the first settled number write alone. A unit reads the position (1 page; that of number 0 was seen as the table was opened), looks for the number of each
 /// successor (1), puts a new one into positions and records (4), looks for its edge and puts it (3), and puts the record of the position,
 /// whose cell it has seen (2); one that is settled is put into the order (2). So the positions 0 to 6 take 8, 19, 11, 15, 4, 11 and 5 pages.
 const TO_WORK_UNCACHED: u64 = 8 * 73;
@@ -78,7 +78,7 @@ fn is_closed_by_work<F: GameFile>(solver: &mut FileSolver<F>, call: u64) -> Resu
     expect(status(solver), before, call)
 }
 
-/// The same over this disk, in which the call fails; it gives the disk back.
+/// Works over this disk, of which a call fails, as `closed_by_work` does; it gives the disk back.
 fn closed_by_work_on<F: GameFile>(
     alloc: Global,
     disk: F::Device,
@@ -119,7 +119,7 @@ fn works_at_the_second_try<F: GameFile>(solver: &mut FileSolver<F>, call: u64) -
     expect(worked(solver), Ok(first), call)
 }
 
-/// The same over this disk with this many pages in memory; it gives the disk back.
+/// Works over this disk with this many pages in memory, as `worked_at_the_second_try` does; it gives the disk back.
 fn worked_at_the_second_try_on<F: GameFile>(
     alloc: Global,
     disk: F::Device,

@@ -1,7 +1,9 @@
 //! Tables of each layout on disks in memory, and what is found there.
 
+use crate::named_disk::NamedDisk;
 use audit::Verdict;
-use game_file::GameFile;
+use flat_files::{empty_file, worked_file};
+use game_file::{FileFault, GameFile};
 use rbg_game::goal::Goal;
 use recover::{FirstFile, Migration, Refused, SecondFile, TableFile, migrate};
 use retrograde::Counts;
@@ -9,6 +11,7 @@ use sector_disk::{FlakyDisk, MemDisk};
 use solver::{FileSolver, SolverFault, Units};
 use std::alloc::Global;
 use std::test::Fail;
+use table::Table;
 
 /// Tests have one type of disk, since a test of each further one takes long to prove.
 pub type Disk = FlakyDisk<MemDisk>;
@@ -39,7 +42,7 @@ pub enum Found {
     Today(Option<Counts>),
 }
 
-/// The same disk, of which no call fails.
+/// A disk of which no call fails.
 pub fn unfailing(disk: MemDisk) -> Disk {
     FlakyDisk::new(disk, u64::MAX, false)
 }
@@ -67,19 +70,40 @@ where
     Ok(solver.close())
 }
 
-/// The same in the earlier layout that is named.
+/// A file of the first layout, which the program does not write, with this game and so many units worked.
+fn made_first(alloc: Global, text: &str, units: u32) -> anyhow::Result<MemDisk> {
+    if text.is_empty() {
+        return empty_file(alloc, SECTORS);
+    }
+    worked_file(alloc, SECTORS, text.as_bytes(), units)
+}
+
+/// A table of this game in the earlier layout that is named, after this many units.
 pub fn made_in(alloc: Global, earlier: Earlier, text: &str, units: u32) -> Result<MemDisk, Fail> {
-    let disk = unfailing(MemDisk::new(alloc, SECTORS)?);
-    let disk = match earlier {
-        Earlier::First => made::<First>(alloc, disk, text, units)?,
-        Earlier::Second => made::<Second>(alloc, disk, text, units)?,
-    };
-    Ok(disk.into_inner())
+    match earlier {
+        Earlier::First => Ok(made_first(alloc, text, units)?),
+        Earlier::Second => {
+            let disk = unfailing(MemDisk::new(alloc, SECTORS)?);
+            Ok(made::<Second>(alloc, disk, text, units)?.into_inner())
+        }
+    }
 }
 
 /// Brings the table of this disk into today's layout.
 pub fn migrated(alloc: Global, disk: Disk) -> Result<(Disk, Migration), Refused<Disk>> {
-    migrate::<Disk, Today, Second, First>(alloc, disk)
+    let named = NamedDisk { flaky: disk };
+    match migrate::<NamedDisk, TableFile<NamedDisk>, SecondFile<NamedDisk>, FirstFile<NamedDisk>>(
+        alloc, named,
+    ) {
+        Ok((disk, which)) => Ok((disk.into_flaky(), which)),
+        Err(refused) => {
+            let Refused { disk, fault } = refused;
+            Err(Refused {
+                disk: disk.into_flaky(),
+                fault,
+            })
+        }
+    }
 }
 
 /// How far the table on this disk is, as a file of this layout.
@@ -106,6 +130,17 @@ pub fn found_on(alloc: Global, disk: MemDisk) -> Result<Found, Fail> {
     }
 }
 
+/// How far the table on this disk is, as a file of the first layout.
+fn counts_in_first(alloc: Global, disk: Disk) -> Result<Option<Counts>, FileFault> {
+    match First::open(alloc, disk) {
+        Ok(file) => Ok(match &file.game {
+            Some(game) => Some(game.table.counts()),
+            None => None,
+        }),
+        Err(refused) => Err(refused.fault),
+    }
+}
+
 /// How far the table on this disk is, in the earlier layout that is named.
 pub fn counts_before(
     alloc: Global,
@@ -114,7 +149,7 @@ pub fn counts_before(
 ) -> Result<Option<Counts>, Fail> {
     let disk = unfailing(disk);
     let counts = match earlier {
-        Earlier::First => counts_in::<First>(alloc, disk)?,
+        Earlier::First => counts_in_first(alloc, disk)?,
         Earlier::Second => counts_in::<Second>(alloc, disk)?,
     };
     Ok(counts)
@@ -142,7 +177,7 @@ where
     Ok((verdict?, counts))
 }
 
-/// The same in today's layout.
+/// The verdict on a table in today's layout.
 pub fn verdict_on(
     alloc: Global,
     disk: MemDisk,

@@ -101,7 +101,7 @@ fn free_in<P: Pages>(store: &mut P) -> u32
     store.free_pages()
 }
 
-/// The same of the store on this disk.
+/// How many pages are free in the store on this disk.
 fn free_on(alloc: Global, disk: MemDisk) -> Result<u32, Fail> {
     match PageStore::open(alloc, disk) {
         Ok(mut store) => Ok(free_in(&mut store)),

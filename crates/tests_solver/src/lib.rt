@@ -24,6 +24,8 @@ mod moves_tests;
 #[cfg(test)]
 mod moving_tests;
 #[cfg(test)]
+mod named_disk;
+#[cfg(test)]
 mod run_tests;
 #[cfg(test)]
 mod session_grow_tests;

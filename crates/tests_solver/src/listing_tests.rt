@@ -66,7 +66,7 @@ fn put_rows<F: Versions>(
     put_next(alloc, solver, listing, 256, out)
 }
 
-/// The same of a listing that is begun for it, and ended.
+/// The lines of a listing that is begun for it, and ended.
 fn list_begun<F: Versions>(
     alloc: Global,
     solver: &mut FileSolver<F>,
@@ -78,7 +78,7 @@ fn list_begun<F: Versions>(
     put
 }
 
-/// The same on the table of this disk. Answers the lines and the disk.
+/// The lines of a listing of the table on this disk, and the disk.
 fn listed<F: Versions>(alloc: Global, disk: F::Device) -> Result<(Vec<u8>, F::Device), Fail>
 where
     F::Device: Drop,

@@ -1,6 +1,6 @@
 //! A table is looked at by the calls that `look` makes.
 
-use crate::call_tests::{Said, command_says, expect_said, session_says};
+use crate::call_tests::{Said, command_says, expect_said, session_says, take};
 use recover::TableFile;
 use sector_disk::MemDisk;
 use session::commands::FileCommand;
@@ -111,8 +111,28 @@ fn a_look_asks_alone(rt: HostRuntime) -> Result<(), Fail> {
     expect_said(&said, 0, replies, 0)?;
     let (game, disk) = look_says(alloc, disk, "game\n");
     expect_said(&game, 0, TAKE, 1)?;
-    let (session, _disk) = session_says(alloc, disk, "moves 0\ngame\nvalue-of x\n");
-    expect_said(&session, 0, "usage\nusage\nusage\n", 2)
+    let (in_a_session, _disk) = session_says(alloc, disk, "game\n");
+    expect_said(&in_a_session, 0, TAKE, 2)
+}
+
+#[test]
+fn a_session_takes_the_lines_of_a_look(rt: HostRuntime) -> Result<(), Fail> {
+    let alloc = rt.alloc();
+    let disk = worked(alloc, TAKE, "work 7\n")?;
+    let lines = concat!(
+        "moves 0\nwork 256\nmoves 3\nmoves 4\nmoves 7\nmoves\nmoves 0 1\ngame 1\n",
+        "value-of white 2 v e 0,0,3\nvalue-of x\nvalue-of\n",
+    );
+    let (said, _disk) = session_says(alloc, disk, lines);
+    let replies = concat!(
+        "1 open 1@v 2@v => white 2 v e 0,0,3\n",
+        "units 7 known 7 expanded 7 settled 7 processed 7 finished\n",
+        "4 black in 0 9@v 10@v 11@v 2@v => white 2 v e 0,1,0\n",
+        "5 white in 1 8@v 10@v 11@v 2@v => white 2 v e 0,1,1\n",
+        "ended\nrefused S7\nusage\nusage\nusage\n",
+        "black in 2\nrefused S10\nusage\n",
+    );
+    expect_said(&said, 0, replies, 0)
 }
 
 #[test]
@@ -125,4 +145,27 @@ fn nothing_is_looked_at_where_no_game_is_loaded(rt: HostRuntime) -> Result<(), F
     expect_said(&made, 0, "created\n", 1)?;
     let (said, _disk) = look_says(alloc, disk, "status\nmoves 0\nvalue-of x\ngame\n");
     expect_said(&said, 0, "no game\nrefused S1\nrefused S1\nrefused S1\n", 2)
+}
+
+/// By hand: the system page, then the text, the start and its record; behind seven units four leaves, beside the two that the listing keeps.
+#[test]
+fn how_full_a_table_is(rt: HostRuntime) -> Result<(), Fail> {
+    let alloc = rt.alloc();
+    let disk = MemDisk::new(alloc, SECTORS)?;
+    let (made, disk) = command_says(alloc, disk, FileCommand::Create);
+    expect_said(&made, 0, "created\n", 0)?;
+    let (empty, disk) = look_says(alloc, disk, "pages\npages 1\n");
+    expect_said(&empty, 0, "pages 24 used 1 free 23\nusage\n", 1)?;
+    let (loaded, disk) = command_says(alloc, disk, take(alloc)?);
+    expect_said(&loaded, 0, "loaded\n", 2)?;
+    let lines = "pages\nbegin\nwork 7\npages\nend\npages\nwork 256\npages\n";
+    let (said, _disk) = session_says(alloc, disk, lines);
+    let replies = concat!(
+        "pages 24 used 4 free 20\nlisting\n",
+        "units 7 known 7 expanded 7 settled 2 processed 0 open\n",
+        "pages 24 used 8 free 16\nended\npages 24 used 6 free 18\n",
+        "units 7 known 7 expanded 7 settled 7 processed 7 finished\n",
+        "pages 24 used 6 free 18\n",
+    );
+    expect_said(&said, 0, replies, 3)
 }

@@ -1,10 +1,10 @@
 //! The moves of positions that are named by their texts.
 
 use crate::call_tests::{expect_said, spelled};
+use command_line::words::{Words, words_of};
 use session::moves::moves_at;
 use session::moves_by_line::moves_by_line;
 use session::rulebook::Rulebook;
-use session::words::{Words, words_of};
 use std::alloc::Global;
 use std::test::Fail;
 use test_aids::{TAKE, expect};
@@ -12,8 +12,9 @@ use test_aids::{TAKE, expect};
 /// What is answered to these lines, of the game of takes.
 fn lines_say(alloc: Global, lines: &str) -> Result<(u8, Vec<u8>), Fail> {
     let mut out = Vec::new(alloc);
+    let mut input = lines.as_bytes();
     let status = match Rulebook::read(alloc, TAKE.as_bytes()) {
-        Ok(book) => moves_by_line(alloc, &book, lines.as_bytes(), &mut out),
+        Ok(book) => moves_by_line(alloc, &book, &mut input, &mut out),
         Err(refused) => refused.status(),
     };
     Ok((status, out))

@@ -1,9 +1,9 @@
 //! A table that is full gets more pages, and goes on.
 
 use crate::call_tests::{command_says, expect_said, session_says, spelled};
+use command_line::words::{Words, words_of};
 use sector_disk::MemDisk;
 use session::commands::FileCommand;
-use session::words::{Words, words_of};
 use std::alloc::Global;
 use std::test::Fail;
 use test_aids::expect;

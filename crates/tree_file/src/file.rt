@@ -49,7 +49,7 @@ fn has_place(layout: u32, goal: Option<Goal>) -> bool
     layout >= FIRST_WITH_GOALS || goal.is_none()
 }
 
-/// What a fault in opening a table that was just made is told as: a disk that gives another layout than was written is damaged.
+/// The fault that is told where a table that was just created does not open: a disk that gives another layout than was written is damaged.
 fn of_new(fault: FileFault) -> FileFault
     ensures { result ≡ of_new fault }
 {

@@ -49,8 +49,7 @@ fn fits_state(kept: Record) -> bool
     }
 }
 
-/// Whether the record of a number holds what one of its state may, and its state is that of a number of which the settled order says
-/// this.
+/// Whether the record of a number is possible for its state, and its state agrees with what the settled order says of the number.
 pub fn fits_placed(counts: Counts, number: u32, placed: Placed, kept: Record) -> bool
     ensures { (result ≡ true) ↔ FitsPlaced counts number placed kept }
 {

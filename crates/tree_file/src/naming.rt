@@ -6,8 +6,7 @@ ghost use Rattle.tree_file.specs.File.{NamesSlot};
 use game_file::put_long;
 use tree_table::{TreeSlot, empty_slot, game_slot};
 
-/// The slot of this layout, which is one that has goals, for this many pages, after this many commits, that names the game of this slot, or
-/// none.
+/// A root slot of this layout, 3 or later, for this many pages and commits, with the game that this slot names, if any.
 pub fn slot_naming(layout: u32, pages: u32, commits: u64, game: &Option<TreeSlot>) -> [u8; 512]
     requires { 3 ≤ layout }
     ensures layout { layout_in result ≡ layout }

@@ -66,8 +66,8 @@ pub fn number_by<P: Pages>(
     }
 }
 
-/// Looks whether the number has a position, at which it stands, and a record that fits what the settled order says of it. The reader is
-/// one of the records.
+/// Checks one number: its position leads back to it, and its record fits what the settled order says of it. The reader is one of the
+/// records.
 pub fn check_number<P: Pages>(
     store: &mut P,
     slot: &TreeSlot,

@@ -165,7 +165,7 @@ pub fn cell_into<P: Pages>(
     }
 }
 
-/// The same by a reader of the records.
+/// The cell of a number, by a reader of the records.
 fn cell_by<P: Pages>(
     store: &mut P,
     slot: &TreeSlot,
@@ -201,7 +201,7 @@ fn cell_by<P: Pages>(
     }
 }
 
-/// The same; where the number follows the one before, by a reader, which is made if there is none.
+/// The cell of a number; where the number follows the one before, by a reader, which is made if there is none.
 pub fn cell_near<P: Pages>(
     store: &mut P,
     slot: &TreeSlot,

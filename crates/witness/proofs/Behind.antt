@@ -3,7 +3,7 @@ use Rattle.std.proofs.Common.{◌≡◌, ℕ, false, List, [], ◌∷◌, ◌++�
 use Rattle.std.proofs.lemmas.List.{length-replicate}
 use Rattle.std.specs.Prelude.{IsTrue, IfSome, OnOk, OnErr}
 use Rattle.std.specs.List.{AllByRecursion}
-use Rattle.sector_disk.specs.Disk.{Disk, size, IsFresh}
+use Rattle.sector_disk.specs.Disk.{Disk, size, IsFresh, at_present}
 use Rattle.game_file.specs.Calls.{IsNotOpened}
 use Rattle.game_file.specs.State.{State, GoesAhead}
 use Rattle.game_file.specs.Kept.{Layout}
@@ -26,7 +26,7 @@ module _ (Stores : ℕ → Layout) where
   idle_is_own state = record { answered = tt; in_doubt = tt }
 
   idle_is_one : (state : State) → state.closed ≡ false → IsSitting Stores state (idle state) state.disk.now
-  idle_is_one state is_open = record { begins = refl; last = state; reached = refl; used = no_call; is_open = is_open; ends = by_closing }
+  idle_is_one state is_open = record { begins = refl; last = state; reached = refl; used = no_call; is_open = is_open; ends = by_closing at_present }
 
   -- an honest disk is found as it was left
   found_so : (disk : Disk) → IsTrue disk.honest → IsFound Stores disk.now disk
@@ -82,12 +82,12 @@ module _ (Stores : ℕ → Layout) where
   pub sitting_run : (was is : State) (commands : List Command) (replies : List Reply) → GoesAhead was is → AllByRecursion IsOwn commands
       → LeavesAPrefix Stores commands replies was is → EndsOwnSitting Stores was is
   sitting_run was is commands replies ahead own leaves =
-      let it = leaves is.disk.clock ahead.goes_on.later (omega arith) in
+      let it = leaves is.disk.clock is.disk.now at_present in
       let parts = own_part is.disk.clock it.0.answered it.0.in_doubt commands replies was is it.1 own in
       record {
         sitting = it.0;
         own = record { answered = parts.0; in_doubt = parts.1 };
-        one = subst (λ shown. IsSitting Stores was it.0 shown) is.disk.was_now it.2;
+        one = it.2;
       }
 
   -- a run ends one, whether it is done or has no memory for its replies
@@ -107,7 +107,5 @@ module _ (Stores : ℕ → Layout) where
     sectors = refused.from.same_size ∙ behind.sectors;
     sittings = behind.sittings;
     own = behind.own;
-    history = subst (λ shown. History Stores behind.sittings shown) later.was_now
-        (was_not_opened behind.history (found_so disk behind.honest) (refused.leaves behind.honest) later.clock refused.from.goes_on.later
-        (omega arith));
+    history = was_not_opened behind.history (found_so disk behind.honest) (refused.leaves behind.honest) at_present;
   }

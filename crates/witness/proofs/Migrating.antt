@@ -1,7 +1,7 @@
 -- What is known of a disk in the course of migrations, from one call to the next.
 use Rattle.std.proofs.Common.{◌≡◌, ℕ, inl, inr, ◌∙◌, List, [], length, Option, Some, refl, sym, subst, arith}
 use Rattle.std.specs.Prelude.{IsTrue, Result, Ok, Err, IfOk}
-use Rattle.sector_disk.specs.Disk.{Picture, Shown, Disk, MayLeave, AllSynced, Grew, IsFresh, counting}
+use Rattle.sector_disk.specs.Disk.{Picture, Shown, Disk, MayLeave, AllSynced, Grew, IsFresh, at_present, counting}
 use Rattle.sector_disk.specs.InMemory.{disk_in}
 use Rattle.sector_disk.specs.declared.memory.MemDisk.{MemDisk}
 use Rattle.sector_disk.specs.aid.Moments.{reads_left}
@@ -111,24 +111,24 @@ begun_so First Second Today disk back count now Current migrated current = inr (
 
 module _ (disk back : Disk) (count now : ℕ) (it : IsInMigrations disk) where
   -- the disk behind a migration, however that went
-  behind : GoesFrom disk count back now → AreMigrations EarlierLayouts (StoresTrees 3) it.kept (back.was back.clock) → IsInMigrations back
+  behind : GoesFrom disk count back now → AreMigrations EarlierLayouts (StoresTrees 3) it.kept back.now → IsInMigrations back
   behind from going = record {
     honest = subst (λ h. IsTrue h) (sym from.goes_on.honest) it.honest;
     kept = it.kept;
     sound = it.sound;
     finished = it.finished;
-    before = back.was back.clock;
+    before = back.now;
     going = going;
-    as_left = λ picture may. subst (λ (shown : Shown). MayLeave shown picture) (sym back.was_now) may;
+    as_left = λ picture may. may;
   }
 
   pub behind_begun : WasBegun EarlierLayouts (StoresTrees 3) disk count back now → IsInMigrations back
   behind_begun (inl done) =
-      behind done.from (was_migrated it.going (it.honest, it.as_left) done back.clock done.from.goes_on.later (omega arith))
+      behind done.from (was_migrated it.going (it.honest, it.as_left) done at_present)
   behind_begun (inr (inl done)) =
-      behind done.from (was_current it.going (it.honest, it.as_left) done back.clock done.from.goes_on.later (omega arith))
+      behind done.from (was_current it.going (it.honest, it.as_left) done at_present)
   behind_begun (inr (inr (why, refused))) =
-      behind refused.from (was_refused it.going (it.honest, it.as_left) refused back.clock refused.from.goes_on.later (omega arith))
+      behind refused.from (was_refused it.going (it.honest, it.as_left) refused at_present)
 
   -- behind one that is answered a history goes on
   module _ (migrated_law : (kept : Option Kept) (before : Shown) (from to : Disk) (m n : ℕ)

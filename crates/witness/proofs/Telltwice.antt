@@ -3,7 +3,7 @@ use Rattle.std.proofs.Common.{◌≡◌, ℕ, List, [], ◌∷◌, Option, None,
 use Rattle.std.proofs.lemmas.Option.{same_Some}
 use Rattle.rbg_game.specs.declared.roles.Player.{Player}
 use Rattle.std.specs.Prelude.{IsTrue}
-use Rattle.sector_disk.specs.Disk.{Picture, Shown, Disk, MayLeave}
+use Rattle.sector_disk.specs.Disk.{Picture, Shown, Disk, MayLeave, at_present}
 use Rattle.sector_disk.specs.aid.Moments.{still_honest, reads_left}
 use Rattle.best_line.specs.declared.answers.Value.{Value}
 use Rattle.best_line.specs.declared.answers.Value.TheVariants.{Won, Drawn, Open}
@@ -53,7 +53,7 @@ module _ {S : Type 0} (calls : Calls S) (lawful : AreLawful calls) where
       let there = reaches used None begins (still_honest (lawful.created_on d made created).1 honest) in
       let sitting : BriefSitting = record { begins = None; answered = answered; told = the_value 0 first ∷ []; reached = there.table; in_doubt = None } in
       let head = law (sitting ∷ []) (calls.disk last).now (calls.disk last).now.contents
-      (brief.was_made honest created (record { begins = begins; last = last; used = used; reached = there.tells; ends = brief.between_calls }))
+      (brief.was_made honest created (record { begins = begins; last = last; used = used; reached = there.tells; ends = brief.between_calls at_present }))
       (reads_left (calls.disk last)) in
       let told = head.again sitting (the_value 0 first) (0, omega arith, refl) (0, omega arith, refl) good in
       let opens = head.gives (calls.disk last) again there.honest refl opened in

@@ -11,6 +11,7 @@ mod printed;
 mod sittings;
 mod small_listing;
 mod stop;
+mod stopping_disk;
 mod unanswered;
 
 pub use again::told_again;

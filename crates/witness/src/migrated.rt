@@ -10,15 +10,15 @@ ghost use Rattle.witness.specs.aid.Migrations.{IsLeftFinished, IsInMigrations, W
 
 use crate::sittings::{finish, value_of_finished};
 use crate::stop::SECTORS;
+use crate::stopping_disk::StoppingDisk;
 use crate::unanswered::Unanswered;
 use best_line::Value;
-use earlier_layouts::EarlierFile;
 use game_file::GameFile;
 use recover::laws::{
     a_picture_stores_one_table_of_all_layouts, stopped_migrations_go_on,
     the_headline_of_found_tables,
 };
-use recover::{FirstFile, SecondFile, TableFile, migrate};
+use recover::{EarlierFile, FirstFile, SecondFile, TableFile, migrate};
 use sector_disk::{FuseDisk, MemDisk, SectorDisk};
 use solver::{FileSolver, Refused};
 use std::alloc::{AllocError, Global};
@@ -93,12 +93,13 @@ fn stopped(alloc: Global, disk: MemDisk, stop: Stop) -> Result<MemDisk, AllocErr
 {
     let fuse = FuseDisk::new(disk, stop.calls);
     let left = begin_migration::<
-        FuseDisk<MemDisk>,
-        TableFile<FuseDisk<MemDisk>>,
-        SecondFile<FuseDisk<MemDisk>>,
-        FirstFile<FuseDisk<MemDisk>>,
-    >(alloc, fuse);
-    left.into_inner().after_stop(alloc, stop.pick)
+        StoppingDisk,
+        TableFile<StoppingDisk>,
+        SecondFile<StoppingDisk>,
+        FirstFile<StoppingDisk>,
+    >(alloc, StoppingDisk { fuse });
+    let StoppingDisk { fuse } = left;
+    fuse.into_inner().after_stop(alloc, stop.pick)
 }
 
 /// Begins to bring the table of this disk into today's layout, whatever is answered; the disk as it is then.

@@ -29,7 +29,7 @@ pub fn printed_of_the_small_game(alloc: Global) -> Option<Vec<u8>>
     text
 }
 
-/// The same on an empty table.
+/// What a listing beside work prints on an empty table.
 fn printed_on<F: Versions>(alloc: Global, solver: &mut FileSolver<F>) -> Option<Vec<u8>>
     ensures { IsReady solver.old → IsTrue (state solver.old).disk.honest → (state solver.old).kept ≡ None
         → IfSome result (λ text. text.items ≡ codes "0 open" ++ 10 ∷ codes "done" ++ 10 ∷ []) }

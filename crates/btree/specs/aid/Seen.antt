@@ -19,7 +19,7 @@ use Rattle.btree.specs.declared.find.look.Seen.TheVariants.{Value, Child}
 abbrev pub LeadsOn : Widths → List ℕ → List ℕ → ℕ → Type 0
 LeadsOn w bytes key child = (next : Option (List ℕ)) × IsStepDown w bytes key child next
 
--- a leaf says what it has at the key, with which the buffer is filled, and an inner page where the key belongs
+-- a leaf gives the value at the key, which fills the buffer, and an inner page the child where the key belongs
 abbrev pub Sees : Widths → List ℕ → List ℕ → ArrayVec ℕ → Seen → Type 0
 Sees w bytes key into (Value found) = IsPage w Leaf bytes
     × (Ascend (items_in w Leaf bytes) → filled_bytes found into ≡ find_entry (items_in w Leaf bytes) key)

@@ -52,7 +52,7 @@ fn go_down<P: Pages>(
     Err(PageFault::Damaged)
 }
 
-/// The same; after a refusal there is no page of a tree.
+/// Reads down to the leaf of a key. After a refusal the reader has no page of a tree.
 fn reach_leaf<P: Pages>(
     store: &mut P,
     widths: Widths,

@@ -64,7 +64,7 @@ fn head_of(key: &[u8]) -> u32 {
     BigEndian::read_u32(front)
 }
 
-/// Where a number may well be among this many that ascend, of which these are the first and the last: as far along as it is between them.
+/// A guess at the index of a number among this many that ascend, of which these are the first and the last: by interpolation.
 fn share_of(number: u32, first: u32, last: u32, count: usize) -> usize {
     let along = number.saturating_sub(first) as usize;
     let long = last.saturating_sub(first) as usize;

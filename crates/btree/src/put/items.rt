@@ -135,7 +135,7 @@ pub fn spliced(
     items
 }
 
-/// Moves what stands on a page from one place up to another, so that it begins at a third. What stands there already stays.
+/// Moves the bytes `start..end` of a page to `to`. Where `start` is `to`, nothing is moved.
 fn move_within(page: &mut [u8; 4096], start: usize, end: usize, to: usize)
     requires order { start ≤ end }
     requires within { end ≤ 4096 }
@@ -151,7 +151,7 @@ fn move_within(page: &mut [u8; 4096], start: usize, end: usize, to: usize)
     move_by_copy(page, start, end, to);
 }
 
-/// The same by a copy of the page. It stands by itself, since the copy is made as it begins.
+/// `move_within` by way of a copy of the page: a function of its own, so that the copy takes room here alone.
 fn move_by_copy(page: &mut [u8; 4096], start: usize, end: usize, to: usize)
     requires order { start ≤ end }
     requires within { end ≤ 4096 }
@@ -162,7 +162,7 @@ fn move_by_copy(page: &mut [u8; 4096], start: usize, end: usize, to: usize)
     page[to..to + (end - start)].copy_from_slice(&was[start..end]);
 }
 
-/// The same on the page itself, where it has room. Answers which bytes it writes, but for the count. What stands after its items is
+/// Splices items in on the page itself, where it has room. Answers which bytes it writes, but for the count. What stands after its items is
 /// moved along or stays.
 pub fn splice_in(
     widths: Widths,

@@ -53,7 +53,7 @@ pub fn put<P: Pages>(
     put_anew(store, widths, root, key, value)
 }
 
-/// The same where there is a root, with each page on the way to the leaf written anew.
+/// Puts the value where there is a root, and writes each page on the way to the leaf anew.
 fn put_anew<P: Pages>(
     store: &mut P,
     widths: Widths,

@@ -132,8 +132,8 @@ pub fn write_spliced<P: Pages>(
     Ok(tops)
 }
 
-/// Writes an inner page with these items in the place of the one of this place. Where that is the one that they are, and
-/// the page is in memory and may be written in place, it stays as it is. The bytes are what the page reads as.
+/// Replaces the item at this place of an inner page by these. If they are that one item already, and the page is in memory and may be
+/// written in place, nothing is written. The bytes are what the page reads as.
 pub fn write_led<P: Pages>(
     store: &mut P,
     widths: Widths,

@@ -1,4 +1,4 @@
-//! Who is told of each entry of a map.
+//! What receives the entries of a map.
 ghost use Rattle.std.specs.Prelude.{◌++◌, ◌∷◌, [], List, OnOk, OnErr};
 ghost use Rattle.btree.specs.Page.{Item};
 
@@ -6,9 +6,9 @@ ghost use Rattle.btree.specs.Page.{Item};
 #[derive(Clone, Copy, Debug, PartialEq, Eq, Drop)]
 pub struct Refused;
 
-/// Who is told of each entry of a map, in order.
+/// Receives each entry of a map, in the order of the keys.
 pub trait Visitor {
-    /// It may have been told of exactly these entries so far, in this order.
+    /// It may have received exactly these entries so far, in this order.
     ghost told: { Self → List Item → Type 0 };
 
     /// Whether it refuses this entry, after it was told of these.

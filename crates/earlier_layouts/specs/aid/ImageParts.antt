@@ -1,5 +1,5 @@
 -- Each cell, edge and number takes as many bytes as any other, which are those of no other.
-use Rattle.std.specs.Prelude.{◌≡◌, ℕ, ◌+◌, List, length}
+use Rattle.std.specs.Prelude.{◌≡◌, ℕ, ◌+◌, length}
 use Rattle.std.proofs.Common.{sym, ap, ◌∙◌, length-append, arith}
 use Rattle.game_file.specs.Bytes.{IsCell, IsEdge, IsNumber}
 use Rattle.game_file.specs.aid.Records.{one_cell}

@@ -3,7 +3,6 @@ use Rattle.std.specs.Prelude.{◌≡◌, ℕ, ◌*◌, ◌^◌, ◌≤◌, false
 use Rattle.std.proofs.Common.{arith}
 use Rattle.std.proofs.Math.Nat.{le-min, le-div_iff_mul-le}
 use Rattle.sector_disk.specs.Disk.{Picture}
-use Rattle.page_store.specs.Page.{page}
 use Rattle.page_store.specs.aid.Carrying.{stop_leaves}
 use Rattle.page_store.specs.Spelling.{SpelledBy, Spells}
 use Rattle.page_store.specs.Store.{StopLeaves}

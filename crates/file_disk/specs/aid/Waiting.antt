@@ -1,5 +1,5 @@
 -- What holds of the places where sectors wait, and what a write of them to the file leaves.
-use Rattle.std.specs.Prelude.{◌≡◌, ℕ, ◌+◌, ◌*◌, ◌^◌, ◌<◌, ◌≤◌, Bool, true, List, length, Option, Some}
+use Rattle.std.specs.Prelude.{◌≡◌, ◌≢◌, ℕ, ◌+◌, ◌*◌, ◌%◌, ◌^◌, ◌<◌, ◌≤◌, Bool, true, List, length, slice_index, Option, Some}
 use Rattle.file_disk.specs.declared.waiting_page.WaitingPage.{WaitingPage}
 use Rattle.file_disk.specs.Bytes.{bytes_at, sector_of}
 use Rattle.file_disk.specs.Waiting.{page_at, has_sector, shown_of}
@@ -7,6 +7,10 @@ use Rattle.file_disk.specs.Waiting.{page_at, has_sector, shown_of}
 -- no two of this many places have the same page
 abbrev pub AreDistinct : List WaitingPage → ℕ → Type 0
 AreDistinct pages count = (p q : ℕ) → p < count → q < count → (page_at pages p).number ≡ (page_at pages q).number → p ≡ q
+
+-- for the remainder of the number of each of this many pages something is noted
+abbrev pub AreNoted : List WaitingPage → ℕ → List ℕ → Type 0
+AreNoted pages count hints = (p : ℕ) → p < count → slice_index hints ((page_at pages p).number % 4096) ≢ 0
 
 -- each of this many pages begins below 2 ^ 64
 abbrev pub ArePlaced : List WaitingPage → ℕ → Type 0

@@ -1,4 +1,4 @@
--- The same bytes are those of one record, and of one position with its record.
+-- Bytes are those of one record at most, and of one position with its record.
 use Rattle.std.specs.Prelude.{◌≡◌, ℕ, List, [], ◌∷◌, ◌++◌, length, Option, None, Some}
 use Rattle.std.proofs.Common.{refl, sym, subst, ◌∙◌, arith}
 use Rattle.rbg_game.specs.declared.roles.Player.{Player}

@@ -1,4 +1,4 @@
--- The same positions by another packing.
+-- Positions and moves do not change with the packing.
 use Rattle.std.specs.Prelude.{ℕ, List, [], ◌∷◌, ⊤}
 use Rattle.rbg_game.specs.declared.position.Position.{Position}
 use Rattle.position_pack.specs.Packings.{Form, IsPacked}

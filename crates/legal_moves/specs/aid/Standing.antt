@@ -1,24 +1,21 @@
 -- What a search keeps: boards, and the configurations on them.
-use Rattle.std.specs.Prelude.{◌≡◌, ℕ, ◌<◌, ◌⊎◌, List, [], ◌∷◌, ◌++◌, map, length, Some, slice_get, unwrap_or}
+use Rattle.std.specs.Prelude.{◌≡◌, ℕ, ◌<◌, ◌⊎◌, List, [], ◌∷◌, ◌++◌, map, length, Some, slice_get}
 use Rattle.rbg_game.specs.declared.position.SemiState.{SemiState}
+use Rattle.legal_moves.specs.aid.Boards.{at_turn, IsSameBoard, board_at, boards_in, AreWhole, IsAsLarge}
 use Rattle.legal_moves.specs.aid.Buckets.{bucket_of_board, bucket_of_stand}
 use Rattle.legal_moves.specs.aid.Chains.{AreChained}
-use Rattle.legal_moves.specs.aid.Going.{began}
-use Rattle.legal_moves.specs.aid.Looking.{at_vertex}
+use Rattle.legal_moves.specs.aid.Going.{state_at}
 use Rattle.legal_moves.specs.Configurations.{Configuration}
+use Rattle.legal_moves.specs.declared.found.Shown.{Shown}
 use Rattle.legal_moves.specs.declared.found.Stand.{Stand}
 use Rattle.legal_moves.specs.declared.found.Found.{Found}
 use Rattle.legal_moves.specs.declared.limits.TheConstants.{WIDEST}
-
--- the board with the number
-abbrev pub board_at : List SemiState → ℕ → SemiState
-board_at boards number = unwrap_or (slice_get boards number) (began [])
 
 -- the configuration that is kept as a stand
 abbrev pub stood : List SemiState → Stand → Configuration
 stood boards s =
     record {
-      at = record { state = at_vertex (board_at boards s.board) s.vertex; place = s.place };
+      at = record { state = at_turn (board_at boards s.board) s.mover s.vertex; place = s.place };
       parent = s.parent;
       shows = s.shows;
       ends = s.ends;
@@ -26,19 +23,15 @@ stood boards s =
 
 -- the configurations that were found
 abbrev pub configurations_of : Found → List Configuration
-configurations_of found = map (stood found.boards.items) found.stands.items
-
--- both tell the same but for the vertex
-abbrev pub IsSameBoard : SemiState → SemiState → Type 0
-IsSameBoard A B = at_vertex A B.vertex ≡ B
+configurations_of found = map (stood (boards_in found.boards)) found.stands.items
 
 -- no board tells the same
 abbrev pub IsNewBoard : List SemiState → SemiState → Type 0
 IsNewBoard boards S = (i : ℕ) (A : SemiState) → slice_get boards i ≡ Some A → ¬ IsSameBoard A S
 
--- both have the same board, vertex and last action
+-- both have the same board, turn, vertex and last action
 abbrev pub IsSameStand : Stand → Stand → Type 0
-IsSameStand s t = (s.board ≡ t.board) × (s.vertex ≡ t.vertex) × (s.place ≡ t.place)
+IsSameStand s t = (s.board ≡ t.board) × (s.vertex ≡ t.vertex) × (s.place ≡ t.place) × (s.mover ≡ t.mover)
 
 abbrev pub bucket_at : Stand → ℕ
 bucket_at s = bucket_of_stand s.board s.vertex s.place
@@ -49,17 +42,33 @@ AllStand boards stands = (i : ℕ) (s : Stand) → slice_get stands i ≡ Some s
 
 -- each stands on a board, no two boards are alike, and all are found again by their buckets
 pub record AreKept (found : Found) : Type 0 where
-  pub within : AllStand found.boards.items found.stands.items
-  pub apart : (i j : ℕ) (A B : SemiState) → slice_get found.boards.items i ≡ Some A → slice_get found.boards.items j ≡ Some B
+  pub whole : AreWhole found.boards
+  pub within : AllStand (boards_in found.boards) found.stands.items
+  pub apart : (i j : ℕ) (A B : SemiState) → slice_get (boards_in found.boards) i ≡ Some A → slice_get (boards_in found.boards) j ≡ Some B
       → IsSameBoard A B → i ≡ j
-  pub boards_are : AreChained (map bucket_of_board found.boards.items) found.board_chains
+  pub boards_are : AreChained (map bucket_of_board (boards_in found.boards)) found.board_chains
   pub stands_are : AreChained (map bucket_at found.stands.items) found.stand_chains
 
--- none has the same board, vertex and last action
+-- one of the configurations is shown
+pub record IsShown (found : Found) (shown : Shown) : Type 0 where
+  pub at_one : shown.at < length found.stands.items
+  pub state_is : shown.state ≡ state_at (configurations_of found) shown.at
+
+-- nothing is found yet, and there is room for boards of the size of the semi-state
+pub record IsEmpty (found : Found) (S : SemiState) : Type 0 where
+  pub whole : AreWhole found.boards
+  pub large : IsAsLarge found.boards S
+  pub no_boards : boards_in found.boards ≡ []
+  pub none_yet : found.boards.count ≡ 0
+  pub no_stands : found.stands.items ≡ []
+  pub boards_are : AreChained [] found.board_chains
+  pub stands_are : AreChained [] found.stand_chains
+
+-- none has the same board, turn, vertex and last action
 abbrev pub IsNewStand : List Stand → Stand → Type 0
 IsNewStand stands s = (i : ℕ) (t : Stand) → slice_get stands i ≡ Some t → ¬ IsSameStand t s
 
--- it was added, or one with the same board, vertex and last action is there
+-- it was added, or one with the same board, turn, vertex and last action is there
 abbrev pub IsStandAdded : List Stand → Stand → List Stand → Type 0
 IsStandAdded stands s stands' =
     ((stands' ≡ stands) × (i : ℕ) × (t : Stand) × (slice_get stands i ≡ Some t) × IsSameStand t s)

@@ -1,7 +1,7 @@
 -- A history in brief is one of the calls' contracts, so the headline in brief follows from the headline.
-use Rattle.std.specs.Prelude.{◌≡◌, ◌⊎◌, ℕ, zero, suc, ◌≤◌, true, false, List, [], ◌∷◌, ◌++◌, map, Contains, Option, None, Some, IsTrue}
+use Rattle.std.specs.Prelude.{◌≡◌, ◌⊎◌, ℕ, zero, suc, true, false, List, [], ◌∷◌, ◌++◌, map, Contains, Option, None, Some, IsTrue}
 use Rattle.std.proofs.Common.{refl, sym, subst, ◌∙◌, ap, inl, inr, arith}
-use Rattle.sector_disk.specs.Disk.{Picture, Shown, Disk, GoesOn, MayLeave}
+use Rattle.sector_disk.specs.Disk.{Picture, Shown, Disk, GoesOn, MayLeave, StopsIn}
 use Rattle.sector_disk.specs.aid.Moments.{still_honest}
 use Rattle.game_file.specs.Kept.{Kept, Layout}
 use Rattle.game_file.specs.State.{State}
@@ -340,31 +340,26 @@ module _ {S : Type 0} (Stores : ℕ → Layout) (state : S → State) (ready : S
       of_all more one (suc k, within, at) good after later = more.of_these one (k, omega arith, at) good after later
 
   -- a call in which a write or a sync failed
-  ends_broken : (in_doubt : Option Command) (last is : S) → Breaks in_doubt last is → (moment : ℕ)
-      → (state last).disk.clock ≤ moment → moment ≤ (state is).disk.clock → Ends Stores (state last) in_doubt ((state is).disk.was moment)
-  ends_broken None last is (pages, growth) moment from to = in_a_growth growth moment from to
-  ends_broken (Some command) last is (reply, turn) moment from to = in_a_command turn moment from to
+  ends_broken : {moment : ℕ} {left : Shown} (in_doubt : Option Command) (last is : S) → Breaks in_doubt last is
+      → StopsIn (state last).disk (state is).disk moment left → Ends Stores (state last) in_doubt left
+  ends_broken None last is (pages, growth) stop = in_a_growth growth stop
+  ends_broken (Some command) last is (reply, turn) stop = in_a_command turn stop
 
   ends_with : {last : S} {in_doubt : Option Command} {left : Shown}
       → EndsWith calls_of last in_doubt left
       → ready last → (state last).closed ≡ false → IsTrue (state last).disk.honest → Ends Stores (state last) in_doubt left
-  ends_with brief.between_calls here is_open honest = by_closing
-  ends_with {last} {in_doubt} {left} (brief.in_a_question {is = is} asks moment from to) here is_open honest =
+  ends_with (brief.between_calls stop) here is_open honest = by_closing stop
+  ends_with {last} {in_doubt} {left} (brief.in_a_question {is = is} {moment = moment} asks stop) here is_open honest =
       go (((asks.asked here).asks is_open).leaves honest)
     where
-      go : Leaves last is → Ends Stores (state last) None ((state is).disk.was moment)
-      go (by_question asked) = in_a_question asked moment from to
-      go (by_growth pages growth) = in_a_growth growth moment from to
-      go (by_nothing same) =
-          let there : moment ≤ (state last).disk.clock = subst (λ (s : State). moment ≤ s.disk.clock) same to in
-          let at : (state last).disk.clock ≡ moment = omega (arith, from, there) in
-          let shows : (state last).disk.now ≡ (state last).disk.was moment =
-          sym (state last).disk.was_now ∙ ap (λ (k : ℕ). (state last).disk.was k) at in
-          let later : (state last).disk.now ≡ (state is).disk.was moment = shows ∙ ap (λ (s : State). s.disk.was moment) (sym same) in
-          subst (λ (shown : Shown). Ends Stores (state last) None shown) later by_closing
-  ends_with (brief.in_a_command answers moment from to) here is_open honest = in_a_command ((answers.answered here).answers is_open).turn moment from to
-  ends_with {last} (brief.in_a_failure {in_doubt} {is} broke moment from to) here is_open honest =
-      ends_broken in_doubt last is (broke.breaks here) moment from to
+      go : Leaves last is → Ends Stores (state last) None left
+      go (by_question asked) = in_a_question asked stop
+      go (by_growth pages growth) = in_a_growth growth stop
+      go (by_nothing same) = by_closing (subst (λ (s : State). StopsIn (state last).disk s.disk moment left) same stop)
+  ends_with (brief.in_a_command answers stop) here is_open honest =
+      in_a_command ((answers.answered here).answers is_open).turn stop
+  ends_with {last} (brief.in_a_failure {in_doubt} {is} broke stop) here is_open honest =
+      ends_broken in_doubt last is (broke.breaks here) stop
 
   -- a sitting in brief with the sitting that it is
   record IsTheSitting (was : S) (sitting : BriefSitting) (left : Shown) : Type 0 where
@@ -441,20 +436,20 @@ module _ {S : Type 0} (Stores : ℕ → Layout) (state : S → State) (ready : S
         history = was_reopened old.history (found_as before d found) opened it.sits;
         keep = keep_more sittings sitting old.keep it.keeps;
       }
-  history_is (brief.was_stopped {sittings} {before} {d} {s} history found (here, (count, opened)) moment from to) =
+  history_is (brief.was_stopped {before = before} {d = d} history found (here, (count, opened)) stop) =
       let old = history_is history in
       record {
         whole = old.whole;
         same = old.same;
-        history = was_not_opened old.history (found_as before d found) (opened.since found.0) moment from to;
+        history = was_not_opened old.history (found_as before d found) (opened.since found.0) stop;
         keep = old.keep;
       }
-  history_is (brief.was_refused {sittings} {before} {d} {later} {fault} history found (first, now, not, cause) moment from to) =
+  history_is (brief.was_refused {before = before} {d = d} history found (first, now, not, cause) stop) =
       let old = history_is history in
       record {
         whole = old.whole;
         same = old.same;
-        history = was_not_opened old.history (found_as before d found) (not.leaves found.0) moment from to;
+        history = was_not_opened old.history (found_as before d found) (not.leaves found.0) stop;
         keep = old.keep;
       }
 

@@ -3,7 +3,7 @@
 use Rattle.std.specs.Prelude.{◌≡◌, ℕ, ◌<◌, [], Option}
 use Rattle.std.proofs.Common.{sym, subst, ◌∙◌, ap, inl, inr, arith}
 use Rattle.sector_disk.specs.Disk.{Picture, Shown, Disk, MayLeave}
-use Rattle.sector_disk.specs.aid.Moments.{reads_left}
+use Rattle.sector_disk.specs.aid.Moments.{reads_left, leaves_at}
 use Rattle.game_file.specs.Fields.{layout_in}
 use Rattle.game_file.specs.Kept.{Kept, Layout, in_any}
 use Rattle.earlier_layouts.specs.Held.{Stores}
@@ -56,17 +56,17 @@ module _ (Earlier Today : ℕ → Layout) (one_each : (m n : ℕ) (picture : Pic
   pub migrations_leave : {left : Shown} → AreMigrations Earlier Today kept left → (picture : Picture)
       → MayLeave left picture → Held picture
   migrations_leave (began holds) picture may = holds picture may
-  migrations_leave (was_migrated {before} {disk} {back} {count} {now} earlier (honest, as_left) done moment from to) picture may =
+  migrations_leave (was_migrated {before = before} {disk = disk} earlier (honest, as_left) done stop) picture may =
       let same = found_is before disk (honest, as_left) (λ p m. migrations_leave earlier p m) done.pages done.kept (inl (done.held honest).stores) in
-      elim ((done.leaves honest).each moment picture from to may) [
+      elim (leaves_at (done.leaves honest) stop picture may) [
         | inl old ↦ migrations_leave earlier picture (as_left picture old)
         | inr (inl stored) ↦ (done.pages, inl (subst (λ (k : Option Kept). Earlier done.pages picture k) same stored))
         | inr (inr stored) ↦ (done.pages, inr (subst (λ (k : Option Kept). Today done.pages picture k) same stored))
       ]
-  migrations_leave (was_current {before} {disk} {back} {count} {now} earlier (honest, as_left) done moment from to) picture may =
-      migrations_leave earlier picture (as_left picture ((done.leaves honest).each moment picture from to may))
-  migrations_leave (was_refused {before} {disk} {back} {count} {now} {fault} earlier (honest, as_left) not moment from to) picture may =
-      elim ((not.either honest).each moment picture from to may) [
+  migrations_leave (was_current earlier (honest, as_left) done stop) picture may =
+      migrations_leave earlier picture (as_left picture (leaves_at (done.leaves honest) stop picture may))
+  migrations_leave (was_refused {before = before} {disk = disk} earlier (honest, as_left) not stop) picture may =
+      elim (leaves_at (not.either honest) stop picture may) [
         | inl (inl old) ↦ migrations_leave earlier picture (as_left picture old)
         | inl (inr (pages, found, holds, stored)) ↦
             let same = found_is before disk (honest, as_left) (λ p m. migrations_leave earlier p m) pages found (inl holds.stores) in

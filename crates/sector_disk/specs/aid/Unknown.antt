@@ -59,7 +59,7 @@ unknown_goes_on old new le = record {
 pub unknown_extends : (old new most : ℕ) → old ≤ new → new ≤ most → Extends most (unknown_disk old) (unknown_disk new)
 unknown_extends old new most le within = record {
   goes_on = unknown_goes_on old new le;
-  one_moment = λ honest. cc;
+  moments = λ honest. absurd (cc);
   no_shorter = omega (arith, le, length-replicate {A = List ℕ} old [], length-replicate {A = List ℕ} new []);
   no_longer = omega (arith, within, length-replicate {A = List ℕ} new []);
 }

@@ -172,7 +172,7 @@ still_keeps old new kept honest still it = record {
   needed = λ p here. needed_still still p (it.needed p here);
 }
 
--- what stands stands still
+-- a call that changes no page keeps a table that its pages encode
 pub still_stands : (slot : TreeSlot) (text : List ℕ) (old new : Store) → IsTrue old.disk.honest → IsStill old new
     → StandsInTrees slot text old
     → StandsInTrees slot text new

@@ -1,15 +1,24 @@
-use Rattle.std.proofs.Common.{ℕ, List, arith, subst}
+use Rattle.std.proofs.Common.{◌≡◌, ◌↔◌, true, false, refl, ℕ, List, arith, subst}
 use Rattle.arrayvec.specs.ArrayVec.{ArrayVec}
 use Rattle.certificate.specs.Lists.{Stands}
 use Rattle.certificate.specs.Strategies.{RanksFrom}
-use Rattle.certificate.proofs.Looking.{each_more}
+use Rattle.certificate.proofs.Looking.{each_more, not_each}
 use Rattle.certificate.proofs.going.each_from.Goals as goal
 
 pub loop-next-preserved : goal.loop-next-preserved
 loop-next-preserved c =
     each_more (λ (p : ArrayVec ℕ). RanksFrom (Stands c.args.list.now) c.args.rank p.items) c.args.found.now c.loop-next.next-index c.next-item.result
     c.loop-next.invariant c.loop-next-test.true c.next-item.is
-    (subst (λ (y : List ℕ). RanksFrom (Stands c.args.list.now) c.args.rank y) c.deref.ensures.0 c.if-not-ranks_from.ensures)
+    (subst (λ (y : List ℕ). RanksFrom (Stands c.args.list.now) c.args.rank y) c.deref.ensures.0 (c.if-not-ranks_from.ensures.0 refl))
+
+pub returns-then-not-ranks_from : goal.returns-then-not-ranks_from
+returns-then-not-ranks_from c =
+    let here = subst (λ (y : List ℕ). (false ≡ true) ↔ RanksFrom (Stands c.args.list.now) c.args.rank y) c.deref.ensures.0 c.if-not-ranks_from.ensures in
+    let bad : ¬ RanksFrom (Stands c.args.list.now) c.args.rank c.next-item.result.items = λ good. let yes = here.1 good in cc in (
+      λ is. cc,
+      λ each. absurd (not_each (λ (p : ArrayVec ℕ). RanksFrom (Stands c.args.list.now) c.args.rank p.items) c.args.found.now c.loop-next.next-index c.next-item.result
+          c.loop-next-test.true c.next-item.is bad each),
+    )
 
 pub returns : goal.returns
-returns c = λ k d lt. c.loop-next.invariant k d (omega arith)
+returns c = (λ is k d lt. c.loop-next.invariant k d (omega arith), λ each. refl)

@@ -1,11 +1,9 @@
-use Rattle.std.proofs.Common.{rules, ◌≡◌, ℕ, nat_eq, subst}
 use Rattle.certificate.specs.Lists.{Stands}
-use Rattle.certificate.proofs.Looking.{when_so}
+use Rattle.certificate.proofs.RankLemmas.{as_found, as_missing}
 use Rattle.certificate.proofs.ranked.ranks_as.Goals as goal
 
 pub returns-in-Some : goal.returns-in-Some
-returns-in-Some c =
-    when_so (nat_eq c.in-Some.found c.args.rank) (Stands c.args.list.now c.args.at.now c.args.rank)
-    (λ is.
-    let same : c.in-Some.found ≡ c.args.rank = search rules in
-    subst (λ (m : ℕ). Stands c.args.list.now c.args.at.now m) same c.in-Some.ensures)
+returns-in-Some c = as_found (Stands c.args.list.now c.args.at.now) c.args.rank c.in-Some.found c.in-Some.ensures
+
+pub returns-in-None : goal.returns-in-None
+returns-in-None c = as_missing (Stands c.args.list.now c.args.at.now) c.args.rank c.in-None.ensures

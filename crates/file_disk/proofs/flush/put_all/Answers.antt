@@ -3,13 +3,13 @@ use Rattle.std.specs.Prelude.{IsTrue}
 use Rattle.std.proofs.lemmas.Bool.{cases_lt}
 use Rattle.file_disk.specs.Waiting.{page_at}
 use Rattle.file_disk.proofs.Flushing.{puts_then}
-use Rattle.file_disk.proofs.Noting.{adds_then}
+use Rattle.file_disk.proofs.Noting.{writes_then}
 use Rattle.file_disk.proofs.flush.put_all.Goals as goal
 
 pub returns-in_default-put_from-clause-touched : goal.returns-in_default-put_from-clause-touched
 returns-in_default-put_from-clause-touched g c = λ honest.
     let now : IsTrue (g.F.ByteFile.honest c.loop-place.file) = subst (λ (b : Bool). IsTrue b) (sym c.loop-place.invariant.1) honest in
-    adds_then (c.loop-place.invariant.0 honest).3 (c.put_from.ensures.touched now)
+    writes_then (c.loop-place.invariant.0 honest).3 (c.put_from.ensures.touched now)
 
 pub loop-place-preserved : goal.loop-place-preserved
 loop-place-preserved g c = (
@@ -24,7 +24,7 @@ loop-place-preserved g c = (
           | inr behind ↦ c.in-Some-put_from.ensures.put now p s p_lt s_lt behind to
         ],
         c.put_from.ensures.lasts now ∙ so_far.2,
-        adds_then so_far.3 (c.put_from.ensures.touched now),
+        writes_then so_far.3 (c.put_from.ensures.touched now),
         (c.in-Some-put_from.ensures.counted now).spared ∙ so_far.4,
       ),
   c.put_from.ensures.same_honest ∙ c.loop-place.invariant.1,

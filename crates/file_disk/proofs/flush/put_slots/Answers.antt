@@ -1,6 +1,6 @@
 use Rattle.std.proofs.Common.{arith, ◌≤◌, ◌+◌, ◌*◌, length}
 use Rattle.file_disk.proofs.Flushing.{part_is, part_fits, write_puts, written_each, true_on, on_true}
-use Rattle.file_disk.proofs.Noting.{adds_done, part_waits}
+use Rattle.file_disk.proofs.Noting.{writes_tried, part_waits}
 use Rattle.file_disk.proofs.flush.put_slots.Goals as goal
 
 pub returns-clause-puts : goal.returns-clause-puts
@@ -26,5 +26,5 @@ returns-clause-touched g c = λ honest.
     let within : 512 * c.args.slot + 512 * c.args.sectors ≤ length c.args.waiting.now.bytes.items =
     omega (arith, c.args.waiting.now.sized, c.args.waiting.now.few, c.requires.there) in
     let is = part_is _ _ (512 * c.args.slot) (512 * c.args.sectors) c.deref.ensures.value in
-    adds_done _ _ _ c.write_at.result (part_waits c.args.waiting.now _ _ _ _ _ c.requires.wait is within)
-    (c.write_at.ensures.noted honest) (c.write_at.ensures.tried honest)
+    writes_tried c.args.waiting.now _ _ _ c.write_at.result (part_waits c.args.waiting.now _ _ _ _ _ c.requires.wait is within)
+    (c.write_at.ensures.noted honest) (c.write_at.ensures.tried honest) (returns-clause-puts g c honest).same

@@ -1,7 +1,8 @@
 use Rattle.std.proofs.Common.{◌≡◌, map, take}
+use Rattle.legal_moves.specs.aid.Boards.{boards_in}
 use Rattle.legal_moves.specs.aid.Ends.{ends_packed}
 use Rattle.legal_moves.specs.aid.Standing.{stood}
 use Rattle.legal_moves.proofs.ends.packed_ends.Given as goal
 
 abbrev pub invariant-loop-stand : goal.invariant-loop-stand
-invariant-loop-stand l = map (λ p. p.items) l.ends.items ≡ ends_packed l.packing (take l.stand-index (map (stood l.boards) l.stands))
+invariant-loop-stand l = map (λ p. p.items) l.ends.items ≡ ends_packed l.packing (take l.stand-index (map (stood (boards_in l.boards)) l.stands))

@@ -4,7 +4,6 @@ use Rattle.solver.specs.Solvers.{state}
 use Rattle.session.specs.Seen.{seen}
 use Rattle.session.specs.Sessions.{IsSession}
 use Rattle.session.proofs.InputLemmas.{consumes_nothing, consumes_none, consumes_then, consumes_and_keeps}
-use Rattle.session.proofs.Saying.{come_of_none}
 use Rattle.session.proofs.UnderWay.{nothing_read, last_answered, input_failed}
 use Rattle.session.proofs.line_by_line.answer_all.Goals as goal
 
@@ -12,16 +11,16 @@ pub loop-turn-init : goal.loop-turn-init
 loop-turn-init g c = (
   λ ready. ready,
   λ ready honest. honest,
-  λ ready honest. (
+  λ ready honest come. (
     [],
     consumes_nothing (g.R.Read.remaining c.args.input.now),
-    nothing_read _ _ _ _ _ _ (seen state g.W.Write.contents c.args.out.now c.args.moments.now) (come_of_none c.new-line.result c.new-line.ensures.empty c.new-line.ensures.short),
+    nothing_read _ _ _ _ _ _ (seen state g.W.Write.contents c.args.out.now c.args.moments.now) come,
   ),
 )
 
 pub returns-in-Ok-eq0-clause-came : goal.returns-in-Ok-eq0-clause-came
-returns-in-Ok-eq0-clause-came g c = λ ready honest.
-    let (bytes, consumed, way) = c.loop-turn.invariant.2 ready honest in
+returns-in-Ok-eq0-clause-came g c = λ ready honest come.
+    let (bytes, consumed, way) = c.loop-turn.invariant.2 ready honest come in
     let got = rw c.in-Ok-eq0.is at c.read.ensures.bytes in (
       bytes,
       consumes_none (g.R.Read.remaining c.args.input.now) (g.R.Read.remaining c.loop-turn.input) (g.R.Read.remaining c.read.new.self) bytes _ consumed got.0
@@ -33,16 +32,16 @@ returns-in-Ok-eq0-clause-came g c = λ ready honest.
     )
 
 pub returns-in-Err-2-clause-came : goal.returns-in-Err-2-clause-came
-returns-in-Err-2-clause-came g c = λ ready honest.
-    let (bytes, consumed, way) = c.loop-turn.invariant.2 ready honest in (
+returns-in-Err-2-clause-came g c = λ ready honest come.
+    let (bytes, consumed, way) = c.loop-turn.invariant.2 ready honest come in (
       bytes,
       consumes_and_keeps (g.R.Read.remaining c.args.input.now) (g.R.Read.remaining c.loop-turn.input) (g.R.Read.remaining c.read.new.self) bytes consumed c.in-Err.ensures.bytes,
       input_failed _ _ _ _ _ _ way,
     )
 
 pub returns-in-Some-clause-came : goal.returns-in-Some-clause-came
-returns-in-Some-clause-came g c = λ ready honest.
-    let (bytes, consumed, way) = c.loop-turn.invariant.2 ready honest in (
+returns-in-Some-clause-came g c = λ ready honest come.
+    let (bytes, consumed, way) = c.loop-turn.invariant.2 ready honest come in (
       bytes ++ take c.in-Ok.count c.read.new.buf,
       consumes_then (g.R.Read.remaining c.args.input.now) (g.R.Read.remaining c.loop-turn.input) (g.R.Read.remaining c.read.new.self) bytes _ consumed c.in-Ok.ensures.bytes.0,
       IsSession.within c.in-Some.status (c.in-Some.ensures.came (c.loop-turn.invariant.0 ready) (c.loop-turn.invariant.1 ready honest) bytes _ _ way),
@@ -52,8 +51,8 @@ pub loop-turn-preserved : goal.loop-turn-preserved
 loop-turn-preserved g c = (
   λ ready. c.in_default.ensures.ready (c.loop-turn.invariant.0 ready),
   λ ready honest. c.in_default.ensures.honest (c.loop-turn.invariant.0 ready) (c.loop-turn.invariant.1 ready honest),
-  λ ready honest.
-      let (bytes, consumed, way) = c.loop-turn.invariant.2 ready honest in (
+  λ ready honest come.
+      let (bytes, consumed, way) = c.loop-turn.invariant.2 ready honest come in (
         bytes ++ take c.in-Ok.count c.read.new.buf,
         consumes_then (g.R.Read.remaining c.args.input.now) (g.R.Read.remaining c.loop-turn.input) (g.R.Read.remaining c.read.new.self) bytes _ consumed c.in-Ok.ensures.bytes.0,
         c.in_default.ensures.came (c.loop-turn.invariant.0 ready) (c.loop-turn.invariant.1 ready honest) bytes _ _ way,
@@ -61,5 +60,5 @@ loop-turn-preserved g c = (
 )
 
 pub returns-clause-came : goal.returns-clause-came
-returns-clause-came g c = λ ready honest.
-    let (bytes, consumed, way) = c.loop-turn.invariant.2 ready honest in (bytes, consumed, input_failed _ _ _ _ _ _ way)
+returns-clause-came g c = λ ready honest come.
+    let (bytes, consumed, way) = c.loop-turn.invariant.2 ready honest come in (bytes, consumed, input_failed _ _ _ _ _ _ way)

@@ -1,24 +1,11 @@
 use Rattle.std.proofs.Common.{refl, subst}
 use Rattle.session_lines.specs.Asked.{Asks}
-use Rattle.session_lines.specs.Looked.{Looks}
-use Rattle.session_lines.specs.declared.input.Asked.TheVariants.{Usage}
-use Rattle.session_lines.specs.declared.looked.Looked.TheVariants.{Usage as LookUsage}
-use Rattle.session.proofs.Saying.{last_says, long_asks, long_looks}
+use Rattle.session.proofs.Saying.{last_says}
 use Rattle.session.proofs.UnderWay.{outcome_by}
 use Rattle.session.proofs.line_by_line.answer_last.Goals as goal
 
-pub returns-in-Work-clause-came : goal.returns-in-Work-clause-came
-returns-in-Work-clause-came g c = λ ready honest bytes come.
-    let asks = last_says Usage Asks long_asks c.args.line.now bytes c.asked_last.result come c.asked_last.ensures.long c.asked_last.ensures.line in
-    rw c.in-Work.is
-    (outcome_by (λ status text is. (bytes, refl, c.asked_last.result, asks, is))
-    (λ q. ((bytes, refl, subst (Asks bytes) q.0 asks), rw q.1 (rw q.2 refl)))
-    (c.answer.ensures.came ready honest))
-
-pub returns-in-Look-clause-came : goal.returns-in-Look-clause-came
-returns-in-Look-clause-came g c = λ ready honest bytes come.
-    let looks = last_says LookUsage Looks long_looks c.args.line.now bytes c.looked_last.result come c.looked_last.ensures.long c.looked_last.ensures.line in
-    rw c.in-Look.is
-    (outcome_by (λ status text is. (bytes, refl, c.looked_last.result, looks, is))
-    (λ q. ((bytes, refl, subst (Looks bytes) q.0 looks), rw q.1 refl))
-    (c.answer_look.ensures.came ready))
+pub returns-clause-came : goal.returns-clause-came
+returns-clause-came g c = λ ready honest bytes come.
+    let asks = last_says c.args.dialogue.now.line bytes c.asked_last-asked.result come c.asked_last-asked.ensures.long c.asked_last-asked.ensures.line in
+    outcome_by (λ status text is. (bytes, refl, c.asked_last-asked.result, asks, is)) (λ q. ((bytes, refl, subst (Asks bytes) q.0 asks), q.1))
+    (c.answer.ensures.came ready honest)

@@ -1,12 +1,5 @@
-use Rattle.session.specs.Commands.{brought}
-use Rattle.session.proofs.Bringing.{brought_so}
+use Rattle.session.specs.Commands.{came_of}
 use Rattle.session.proofs.migrating.migrate_on.Goals as goal
 
-pub returns-in-Ok : goal.returns-in-Ok
-returns-in-Ok g c = (
-  brought c.in-Ok.which,
-  brought_so g.First.GameFile.stores g.Second.GameFile.stores g.Today.GameFile.stores _ _ _ _ c.in-Ok.which c.in-Ok.ensures.migrated
-      c.in-Ok.ensures.current,
-  c.said.ensures.refused,
-  c.said.ensures.told,
-)
+pub returns-clause-done : goal.returns-clause-done
+returns-clause-done g c = (came_of c.brought-told.result.0, c.brought-told.ensures, c.said.ensures.refused, c.said.ensures.told)

@@ -21,7 +21,7 @@ returns-clause-stopped g c =
     let game = compiled_game c.args.compiled.now in
     let at = c.args.at.now in
     let listing : IsListing game at c.in-Ok.moves = record { moves_are = c.in-Ok.ensures.exact; shortest = c.in-Ok.ensures.shortest } in
-    stopped_of game at c.in-Ok.moves _ c.write_answer.result listing c.write_answer.ensures.stopped
+    stopped_of game at c.in-Ok.moves _ _ c.write_answer.result listing c.write_answer.ensures.stopped
 
 pub returns-in-Err-OutOfMemory-clause-stopped : goal.returns-in-Err-OutOfMemory-clause-stopped
 returns-in-Err-OutOfMemory-clause-stopped g c = ([], inl refl, appends_nothing (g.W.Write.contents c.args.out.now))

@@ -3,7 +3,7 @@ use Rattle.btree.specs.aid.Items.{length-items}
 use Rattle.btree.specs.Page.{Item, count_in}
 use Rattle.btree.proofs.WalkFailing.{passed_on, passed_store}
 use Rattle.btree.proofs.Marking.{marks_then}
-use Rattle.btree.proofs.Walking.{child_fails, inner_walked, leaf_fails, leaf_walked, not_taken, over_next, over_none, wrong_first}
+use Rattle.btree.proofs.Walking.{child_fails, inner_walked, leaf_fails, leaf_not_taken, leaf_walked, not_taken, over_next, over_none, wrong_first}
 use Rattle.btree.proofs.walk.below.+walk_below.Goals as goal
 
 pub returns-then-depth-eq0-clause-walked : goal.returns-then-depth-eq0-clause-walked
@@ -14,6 +14,11 @@ pub returns-in_err-tell_leaf-clause-cause : goal.returns-in_err-tell_leaf-clause
 returns-in_err-tell_leaf-clause-cause g t c =
     passed_on _ c.from_residual-in_err-tell_leaf.result _ c.from_residual-in_err-tell_leaf.ensures
     (leaf_fails c.args.widths c.args.depth c.args.page c.take_page.new.bytes c.args.last.now.items (g.V.Visitor.refuses c.tell_leaf.new.visitor) (g.V.Visitor.told c.args.visitor.now) (g.P.Pages.store c.args.store.now) (g.P.Pages.store c.take_page.new.store) c.if-depth-eq0.true c.in_ok-take_page.ensures.taken.is _ c.in_err-tell_leaf.ensures.cause)
+
+pub returns-in_err-take_page-clause-cause : goal.returns-in_err-take_page-clause-cause
+returns-in_err-take_page-clause-cause g t c =
+    passed_store _ c.from_residual.result _ c.from_residual.ensures
+    (leaf_not_taken c.args.widths c.args.depth c.args.page c.args.last.now.items (g.V.Visitor.refuses c.args.visitor.now) (g.V.Visitor.told c.args.visitor.now) (g.P.Pages.store c.args.store.now) (g.P.Pages.store c.take_page.new.store) c.if-depth-eq0.true _ c.in_err-take_page.ensures.cause)
 
 pub returns-in_err-take_page-2-clause-cause : goal.returns-in_err-take_page-2-clause-cause
 returns-in_err-take_page-2-clause-cause g t c =

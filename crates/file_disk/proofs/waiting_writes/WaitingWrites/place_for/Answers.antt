@@ -1,6 +1,6 @@
-use Rattle.std.proofs.Common.{rules, ◌≡◌, ◌<◌, length, None}
+use Rattle.std.proofs.Common.{rules, arith, ◌≡◌, ◌<◌, length, None}
 use Rattle.file_disk.specs.Waiting.{place_of}
-use Rattle.file_disk.proofs.Placing.{added_same, added_slots, added_distinct, added_placed, has_none}
+use Rattle.file_disk.proofs.Placing.{added_same, added_slots, added_distinct, added_noted, added_placed, has_none}
 use Rattle.file_disk.proofs.waiting_writes.WaitingWrites.place_for.Goals as goal
 
 pub invariant_of-self : goal.invariant_of-self
@@ -12,6 +12,8 @@ invariant_of-self c =
       sized = search rules;
       distinct = added_distinct _ _ _ room none c.args.self.now.distinct;
       placed = added_placed _ _ _ room c.requires c.args.self.now.placed;
+      hinted = search rules;
+      noted = added_noted _ _ _ _ _ room c.hint_of.ensures (omega (arith, c.hint_of.ensures, c.args.self.now.hinted)) c.args.self.now.noted;
     }
 
 pub returns-clause-same : goal.returns-clause-same

@@ -79,20 +79,32 @@ returns-clause-narrow c =
 pub returns-clause-wide : goal.returns-clause-wide
 returns-clause-wide c = no_error
 
+pub returns-in_err-room-clause-exact : goal.returns-in_err-room-clause-exact
+returns-in_err-room-clause-exact c = refused _ c.from_residual.result _ c.from_residual.ensures.1
+
+pub returns-in_err-room-clause-few : goal.returns-in_err-room-clause-few
+returns-in_err-room-clause-few c = refused _ c.from_residual.result _ c.from_residual.ensures.1
+
+pub returns-in_err-room-clause-narrow : goal.returns-in_err-room-clause-narrow
+returns-in_err-room-clause-narrow c = not_ok _ c.from_residual.result c.from_residual.ensures.1
+
+pub returns-in_err-room-clause-wide : goal.returns-in_err-room-clause-wide
+returns-in_err-room-clause-wide c = for_want c.from_residual.result c.from_residual.ensures.1
+
 pub returns-in_err-found-clause-exact : goal.returns-in_err-found-clause-exact
-returns-in_err-found-clause-exact c = refused _ c.from_residual.result _ c.from_residual.ensures.1
+returns-in_err-found-clause-exact c = refused _ c.from_residual-in_err-found.result _ c.from_residual-in_err-found.ensures.1
 
 pub returns-in_err-found-clause-few : goal.returns-in_err-found-clause-few
-returns-in_err-found-clause-few c = refused _ c.from_residual.result _ c.from_residual.ensures.1
+returns-in_err-found-clause-few c = refused _ c.from_residual-in_err-found.result _ c.from_residual-in_err-found.ensures.1
 
 pub returns-in_err-found-clause-narrow : goal.returns-in_err-found-clause-narrow
-returns-in_err-found-clause-narrow c = not_ok _ c.from_residual.result c.from_residual.ensures.1
+returns-in_err-found-clause-narrow c = not_ok _ c.from_residual-in_err-found.result c.from_residual-in_err-found.ensures.1
 
 pub returns-in_err-found-clause-wide : goal.returns-in_err-found-clause-wide
 returns-in_err-found-clause-wide c =
     let here = unpacked_at c.self.inside c.args.self.now c.self.view_is c.self.invariant c.args.at.now.items c.deref.result.now c.in-Some.position c.deref.ensures.0 c.in-Some.ensures in
     λ wide.
-    let fault = passed c.from_residual.result c.in_err-found.field-0.0 c.from_residual.ensures.1 wide in
+    let fault = passed c.from_residual-in_err-found.result c.in_err-found.field-0.0 c.from_residual-in_err-found.ensures.1 wide in
     (c.in-Some.position, here, c.in_err-found.ensures.wide (ap Err fault))
 
 pub returns-in_err-successors-clause-exact : goal.returns-in_err-successors-clause-exact

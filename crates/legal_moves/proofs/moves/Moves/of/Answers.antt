@@ -1,22 +1,32 @@
-use Rattle.std.proofs.Common.{◌≡◌, map, rules, sym, subst, length}
+use Rattle.std.proofs.Common.{map, sym, subst, length}
 use Rattle.std.proofs.lemmas.List.{length-map}
-use Rattle.legal_moves.specs.aid.Configurations.{AreEnds}
-use Rattle.legal_moves.specs.aid.Standing.{stood}
-use Rattle.legal_moves.proofs.EndsByBytes.{successor_of, ends_shown, ends_inside}
+use Rattle.legal_moves.specs.aid.Boards.{boards_in}
+use Rattle.legal_moves.specs.aid.Configurations.{AreEnds, HaveOwnBytes}
+use Rattle.legal_moves.specs.aid.Standing.{stood, AllStand}
+use Rattle.legal_moves.proofs.EndsByBytes.{ends_shown, ends_inside}
 use Rattle.legal_moves.proofs.moves.Moves.of.Goals as goal
+
+pub ends_by_bytes-requires-clause-whole : goal.ends_by_bytes-requires-clause-whole
+ends_by_bytes-requires-clause-whole c = c.requires.kept.whole
+
+pub ends_by_bytes-requires-clause-within : goal.ends_by_bytes-requires-clause-within
+ends_by_bytes-requires-clause-within c = subst (AllStand (boards_in c.args.found.boards)) (sym c.deref.ensures.value) c.requires.kept.within
+
+pub ends_by_bytes-requires-clause-apart : goal.ends_by_bytes-requires-clause-apart
+ends_by_bytes-requires-clause-apart c = subst (λ ss. HaveOwnBytes (map (stood (boards_in c.args.found.boards)) ss)) (sym c.deref.ensures.value) c.requires.apart
 
 pub invariant_of-result : goal.invariant_of-result
 invariant_of-result c =
-    let boards = c.args.found.boards.items in
+    let boards = boards_in c.args.found.boards in
     let stands = c.args.found.stands.items in
-    let index = subst (λ bs. AreEnds (map (stood bs) stands) (length stands) c.in_ok-ends.ends) c.deref.ensures.value (subst (λ ss. AreEnds (map (stood c.deref.result.now) ss) (length ss) c.in_ok-ends.ends) c.deref-2.ensures.value c.in_ok-ends.ensures) in
-    let kept : c.in_ok-successors.successors.items ≡ map successor_of c.in_ok-ends.ends.entries = search rules in
+    let index = subst (λ ss. AreEnds (map (stood boards) ss) (length ss) c.in_ok-ends.ends) c.deref.ensures.value c.in_ok-ends.ensures in
+    let kept = c.in_ok-successors.ensures in
     (c.requires.before, ends_inside (map (stood boards) stands) (length stands) (sym (length-map stands (stood boards))) c.in_ok-ends.ends index c.in_ok-successors.successors.items kept)
 
 pub returns : goal.returns
 returns c =
-    let boards = c.args.found.boards.items in
+    let boards = boards_in c.args.found.boards in
     let stands = c.args.found.stands.items in
-    let index = subst (λ bs. AreEnds (map (stood bs) stands) (length stands) c.in_ok-ends.ends) c.deref.ensures.value (subst (λ ss. AreEnds (map (stood c.deref.result.now) ss) (length ss) c.in_ok-ends.ends) c.deref-2.ensures.value c.in_ok-ends.ensures) in
-    let kept : c.in_ok-successors.successors.items ≡ map successor_of c.in_ok-ends.ends.entries = search rules in
+    let index = subst (λ ss. AreEnds (map (stood boards) ss) (length ss) c.in_ok-ends.ends) c.deref.ensures.value c.in_ok-ends.ensures in
+    let kept = c.in_ok-successors.ensures in
     ends_shown (map (stood boards) stands) (length stands) (sym (length-map stands (stood boards))) c.in_ok-ends.ends index c.in_ok-successors.successors.items kept

@@ -2,6 +2,7 @@ use Rattle.std.proofs.Common.{◌≡◌, ◌<◌, ◌++◌, map, reverse, subst,
 use Rattle.legal_moves.specs.declared.moves.Modifier.{Modifier}
 use Rattle.std.proofs.lemmas.List.{length-map}
 use Rattle.legal_moves.specs.Shown.{shown_to, shown_of}
+use Rattle.legal_moves.specs.aid.Boards.{boards_in}
 use Rattle.legal_moves.specs.aid.Standing.{stood}
 use Rattle.legal_moves.proofs.ReadyLemmas.{read_at}
 use Rattle.legal_moves.proofs.StandingLemmas.{stood_at}
@@ -10,7 +11,7 @@ use Rattle.legal_moves.proofs.moves.Moves.word.Goals as goal
 
 pub loop-at-smaller : goal.loop-at-smaller
 loop-at-smaller c =
-    let boards = c.self.inside.boards.items in
+    let boards = boards_in c.self.inside.boards in
     let stands = c.self.inside.stands.items in
     let cs = map (stood boards) stands in
     let s = c.index-in-loop-at.result.now in
@@ -20,7 +21,7 @@ loop-at-smaller c =
 
 pub loop-at-smaller-then-not-shows : goal.loop-at-smaller-then-not-shows
 loop-at-smaller-then-not-shows c =
-    let boards = c.self.inside.boards.items in
+    let boards = boards_in c.self.inside.boards in
     let stands = c.self.inside.stands.items in
     let cs = map (stood boards) stands in
     let s = c.index-in-loop-at.result.now in
@@ -30,7 +31,7 @@ loop-at-smaller-then-not-shows c =
 
 pub index-requires-in-loop-at-2 : goal.index-requires-in-loop-at-2
 index-requires-in-loop-at-2 c =
-    let boards = c.self.inside.boards.items in
+    let boards = boards_in c.self.inside.boards in
     let stands = c.self.inside.stands.items in
     let cs = map (stood boards) stands in
     let s = c.index-in-loop-at.result.now in
@@ -40,7 +41,7 @@ index-requires-in-loop-at-2 c =
 
 pub loop-at-preserved-then-not-shows : goal.loop-at-preserved-then-not-shows
 loop-at-preserved-then-not-shows c =
-    let boards = c.self.inside.boards.items in
+    let boards = boards_in c.self.inside.boards in
     let stands = c.self.inside.stands.items in
     let cs = map (stood boards) stands in
     let s = c.index-in-loop-at.result.now in
@@ -53,7 +54,7 @@ loop-at-preserved-then-not-shows c =
 
 pub loop-at-preserved : goal.loop-at-preserved
 loop-at-preserved c =
-    let boards = c.self.inside.boards.items in
+    let boards = boards_in c.self.inside.boards in
     let stands = c.self.inside.stands.items in
     let cs = map (stood boards) stands in
     let s = c.index-in-loop-at.result.now in
@@ -68,7 +69,7 @@ loop-at-preserved c =
 
 pub returns : goal.returns
 returns c =
-    let cs = map (stood c.self.inside.boards.items) c.self.inside.stands.items in
+    let cs = map (stood (boards_in c.self.inside.boards)) c.self.inside.stands.items in
     let successors = c.self.inside.successors.items in
     let many : length c.args.self.now ≡ length successors = ap length (sym c.self.view_is) ∙ length-map successors (shown_of cs) in
     let at = read_at successors c.args.k c.index.result.now (omega (arith, many, c.requires)) c.index.ensures in

@@ -1,12 +1,13 @@
 use Rattle.std.proofs.Common.{true, slice_index, slice_index_or, inl, ◌≡◌, ◌==◌, ℕ, inr, false, ◌+◌, ◌-◌, ◌<◌, ◌≤◌, length, vec_len, Some, Err, get_or, slice_get, [], ◌∷◌, refl, sym, ap, ◌∙◌, subst, arith, length-append}
 use Rattle.rbg_game.specs.Positions.{IsStateOf}
 use Rattle.rbg_game.specs.Rules.{count}
-use Rattle.rbg_game.specs.Meaning.{game_of}
+use Rattle.rbg_game.specs.Meaning.{game_of, action_of}
 use Rattle.legal_moves.specs.Effects.{EffectAt}
-use Rattle.legal_moves.specs.aid.Configurations.{expression_at, AsksTooMuch, IsFollowed, IsSearch}
+use Rattle.legal_moves.specs.aid.Boards.{boards_in}
+use Rattle.legal_moves.specs.aid.Configurations.{expression_at, IsFollowed, IsSearch}
 use Rattle.legal_moves.specs.aid.Going.{began, state_at, IsGoing}
 use Rattle.legal_moves.specs.aid.Standing.{stood, configurations_of}
-use Rattle.legal_moves.specs.aid.Looking.{at_vertex, looked, seen_from, AreMarked, TellsAt}
+use Rattle.legal_moves.specs.aid.Looking.{at_vertex, GlanceTells, looked, seen_from, AreMarked, TellsAt}
 use Rattle.std.specs.Option.{IfSome}
 use Rattle.legal_moves.specs.declared.looks.Look.{Look}
 use Rattle.std.proofs.lemmas.List.{length-map}
@@ -18,14 +19,16 @@ use Rattle.std.specs.Bool.{MatchBool}
 use Rattle.std.specs.List.{list_any}
 use Rattle.legal_moves.specs.Searches.{place_at}
 use Rattle.legal_moves.specs.aid.Searches.{IsLegal}
+use Rattle.legal_moves.specs.aid.Seen.{state_seen}
+use Rattle.legal_moves.proofs.BoardLemmas.{many_boards}
 use Rattle.legal_moves.proofs.WidthLemmas.{narrow_by_search}
 use Rattle.legal_moves.proofs.HoldsLemmas.{none_switches, legal_by_nullable, legal_by_any, legal_by_last}
 use Rattle.legal_moves.proofs.GetLemmas.{slice_get-within}
 use Rattle.legal_moves.proofs.FoundLemmas.{count_whole, IsFollowed-end, IsFollowed-upto}
 use Rattle.legal_moves.proofs.ExpandLemmas.{ends_at, place_first, place_last, listed_next, skipped, past_not, number_from, number_upto, going_next, more_invalid, asked, turned, full, tried, tried_wide}
-use Rattle.legal_moves.proofs.StandingLemmas.{board_is, stood_at, any_stand}
+use Rattle.legal_moves.proofs.StandingLemmas.{stood_at, any_stand}
 use Rattle.legal_moves.proofs.Exits.{refused, not_ok, no_error}
-use Rattle.legal_moves.proofs.AttemptLemmas.{state_there, state_of, began_is, attempted, filled}
+use Rattle.legal_moves.proofs.AttemptLemmas.{state_there, state_of, began_is, attempted, filled, still_shown}
 use Rattle.legal_moves.specs.declared.found.Stand.{Stand}
 use Rattle.legal_moves.proofs.LookLemmas.{seen_at, stays_there, taken_look, new_position, any_look, place_zero, going_begun, not_begun, look_leads}
 use Rattle.legal_moves.specs.Tables.{inner_of}
@@ -38,7 +41,7 @@ use Rattle.legal_moves.proofs.MarkLemmas.{any_agree}
 use Rattle.legal_moves.proofs.NarrowLemmas.{table_is_narrow}
 use Rattle.legal_moves.specs.aid.Narrow.{AreFewLooks}
 use Rattle.legal_moves.proofs.search.Searcher.+search.Goals as goal
-use Rattle.legal_moves.proofs.search.Searcher.+search.Goals.{look_on-in-Fails, look_on-in-At+in_ok-add-in-At, expand-then-last-eq0, expand-else-last-eq0, look-then-table, look-else-table, is_legal-then-ends, is_legal-else-ends}
+use Rattle.legal_moves.proofs.search.Searcher.+search.Goals.{look_on-in-Fails, look_on-in-At+in_ok-add-in-At, expand-then-last-eq0, expand-else-last-eq0, look-then-table, look-else-table, is_legal_by_search-then-ends, is_legal_by_search-else-ends}
 
 pub glance_at-step-requires-clause-upto : goal.glance_at-step-requires-clause-upto
 glance_at-step-requires-clause-upto t c =
@@ -168,43 +171,43 @@ is_legal-returns-clause-narrow t c =
     let S = at_vertex c.args.state.now c.args.vertex in
     λ ok. subst (λ o. IfSome o (λ b. ¬ IsWideFrom game e 0 S)) c.in-Some-2.is c.in_ok-legal.ensures.narrow
 
-pub is_legal-returns-2-clause-answer : goal.is_legal-returns-2-clause-answer
-is_legal-returns-2-clause-answer t c =
+pub is_legal_by_search-returns-clause-answer : goal.is_legal_by_search-returns-clause-answer
+is_legal_by_search-returns-clause-answer t c =
     let game = game_of c.args.self.now.game.now in
     let tables = c.args.self.now.tables.now in
     let index = c.args.index in
     let e = expression_at game index in
-    let T = c.index-self-index-2.result in
-    let at_T = read_at tables index T c.requires.ready.within c.index-self-index-2.is in
+    let T = c.index-self-index.result in
+    let at_T = read_at tables index T c.requires.ready.within c.index-self-index.is in
     let cs = configurations_of c.in_ok-found.found in
     let search = subst (λ S. IsSearch game e 0 (at_vertex S c.args.vertex) cs) c.copied_state-state.ensures c.in_ok-found.ensures.found in
     let S = at_vertex c.args.state.now c.args.vertex in
-    let table_is = ap (λ x. x.ends.nullable) c.index-self-index-2.is in
+    let table_is = ap (λ x. x.ends.nullable) c.index-self-index.is in
     elim c.if-ends.branch [
-      | is_legal-then-ends w ↦
+      | is_legal_by_search-then-ends w ↦
           let null = table_is ∙ w.if-ends.true in
-          subst (λ b. MatchBool b (IsLegal game e S) (¬ IsLegal game e S)) (sym (w.result-is ∙ w.if-ends.true))
+          subst (λ b. MatchBool b (IsLegal game e S) (¬ IsLegal game e S)) (sym (w.legal-is ∙ w.if-ends.true))
           (legal_by_nullable game tables index c.requires.ready T at_T c.requires.lacks S cs search null)
-      | is_legal-else-ends w ↦
+      | is_legal_by_search-else-ends w ↦
           let configurations = w.deref.ensures.value in
-          let last = w.deref-else-ends.ensures.value ∙ ap (λ x. x.ends.last.items) (sym c.index-self-index-2.is) in
-          let any = w.any_stands_last.ensures ∙ ap (λ xs. list_any (λ x. list_any (λ k. k == x.place) xs) w.deref.result.now) last ∙ ap (λ xs. list_any (λ x. list_any (λ k. k == x.place) T.ends.last.items) xs) configurations ∙ sym (any_stand c.in_ok-found.found.boards.items c.in_ok-found.found.stands.items T.ends.last.items) in
-          subst (λ b. MatchBool b (IsLegal game e S) (¬ IsLegal game e S)) (sym w.result-is)
-          (legal_by_any game tables index c.requires.ready T at_T c.requires.lacks S cs search w.any_stands_last.result any (table_is ∙ w.if-ends.false))
+          let last = w.deref-else-ends.ensures.value ∙ ap (λ x. x.ends.last.items) (sym c.index-self-index.is) in
+          let any = w.any_stands_last-legal.ensures ∙ ap (λ xs. list_any (λ x. list_any (λ k. k == x.place) xs) w.deref.result.now) last ∙ ap (λ xs. list_any (λ x. list_any (λ k. k == x.place) T.ends.last.items) xs) configurations ∙ sym (any_stand (boards_in c.in_ok-found.found.boards) c.in_ok-found.found.stands.items T.ends.last.items) in
+          subst (λ b. MatchBool b (IsLegal game e S) (¬ IsLegal game e S)) (sym w.legal-is)
+          (legal_by_any game tables index c.requires.ready T at_T c.requires.lacks S cs search w.any_stands_last-legal.result any (table_is ∙ w.if-ends.false))
     ]
 
-pub is_legal-returns-2-clause-narrow : goal.is_legal-returns-2-clause-narrow
-is_legal-returns-2-clause-narrow t c =
+pub is_legal_by_search-returns-clause-narrow : goal.is_legal_by_search-returns-clause-narrow
+is_legal_by_search-returns-clause-narrow t c =
     let game = game_of c.args.self.now.game.now in
     let tables = c.args.self.now.tables.now in
     let index = c.args.index in
     let e = expression_at game index in
-    let T = c.index-self-index-2.result in
-    let at_T = read_at tables index T c.requires.ready.within c.index-self-index-2.is in
+    let T = c.index-self-index.result in
+    let at_T = read_at tables index T c.requires.ready.within c.index-self-index.is in
     let cs = configurations_of c.in_ok-found.found in
     let search = subst (λ S. IsSearch game e 0 (at_vertex S c.args.vertex) cs) c.copied_state-state.ensures c.in_ok-found.ensures.found in
     let S = at_vertex c.args.state.now c.args.vertex in
-    let table_is = ap (λ x. x.ends.nullable) c.index-self-index-2.is in
+    let table_is = ap (λ x. x.ends.nullable) c.index-self-index.is in
     λ ok. narrow_by_search game e 0 S cs search
 
 pub look-begun-requires-clause-few : goal.look-begun-requires-clause-few
@@ -460,34 +463,28 @@ attempt-returns-in-At-clause-tried t c =
     let e = expression_at game c.args.index in
     let old = c.args.found.now in
     let stands = old.stands.items in
-    let boards = old.boards.items in
+    let boards = boards_in old.boards in
     let s = c.index.result.now in
     let at_s = read_at stands c.args.at s c.requires.at c.index.ensures in
     let on = c.requires.kept.within c.args.at s at_s in
-    let B = c.index-2.result.now in
-    let at_B = read_at boards s.board B on c.index-2.ensures in
-    let state_is = state_there boards stands c.args.at s B at_s at_B in
-    let told = subst (TellsAt game e c.args.number (at_vertex B s.vertex)) c.in-At.is c.in_ok-glance_at.ensures.tells in
-    let t : Stand = record { board = s.board; vertex = c.in-At.vertex; place = c.args.number; parent = c.args.at; shows = false; ends = false } in
-    let U = at_vertex B c.in-At.vertex in
-    let is = ap (λ A. at_vertex A c.in-At.vertex) (board_is boards s.board B at_B) in
-    let reached = subst (λ S. EffectAt game e 1 c.args.number S U) (sym state_is) told.0 in
-    on_ok_weaker c.add.result (λ added. attempted game e c.args.number c.args.at old old t U refl c.requires.kept on is reached refl refl (sym told.1.1) (sym told.1.0) c.add.new.self (ap (λ bs. bs.items) c.add.ensures.boards) added) c.add.ensures.added
+    let told = subst (TellsAt game e c.args.number (state_at (configurations_of c.args.found.now) c.args.at)) c.in-At.is c.in_ok-glance_from.ensures.tells in
+    let t : Stand = record { board = s.board; mover = s.mover; vertex = c.in-At.vertex; place = c.args.number; parent = c.args.at; shows = false; ends = false } in
+    let U = at_vertex (state_at (configurations_of c.args.found.now) c.args.at) c.in-At.vertex in
+    let is = ap (λ A. at_vertex A c.in-At.vertex) (sym (state_there boards stands c.args.at s at_s)) in
+    let reached = told.0 in
+    on_ok_weaker c.add.result (λ added. attempted game e c.args.number c.args.at old old t U refl c.requires.kept on is reached refl refl (sym told.1.1) (sym told.1.0) c.add.new.self c.add.ensures.boards added) c.add.ensures.added
+
+pub attempt-returns-in-At-clause-shown : goal.attempt-returns-in-At-clause-shown
+attempt-returns-in-At-clause-shown t c =
+    let game = game_of c.args.self.now.game.now in
+    let e = expression_at game c.args.index in
+    on_ok_weaker c.add.result (λ tried. still_shown _ _ _ c.in_ok-glance_from.ensures.shown game e c.args.number c.args.at tried) (attempt-returns-in-At-clause-tried t c)
 
 pub attempt-returns-in-At-clause-narrow : goal.attempt-returns-in-At-clause-narrow
 attempt-returns-in-At-clause-narrow t c =
     let game = game_of c.args.self.now.game.now in
     let e = expression_at game c.args.index in
-    let old = c.args.found.now in
-    let stands = old.stands.items in
-    let boards = old.boards.items in
-    let s = c.index.result.now in
-    let at_s = read_at stands c.args.at s c.requires.at c.index.ensures in
-    let on = c.requires.kept.within c.args.at s at_s in
-    let B = c.index-2.result.now in
-    let at_B = read_at boards s.board B on c.index-2.ensures in
-    let state_is = state_there boards stands c.args.at s B at_s at_B in
-    λ ok. subst (λ S. ¬ AsksTooMuch game e c.args.number S) (sym state_is) (c.in_ok-glance_at.ensures.narrow refl)
+    λ ok. c.in_ok-glance_from.ensures.narrow refl
 
 pub attempt-returns-in-At-clause-wide : goal.attempt-returns-in-At-clause-wide
 attempt-returns-in-At-clause-wide t c =
@@ -495,18 +492,15 @@ attempt-returns-in-At-clause-wide t c =
     let e = expression_at game c.args.index in
     let old = c.args.found.now in
     let stands = old.stands.items in
-    let boards = old.boards.items in
+    let boards = boards_in old.boards in
     let s = c.index.result.now in
     let at_s = read_at stands c.args.at s c.requires.at c.index.ensures in
     let on = c.requires.kept.within c.args.at s at_s in
-    let B = c.index-2.result.now in
-    let at_B = read_at boards s.board B on c.index-2.ensures in
-    let state_is = state_there boards stands c.args.at s B at_s at_B in
-    let told = subst (TellsAt game e c.args.number (at_vertex B s.vertex)) c.in-At.is c.in_ok-glance_at.ensures.tells in
-    let t : Stand = record { board = s.board; vertex = c.in-At.vertex; place = c.args.number; parent = c.args.at; shows = false; ends = false } in
-    let U = at_vertex B c.in-At.vertex in
-    let is = ap (λ A. at_vertex A c.in-At.vertex) (board_is boards s.board B at_B) in
-    let reached = subst (λ S. EffectAt game e 1 c.args.number S U) (sym state_is) told.0 in
+    let told = subst (TellsAt game e c.args.number (state_at (configurations_of c.args.found.now) c.args.at)) c.in-At.is c.in_ok-glance_from.ensures.tells in
+    let t : Stand = record { board = s.board; mover = s.mover; vertex = c.in-At.vertex; place = c.args.number; parent = c.args.at; shows = false; ends = false } in
+    let U = at_vertex (state_at (configurations_of c.args.found.now) c.args.at) c.in-At.vertex in
+    let is = ap (λ A. at_vertex A c.in-At.vertex) (sym (state_there boards stands c.args.at s at_s)) in
+    let reached = told.0 in
     λ wide. let too_many = c.add.ensures.wide wide in
     inr (filled game e c.args.number c.args.at old old t U refl c.requires.kept on is reached refl refl (sym told.1.1) (sym told.1.0) too_many.0 too_many.1)
 
@@ -518,7 +512,7 @@ expand-returns-then-ends-clause-going t c =
     let e = expression_at game index in
     let place = c.args.place in
     let at = c.args.at in
-    let boards = c.args.found.now.boards.items in
+    let boards = boards_in c.args.found.now.boards in
     let stands = c.args.found.now.stands.items in
     let cs = configurations_of c.args.found.now in
     let S = began cs in
@@ -535,7 +529,7 @@ expand-attempt-requires t c =
     let e = expression_at game index in
     let place = c.args.place in
     let at = c.args.at in
-    let boards = c.args.found.now.boards.items in
+    let boards = boards_in c.args.found.now.boards in
     let stands = c.args.found.now.stands.items in
     let cs = configurations_of c.args.found.now in
     let S = began cs in
@@ -555,9 +549,9 @@ expand-attempt-requires t c =
     let at_k = slice_get-get_or ks i 0 c.loop-number-test.true in
     let next = listed_next game tables index c.requires.ready T at_T ks c.if-last-eq0.from p ks_is from_is i k at_k in
     let here = IsFollowed-upto game e place S now at (past ks i) k b now_b c.loop-number.invariant.here (λ m from_past less. skipped game tables index c.requires.ready T at_T ks c.if-last-eq0.from p ks_is from_is i k m at_k from_past less) in
-    let inside : at < length c.loop-number.found.stands.items = omega (arith, slice_get-within now at b now_b, length-map c.loop-number.found.stands.items (stood c.loop-number.found.boards.items)) in
+    let inside : at < length c.loop-number.found.stands.items = omega (arith, slice_get-within now at b now_b, length-map c.loop-number.found.stands.items (stood (boards_in c.loop-number.found.boards))) in
     let state_is : b.at.state ≡ state_at now at = sym (state_of now at b now_b) in
-    (omega arith, (c.requires.ready, (c.requires.same, (c.requires.jumps, (inside, (c.loop-number.invariant.kept, (subst (IsStateOf game) state_is (c.loop-number.invariant.going.found_are.states_are at b now_b), (number_from e p k next, (number_upto e p k next, answer_along game cs now at c.loop-number.known (sym c.loop-number.invariant.before) c.loop-number.invariant.known)))))))))
+    (omega arith, (c.requires.ready, (c.requires.same, (c.requires.jumps, (inside, (c.loop-number.invariant.kept, (c.loop-number.invariant.shown, (subst (IsStateOf game) state_is (c.loop-number.invariant.going.found_are.states_are at b now_b), (number_from e p k next, (number_upto e p k next, answer_along game cs now at c.loop-number.known (sym c.loop-number.invariant.before) c.loop-number.invariant.known))))))))))
 
 pub expand-returns-in_err-attempt-clause-wide : goal.expand-returns-in_err-attempt-clause-wide
 expand-returns-in_err-attempt-clause-wide t c =
@@ -567,7 +561,7 @@ expand-returns-in_err-attempt-clause-wide t c =
     let e = expression_at game index in
     let place = c.args.place in
     let at = c.args.at in
-    let boards = c.args.found.now.boards.items in
+    let boards = boards_in c.args.found.now.boards in
     let stands = c.args.found.now.stands.items in
     let cs = configurations_of c.args.found.now in
     let S = began cs in
@@ -598,7 +592,7 @@ expand-loop-number-preserved t c =
     let e = expression_at game index in
     let place = c.args.place in
     let at = c.args.at in
-    let boards = c.args.found.now.boards.items in
+    let boards = boards_in c.args.found.now.boards in
     let stands = c.args.found.now.stands.items in
     let cs = configurations_of c.args.found.now in
     let S = began cs in
@@ -621,6 +615,7 @@ expand-loop-number-preserved t c =
     let turn = tried game tables index c.requires.ready place S now at k b c.loop-number.invariant.going here now_b plain (configurations_of c.attempt.new.found) next (c.in_ok-attempt.ensures.narrow refl) c.in_ok-attempt.ensures.tried in
     record {
       kept = c.in_ok-attempt.ensures.kept;
+      shown = c.in_ok-attempt.ensures.shown;
       going = turn.goes;
       known = answer_along game now cs at c.attempt.new.known c.loop-number.invariant.before c.in_ok-attempt.ensures.known;
       here = subst (λ n. IsFollowed game e place (configurations_of c.attempt.new.found) at n) (past_more ks i k at_k) turn.expands;
@@ -635,7 +630,7 @@ expand-returns-clause-going t c =
     let e = expression_at game index in
     let place = c.args.place in
     let at = c.args.at in
-    let boards = c.args.found.now.boards.items in
+    let boards = boards_in c.args.found.now.boards in
     let stands = c.args.found.now.stands.items in
     let cs = configurations_of c.args.found.now in
     let S = began cs in
@@ -681,18 +676,15 @@ holds-returns-2-clause-known t c =
     let told = c.in_ok-holds.ensures in
     subst (λ e. MatchBool c.in_ok-holds.holds (IsLegal game e S) (¬ IsLegal game e S) × ¬ IsWideFrom game e 0 S) (sym first) (told.answer, told.narrow refl)
 
-pub attempt-glance_at-requires : goal.attempt-glance_at-requires
-attempt-glance_at-requires t c =
-    let game = game_of c.args.self.now.game.now in
-    let e = expression_at game c.args.index in
-    let stands = c.args.found.now.stands.items in
-    let boards = c.args.found.now.boards.items in
-    let s = c.index.result.now in
-    let at_s = read_at stands c.args.at s c.requires.at c.index.ensures in
-    let B = c.index-2.result.now in
-    let at_B = read_at boards s.board B (c.requires.kept.within c.args.at s at_s) c.index-2.ensures in
-    let state_is = state_there boards stands c.args.at s B at_s at_B in
-    (omega arith, (c.requires.ready, (c.requires.same, (c.requires.jumps, (subst (IsStateOf game) state_is c.requires.state, (c.requires.from, (c.requires.upto, subst (λ S. IsAnswerAt game S c.args.known.now) state_is c.requires.known)))))))
+pub attempt-glance_from-requires : goal.attempt-glance_from-requires
+attempt-glance_from-requires t c =
+    (omega arith, (c.requires.ready, (c.requires.same, (c.requires.jumps, (c.requires.at, (c.requires.kept, (c.requires.shown, (c.requires.state, (c.requires.from, (c.requires.upto, c.requires.known))))))))))
+
+pub attempt-returns-in-Fails-clause-shown : goal.attempt-returns-in-Fails-clause-shown
+attempt-returns-in-Fails-clause-shown t c = c.in_ok-glance_from.ensures.shown
+
+pub attempt-returns-in_err-glance_from-clause-shown : goal.attempt-returns-in_err-glance_from-clause-shown
+attempt-returns-in_err-glance_from-clause-shown t c = refused _ c.from_residual.result _ c.from_residual.ensures.1
 
 pub attempt-returns-in-At-clause-kept : goal.attempt-returns-in-At-clause-kept
 attempt-returns-in-At-clause-kept t c = c.add.ensures.kept
@@ -701,14 +693,7 @@ pub attempt-returns-in-At-clause-known : goal.attempt-returns-in-At-clause-known
 attempt-returns-in-At-clause-known t c =
     let game = game_of c.args.self.now.game.now in
     let e = expression_at game c.args.index in
-    let stands = c.args.found.now.stands.items in
-    let boards = c.args.found.now.boards.items in
-    let s = c.index.result.now in
-    let at_s = read_at stands c.args.at s c.requires.at c.index.ensures in
-    let B = c.index-2.result.now in
-    let at_B = read_at boards s.board B (c.requires.kept.within c.args.at s at_s) c.index-2.ensures in
-    let state_is = state_there boards stands c.args.at s B at_s at_B in
-    on_ok_weaker c.add.result (λ kept. subst (λ S. IsAnswerAt game S c.glance_at.new.known) (sym state_is) c.in_ok-glance_at.ensures.known) c.add.ensures.kept
+    on_ok_weaker c.add.result (λ kept. c.in_ok-glance_from.ensures.known) c.add.ensures.kept
 
 pub attempt-returns-in-Fails-clause-kept : goal.attempt-returns-in-Fails-clause-kept
 attempt-returns-in-Fails-clause-kept t c = c.requires.kept
@@ -717,40 +702,19 @@ pub attempt-returns-in-Fails-clause-known : goal.attempt-returns-in-Fails-clause
 attempt-returns-in-Fails-clause-known t c =
     let game = game_of c.args.self.now.game.now in
     let e = expression_at game c.args.index in
-    let stands = c.args.found.now.stands.items in
-    let boards = c.args.found.now.boards.items in
-    let s = c.index.result.now in
-    let at_s = read_at stands c.args.at s c.requires.at c.index.ensures in
-    let B = c.index-2.result.now in
-    let at_B = read_at boards s.board B (c.requires.kept.within c.args.at s at_s) c.index-2.ensures in
-    let state_is = state_there boards stands c.args.at s B at_s at_B in
-    subst (λ S. IsAnswerAt game S c.glance_at.new.known) (sym state_is) c.in_ok-glance_at.ensures.known
+    c.in_ok-glance_from.ensures.known
 
 pub attempt-returns-in-Fails-clause-narrow : goal.attempt-returns-in-Fails-clause-narrow
 attempt-returns-in-Fails-clause-narrow t c =
     let game = game_of c.args.self.now.game.now in
     let e = expression_at game c.args.index in
-    let stands = c.args.found.now.stands.items in
-    let boards = c.args.found.now.boards.items in
-    let s = c.index.result.now in
-    let at_s = read_at stands c.args.at s c.requires.at c.index.ensures in
-    let B = c.index-2.result.now in
-    let at_B = read_at boards s.board B (c.requires.kept.within c.args.at s at_s) c.index-2.ensures in
-    let state_is = state_there boards stands c.args.at s B at_s at_B in
-    λ ok. subst (λ S. ¬ AsksTooMuch game e c.args.number S) (sym state_is) (c.in_ok-glance_at.ensures.narrow refl)
+    λ ok. c.in_ok-glance_from.ensures.narrow refl
 
 pub attempt-returns-in-Fails-clause-tried : goal.attempt-returns-in-Fails-clause-tried
 attempt-returns-in-Fails-clause-tried t c =
     let game = game_of c.args.self.now.game.now in
     let e = expression_at game c.args.index in
-    let stands = c.args.found.now.stands.items in
-    let boards = c.args.found.now.boards.items in
-    let s = c.index.result.now in
-    let at_s = read_at stands c.args.at s c.requires.at c.index.ensures in
-    let B = c.index-2.result.now in
-    let at_B = read_at boards s.board B (c.requires.kept.within c.args.at s at_s) c.index-2.ensures in
-    let state_is = state_there boards stands c.args.at s B at_s at_B in
-    inl (refl, λ U. subst (λ S. ¬ EffectAt game e 1 c.args.number S U) (sym state_is) (subst (TellsAt game e c.args.number (at_vertex B s.vertex)) c.in-Fails.is c.in_ok-glance_at.ensures.tells U))
+    inl (refl, λ U. (subst (TellsAt game e c.args.number (state_at (configurations_of c.args.found.now) c.args.at)) c.in-Fails.is c.in_ok-glance_from.ensures.tells U))
 
 pub attempt-returns-in-Fails-clause-wide : goal.attempt-returns-in-Fails-clause-wide
 attempt-returns-in-Fails-clause-wide t c = no_error
@@ -762,30 +726,22 @@ pub attempt-returns-in-Writes-clause-known : goal.attempt-returns-in-Writes-clau
 attempt-returns-in-Writes-clause-known t c =
     let game = game_of c.args.self.now.game.now in
     let e = expression_at game c.args.index in
-    let stands = c.args.found.now.stands.items in
-    let boards = c.args.found.now.boards.items in
-    let s = c.index.result.now in
-    let at_s = read_at stands c.args.at s c.requires.at c.index.ensures in
-    let B = c.index-2.result.now in
-    let at_B = read_at boards s.board B (c.requires.kept.within c.args.at s at_s) c.index-2.ensures in
-    let state_is = state_there boards stands c.args.at s B at_s at_B in
-    on_ok_weaker c.write.result (λ kept. subst (λ S. IsAnswerAt game S c.glance_at.new.known) (sym state_is) c.in_ok-glance_at.ensures.known) c.write.ensures.kept
+    on_ok_weaker c.write.result (λ kept. c.in_ok-glance_from.ensures.known) c.write.ensures.kept
 
 pub attempt-returns-in-Writes-clause-narrow : goal.attempt-returns-in-Writes-clause-narrow
 attempt-returns-in-Writes-clause-narrow t c =
     let game = game_of c.args.self.now.game.now in
     let e = expression_at game c.args.index in
-    let stands = c.args.found.now.stands.items in
-    let boards = c.args.found.now.boards.items in
-    let s = c.index.result.now in
-    let at_s = read_at stands c.args.at s c.requires.at c.index.ensures in
-    let B = c.index-2.result.now in
-    let at_B = read_at boards s.board B (c.requires.kept.within c.args.at s at_s) c.index-2.ensures in
-    let state_is = state_there boards stands c.args.at s B at_s at_B in
-    λ ok. subst (λ S. ¬ AsksTooMuch game e c.args.number S) (sym state_is) (c.in_ok-glance_at.ensures.narrow refl)
+    λ ok. c.in_ok-glance_from.ensures.narrow refl
 
 pub attempt-returns-in-Writes-clause-tried : goal.attempt-returns-in-Writes-clause-tried
 attempt-returns-in-Writes-clause-tried t c = c.write.ensures.tried
+
+pub attempt-returns-in-Writes-clause-shown : goal.attempt-returns-in-Writes-clause-shown
+attempt-returns-in-Writes-clause-shown t c =
+    let game = game_of c.args.self.now.game.now in
+    let e = expression_at game c.args.index in
+    on_ok_weaker c.write.result (λ tried. still_shown _ _ _ c.in_ok-glance_from.ensures.shown game e c.args.number c.args.at tried) c.write.ensures.tried
 
 pub attempt-returns-in-Writes-clause-wide : goal.attempt-returns-in-Writes-clause-wide
 attempt-returns-in-Writes-clause-wide t c = λ wide. inr (c.write.ensures.wide wide)
@@ -812,37 +768,30 @@ pub attempt-write-requires-clause-writes : goal.attempt-write-requires-clause-wr
 attempt-write-requires-clause-writes t c =
     let game = game_of c.args.self.now.game.now in
     let e = expression_at game c.args.index in
-    subst (TellsAt game e c.args.number (at_vertex c.index-2.result.now c.index.result.now.vertex)) c.in-Writes.is c.in_ok-glance_at.ensures.tells
+    subst (TellsAt game e c.args.number (state_at (configurations_of c.args.found.now) c.args.at)) c.in-Writes.is c.in_ok-glance_from.ensures.tells
 
 pub attempt-add-requires-clause-kept : goal.attempt-add-requires-clause-kept
 attempt-add-requires-clause-kept t c = c.requires.kept
 
-pub attempt-returns-in_err-glance_at-clause-wide : goal.attempt-returns-in_err-glance_at-clause-wide
-attempt-returns-in_err-glance_at-clause-wide t c =
+pub attempt-returns-in_err-glance_from-clause-wide : goal.attempt-returns-in_err-glance_from-clause-wide
+attempt-returns-in_err-glance_from-clause-wide t c =
     let game = game_of c.args.self.now.game.now in
     let e = expression_at game c.args.index in
-    let stands = c.args.found.now.stands.items in
-    let boards = c.args.found.now.boards.items in
-    let s = c.index.result.now in
-    let at_s = read_at stands c.args.at s c.requires.at c.index.ensures in
-    let B = c.index-2.result.now in
-    let at_B = read_at boards s.board B (c.requires.kept.within c.args.at s at_s) c.index-2.ensures in
-    let state_is = state_there boards stands c.args.at s B at_s at_B in
     λ wide.
-    let fault = passed c.from_residual.result c.in_err-glance_at.field-0.0 c.from_residual.ensures.1 wide in
-    inl (subst (AsksTooMuch game e c.args.number) (sym state_is) (c.in_err-glance_at.ensures.wide (ap Err fault)))
+    let fault = passed c.from_residual.result c.in_err-glance_from.field-0.0 c.from_residual.ensures.1 wide in
+    inl (c.in_err-glance_from.ensures.wide (ap Err fault))
 
-pub attempt-returns-in_err-glance_at-clause-kept : goal.attempt-returns-in_err-glance_at-clause-kept
-attempt-returns-in_err-glance_at-clause-kept t c = refused _ c.from_residual.result _ c.from_residual.ensures.1
+pub attempt-returns-in_err-glance_from-clause-kept : goal.attempt-returns-in_err-glance_from-clause-kept
+attempt-returns-in_err-glance_from-clause-kept t c = refused _ c.from_residual.result _ c.from_residual.ensures.1
 
-pub attempt-returns-in_err-glance_at-clause-known : goal.attempt-returns-in_err-glance_at-clause-known
-attempt-returns-in_err-glance_at-clause-known t c = refused _ c.from_residual.result _ c.from_residual.ensures.1
+pub attempt-returns-in_err-glance_from-clause-known : goal.attempt-returns-in_err-glance_from-clause-known
+attempt-returns-in_err-glance_from-clause-known t c = refused _ c.from_residual.result _ c.from_residual.ensures.1
 
-pub attempt-returns-in_err-glance_at-clause-tried : goal.attempt-returns-in_err-glance_at-clause-tried
-attempt-returns-in_err-glance_at-clause-tried t c = refused _ c.from_residual.result _ c.from_residual.ensures.1
+pub attempt-returns-in_err-glance_from-clause-tried : goal.attempt-returns-in_err-glance_from-clause-tried
+attempt-returns-in_err-glance_from-clause-tried t c = refused _ c.from_residual.result _ c.from_residual.ensures.1
 
-pub attempt-returns-in_err-glance_at-clause-narrow : goal.attempt-returns-in_err-glance_at-clause-narrow
-attempt-returns-in_err-glance_at-clause-narrow t c = not_ok _ c.from_residual.result c.from_residual.ensures.1
+pub attempt-returns-in_err-glance_from-clause-narrow : goal.attempt-returns-in_err-glance_from-clause-narrow
+attempt-returns-in_err-glance_from-clause-narrow t c = not_ok _ c.from_residual.result c.from_residual.ensures.1
 
 pub expand-returns-in_err-attempt-clause-kept : goal.expand-returns-in_err-attempt-clause-kept
 expand-returns-in_err-attempt-clause-kept t c = refused _ c.from_residual.result _ c.from_residual.ensures.1
@@ -925,16 +874,28 @@ holds-returns-in_err-holds-clause-wide t c =
 pub is_legal-look-requires : goal.is_legal-look-requires
 is_legal-look-requires t c = (omega arith, (c.requires.ready, (c.requires.same, (c.requires.jumps, (c.requires.state, c.requires.lacks)))))
 
-pub is_legal-search-requires : goal.is_legal-search-requires
-is_legal-search-requires t c =
+pub is_legal_by_search-search-requires : goal.is_legal_by_search-search-requires
+is_legal_by_search-search-requires t c =
     let game = game_of c.args.self.now.game.now in
     (omega arith, (c.requires.ready, (c.requires.same, (c.requires.jumps, subst (λ A. IsStateOf game (at_vertex A c.args.vertex)) (sym c.copied_state-state.ensures) c.requires.state))))
+
+pub is_legal-is_legal_by_search-requires : goal.is_legal-is_legal_by_search-requires
+is_legal-is_legal_by_search-requires t c = (omega arith, (c.requires.ready, (c.requires.same, (c.requires.jumps, (c.requires.state, c.requires.lacks)))))
 
 pub is_legal-returns-clause-wide : goal.is_legal-returns-clause-wide
 is_legal-returns-clause-wide t c = no_error
 
+pub is_legal-returns-2-clause-answer : goal.is_legal-returns-2-clause-answer
+is_legal-returns-2-clause-answer t c = c.is_legal_by_search.ensures.answer
+
+pub is_legal-returns-2-clause-narrow : goal.is_legal-returns-2-clause-narrow
+is_legal-returns-2-clause-narrow t c = c.is_legal_by_search.ensures.narrow
+
 pub is_legal-returns-2-clause-wide : goal.is_legal-returns-2-clause-wide
-is_legal-returns-2-clause-wide t c = no_error
+is_legal-returns-2-clause-wide t c = c.is_legal_by_search.ensures.wide
+
+pub is_legal_by_search-returns-clause-wide : goal.is_legal_by_search-returns-clause-wide
+is_legal_by_search-returns-clause-wide t c = no_error
 
 pub is_legal-returns-in-Some-clause-answer : goal.is_legal-returns-in-Some-clause-answer
 is_legal-returns-in-Some-clause-answer t c =
@@ -971,11 +932,11 @@ is_legal-returns-in_err-legal-clause-answer t c = refused _ c.from_residual-in_e
 pub is_legal-returns-in_err-legal-clause-narrow : goal.is_legal-returns-in_err-legal-clause-narrow
 is_legal-returns-in_err-legal-clause-narrow t c = not_ok _ c.from_residual-in_err-legal.result c.from_residual-in_err-legal.ensures.1
 
-pub is_legal-returns-in_err-found-clause-answer : goal.is_legal-returns-in_err-found-clause-answer
-is_legal-returns-in_err-found-clause-answer t c = refused _ c.from_residual-in_err-found.result _ c.from_residual-in_err-found.ensures.1
+pub is_legal_by_search-returns-in_err-found-clause-answer : goal.is_legal_by_search-returns-in_err-found-clause-answer
+is_legal_by_search-returns-in_err-found-clause-answer t c = refused _ c.from_residual.result _ c.from_residual.ensures.1
 
-pub is_legal-returns-in_err-found-clause-narrow : goal.is_legal-returns-in_err-found-clause-narrow
-is_legal-returns-in_err-found-clause-narrow t c = not_ok _ c.from_residual-in_err-found.result c.from_residual-in_err-found.ensures.1
+pub is_legal_by_search-returns-in_err-found-clause-narrow : goal.is_legal_by_search-returns-in_err-found-clause-narrow
+is_legal_by_search-returns-in_err-found-clause-narrow t c = not_ok _ c.from_residual.result c.from_residual.ensures.1
 
 pub is_legal-returns-in_err-legal-clause-wide : goal.is_legal-returns-in_err-legal-clause-wide
 is_legal-returns-in_err-legal-clause-wide t c =
@@ -1086,18 +1047,19 @@ search-expand-requires t c =
     let game = game_of c.args.self.now.game.now in
     let e = expression_at game c.args.index in
     let cs = configurations_of c.loop-at.found in
-    let began_here = began_is game e c.args.place c.args.state cs c.loop-at.at c.loop-at.invariant.going in
+    let began_here = began_is game e c.args.place c.args.state.now cs c.loop-at.at c.loop-at.invariant.going in
     let inside : c.loop-at.at < length c.loop-at.found.stands.items = omega arith in
-    (omega arith, (c.requires.ready, (c.requires.same, (c.requires.jumps, (inside, (c.loop-at.invariant.kept, subst (λ S. IsGoing game e c.args.place S cs c.loop-at.at) (sym began_here) c.loop-at.invariant.going))))))
+    (omega arith, (c.requires.ready, (c.requires.same, (c.requires.jumps, (inside, (c.loop-at.invariant.kept, (c.loop-at.invariant.shown, subst (λ S. IsGoing game e c.args.place S cs c.loop-at.at) (sym began_here) c.loop-at.invariant.going)))))))
 
 pub search-loop-at-preserved : goal.search-loop-at-preserved
 search-loop-at-preserved t c =
     let game = game_of c.args.self.now.game.now in
     let e = expression_at game c.args.index in
     let cs = configurations_of c.loop-at.found in
-    let began_here = began_is game e c.args.place c.args.state cs c.loop-at.at c.loop-at.invariant.going in
+    let began_here = began_is game e c.args.place c.args.state.now cs c.loop-at.at c.loop-at.invariant.going in
     record {
       kept = c.in_ok-expand.ensures.kept;
+      shown = c.in_ok-expand.ensures.shown;
       going = subst (λ S. IsGoing game e c.args.place S (configurations_of c.expand.new.found) (c.loop-at.at + 1)) began_here c.in_ok-expand.ensures.going;
     }
 
@@ -1129,7 +1091,11 @@ search-loop-at-init t c =
     let e = expression_at game c.args.index in
     record {
       kept = c.in_ok-found.ensures.kept;
-      going = subst (λ cs. IsGoing game e c.args.place c.args.state cs 0) (sym c.in_ok-found.ensures.opening) (going_begun game e c.args.place c.args.state c.requires.state);
+      shown = record {
+        at_one = omega (arith, ap length c.in_ok-found.ensures.opening, length-map c.in_ok-found.found.stands.items (stood (boards_in c.in_ok-found.found.boards)));
+        state_is = c.copied_state.ensures ∙ ap (λ cs. state_at cs 0) (sym c.in_ok-found.ensures.opening);
+      };
+      going = subst (λ cs. IsGoing game e c.args.place c.args.state.now cs 0) (sym c.in_ok-found.ensures.opening) (going_begun game e c.args.place c.args.state.now c.requires.state);
     }
 
 pub expand-loop-number-init : goal.expand-loop-number-init
@@ -1137,7 +1103,7 @@ expand-loop-number-init t c =
     let game = game_of c.args.self.now.game.now in
     let e = expression_at game c.args.index in
     let cs = configurations_of c.args.found.now in
-    record { kept = c.requires.kept; going = c.requires.going; known = tt; here = not_begun game e c.args.place cs c.args.at; before = refl }
+    record { kept = c.requires.kept; shown = c.requires.shown; going = c.requires.going; known = tt; here = not_begun game e c.args.place cs c.args.at; before = refl }
 
 pub look_on-loop-number-init : goal.look_on-loop-number-init
 look_on-loop-number-init t c =
@@ -1148,7 +1114,7 @@ look_on-loop-number-init t c =
 
 pub search-returns-clause-found : goal.search-returns-clause-found
 search-returns-clause-found t c =
-    let whole : length (configurations_of c.loop-at.found) ≤ c.loop-at.at = omega (arith, length-map c.loop-at.found.stands.items (stood c.loop-at.found.boards.items)) in
+    let whole : length (configurations_of c.loop-at.found) ≤ c.loop-at.at = omega (arith, length-map c.loop-at.found.stands.items (stood (boards_in c.loop-at.found.boards))) in
     record { found = c.loop-at.invariant.going.found_are; expanded = λ j n less. c.loop-at.invariant.going.expanded j n (omega (arith, less, whole)) }
 
 pub look-returns-clause-narrow : goal.look-returns-clause-narrow
@@ -1199,7 +1165,7 @@ search-returns-in_err-expand-clause-wide t c =
     let game = game_of c.args.self.now.game.now in
     let e = expression_at game c.args.index in
     let cs = configurations_of c.loop-at.found in
-    let began_here = began_is game e c.args.place c.args.state cs c.loop-at.at c.loop-at.invariant.going in
+    let began_here = began_is game e c.args.place c.args.state.now cs c.loop-at.at c.loop-at.invariant.going in
     λ wide.
     let fault = passed c.from_residual-in_err-expand.result c.in_err-expand.field-0.0 c.from_residual-in_err-expand.ensures.1 wide in
     subst (IsWideFrom game e c.args.place) began_here (c.in_err-expand.ensures.wide (ap Err fault))
@@ -1215,12 +1181,12 @@ look-returns-in_err-look_on-clause-wide t c =
     let fault = passed c.from_residual-in_err-look_on.result c.in_err-look_on.field-0.0 c.from_residual-in_err-look_on.ensures.1 wide in
     subst (IsWideFrom game e 0) began_here (c.in_err-look_on.ensures.wide (ap Err fault))
 
-pub is_legal-returns-in_err-found-clause-wide : goal.is_legal-returns-in_err-found-clause-wide
-is_legal-returns-in_err-found-clause-wide t c =
+pub is_legal_by_search-returns-in_err-found-clause-wide : goal.is_legal_by_search-returns-in_err-found-clause-wide
+is_legal_by_search-returns-in_err-found-clause-wide t c =
     let game = game_of c.args.self.now.game.now in
     let e = expression_at game c.args.index in
     λ wide.
-    let fault = passed c.from_residual-in_err-found.result c.in_err-found.field-0.0 c.from_residual-in_err-found.ensures.1 wide in
+    let fault = passed c.from_residual.result c.in_err-found.field-0.0 c.from_residual.ensures.1 wide in
     subst (λ A. IsWideFrom game e 0 (at_vertex A c.args.vertex)) c.copied_state-state.ensures (c.in_err-found.ensures.wide (ap Err fault))
 
 pub search-returns-in_err-found-clause-wide : goal.search-returns-in_err-found-clause-wide
@@ -1232,11 +1198,17 @@ look-returns-in_err-looks-clause-wide t c = for_want c.from_residual.result c.fr
 pub attempt-index-requires : goal.attempt-index-requires
 attempt-index-requires t c = omega (arith, c.args.found.now.stands.ok.0, c.requires.at)
 
-pub attempt-index-requires-2 : goal.attempt-index-requires-2
-attempt-index-requires-2 t c = omega (arith, c.args.found.now.boards.ok.0, c.requires.kept.within c.args.at _ (read_at c.args.found.now.stands.items c.args.at c.index.result.now c.requires.at c.index.ensures))
-
 pub attempt-add-requires-clause-board : goal.attempt-add-requires-clause-board
 attempt-add-requires-clause-board t c = c.requires.kept.within c.args.at _ (read_at c.args.found.now.stands.items c.args.at c.index.result.now c.requires.at c.index.ensures)
+
+pub expand-returns-then-ends-clause-shown : goal.expand-returns-then-ends-clause-shown
+expand-returns-then-ends-clause-shown t c = c.requires.shown
+
+pub expand-returns-in_err-attempt-clause-shown : goal.expand-returns-in_err-attempt-clause-shown
+expand-returns-in_err-attempt-clause-shown t c = refused _ c.from_residual.result _ c.from_residual.ensures.1
+
+pub expand-returns-clause-shown : goal.expand-returns-clause-shown
+expand-returns-clause-shown t c = c.loop-number.invariant.shown
 
 pub expand-index-requires : goal.expand-index-requires
 expand-index-requires t c = omega (arith, c.args.found.now.stands.ok.0, c.requires.at)
@@ -1253,3 +1225,211 @@ glance_at-step-requires-clause-from t c = c.requires.from
 pub look_on-add-requires-clause-marked : goal.look_on-add-requires-clause-marked
 look_on-add-requires-clause-marked t c =
     subst (λ n. AreMarked n c.loop-number.looks) (sym c.loop-number.invariant.marked.numbers_are) c.loop-number.invariant.marked
+
+pub glance_from-step-requires-clause-upto : goal.glance_from-step-requires-clause-upto
+glance_from-step-requires-clause-upto t c =
+    let game = game_of c.args.self.now.game.now in
+    let tables = c.args.self.now.tables.now in
+    let index = c.args.index in
+    let e = expression_at game index in
+    let T = c.index-self-index.result in
+    let at_T = read_at tables index T c.requires.ready.within c.index-self-index.is in
+    let count = count_steps game tables index c.requires.ready T at_T in
+    subst (λ x. c.args.number ≤ length x.steps.items) c.index-self-index.is (omega (arith, count, c.requires.upto))
+
+pub glance_from-glance_where_seen-requires-clause-state : goal.glance_from-glance_where_seen-requires-clause-state
+glance_from-glance_where_seen-requires-clause-state t c =
+    let game = game_of c.args.self.now.game.now in
+    let bs = boards_in c.args.found.now.boards in
+    let stands = c.args.found.now.stands.items in
+    let s = c.index.result.now in
+    let there = state_there bs stands c.args.at s (read_at stands c.args.at s c.requires.at c.index.ensures) in
+    let state_is = c.seen.ensures ∙ sym there in
+    subst (IsStateOf game) (sym state_is) c.requires.state
+
+pub glance_from-glance_where_seen-requires-clause-plain : goal.glance_from-glance_where_seen-requires-clause-plain
+glance_from-glance_where_seen-requires-clause-plain t c =
+    let game = game_of c.args.self.now.game.now in
+    let tables = c.args.self.now.tables.now in
+    let index = c.args.index in
+    let e = expression_at game index in
+    let T = c.index-self-index.result in
+    let at_T = read_at tables index T c.requires.ready.within c.index-self-index.is in
+    let at_step = subst (λ x. slice_get x.steps.items (c.args.number - 1) ≡ Some c.step.result.now) (sym c.index-self-index.is) c.step.ensures in
+    let bs = boards_in c.args.found.now.boards in
+    let stands = c.args.found.now.stands.items in
+    let s = c.index.result.now in
+    let there = state_there bs stands c.args.at s (read_at stands c.args.at s c.requires.at c.index.ensures) in
+    let state_is = c.seen.ensures ∙ sym there in
+    act_plain game tables index c.requires.ready T at_T c.args.number c.requires.from c.step.result.now at_step c.in-Act.action c.in-Act.is (state_seen c.seen.result) (subst (IsStateOf game) (sym state_is) c.requires.state)
+
+pub glance_from-holds-requires : goal.glance_from-holds-requires
+glance_from-holds-requires t c =
+    let game = game_of c.args.self.now.game.now in
+    let tables = c.args.self.now.tables.now in
+    let index = c.args.index in
+    let e = expression_at game index in
+    let T = c.index-self-index.result in
+    let at_T = read_at tables index T c.requires.ready.within c.index-self-index.is in
+    let at_step = subst (λ x. slice_get x.steps.items (c.args.number - 1) ≡ Some c.step.result.now) (sym c.index-self-index.is) c.step.ensures in
+    let before : c.in-Ask.inner < index = ask_before game tables index c.requires.ready T at_T c.args.number c.requires.from c.step.result.now at_step c.in-Ask.positive c.in-Ask.inner c.in-Ask.is in
+    let es = inner_of game.rules in
+    let pattern : c.in-Ask.inner < length c.args.self.now.same.now = omega (arith, before, c.requires.ready.within, c.requires.ready.tables_are.as_many, length-append es (game.rules ∷ []), c.requires.same.as_many) in
+    (omega (arith, before), (ask_ready game tables index c.requires.ready T at_T c.args.number c.requires.from c.step.result.now at_step c.in-Ask.positive c.in-Ask.inner c.in-Ask.is, (c.requires.same, (c.requires.jumps, (subst (IsStateOf game) (sym c.show.ensures.state) c.requires.state, (ask_lacks game tables index c.requires.ready T at_T c.args.number c.requires.from c.step.result.now at_step c.in-Ask.positive c.in-Ask.inner c.in-Ask.is, (pattern, subst (λ S. IsAnswerAt game S c.args.known.now) (sym c.show.ensures.state) c.requires.known)))))))
+
+pub glance_from-returns-in_err-holds-in-Ask-clause-wide : goal.glance_from-returns-in_err-holds-in-Ask-clause-wide
+glance_from-returns-in_err-holds-in-Ask-clause-wide t c =
+    let game = game_of c.args.self.now.game.now in
+    let tables = c.args.self.now.tables.now in
+    let index = c.args.index in
+    let e = expression_at game index in
+    let T = c.index-self-index.result in
+    let at_T = read_at tables index T c.requires.ready.within c.index-self-index.is in
+    let at_step = subst (λ x. slice_get x.steps.items (c.args.number - 1) ≡ Some c.step.result.now) (sym c.index-self-index.is) c.step.ensures in
+    λ wide. let fault = passed c.from_residual.result c.in_err-holds-in-Ask.field-0.0 c.from_residual.ensures.1 wide in
+    ask_wide game tables index c.requires.ready T at_T c.args.number c.requires.from c.step.result.now at_step c.in-Ask.positive c.in-Ask.inner c.in-Ask.is (state_at (configurations_of c.args.found.now) c.args.at) (subst (IsWideFrom game (expression_at game c.in-Ask.inner) 0) c.show.ensures.state (c.in_err-holds-in-Ask.ensures.wide (ap Err fault)))
+
+pub glance_from-returns-in-Act-clause-tells : goal.glance_from-returns-in-Act-clause-tells
+glance_from-returns-in-Act-clause-tells t c =
+    let game = game_of c.args.self.now.game.now in
+    let tables = c.args.self.now.tables.now in
+    let index = c.args.index in
+    let e = expression_at game index in
+    let T = c.index-self-index.result in
+    let at_T = read_at tables index T c.requires.ready.within c.index-self-index.is in
+    let at_step = subst (λ x. slice_get x.steps.items (c.args.number - 1) ≡ Some c.step.result.now) (sym c.index-self-index.is) c.step.ensures in
+    let bs = boards_in c.args.found.now.boards in
+    let stands = c.args.found.now.stands.items in
+    let s = c.index.result.now in
+    let there = state_there bs stands c.args.at s (read_at stands c.args.at s c.requires.at c.index.ensures) in
+    let state_is = c.seen.ensures ∙ sym there in
+    act_tells game tables index c.requires.ready T at_T c.args.number c.requires.from c.step.result.now at_step c.in-Act.action c.in-Act.is (state_at (configurations_of c.args.found.now) c.args.at) c.glance_where_seen.result (subst (λ S. GlanceTells game (action_of c.in-Act.action) S c.glance_where_seen.result) state_is c.glance_where_seen.ensures)
+
+pub glance_from-returns-in-Act-clause-narrow : goal.glance_from-returns-in-Act-clause-narrow
+glance_from-returns-in-Act-clause-narrow t c =
+    let game = game_of c.args.self.now.game.now in
+    let tables = c.args.self.now.tables.now in
+    let index = c.args.index in
+    let e = expression_at game index in
+    let T = c.index-self-index.result in
+    let at_T = read_at tables index T c.requires.ready.within c.index-self-index.is in
+    let at_step = subst (λ x. slice_get x.steps.items (c.args.number - 1) ≡ Some c.step.result.now) (sym c.index-self-index.is) c.step.ensures in
+    λ ok. act_narrow game tables index c.requires.ready T at_T c.args.number c.requires.from c.step.result.now at_step c.in-Act.action c.in-Act.is (state_at (configurations_of c.args.found.now) c.args.at)
+
+pub glance_from-returns-then-holds-positive-clause-tells : goal.glance_from-returns-then-holds-positive-clause-tells
+glance_from-returns-then-holds-positive-clause-tells t c =
+    let game = game_of c.args.self.now.game.now in
+    let tables = c.args.self.now.tables.now in
+    let index = c.args.index in
+    let e = expression_at game index in
+    let T = c.index-self-index.result in
+    let at_T = read_at tables index T c.requires.ready.within c.index-self-index.is in
+    let at_step = subst (λ x. slice_get x.steps.items (c.args.number - 1) ≡ Some c.step.result.now) (sym c.index-self-index.is) c.step.ensures in
+    let S = c.show.new.shown.state in
+    let here = ask_some game tables index c.requires.ready T at_T c.args.number c.requires.from c.step.result.now at_step c.in-Ask.positive c.in-Ask.inner c.in-Ask.is S c.in_ok-holds-in-Ask.holds c.in_ok-holds-in-Ask.ensures.answer (beq_true c.in_ok-holds-in-Ask.holds c.in-Ask.positive c.if-holds-positive.true) in
+    (subst (λ A. EffectAt game e 1 c.args.number A (at_vertex A S.vertex)) c.show.ensures.state here, ask_look game tables index c.requires.ready T at_T c.args.number c.requires.from c.step.result.now at_step c.in-Ask.positive c.in-Ask.inner c.in-Ask.is)
+
+pub glance_from-returns-then-holds-positive-clause-narrow : goal.glance_from-returns-then-holds-positive-clause-narrow
+glance_from-returns-then-holds-positive-clause-narrow t c =
+    let game = game_of c.args.self.now.game.now in
+    let tables = c.args.self.now.tables.now in
+    let index = c.args.index in
+    let e = expression_at game index in
+    let T = c.index-self-index.result in
+    let at_T = read_at tables index T c.requires.ready.within c.index-self-index.is in
+    let at_step = subst (λ x. slice_get x.steps.items (c.args.number - 1) ≡ Some c.step.result.now) (sym c.index-self-index.is) c.step.ensures in
+    λ ok. ask_narrow game tables index c.requires.ready T at_T c.args.number c.requires.from c.step.result.now at_step c.in-Ask.positive c.in-Ask.inner c.in-Ask.is (state_at (configurations_of c.args.found.now) c.args.at) (subst (λ S. ¬ IsWideFrom game (expression_at game c.in-Ask.inner) 0 S) c.show.ensures.state (c.in_ok-holds-in-Ask.ensures.narrow refl))
+
+pub glance_from-returns-else-holds-positive-clause-tells : goal.glance_from-returns-else-holds-positive-clause-tells
+glance_from-returns-else-holds-positive-clause-tells t c =
+    let game = game_of c.args.self.now.game.now in
+    let tables = c.args.self.now.tables.now in
+    let index = c.args.index in
+    let e = expression_at game index in
+    let T = c.index-self-index.result in
+    let at_T = read_at tables index T c.requires.ready.within c.index-self-index.is in
+    let at_step = subst (λ x. slice_get x.steps.items (c.args.number - 1) ≡ Some c.step.result.now) (sym c.index-self-index.is) c.step.ensures in
+    ask_none game tables index c.requires.ready T at_T c.args.number c.requires.from c.step.result.now at_step c.in-Ask.positive c.in-Ask.inner c.in-Ask.is (state_at (configurations_of c.args.found.now) c.args.at) c.in_ok-holds-in-Ask.holds (subst (λ S. MatchBool c.in_ok-holds-in-Ask.holds (IsLegal game (expression_at game c.in-Ask.inner) S) (¬ IsLegal game (expression_at game c.in-Ask.inner) S)) c.show.ensures.state c.in_ok-holds-in-Ask.ensures.answer) (λ same. let bad = beq_same c.in_ok-holds-in-Ask.holds c.in-Ask.positive same in cc (bad, c.if-holds-positive.false))
+
+pub glance_from-returns-else-holds-positive-clause-narrow : goal.glance_from-returns-else-holds-positive-clause-narrow
+glance_from-returns-else-holds-positive-clause-narrow t c =
+    let game = game_of c.args.self.now.game.now in
+    let tables = c.args.self.now.tables.now in
+    let index = c.args.index in
+    let e = expression_at game index in
+    let T = c.index-self-index.result in
+    let at_T = read_at tables index T c.requires.ready.within c.index-self-index.is in
+    let at_step = subst (λ x. slice_get x.steps.items (c.args.number - 1) ≡ Some c.step.result.now) (sym c.index-self-index.is) c.step.ensures in
+    λ ok. ask_narrow game tables index c.requires.ready T at_T c.args.number c.requires.from c.step.result.now at_step c.in-Ask.positive c.in-Ask.inner c.in-Ask.is (state_at (configurations_of c.args.found.now) c.args.at) (subst (λ S. ¬ IsWideFrom game (expression_at game c.in-Ask.inner) 0 S) c.show.ensures.state (c.in_ok-holds-in-Ask.ensures.narrow refl))
+
+pub glance_from-returns-in_err-holds-in-Ask-clause-known : goal.glance_from-returns-in_err-holds-in-Ask-clause-known
+glance_from-returns-in_err-holds-in-Ask-clause-known t c = refused _ c.from_residual.result _ c.from_residual.ensures.1
+
+pub glance_from-returns-in_err-holds-in-Ask-clause-tells : goal.glance_from-returns-in_err-holds-in-Ask-clause-tells
+glance_from-returns-in_err-holds-in-Ask-clause-tells t c = refused _ c.from_residual.result _ c.from_residual.ensures.1
+
+pub glance_from-returns-in_err-holds-in-Ask-clause-narrow : goal.glance_from-returns-in_err-holds-in-Ask-clause-narrow
+glance_from-returns-in_err-holds-in-Ask-clause-narrow t c = not_ok _ c.from_residual.result c.from_residual.ensures.1
+
+pub glance_from-returns-then-holds-positive-clause-known : goal.glance_from-returns-then-holds-positive-clause-known
+glance_from-returns-then-holds-positive-clause-known t c =
+    let game = game_of c.args.self.now.game.now in
+    subst (λ S. IsAnswerAt game S c.holds.new.known) c.show.ensures.state c.in_ok-holds-in-Ask.ensures.known
+
+pub glance_from-returns-then-holds-positive-clause-wide : goal.glance_from-returns-then-holds-positive-clause-wide
+glance_from-returns-then-holds-positive-clause-wide t c = no_error
+
+pub glance_from-returns-else-holds-positive-clause-known : goal.glance_from-returns-else-holds-positive-clause-known
+glance_from-returns-else-holds-positive-clause-known t c =
+    let game = game_of c.args.self.now.game.now in
+    subst (λ S. IsAnswerAt game S c.holds.new.known) c.show.ensures.state c.in_ok-holds-in-Ask.ensures.known
+
+pub glance_from-returns-else-holds-positive-clause-wide : goal.glance_from-returns-else-holds-positive-clause-wide
+glance_from-returns-else-holds-positive-clause-wide t c = no_error
+
+pub glance_from-returns-in-Act-clause-known : goal.glance_from-returns-in-Act-clause-known
+glance_from-returns-in-Act-clause-known t c = c.requires.known
+
+pub glance_from-returns-in-Act-clause-wide : goal.glance_from-returns-in-Act-clause-wide
+glance_from-returns-in-Act-clause-wide t c = no_error
+
+pub glance_from-step-requires-clause-from : goal.glance_from-step-requires-clause-from
+glance_from-step-requires-clause-from t c = c.requires.from
+
+pub glance_from-returns-then-holds-positive-clause-shown : goal.glance_from-returns-then-holds-positive-clause-shown
+glance_from-returns-then-holds-positive-clause-shown t c =
+    let stands = c.args.found.now.stands.items in
+    record {
+      at_one = subst (λ i. i < length stands) (sym c.show.ensures.at) c.requires.at;
+      state_is = c.show.ensures.state ∙ ap (state_at (configurations_of c.args.found.now)) (sym c.show.ensures.at);
+    }
+
+pub glance_from-returns-else-holds-positive-clause-shown : goal.glance_from-returns-else-holds-positive-clause-shown
+glance_from-returns-else-holds-positive-clause-shown t c =
+    let stands = c.args.found.now.stands.items in
+    record {
+      at_one = subst (λ i. i < length stands) (sym c.show.ensures.at) c.requires.at;
+      state_is = c.show.ensures.state ∙ ap (state_at (configurations_of c.args.found.now)) (sym c.show.ensures.at);
+    }
+
+pub glance_from-returns-in_err-holds-in-Ask-clause-shown : goal.glance_from-returns-in_err-holds-in-Ask-clause-shown
+glance_from-returns-in_err-holds-in-Ask-clause-shown t c = refused _ c.from_residual.result _ c.from_residual.ensures.1
+
+pub glance_from-returns-in-Act-clause-shown : goal.glance_from-returns-in-Act-clause-shown
+glance_from-returns-in-Act-clause-shown t c = c.requires.shown
+
+pub glance_from-show-requires-clause-kept : goal.glance_from-show-requires-clause-kept
+glance_from-show-requires-clause-kept t c = c.requires.kept
+
+pub glance_from-show-requires-clause-at : goal.glance_from-show-requires-clause-at
+glance_from-show-requires-clause-at t c = c.requires.at
+
+pub glance_from-show-requires-clause-shown : goal.glance_from-show-requires-clause-shown
+glance_from-show-requires-clause-shown t c = c.requires.shown
+
+pub glance_from-index-requires : goal.glance_from-index-requires
+glance_from-index-requires t c = omega (arith, c.args.found.now.stands.ok.0, c.requires.at)
+
+pub glance_from-seen-requires-clause-board : goal.glance_from-seen-requires-clause-board
+glance_from-seen-requires-clause-board t c =
+    omega (arith, many_boards c.args.found.now.boards, c.requires.kept.within c.args.at _ (read_at c.args.found.now.stands.items c.args.at c.index.result.now c.requires.at c.index.ensures))

@@ -5,37 +5,44 @@ use Rattle.legal_moves.specs.aid.Configurations.{expression_at, IsFollowed}
 use Rattle.legal_moves.proofs.ListingLemmas.{past}
 use Rattle.legal_moves.specs.aid.Going.{began, state_at, IsGoing}
 use Rattle.legal_moves.specs.aid.Answers.{IsAnswerAt}
-use Rattle.legal_moves.specs.aid.Standing.{configurations_of, AreKept}
+use Rattle.legal_moves.specs.aid.Standing.{configurations_of, AreKept, IsShown}
 use Rattle.legal_moves.specs.aid.Looking.{at_vertex, seen_from, AreMarked}
 use Rattle.legal_moves.proofs.search.Searcher.+search.Given as goal
 
 abbrev pub decreases-is_legal : goal.decreases-is_legal
-decreases-is_legal l = 6 * l.index + 5
+decreases-is_legal l = 7 * l.index + 6
+
+abbrev pub decreases-is_legal_by_search : goal.decreases-is_legal_by_search
+decreases-is_legal_by_search l = 7 * l.index + 5
 
 abbrev pub decreases-holds : goal.decreases-holds
-decreases-holds l = 6 * l.index + 6
+decreases-holds l = 7 * l.index + 7
 
 abbrev pub decreases-search : goal.decreases-search
-decreases-search l = 6 * l.index + 4
+decreases-search l = 7 * l.index + 4
 
 abbrev pub decreases-look : goal.decreases-look
-decreases-look l = 6 * l.index + 4
+decreases-look l = 7 * l.index + 4
 
 abbrev pub decreases-expand : goal.decreases-expand
-decreases-expand l = 6 * l.index + 3
+decreases-expand l = 7 * l.index + 3
 
 abbrev pub decreases-look_on : goal.decreases-look_on
-decreases-look_on l = 6 * l.index + 3
+decreases-look_on l = 7 * l.index + 3
 
 abbrev pub decreases-attempt : goal.decreases-attempt
-decreases-attempt l = 6 * l.index + 2
+decreases-attempt l = 7 * l.index + 2
+
+abbrev pub decreases-glance_from : goal.decreases-glance_from
+decreases-glance_from l = 7 * l.index + 1
 
 abbrev pub decreases-glance_at : goal.decreases-glance_at
-decreases-glance_at l = 6 * l.index + 1
+decreases-glance_at l = 7 * l.index + 1
 
 abbrev pub invariant-expand-loop-number : goal.invariant-expand-loop-number
 invariant-expand-loop-number l = record {
   kept : AreKept l.found;
+  shown : IsShown l.found l.here;
   going : IsGoing (game_of l.self.game.now) (expression_at (game_of l.self.game.now) l.index) l.place (began (configurations_of l.initial.found)) (configurations_of l.found) l.at;
   known : IsAnswerAt (game_of l.self.game.now) (state_at (configurations_of l.initial.found) l.at) l.known;
   here : IsFollowed (game_of l.self.game.now) (expression_at (game_of l.self.game.now) l.index) l.place (configurations_of l.found) l.at (past l.followers l.number-index);
@@ -45,7 +52,8 @@ invariant-expand-loop-number l = record {
 abbrev pub invariant-search-loop-at : goal.invariant-search-loop-at
 invariant-search-loop-at l = record {
   kept : AreKept l.found;
-  going : IsGoing (game_of l.self.game.now) (expression_at (game_of l.self.game.now) l.index) l.place l.fn.state (configurations_of l.found) l.at;
+  shown : IsShown l.found l.here;
+  going : IsGoing (game_of l.self.game.now) (expression_at (game_of l.self.game.now) l.index) l.place l.state (configurations_of l.found) l.at;
 }
 
 abbrev pub decreases-search-loop-at : goal.decreases-search-loop-at

@@ -1,15 +1,20 @@
-use Rattle.std.proofs.Common.{◌≡◌, ◌-◌, ◌≤◌, inl, length, Some, slice_get, refl, sym, ap, ◌∙◌, subst, arith}
+use Rattle.std.proofs.Common.{◌≡◌, ◌-◌, ◌≤◌, true, inl, length, Some, slice_get, refl, sym, ap, ◌∙◌, subst, arith}
 use Rattle.std.proofs.lemmas.Result.{on_ok_weaker}
-use Rattle.rbg_game.specs.Meaning.{game_of}
+use Rattle.rbg_game.specs.Meaning.{game_of, action_of}
+use Rattle.rbg_game.proofs.MeaningLemmas.{action_of-Switch}
 use Rattle.rbg_game.specs.Positions.{IsStateOf}
 use Rattle.rbg_game.specs.declared.position.SemiState.{SemiState}
 use Rattle.legal_moves.specs.Effects.{EffectAt}
+use Rattle.legal_moves.specs.aid.Boards.{at_turn, board_at, boards_in}
 use Rattle.legal_moves.specs.aid.Configurations.{expression_at}
-use Rattle.legal_moves.specs.aid.Looking.{at_vertex}
+use Rattle.legal_moves.specs.aid.Going.{state_at}
+use Rattle.legal_moves.specs.aid.Standing.{configurations_of}
 use Rattle.legal_moves.specs.declared.found.Stand.{Stand}
 use Rattle.legal_moves.proofs.ReadyLemmas.{read_at, count_steps, act_plain, act_valid, act_refused, ask_pattern, switches_is, modifies_is, OnTrue-at, OnFalse-at}
 use Rattle.legal_moves.proofs.Exits.{refused, no_error}
 use Rattle.legal_moves.proofs.AttemptLemmas.{state_there, attempted, filled}
+use Rattle.legal_moves.proofs.BoardLemmas.{many_boards}
+use Rattle.legal_moves.proofs.WriteLemmas.{effect_of_switch, fits_on}
 use Rattle.legal_moves.proofs.Faults.{for_want}
 use Rattle.legal_moves.proofs.search.Searcher.write.Goals as goal
 
@@ -24,41 +29,8 @@ step-step-requires-clause-upto c =
     let count = count_steps game tables index c.requires.ready T at_T in
     subst (λ x. c.args.number ≤ length x.steps.items) c.index-self-index.is (omega (arith, count, c.requires.upto))
 
-pub act-valid-requires-clause-state : goal.act-valid-requires-clause-state
-act-valid-requires-clause-state c =
-    let game = game_of c.args.self.now.game.now in
-    let tables = c.args.self.now.tables.now in
-    let index = c.args.index in
-    let e = expression_at game index in
-    let T = c.index-self-index.result in
-    let at_T = read_at tables index T c.requires.ready.within c.index-self-index.is in
-    let at_step = subst (λ x. slice_get x.steps.items (c.args.number - 1) ≡ Some c.step-step.result.now) (sym c.index-self-index.is) c.step-step.ensures in
-    let old = c.args.found.now in
-    let stands = old.stands.items in
-    let boards = old.boards.items in
-    let s = c.index.result.now in
-    let at_s = read_at stands c.args.at s c.requires.at c.index.ensures in
-    let at_B = read_at boards s.board c.index-2.result.now (c.requires.kept.within c.args.at s at_s) c.index-2.ensures in
-    let state_is = state_there boards stands c.args.at s c.index-2.result.now at_s at_B ∙ ap (λ A. at_vertex A s.vertex) (sym c.copied_state-state.ensures) in
-    subst (IsStateOf game) state_is c.requires.state
-
-pub act-valid-requires-clause-plain : goal.act-valid-requires-clause-plain
-act-valid-requires-clause-plain c =
-    let game = game_of c.args.self.now.game.now in
-    let tables = c.args.self.now.tables.now in
-    let index = c.args.index in
-    let e = expression_at game index in
-    let T = c.index-self-index.result in
-    let at_T = read_at tables index T c.requires.ready.within c.index-self-index.is in
-    let at_step = subst (λ x. slice_get x.steps.items (c.args.number - 1) ≡ Some c.step-step.result.now) (sym c.index-self-index.is) c.step-step.ensures in
-    let old = c.args.found.now in
-    let stands = old.stands.items in
-    let boards = old.boards.items in
-    let s = c.index.result.now in
-    let at_s = read_at stands c.args.at s c.requires.at c.index.ensures in
-    let at_B = read_at boards s.board c.index-2.result.now (c.requires.kept.within c.args.at s at_s) c.index-2.ensures in
-    let state_is = state_there boards stands c.args.at s c.index-2.result.now at_s at_B ∙ ap (λ A. at_vertex A s.vertex) (sym c.copied_state-state.ensures) in
-    act_plain game tables index c.requires.ready T at_T c.args.number c.requires.from c.step-step.result.now at_step c.in-Act.action c.in-Act.is (at_vertex c.copied_state-state.result s.vertex) (subst (IsStateOf game) state_is c.requires.state)
+pub step-step-requires-clause-from : goal.step-step-requires-clause-from
+step-step-requires-clause-from c = c.requires.from
 
 pub unreachable-requires : goal.unreachable-requires
 unreachable-requires c =
@@ -71,8 +43,28 @@ unreachable-requires c =
     let at_step = subst (λ x. slice_get x.steps.items (c.args.number - 1) ≡ Some c.step-step.result.now) (sym c.index-self-index.is) c.step-step.ensures in
     ask_pattern game tables index c.requires.ready T at_T c.args.number c.requires.from c.step-step.result.now at_step c.in-Ask.field-0 c.in-Ask.field-1 c.in-Ask.is c.requires.writes
 
-pub returns-then-not-valid-clause-tried : goal.returns-then-not-valid-clause-tried
-returns-then-not-valid-clause-tried c =
+pub index-requires : goal.index-requires
+index-requires c = omega (arith, c.args.found.now.stands.ok.0, c.requires.at)
+
+-- ---- a switch
+
+pub add-requires-clause-board : goal.add-requires-clause-board
+add-requires-clause-board c =
+    let old = c.args.found.now in
+    let bs = boards_in old.boards in
+    let s = c.index.result.now in
+    let at_s = read_at old.stands.items c.args.at s c.requires.at c.index.ensures in
+    let on = c.requires.kept.within c.args.at s at_s in
+    on
+
+pub add-requires-clause-kept : goal.add-requires-clause-kept
+add-requires-clause-kept c = c.requires.kept
+
+pub returns-in-Switch-clause-kept : goal.returns-in-Switch-clause-kept
+returns-in-Switch-clause-kept c = c.add.ensures.kept
+
+pub returns-in-Switch-clause-tried : goal.returns-in-Switch-clause-tried
+returns-in-Switch-clause-tried c =
     let game = game_of c.args.self.now.game.now in
     let tables = c.args.self.now.tables.now in
     let index = c.args.index in
@@ -81,14 +73,132 @@ returns-then-not-valid-clause-tried c =
     let at_T = read_at tables index T c.requires.ready.within c.index-self-index.is in
     let at_step = subst (λ x. slice_get x.steps.items (c.args.number - 1) ≡ Some c.step-step.result.now) (sym c.index-self-index.is) c.step-step.ensures in
     let old = c.args.found.now in
-    let stands = old.stands.items in
-    let boards = old.boards.items in
+    let bs = boards_in old.boards in
     let s = c.index.result.now in
-    let at_s = read_at stands c.args.at s c.requires.at c.index.ensures in
-    let at_B = read_at boards s.board c.index-2.result.now (c.requires.kept.within c.args.at s at_s) c.index-2.ensures in
-    let state_is = state_there boards stands c.args.at s c.index-2.result.now at_s at_B ∙ ap (λ A. at_vertex A s.vertex) (sym c.copied_state-state.ensures) in
-    let never = OnFalse-at c.act-valid.result _ c.if-not-valid.true (act_refused game tables index c.requires.ready T at_T c.args.number c.requires.from c.step-step.result.now at_step c.in-Act.action c.in-Act.is (at_vertex c.copied_state-state.result s.vertex) c.act-valid.result c.act-valid.ensures.refused) in
+    let at_s = read_at old.stands.items c.args.at s c.requires.at c.index.ensures in
+    let on = c.requires.kept.within c.args.at s at_s in
+    let there = state_there bs old.stands.items c.args.at s at_s in
+    let S = at_turn (board_at bs s.board) s.mover s.vertex in
+    let role = c.in-Switch.role in
+    let U = record S { mover = role } in
+    let valid = act_valid game tables index c.requires.ready T at_T c.args.number c.requires.from c.step-step.result.now at_step c.in-Act.action c.in-Act.is S U true (effect_of_switch game (action_of c.in-Act.action) role S (ap action_of c.in-Switch.is ∙ action_of-Switch role)) in
+    let reached = subst (λ S. EffectAt game e 1 c.args.number S U) (sym there) valid in
+    let t : Stand = record { board = s.board; mover = role; vertex = s.vertex; place = c.args.number; parent = c.args.at; shows = c.is_modifier.result; ends = c.is_switch.result } in
+    let is : at_turn (board_at bs s.board) role s.vertex ≡ U = refl in
+    let shows = c.is_modifier.ensures ∙ modifies_is game tables index c.requires.ready T at_T c.args.number c.requires.from c.step-step.result.now at_step in
+    let ends = c.is_switch.ensures ∙ switches_is game tables index c.requires.ready T at_T c.args.number c.requires.from c.step-step.result.now at_step in
+    on_ok_weaker c.add.result (λ added. attempted game e c.args.number c.args.at old old t U refl c.requires.kept on is reached refl refl shows ends c.add.new.self c.add.ensures.boards added) c.add.ensures.added
+
+pub returns-in-Switch-clause-wide : goal.returns-in-Switch-clause-wide
+returns-in-Switch-clause-wide c =
+    let game = game_of c.args.self.now.game.now in
+    let tables = c.args.self.now.tables.now in
+    let index = c.args.index in
+    let e = expression_at game index in
+    let T = c.index-self-index.result in
+    let at_T = read_at tables index T c.requires.ready.within c.index-self-index.is in
+    let at_step = subst (λ x. slice_get x.steps.items (c.args.number - 1) ≡ Some c.step-step.result.now) (sym c.index-self-index.is) c.step-step.ensures in
+    let old = c.args.found.now in
+    let bs = boards_in old.boards in
+    let s = c.index.result.now in
+    let at_s = read_at old.stands.items c.args.at s c.requires.at c.index.ensures in
+    let on = c.requires.kept.within c.args.at s at_s in
+    let there = state_there bs old.stands.items c.args.at s at_s in
+    let S = at_turn (board_at bs s.board) s.mover s.vertex in
+    let role = c.in-Switch.role in
+    let U = record S { mover = role } in
+    let valid = act_valid game tables index c.requires.ready T at_T c.args.number c.requires.from c.step-step.result.now at_step c.in-Act.action c.in-Act.is S U true (effect_of_switch game (action_of c.in-Act.action) role S (ap action_of c.in-Switch.is ∙ action_of-Switch role)) in
+    let reached = subst (λ S. EffectAt game e 1 c.args.number S U) (sym there) valid in
+    let t : Stand = record { board = s.board; mover = role; vertex = s.vertex; place = c.args.number; parent = c.args.at; shows = c.is_modifier.result; ends = c.is_switch.result } in
+    let is : at_turn (board_at bs s.board) role s.vertex ≡ U = refl in
+    let shows = c.is_modifier.ensures ∙ modifies_is game tables index c.requires.ready T at_T c.args.number c.requires.from c.step-step.result.now at_step in
+    let ends = c.is_switch.ensures ∙ switches_is game tables index c.requires.ready T at_T c.args.number c.requires.from c.step-step.result.now at_step in
+    λ wide. let too_many = c.add.ensures.wide wide in
+    filled game e c.args.number c.args.at old old t U refl c.requires.kept on is reached refl refl shows ends too_many.0 too_many.1
+
+-- ---- what is written
+
+pub act-requires-clause-state : goal.act-requires-clause-state
+act-requires-clause-state c =
+    let game = game_of c.args.self.now.game.now in
+    let old = c.args.found.now in
+    let bs = boards_in old.boards in
+    let s = c.index.result.now in
+    let at_s = read_at old.stands.items c.args.at s c.requires.at c.index.ensures in
+    let S = c.put.new.state in
+    let state_is = state_there bs old.stands.items c.args.at s at_s ∙ sym c.put.ensures in
+    subst (IsStateOf game) state_is c.requires.state
+
+pub act-requires-clause-plain : goal.act-requires-clause-plain
+act-requires-clause-plain c =
+    let game = game_of c.args.self.now.game.now in
+    let tables = c.args.self.now.tables.now in
+    let index = c.args.index in
+    let e = expression_at game index in
+    let T = c.index-self-index.result in
+    let at_T = read_at tables index T c.requires.ready.within c.index-self-index.is in
+    let at_step = subst (λ x. slice_get x.steps.items (c.args.number - 1) ≡ Some c.step-step.result.now) (sym c.index-self-index.is) c.step-step.ensures in
+    let old = c.args.found.now in
+    let bs = boards_in old.boards in
+    let s = c.index.result.now in
+    let at_s = read_at old.stands.items c.args.at s c.requires.at c.index.ensures in
+    let S = c.put.new.state in
+    let state_is = state_there bs old.stands.items c.args.at s at_s ∙ sym c.put.ensures in
+    act_plain game tables index c.requires.ready T at_T c.args.number c.requires.from c.step-step.result.now at_step c.in-Act.action c.in-Act.is S (subst (IsStateOf game) state_is c.requires.state)
+
+pub returns-then-not-act-clause-tried : goal.returns-then-not-act-clause-tried
+returns-then-not-act-clause-tried c =
+    let game = game_of c.args.self.now.game.now in
+    let tables = c.args.self.now.tables.now in
+    let index = c.args.index in
+    let e = expression_at game index in
+    let T = c.index-self-index.result in
+    let at_T = read_at tables index T c.requires.ready.within c.index-self-index.is in
+    let at_step = subst (λ x. slice_get x.steps.items (c.args.number - 1) ≡ Some c.step-step.result.now) (sym c.index-self-index.is) c.step-step.ensures in
+    let old = c.args.found.now in
+    let bs = boards_in old.boards in
+    let s = c.index.result.now in
+    let at_s = read_at old.stands.items c.args.at s c.requires.at c.index.ensures in
+    let S = c.put.new.state in
+    let state_is = state_there bs old.stands.items c.args.at s at_s ∙ sym c.put.ensures in
+    let never = OnFalse-at c.act.result _ c.if-not-act.true (act_refused game tables index c.requires.ready T at_T c.args.number c.requires.from c.step-step.result.now at_step c.in-Act.action c.in-Act.is S c.act.result c.act.ensures.refused) in
     inl (refl, subst (λ S. (U : SemiState) → ¬ EffectAt game e 1 c.args.number S U) (sym state_is) never)
+
+pub returns-then-not-act-clause-kept : goal.returns-then-not-act-clause-kept
+returns-then-not-act-clause-kept c = c.requires.kept
+
+pub returns-then-not-act-clause-wide : goal.returns-then-not-act-clause-wide
+returns-then-not-act-clause-wide c = no_error
+
+pub number_of-requires-clause-kept : goal.number_of-requires-clause-kept
+number_of-requires-clause-kept c = c.requires.kept
+
+pub number_of-requires-clause-large : goal.number_of-requires-clause-large
+number_of-requires-clause-large c =
+    let game = game_of c.args.self.now.game.now in
+    let tables = c.args.self.now.tables.now in
+    let index = c.args.index in
+    let e = expression_at game index in
+    let T = c.index-self-index.result in
+    let at_T = read_at tables index T c.requires.ready.within c.index-self-index.is in
+    let at_step = subst (λ x. slice_get x.steps.items (c.args.number - 1) ≡ Some c.step-step.result.now) (sym c.index-self-index.is) c.step-step.ensures in
+    let old = c.args.found.now in
+    let bs = boards_in old.boards in
+    let s = c.index.result.now in
+    let at_s = read_at old.stands.items c.args.at s c.requires.at c.index.ensures in
+    let on = c.requires.kept.within c.args.at s at_s in
+    let S = c.put.new.state in
+    let state_is = state_there bs old.stands.items c.args.at s at_s ∙ sym c.put.ensures in
+    let U = c.act.new.state in
+    let valid = OnTrue-at c.act.result _ c.if-not-act.false (act_valid game tables index c.requires.ready T at_T c.args.number c.requires.from c.step-step.result.now at_step c.in-Act.action c.in-Act.is S U c.act.result c.act.ensures.valid) in
+    let reached = subst (λ S. EffectAt game e 1 c.args.number S U) (sym state_is) valid in
+    fits_on game e c.args.number old.boards s.board (state_at (configurations_of old) c.args.at) U s.mover s.vertex c.requires.kept.whole (omega (arith, many_boards old.boards, on)) (state_there bs old.stands.items c.args.at s at_s) c.requires.ready.sound c.requires.ready.expression_is c.requires.state reached
+
+pub add-requires-2-clause-board : goal.add-requires-2-clause-board
+add-requires-2-clause-board c = c.in_ok-board.ensures.number.0
+
+pub add-requires-2-clause-kept : goal.add-requires-2-clause-kept
+add-requires-2-clause-kept c = c.in_ok-board.ensures.kept
 
 pub returns-clause-tried : goal.returns-clause-tried
 returns-clause-tried c =
@@ -100,22 +210,21 @@ returns-clause-tried c =
     let at_T = read_at tables index T c.requires.ready.within c.index-self-index.is in
     let at_step = subst (λ x. slice_get x.steps.items (c.args.number - 1) ≡ Some c.step-step.result.now) (sym c.index-self-index.is) c.step-step.ensures in
     let old = c.args.found.now in
-    let stands = old.stands.items in
-    let boards = old.boards.items in
+    let bs = boards_in old.boards in
     let s = c.index.result.now in
-    let at_s = read_at stands c.args.at s c.requires.at c.index.ensures in
-    let at_B = read_at boards s.board c.index-2.result.now (c.requires.kept.within c.args.at s at_s) c.index-2.ensures in
-    let state_is = state_there boards stands c.args.at s c.index-2.result.now at_s at_B ∙ ap (λ A. at_vertex A s.vertex) (sym c.copied_state-state.ensures) in
-    let U = c.act-valid.new.state in
-    let valid = OnTrue-at c.act-valid.result _ c.if-not-valid.false (act_valid game tables index c.requires.ready T at_T c.args.number c.requires.from c.step-step.result.now at_step c.in-Act.action c.in-Act.is (at_vertex c.copied_state-state.result s.vertex) U c.act-valid.result c.act-valid.ensures.valid) in
+    let at_s = read_at old.stands.items c.args.at s c.requires.at c.index.ensures in
+    let S = c.put.new.state in
+    let state_is = state_there bs old.stands.items c.args.at s at_s ∙ sym c.put.ensures in
+    let U = c.act.new.state in
+    let valid = OnTrue-at c.act.result _ c.if-not-act.false (act_valid game tables index c.requires.ready T at_T c.args.number c.requires.from c.step-step.result.now at_step c.in-Act.action c.in-Act.is S U c.act.result c.act.ensures.valid) in
     let reached = subst (λ S. EffectAt game e 1 c.args.number S U) (sym state_is) valid in
-    let t : Stand = record { board = c.in_ok-board.board; vertex = U.vertex; place = c.args.number; parent = c.args.at; shows = c.is_modifier.result; ends = c.is_switch.result } in
-    let shows = c.is_modifier.ensures ∙ modifies_is game tables index c.requires.ready T at_T c.args.number c.requires.from c.step-step.result.now at_step in
-    let ends = c.is_switch.ensures ∙ switches_is game tables index c.requires.ready T at_T c.args.number c.requires.from c.step-step.result.now at_step in
+    let t : Stand = record { board = c.in_ok-board.board; mover = U.mover; vertex = U.vertex; place = c.args.number; parent = c.args.at; shows = c.is_modifier-2.result; ends = c.is_switch-2.result } in
+    let shows = c.is_modifier-2.ensures ∙ modifies_is game tables index c.requires.ready T at_T c.args.number c.requires.from c.step-step.result.now at_step in
+    let ends = c.is_switch-2.ensures ∙ switches_is game tables index c.requires.ready T at_T c.args.number c.requires.from c.step-step.result.now at_step in
     let mid = c.number_of.new.self in
     let kept = c.in_ok-board.ensures.kept in
     let same = c.in_ok-board.ensures.same in
-    on_ok_weaker c.add.result (λ added. attempted game e c.args.number c.args.at old mid t U same kept c.in_ok-board.ensures.number.0 c.in_ok-board.ensures.number.1 reached refl refl shows ends c.add.new.self (ap (λ bs. bs.items) c.add.ensures.boards) added) c.add.ensures.added
+    on_ok_weaker c.add-2.result (λ added. attempted game e c.args.number c.args.at old mid t U same kept c.in_ok-board.ensures.number.0 c.in_ok-board.ensures.number.1 reached refl refl shows ends c.add-2.new.self c.add-2.ensures.boards added) c.add-2.ensures.added
 
 pub returns-clause-wide : goal.returns-clause-wide
 returns-clause-wide c =
@@ -127,26 +236,25 @@ returns-clause-wide c =
     let at_T = read_at tables index T c.requires.ready.within c.index-self-index.is in
     let at_step = subst (λ x. slice_get x.steps.items (c.args.number - 1) ≡ Some c.step-step.result.now) (sym c.index-self-index.is) c.step-step.ensures in
     let old = c.args.found.now in
-    let stands = old.stands.items in
-    let boards = old.boards.items in
+    let bs = boards_in old.boards in
     let s = c.index.result.now in
-    let at_s = read_at stands c.args.at s c.requires.at c.index.ensures in
-    let at_B = read_at boards s.board c.index-2.result.now (c.requires.kept.within c.args.at s at_s) c.index-2.ensures in
-    let state_is = state_there boards stands c.args.at s c.index-2.result.now at_s at_B ∙ ap (λ A. at_vertex A s.vertex) (sym c.copied_state-state.ensures) in
-    let U = c.act-valid.new.state in
-    let valid = OnTrue-at c.act-valid.result _ c.if-not-valid.false (act_valid game tables index c.requires.ready T at_T c.args.number c.requires.from c.step-step.result.now at_step c.in-Act.action c.in-Act.is (at_vertex c.copied_state-state.result s.vertex) U c.act-valid.result c.act-valid.ensures.valid) in
+    let at_s = read_at old.stands.items c.args.at s c.requires.at c.index.ensures in
+    let S = c.put.new.state in
+    let state_is = state_there bs old.stands.items c.args.at s at_s ∙ sym c.put.ensures in
+    let U = c.act.new.state in
+    let valid = OnTrue-at c.act.result _ c.if-not-act.false (act_valid game tables index c.requires.ready T at_T c.args.number c.requires.from c.step-step.result.now at_step c.in-Act.action c.in-Act.is S U c.act.result c.act.ensures.valid) in
     let reached = subst (λ S. EffectAt game e 1 c.args.number S U) (sym state_is) valid in
-    let t : Stand = record { board = c.in_ok-board.board; vertex = U.vertex; place = c.args.number; parent = c.args.at; shows = c.is_modifier.result; ends = c.is_switch.result } in
-    let shows = c.is_modifier.ensures ∙ modifies_is game tables index c.requires.ready T at_T c.args.number c.requires.from c.step-step.result.now at_step in
-    let ends = c.is_switch.ensures ∙ switches_is game tables index c.requires.ready T at_T c.args.number c.requires.from c.step-step.result.now at_step in
+    let t : Stand = record { board = c.in_ok-board.board; mover = U.mover; vertex = U.vertex; place = c.args.number; parent = c.args.at; shows = c.is_modifier-2.result; ends = c.is_switch-2.result } in
+    let shows = c.is_modifier-2.ensures ∙ modifies_is game tables index c.requires.ready T at_T c.args.number c.requires.from c.step-step.result.now at_step in
+    let ends = c.is_switch-2.ensures ∙ switches_is game tables index c.requires.ready T at_T c.args.number c.requires.from c.step-step.result.now at_step in
     let mid = c.number_of.new.self in
     let kept = c.in_ok-board.ensures.kept in
     let same = c.in_ok-board.ensures.same in
-    λ wide. let too_many = c.add.ensures.wide wide in
+    λ wide. let too_many = c.add-2.ensures.wide wide in
     filled game e c.args.number c.args.at old mid t U same kept c.in_ok-board.ensures.number.0 c.in_ok-board.ensures.number.1 reached refl refl shows ends too_many.0 too_many.1
 
 pub returns-clause-kept : goal.returns-clause-kept
-returns-clause-kept c = c.add.ensures.kept
+returns-clause-kept c = c.add-2.ensures.kept
 
 pub returns-in_err-board-clause-kept : goal.returns-in_err-board-clause-kept
 returns-in_err-board-clause-kept c = refused _ c.from_residual.result _ c.from_residual.ensures.1
@@ -157,23 +265,13 @@ returns-in_err-board-clause-tried c = refused _ c.from_residual.result _ c.from_
 pub returns-in_err-board-clause-wide : goal.returns-in_err-board-clause-wide
 returns-in_err-board-clause-wide c = for_want c.from_residual.result c.from_residual.ensures.1
 
-pub returns-then-not-valid-clause-kept : goal.returns-then-not-valid-clause-kept
-returns-then-not-valid-clause-kept c = c.requires.kept
+pub put-requires-clause-board : goal.put-requires-clause-board
+put-requires-clause-board c =
+    let old = c.args.found.now in
+    let bs = boards_in old.boards in
+    let s = c.index.result.now in
+    let at_s = read_at old.stands.items c.args.at s c.requires.at c.index.ensures in
+    omega (arith, many_boards old.boards, c.requires.kept.within c.args.at s at_s)
 
-pub returns-then-not-valid-clause-wide : goal.returns-then-not-valid-clause-wide
-returns-then-not-valid-clause-wide c = no_error
-
-pub add-requires-clause-board : goal.add-requires-clause-board
-add-requires-clause-board c = c.in_ok-board.ensures.number.0
-
-pub add-requires-clause-kept : goal.add-requires-clause-kept
-add-requires-clause-kept c = c.in_ok-board.ensures.kept
-
-pub index-requires : goal.index-requires
-index-requires c = omega (arith, c.args.found.now.stands.ok.0, c.requires.at)
-
-pub index-requires-2 : goal.index-requires-2
-index-requires-2 c = omega (arith, c.args.found.now.boards.ok.0, c.requires.kept.within c.args.at _ (read_at c.args.found.now.stands.items c.args.at c.index.result.now c.requires.at c.index.ensures))
-
-pub step-step-requires-clause-from : goal.step-step-requires-clause-from
-step-step-requires-clause-from c = c.requires.from
+pub put-requires-clause-whole : goal.put-requires-clause-whole
+put-requires-clause-whole c = c.requires.kept.whole

@@ -1,10 +1,10 @@
-use Rattle.std.proofs.Common.{◌++◌, subst, inl, inr}
+use Rattle.std.proofs.Common.{subst, refl}
 use Rattle.std.specs.Io.KnownBytes.{Appends}
 use Rattle.legal_moves.specs.Compiled.{compiled_game}
-use Rattle.session_lines.specs.Answers.{refusal_line}
+use Rattle.session_lines.specs.Answers.{TellsMoves}
+use Rattle.session_lines.specs.Parts.{AppendsPart, IsWritten}
 use Rattle.session_lines.specs.aid.Stops.{IsStopped}
-use Rattle.session_lines.proofs.Appending.{appends_then}
-use Rattle.session_lines.proofs.AnswerLemmas.{refusal_of}
+use Rattle.session_lines.proofs.AnswerLemmas.{refused_behind}
 use Rattle.session_lines.proofs.rulebook.Rulebook.put_moves.Goals as goal
 
 pub returns-in-Err-Refused : goal.returns-in-Err-Refused
@@ -12,15 +12,24 @@ returns-in-Err-Refused g c =
     let contents = g.W.Write.contents in
     let game = compiled_game c.args.self.now in
     let at = c.args.at.now in
-    let why = c.in-Err-Refused.refused in
+    let Written = Appends (contents c.args.out.now) (contents c.write_moves.new.out) in
+    let Part = AppendsPart (contents c.args.out.now) (contents c.write_moves.new.out) in
     let told = c.in-Err-Refused.ensures in
-    let moved = subst (λ s. IsStopped (compiled_game s) at (Appends (contents c.args.out.now) (contents c.write_moves.new.out)) c.in-Err-Refused.field-0) c.self.view_is told.stopped in
-    let stopped = subst (IsStopped game at (Appends (contents c.args.out.now) (contents c.write_moves.new.out))) c.in-Err-Refused.field-0-is moved in
-    elim c.write_refused.ensures [
-      | inl failed ↦ inl failed
-      | inr p ↦ inr (
-        stopped.0 ++ refusal_line why,
-        refusal_of game at why stopped.0 c.write_refused.result stopped.1 p.0,
-        appends_then (contents c.args.out.now) (contents c.write_moves.new.out) (contents c.write_refused.new.out) stopped.0 (refusal_line why) stopped.2 p.1,
-      )
-    ]
+    let moved = subst (λ s. IsStopped (compiled_game s) at Written Part c.in-Err-Refused.field-0) c.self.view_is told.stopped in
+    let stopped = subst (IsStopped game at Written Part) c.in-Err-Refused.field-0-is moved in
+    refused_behind game at c.in-Err-Refused.refused stopped.0 c.write_refused.result stopped.1 stopped.2 c.write_refused.ensures
+
+pub returns-in-Ok : goal.returns-in-Ok
+returns-in-Ok g c =
+    let w = c.in-Ok.ensures.ok in
+    subst (λ s. IsWritten (TellsMoves (compiled_game s) c.args.at.now) (g.W.Write.contents c.args.out.now) (g.W.Write.contents c.write_moves.new.out) 0)
+    c.self.view_is (IsWritten.whole w.0 w.1 w.2)
+
+pub returns-in-Err-Output : goal.returns-in-Err-Output
+returns-in-Err-Output g c =
+    let contents = g.W.Write.contents in
+    let Written = Appends (contents c.args.out.now) (contents c.write_moves.new.out) in
+    let Part = AppendsPart (contents c.args.out.now) (contents c.write_moves.new.out) in
+    let moved = subst (λ s. IsStopped (compiled_game s) c.args.at.now Written Part c.in-Err-Output.field-0) c.self.view_is c.in-Err-Output.ensures.stopped in
+    let of = subst (IsStopped (compiled_game c.args.self.now) c.args.at.now Written Part) c.in-Err-Output.field-0-is moved in
+    IsWritten.part 0 of.0 of.1 of.2 refl

@@ -1,0 +1,5 @@
+use Rattle.certificate_writer.specs.Keeping.{KeepsGoal}
+use Rattle.certificate_writer.proofs.delay.delay.Given as goal
+
+abbrev pub invariant-loop-turn : goal.invariant-loop-turn
+invariant-loop-turn g l = KeepsGoal l.fn.solver l.solver

@@ -1,0 +1,6 @@
+mod CommandLine
+mod CommandWords
+mod GoalLine
+mod Spelling
+mod Units
+mod ReservedLine

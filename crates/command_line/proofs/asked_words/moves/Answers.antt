@@ -1,0 +1,9 @@
+use Rattle.std.proofs.Common.{refl}
+use Rattle.command_line.proofs.CommandLine.{is_there, not_there}
+use Rattle.command_line.proofs.asked_words.moves.Goals as goal
+
+pub returns-in_default : goal.returns-in_default
+returns-in_default c = λ asked it. not_there _ _ it.0 c.in_ok-game.ensures c.in_default.is it.3
+
+pub returns : goal.returns
+returns c = (c.in-Some.game, c.in_ok-at.at, refl, is_there _ _ _ c.in_ok-game.ensures c.in-Some.is, c.in_ok-at.ensures)

@@ -1,0 +1,7 @@
+use Rattle.std.proofs.lemmas.Result.{IfOk-weaker}
+use Rattle.command_line.proofs.CommandLine.{more_word}
+use Rattle.command_line.proofs.game_words.moves_command.Goals as goal
+
+pub returns : goal.returns
+returns c = IfOk-weaker c.arg-2.result _ _
+    (λ r h. more_word (more_word c.named.ensures c.game_word.ensures c.in_ok-arg.ensures) c.position_word.ensures h) c.arg-2.ensures

@@ -1,0 +1,6 @@
+use Rattle.std.proofs.lemmas.Result.{IfOk-weaker}
+use Rattle.command_line.proofs.CommandLine.{more_word}
+use Rattle.command_line.proofs.table_words.game_command.Goals as goal
+
+pub returns : goal.returns
+returns c = IfOk-weaker c.arg.result _ _ (λ r h. more_word c.named.ensures c.file_word.ensures h) c.arg.ensures

@@ -1,0 +1,24 @@
+use Rattle.std.proofs.Common.{refl}
+use Rattle.file_disk.proofs.Unsealed.{no_word, same_word}
+use Rattle.file_disk.proofs.open_file.OpenFileByteFile.write_at.Goals as goal
+
+pub returns-clause-written : goal.returns-clause-written
+returns-clause-written c = λ honest. absurd (no_word _ c.self.view_is honest)
+
+pub returns-clause-others : goal.returns-clause-others
+returns-clause-others c = λ honest. absurd (no_word _ c.self.view_is honest)
+
+pub returns-clause-lasts : goal.returns-clause-lasts
+returns-clause-lasts c = λ honest. absurd (no_word _ c.self.view_is honest)
+
+pub returns-clause-noted : goal.returns-clause-noted
+returns-clause-noted c = λ honest. absurd (no_word _ c.self.view_is honest)
+
+pub returns-clause-tried : goal.returns-clause-tried
+returns-clause-tried c = λ honest. absurd (no_word _ c.self.view_is honest)
+
+pub returns-clause-counted : goal.returns-clause-counted
+returns-clause-counted c = λ honest. absurd (no_word _ c.self.view_is honest)
+
+pub returns-clause-same_honest : goal.returns-clause-same_honest
+returns-clause-same_honest c = same_word _ _ c.self.view_is refl

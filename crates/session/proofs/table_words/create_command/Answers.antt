@@ -1,7 +1,0 @@
-use Rattle.std.proofs.lemmas.Result.{IfOk-weaker}
-use Rattle.session.proofs.CommandLine.{more_word}
-use Rattle.session.proofs.table_words.create_command.Goals as goal
-
-pub returns : goal.returns
-returns c = IfOk-weaker c.arg-2.result _ _
-    (λ r h. more_word (more_word c.named.ensures c.file_word.ensures c.in_ok-arg.ensures) c.pages_word.ensures h) c.arg-2.ensures
