@@ -1,5 +1,5 @@
 -- A right table has at most two units for each position that play can come to, and with so many it is finished.
-use Rattle.std.proofs.Common.{◌≡◌, ◌⊎◌, inl, inr, refl, ℕ, zero, suc, ◌+◌, ◌*◌, ◌<◌, ◌≤◌, Bool, true, false, if◌then◌else◌, List, length, get_or, Contains, Some, IsSome, sym, ap, ◌∙◌, arith}
+use Rattle.std.proofs.Common.{◌≡◌, ◌⊎◌, inl, inr, refl, ℕ, zero, suc, ◌*◌, ◌<◌, ◌≤◌, Bool, true, false, if◌then◌else◌, length, get_or, Some, IsSome, sym, ap, ◌∙◌, arith}
 use Rattle.std.proofs.lemmas.Bool.{cases_lt}
 use Rattle.std.proofs.lemmas.Option.{slice_get-get_or}
 use Rattle.legal_moves.proofs.Distinct.{distinct-le}
@@ -17,12 +17,17 @@ all_at_most : (n : ℕ) (test : ℕ → Bool) → count_below n test ≤ n
 all_at_most zero test = omega arith
 all_at_most (suc n) test = omega (arith, all_at_most n test, one_at_most (test n))
 
-passes_or_not : (b : Bool) → (b ≡ true) ⊎ ((if b then 1 else 0) ≡ 0)
+one_or_none : Bool → ℕ
+one_or_none b = if b then 1 else 0
+
+passes_or_not : (b : Bool) → (b ≡ true) ⊎ (one_or_none b ≡ 0)
+unfolding one_or_none
 passes_or_not true = inl refl
 passes_or_not false = inr refl
 
 -- where all are counted, each passes
 each_passes : (n : ℕ) (test : ℕ → Bool) → n ≤ count_below n test → (i : ℕ) → i < n → test i ≡ true
+unfolding one_or_none
 each_passes zero test many i below = absurd (omega arith)
 each_passes (suc n) test many i below =
     let most = all_at_most n test in

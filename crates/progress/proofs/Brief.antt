@@ -1,10 +1,10 @@
 -- What enough work comes to, in the words of the headline in brief.
-use Rattle.std.proofs.Common.{◌≡◌, ◌⊎◌, inl, inr, ℕ, ◌+◌, ◌*◌, ◌<◌, ◌≤◌, List, [], ◌∷◌, Option, None, Some, refl, sym, ◌∙◌, ap, subst, arith}
+use Rattle.std.proofs.Common.{◌≡◌, ◌⊎◌, inl, inr, ℕ, ◌+◌, ◌*◌, ◌≤◌, List, [], ◌∷◌, Option, None, Some, refl, sym, subst, arith}
 use Rattle.rbg_game.specs.Games.{Game}
 use Rattle.retrograde.specs.View.{IsFinished}
 use Rattle.solver.specs.Machine.{Command, load, work}
 use Rattle.recover.specs.Tables.{BriefTable, IsTrueIn, IsTrueOfItsGame, TextSays, play_of}
-use Rattle.recover.specs.Brief.{BriefAnswer, loaded, worked, refused, BriefSitting, GoesOnBy, IsJustLoaded, Makes, MakeInTurn, MayMake, SittingsMake, units_so_far}
+use Rattle.recover.specs.Brief.{BriefAnswer, loaded, worked, refused, BriefSitting, GoesOnBy, Makes, MakeInTurn, MayMake, SittingsMake, units_so_far}
 use Rattle.progress.specs.Enough.{HasAtMost}
 use Rattle.progress.specs.InBrief.{units_for, units_for_all, units_for_sittings}
 use Rattle.progress.proofs.Bounds.{enough}
@@ -65,7 +65,7 @@ doubt_undoes_nothing asked (Some command) old new has (answer, makes) =
 sittings_make_more : (asked : ℕ) (sittings : List BriefSitting) (old new : Option BriefTable) → HasDone asked old → SittingsMake sittings old new
     → HasDone (asked + units_for_sittings sittings) new
 sittings_make_more asked [] old new has same = stays asked old new same has
-sittings_make_more asked (sitting ∷ sittings) old new has (begins, all, left, doubt, rest) =
+sittings_make_more asked (sitting ∷ sittings) old new has (begins, (all, (left, doubt, rest))) =
     let behind = all_make_more asked sitting.answered old sitting.reached has all in
     let found = doubt_undoes_nothing (asked + units_for_all sitting.answered) sitting.in_doubt sitting.reached left behind doubt in
     let more = sittings_make_more (asked + units_for_all sitting.answered) sittings left new found rest in
@@ -85,8 +85,9 @@ it_gets_there sittings found table game n made so is says few many =
     let (other, true_in) : IsTrueOfItsGame (Some table) = subst (λ (t : Option BriefTable). IsTrueOfItsGame t) is so in
     let one : game ≡ other = true_in.only game says in
     let few_of_it : HasAtMost (play_of table.goal other) n = subst (λ (g : Game). HasAtMost (play_of table.goal g) n) one few in
-    let has : HasDone (units_for_sittings sittings) (Some table) =
-    subst (HasDone (units_for_sittings sittings)) is (sittings_make_more 0 sittings None found refl made) in
+    let asked = units_for_sittings sittings in
+    let has : HasDone asked (Some table) =
+    subst (HasDone asked) is (fewer asked (0 + asked) found (omega arith) (sittings_make_more 0 sittings None found refl made)) in
     elim has [
       | inl finished ↦ finished
       | inr done ↦ with_enough table other n true_in few_of_it (omega (arith, many, done))

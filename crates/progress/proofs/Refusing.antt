@@ -1,5 +1,5 @@
 -- Of a game within the limits no unit is refused by a limit.
-use Rattle.std.proofs.Common.{◌≡◌, ◌≢◌, ⊎_elim, ℕ, ◌+◌, ◌<◌, ◌≤◌, ◌^◌, List, [], ◌∷◌, ◌++◌, length, get_or, AllPairs, Contains, Option, None, Some, sym, ap, ◌∙◌, subst, arith, length-append}
+use Rattle.std.proofs.Common.{◌≡◌, ◌≢◌, inl, inr, ℕ, ◌+◌, ◌-◌, ◌<◌, ◌≤◌, ◌^◌, List, [], ◌∷◌, ◌++◌, length, get_or, AllPairs, Contains, Option, None, Some, sym, ap, ◌∙◌, subst, arith, length-append}
 use Rattle.std.specs.Prelude.{IsTrue}
 use Rattle.std.specs.List.Sorted.{IsStrictlySortedBy}
 use Rattle.std.specs.Ordering.{ordering_reverse}
@@ -11,7 +11,7 @@ use Rattle.std.proofs.lemmas.List.Elements.{Contains-get_or}
 use Rattle.std.proofs.lemmas.List.Kept.{AllPairs-cons}
 use Rattle.std.proofs.lemmas.Map.Keys.{sorted_tail}
 use Rattle.std.proofs.lemmas.Map.Views.{All-after_first}
-use Rattle.std.proofs.lemmas.Option.{slice_get-get_or, same_Some}
+use Rattle.std.proofs.lemmas.Option.{slice_get-get_or}
 use Rattle.rbg_game.specs.Games.{Game}
 use Rattle.rbg_read.specs.Reading.{Reads}
 use Rattle.rbg_read.proofs.OneReading.{one_game}
@@ -30,7 +30,7 @@ use Rattle.game_table.specs.Work.{StopsWith}
 use Rattle.game_file.specs.Kept.{Kept}
 use Rattle.game_file.specs.State.{State}
 use Rattle.solver.specs.Held.{IsSound, graph_in, wide_in}
-use Rattle.solver.specs.Machine.{Command, Step, work, StopsAt, WorkCause}
+use Rattle.solver.specs.Machine.{Step, work, StopsAt, WorkCause}
 use Rattle.solver.specs.declared.fault.SolverFault.{SolverFault}
 use Rattle.solver.specs.declared.fault.SolverFault.TheVariants as fault
 use Rattle.solver.specs.declared.replies.Reply.TheVariants.{Refused}
@@ -61,16 +61,16 @@ both_apart xs ys one other across i j d less inside =
     elim (cases_lt j (length xs)) [
       | inl low ↦
           λ same. one i j d less low
-              (sym (get_or_append_left xs ys d i (omega arith)) ∙ same ∙ get_or_append_left xs ys d j low)
+          (sym (get_or_append_left xs ys d i (omega arith)) ∙ same ∙ get_or_append_left xs ys d j low)
       | inr high ↦
           let at_j = there j high in
           elim (cases_lt i (length xs)) [
             | inl low ↦
                 λ same. across i (j - length xs) d low (omega (arith, long, inside, high))
-                    (sym (get_or_append_left xs ys d i low) ∙ same ∙ at_j)
+                (sym (get_or_append_left xs ys d i low) ∙ same ∙ at_j)
             | inr far ↦
                 λ same. other (i - length xs) (j - length xs) d (omega (arith, far, less)) (omega (arith, long, inside, high))
-                    (sym (there i far) ∙ same ∙ at_j)
+                (sym (there i far) ∙ same ∙ at_j)
           ]
     ]
   where
@@ -136,10 +136,10 @@ module _ (graph : Graph (List ℕ)) (IsWide : List ℕ → Type 0) (limits : IsW
 -- so a table on which a unit has stopped for its own fault is of another game
 not_at : (units : ℕ) (kept : Kept) (game : Game) (why : StepFault) → IsRefusal why → IsSound (Some kept) → Reads kept.text game
     → IsWithinLimits (graph_in game kept) (wide_in game kept) → StopsAt units (Some kept) why → ⊥
-not_at units kept game why own (other, is_read, sound) reads limits stops =
-    let same : other ≡ game = one_game kept.text other game is_read reads in
+not_at units kept game why own (other, is_read, sound) also limits stops =
+    let same : other ≡ game = one_game kept.text other game is_read also in
     never_stops (graph_in game kept) (wide_in game kept) limits kept.table units why own
-    (stops game reads (subst (λ (g : Game). IsLocallySound (graph_in g kept) (wide_in g kept) kept.table) same sound))
+    (stops game also (subst (λ (g : Game). IsLocallySound (graph_in g kept) (wide_in g kept) kept.table) same sound))
 
 pub work_wants_room_alone : (units : ℕ) (why : SolverFault) (old new : State) (kept : Kept) (game : Game) → Step (work units) old (Refused why) new
     → IsTrue old.disk.honest → old.kept ≡ Some kept → IsSound (Some kept) → Reads kept.text game

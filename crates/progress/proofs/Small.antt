@@ -1,5 +1,5 @@
 -- The small game is within the limits, and enough work finds that white wins its start in two.
-use Rattle.std.proofs.Common.{◌≡◌, ℕ, ◌≤◌, ◌^◌, List, length, Option, None, Some, refl, sym, ◌∙◌, subst, arith}
+use Rattle.std.proofs.Common.{◌≡◌, ℕ, ◌≤◌, ◌^◌, List, Option, None, Some, refl, sym, subst, arith}
 use Rattle.rbg_game.specs.declared.roles.Player.{Player}
 use Rattle.rbg_game.specs.declared.roles.Player.TheVariants.{First}
 use Rattle.rbg_read.specs.Reading.{Reads}
@@ -64,6 +64,9 @@ white_wins kept goal finished says =
         (subst (λ (g : Option ℕ). Drawn (graph_of kept.packing g witness_game) (graph_of kept.packing g witness_game).start) goal
         ((says.drawn finished i (graph_in witness_game kept).start number).0 none)))
     go i number (Some (w, n)) some =
-        let (first, two) = won w n (says.won (graph_in witness_game kept).start w n (i, number, some)) in
-        (i, number, subst (λ (v : Player). (view_of kept.table).value i ≡ Some (v, 2)) first
-        (subst (λ (m : ℕ). (view_of kept.table).value i ≡ Some (w, m)) two some))
+        let (first, two) = won w n (says.won (graph_in witness_game kept).start w n (i, number, some)) in (
+          i,
+          number,
+          subst (λ (v : Player). (view_of kept.table).value i ≡ Some (v, 2)) first
+              (subst (λ (m : ℕ). (view_of kept.table).value i ≡ Some (w, m)) two some),
+        )

@@ -1,6 +1,5 @@
 -- What answered commands come to, unit by unit.
-use Rattle.std.proofs.Common.{◌≡◌, ◌⊎◌, inl, inr, ℕ, zero, suc, ◌+◌, ◌*◌, ◌<◌, ◌≤◌, List, [], ◌∷◌, Option, None, Some, refl, sym, ◌∙◌, ap, subst, arith}
-use Rattle.std.specs.Prelude.{IsTrue}
+use Rattle.std.proofs.Common.{◌≡◌, ◌⊎◌, inl, inr, ℕ, ◌+◌, ◌*◌, ◌<◌, ◌≤◌, List, [], ◌∷◌, Option, None, Some, refl, sym, ◌∙◌, ap, subst, arith}
 use Rattle.std.proofs.lemmas.Option.{same_Some}
 use Rattle.sector_disk.specs.Disk.{Picture}
 use Rattle.rbg_game.specs.Games.{Game}
@@ -126,7 +125,7 @@ all_sound ((command, reply) ∷ answered) old new (mid, does, rest) sound =
     all_sound answered mid new rest (what_may_be_done_is_sound command old mid (reply, does) sound)
 
 -- many commands, each with its answer
-pub all_go_on : (answered : List (Command × Reply)) (old : Kept) (new : Option Kept) → IsSound (Some old) → DoAll answered (Some old) new
+all_go_on : (answered : List (Command × Reply)) (old : Kept) (new : Option Kept) → IsSound (Some old) → DoAll answered (Some old) new
     → GoesOn (units_asked answered) old new
 all_go_on [] old new sound same = stays_as_it_is old new same
 all_go_on ((command, reply) ∷ answered) old new sound (mid, does, rest) =
@@ -240,7 +239,7 @@ doubt_undoes_nothing asked (Some command) old new has (reply, does) =
 pub sittings_do_more : (asked : ℕ) (sittings : List Sitting) (old new : Option Kept) → HasDone asked old → LeadTo sittings old new
     → HasDone (asked + units_asked_in sittings) new
 sittings_do_more asked [] old new has same = subst (HasDone (asked + 0)) (sym same) (as_much asked old has)
-sittings_do_more asked (sitting ∷ sittings) old new has (begins, all, left, doubt, rest) =
+sittings_do_more asked (sitting ∷ sittings) old new has (begins, (all, (left, doubt, rest))) =
     let behind = all_do_more asked sitting.answered old sitting.reached has all in
     let found = doubt_undoes_nothing (asked + units_asked sitting.answered) sitting.in_doubt sitting.reached left behind doubt in
     let more = sittings_do_more (asked + units_asked sitting.answered) sittings left new found rest in
@@ -251,9 +250,12 @@ sittings_do_more asked (sitting ∷ sittings) old new has (begins, all, left, do
 pub enough_sittings_finish : (sittings : List Sitting) (kept : Kept) (game : Game) (n : ℕ) → LeadTo sittings None (Some kept)
     → Reads kept.text game → HasAtMost (graph_in game kept) n → 2 * n ≤ units_asked_in sittings → IsFinished (view_of kept.table)
 enough_sittings_finish sittings kept game n leads is_read few many =
-    elim (sittings_do_more 0 sittings None (Some kept) refl leads) [
-      | (sound, inl finished) ↦ finished
-      | (sound, inr done) ↦ with_enough kept game n sound is_read few (omega (arith, many, done))
+    let asked = units_asked_in sittings in
+    let (sound, so_far) : HasDone asked (Some kept) =
+    fewer asked (0 + asked) (Some kept) (omega arith) (sittings_do_more 0 sittings None (Some kept) refl leads) in
+    elim so_far [
+      | inl finished ↦ finished
+      | inr done ↦ with_enough kept game n sound is_read few (omega (arith, many, done))
     ]
 
 -- so of the table that the headline speaks of

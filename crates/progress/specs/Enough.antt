@@ -6,7 +6,7 @@ use Rattle.retrograde.specs.Units.{processed_in_view}
 use Rattle.retrograde.specs.View.{View, IsFinished}
 use Rattle.game_file.specs.Kept.{Kept}
 use Rattle.solver.specs.Histories.{Sitting}
-use Rattle.solver.specs.Machine.{Command, load, work}
+use Rattle.solver.specs.Machine.{Command, work}
 use Rattle.solver.specs.declared.replies.Reply.{Reply}
 use Rattle.solver.specs.declared.replies.Reply.TheVariants.{Worked}
 

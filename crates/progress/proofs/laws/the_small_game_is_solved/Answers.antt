@@ -1,3 +1,4 @@
+use Rattle.std.proofs.Common.{arith}
 use Rattle.progress.proofs.Small.{the_small_game_has_four, the_text_is_read, white_wins}
 use Rattle.progress.proofs.laws.the_small_game_is_solved.Goals as goal
 use Rattle.witness.specs.Game.{witness_game}
