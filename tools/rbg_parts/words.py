@@ -16,9 +16,17 @@ from . import language, mishaps
 from .play import TooLong, TooWide
 
 ROOT = Path(__file__).resolve().parent.parent.parent
+
+
+def command():
+    """The tool by its path from the top, as tools/NAME."""
+    path = Path(sys.argv[0]).resolve()
+    return str(path.relative_to(ROOT)) if path.is_relative_to(ROOT) else f"tools/{path.name}"
+
+
 # as it was called: ./install gives a tool the name rbgsolve-NAME
 NAME = Path(sys.argv[0]).name
-COMMAND = NAME if NAME.startswith("rbgsolve-") else f"tools/{NAME}"
+COMMAND = NAME if NAME.startswith("rbgsolve-") else command()
 # a text with more bytes is none of a game; of a file no more are read than tell so
 MOST_READ = language.MOST_BYTES + 1
 
