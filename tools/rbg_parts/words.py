@@ -5,6 +5,7 @@ import argparse
 import codecs
 import os
 import re
+import shutil
 import signal
 import subprocess
 import sys
@@ -164,15 +165,17 @@ def is_table(name):
 
 
 def program():
-    """The program that is asked: ./rbgsolve of the repository, or the one that the variable RBGSOLVE names."""
-    return os.environ.get("RBGSOLVE") or str(ROOT / "rbgsolve")
+    """What starts the program that is asked: ./rbgsolve of the repository, or tools/with_words where RBGSOLVE_PROGRAM names one."""
+    named = os.environ.get("RBGSOLVE_PROGRAM")
+    if named and not shutil.which(named):
+        fail(2, f"{named}: RBGSOLVE_PROGRAM names no program that can be started")
+    return str(ROOT / ("tools/with_words" if named else "rbgsolve"))
 
 
 def built_program():
     """The program, where it is built; where it is the repository's and is not, standard error says how it is built, and the tool ends with
     status 4. Whether it is built is looked up once for all that a tool asks it."""
-    is_ours = os.path.realpath(program()) == str(ROOT / "rbgsolve")
-    if is_ours and not os.environ.get("RBGSOLVE_PROGRAM") and (ROOT / "build").is_file():
+    if not os.environ.get("RBGSOLVE_PROGRAM") and (ROOT / "build").is_file():
         status, _ = ran([ROOT / "build", "--check"], stdout=sys.stderr)
         if status:
             sys.exit(4)

@@ -12,7 +12,6 @@ GAMES = ROOT / "games"
 def use(program):
     """The program that all tools ask: ./rbgsolve with this program in it."""
     os.environ["RBGSOLVE_PROGRAM"] = program
-    os.environ.pop("RBGSOLVE", None)
 
 
 class Case(unittest.TestCase):

@@ -55,7 +55,7 @@ class Installed(Case):
         version = tomllib.loads((ROOT / "python/pyproject.toml").read_text())["project"]["version"]
         self.assertEqual(told, f"rbgsolve {version}\n")
         self.assertEqual(self.python("-c", "import rbgtable; print(rbgtable.found_program())").strip(), str(self.place / "bin/rbgsolve"))
-        self.assertEqual(self.python("-c", "import rbgtable; print(rbgtable.found_program())", RBGSOLVE="mine"), "mine\n")
+        self.assertEqual(self.python("-c", "import rbgtable; print(rbgtable.found_program())", RBGSOLVE_PROGRAM="mine"), "mine\n")
 
     def test_the_example_of_the_documents(self):
         """By pytest, if it is there; else its functions are called."""
@@ -82,7 +82,7 @@ class Installed(Case):
         script += "except rbgtable.Refused as refused: print(refused.status, refused)\n"
         (self.place / "bin/rbgsolve").rename(self.place / "bin/away")
         self.addCleanup((self.place / "bin/away").rename, self.place / "bin/rbgsolve")
-        self.assertRegex(self.python("-c", script, PATH="/usr/bin"), r"\A2 rbgsolve: No such file or directory: .*RBGSOLVE.*\n\Z")
+        self.assertRegex(self.python("-c", script, PATH="/usr/bin"), r"\A2 rbgsolve: No such file or directory: .*RBGSOLVE_PROGRAM.*\n\Z")
 
 
 class Wheels(Case):

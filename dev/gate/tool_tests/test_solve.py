@@ -170,7 +170,7 @@ class Interrupted(Case):
         for number, target in ((signal.SIGINT, os.killpg), (signal.SIGTERM, os.kill)):
             for name in ("got", "ended"):
                 (self.folder / name).unlink(missing_ok=True)
-            tool = self.begun(ROOT / "tools/solve", "some.table", here={**os.environ, "RBGSOLVE": str(self.folder / "slow")})
+            tool = self.begun(ROOT / "tools/solve", "some.table", here={**os.environ, "RBGSOLVE_PROGRAM": str(self.folder / "slow")})
             while not (self.folder / "got").exists():
                 time.sleep(0.02)
             target(tool.pid, number)
@@ -181,7 +181,7 @@ class Interrupted(Case):
         """As in the background of a script, where the shell ignores it for what it starts."""
         script = "#!/bin/sh\nread -r line && echo got >got && sleep 1 && echo units 9 known 9 expanded 9 settled 9 processed 9 finished\n"
         self.file("slow", script).chmod(0o755)
-        here = {**os.environ, "RBGSOLVE": str(self.folder / "slow")}
+        here = {**os.environ, "RBGSOLVE_PROGRAM": str(self.folder / "slow")}
         tool = self.begun("sh", "-c", f"trap '' INT; exec {ROOT}/tools/solve some.table", here=here)
         while not (self.folder / "got").exists():
             time.sleep(0.02)
@@ -193,7 +193,7 @@ class Interrupted(Case):
         self.file("long", "#!/bin/sh\nread -r line && echo got >got && exec sleep 60\n").chmod(0o755)
         for number in (signal.SIGINT, signal.SIGTERM):
             (self.folder / "got").unlink(missing_ok=True)
-            tool = self.begun(ROOT / "tools/solve", "some.table", here={**os.environ, "RBGSOLVE": str(self.folder / "long")})
+            tool = self.begun(ROOT / "tools/solve", "some.table", here={**os.environ, "RBGSOLVE_PROGRAM": str(self.folder / "long")})
             while not (self.folder / "got").exists():
                 time.sleep(0.02)
             tool.send_signal(number)

@@ -379,9 +379,8 @@ class ByProgram(Questions, Case):
             session.stdin.write(b"status\n")
             session.stdin.flush()
             self.assertTrue(session.stdout.readline())
-            here = {**os.environ, "RBGSOLVE": os.environ["RBGSOLVE_PROGRAM"]}
             for words_ in (["moves", path, "1"], ["stats", path], ["export", path]) * 4:
-                ran = subprocess.run([ROOT / "tools" / words_[0], *words_[1:]], env=here, capture_output=True, check=False)
+                ran = subprocess.run([ROOT / "tools" / words_[0], *words_[1:]], capture_output=True, check=False)
                 self.assertEqual((ran.returncode, ran.stdout), (4, b""), words_)
                 self.assertRegex(ran.stderr.decode(), r"\A.*another run has .*\n\Z")
 
