@@ -105,6 +105,14 @@ def pages(word):
     return int(match[1]) * {"": 1, "K": 2**10, "M": 2**20, "G": 2**30}[match[2]] // (4096 if match[2] else 1)
 
 
+def executable(word):
+    """A program that is named, by its whole path."""
+    path = os.path.abspath(word)
+    if not os.path.isfile(path) or not os.access(path, os.X_OK):
+        raise argparse.ArgumentTypeError(f"this is no program: {word}")
+    return path
+
+
 def seconds(word):
     """How long something may take."""
     if not re.fullmatch(r"[0-9]{1,5}([.][0-9]{1,6})?|[.][0-9]{1,6}", word) or not 0 < float(word) <= 86400:

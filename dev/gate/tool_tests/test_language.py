@@ -10,8 +10,9 @@ from .common import GAMES, ROOT, Case
 
 def rows_of_texts():
     """The rows of transcripts/TEXTS.md, as dev/gate/check_texts reads them."""
-    source = (ROOT / "dev/gate/check_texts").read_text().rpartition("sys.exit(main")[0]
-    names = {"__name__": "check_texts"}
+    tool = ROOT / "dev/gate/check_texts"
+    source = tool.read_text().rpartition("sys.exit(main")[0]
+    names = {"__name__": "check_texts", "__file__": str(tool)}
     exec(compile(source, "check_texts", "exec"), names)
     return list(names["rows_of"](ROOT / "transcripts/TEXTS.md"))
 
