@@ -6,6 +6,8 @@ from .common import ROOT, Case
 
 TOOLS = ("ask", "board", "expand", "export", "grid", "lint", "migrate", "moves", "new_table", "play", "publish", "report", "second_opinion", "shrink")
 TOOLS += ("size", "solve", "stats", "trust")
+# what users run in a checkout alone
+OF_CHECKOUTS = ("bench", "kept", "library", "page", "wasm")
 
 
 class Words(Case):
@@ -30,7 +32,7 @@ class Words(Case):
         self.assertEqual(done.returncode, 4)
 
     def test_each_tool_has_help(self):
-        for tool in TOOLS:
+        for tool in TOOLS + OF_CHECKOUTS:
             status, out, err = self.ran(tool, "--help")
             self.assertEqual((status, err), (0, ""), tool)
             self.assertIn(f"tools/{tool}", out)
@@ -39,7 +41,7 @@ class Words(Case):
     def test_each_tool_tells_its_version(self):
         told = subprocess.run([ROOT / "rbgsolve", "--version"], capture_output=True, check=True).stdout.decode().strip()
         self.assertRegex(told, r"^rbgsolve [0-9.]+$")
-        for tool in TOOLS:
+        for tool in TOOLS + OF_CHECKOUTS:
             self.assertEqual(self.ran(tool, "--version"), (0, f"{tool} ({told})\n", ""))
 
     def test_each_tool_tells_in_one_line_which_words_are_no_command(self):
@@ -51,6 +53,18 @@ class Words(Case):
                 self.assertRegex(err, rf"\A{tool}: .*{option}.*; `tools/{tool} --help` tells what can be done\n\Z")
             if tool != "lint":
                 self.assertEqual(self.ran(tool, "a", "b", "c", "d")[:2], (2, ""), tool)
+
+    def test_what_developers_run_does_so_too(self):
+        for path in ROOT.glob("dev/*/*"):
+            if path.is_file() and os.access(path, os.X_OK):
+                tool = str(path.relative_to(ROOT))
+                status, out, err = self.ran(tool, "--help")
+                self.assertEqual((status, err), (0, ""), tool)
+                self.assertIn(tool, out)
+                self.assertIn("Exit status", out)
+                status, out, err = self.ran(tool, "--bogus")
+                self.assertEqual((status, out), (2, ""), tool)
+                self.assertTrue(err, tool)
 
     def test_a_tool_that_is_installed_tells_its_name_there(self):
         (self.folder / "rbgsolve-new-table").symlink_to(ROOT / "tools/new_table")
