@@ -244,9 +244,9 @@ def library():
 
 
 def found_program():
-    """The program where none is named: that of the variable RBGSOLVE; of the checkout, the release or the installation in whose folder
+    """The program where none is named: that of the variable RBGSOLVE_PROGRAM; of the checkout, the release or the installation in whose folder
     tools/ this file lies; of this Python's scripts; or of the PATH."""
-    named = os.environ.get("RBGSOLVE") or os.environ.get("RBGSOLVE_PROGRAM")
+    named = os.environ.get("RBGSOLVE_PROGRAM")
     if named:
         return named
     folder, within = os.path.split(os.path.dirname(os.path.realpath(__file__)))
@@ -261,7 +261,7 @@ def found_program():
 
 def no_program(words, error):
     """The refusal where a program cannot be started."""
-    hint = "" if os.path.dirname(words[0]) else ": name the program, or let the variable RBGSOLVE name it"
+    hint = "" if os.path.dirname(words[0]) else ": name the program, or let the variable RBGSOLVE_PROGRAM name it"
     return Refused(f"{os.fsdecode(words[0])}: {error.strerror}{hint}", status=2)
 
 

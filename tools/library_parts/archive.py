@@ -8,7 +8,9 @@ import sys
 import tempfile
 from pathlib import Path
 
-ROOT = Path(__file__).resolve().parent.parent.parent
+from rbg_parts import words
+
+ROOT = words.ROOT
 CRATE = ROOT / "crates/in_process"
 # a clang that keeps the module that it is given, and then does its work; it is started with no environment
 KEEPS = """#!/bin/sh
@@ -25,11 +27,11 @@ class Unbuilt(Exception):
     """A library is missing."""
 
 
-def run(*words, **how):
+def run(*command, **how):
     """What a command prints; one that fails ends the work."""
-    done = subprocess.run(list(map(str, words)), stdout=subprocess.PIPE, stderr=subprocess.STDOUT, text=True, check=False, **how)
+    done = subprocess.run(list(map(str, command)), stdout=subprocess.PIPE, stderr=subprocess.STDOUT, text=True, check=False, **how)
     if done.returncode:
-        raise Failed(f"{Path(words[0]).name} failed:\n{done.stdout[-1500:]}")
+        raise Failed(f"{Path(command[0]).name} failed:\n{done.stdout[-1500:]}")
     return done.stdout
 
 
@@ -78,9 +80,9 @@ def build(kit_folder, crate, to):
     """Proves the crate over the libraries that are there, and compiles it."""
     with tempfile.TemporaryDirectory() as name:
         room = Path(name)
-        words = [*crate.words(["--jobs", "1"]), "--toolchain", toolchain_that_keeps(kit_folder, room)]
-        words += ["--incremental", "out/incremental", "--backend", "llvm", "-o", room / "in_process.a"]
-        run(kit_folder / "bin/rattle", "build", *words)
+        options = [*crate.words(["--jobs", "1"]), "--toolchain", toolchain_that_keeps(kit_folder, room)]
+        options += ["--incremental", "out/incremental", "--backend", "llvm", "-o", room / "in_process.a"]
+        run(kit_folder / "bin/rattle", "build", *options)
         if not (room / "module.bc").exists():
             raise Failed("the toolchain handed no module to its clang")
         for file in ("in_process.a", "module.bc"):
@@ -107,22 +109,18 @@ def made(kit_folder, builds):
     return to
 
 
-def main(name, description, make, words):
+def main(doc, make):
     """Reads the words of a command that makes something, and makes it."""
-    import argparse
-
-    parser = argparse.ArgumentParser(prog=name, description=description)
-    parser.add_argument("folder", nargs="?", type=Path, default=ROOT / "library/out")
-    parser.add_argument("--built", action="store_true", help="build no library that is used: end with status 3 where one is missing")
-    given = parser.parse_args(words)
-    folder = given.folder.absolute()
+    asked = words.parser(doc)
+    asked.add_argument("folder", nargs="?", type=Path, default=ROOT / "library/out")
+    asked.add_argument("--built", action="store_true")
+    asked = asked.parse_args()
+    folder = asked.folder.absolute()
     try:
         folder.mkdir(parents=True, exist_ok=True)
-        make(folder, not given.built)
+        make(folder, not asked.built)
     except Unbuilt as missing:
-        print(f"{name}: {missing}", file=sys.stderr)
-        return 3
+        words.fail(3, missing)
     except (Failed, OSError) as error:
-        print(f"{name}: {error}", file=sys.stderr)
-        return 1
+        words.fail(1, error)
     return 0

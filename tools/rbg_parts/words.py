@@ -5,6 +5,7 @@ import argparse
 import codecs
 import os
 import re
+import shutil
 import signal
 import subprocess
 import sys
@@ -16,9 +17,17 @@ from . import language, mishaps
 from .play import TooLong, TooWide
 
 ROOT = Path(__file__).resolve().parent.parent.parent
+
+
+def command():
+    """The tool by its path from the top, as tools/NAME."""
+    path = Path(sys.argv[0]).resolve()
+    return str(path.relative_to(ROOT)) if path.is_relative_to(ROOT) else f"tools/{path.name}"
+
+
 # as it was called: ./install gives a tool the name rbgsolve-NAME
 NAME = Path(sys.argv[0]).name
-COMMAND = NAME if NAME.startswith("rbgsolve-") else f"tools/{NAME}"
+COMMAND = NAME if NAME.startswith("rbgsolve-") else command()
 # a text with more bytes is none of a game; of a file no more are read than tell so
 MOST_READ = language.MOST_BYTES + 1
 
@@ -96,6 +105,14 @@ def pages(word):
     return int(match[1]) * {"": 1, "K": 2**10, "M": 2**20, "G": 2**30}[match[2]] // (4096 if match[2] else 1)
 
 
+def executable(word):
+    """A program that is named, by its whole path."""
+    path = os.path.abspath(word)
+    if not os.path.isfile(path) or not os.access(path, os.X_OK):
+        raise argparse.ArgumentTypeError(f"this is no program: {word}")
+    return path
+
+
 def seconds(word):
     """How long something may take."""
     if not re.fullmatch(r"[0-9]{1,5}([.][0-9]{1,6})?|[.][0-9]{1,6}", word) or not 0 < float(word) <= 86400:
@@ -156,15 +173,17 @@ def is_table(name):
 
 
 def program():
-    """The program that is asked: ./rbgsolve of the repository, or the one that the variable RBGSOLVE names."""
-    return os.environ.get("RBGSOLVE") or str(ROOT / "rbgsolve")
+    """What starts the program that is asked: ./rbgsolve of the repository, or tools/with_words where RBGSOLVE_PROGRAM names one."""
+    named = os.environ.get("RBGSOLVE_PROGRAM")
+    if named and not shutil.which(named):
+        fail(2, f"{named}: RBGSOLVE_PROGRAM names no program that can be started")
+    return str(ROOT / ("tools/with_words" if named else "rbgsolve"))
 
 
 def built_program():
     """The program, where it is built; where it is the repository's and is not, standard error says how it is built, and the tool ends with
     status 4. Whether it is built is looked up once for all that a tool asks it."""
-    is_ours = os.path.realpath(program()) == str(ROOT / "rbgsolve")
-    if is_ours and not os.environ.get("RBGSOLVE_PROGRAM") and (ROOT / "build").is_file():
+    if not os.environ.get("RBGSOLVE_PROGRAM") and (ROOT / "build").is_file():
         status, _ = ran([ROOT / "build", "--check"], stdout=sys.stderr)
         if status:
             sys.exit(4)
