@@ -2,6 +2,7 @@
 import os
 import subprocess
 import tempfile
+import time
 import unittest
 from pathlib import Path
 
@@ -30,6 +31,13 @@ class Case(unittest.TestCase):
         words = [ROOT / "tools" / words[0], *map(str, words[1:])]
         done = subprocess.run(words, cwd=self.folder, input=given, capture_output=True, check=False, timeout=120)
         return done.returncode, done.stdout.decode(), done.stderr.decode()
+
+    def until(self, is_so, seconds=60):
+        """Waits until it is so; a test fails whose wait does not end."""
+        end = time.monotonic() + seconds
+        while not is_so():
+            self.assertLess(time.monotonic(), end, "what is waited for does not come")
+            time.sleep(0.02)
 
     def file(self, name, text):
         path = self.folder / name

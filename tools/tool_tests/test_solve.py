@@ -171,8 +171,7 @@ class Interrupted(Case):
             for name in ("got", "ended"):
                 (self.folder / name).unlink(missing_ok=True)
             tool = self.begun(ROOT / "tools/solve", "some.table", here={**os.environ, "RBGSOLVE": str(self.folder / "slow")})
-            while not (self.folder / "got").exists():
-                time.sleep(0.02)
+            self.until((self.folder / "got").exists)
             target(tool.pid, number)
             self.assertEqual(self.ends(tool), (130, b"units 256 known 9 expanded 8 settled 7 processed 6 open\n"))
             self.assertTrue((self.folder / "ended").exists())
@@ -183,8 +182,7 @@ class Interrupted(Case):
         self.file("slow", script).chmod(0o755)
         here = {**os.environ, "RBGSOLVE": str(self.folder / "slow")}
         tool = self.begun("sh", "-c", f"trap '' INT; exec {ROOT}/tools/solve some.table", here=here)
-        while not (self.folder / "got").exists():
-            time.sleep(0.02)
+        self.until((self.folder / "got").exists)
         os.killpg(tool.pid, signal.SIGINT)
         self.assertEqual(self.ends(tool), (0, b"units 9 known 9 expanded 9 settled 9 processed 9 finished\n"))
 
@@ -194,8 +192,7 @@ class Interrupted(Case):
         for number in (signal.SIGINT, signal.SIGTERM):
             (self.folder / "got").unlink(missing_ok=True)
             tool = self.begun(ROOT / "tools/solve", "some.table", here={**os.environ, "RBGSOLVE": str(self.folder / "long")})
-            while not (self.folder / "got").exists():
-                time.sleep(0.02)
+            self.until((self.folder / "got").exists)
             tool.send_signal(number)
             time.sleep(0.5)
             self.assertIsNone(tool.poll())

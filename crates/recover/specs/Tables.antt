@@ -53,13 +53,16 @@ pub record BriefTable : Type 0 where
   pub view : View Position
 
 -- what it tells is so by the rules of the game, the only one that its text says: a known position has one number, and the start number 0;
--- a settled one is won by the named player in exactly the named number of moves; and where the table is finished, its positions are those
--- that play can come to, and the unsettled are exactly the drawn
+-- play comes to each, and expanded are some of them, settled some of these; a settled one is won by the named player in exactly the named
+-- number of moves; and where the table is finished, its positions are those that play can come to, and the unsettled are exactly the drawn
 pub record IsTrueIn (game : Game) (table : BriefTable) : Type 0 where
   pub says : TextSays table.text game
   pub only : (other : Game) → TextSays table.text other → other ≡ game
   pub once : (i j : ℕ) (at : Position) → HasNumber table.view i at → HasNumber table.view j at → i ≡ j
   pub start : HasNumber table.view 0 (start_of game)
+  pub reached : (at : Position) → IsKnown table.view at → IsReachable (play_of table.goal game) at
+  pub expanded : table.view.expanded ≤ length table.view.known
+  pub settled : (i : ℕ) → IsSome (table.view.value i) → i < table.view.expanded
   pub won : (at : Position) (w : Player) (n : ℕ) → HasValue table.view at w n → WonIn (play_of table.goal game) w n at
   pub all : IsFinished table.view → (at : Position) → IsKnown table.view at ↔ IsReachable (play_of table.goal game) at
   pub drawn : IsFinished table.view → (i : ℕ) (at : Position) → HasNumber table.view i at

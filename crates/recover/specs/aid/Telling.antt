@@ -1,6 +1,6 @@
 -- The table in brief of what is kept: what it tells is so, and what a command does is told.
 use Rattle.std.specs.Prelude.{◌≡◌, ℕ, zero, suc, ◌+◌, ◌-◌, ◌^◌, min, List, [], ◌∷◌, ◌++◌, length, Option, None, Some, slice_get}
-use Rattle.std.proofs.Common.{refl, sym, subst, ◌∙◌, ap, inl, inr}
+use Rattle.std.proofs.Common.{refl, sym, subst, ◌∙◌, ap, inl, inr, arith}
 use Rattle.std.proofs.lemmas.Option.{same_Some}
 use Rattle.rbg_game.specs.Games.{Game}
 use Rattle.rbg_game.specs.Sound.{IsSoundGame}
@@ -210,6 +210,11 @@ module _ (kept : Kept) (sound : IsSound (Some kept)) where
             (one_position kept.packing game sound_game (graph_in game kept).start (start_of game) at
             (record { position_is = starts_are_positions kept.text game sound.1; bytes_are = refl }) here)
             number;
+        reached = λ at (i, number).
+            let (x, there, here) = number_up i at number in
+            reached_down kept.packing kept.goal game sound_game x (right.moves.reached x (i, there)) at here;
+        expanded = omega (arith, right.coherent.expanded, same_length);
+        settled = right.coherent.settled;
         won = λ at w n (i, number, is).
             let (x, there, here) = number_up i at number in
             won_down kept.packing kept.goal game sound_game w n x at here

@@ -1,0 +1,5 @@
+pub mod Bounds
+pub mod Working
+pub mod Brief
+pub mod Refusing
+pub mod Small

@@ -1,0 +1,5 @@
+use Rattle.progress.proofs.Working.{enough_work_finishes}
+use Rattle.progress.proofs.laws.enough_work_finishes.Goals as goal
+
+pub returns : goal.returns
+returns c = enough_work_finishes
