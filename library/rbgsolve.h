@@ -1,6 +1,6 @@
 /* The proved solver in a program of your own: the moves of games, commands on tables in memory, and tables that stay open.
 
-   Each function is an export of crates/in_process, whose contract says what it does; docs/SESSION.md has the lines, docs/REFUSALS.md
+   Each function is an export of crates/in_process, whose contract says what it does; docs/COMMANDS.md has the lines, docs/REFUSALS.md
    the codes. Nothing here reads or writes a file, starts a thread, ends the process or keeps a state of its own: different threads may
    call at once, each with arguments of its own.
 

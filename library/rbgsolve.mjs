@@ -5,7 +5,7 @@
 //     table.solve();                               // known 5479 expanded 5479 .. finished
 //     table.value(0);                              // drawn
 //
-// What is refused throws `Refused`, with the program's code. docs/SESSION.md has the lines, rbgsolve.h what each call does.
+// What is refused throws `Refused`, with the program's code. docs/COMMANDS.md has the lines, rbgsolve.h what each call does.
 
 const NO_TEXT = 4, NO_MEMORY = 5, PAGE = 4096;
 

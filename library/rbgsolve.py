@@ -9,7 +9,7 @@
         open("take.table", "wb").write(table.bytes())
 
 The library is looked for beside this file, or is the one that RBGSOLVE_LIBRARY names. What is refused raises `Refused`, with the
-program's code; what finds no memory raises `MemoryError`. docs/SESSION.md has the lines, rbgsolve.h what each call does.
+program's code; what finds no memory raises `MemoryError`. docs/COMMANDS.md has the lines, rbgsolve.h what each call does.
 """
 from __future__ import annotations
 

@@ -12,7 +12,7 @@
             print(row.number, row.text, row.value)
     print(rbgtable.solve("chomp.rbg").best(1))    # solves a game, and gives a best move
 
-Values, texts, lines, moves and the game's text are the answers of `rbgsolve look` (docs/SESSION.md), which writes nothing:
+Values, texts, lines, moves and the game's text are the answers of `rbgsolve look` (docs/COMMANDS.md), which writes nothing:
 many may look at a table at once, but none while a run works on it. Where all edges are wanted, `successors` reads them
 from the file's bytes (docs/FORMAT.md), as they are when it is first called. What cannot be answered raises `Refused`, with the
 program's code and sentence.

@@ -9,7 +9,7 @@ from bench_parts.measured import Failed, Taken
 from .common import ROOT, Case
 
 GRAPH = ROOT / "tools/bench_parts/graph.c"
-# an answer of a session, as docs/SESSION.md has it
+# an answer of a session, as docs/COMMANDS.md has it
 OPEN = "units 256 known 300 expanded 256 settled 40 processed 0 open\n"
 FINISHED = "units 14 known 7 expanded 7 settled 7 processed 7 finished\n"
 

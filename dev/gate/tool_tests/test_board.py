@@ -63,7 +63,7 @@ class Trust(Case):
         self.assertEqual(self.ran("trust", self.folder / "chomp.table", longer)[0], 1)
 
     def test_a_wrong_table_and_a_goal(self):
-        """A record's distance is changed, as docs/AUDIT.md does it; a goal is told."""
+        """A record's distance is changed, as transcripts/AUDITS.md does it; a goal is told."""
         self.assertEqual(self.ran("new_table", GAMES / "goal.rbg", "--goal", "2")[0], 0)
         status, out, _ = self.ran("trust", "goal.table", GAMES / "goal.rbg")
         self.assertEqual((status, out), (0, f"audit right open, of {GAMES}/goal.rbg with a goal of 2\n"))
