@@ -44,12 +44,17 @@ class Size(Case):
             positions = int(positions.replace(",", ""))
             if positions < 3000:
                 continue
-            out = json.loads(self.ran("size", "--seconds", "0.5", "--json", GAMES / f"{name}.rbg")[1])
-            if out["how"] == "about":
-                self.assertTrue(positions / 2 < out["positions"] < 2 * positions, (name, positions, out))
-                self.assertTrue(out["range"][0] <= positions <= out["range"][1], (name, positions, out))
-            elif out["how"] == "all":
-                self.assertEqual(out["positions"], positions)
+            # how much is found in so many seconds hangs on what else the machine does
+            found = (self.estimate(name, seconds) for seconds in ("0.5", "5"))
+            self.assertTrue(any(self.is_near(out, positions) for out in found), (name, positions))
+
+    def estimate(self, name, seconds):
+        return json.loads(self.ran("size", "--seconds", seconds, "--json", GAMES / f"{name}.rbg")[1])
+
+    def is_near(self, out, positions):
+        if out["how"] == "about":
+            return positions / 2 < out["positions"] < 2 * positions and out["range"][0] <= positions <= out["range"][1]
+        return out["how"] != "all" or out["positions"] == positions
 
     def test_a_number_that_is_told(self):
         game = play.play_of((GAMES / "fox_and_hounds.rbg").read_bytes())
