@@ -1,5 +1,5 @@
 -- How many units of work a game takes, and how many were asked for.
-use Rattle.std.specs.Prelude.{ℕ, ◌+◌, ◌≤◌, List, [], ◌∷◌, length, Contains, Option, None, Some}
+use Rattle.std.specs.Prelude.{ℕ, ◌+◌, ◌≤◌, List, [], ◌∷◌, length, map, Contains, Option, None, Some}
 use Rattle.retrograde.specs.Graph.{Graph, IsReachable}
 use Rattle.retrograde.specs.Stored.{view_of}
 use Rattle.retrograde.specs.Units.{processed_in_view}
@@ -34,10 +34,14 @@ abbrev pub units_asked : List (Command × Reply) → ℕ
 units_asked [] = 0
 units_asked ((command, reply) ∷ answered) = units_of_one command reply + units_asked answered
 
+-- and those of many lists of them, as sittings of lines told them
+abbrev pub units_told : List (List (Command × Reply)) → ℕ
+units_told [] = 0
+units_told (answered ∷ others) = units_asked answered + units_told others
+
 -- and those of all sittings; a command that was begun and not answered counts nothing
 abbrev pub units_asked_in : List Sitting → ℕ
-units_asked_in [] = 0
-units_asked_in (sitting ∷ sittings) = units_asked sitting.answered + units_asked_in sittings
+units_asked_in sittings = units_told (map (λ sitting. sitting.answered) sittings)
 
 -- a game is loaded, and its table is finished
 abbrev pub IsSolved : Option Kept → Type 0

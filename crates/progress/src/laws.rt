@@ -17,12 +17,14 @@ ghost use Rattle.recover.specs.Tables.{BriefTable, TextSays, play_of};
 ghost use Rattle.recover.specs.Brief.{BriefSitting, BriefHistory, BriefHeadline};
 ghost use Rattle.solver.specs.declared.replies.Reply.{Reply};
 ghost use Rattle.solver.specs.declared.replies.Reply.TheVariants.{Refused};
-ghost use Rattle.progress.specs.Enough.{HasAtMost, IsSolved, units_asked, units_asked_in, units_in_all};
+ghost use Rattle.lines_kept.specs.Uses.{Uses};
+ghost use Rattle.progress.specs.Enough.{HasAtMost, IsSolved, units_asked, units_asked_in, units_in_all, units_told};
 ghost use Rattle.progress.specs.InBrief.{units_for_sittings};
 ghost use Rattle.progress.specs.Limits.{IsWithinLimits, WantsRoom};
 ghost use Rattle.witness.specs.Game.{witness_text, witness_game};
 
-use game_file::GameFile;
+use game_file::{GameFile, Versions};
+use lines_kept::laws::what_lines_told_is_kept;
 use recover::SavedTable;
 use recover::saved::the_headline_in_brief;
 use solver::laws::the_headline;
@@ -51,6 +53,17 @@ pub fn it_gets_there<F: GameFile>()
         → 2 * n ≤ units_asked_in sittings → IsFinished (view_of kept.table) × SaysWhatIs kept game }
 {
     the_headline::<F>()
+}
+
+/// So of the lines that were printed: whatever was done with the file of one table, by sessions of lines and by commands, each stopped at any
+/// moment, where the `work` lines whose replies had begun asked for so many units, what is left is the finished table.
+pub fn what_lines_told_gets_there<F: Versions>()
+    ensures { (told : List (List (Command × Reply))) (left : Shown) (picture : Picture) (kept : Kept) (game : Game) (n : ℕ)
+        → Uses F.stores F.state F.is_version F.are_two F.is_used_up F.lasts told left → MayLeave left picture
+        → Holds (in_any F.stores) picture (Some kept) → Reads kept.text game → HasAtMost (graph_in game kept) n → 2 * n ≤ units_told told
+        → IsFinished (view_of kept.table) × SaysWhatIs kept game }
+{
+    what_lines_told_is_kept::<F>()
 }
 
 /// So in brief, of what reopening gives.
