@@ -10,4 +10,5 @@ pub use Rattle.retrograde.specs.View
 pub use Rattle.table.specs.Memory
 pub mod Causes
 pub mod Done
+pub mod Entries
 pub mod aid

@@ -8,6 +8,6 @@ mod memory;
 mod table;
 
 pub use fault::TableFault;
-pub use limits::MAX_POSITIONS;
+pub use limits::{MAX_POSITIONS, PAGES_PER_ENTRY};
 pub use memory::MemTable;
 pub use table::Table;

@@ -173,6 +173,8 @@ impl Table for MemTable {
 
     ghost counted = { counted_in };
 
+    ghost free = { λ t. 0 };
+
     ghost stays = { λ was is. Unit {0} };
 
     ghost goes_on = { λ was is. Unit {0} };
@@ -182,6 +184,10 @@ impl Table for MemTable {
     ghost counts_are = { λ t honest. refl };
 
     ghost stays_here = { λ t. tt };
+
+    ghost stays_free = { λ a b stays. refl };
+
+    ghost full_free = { λ a b full. cc };
 
     ghost stays_then = { λ a b c first second. tt };
 

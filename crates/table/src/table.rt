@@ -1,12 +1,13 @@
 //! What is kept of a game: positions by number, records, edges, and the settled order.
-ghost use Rattle.std.specs.Prelude.{◌≡◌, ◌↔◌, ◌+◌, ◌^◌, ◌<◌, ℕ, List, IfOk, OnOk, IfErr, IfSome, IfNone, slice_get, Some};
+ghost use Rattle.std.specs.Prelude.{◌≡◌, ◌↔◌, ◌+◌, ◌*◌, ◌^◌, ◌<◌, ◌≤◌, ℕ, List, IfOk, OnOk, IfErr, IfSome, IfNone, slice_get, Some};
 ghost use Rattle.retrograde.specs.declared.records.Counts.{Counts};
 ghost use Rattle.retrograde.specs.Stored.{Stored, HasRecord};
 ghost use Rattle.retrograde.specs.Changes.{counts_of, with_position, with_record, with_edge, with_settled};
 ghost use Rattle.retrograde.specs.Edges.{IsAfter, IsNextEdge, HasNoMoreEdges};
 ghost use Rattle.table.specs.Faults.{NeedsNoPage};
 ghost use Rattle.table.specs.declared.fault.TableFault.{TableFault};
-ghost use Rattle.table.specs.declared.fault.TableFault.TheVariants.{OutOfMemory};
+ghost use Rattle.table.specs.declared.fault.TableFault.TheVariants.{OutOfMemory, TableFull};
+ghost use Rattle.table.specs.declared.limits.TheConstants.{PAGES_PER_ENTRY};
 
 use crate::fault::TableFault;
 use position_pack::Packed;
@@ -30,6 +31,9 @@ pub trait Table {
 
     /// How many positions are known, expanded, settled and processed, as it counts them.
     ghost counted: { Self → Counts };
+
+    /// How many pages are free for what is written: of no matter where a table takes none.
+    ghost free: { Self → ℕ };
 
     /// What calls that only read leave of the first table, answered or not.
     ghost stays: { Self → Self → Type 0 };
@@ -89,7 +93,8 @@ pub trait Table {
         ensures honest { OnOk result (is_honest self.old ↔ is_honest self.new) }
         ensures known { OnOk result ((counted self.new).known ≡ (counted self.old).known + 1) }
         ensures ahead { OnOk result (goes_on self.old self.new) }
-        ensures fault { IfErr result (fails self.old self.new) };
+        ensures fault { IfErr result (fails self.old self.new) }
+        ensures takes { free self.old ≤ free self.new + PAGES_PER_ENTRY * 2 };
 
     /// Writes the record of a number.
     fn set_record(&mut self, number: u32, kept: Record) -> Result<(), TableFault>
@@ -98,7 +103,8 @@ pub trait Table {
         ensures honest { OnOk result (is_honest self.old ↔ is_honest self.new) }
         ensures known { OnOk result ((counted self.new).known ≡ (counted self.old).known) }
         ensures ahead { OnOk result (goes_on self.old self.new) }
-        ensures fault { IfErr result (fails self.old self.new) };
+        ensures fault { IfErr result (fails self.old self.new) }
+        ensures takes { free self.old ≤ free self.new + PAGES_PER_ENTRY };
 
     /// Adds an edge, which may be there already.
     fn add_edge(&mut self, successor: u32, predecessor: u32) -> Result<(), TableFault>
@@ -108,7 +114,8 @@ pub trait Table {
         ensures honest { OnOk result (is_honest self.old ↔ is_honest self.new) }
         ensures counts { OnOk result (counted self.new ≡ counted self.old) }
         ensures ahead { OnOk result (goes_on self.old self.new) }
-        ensures fault { IfErr result (fails self.old self.new) };
+        ensures fault { IfErr result (fails self.old self.new) }
+        ensures takes { free self.old ≤ free self.new + PAGES_PER_ENTRY };
 
     /// The least predecessor, or the least one after the number given.
     fn next_edge(&mut self, successor: u32, after: Option<u32>) -> Result<Option<u32>, TableFault>
@@ -130,7 +137,8 @@ pub trait Table {
         ensures honest { OnOk result (is_honest self.old ↔ is_honest self.new) }
         ensures known { OnOk result ((counted self.new).known ≡ (counted self.old).known) }
         ensures ahead { OnOk result (goes_on self.old self.new) }
-        ensures fault { IfErr result (fails self.old self.new) };
+        ensures fault { IfErr result (fails self.old self.new) }
+        ensures takes { free self.old ≤ free self.new + PAGES_PER_ENTRY };
 
     /// The number at a place of the settled order.
     fn settled_at(&mut self, place: u32) -> Result<u32, TableFault>
@@ -148,6 +156,12 @@ pub trait Table {
 
     /// Before any call nothing has changed.
     ghost stays_here: { (t : Self) → stays t t };
+
+    /// To stay takes no page.
+    ghost stays_free: { (a b : Self) → stays a b → free b ≡ free a };
+
+    /// That no page is free is told where none is.
+    ghost full_free: { (a b : Self) → fails a b TableFull → free b ≡ 0 };
 
     /// One call that reads after another.
     ghost stays_then: { (a b c : Self) → stays a b → stays b c → stays a c };
