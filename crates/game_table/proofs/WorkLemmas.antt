@@ -1,6 +1,7 @@
 -- Units of work, one after another.
-use Rattle.std.proofs.Common.{◌≡◌, ◌^◌, ◌<◌, ◌≤◌, ◌+◌, ℕ, suc, ap, subst, List, length, arith}
+use Rattle.std.proofs.Common.{◌≡◌, refl, sym, ◌∙◌, ◌^◌, ◌<◌, ◌≤◌, ◌+◌, ℕ, suc, ap, subst, List, length, arith}
 use Rattle.std.specs.Prelude.{Result, Ok, Err, OnErr}
+use Rattle.std.specs.Result.{IsErr, IsErrAnd}
 use Rattle.retrograde.specs.declared.records.Counts.{Counts}
 use Rattle.retrograde.specs.Changes.{counts_of}
 use Rattle.retrograde.specs.Graph.{Graph}
@@ -11,6 +12,8 @@ use Rattle.retrograde.specs.Successors.{packed_cmp}
 use Rattle.retrograde.proofs.Finished.{element}
 use Rattle.retrograde.proofs.Sound.{sound_right}
 use Rattle.retrograde.proofs.Units.{works_alone, works_along}
+use Rattle.frontier.specs.Entries.{WritesAtMost}
+use Rattle.game_table.specs.Entries.{WriteAtMost}
 use Rattle.game_table.specs.Units.{IsUnit, AreUnits}
 use Rattle.game_table.specs.Work.{Works}
 
@@ -26,6 +29,18 @@ pub one_unit_more : (graph : Graph (List ℕ)) (old mid new : Stored (List ℕ))
 one_unit_more graph old mid new n are table unit =
     let next : suc n ≡ n + 1 = omega arith in
     subst (λ (k : ℕ). AreUnits graph old k new) next (mid, are, table, unit)
+
+-- and what these write is added up
+pub one_write_more : (graph : Graph (List ℕ)) (old mid new : Stored (List ℕ)) (n before last : ℕ) → WriteAtMost graph old n mid before
+    → IsUnit graph mid new → WritesAtMost graph mid last → WriteAtMost graph old (n + 1) new (before + last)
+one_write_more graph old mid new n before last write unit writes =
+    let next : suc n ≡ n + 1 = omega arith in
+    subst (λ (k : ℕ). WriteAtMost graph old k new (before + last)) next (mid, before, last, write, unit, writes, refl)
+
+-- the fault that a `?` passes on is the one that is answered
+pub fault_was : {X E : Type 0} (r : Result X E) (fault told : E) → IsErr r × IsErrAnd r (λ f. f ≡ fault) → r ≡ Err told → fault ≡ told
+fault_was (Ok x) fault told is same = absurd is.1
+fault_was (Err f) fault told is same = let here : f ≡ told = cc in sym is.1 ∙ here
 
 -- ---- a table that is refused a unit is not finished
 

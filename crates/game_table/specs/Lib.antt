@@ -1,4 +1,5 @@
 pub use Rattle.frontier.specs.Causes
+pub use Rattle.frontier.specs.Entries as FrontierEntries
 pub use Rattle.legal_moves.specs.Compiled
 pub use Rattle.legal_moves.specs.Moves
 pub use Rattle.legal_moves.specs.Sources
@@ -15,6 +16,7 @@ pub use Rattle.table.specs.Faults
 pub use Rattle.table.specs.Fitting
 pub mod Units
 pub mod Work
+pub mod Entries
 pub mod Tables
 pub mod Texts
 pub mod aid

@@ -1,5 +1,5 @@
 //! A game made ready from its text, and its tables.
-ghost use Rattle.std.specs.Prelude.{◌≡◌, ◌≢◌, ◌↔◌, ◌≤◌, ◌^◌, true, IfOk, IfErr, OnOk, OnErr, Err, length};
+ghost use Rattle.std.specs.Prelude.{◌≡◌, ◌≢◌, ◌↔◌, ◌+◌, ◌*◌, ◌≤◌, ◌^◌, ℕ, true, IfOk, IfErr, OnOk, OnErr, Err, length};
 ghost use Rattle.rbg_game.specs.Games.{Game as TextbookGame};
 ghost use Rattle.rbg_game.specs.Meaning.{game_of};
 ghost use Rattle.rbg_game.specs.Names.{HasProperNames};
@@ -13,9 +13,11 @@ ghost use Rattle.retrograde.specs.Stored.{IsTable, view_of};
 ghost use Rattle.retrograde.specs.View.{IsFinished};
 ghost use Rattle.retrograde.specs.Sound.{IsLocallySound};
 ghost use Rattle.frontier.specs.Causes.{Leaves};
+ghost use Rattle.game_table.specs.Entries.{WantsPages, WriteAtMost};
 ghost use Rattle.game_table.specs.Work.{StopsWith};
 ghost use Rattle.game_table.specs.Tables.{ArePositions, packed_length, IsWorkOf};
 ghost use Rattle.table.specs.Faults.{NeedsNoPage};
+ghost use Rattle.table.specs.declared.limits.TheConstants.{PAGES_PER_ENTRY};
 ghost use Rattle.rbg_game.specs.declared.limits.TheConstants.{MAX_TEXT_BYTES};
 
 use crate::StepFault;
@@ -119,7 +121,8 @@ impl Source {
     ///
     /// Of a table that does not agree with itself nothing is said but that it stays within the limit, that its parts still
     /// fit together if they did, and what is left of a device under it; `Inconsistent` comes of such a table alone. A
-    /// table that does, and is finished, is refused nothing.
+    /// table that does, and is finished, is refused nothing; it is refused for want of a page only where no more pages were free than
+    /// 49 for each entry that the units may write.
     pub fn work<T: Table>(&self, alloc: Global, table: &mut T, units: u32) -> Result<u32, StepFault>
         requires { (T.counted table.old).known ≤ 2 ^ 24 }
         ensures limit { OnOk result ((T.counted table.new).known ≤ 2 ^ 24) }
@@ -146,6 +149,17 @@ impl Source {
             → result ≡ Err StepFault.Inconsistent → ⊥ }
         ensures ahead { OnOk result (T.goes_on table.old table.new) }
         ensures left { IfErr result (Leaves (T.goes_on table.old table.new) (T.fails table.old table.new)) }
+        ensures full { T.is_honest table.old → IsLocallySound (graph_of (packing_kind self.now) (compiled_goal self.now) (compiled_game self.now))
+            (IsWideAt (packing_kind self.now) (compiled_game self.now)) (T.stored table.old)
+            → result ≡ Err (StepFault.Table TableFault.TableFull)
+            → WantsPages (graph_of (packing_kind self.now) (compiled_goal self.now) (compiled_game self.now))
+            (T.stored table.old) units (T.free table.old) }
+        ensures takes { T.is_honest table.old → IsLocallySound (graph_of (packing_kind self.now) (compiled_goal self.now) (compiled_game self.now))
+            (IsWideAt (packing_kind self.now) (compiled_game self.now)) (T.stored table.old)
+            → IfOk result (λ done. (entries : ℕ)
+            × WriteAtMost (graph_of (packing_kind self.now) (compiled_goal self.now) (compiled_game self.now))
+            (T.stored table.old) done (T.stored table.new) entries
+            × (T.free table.old ≤ T.free table.new + PAGES_PER_ENTRY * entries)) }
     {
         crate::work(alloc, &self.compiled, table, units)
     }

@@ -1,12 +1,16 @@
 //! Units of work, one after another.
-ghost use Rattle.std.specs.Prelude.{◌≡◌, ◌↔◌, ◌⊎◌, ◌^◌, ◌<◌, ◌≤◌, true, false, IfOk, OnOk, IfErr, OnErr, Err};
+ghost use Rattle.std.specs.Prelude.{◌≡◌, ◌↔◌, ◌⊎◌, ◌+◌, ◌*◌, ◌^◌, ◌<◌, ◌≤◌, ℕ, true, false, IfOk, OnOk, IfErr, OnErr, Err};
 ghost use Rattle.retrograde.specs.View.{IsFinished};
 ghost use Rattle.retrograde.specs.Stored.{IsTable, view_of};
 ghost use Rattle.retrograde.specs.Sound.{IsLocallySound};
 ghost use Rattle.frontier.specs.Causes.{HasUnitCause, Leaves};
-ghost use Rattle.frontier.specs.declared.fault.StepFault.TheVariants.{Inconsistent};
+ghost use Rattle.frontier.specs.Entries.{WritesAtMost};
+ghost use Rattle.frontier.specs.declared.fault.StepFault.TheVariants.{Inconsistent, Table as TableFails};
+ghost use Rattle.table.specs.declared.fault.TableFault.TheVariants.{TableFull};
+ghost use Rattle.table.specs.declared.limits.TheConstants.{PAGES_PER_ENTRY};
 ghost use Rattle.game_table.specs.Units.{IsUnit};
 ghost use Rattle.game_table.specs.Work.{Works, AreDone, StopsWith};
+ghost use Rattle.game_table.specs.Entries.{WantsPages, WriteAtMost};
 
 use frontier::{StepFault, expand_one};
 use legal_moves::MoveSource;
@@ -42,6 +46,12 @@ fn unit<M: MoveSource, T: Table>(
         → result ≡ Err Inconsistent → ⊥ }
     ensures ahead { OnOk result (T.goes_on table.old table.new) }
     ensures left { IfErr result (Leaves (T.goes_on table.old table.new) (T.fails table.old table.new)) }
+    ensures takes { T.is_honest table.old → IsLocallySound (M.graph source.now) (M.is_wide source.now) (T.stored table.old)
+        → IfOk result (λ done. done ≡ true → (entries : ℕ) × WritesAtMost (M.graph source.now) (T.stored table.old) entries
+        × (T.free table.old ≤ T.free table.new + PAGES_PER_ENTRY * entries)) }
+    ensures full { T.is_honest table.old → result ≡ Err (TableFails TableFull)
+        → (entries : ℕ) × WritesAtMost (M.graph source.now) (T.stored table.old) entries
+        × (T.free table.old ≤ PAGES_PER_ENTRY * entries) }
 {
     let counts = table.counts();
     if counts.expanded < counts.known {
@@ -85,6 +95,11 @@ pub fn work<M: MoveSource, T: Table>(
         → result ≡ Err Inconsistent → ⊥ }
     ensures ahead { OnOk result (T.goes_on table.old table.new) }
     ensures left { IfErr result (Leaves (T.goes_on table.old table.new) (T.fails table.old table.new)) }
+    ensures full { T.is_honest table.old → IsLocallySound (M.graph source.now) (M.is_wide source.now) (T.stored table.old)
+        → result ≡ Err (TableFails TableFull) → WantsPages (M.graph source.now) (T.stored table.old) units (T.free table.old) }
+    ensures takes { T.is_honest table.old → IsLocallySound (M.graph source.now) (M.is_wide source.now) (T.stored table.old)
+        → IfOk result (λ done. (entries : ℕ) × WriteAtMost (M.graph source.now) (T.stored table.old) done (T.stored table.new) entries
+        × (T.free table.old ≤ T.free table.new + PAGES_PER_ENTRY * entries)) }
 {
     for done in 0..units {
         if !unit(alloc, source, table)? {

@@ -81,7 +81,7 @@ pub fn it_gets_there_in_brief<S: SavedTable>()
 pub fn work_wants_room_alone()
     ensures { (units : ℕ) (fault : SolverFault) (old new : State) (kept : Kept) (game : Game) → Step (work units) old (Refused fault) new
         → IsTrue old.disk.honest → old.kept ≡ Some kept → IsSound (Some kept) → Reads kept.text game
-        → IsWithinLimits (graph_in game kept) (wide_in game kept) → WantsRoom old new fault }
+        → IsWithinLimits (graph_in game kept) (wide_in game kept) → WantsRoom units old new fault }
 {}
 
 /// The small game of `witness` is within the limits, and play comes to four of its positions at most.

@@ -21,9 +21,9 @@ use Rattle.table.specs.declared.fault.TableFault.TheVariants as table
 use Rattle.frontier.specs.Causes.{Leaves as LeavesUnit}
 use Rattle.frontier.specs.declared.fault.StepFault.{StepFault}
 use Rattle.frontier.specs.declared.fault.StepFault.TheVariants as step
+use Rattle.game_table.specs.Entries.{WantsPages}
 use Rattle.game_table.specs.Work.{StopsWith}
 use Rattle.game_table.specs.aid.Laws.{starts_are_positions, sound_tables_fit}
-use Rattle.game_table.specs.aid.OneTable.{none_of_finished}
 use Rattle.game_table.specs.Tables.{packed_length, IsWorkOf}
 use Rattle.game_file.specs.Calls.{IsPut, IsNotPut, IsNothingPut}
 use Rattle.game_file.specs.Causes.{FileCommitCause, FileTableCause}
@@ -37,7 +37,7 @@ use Rattle.solver.specs.declared.fault.SolverFault.TheVariants as solver
 use Rattle.solver.specs.Faults.{file_fault, step_fault, table_fault}
 use Rattle.solver.specs.Held.{IsSound}
 use Rattle.solver.specs.declared.replies.Reply.TheVariants.{Worked, Refused}
-use Rattle.solver.specs.Machine.{work, WorksOnTable, WorkCause, StopsAt, IsUnfinished}
+use Rattle.solver.specs.Machine.{work, WorksOnTable, WorkCause, StopsAt, IsUnfinished, IsShortOfPages}
 use Rattle.solver.specs.Queries.{AskCause}
 use Rattle.solver.specs.State.{IsMadeOf, IsSourceOf}
 use Rattle.solver.specs.Steps.{IsDone, IsRefused}
@@ -68,6 +68,14 @@ pub unfinished_on : (source : Compiled) (k : Kept) (stored : Stored (List ℕ)) 
     → IsLocallySound (graph_of (packing_kind source) (compiled_goal source) (compiled_game source)) (IsWideAt (packing_kind source) (compiled_game source)) k.table → IsFinished (view_of k.table) → ⊥
 unfinished_on source k stored same unfinished =
     subst (λ (t : Stored (List ℕ)). IsLocallySound (graph_of (packing_kind source) (compiled_goal source) (compiled_game source)) (IsWideAt (packing_kind source) (compiled_game source)) t → IsFinished (view_of t) → ⊥) same unfinished
+
+pub wants_on : (source : Compiled) (k : Kept) (stored : Stored (List ℕ)) → stored ≡ k.table → (units count free pages : ℕ) → count ≡ units → free ≡ pages
+    → (IsLocallySound (graph_of (packing_kind source) (compiled_goal source) (compiled_game source)) (IsWideAt (packing_kind source) (compiled_game source)) stored → WantsPages (graph_of (packing_kind source) (compiled_goal source) (compiled_game source)) stored count free)
+    → IsLocallySound (graph_of (packing_kind source) (compiled_goal source) (compiled_game source)) (IsWideAt (packing_kind source) (compiled_game source)) k.table → WantsPages (graph_of (packing_kind source) (compiled_goal source) (compiled_game source)) k.table units pages
+wants_on source k stored same units count free pages counted are wants =
+    subst (λ (n : ℕ). IsLocallySound (graph_of (packing_kind source) (compiled_goal source) (compiled_game source)) (IsWideAt (packing_kind source) (compiled_game source)) k.table → WantsPages (graph_of (packing_kind source) (compiled_goal source) (compiled_game source)) k.table units n) are
+    (subst (λ (n : ℕ). IsLocallySound (graph_of (packing_kind source) (compiled_goal source) (compiled_game source)) (IsWideAt (packing_kind source) (compiled_game source)) k.table → WantsPages (graph_of (packing_kind source) (compiled_goal source) (compiled_game source)) k.table n free) counted
+    (subst (λ (t : Stored (List ℕ)). IsLocallySound (graph_of (packing_kind source) (compiled_goal source) (compiled_game source)) (IsWideAt (packing_kind source) (compiled_game source)) t → WantsPages (graph_of (packing_kind source) (compiled_goal source) (compiled_game source)) t count free) same wants))
 
 module _ (source : Compiled) (k : Kept) (made : IsMadeOf source k) where
   -- what holds of the source's game holds of any that the text read to
@@ -145,33 +153,24 @@ module _ (Stores : ℕ → Layout) (old new : State) (source : Compiled) (k : Ke
       subst (λ (kept : Option Kept). IsSound kept) (sym (put.kept honest))
       (worked_sound source k made units done now (works honest) (subst (λ (kept : Option Kept). IsSound kept) loaded sound))
 
-  -- of a finished table no unit is done
-  done_is_unfinished : 0 < done → IsTrue old.disk.honest → IsUnfinished old.kept
-  done_is_unfinished some honest =
-      subst (λ (kept : Option Kept). IsUnfinished kept) (sym loaded)
-      (λ sound finished.
-      let graph = graph_of (packing_kind source) (compiled_goal source) (compiled_game source) in
-      let none = none_of_finished graph done k.table now finished (works honest (sound_here source k made sound)).by_units in
-      absurd (omega (arith, some, none)))
-
-  keep_cause : (some : 0 < done) (fault : FileFault) → FileCommitCause k.table now old new fault → WorkCause units old new (file_fault fault)
-  keep_cause some file.Disk cause = cause
-  keep_cause some file.NotATable cause = absurd cause
-  keep_cause some file.AlreadyATable cause = absurd cause
-  keep_cause some file.Damaged cause = cause
-  keep_cause some file.OldLayout cause = absurd cause
-  keep_cause some file.TooSmall cause = absurd cause
-  keep_cause some file.TableFull cause = done_is_unfinished some
-  keep_cause some file.OutOfMemory cause = tt
-  keep_cause some file.Closed cause = cause
-  keep_cause some file.Inconsistent cause = λ honest sound.
+  keep_cause : (fault : FileFault) → FileCommitCause k.table now old new fault → WorkCause units old new (file_fault fault)
+  keep_cause file.Disk cause = cause
+  keep_cause file.NotATable cause = absurd cause
+  keep_cause file.AlreadyATable cause = absurd cause
+  keep_cause file.Damaged cause = cause
+  keep_cause file.OldLayout cause = absurd cause
+  keep_cause file.TooSmall cause = absurd cause
+  keep_cause file.TableFull cause = absurd cause
+  keep_cause file.OutOfMemory cause = absurd cause
+  keep_cause file.Closed cause = cause
+  keep_cause file.Inconsistent cause = λ honest sound.
       not_unfit source k made units done now (works honest) (subst (λ (kept : Option Kept). IsSound kept) loaded sound) (cause honest)
 
   -- they are not kept
-  pub not_kept : 0 < done → (fault : FileFault) → IsNotPut Stores (kept_as k.text k.packing k.goal now) old new → FileCommitCause k.table now old new fault
+  pub not_kept : (fault : FileFault) → IsNotPut Stores (kept_as k.text k.packing k.goal now) old new → FileCommitCause k.table now old new fault
       → (fault ≢ file.Disk → new.closed ≡ old.closed) → IsRefused Stores (work units) old new (file_fault fault)
-  not_kept some fault left cause still = record {
-    step = record { does = left.kept; reason = keep_cause some fault cause };
+  not_kept fault left cause still = record {
+    step = record { does = left.kept; reason = keep_cause fault cause };
     stops = record {
       commits = left.commits;
       counts = left.counts;
@@ -244,6 +243,14 @@ module _ (Stores : ℕ → Layout) (old new : State) (source : Compiled) (k : Ke
   other_origin : (IsTrue old.disk.honest → IsLocallySound (graph_of (packing_kind source) (compiled_goal source) (compiled_game source)) (IsWideAt (packing_kind source) (compiled_game source)) k.table → ⊥) → IsTrue old.disk.honest → IsSound old.kept → ⊥
   other_origin consistent honest sound = consistent honest (sound_here source k made (subst (λ (kept : Option Kept). IsSound kept) loaded sound))
 
+  short_there : (IsTrue old.disk.honest → IsLocallySound (graph_of (packing_kind source) (compiled_goal source) (compiled_game source)) (IsWideAt (packing_kind source) (compiled_game source)) k.table → WantsPages (graph_of (packing_kind source) (compiled_goal source) (compiled_game source)) k.table units old.free)
+      → IsTrue old.disk.honest → IsShortOfPages units old.free old.kept
+  short_there wants honest =
+      subst (λ (kept : Option Kept). IsShortOfPages units old.free kept) (sym loaded)
+      (λ game read sound.
+      of_any source k made (λ p w g. WantsPages (graph_of p w g) k.table units old.free) game read
+      (wants honest (to_source source k made (λ p w g. IsLocallySound (graph_of p w g) (IsWideAt p g) k.table) game read sound)))
+
   unfinished_there : (IsTrue old.disk.honest → IsLocallySound (graph_of (packing_kind source) (compiled_goal source) (compiled_game source)) (IsWideAt (packing_kind source) (compiled_game source)) k.table
       → IsFinished (view_of k.table) → ⊥) → IsTrue old.disk.honest → IsUnfinished old.kept
   unfinished_there unfinished honest =
@@ -255,30 +262,33 @@ module _ (Stores : ℕ → Layout) (old new : State) (source : Compiled) (k : Ke
     work_cause : (fault : StepFault)
         → (IsTrue old.disk.honest → IsLocallySound (graph_of (packing_kind source) (compiled_goal source) (compiled_game source)) (IsWideAt (packing_kind source) (compiled_game source)) k.table → StopsWith (graph_of (packing_kind source) (compiled_goal source) (compiled_game source)) (IsWideAt (packing_kind source) (compiled_game source)) k.table units fault)
         → (IsTrue old.disk.honest → IsLocallySound (graph_of (packing_kind source) (compiled_goal source) (compiled_game source)) (IsWideAt (packing_kind source) (compiled_game source)) k.table → fault ≡ step.Inconsistent → ⊥)
+        → (fault ≡ step.Table table.TableFull → IsTrue old.disk.honest → IsLocallySound (graph_of (packing_kind source) (compiled_goal source) (compiled_game source)) (IsWideAt (packing_kind source) (compiled_game source)) k.table → WantsPages (graph_of (packing_kind source) (compiled_goal source) (compiled_game source)) k.table units old.free)
         → LeavesUnit Ahead Fails fault → WorkCause units old new (step_fault fault)
-    work_cause step.TooWide cause consistent left = stops_at step.TooWide cause
-    work_cause (step.KeeperChooses number) cause consistent left = stops_at (step.KeeperChooses number) cause
-    work_cause step.TooManyPositions cause consistent left = stops_at step.TooManyPositions cause
-    work_cause step.Inconsistent cause consistent left = other_origin (λ honest sound. consistent honest sound refl)
-    work_cause step.OutOfMemory cause consistent left = tt
-    work_cause (step.Table fault) cause consistent left = by_fault fault (cause_of fault left)
+    work_cause step.TooWide cause consistent wants left = stops_at step.TooWide cause
+    work_cause (step.KeeperChooses number) cause consistent wants left = stops_at (step.KeeperChooses number) cause
+    work_cause step.TooManyPositions cause consistent wants left = stops_at step.TooManyPositions cause
+    work_cause step.Inconsistent cause consistent wants left = other_origin (λ honest sound. consistent honest sound refl)
+    work_cause step.OutOfMemory cause consistent wants left = tt
+    work_cause (step.Table fault) cause consistent wants left = by_fault fault (λ is. wants (ap step.Table is)) (cause_of fault left)
       where
-        by_fault : (f : TableFault) → FileTableCause old new f → WorkCause units old new (table_fault f)
-        by_fault table.Disk cause = cause
-        by_fault table.Damaged cause = cause
-        by_fault table.TableFull cause = unfinished_there unfinished
-        by_fault table.OutOfMemory cause = tt
-        by_fault table.Closed cause = cause
+        by_fault : (f : TableFault) → (f ≡ table.TableFull → IsTrue old.disk.honest → IsLocallySound (graph_of (packing_kind source) (compiled_goal source) (compiled_game source)) (IsWideAt (packing_kind source) (compiled_game source)) k.table → WantsPages (graph_of (packing_kind source) (compiled_goal source) (compiled_game source)) k.table units old.free)
+            → FileTableCause old new f → WorkCause units old new (table_fault f)
+        by_fault table.Disk wants cause = cause
+        by_fault table.Damaged wants cause = cause
+        by_fault table.TableFull wants cause = λ honest. (unfinished_there unfinished honest, short_there (wants refl) honest)
+        by_fault table.OutOfMemory wants cause = tt
+        by_fault table.Closed wants cause = cause
 
     -- units are refused, and the command is given up
     pub work_refused : (fault : StepFault)
         → (IsTrue old.disk.honest → IsLocallySound (graph_of (packing_kind source) (compiled_goal source) (compiled_game source)) (IsWideAt (packing_kind source) (compiled_game source)) k.table → StopsWith (graph_of (packing_kind source) (compiled_goal source) (compiled_game source)) (IsWideAt (packing_kind source) (compiled_game source)) k.table units fault)
         → (IsTrue old.disk.honest → IsLocallySound (graph_of (packing_kind source) (compiled_goal source) (compiled_game source)) (IsWideAt (packing_kind source) (compiled_game source)) k.table → fault ≡ step.Inconsistent → ⊥)
+        → (fault ≡ step.Table table.TableFull → IsTrue old.disk.honest → IsLocallySound (graph_of (packing_kind source) (compiled_goal source) (compiled_game source)) (IsWideAt (packing_kind source) (compiled_game source)) k.table → WantsPages (graph_of (packing_kind source) (compiled_goal source) (compiled_game source)) k.table units old.free)
         → LeavesUnit Ahead Fails fault → old.closed ≡ false → IsNothingPut Stores old new
         → (Ahead → new.closed ≡ old.closed) → ((f : TableFault) → Fails f → f ≢ table.Disk → new.closed ≡ old.closed)
         → IsRefused Stores (work units) old new (step_fault fault)
-    work_refused fault cause consistent left is_open given back failed = record {
-      step = record { does = given.kept; reason = work_cause fault cause consistent left };
+    work_refused fault cause consistent wants left is_open given back failed = record {
+      step = record { does = given.kept; reason = work_cause fault cause consistent wants left };
       stops = record {
         commits = given.commits;
         counts = given.counts;

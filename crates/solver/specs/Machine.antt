@@ -14,6 +14,7 @@ use Rattle.retrograde.specs.Stored.{loaded, view_of}
 use Rattle.retrograde.specs.View.{IsFinished}
 use Rattle.frontier.specs.declared.fault.StepFault.{StepFault}
 use Rattle.frontier.specs.declared.fault.StepFault.TheVariants as step
+use Rattle.game_table.specs.Entries.{WantsPages}
 use Rattle.game_table.specs.Work.{AreDone, StopsWith}
 use Rattle.game_file.specs.Kept.{Kept}
 use Rattle.game_file.specs.State.{State}
@@ -90,11 +91,19 @@ abbrev pub IsUnfinished : Option Kept → Type 0
 IsUnfinished None = ⊥
 IsUnfinished (Some kept) = IsSound (Some kept) → ¬ IsFinished (view_of kept.table)
 
--- why `work` is refused; how many pages a unit takes, nothing says
+-- a game is loaded, and no more pages are free than 49 for each entry of the trees that so many units may write; nothing is said of a table
+-- that is not sound
+abbrev pub IsShortOfPages : ℕ → ℕ → Option Kept → Type 0
+IsShortOfPages units free None = ⊥
+IsShortOfPages units free (Some kept) =
+    (game : Game) → Reads kept.text game → IsLocallySound (graph_in game kept) (wide_in game kept) kept.table
+    → WantsPages (graph_in game kept) kept.table units free
+
+-- why `work` is refused
 abbrev pub WorkCause : ℕ → State → State → SolverFault → Type 0
 WorkCause units old new Disk = Grew old.failures new.failures
 WorkCause units old new Damaged = ¬ IsTrue old.disk.honest
-WorkCause units old new TableFull = IsTrue old.disk.honest → IsUnfinished old.kept
+WorkCause units old new TableFull = IsTrue old.disk.honest → IsUnfinished old.kept × IsShortOfPages units old.free old.kept
 WorkCause units old new OutOfMemory = Unit {0}
 WorkCause units old new Closed = old.closed ≡ true
 WorkCause units old new NoGame = old.kept ≡ None

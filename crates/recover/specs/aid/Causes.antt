@@ -146,7 +146,7 @@ module _ (old new : State) (table : Option BriefTable) (told : IsToldBy old.kept
   why_work units Damaged cause = absurd (cause honest)
   why_work units OldLayout cause = absurd cause
   why_work units TooSmall cause = absurd cause
-  why_work units TableFull cause = left_told old.kept table told (cause honest)
+  why_work units TableFull cause = left_told old.kept table told (cause honest).0
   why_work units OutOfMemory cause = tt
   why_work units Closed cause = absurd (open_not_shut old.closed is_open cause)
   why_work units (BadGame fault) cause = absurd cause

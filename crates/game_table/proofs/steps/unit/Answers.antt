@@ -1,5 +1,6 @@
-use Rattle.std.proofs.Common.{◌≡◌, ◌∙◌, ap, length, arith}
-use Rattle.game_table.proofs.WorkLemmas.{on_refusal, unlike_is_unfinished, unprocessed_is_unfinished}
+use Rattle.std.proofs.Common.{◌≡◌, ◌∙◌, ap, length, arith, Err}
+use Rattle.frontier.specs.declared.fault.StepFault.{StepFault}
+use Rattle.game_table.proofs.WorkLemmas.{fault_was, on_refusal, unlike_is_unfinished, unprocessed_is_unfinished}
 use Rattle.retrograde.specs.declared.records.Counts.{Counts}
 use Rattle.retrograde.specs.Stored.{expanded_count}
 use Rattle.game_table.specs.Units.{expands, settles}
@@ -32,3 +33,18 @@ returns-in_err-settle_one-clause-unfinished g c = λ honest table.
     let counts = c.counts-counts.ensures ∙ g.met.T.Table.counts_are c.args.table.now honest in
     on_refusal c.from_residual-in_err-settle_one.result _
     (unprocessed_is_unfinished (g.T.Table.stored c.args.table.now) c.counts-counts.result counts table c.if-counts-3.true)
+
+pub returns-then-counts-clause-takes : goal.returns-then-counts-clause-takes
+returns-then-counts-clause-takes g c = λ honest sound done. c.in_ok-expand_one.ensures.takes honest
+
+pub returns-then-counts-3-clause-takes : goal.returns-then-counts-3-clause-takes
+returns-then-counts-3-clause-takes g c = λ honest sound done. c.in_ok-settle_one.ensures.takes honest
+
+pub returns-in_err-expand_one-clause-full : goal.returns-in_err-expand_one-clause-full
+returns-in_err-expand_one-clause-full g c = λ honest is.
+    c.in_err-expand_one.ensures.full honest (ap (λ (f : StepFault). Err f) (fault_was c.from_residual.result _ _ c.from_residual.ensures is))
+
+pub returns-in_err-settle_one-clause-full : goal.returns-in_err-settle_one-clause-full
+returns-in_err-settle_one-clause-full g c = λ honest is.
+    c.in_err-settle_one.ensures.full honest
+    (ap (λ (f : StepFault). Err f) (fault_was c.from_residual-in_err-settle_one.result _ _ c.from_residual-in_err-settle_one.ensures is))

@@ -1,10 +1,11 @@
-use Rattle.std.proofs.Common.{◌≡◌, ◌≤◌, ◌^◌, rules, ap, length, List, ℕ, refl, sym, subst, arith}
+use Rattle.std.proofs.Common.{◌≡◌, ◌≤◌, ◌+◌, ◌^◌, rules, ap, length, List, ℕ, refl, sym, subst, arith, Err}
+use Rattle.frontier.specs.declared.fault.StepFault.{StepFault}
 use Rattle.retrograde.specs.declared.records.Counts.{Counts}
 use Rattle.retrograde.specs.Stored.{Stored, view_of}
 use Rattle.retrograde.specs.View.{IsFinished}
 use Rattle.frontier.proofs.Passing.{passed_on}
 use Rattle.game_table.specs.aid.OneTable.{none_of_finished}
-use Rattle.game_table.proofs.WorkLemmas.{none_done, one_more, one_unit_more, on_refusal}
+use Rattle.game_table.proofs.WorkLemmas.{none_done, one_more, one_unit_more, one_write_more, on_refusal, fault_was}
 use Rattle.game_table.proofs.steps.work.Goals as goal
 
 pub loop-done-init : goal.loop-done-init
@@ -18,6 +19,7 @@ loop-done-init g c = record {
       let few : length (g.T.Table.stored c.args.table.now).positions ≤ 2 ^ 24 = omega (arith, ap (λ (k : Counts). k.known) (g.met.T.Table.counts_are c.args.table.now honest), c.requires.limit) in
       none_done (g.M.GameGraph.graph c.args.source.now) (g.M.GameGraph.is_wide c.args.source.now) (g.T.Table.stored c.args.table.now) sound few;
   by_units = λ honest sound. refl;
+  takes = λ honest sound. (0, (refl, refl), omega arith);
   fits = λ honest fits. fits;
   idle = λ is. refl;
 }
@@ -39,6 +41,15 @@ loop-done-preserved g c = record {
       let now = c.loop-done.invariant.sound honest sound in
       one_unit_more (g.M.GameGraph.graph c.args.source.now) (g.T.Table.stored c.args.table.now) (g.T.Table.stored c.loop-done.table) (g.T.Table.stored c.unit.new.table)
       c.loop-done.done (c.loop-done.invariant.by_units honest sound) now.table (c.in_ok-unit.ensures.exact h now (search rules));
+  takes = λ honest sound.
+      let h = c.loop-done.invariant.honest.0 honest in
+      let now = c.loop-done.invariant.sound honest sound in
+      let (before, write, so_far) = c.loop-done.invariant.takes honest sound in
+      let (last, writes, took) = c.in_ok-unit.ensures.takes h now (search rules) in
+      (before + last,
+      one_write_more (g.M.GameGraph.graph c.args.source.now) (g.T.Table.stored c.args.table.now) (g.T.Table.stored c.loop-done.table) (g.T.Table.stored c.unit.new.table)
+      c.loop-done.done before last write (c.in_ok-unit.ensures.exact h now (search rules)) writes,
+      omega (arith, so_far, took));
   fits = search rules;
   idle = λ is. absurd (omega (arith, is));
 }
@@ -67,3 +78,20 @@ returns-in_err-unit-clause-cause g c = λ honest sound.
       sound = it.sound honest sound;
       cause = c.in_err-unit.ensures.cause (it.honest.0 honest) (it.sound honest sound);
     })
+
+pub returns-in_err-unit-clause-full : goal.returns-in_err-unit-clause-full
+returns-in_err-unit-clause-full g c = λ honest sound is.
+    let it = c.loop-done.invariant in
+    let (before, write, so_far) = it.takes honest sound in
+    let (next, writes, few) =
+    c.in_err-unit.ensures.full (it.honest.0 honest) (ap (λ (f : StepFault). Err f) (fault_was c.from_residual.result _ _ c.from_residual.ensures is)) in
+    record {
+      done = c.loop-done.done;
+      fewer = omega arith;
+      reached = g.T.Table.stored c.loop-done.table;
+      before = before;
+      write = write;
+      next = next;
+      writes = writes;
+      few = omega (arith, so_far, few);
+    }
