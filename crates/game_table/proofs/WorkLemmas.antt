@@ -31,11 +31,12 @@ one_unit_more graph old mid new n are table unit =
     subst (λ (k : ℕ). AreUnits graph old k new) next (mid, are, table, unit)
 
 -- and what these write is added up
-pub one_write_more : (graph : Graph (List ℕ)) (old mid new : Stored (List ℕ)) (n before last : ℕ) → WriteAtMost graph old n mid before
-    → IsUnit graph mid new → WritesAtMost graph mid last → WriteAtMost graph old (n + 1) new (before + last)
-one_write_more graph old mid new n before last write unit writes =
+pub one_write_more : (graph : Graph (List ℕ)) (IsWide : List ℕ → Type 0) (old mid new : Stored (List ℕ)) (n before last : ℕ)
+    → WriteAtMost graph IsWide old n mid before → IsLocallySound graph IsWide mid → IsUnit graph mid new → WritesAtMost graph mid last
+    → WriteAtMost graph IsWide old (n + 1) new (before + last)
+one_write_more graph IsWide old mid new n before last write sound unit writes =
     let next : suc n ≡ n + 1 = omega arith in
-    subst (λ (k : ℕ). WriteAtMost graph old k new (before + last)) next (mid, before, last, write, unit, writes, refl)
+    subst (λ (k : ℕ). WriteAtMost graph IsWide old k new (before + last)) next (mid, before, last, write, sound, unit, writes, refl)
 
 -- the fault that a `?` passes on is the one that is answered
 pub fault_was : {X E : Type 0} (r : Result X E) (fault told : E) → IsErr r × IsErrAnd r (λ f. f ≡ fault) → r ≡ Err told → fault ≡ told

@@ -153,12 +153,12 @@ impl Source {
             (IsWideAt (packing_kind self.now) (compiled_game self.now)) (T.stored table.old)
             → result ≡ Err (StepFault.Table TableFault.TableFull)
             → WantsPages (graph_of (packing_kind self.now) (compiled_goal self.now) (compiled_game self.now))
-            (T.stored table.old) units (T.free table.old) }
+            (IsWideAt (packing_kind self.now) (compiled_game self.now)) (T.stored table.old) units (T.free table.old) }
         ensures takes { T.is_honest table.old → IsLocallySound (graph_of (packing_kind self.now) (compiled_goal self.now) (compiled_game self.now))
             (IsWideAt (packing_kind self.now) (compiled_game self.now)) (T.stored table.old)
             → IfOk result (λ done. (entries : ℕ)
             × WriteAtMost (graph_of (packing_kind self.now) (compiled_goal self.now) (compiled_game self.now))
-            (T.stored table.old) done (T.stored table.new) entries
+            (IsWideAt (packing_kind self.now) (compiled_game self.now)) (T.stored table.old) done (T.stored table.new) entries
             × (T.free table.old ≤ T.free table.new + PAGES_PER_ENTRY * entries)) }
     {
         crate::work(alloc, &self.compiled, table, units)

@@ -96,10 +96,11 @@ pub fn work<M: MoveSource, T: Table>(
     ensures ahead { OnOk result (T.goes_on table.old table.new) }
     ensures left { IfErr result (Leaves (T.goes_on table.old table.new) (T.fails table.old table.new)) }
     ensures full { T.is_honest table.old → IsLocallySound (M.graph source.now) (M.is_wide source.now) (T.stored table.old)
-        → result ≡ Err (TableFails TableFull) → WantsPages (M.graph source.now) (T.stored table.old) units (T.free table.old) }
+        → result ≡ Err (TableFails TableFull) → WantsPages (M.graph source.now) (M.is_wide source.now) (T.stored table.old) units
+        (T.free table.old) }
     ensures takes { T.is_honest table.old → IsLocallySound (M.graph source.now) (M.is_wide source.now) (T.stored table.old)
-        → IfOk result (λ done. (entries : ℕ) × WriteAtMost (M.graph source.now) (T.stored table.old) done (T.stored table.new) entries
-        × (T.free table.old ≤ T.free table.new + PAGES_PER_ENTRY * entries)) }
+        → IfOk result (λ done. (entries : ℕ) × WriteAtMost (M.graph source.now) (M.is_wide source.now) (T.stored table.old) done
+        (T.stored table.new) entries × (T.free table.old ≤ T.free table.new + PAGES_PER_ENTRY * entries)) }
 {
     for done in 0..units {
         if !unit(alloc, source, table)? {

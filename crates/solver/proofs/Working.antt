@@ -70,12 +70,12 @@ unfinished_on source k stored same unfinished =
     subst (λ (t : Stored (List ℕ)). IsLocallySound (graph_of (packing_kind source) (compiled_goal source) (compiled_game source)) (IsWideAt (packing_kind source) (compiled_game source)) t → IsFinished (view_of t) → ⊥) same unfinished
 
 pub wants_on : (source : Compiled) (k : Kept) (stored : Stored (List ℕ)) → stored ≡ k.table → (units count free pages : ℕ) → count ≡ units → free ≡ pages
-    → (IsLocallySound (graph_of (packing_kind source) (compiled_goal source) (compiled_game source)) (IsWideAt (packing_kind source) (compiled_game source)) stored → WantsPages (graph_of (packing_kind source) (compiled_goal source) (compiled_game source)) stored count free)
-    → IsLocallySound (graph_of (packing_kind source) (compiled_goal source) (compiled_game source)) (IsWideAt (packing_kind source) (compiled_game source)) k.table → WantsPages (graph_of (packing_kind source) (compiled_goal source) (compiled_game source)) k.table units pages
+    → (IsLocallySound (graph_of (packing_kind source) (compiled_goal source) (compiled_game source)) (IsWideAt (packing_kind source) (compiled_game source)) stored → WantsPages (graph_of (packing_kind source) (compiled_goal source) (compiled_game source)) (IsWideAt (packing_kind source) (compiled_game source)) stored count free)
+    → IsLocallySound (graph_of (packing_kind source) (compiled_goal source) (compiled_game source)) (IsWideAt (packing_kind source) (compiled_game source)) k.table → WantsPages (graph_of (packing_kind source) (compiled_goal source) (compiled_game source)) (IsWideAt (packing_kind source) (compiled_game source)) k.table units pages
 wants_on source k stored same units count free pages counted are wants =
-    subst (λ (n : ℕ). IsLocallySound (graph_of (packing_kind source) (compiled_goal source) (compiled_game source)) (IsWideAt (packing_kind source) (compiled_game source)) k.table → WantsPages (graph_of (packing_kind source) (compiled_goal source) (compiled_game source)) k.table units n) are
-    (subst (λ (n : ℕ). IsLocallySound (graph_of (packing_kind source) (compiled_goal source) (compiled_game source)) (IsWideAt (packing_kind source) (compiled_game source)) k.table → WantsPages (graph_of (packing_kind source) (compiled_goal source) (compiled_game source)) k.table n free) counted
-    (subst (λ (t : Stored (List ℕ)). IsLocallySound (graph_of (packing_kind source) (compiled_goal source) (compiled_game source)) (IsWideAt (packing_kind source) (compiled_game source)) t → WantsPages (graph_of (packing_kind source) (compiled_goal source) (compiled_game source)) t count free) same wants))
+    subst (λ (n : ℕ). IsLocallySound (graph_of (packing_kind source) (compiled_goal source) (compiled_game source)) (IsWideAt (packing_kind source) (compiled_game source)) k.table → WantsPages (graph_of (packing_kind source) (compiled_goal source) (compiled_game source)) (IsWideAt (packing_kind source) (compiled_game source)) k.table units n) are
+    (subst (λ (n : ℕ). IsLocallySound (graph_of (packing_kind source) (compiled_goal source) (compiled_game source)) (IsWideAt (packing_kind source) (compiled_game source)) k.table → WantsPages (graph_of (packing_kind source) (compiled_goal source) (compiled_game source)) (IsWideAt (packing_kind source) (compiled_game source)) k.table n free) counted
+    (subst (λ (t : Stored (List ℕ)). IsLocallySound (graph_of (packing_kind source) (compiled_goal source) (compiled_game source)) (IsWideAt (packing_kind source) (compiled_game source)) t → WantsPages (graph_of (packing_kind source) (compiled_goal source) (compiled_game source)) (IsWideAt (packing_kind source) (compiled_game source)) t count free) same wants))
 
 module _ (source : Compiled) (k : Kept) (made : IsMadeOf source k) where
   -- what holds of the source's game holds of any that the text read to
@@ -243,12 +243,12 @@ module _ (Stores : ℕ → Layout) (old new : State) (source : Compiled) (k : Ke
   other_origin : (IsTrue old.disk.honest → IsLocallySound (graph_of (packing_kind source) (compiled_goal source) (compiled_game source)) (IsWideAt (packing_kind source) (compiled_game source)) k.table → ⊥) → IsTrue old.disk.honest → IsSound old.kept → ⊥
   other_origin consistent honest sound = consistent honest (sound_here source k made (subst (λ (kept : Option Kept). IsSound kept) loaded sound))
 
-  short_there : (IsTrue old.disk.honest → IsLocallySound (graph_of (packing_kind source) (compiled_goal source) (compiled_game source)) (IsWideAt (packing_kind source) (compiled_game source)) k.table → WantsPages (graph_of (packing_kind source) (compiled_goal source) (compiled_game source)) k.table units old.free)
+  short_there : (IsTrue old.disk.honest → IsLocallySound (graph_of (packing_kind source) (compiled_goal source) (compiled_game source)) (IsWideAt (packing_kind source) (compiled_game source)) k.table → WantsPages (graph_of (packing_kind source) (compiled_goal source) (compiled_game source)) (IsWideAt (packing_kind source) (compiled_game source)) k.table units old.free)
       → IsTrue old.disk.honest → IsShortOfPages units old.free old.kept
   short_there wants honest =
       subst (λ (kept : Option Kept). IsShortOfPages units old.free kept) (sym loaded)
       (λ game read sound.
-      of_any source k made (λ p w g. WantsPages (graph_of p w g) k.table units old.free) game read
+      of_any source k made (λ p w g. WantsPages (graph_of p w g) (IsWideAt p g) k.table units old.free) game read
       (wants honest (to_source source k made (λ p w g. IsLocallySound (graph_of p w g) (IsWideAt p g) k.table) game read sound)))
 
   unfinished_there : (IsTrue old.disk.honest → IsLocallySound (graph_of (packing_kind source) (compiled_goal source) (compiled_game source)) (IsWideAt (packing_kind source) (compiled_game source)) k.table
@@ -262,7 +262,7 @@ module _ (Stores : ℕ → Layout) (old new : State) (source : Compiled) (k : Ke
     work_cause : (fault : StepFault)
         → (IsTrue old.disk.honest → IsLocallySound (graph_of (packing_kind source) (compiled_goal source) (compiled_game source)) (IsWideAt (packing_kind source) (compiled_game source)) k.table → StopsWith (graph_of (packing_kind source) (compiled_goal source) (compiled_game source)) (IsWideAt (packing_kind source) (compiled_game source)) k.table units fault)
         → (IsTrue old.disk.honest → IsLocallySound (graph_of (packing_kind source) (compiled_goal source) (compiled_game source)) (IsWideAt (packing_kind source) (compiled_game source)) k.table → fault ≡ step.Inconsistent → ⊥)
-        → (fault ≡ step.Table table.TableFull → IsTrue old.disk.honest → IsLocallySound (graph_of (packing_kind source) (compiled_goal source) (compiled_game source)) (IsWideAt (packing_kind source) (compiled_game source)) k.table → WantsPages (graph_of (packing_kind source) (compiled_goal source) (compiled_game source)) k.table units old.free)
+        → (fault ≡ step.Table table.TableFull → IsTrue old.disk.honest → IsLocallySound (graph_of (packing_kind source) (compiled_goal source) (compiled_game source)) (IsWideAt (packing_kind source) (compiled_game source)) k.table → WantsPages (graph_of (packing_kind source) (compiled_goal source) (compiled_game source)) (IsWideAt (packing_kind source) (compiled_game source)) k.table units old.free)
         → LeavesUnit Ahead Fails fault → WorkCause units old new (step_fault fault)
     work_cause step.TooWide cause consistent wants left = stops_at step.TooWide cause
     work_cause (step.KeeperChooses number) cause consistent wants left = stops_at (step.KeeperChooses number) cause
@@ -271,7 +271,7 @@ module _ (Stores : ℕ → Layout) (old new : State) (source : Compiled) (k : Ke
     work_cause step.OutOfMemory cause consistent wants left = tt
     work_cause (step.Table fault) cause consistent wants left = by_fault fault (λ is. wants (ap step.Table is)) (cause_of fault left)
       where
-        by_fault : (f : TableFault) → (f ≡ table.TableFull → IsTrue old.disk.honest → IsLocallySound (graph_of (packing_kind source) (compiled_goal source) (compiled_game source)) (IsWideAt (packing_kind source) (compiled_game source)) k.table → WantsPages (graph_of (packing_kind source) (compiled_goal source) (compiled_game source)) k.table units old.free)
+        by_fault : (f : TableFault) → (f ≡ table.TableFull → IsTrue old.disk.honest → IsLocallySound (graph_of (packing_kind source) (compiled_goal source) (compiled_game source)) (IsWideAt (packing_kind source) (compiled_game source)) k.table → WantsPages (graph_of (packing_kind source) (compiled_goal source) (compiled_game source)) (IsWideAt (packing_kind source) (compiled_game source)) k.table units old.free)
             → FileTableCause old new f → WorkCause units old new (table_fault f)
         by_fault table.Disk wants cause = cause
         by_fault table.Damaged wants cause = cause
@@ -283,7 +283,7 @@ module _ (Stores : ℕ → Layout) (old new : State) (source : Compiled) (k : Ke
     pub work_refused : (fault : StepFault)
         → (IsTrue old.disk.honest → IsLocallySound (graph_of (packing_kind source) (compiled_goal source) (compiled_game source)) (IsWideAt (packing_kind source) (compiled_game source)) k.table → StopsWith (graph_of (packing_kind source) (compiled_goal source) (compiled_game source)) (IsWideAt (packing_kind source) (compiled_game source)) k.table units fault)
         → (IsTrue old.disk.honest → IsLocallySound (graph_of (packing_kind source) (compiled_goal source) (compiled_game source)) (IsWideAt (packing_kind source) (compiled_game source)) k.table → fault ≡ step.Inconsistent → ⊥)
-        → (fault ≡ step.Table table.TableFull → IsTrue old.disk.honest → IsLocallySound (graph_of (packing_kind source) (compiled_goal source) (compiled_game source)) (IsWideAt (packing_kind source) (compiled_game source)) k.table → WantsPages (graph_of (packing_kind source) (compiled_goal source) (compiled_game source)) k.table units old.free)
+        → (fault ≡ step.Table table.TableFull → IsTrue old.disk.honest → IsLocallySound (graph_of (packing_kind source) (compiled_goal source) (compiled_game source)) (IsWideAt (packing_kind source) (compiled_game source)) k.table → WantsPages (graph_of (packing_kind source) (compiled_goal source) (compiled_game source)) (IsWideAt (packing_kind source) (compiled_game source)) k.table units old.free)
         → LeavesUnit Ahead Fails fault → old.closed ≡ false → IsNothingPut Stores old new
         → (Ahead → new.closed ≡ old.closed) → ((f : TableFault) → Fails f → f ≢ table.Disk → new.closed ≡ old.closed)
         → IsRefused Stores (work units) old new (step_fault fault)

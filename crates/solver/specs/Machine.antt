@@ -97,7 +97,7 @@ abbrev pub IsShortOfPages : ℕ → ℕ → Option Kept → Type 0
 IsShortOfPages units free None = ⊥
 IsShortOfPages units free (Some kept) =
     (game : Game) → Reads kept.text game → IsLocallySound (graph_in game kept) (wide_in game kept) kept.table
-    → WantsPages (graph_in game kept) kept.table units free
+    → WantsPages (graph_in game kept) (wide_in game kept) kept.table units free
 
 -- why `work` is refused
 abbrev pub WorkCause : ℕ → State → State → SolverFault → Type 0

@@ -47,8 +47,8 @@ loop-done-preserved g c = record {
       let (before, write, so_far) = c.loop-done.invariant.takes honest sound in
       let (last, writes, took) = c.in_ok-unit.ensures.takes h now (search rules) in
       (before + last,
-      one_write_more (g.M.GameGraph.graph c.args.source.now) (g.T.Table.stored c.args.table.now) (g.T.Table.stored c.loop-done.table) (g.T.Table.stored c.unit.new.table)
-      c.loop-done.done before last write (c.in_ok-unit.ensures.exact h now (search rules)) writes,
+      one_write_more (g.M.GameGraph.graph c.args.source.now) (g.M.GameGraph.is_wide c.args.source.now) (g.T.Table.stored c.args.table.now) (g.T.Table.stored c.loop-done.table) (g.T.Table.stored c.unit.new.table)
+      c.loop-done.done before last write now (c.in_ok-unit.ensures.exact h now (search rules)) writes,
       omega (arith, so_far, took));
   fits = search rules;
   idle = λ is. absurd (omega (arith, is));
@@ -91,6 +91,7 @@ returns-in_err-unit-clause-full g c = λ honest sound is.
       reached = g.T.Table.stored c.loop-done.table;
       before = before;
       write = write;
+      sound = it.sound honest sound;
       next = next;
       writes = writes;
       few = omega (arith, so_far, few);
