@@ -1,3 +1,4 @@
 pub mod Enough
 pub mod InBrief
 pub mod Limits
+pub mod Pages

@@ -21,6 +21,9 @@ ghost use Rattle.lines_kept.specs.Uses.{Uses};
 ghost use Rattle.progress.specs.Enough.{HasAtMost, IsSolved, units_asked, units_asked_in, units_in_all, units_told};
 ghost use Rattle.progress.specs.InBrief.{units_for_sittings};
 ghost use Rattle.progress.specs.Limits.{IsWithinLimits, WantsRoom};
+ghost use Rattle.progress.specs.Pages.{HasAtMostMoves};
+ghost use Rattle.table.specs.declared.limits.TheConstants.{PAGES_PER_ENTRY};
+ghost use Rattle.solver.specs.declared.fault.SolverFault.TheVariants.{TableFull};
 ghost use Rattle.witness.specs.Game.{witness_text, witness_game};
 
 use game_file::{GameFile, Versions};
@@ -82,6 +85,14 @@ pub fn work_wants_room_alone()
     ensures { (units : ℕ) (fault : SolverFault) (old new : State) (kept : Kept) (game : Game) → Step (work units) old (Refused fault) new
         → IsTrue old.disk.honest → old.kept ≡ Some kept → IsSound (Some kept) → Reads kept.text game
         → IsWithinLimits (graph_in game kept) (wide_in game kept) → WantsRoom units old new fault }
+{}
+
+/// In a game of which no more than so many moves lead from a position or to one, `work` on a sound table is refused for want of a page only where no
+/// more than 147 pages for each of these moves and 98 besides were free for each unit that was asked for.
+pub fn few_moves_take_few_pages()
+    ensures { (units moves : ℕ) (old new : State) (kept : Kept) (game : Game) → Step (work units) old (Refused TableFull) new
+        → IsTrue old.disk.honest → old.kept ≡ Some kept → IsSound (Some kept) → Reads kept.text game
+        → HasAtMostMoves (graph_in game kept) moves → old.free ≤ PAGES_PER_ENTRY * (units * (3 * moves + 2)) }
 {}
 
 /// The small game of `witness` is within the limits, and play comes to four of its positions at most.
