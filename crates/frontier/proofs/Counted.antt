@@ -1,5 +1,5 @@
 -- How many positions are known, from one call to the next.
-use Rattle.std.proofs.Common.{◌≡◌, ℕ, ◌+◌, ◌-◌, ◌^◌, ◌≤◌, ◌<◌, ap, arith}
+use Rattle.std.proofs.Common.{◌≡◌, ℕ, ◌+◌, ◌-◌, ◌≤◌, ◌<◌, ap, arith}
 use Rattle.retrograde.specs.declared.records.Counts.{Counts}
 
 pub below : (n m k : ℕ) → n < m → m ≤ k → n < k

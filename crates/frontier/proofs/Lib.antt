@@ -5,3 +5,4 @@ pub mod Passing
 pub mod Faults
 pub mod DoneLemmas
 pub mod ExpandLemmas
+pub mod Pages

@@ -1,12 +1,12 @@
 -- What is left and why, of a fault that a `?` passes on.
-use Rattle.std.proofs.Common.{◌≡◌, ◌∙◌, ◌⊎◌, inl, inr, Result, Ok, Err, ap, sym, subst, ℕ, List, slice_get, Option}
+use Rattle.std.proofs.Common.{◌≡◌, ◌∙◌, ◌⊎◌, inl, inr, Result, Ok, Err, sym, subst, ℕ, List, slice_get, Option}
 use Rattle.std.specs.Result.{IsErr, IfErr, IsErrAnd}
 use Rattle.table.specs.declared.fault.TableFault.{TableFault}
 use Rattle.retrograde.specs.Graph.{Graph}
 use Rattle.retrograde.specs.Stored.{Stored, expanded_count}
 use Rattle.frontier.specs.declared.fault.StepFault.{StepFault}
 use Rattle.frontier.specs.declared.fault.StepFault.TheVariants.{TooWide, KeeperChooses, TooManyPositions, Inconsistent, OutOfMemory, Table}
-use Rattle.frontier.specs.Causes.{HasUnitCause, IsRefusal, Leaves}
+use Rattle.frontier.specs.Causes.{HasUnitCause, Leaves}
 
 -- what is so of the fault is so of what is answered
 pub passed_on : {X E : Type 0} (Such : E → Type 0) (r : Result X E) (fault : E) → IsErr r × IsErrAnd r (λ f. f ≡ fault) → Such fault → IfErr r Such

@@ -1,6 +1,6 @@
 //! One position is expanded.
-ghost use Rattle.std.specs.Prelude.{◌≡◌, ◌↔◌, ◌⊎◌, ◌+◌, ◌^◌, ◌<◌, ◌≤◌, ℕ, List, [], true, false, map, vec_len, IsOk, IfOk, OnOk, IfErr};
-ghost use Rattle.std.specs.Prelude.{Err, None, length};
+ghost use Rattle.std.specs.Prelude.{◌≡◌, ◌↔◌, ◌⊎◌, ◌+◌, ◌*◌, ◌^◌, ◌<◌, ◌≤◌, ℕ, List, [], true, false};
+ghost use Rattle.std.specs.Prelude.{map, vec_len, IsOk, IfOk, OnOk, IfErr, Err, None, length};
 ghost use Rattle.rbg_game.specs.declared.roles.Role.{Role};
 ghost use Rattle.legal_moves.specs.Listed.{ListsExactly};
 ghost use Rattle.retrograde.specs.Graph.{IsReachable};
@@ -10,8 +10,12 @@ ghost use Rattle.retrograde.specs.Stored.{IsTable, view_of, expanded_count};
 ghost use Rattle.retrograde.specs.Sound.{IsLocallySound};
 ghost use Rattle.retrograde.specs.Successors.{packed_cmp};
 ghost use Rattle.retrograde.specs.Expands.{Expands};
+ghost use Rattle.table.specs.declared.fault.TableFault.{TableFault};
+ghost use Rattle.table.specs.declared.limits.TheConstants.{PAGES_PER_ENTRY};
 ghost use Rattle.frontier.specs.Causes.{HasUnitCause, IsRefusal, Leaves};
 ghost use Rattle.frontier.specs.Done.{IsUnitDone};
+ghost use Rattle.frontier.specs.Entries.{WritesAtMost};
+ghost use Rattle.frontier.specs.declared.fault.StepFault.{StepFault};
 ghost use Rattle.frontier.specs.declared.fault.StepFault.TheVariants.{TooWide, Inconsistent, OutOfMemory};
 
 use crate::fault::StepFault;
@@ -59,6 +63,9 @@ fn keeper_chooses(mover: Role, successors: usize) -> bool
 /// position, and that before `TooManyPositions`; none of these has changed the table. After another
 /// error the caller gives the table up: want of memory may come at any point, and `Inconsistent`
 /// only where the table did not agree with itself.
+///
+/// For each entry that it may write a unit takes `PAGES_PER_ENTRY` pages at most, and `TableFull` comes only where no
+/// more than these were free.
 pub fn expand_one<M: MoveSource, T: Table>(
     alloc: Global,
     source: &M,
@@ -87,6 +94,12 @@ pub fn expand_one<M: MoveSource, T: Table>(
         → result ≡ Err Inconsistent → ⊥ }
     ensures ahead { OnOk result (T.goes_on table.old table.new) }
     ensures left { IfErr result (Leaves (T.goes_on table.old table.new) (T.fails table.old table.new)) }
+    ensures takes { T.is_honest table.old → OnOk result ((entries : ℕ)
+        × WritesAtMost (M.graph source.now) (T.stored table.old) entries
+        × (T.free table.old ≤ T.free table.new + PAGES_PER_ENTRY * entries)) }
+    ensures full { T.is_honest table.old → result ≡ Err (StepFault.Table TableFault.TableFull) → (entries : ℕ)
+        × WritesAtMost (M.graph source.now) (T.stored table.old) entries
+        × (T.free table.old ≤ PAGES_PER_ENTRY * entries) }
 {
     let before = table.counts();
     let number = before.expanded;

@@ -1,6 +1,7 @@
 //! The record of an expanded position.
-ghost use Rattle.std.specs.Prelude.{◌≡◌, ◌↔◌, ◌<◌, ◌≤◌, OnOk, IfErr, Err, Some, length};
+ghost use Rattle.std.specs.Prelude.{◌≡◌, ◌↔◌, ◌+◌, ◌*◌, ◌<◌, ◌≤◌, OnOk, IfErr, Err, Some, length};
 ghost use Rattle.retrograde.specs.aid.Expansion.{with_ended, with_expanded};
+ghost use Rattle.table.specs.declared.limits.TheConstants.{PAGES_PER_ENTRY};
 ghost use Rattle.frontier.specs.Causes.{IsRefusal, Leaves};
 ghost use Rattle.frontier.specs.declared.fault.StepFault.TheVariants.{Inconsistent};
 
@@ -20,6 +21,7 @@ fn end<T: Table>(table: &mut T, number: u32, winner: Player) -> Result<(), StepF
     ensures goes_on { IfErr result (λ fault. ¬ IsRefusal fault) }
     ensures ahead { OnOk result (T.goes_on table.old table.new) }
     ensures left { IfErr result (Leaves (T.goes_on table.old table.new) (T.fails table.old table.new)) }
+    ensures takes { T.free table.old ≤ T.free table.new + PAGES_PER_ENTRY * 2 }
 {
     let kept = Record {
         state: State::Settled,
@@ -54,6 +56,7 @@ pub fn finish<T: Table>(
     ensures goes_on { IfErr result (λ fault. ¬ IsRefusal fault) }
     ensures ahead { OnOk result (T.goes_on table.old table.new) }
     ensures left { IfErr result (Leaves (T.goes_on table.old table.new) (T.fails table.old table.new)) }
+    ensures takes { T.free table.old ≤ T.free table.new + PAGES_PER_ENTRY * 2 }
 {
     match (successors, ahead) {
         (0, Some(winner)) => end(table, number, winner),

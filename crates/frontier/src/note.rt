@@ -1,7 +1,9 @@
 //! Successors become known, and get their edges.
-ghost use Rattle.std.specs.Prelude.{◌≡◌, ◌↔◌, ◌^◌, ◌<◌, ◌≤◌, ℕ, All, OnOk, IfErr, Err, length, slice_get, Some};
+ghost use Rattle.std.specs.Prelude.{◌≡◌, ◌↔◌, ◌+◌, ◌*◌, ◌^◌, ◌<◌, ◌≤◌, ℕ, All, OnOk, IfErr, Err, length};
+ghost use Rattle.std.specs.Prelude.{slice_get, Some};
 ghost use Rattle.std.specs.List.Sorted.{IsStrictlySortedBy};
 ghost use Rattle.table.specs.Memory.{bytes_of_each};
+ghost use Rattle.table.specs.declared.limits.TheConstants.{PAGES_PER_ENTRY};
 ghost use Rattle.retrograde.specs.Changes.{with_position, with_edge};
 ghost use Rattle.retrograde.specs.aid.Expansion.{AreNoted};
 ghost use Rattle.retrograde.specs.Successors.{packed_cmp};
@@ -35,6 +37,7 @@ fn note<T: Table>(
     ensures consistent { result ≡ Err Inconsistent → ⊥ }
     ensures ahead { OnOk result (T.goes_on table.old table.new) }
     ensures left { IfErr result (Leaves (T.goes_on table.old table.new) (T.fails table.old table.new)) }
+    ensures takes { T.free table.old ≤ T.free table.new + PAGES_PER_ENTRY * 3 }
 {
     let mut noted = number;
     if number >= table.counts().known {
@@ -66,6 +69,7 @@ pub fn note_all<T: Table>(
     ensures consistent { result ≡ Err Inconsistent → ⊥ }
     ensures ahead { OnOk result (T.goes_on table.old table.new) }
     ensures left { IfErr result (Leaves (T.goes_on table.old table.new) (T.fails table.old table.new)) }
+    ensures takes { T.free table.old ≤ T.free table.new + PAGES_PER_ENTRY * (3 * length numbers.now) }
 {
     for i in 0..successors.len() {
         note(table, predecessor, numbers[i], &successors[i])?;

@@ -19,6 +19,7 @@ use Rattle.frontier.proofs.Passing.{passed_on, table_consistent, choice_consiste
 use Rattle.frontier.proofs.ExpandLemmas.{IsDone, successor_list, done, fits, room}
 use Rattle.frontier.proofs.expand.expand_one.Given
 use Rattle.frontier.proofs.Faults.{none_done, none_answered, done_consistent}
+use Rattle.frontier.proofs.Pages.{full_fails, never_full, search_full, done_full, choice_full, limit_full, expanding_takes, expanding_full}
 use Rattle.frontier.proofs.expand.expand_one.Goals as goal
 
 pub returns-then-keeper_chooses-clause-cause : goal.returns-then-keeper_chooses-clause-cause
@@ -479,3 +480,98 @@ returns-clause-consistent g c = λ honest sound is. done_consistent _ is
 
 pub returns-clause-left : goal.returns-clause-left
 returns-clause-left g c = tt
+
+pub returns-in_err-packed-clause-takes : goal.returns-in_err-packed-clause-takes
+returns-in_err-packed-clause-takes g c = λ honest. none_done _ c.from_residual.result c.from_residual.ensures.0
+
+pub returns-in_err-found-clause-takes : goal.returns-in_err-found-clause-takes
+returns-in_err-found-clause-takes g c = λ honest. none_done _ c.from_residual-in_err-found.result c.from_residual-in_err-found.ensures.0
+
+pub returns-in_err-numbers-clause-takes : goal.returns-in_err-numbers-clause-takes
+returns-in_err-numbers-clause-takes g c = λ honest. none_done _ c.from_residual-in_err-numbers.result c.from_residual-in_err-numbers.ensures.0
+
+pub returns-in_err-note_all-clause-takes : goal.returns-in_err-note_all-clause-takes
+returns-in_err-note_all-clause-takes g c = λ honest. none_done _ c.from_residual-in_err-note_all.result c.from_residual-in_err-note_all.ensures.0
+
+pub returns-in_err-finish-clause-takes : goal.returns-in_err-finish-clause-takes
+returns-in_err-finish-clause-takes g c = λ honest. none_done _ c.from_residual-in_err-finish.result c.from_residual-in_err-finish.ensures.0
+
+pub returns-then-keeper_chooses-clause-takes : goal.returns-then-keeper_chooses-clause-takes
+returns-then-keeper_chooses-clause-takes g c = λ honest. tt
+
+pub returns-then-numbers-gt-MAX_POSITIONS-clause-takes : goal.returns-then-numbers-gt-MAX_POSITIONS-clause-takes
+returns-then-numbers-gt-MAX_POSITIONS-clause-takes g c = λ honest. tt
+
+pub returns-in_err-packed-clause-full : goal.returns-in_err-packed-clause-full
+returns-in_err-packed-clause-full g c = λ honest is. absurd (never_full c.from_residual.result _ c.from_residual.ensures c.in_err-packed.ensures.room is)
+
+pub returns-in_err-found-clause-full : goal.returns-in_err-found-clause-full
+returns-in_err-found-clause-full g c =
+    λ honest is. absurd (search_full c.from_residual-in_err-found.result _ c.from_residual-in_err-found.ensures c.in_err-found.ensures.others is)
+
+pub returns-then-keeper_chooses-clause-full : goal.returns-then-keeper_chooses-clause-full
+returns-then-keeper_chooses-clause-full g c = λ honest is. absurd (choice_full _ is)
+
+pub returns-then-numbers-gt-MAX_POSITIONS-clause-full : goal.returns-then-numbers-gt-MAX_POSITIONS-clause-full
+returns-then-numbers-gt-MAX_POSITIONS-clause-full g c = λ honest is. absurd (limit_full is)
+
+pub returns-clause-full : goal.returns-clause-full
+returns-clause-full g c = λ honest is. absurd (done_full _ is)
+
+pub returns-in_err-numbers-clause-full : goal.returns-in_err-numbers-clause-full
+returns-in_err-numbers-clause-full g c = λ honest is.
+    let none = g.met.T.Table.full_free _ _
+    (full_fails _ _ c.from_residual-in_err-numbers.result _ c.from_residual-in_err-numbers.ensures c.in_err-numbers.ensures.left is) in
+    expanding_full (g.M.GameGraph.graph c.args.source.now) (g.T.Table.stored c.args.table.now) c.in_ok-packed.packed.items c.in_ok-found.found.items
+    c.counts-before.result.expanded (ap (λ (k : Counts). k.expanded) (c.counts-before.ensures ∙ g.met.T.Table.counts_are _ honest))
+    (c.in_ok-packed.ensures.position honest) c.in_ok-found.ensures.exact (length c.in_ok-found.found.items) refl
+    (g.T.Table.free c.args.table.now) (g.T.Table.free c.numbers_of.new.table)
+    (omega (arith, g.met.T.Table.stays_free _ _ c.in_ok-packed.ensures.stays, g.met.T.Table.stays_free _ _ c.in_err-numbers.ensures.stays)) none
+
+pub returns-in_err-note_all-clause-full : goal.returns-in_err-note_all-clause-full
+returns-in_err-note_all-clause-full g c = λ honest is.
+    let none = g.met.T.Table.full_free _ _
+    (full_fails _ _ c.from_residual-in_err-note_all.result _ c.from_residual-in_err-note_all.ensures c.in_err-note_all.ensures.left is) in
+    expanding_full (g.M.GameGraph.graph c.args.source.now) (g.T.Table.stored c.args.table.now) c.in_ok-packed.packed.items c.in_ok-found.found.items
+    c.counts-before.result.expanded (ap (λ (k : Counts). k.expanded) (c.counts-before.ensures ∙ g.met.T.Table.counts_are _ honest))
+    (c.in_ok-packed.ensures.position honest) c.in_ok-found.ensures.exact (length c.deref-2.result.now) (ap (λ (ns : List ℕ). length ns) c.deref-2.ensures.value
+    ∙ (c.in_ok-numbers.ensures.lengths ∙ ap (λ (ps : List (ArrayVec ℕ)). length ps) c.deref.ensures.value))
+    (g.T.Table.free c.args.table.now) (g.T.Table.free c.note_all.new.table)
+    (omega (
+      arith,
+      g.met.T.Table.stays_free _ _ c.in_ok-packed.ensures.stays,
+      g.met.T.Table.stays_free _ _ c.in_ok-numbers.ensures.stays,
+      c.in_err-note_all.ensures.takes,
+    )) none
+
+pub returns-in_err-finish-clause-full : goal.returns-in_err-finish-clause-full
+returns-in_err-finish-clause-full g c = λ honest is.
+    let none = g.met.T.Table.full_free _ _
+    (full_fails _ _ c.from_residual-in_err-finish.result _ c.from_residual-in_err-finish.ensures c.in_err-finish.ensures.left is) in
+    expanding_full (g.M.GameGraph.graph c.args.source.now) (g.T.Table.stored c.args.table.now) c.in_ok-packed.packed.items c.in_ok-found.found.items
+    c.counts-before.result.expanded (ap (λ (k : Counts). k.expanded) (c.counts-before.ensures ∙ g.met.T.Table.counts_are _ honest))
+    (c.in_ok-packed.ensures.position honest) c.in_ok-found.ensures.exact (length c.deref-2.result.now) (ap (λ (ns : List ℕ). length ns) c.deref-2.ensures.value
+    ∙ (c.in_ok-numbers.ensures.lengths ∙ ap (λ (ps : List (ArrayVec ℕ)). length ps) c.deref.ensures.value))
+    (g.T.Table.free c.args.table.now) (g.T.Table.free c.finish.new.table)
+    (omega (
+      arith,
+      g.met.T.Table.stays_free _ _ c.in_ok-packed.ensures.stays,
+      g.met.T.Table.stays_free _ _ c.in_ok-numbers.ensures.stays,
+      c.in_ok-note_all.ensures.takes,
+      c.in_err-finish.ensures.takes,
+    )) none
+
+pub returns-clause-takes : goal.returns-clause-takes
+returns-clause-takes g c = λ honest.
+    expanding_takes (g.M.GameGraph.graph c.args.source.now) (g.T.Table.stored c.args.table.now) c.in_ok-packed.packed.items c.in_ok-found.found.items
+    c.counts-before.result.expanded (ap (λ (k : Counts). k.expanded) (c.counts-before.ensures ∙ g.met.T.Table.counts_are _ honest))
+    (c.in_ok-packed.ensures.position honest) c.in_ok-found.ensures.exact (length c.deref-2.result.now) (ap (λ (ns : List ℕ). length ns) c.deref-2.ensures.value
+    ∙ (c.in_ok-numbers.ensures.lengths ∙ ap (λ (ps : List (ArrayVec ℕ)). length ps) c.deref.ensures.value))
+    (g.T.Table.free c.args.table.now) (g.T.Table.free c.finish.new.table)
+    (omega (
+      arith,
+      g.met.T.Table.stays_free _ _ c.in_ok-packed.ensures.stays,
+      g.met.T.Table.stays_free _ _ c.in_ok-numbers.ensures.stays,
+      c.in_ok-note_all.ensures.takes,
+      c.in_ok-finish.ensures.takes,
+    ))

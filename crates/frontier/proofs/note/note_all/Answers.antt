@@ -21,6 +21,7 @@ loop-i-preserved g c = record {
   room = λ few. c.in_ok-note.ensures.room (c.loop-i.invariant.room few);
   honest = (λ first. c.in_ok-note.ensures.honest.0 (c.loop-i.invariant.honest.0 first), λ last. c.loop-i.invariant.honest.1 (c.in_ok-note.ensures.honest.1 last));
   ahead = g.met.T.Table.goes_on_then _ _ _ c.loop-i.invariant.ahead c.in_ok-note.ensures.ahead;
+  taken = omega (arith, c.loop-i.invariant.taken, c.in_ok-note.ensures.takes);
   ready = λ honest.
       let h = c.loop-i.invariant.honest.0 honest in
       let (noted, ready) = c.loop-i.invariant.ready honest in
@@ -77,3 +78,9 @@ returns-clause-consistent g c = λ is. done_consistent _ is
 
 pub returns-clause-left : goal.returns-clause-left
 returns-clause-left g c = tt
+
+pub returns-in_err-note-clause-takes : goal.returns-in_err-note-clause-takes
+returns-in_err-note-clause-takes g c = omega (arith, c.loop-i.invariant.taken, c.in_err-note.ensures.takes, c.requires.lengths, c.loop-i-test.true)
+
+pub returns-clause-takes : goal.returns-clause-takes
+returns-clause-takes g c = omega (arith, c.loop-i.invariant.taken, c.loop-i.auto.i-end, c.requires.lengths)

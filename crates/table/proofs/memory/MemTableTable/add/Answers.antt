@@ -1,5 +1,4 @@
 use Rattle.std.proofs.Common.{◌∙◌, length, ◌≤◌, refl, true, arith}
-use Rattle.std.specs.Result.{is_ok}
 use Rattle.retrograde.specs.Stored.{is_expanded, is_processed}
 use Rattle.table.proofs.CountLemmas.{count_fresh}
 use Rattle.table.proofs.EdgeLemmas.{known_in_more}
